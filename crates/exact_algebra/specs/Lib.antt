@@ -1,0 +1,10 @@
+pub mod Integers
+pub mod Solver
+pub mod Polynomials
+pub mod Rational
+pub mod Order
+pub mod Fraction
+pub mod IntegerSums
+pub mod RationalSums
+pub mod WholeNumbers
+pub mod Quotients

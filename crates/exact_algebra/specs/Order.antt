@@ -1,0 +1,13 @@
+-- The order of ℚ as an answer: how two fractions compare, and the sign of one.
+use Rattle.std.specs.Prelude.{ℤ, pos, negsuc, cond}
+use Rattle.std.specs.declared.cmp.Ordering.{Ordering}
+use Rattle.std.specs.declared.cmp.Ordering.TheVariants.{Less, Equal, Greater}
+use Rattle.exact_algebra.specs.Rational.{ℚ, le_ℚ, whole}
+
+-- how x compares with y
+abbrev pub cmp_ℚ : ℚ → ℚ → Ordering
+cmp_ℚ x y = cond (le_ℚ x y) (cond (le_ℚ y x) Equal Less) Greater
+
+-- 1, 0 or -1
+abbrev pub sign_ℚ : ℚ → ℤ
+sign_ℚ x = cond (le_ℚ x (whole (pos 0))) (cond (le_ℚ (whole (pos 0)) x) (pos 0) (negsuc 0)) (pos 1)
