@@ -1,0 +1,59 @@
+//! Operations that overflow, and the quantities that they belong to.
+use frac_core::OpKind;
+
+/// A quantity that is computed in steps. Most are lists of products added from the left.
+#[derive(Clone, Copy, Debug, PartialEq, Eq)]
+pub enum Quantity {
+    Coordinate,
+    Coefficient,
+    Residual,
+    NonbasicTotal,
+    BasicDual,
+    DualValue,
+    CostValue,
+    Slope,
+    CostSum,
+    Crossing,
+    PerturbedRatio,
+    ExchangedEntry,
+    Loss,
+    Score,
+    Wilcoxon,
+    ScaledEntry,
+    Gram,
+    Projection,
+    SquaredLength,
+    Ray,
+    Statistic,
+    DesignEntry,
+    PenaltyEntry,
+    CheckSum,
+}
+
+/// The place of an operation: the quantity, its indices, of which those that it does not have are
+/// 0, and the term. The product at a term and its addition to the terms before bear the same
+/// number.
+#[derive(Clone, Copy, Debug, PartialEq, Eq)]
+pub struct Site {
+    pub quantity: Quantity,
+    pub first: u32,
+    pub second: u32,
+    pub third: u32,
+    pub term: u32,
+    pub kind: OpKind,
+}
+
+/// An operation that overflows, with its operands.
+#[derive(Clone, Copy)]
+pub struct Spill<F> {
+    pub site: Site,
+    pub left: F,
+    pub right: F,
+}
+
+/// Why a value that takes memory was not made.
+#[derive(Drop)]
+pub enum Short<F> {
+    OutOfMemory,
+    Overflow(Spill<F>),
+}
