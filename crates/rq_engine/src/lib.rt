@@ -1,0 +1,9 @@
+//! One job, from the bytes of its input to its report.
+#![tactic(auto)]
+
+mod lines;
+mod page;
+mod report;
+
+pub use page::Page;
+pub use report::{Halt, Refusal, ScorePair};
