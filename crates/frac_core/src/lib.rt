@@ -3,10 +3,14 @@
 
 mod exact;
 mod list;
+mod number_reader;
+mod number_writer;
 mod text;
 
 pub use exact::{Exact, Op, OpKind};
 pub use list::List;
+pub use number_reader::NumberFault;
+pub use number_writer::number_text;
 pub use text::Text;
 
 /// No memory was found.
