@@ -1,0 +1,6 @@
+pub mod Sample
+pub mod Dual
+pub mod Problem
+pub mod Vertex
+pub mod Segment
+pub mod Scaled

@@ -1,0 +1,36 @@
+-- The dual values of a vertex: those of a basis, by the side on which each row lies.
+use Rattle.std.specs.Prelude.{◌≡◌, ◌↔◌, ℕ, ◌<◌, List, length, slice_get, Contains, Some, ◌==◌, pos}
+use Rattle.std.specs.Option.{option_map_or}
+use Rattle.std.specs.List.{position_or_len}
+use Rattle.std.specs.List.Sorted.{IsStrictlyIncreasing}
+use Rattle.exact_algebra.specs.Rational.{ℚ, neg_ℚ, whole}
+use Rattle.exact_algebra.specs.Fraction.{Fraction}
+use Rattle.loss_model.specs.declared.problem.Problem.{Problem}
+use Rattle.loss_model.specs.declared.vertex.Side.{Side}
+use Rattle.loss_model.specs.declared.vertex.Side.TheVariants.{Up, Down, Basic}
+use Rattle.loss_model.specs.declared.vertex.Vertex.{Vertex}
+use Rattle.loss_model.specs.Sample.{Sample, up_cost, down_cost}
+use Rattle.loss_model.specs.Problem.{value_at, sample}
+
+-- the up cost, the negated down cost, or the basic value of row i
+abbrev pub value_of_side : Sample → ℚ → (ℕ → ℚ) → ℕ → Side → ℚ
+value_of_side p theta basic i Up = up_cost p theta i
+value_of_side p theta basic i Down = neg_ℚ (down_cost p theta i)
+value_of_side p theta basic i Basic = basic i
+
+-- the value of row i in a list that goes by the rows of the basis
+abbrev pub basic_value : {F : Type 0} → (F → Fraction) → Vertex F → List F → ℕ → ℚ
+basic_value value v basic i = value_at value basic (position_or_len (λ r. r == i) v.basis.rows)
+
+-- the dual value of row i at theta, where the basic rows, ascending, have the values of the list
+abbrev pub dual_value : {F : Type 0} → (F → Fraction) → Problem F → Vertex F → List F → ℚ → ℕ → ℚ
+dual_value value p v basic theta i =
+    option_map_or (value_of_side (sample value p) theta (basic_value value v basic) i) (slice_get v.sides i) (whole (pos 0))
+
+-- an ascending basis of as many rows as there are columns, a coefficient for each column, and a side for each row, which is Basic at exactly the rows of the basis
+pub record IsVertexOf {F : Type 0} (p : Problem F) (v : Vertex F) : Type 0 where
+  pub ascending : IsStrictlyIncreasing v.basis.rows
+  pub size : length v.basis.rows ≡ p.columns
+  pub coef : length v.coef ≡ p.columns
+  pub sides : length v.sides ≡ length p.rows
+  pub basic : (i : ℕ) → i < length p.rows → (slice_get v.sides i ≡ Some Basic) ↔ Contains v.basis.rows i
