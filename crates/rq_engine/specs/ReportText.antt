@@ -1,18 +1,14 @@
 -- The printed text of a report: lines of words with one space between them. A type F of fractions
 -- is seen by a function into pairs.
 use Rattle.std.specs.Prelude.{ℕ, ◌+◌, ◌-◌, Bool, true, false, nat_lt, List, [], ◌∷◌, ◌++◌, length, codes, decimal, ◌==◌, if◌then◌else◌}
-use Rattle.std.specs.Fmt.{signed_decimal}
 use Rattle.std.specs.List.{flat_map}
 use Rattle.exact_algebra.specs.Fraction.{Fraction}
+use Rattle.frac_core.specs.NumberText.{number_text_of}
 use Rattle.loss_model.specs.declared.vertex.Side.{Side}
 use Rattle.loss_model.specs.declared.vertex.Side.TheVariants.{Up, Down, Basic}
 use Rattle.loss_model.specs.declared.process.Segment.{Segment}
 use Rattle.rq_engine.specs.declared.report.ScorePair.{ScorePair}
 use Rattle.rq_engine.specs.Names.{name_bytes}
-
--- n, or n/d where d is not 1
-unfoldable pub number_bytes : Fraction → List ℕ
-number_bytes v = signed_decimal v.num ++ (if v.den == 1 then [] else codes "/" ++ decimal v.den)
 
 -- the texts of the items, which are numbered from i, one after another
 abbrev pub numbered : {X : Type 0} → (ℕ → X → List ℕ) → ℕ → List X → List ℕ
@@ -39,28 +35,27 @@ score_mark false Up = 43
 score_mark false Down = 45
 score_mark _ Basic = 42
 
--- the marks of rows of which the next n are data rows
-abbrev pub score_marks : ℕ → List Side → List ℕ
-score_marks n [] = []
-score_marks n (side ∷ sides) = score_mark (nat_lt 0 n) side ∷ score_marks (n - 1) sides
+-- the mark of row i, of which the first n are data rows
+abbrev pub row_mark : ℕ → ℕ → Side → List ℕ
+row_mark n i side = score_mark (nat_lt i n) side ∷ []
 
 unfoldable pub scores_line : ℕ → List Side → List ℕ
-scores_line rows sides = codes "scores " ++ score_marks rows sides ++ codes "\n"
+scores_line n sides = codes "scores " ++ numbered (row_mark n) 0 sides ++ codes "\n"
 
 module _ {F : Type 0} (value : F → Fraction) where
   unfoldable pub segment_line : ℕ → Segment F → List ℕ
-  segment_line i s = codes "segment " ++ decimal i ++ codes " " ++ number_bytes (value s.lo) ++ codes " " ++ number_bytes (value s.hi) ++ codes "\n"
+  segment_line i s = codes "segment " ++ decimal i ++ codes " " ++ number_text_of (value s.lo) ++ codes " " ++ number_text_of (value s.hi) ++ codes "\n"
 
   unfoldable pub coef_line : ℕ → F → List ℕ
-  coef_line j b = codes "coef " ++ decimal j ++ codes " " ++ number_bytes (value b) ++ codes "\n"
+  coef_line j b = codes "coef " ++ decimal j ++ codes " " ++ number_text_of (value b) ++ codes "\n"
 
   unfoldable pub loss_line : Segment F → List ℕ
-  loss_line s = codes "loss " ++ number_bytes (value s.loss_lo) ++ codes " " ++ number_bytes (value s.loss_hi) ++ codes "\n"
+  loss_line s = codes "loss " ++ number_text_of (value s.loss_lo) ++ codes " " ++ number_text_of (value s.loss_hi) ++ codes "\n"
 
   unfoldable pub basic_line : ScorePair F → List ℕ
-  basic_line p = codes "basic " ++ decimal (p.row + 1) ++ codes " " ++ number_bytes (value p.at_lo) ++ codes " " ++ number_bytes (value p.at_hi) ++ codes "\n"
+  basic_line p = codes "basic " ++ decimal (p.row + 1) ++ codes " " ++ number_text_of (value p.at_lo) ++ codes " " ++ number_text_of (value p.at_hi) ++ codes "\n"
 
   -- one segment: its range, its coefficients, its losses, its scores and its basic rows
   unfoldable pub segment_text : ℕ → ℕ → Segment F × List (ScorePair F) → List ℕ
-  segment_text rows i (s, pairs) =
-      segment_line i s ++ numbered coef_line 1 s.vertex.coef ++ loss_line s ++ scores_line rows s.vertex.sides ++ flat_map basic_line pairs
+  segment_text n i (s, pairs) =
+      segment_line i s ++ numbered coef_line 1 s.vertex.coef ++ loss_line s ++ scores_line n s.vertex.sides ++ flat_map basic_line pairs

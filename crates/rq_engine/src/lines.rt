@@ -1,12 +1,12 @@
 //! The lines of a report.
 ghost use Rattle.std.specs.Prelude.{◌≡◌, ◌++◌, ◌+◌, ◌<◌, ◌^◌, length, OnOk};
-ghost use Rattle.rq_engine.specs.ReportText.{records_line, column_line, data_line, pivots_line, segment_line, coef_line, loss_line, basic_line, scores_line, segment_text, numbered};
-ghost use Rattle.std.specs.List.{flat_map};
+ghost use Rattle.rq_engine.specs.ReportText.{records_line, column_line, data_line, pivots_line, segment_line, coef_line, loss_line, basic_line, score_mark, row_mark, scores_line, segment_text, numbered};
+ghost use Rattle.std.specs.List.{flat_map, zip};
 
 use crate::page::Page;
 use crate::report::ScorePair;
-use frac_core::{Exact, OutOfMemory, Text};
-use loss_model::Segment;
+use frac_core::{Exact, List, OutOfMemory, Text};
+use loss_model::{Segment, Side};
 
 impl Page {
     #[tactic(auto, unfolding(crate::specs::ReportText::records_line))]
@@ -119,5 +119,89 @@ impl Page {
             self.coef_line(index as u64 + 1, *value)?;
         }
         Ok(())
+    }
+
+    pub(crate) fn column_lines(&mut self, names: &[Text]) -> Result<(), OutOfMemory>
+        ensures { OnOk result (self.new ≡ self.old ++ numbered column_line 1 names.now) }
+    {
+        for (index, name) in names.iter().enumerate() {
+            self.column_line(index as u64 + 1, name)?;
+        }
+        Ok(())
+    }
+
+    fn row_marks(&mut self, data_rows: u32, sides: &[Side]) -> Result<(), OutOfMemory>
+        ensures { OnOk result (self.new ≡ self.old ++ numbered (row_mark data_rows) 0 sides.now) }
+    {
+        for (row, side) in sides.iter().enumerate() {
+            self.row_mark(data_rows, row, *side)?;
+        }
+        Ok(())
+    }
+
+    fn row_mark(&mut self, data_rows: u32, row: usize, side: Side) -> Result<(), OutOfMemory>
+        ensures { OnOk result (self.new ≡ self.old ++ row_mark data_rows row side) }
+    {
+        self.put(&[score_mark(row < data_rows as usize, side)])
+    }
+
+    #[tactic(auto, unfolding(crate::specs::ReportText::scores_line))]
+    fn scores_line(&mut self, data_rows: u32, sides: &[Side]) -> Result<(), OutOfMemory>
+        ensures { OnOk result (self.new ≡ self.old ++ scores_line data_rows sides.now) }
+    {
+        self.put(b"scores ")?;
+        self.row_marks(data_rows, sides)?;
+        self.put(b"\n")
+    }
+
+    #[tactic(auto, unfolding(crate::specs::ReportText::segment_text))]
+    fn segment<F: Exact>(
+        &mut self,
+        data_rows: u32,
+        number: u64,
+        segment: &Segment<F>,
+        pairs: &[ScorePair<F>],
+    ) -> Result<(), OutOfMemory>
+        ensures { OnOk result (self.new ≡ self.old ++ segment_text F.value data_rows number (segment.now, pairs.now)) }
+    {
+        self.segment_line(number, segment)?;
+        self.coef_lines(segment.vertex.coef.as_slice())?;
+        self.loss_line(segment)?;
+        self.scores_line(data_rows, segment.vertex.sides.as_slice())?;
+        self.basic_lines(pairs)
+    }
+
+    /// Adds the segments, each with the scores of its basic rows.
+    pub(crate) fn segments<F: Exact>(
+        &mut self,
+        data_rows: u32,
+        segments: &[Segment<F>],
+        scores: &[List<ScorePair<F>>],
+    ) -> Result<(), OutOfMemory>
+        requires { length scores.now ≡ length segments.now }
+        ensures { OnOk result (self.new ≡ self.old ++ numbered (segment_text F.value data_rows) 1 (zip segments.now scores.now)) }
+    {
+        for (index, segment) in segments.iter().enumerate() {
+            self.segment(
+                data_rows,
+                index as u64 + 1,
+                segment,
+                scores[index].as_slice(),
+            )?;
+        }
+        Ok(())
+    }
+}
+
+// The mark of a row's side.
+fn score_mark(is_data: bool, side: Side) -> u8
+    ensures { result ≡ score_mark is_data side }
+{
+    match (is_data, side) {
+        (_, Side::Basic) => b'*',
+        (true, Side::Up) => b'1',
+        (true, Side::Down) => b'0',
+        (false, Side::Up) => b'+',
+        (false, Side::Down) => b'-',
     }
 }

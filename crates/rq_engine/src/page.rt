@@ -1,5 +1,5 @@
 ghost use Rattle.std.specs.Prelude.{◌≡◌, ◌++◌, ◌<◌, [], OnOk, decimal};
-ghost use Rattle.rq_engine.specs.ReportText.{number_bytes};
+ghost use Rattle.frac_core.specs.NumberText.{number_text_of};
 ghost use Rattle.rq_engine.specs.Names.{name_bytes, name_byte, hexadecimal};
 
 use frac_core::{Exact, OutOfMemory, Text};
@@ -49,9 +49,9 @@ impl Page {
     }
 
     /// Adds a fraction: its numerator, and after a slash its denominator where that is not 1.
-    #[tactic(auto, unfolding(crate::specs::ReportText::number_bytes))]
+    #[tactic(auto, unfolding(frac_core::specs::NumberText::number_text_of))]
     pub fn put_number<F: Exact>(&mut self, value: F) -> Result<(), OutOfMemory>
-        ensures { OnOk result (self.new ≡ self.old ++ number_bytes (F.value value)) }
+        ensures { OnOk result (self.new ≡ self.old ++ number_text_of (F.value value)) }
     {
         self.put(Buffer::new().format(value.numerator()).as_bytes())?;
         if value.denominator() == 1 {
