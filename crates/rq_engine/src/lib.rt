@@ -1,9 +1,11 @@
 //! One job, from the bytes of its input to its report.
 #![tactic(auto)]
 
+mod column;
 mod lines;
 mod page;
 mod report;
 
+pub use column::read_digits;
 pub use page::Page;
 pub use report::{Halt, Refusal, ScorePair};
