@@ -30,3 +30,6 @@ pub use writing::write_all;
 /// A read or a write that failed.
 #[derive(Clone, Copy, Debug, PartialEq, Eq)]
 pub struct Failed;
+
+#[cfg(test)]
+mod tests;
