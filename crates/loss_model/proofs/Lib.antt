@@ -1,1 +1,5 @@
+pub mod Quotients
 pub mod Duality
+pub mod Mixes
+pub mod Intervals
+pub mod Rankscores

@@ -39,7 +39,7 @@ abbrev pub IntervalIsMixes : Type 0
 IntervalIsMixes =
     (lo hi theta : Fraction) → 1 ≤ lo.den → 1 ≤ hi.den → 1 ≤ theta.den
     → rational lo ≤ℚ rational theta → rational theta ≤ℚ rational hi
-    → (m n : ℕ) × ((0 < m + n) × (rational theta ≡ mix m n (rational lo) (rational hi)))
+    → (m : ℕ) × (n : ℕ) × (0 < m + n) × (rational theta ≡ mix m n (rational lo) (rational hi))
 
 -- coefficients with dual values at both ends minimise on the whole closed interval
 abbrev pub MinimisesBetween : Type 0
