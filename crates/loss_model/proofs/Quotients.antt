@@ -1,5 +1,5 @@
 -- Quotients of whole numbers, and factors that can be taken away.
-use Rattle.std.specs.Prelude.{◌≡◌, ℕ, zero, suc, ◌+◌, ◌*◌, ◌≤◌, Bool, true, false, [], ◌∷◌, ℤ, pos, negsuc, ◌*ℤ◌, ◌≤ℤ◌}
+use Rattle.std.specs.Prelude.{◌≡◌, ℕ, zero, suc, ◌+◌, ◌*◌, ◌<◌, ◌≤◌, Bool, true, false, [], ◌∷◌, ℤ, pos, negsuc, ◌*ℤ◌, ◌≤ℤ◌}
 use Rattle.std.proofs.Common.{arith, refl, sym, ap, subst, ◌∙◌}
 use Rattle.std.proofs.lemmas.Int.{ints}
 use mathlib.Core.Bool.{Bool-set}
@@ -71,3 +71,7 @@ cancel_whole_le n x y h e =
 -- x/y where y times it is x
 pub is_quotient : (x : ℚ) (c : ℤ) (d : ℕ) → 1 ≤ d → whole (pos d) *ℚ x ≡ whole c → x ≡ quotient c d
 is_quotient x c d h e = cancel_whole d x (quotient c d) h (e ∙ whole-quotient c d h)
+
+-- c/d is v in each of the first n places
+pub record IsOver (n : ℕ) (c : ℕ → ℤ) (d : ℕ) (v : ℕ → ℚ) : Type 0 where
+  pub each : (k : ℕ) → k < n → whole (c k) ≡ whole (pos d) *ℚ v k

@@ -1,6 +1,6 @@
 //! The laws of losses and dual values. No function here does anything: its contract is the law.
 
-ghost use Rattle.loss_model.specs.Laws.{WeakDuality, DualsShowMinimum, DualsAreGreatest, SidesShowDuals, MixIsDual, IntervalIsMixes, MinimisesBetween, RankscoresAreBounded};
+ghost use Rattle.loss_model.specs.Laws.{WeakDuality, DualsShowMinimum, DualsAreGreatest, SidesShowDuals, MixIsDual, IntervalIsMixes, MinimisesBetween, RankscoresAreBounded, DualsShowMinimumInIntegers, MixIsDualInIntegers};
 
 /// Feasible dual values bound every loss from below, and where one of them is of equal cost with
 /// coefficients, both are optimal (Koenker 2005, chapter 6).
@@ -27,4 +27,10 @@ pub fn optimal_between()
 /// The rankscore of a data row is at least 0 and at most 1.
 pub fn rankscore_bounds()
     ensures { RankscoresAreBounded }
+{}
+
+/// Dual values show a minimum, and mix.
+pub fn duality_in_integers()
+    ensures minimum { DualsShowMinimumInIntegers }
+    ensures mixed { MixIsDualInIntegers }
 {}
