@@ -1,0 +1,4 @@
+//! All that the program does: words and a source of bytes to a report or a line.
+#![tactic(auto)]
+
+mod asked;
