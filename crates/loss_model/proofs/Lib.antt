@@ -6,3 +6,4 @@ pub mod Rankscores
 pub mod Scales
 pub mod CommonDenominators
 pub mod Integers
+pub mod Denominators
