@@ -7,3 +7,4 @@ pub mod Scales
 pub mod CommonDenominators
 pub mod Integers
 pub mod Denominators
+pub mod Vertices

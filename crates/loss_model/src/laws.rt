@@ -1,8 +1,9 @@
 //! The laws of losses and dual values. No function here does anything: its contract is the law.
 
-ghost use Rattle.loss_model.specs.Laws.{WeakDuality, DualsShowMinimum, DualsAreGreatest, SidesShowDuals, MixIsDual, IntervalIsMixes, MinimisesBetween, RankscoresAreBounded, DualsShowMinimumInIntegers, MixIsDualInIntegers, MinimisesInIntegers, DualsInIntegers, ListIsOver};
+ghost use Rattle.loss_model.specs.Laws.{WeakDuality, DualsShowMinimum, DualsAreGreatest, SidesShowDuals, VertexIsDual, MixIsDual, IntervalIsMixes, MinimisesBetween, RankscoresAreBounded, DualsShowMinimumInIntegers, MixIsDualInIntegers, MinimisesInIntegers, DualsInIntegers, ListIsOver};
 
 use crate::problem::Problem;
+use crate::vertex::Vertex;
 use frac_core::Exact;
 
 /// Feasible dual values bound every loss from below, and where one of them is of equal cost with
@@ -17,6 +18,11 @@ pub fn duality()
 /// equal cost.
 pub fn complementary_slackness()
     ensures { SidesShowDuals }
+{}
+
+/// The same at a vertex, with the dual values of its basic rows.
+pub fn vertex_is_dual<F: Exact>(problem: &Problem<F>, vertex: &Vertex<F>, basic: &[F])
+    ensures { VertexIsDual F.value problem.now vertex.now basic.now }
 {}
 
 /// Coefficients with dual values at two quantiles have the mixed dual values at every quantile
