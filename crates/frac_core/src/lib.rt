@@ -1,11 +1,16 @@
 //! Exact fractions of bounded size, and the lists and texts that every layer above hands on.
 #![tactic(auto)]
 
+mod bounded;
+mod divisor;
 mod exact;
+mod frac128;
 mod list;
+mod parts;
 mod text;
 
 pub use exact::{Exact, Op, OpKind};
+pub use frac128::Frac128;
 pub use list::List;
 pub use text::Text;
 
