@@ -1,13 +1,18 @@
 //! Exact fractions of bounded size, and the lists and texts that every layer above hands on.
 #![tactic(auto)]
 
+mod bounded;
+mod divisor;
 mod exact;
+mod frac128;
 mod list;
 mod number_reader;
 mod number_writer;
+mod parts;
 mod text;
 
 pub use exact::{Exact, Op, OpKind};
+pub use frac128::Frac128;
 pub use list::List;
 pub use number_reader::NumberFault;
 pub use number_writer::number_text;
