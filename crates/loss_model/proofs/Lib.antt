@@ -8,3 +8,4 @@ pub mod CommonDenominators
 pub mod Integers
 pub mod Denominators
 pub mod Vertices
+pub mod Covers

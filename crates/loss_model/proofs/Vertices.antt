@@ -1,9 +1,10 @@
 -- The dual values of a vertex.
-use Rattle.std.specs.Prelude.{◌≡◌, ℕ, zero, suc, ◌+◌, ◌<◌, Bool, true, false, not, cond, eqb, List, [], ◌∷◌, length, slice_get, slice_index, get_or, Option, Some, None, ◌==◌, pos}
+use Rattle.std.specs.Prelude.{◌≡◌, ℕ, zero, suc, ◌+◌, ◌-◌, ◌<◌, Bool, true, false, List, [], ◌∷◌, length, slice_get, slice_index, get_or, Option, Some, None, ◌==◌, pos}
 use Rattle.std.specs.Option.{option_map_or, unwrap_or}
 use Rattle.std.specs.List.{position_or_len}
 use Rattle.std.specs.List.Sorted.{IsStrictlyIncreasing}
 use Rattle.std.proofs.Common.{arith, refl, sym, ap, subst, ◌∙◌}
+use Rattle.std.proofs.lemmas.List.Sums.{position_or_len_is}
 use Rattle.std.proofs.lemmas.Option.{slice_get-get_or}
 use Rattle.exact_algebra.specs.Rational.{ℚ, neg_ℚ, whole, ◌≤ℚ◌, ≤ℚ_refl}
 use Rattle.exact_algebra.specs.Fraction.{Fraction}
@@ -56,3 +57,29 @@ module _ {F : Type 0} (value : F → Fraction) (p : Problem F) (v : Vertex F) (b
       by Up k = (costs, ≤ℚ_refl (up_cost (sample value p) theta i))
       by Down k = (≤ℚ_refl (neg_ℚ (down_cost (sample value p) theta i)), costs)
       by Basic k = k refl
+
+-- each row of an ascending basis is below all later ones
+ascending_by : (xs : List ℕ) → IsStrictlyIncreasing xs → (j d k : ℕ) → j + suc d ≡ k → k < length xs → slice_index xs j < slice_index xs k
+ascending_by xs h j zero k e l = let s : j + 1 ≡ k = omega arith in subst (λ n. slice_index xs j < slice_index xs n) s (h j (omega arith))
+ascending_by xs h j (suc d) k e l =
+    let before : slice_index xs j < slice_index xs (j + suc d) = ascending_by xs h j d (j + suc d) refl (omega arith) in
+    let last : slice_index xs (j + suc d) < slice_index xs ((j + suc d) + 1) = h (j + suc d) (omega arith) in
+    let s : (j + suc d) + 1 ≡ k = omega arith in
+    subst (λ n. slice_index xs j < slice_index xs n) s (omega arith)
+
+pub ascending : (xs : List ℕ) → IsStrictlyIncreasing xs → (j k : ℕ) → j < k → k < length xs → slice_index xs j < slice_index xs k
+ascending xs h j k l m = let e : j + suc (k - suc j) ≡ k = omega arith in ascending_by xs h j (k - suc j) k e m
+
+differs : (m n : ℕ) → m < n → (m == n) ≡ false
+differs m n h = grind arith
+
+itself : (n : ℕ) → (n == n) ≡ true
+itself n = grind arith
+
+-- the basic value of the row at place j of the basis is value j of the list
+pub basic_value-at : {F : Type 0} (value : F → Fraction) (v : Vertex F) (basic : List F) → IsStrictlyIncreasing v.basis.rows → (j : ℕ) → j < length v.basis.rows → basic_value value v basic (slice_index v.basis.rows j) ≡ value_at value basic j
+basic_value-at value v basic h j l =
+    let rows = v.basis.rows in
+    ap (value_at value basic)
+    (position_or_len_is (λ r. r == slice_index rows j) rows j 0 (omega arith)
+    (λ k m. differs (slice_index rows k) (slice_index rows j) (ascending rows h k j m l)) (λ m. itself (slice_index rows j)))
