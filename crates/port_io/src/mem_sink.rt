@@ -22,18 +22,29 @@ pub struct MemSink {
 
 impl Model for MemSink {
     ghost use Rattle.std.specs.Prelude.{◌≤◌, vec_len, vec_capacity};
-    ghost use Rattle.port_io.specs.Streams.{Store};
+    ghost use Rattle.port_io.specs.Streams.{SinkState};
 
-    ghost Value = { Store };
+    ghost Value = { SinkState };
 
-    ghost view = { λ s. record { written = s.bytes.items; room = s.room; piece = s.piece; fails = s.fails.items; calls = s.calls; faults = s.faults } };
+    ghost view = { λ s. record {
+      written = s.bytes.items;
+      room = s.room;
+      piece = s.piece;
+      fails = s.fails.items;
+      calls = s.calls;
+      faults = s.faults;
+    } };
 
-    ghost invariant = { λ s. (vec_len s.bytes ≤ s.room) × (s.room ≤ vec_capacity s.bytes) × (1 ≤ s.piece) };
+    ghost invariant = { λ s.
+        (vec_len s.bytes ≤ s.room) × (s.room ≤ vec_capacity s.bytes) × (1 ≤ s.piece) };
 }
 
 impl MemSink {
-    /// A sink with room for `room` bytes that takes at most `piece` of them in a write, and fails in
-    /// the calls whose numbers, from 1, stand in `fails`. It takes all its memory here.
+    ghost use Rattle.std.specs.Prelude.{◌≡◌, ◌≤◌, IfOk};
+    ghost use Rattle.port_io.specs.Streams.{new_sink};
+
+    /// A sink with room for `room` bytes that takes at most `piece` of them in a write, and fails
+    /// in the calls whose numbers, from 1, stand in `fails`. It takes all its memory here.
     pub fn new(
         alloc: Global,
         room: usize,
@@ -41,8 +52,7 @@ impl MemSink {
         fails: Vec<u32>,
     ) -> Result<MemSink, OutOfMemory>
         requires { 1 ≤ piece }
-        ensures { IfOk result
-            (λ sink. sink ≡ record { written = []; room = room; piece = piece; fails = fails.items; calls = 0; faults = 0 }) }
+        ensures { IfOk result (λ sink. sink ≡ new_sink room piece fails.items) }
     {
         match Vec::with_capacity(alloc, room) {
             Ok(bytes) => Ok(MemSink {
@@ -73,14 +83,17 @@ impl Sink for MemSink {
     fn write(&mut self, buf: &[u8]) -> Result<usize, Failed>
         ensures bound { WritesAtMost result buf.now }
         ensures some { IfOk result (λ n. 0 < length buf.now → 0 < n) }
-        ensures bytes { WriteAppends (Some self.old.written) (Some self.new.written) result buf.now }
+        ensures bytes { WriteAppends (Some self.old.written) (Some self.new.written) result
+            buf.now }
         ensures counted { CountsFaults self.old.faults self.new.faults result }
 
         ensures call { self.new.calls ≡ next_count self.old.calls }
         ensures failed { IsErr result
-            ↔ (Contains self.old.fails self.new.calls ⊎ ((0 < length buf.now) × (length self.old.written ≡ self.old.room))) }
+            ↔ (Contains self.old.fails self.new.calls
+            ⊎ ((0 < length buf.now) × (length self.old.written ≡ self.old.room))) }
         ensures taken { IfOk result
-            (λ n. n ≡ min (min self.old.piece (self.old.room - length self.old.written)) (length buf.now)) }
+            (λ n. n
+            ≡ min (min self.old.piece (self.old.room - length self.old.written)) (length buf.now)) }
         ensures room { self.new.room ≡ self.old.room }
         ensures piece { self.new.piece ≡ self.old.piece }
         ensures fails { self.new.fails ≡ self.old.fails }

@@ -31,13 +31,15 @@ const PIECE: usize = 1 << 16;
 /// the source's count of faults rose; where it grew, there is no other answer. After `Failed` and
 /// `OutOfMemory` some bytes from the front were taken.
 pub fn read_all<S: Source>(alloc: Global, source: &mut S) -> Result<Vec<u8>, ReadFault>
-    ensures whole { IfOk result (λ bytes. TakesAll (S.left source.old) (S.left source.new) bytes.items) }
+    ensures whole { IfOk result
+        (λ bytes. TakesAll (S.left source.old) (S.left source.new) bytes.items) }
     ensures short { IfOk result (λ bytes. length bytes.items ≤ 2 ^ 26) }
     ensures too_long { IsErrOf result ReadFault.TooLong
         → TakesFirst (S.left source.old) (S.left source.new) (2 ^ 26 + 1) }
     ensures err { OnErr result (TakesSome (S.left source.old) (S.left source.new)) }
 
-    ensures failed { IsErrOf result ReadFault.Failed → Rose (S.faults source.old) (S.faults source.new) }
+    ensures failed { IsErrOf result ReadFault.Failed
+        → Rose (S.faults source.old) (S.faults source.new) }
     ensures grew { S.faults source.old < S.faults source.new → IsErrOf result ReadFault.Failed }
     ensures never_falls { S.faults source.old ≤ S.faults source.new }
 {

@@ -1,4 +1,4 @@
-use Rattle.std.proofs.Common.{arith, ◌∙◌, ap, length-drop}
+use Rattle.std.proofs.Common.{arith, ◌∙◌, length-drop}
 use Rattle.std.proofs.lemmas.List.{length-take-le}
 use Rattle.port_io.proofs.Pieces.{more_taken, taken_first}
 use Rattle.port_io.proofs.reading.read_all.Goals as goal
