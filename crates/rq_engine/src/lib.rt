@@ -3,6 +3,7 @@
 
 mod lines;
 mod page;
+mod ranking;
 mod report;
 
 pub use page::Page;
