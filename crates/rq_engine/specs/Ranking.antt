@@ -3,6 +3,7 @@ use Rattle.std.specs.Prelude.{ℕ, ◌+◌, ◌<◌, ◌≤◌, Bool, ◌&&◌, 
 use Rattle.std.specs.Int.{abs_diff}
 use Rattle.std.specs.List.{range_with_len}
 use Rattle.std.specs.Ordering.{int_eq}
+use Rattle.std.specs.declared.cmp.Reverse.{Reverse}
 use Rattle.exact_algebra.specs.Rational.{ℚ, ◌-ℚ◌, ◌*ℚ◌, whole, ◌≤ℚ◌}
 
 -- the response of row i
@@ -16,6 +17,10 @@ comes_before y j i = int_lt (y j) (y i) || (int_eq (y j) (y i) && nat_lt i j)
 -- the place of row i among the rows below n, counted from 1
 unfoldable pub place : (ℕ → ℤ) → ℕ → ℕ → ℕ
 place y n i = 1 + count_by (λ j. comes_before y j i) (range_with_len 0 n)
+
+-- row j as it is sorted
+abbrev pub entry : (ℕ → ℤ) → ℕ → ℤ × Reverse ℕ
+entry y j = (y j, record { 0 = j })
 
 -- k - 1 <= n*tau <= k: the row at the place k of n rows can be fitted at tau
 pub record IsOptimalPlace (n : ℕ) (tau : ℚ) (k : ℕ) : Type 0 where
