@@ -1,3 +1,4 @@
 pub mod Column
 pub mod Names
+pub mod Ranking
 pub mod ReportText

@@ -4,6 +4,7 @@
 mod column;
 mod lines;
 mod page;
+mod ranking;
 mod report;
 
 pub use column::read_digits;

@@ -1,0 +1,88 @@
+//! The ranking of a column of whole numbers, and the row that is fitted at a quantile.
+ghost use Rattle.std.specs.Prelude.{◌≡◌, ◌+◌, ◌*◌, ◌^◌, ◌<◌, ◌≤◌, ℕ, map, length, count_by, pos, IfOk, int_le, slice_index_or};
+ghost use Rattle.std.specs.List.{range_with_len};
+ghost use Rattle.std.specs.Int.{abs_diff};
+ghost use Rattle.exact_algebra.specs.Rational.{quotient};
+ghost use Rattle.rq_engine.specs.Ranking.{response, place, entry, IsFitted};
+
+use std::alloc::{AllocError, Global};
+use std::cmp::Reverse;
+
+/// A quantile as two whole numbers, of which the second is 1 to 1,000.
+#[derive(Clone, Copy)]
+pub(crate) struct Quantile {
+    pub numerator: u64,
+    pub denominator: u64,
+    ghost at_most_one: { numerator ≤ denominator },
+    ghost positive: { 1 ≤ denominator },
+    ghost bounded: { denominator ≤ 1000 },
+}
+
+// The optimal places of n rows are ceil(n*tau) to floor(n*tau) + 1, as far as there are rows. The
+// one nearest to a place.
+fn nearest_optimal(rows: u64, tau: Quantile, place: u64) -> u64
+    requires some { 1 ≤ rows }
+    requires few { rows ≤ 1000 }
+    ensures within { (1 ≤ result) × (result ≤ rows) }
+    ensures low { result * tau.denominator ≤ rows * tau.numerator + tau.denominator }
+    ensures high { rows * tau.numerator ≤ result * tau.denominator }
+    ensures nearest { (k : ℕ) → 1 ≤ k → k ≤ rows
+        → k * tau.denominator ≤ rows * tau.numerator + tau.denominator
+        → rows * tau.numerator ≤ k * tau.denominator → abs_diff result place ≤ abs_diff k place }
+{
+    let product = rows * tau.numerator;
+    let first = product.div_ceil(tau.denominator).max(1);
+    let last = (product / tau.denominator + 1).min(rows);
+    place.clamp(first, last)
+}
+
+// How many responses are at most the first: its place, since of equal responses the first stands
+// last.
+fn first_place(responses: &[i64]) -> u64
+    requires { 0 < length responses.now }
+    ensures { result ≡ count_by (λ y. int_le y (slice_index_or responses.now 0 (pos 0))) responses.now }
+{
+    let first = responses[0];
+    responses.iter().filter(|y| **y <= first).count() as u64
+}
+
+/// A response with the number of its row: the later row stands before the earlier of equal
+/// responses.
+type Entry = (i64, Reverse<u32>);
+
+// The responses with their rows, in the order of the rows.
+fn entries(alloc: Global, responses: &[i64]) -> Result<Vec<Entry>, AllocError>
+    requires { length responses.now ≤ 1000 }
+    ensures { IfOk result (λ v. v.items ≡ map (entry (response responses.now)) (range_with_len 0 (length responses.now))) }
+{
+    let mut entries = Vec::with_capacity(alloc, responses.len())?;
+    for (row, response) in responses.iter().enumerate() {
+        entries.push((*response, Reverse(row as u32)))?;
+    }
+    Ok(entries)
+}
+
+/// The row that is fitted at a quantile, with its place among all rows, counted from 1.
+#[derive(Clone, Copy)]
+pub(crate) struct Fitted {
+    pub row: u32,
+    pub place: u64,
+}
+
+/// The row that is fitted at a quantile.
+pub(crate) fn fitted_row(
+    alloc: Global,
+    responses: &[i64],
+    tau: Quantile,
+) -> Result<Fitted, AllocError>
+    requires some { 0 < length responses.now }
+    requires few { length responses.now ≤ 1000 }
+    ensures fitted { IfOk result (λ f. IsFitted (response responses.now) (length responses.now) (quotient (pos tau.numerator) tau.denominator) f.row) }
+    ensures placed { IfOk result (λ f. f.place ≡ place (response responses.now) (length responses.now) f.row) }
+{
+    let mut order = entries(alloc, responses)?;
+    order.sort_unstable();
+    let place = nearest_optimal(responses.len() as u64, tau, first_place(responses));
+    let row = order[place as usize - 1].1.0;
+    Ok(Fitted { row, place })
+}
