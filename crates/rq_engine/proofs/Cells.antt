@@ -23,7 +23,7 @@ wholes_of-split line (b ∷ bs) = by (is_line_feed b) (slice_split is_line_feed 
 pub no_cells : (text rest next line : List ℕ) (values : List ℤ) → wholes_of (slice_split is_line_feed text) ≡ option_map (λ ns. values ++ ns) (wholes_of (slice_split is_line_feed rest)) → slice_split is_line_feed rest ≡ line ∷ slice_split is_line_feed next → whole_of line ≡ None → (others : List ℤ) → AreCells (slice_split is_line_feed text) others → ⊥
 no_cells text rest next line values so_far here none others cells =
     let nothing : wholes_of (slice_split is_line_feed text) ≡ None =
-        so_far ∙ ap (λ z. option_map (λ ns. values ++ ns) z) (ap wholes_of here ∙ wholes_of-split line next ∙ ap (λ z. option_and_then (λ n. option_map (λ ns. n ∷ ns) (wholes_of (slice_split is_line_feed next))) z) none) in
+    so_far ∙ ap (λ z. option_map (λ ns. values ++ ns) z) (ap wholes_of here ∙ wholes_of-split line next ∙ ap (λ z. option_and_then (λ n. option_map (λ ns. n ∷ ns) (wholes_of (slice_split is_line_feed next))) z) none) in
     let read = cells.read in
     absurd (cc)
 

@@ -1,3 +1,4 @@
+pub mod Appends
 pub mod Cells
 pub mod Digits
 pub mod LineSplits

@@ -1,13 +1,17 @@
 -- The printed text of a report: lines of words with one space between them. A type F of fractions
 -- is seen by a function into pairs.
-use Rattle.std.specs.Prelude.{ℕ, ◌+◌, ◌-◌, Bool, true, false, nat_lt, List, [], ◌∷◌, ◌++◌, length, codes, decimal, ◌==◌, if◌then◌else◌}
-use Rattle.std.specs.List.{flat_map}
+use Rattle.std.specs.Prelude.{◌≡◌, ◌≤◌, ℕ, ◌+◌, ◌-◌, Bool, true, false, nat_lt, List, [], ◌∷◌, ◌++◌, length, codes, decimal, ◌==◌, if◌then◌else◌}
+use Rattle.std.specs.List.{flat_map, zip}
 use Rattle.exact_algebra.specs.Fraction.{Fraction}
 use Rattle.frac_core.specs.NumberText.{number_text_of}
 use Rattle.loss_model.specs.declared.vertex.Side.{Side}
 use Rattle.loss_model.specs.declared.vertex.Side.TheVariants.{Up, Down, Basic}
 use Rattle.loss_model.specs.declared.process.Segment.{Segment}
+use Rattle.frac_core.specs.declared.frac128.Frac128.{Frac128}
 use Rattle.rq_engine.specs.declared.report.ScorePair.{ScorePair}
+use Rattle.rq_engine.specs.declared.report.Fit.{Fit}
+use Rattle.rq_engine.specs.declared.report.Report.{Report}
+use Rattle.rq_engine.specs.declared.report.Report.TheVariants.{Process}
 use Rattle.rq_engine.specs.Names.{name_bytes}
 
 -- the texts of the items, which are numbered from i, one after another
@@ -59,3 +63,26 @@ module _ {F : Type 0} (value : F → Fraction) where
   unfoldable pub segment_text : ℕ → ℕ → Segment F × List (ScorePair F) → List ℕ
   segment_text n i (s, pairs) =
       segment_line i s ++ numbered coef_line 1 s.vertex.coef ++ loss_line s ++ scores_line n s.vertex.sides ++ flat_map basic_line pairs
+
+-- the numbers of a value of 128 bits
+abbrev pub value : Frac128 → Fraction
+value x = record { num = x.num; den = x.den }
+
+-- how many rows and pivots the fit has
+unfoldable pub fit_size : Fit → List ℕ
+fit_size fit = data_line fit.data_rows (length fit.problem.rows - fit.data_rows) ++ pivots_line (length fit.process.trail.steps)
+
+-- what stands before the segments
+unfoldable pub fit_head : Fit → List ℕ
+fit_head fit = codes "quantreg 1\n" ++ records_line fit.kept fit.dropped ++ numbered column_line 1 fit.names ++ fit_size fit
+
+unfoldable pub fit_text : Fit → List ℕ
+fit_text fit = fit_head fit ++ numbered (segment_text value fit.data_rows) 1 (zip fit.process.segments fit.scores) ++ codes "end\n"
+
+-- the text of a report
+abbrev pub report_text : Report → List ℕ
+report_text (Process fit) = fit_text fit
+
+-- one list of scores per segment, and no more data rows than rows
+abbrev pub IsPrintable : Report → Type 0
+IsPrintable (Process fit) = (length fit.scores ≡ length fit.process.segments) × (fit.data_rows ≤ length fit.problem.rows)

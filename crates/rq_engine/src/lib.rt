@@ -8,5 +8,6 @@ mod ranking;
 mod report;
 
 pub use column::read_digits;
+pub use lines::report_bytes;
 pub use page::Page;
-pub use report::{Halt, Refusal, ScorePair};
+pub use report::{Fault, Fit, Halt, Refusal, Report, ScorePair};

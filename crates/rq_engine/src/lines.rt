@@ -1,12 +1,13 @@
 //! The lines of a report.
-ghost use Rattle.std.specs.Prelude.{◌≡◌, ◌++◌, ◌+◌, ◌<◌, ◌^◌, length, OnOk};
-ghost use Rattle.rq_engine.specs.ReportText.{records_line, column_line, data_line, pivots_line, segment_line, coef_line, loss_line, basic_line, score_mark, row_mark, scores_line, segment_text, numbered};
+ghost use Rattle.std.specs.Prelude.{◌≡◌, ◌++◌, ◌+◌, ◌≤◌, length, IfOk, OnOk};
+ghost use Rattle.rq_engine.specs.ReportText.{records_line, column_line, data_line, pivots_line, segment_line, coef_line, loss_line, basic_line, score_mark, row_mark, scores_line, segment_text, fit_size, fit_head, fit_text, report_text, IsPrintable, numbered};
 ghost use Rattle.std.specs.List.{flat_map, zip};
 
 use crate::page::Page;
-use crate::report::ScorePair;
+use crate::report::{Fit, Report, ScorePair};
 use frac_core::{Exact, List, OutOfMemory, Text};
 use loss_model::{Segment, Side};
+use std::alloc::Global;
 
 impl Page {
     #[tactic(auto, unfolding(crate::specs::ReportText::records_line))]
@@ -191,6 +192,59 @@ impl Page {
         }
         Ok(())
     }
+
+    #[tactic(auto, unfolding(crate::specs::ReportText::fit_size))]
+    fn fit_size(&mut self, fit: &Fit) -> Result<(), OutOfMemory>
+        requires { fit.now.data_rows ≤ length fit.now.problem.rows }
+        ensures { OnOk result (self.new ≡ self.old ++ fit_size fit.now) }
+    {
+        let rows = fit.problem.rows.as_slice().len() as u64;
+        let data_rows = fit.data_rows as u64;
+        self.data_line(data_rows, rows - data_rows)?;
+        self.pivots_line(fit.process.trail.steps.as_slice().len() as u64)?;
+        Ok(())
+    }
+
+    #[tactic(auto, unfolding(crate::specs::ReportText::fit_head))]
+    fn fit_head(&mut self, fit: &Fit) -> Result<(), OutOfMemory>
+        requires { fit.now.data_rows ≤ length fit.now.problem.rows }
+        ensures { OnOk result (self.new ≡ self.old ++ fit_head fit.now) }
+    {
+        self.put(b"quantreg 1\n")?;
+        self.records_line(fit.kept, fit.dropped)?;
+        self.column_lines(fit.names.as_slice())?;
+        self.fit_size(fit)?;
+        Ok(())
+    }
+
+    #[tactic(auto, unfolding(crate::specs::ReportText::fit_text))]
+    fn fit(&mut self, fit: &Fit) -> Result<(), OutOfMemory>
+        requires data { fit.now.data_rows ≤ length fit.now.problem.rows }
+        requires scored { length fit.now.scores ≡ length fit.now.process.segments }
+        ensures { OnOk result (self.new ≡ self.old ++ fit_text fit.now) }
+    {
+        self.fit_head(fit)?;
+        self.segments(
+            fit.data_rows,
+            fit.process.segments.as_slice(),
+            fit.scores.as_slice(),
+        )?;
+        self.put(b"end\n")
+    }
+}
+
+/// The text of a report. It refuses only for memory.
+///
+/// A fit has one list of scores per segment, and no more data rows than rows.
+pub fn report_bytes(alloc: Global, report: &Report) -> Result<Vec<u8>, OutOfMemory>
+    requires { IsPrintable report.now }
+    ensures { IfOk result (λ bytes. bytes.items ≡ report_text report.now) }
+{
+    let mut page = Page::new(alloc);
+    match report {
+        Report::Process(fit) => page.fit(fit)?,
+    }
+    Ok(page.into_bytes())
 }
 
 // The mark of a row's side.
