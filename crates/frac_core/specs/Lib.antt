@@ -1,3 +1,4 @@
 pub mod Gcd
+pub mod NumberReading
 pub mod NumberText
 pub mod Overflow

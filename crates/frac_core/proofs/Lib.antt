@@ -1,0 +1,3 @@
+pub mod DigitSteps
+pub mod ReaderSteps
+pub mod Scanning
