@@ -21,7 +21,7 @@ use Rattle.frac_core.specs.NumberReading.{front, rest, within, fraction_of, IsWi
 use Rattle.frac_core.specs.declared.digits.Digits.{Digits}
 use Rattle.frac_core.specs.Gcd.{gcd}
 use Rattle.frac_core.specs.Overflow.{ReducesWithin}
-use Rattle.frac_core.specs.declared.number_reader.Parts.{Parts}
+use Rattle.frac_core.specs.declared.number_reader.Written.{Written}
 use Rattle.frac_core.specs.declared.number_reader.NumberFault.{NumberFault}
 use Rattle.frac_core.specs.declared.number_reader.NumberFault.TheVariants.{NotANumber, TooWide}
 use Rattle.frac_core.proofs.DigitSteps.{grows}
@@ -253,7 +253,7 @@ found_within limit (Some x) u = by (nat_le (unsigned_abs x.num) limit) (nat_le x
     by false t h k = tt
 
 -- an answer to a text without its sign, and to the text
-abbrev pub Answers : ℕ → Bool → Option Fraction → Result Parts NumberFault → Type 0
+abbrev pub Answers : ℕ → Bool → Option Fraction → Result Written NumberFault → Type 0
 Answers range negative x (Ok p) = in_range range (option_map (with_sign negative) x) ≡ Ok (rational (fraction_of negative p))
 Answers range negative x (Err e) = in_range range (option_map (with_sign negative) x) ≡ Err e
 
@@ -311,7 +311,7 @@ answers : (range limit : ℕ) (text body : List ℕ) (negative : Bool) → limit
     → Answers range negative (written_body (without_leading_sign text)) (within limit (written_body body))
 answers range limit text body negative l s b = rw (l, b) (signed_answer range negative (written_body (without_leading_sign text)) (unsigned_body (without_leading_sign text)))
 
-pub number_ok : (range limit : ℕ) (text body : List ℕ) (negative : Bool) (p : Parts) → limit ≡ range → negative ≡ starts_with_minus text → body ≡ without_leading_sign text
+pub number_ok : (range limit : ℕ) (text body : List ℕ) (negative : Bool) (p : Written) → limit ≡ range → negative ≡ starts_with_minus text → body ≡ without_leading_sign text
     → Ok p ≡ within limit (written_body body) → number_of range text ≡ Ok (rational (fraction_of negative p))
 unfolding number_of written
 number_ok range limit text body negative p l s b e = rw s (rw (← e) at (answers range limit text body (starts_with_minus text) l refl b))

@@ -19,7 +19,7 @@ pub enum NumberFault {
 
 /// The two numbers that a text without its sign writes.
 #[derive(Clone, Copy)]
-struct Parts {
+struct Written {
     numerator: u128,
     denominator: u128,
 }
@@ -53,7 +53,7 @@ pub fn read_number<F: Exact>(text: &str) -> Result<F, NumberFault>
     Ok(value_of(is_negative, parts))
 }
 
-fn value_of<F: Exact>(is_negative: bool, parts: Parts) -> F
+fn value_of<F: Exact>(is_negative: bool, parts: Written) -> F
     requires within { IsWithin F.range parts }
     requires fits { F.range < 2 ^ 127 }
     ensures { rational (F.value result) ≡ rational (fraction_of is_negative parts) }
@@ -81,7 +81,7 @@ fn split_sign(text: &[u8]) -> (bool, &[u8])
     }
 }
 
-fn read_body(text: &[u8], limit: u128) -> Result<Parts, NumberFault>
+fn read_body(text: &[u8], limit: u128) -> Result<Written, NumberFault>
     requires some { 1 ≤ limit }
     requires most { limit < 2 ^ 127 }
     ensures parts { result ≡ within limit (written_body text.now) }
@@ -114,7 +114,7 @@ fn read_body(text: &[u8], limit: u128) -> Result<Parts, NumberFault>
 }
 
 // A fraction, the digits of whose numerator are taken in.
-fn read_fraction(numerator: Digits, above: &[u8], below: &[u8]) -> Result<Parts, NumberFault>
+fn read_fraction(numerator: Digits, above: &[u8], below: &[u8]) -> Result<Written, NumberFault>
     requires read { HasRead above.now numerator }
     requires digits { all_ascii_digits above.now ≡ true }
     ensures { result ≡ within numerator.limit (written_fraction above.now below.now) }
@@ -127,7 +127,7 @@ fn read_fraction(numerator: Digits, above: &[u8], below: &[u8]) -> Result<Parts,
     }
     match (numerator.value(), denominator.value()) {
         (_, Some(0)) => Err(NumberFault::NotANumber),
-        (Some(numerator), Some(denominator)) => Ok(Parts {
+        (Some(numerator), Some(denominator)) => Ok(Written {
             numerator,
             denominator,
         }),
@@ -136,7 +136,7 @@ fn read_fraction(numerator: Digits, above: &[u8], below: &[u8]) -> Result<Parts,
 }
 
 // A decimal, by what follows its digits: nothing, or an exponent.
-fn read_decimal(mantissa: Mantissa, rest: &[u8]) -> Result<Parts, NumberFault>
+fn read_decimal(mantissa: Mantissa, rest: &[u8]) -> Result<Written, NumberFault>
     requires mantissa { IsMantissa mantissa }
     requires some { 1 ≤ mantissa.digits.limit }
     requires most { mantissa.digits.limit < 2 ^ 127 }
@@ -149,7 +149,7 @@ fn read_decimal(mantissa: Mantissa, rest: &[u8]) -> Result<Parts, NumberFault>
     }
 }
 
-fn read_exponent(mantissa: Mantissa, text: &[u8]) -> Result<Parts, NumberFault>
+fn read_exponent(mantissa: Mantissa, text: &[u8]) -> Result<Written, NumberFault>
     requires mantissa { IsMantissa mantissa }
     requires some { 1 ≤ mantissa.digits.limit }
     requires most { mantissa.digits.limit < 2 ^ 127 }
@@ -170,7 +170,7 @@ fn with_exponent(
     mantissa: Mantissa,
     is_negative: bool,
     exponent: Option<u128>,
-) -> Result<Parts, NumberFault>
+) -> Result<Written, NumberFault>
     requires mantissa { IsMantissa mantissa }
     requires some { 1 ≤ mantissa.digits.limit }
     requires most { mantissa.digits.limit < 2 ^ 127 }
@@ -182,7 +182,7 @@ fn with_exponent(
         return Err(NumberFault::TooWide);
     };
     if significand == 0 {
-        return Ok(Parts {
+        return Ok(Written {
             numerator: 0,
             denominator: 1,
         });
@@ -201,7 +201,7 @@ fn with_exponent(
 }
 
 // `number * 10^(up - down)` as two whole numbers.
-fn scaled(number: u128, up: u128, down: u128, limit: u128) -> Result<Parts, NumberFault>
+fn scaled(number: u128, up: u128, down: u128, limit: u128) -> Result<Written, NumberFault>
     requires number { number ≤ limit }
     requires some { 1 ≤ limit }
     ensures { result ≡ within limit (Some (scaled number up down)) }
@@ -210,7 +210,7 @@ fn scaled(number: u128, up: u128, down: u128, limit: u128) -> Result<Parts, Numb
         times_power(number, up.saturating_sub(down), limit),
         times_power(1, down.saturating_sub(up), limit),
     ) {
-        (Some(numerator), Some(denominator)) => Ok(Parts {
+        (Some(numerator), Some(denominator)) => Ok(Written {
             numerator,
             denominator,
         }),
