@@ -6,6 +6,7 @@
 #![tactic(auto)]
 
 mod bounded;
+mod digits;
 mod divisor;
 mod exact;
 mod frac128;
@@ -20,7 +21,7 @@ pub use exact::{Exact, Op, OpKind};
 pub use frac64::Frac64;
 pub use frac128::Frac128;
 pub use list::List;
-pub use number_reader::NumberFault;
+pub use number_reader::{NumberFault, read_number};
 pub use number_writer::number_text;
 pub use text::Text;
 
