@@ -3,5 +3,7 @@ pub mod Cells
 pub mod Digits
 pub mod LineSplits
 pub mod Counts
+pub mod Fitting
+pub mod Multiples
 pub mod Numbered
 pub mod Places

@@ -1,9 +1,9 @@
 //! The ranking of a column of whole numbers, and the row that is fitted at a quantile.
-ghost use Rattle.std.specs.Prelude.{◌≡◌, ◌+◌, ◌*◌, ◌^◌, ◌<◌, ◌≤◌, ℕ, map, length, count_by, pos, IfOk, int_le, slice_index_or};
+ghost use Rattle.std.specs.Prelude.{◌≡◌, ◌<◌, ◌≤◌, ℕ, map, length, pos, IfOk};
 ghost use Rattle.std.specs.List.{range_with_len};
 ghost use Rattle.std.specs.Int.{abs_diff};
 ghost use Rattle.exact_algebra.specs.Rational.{quotient};
-ghost use Rattle.rq_engine.specs.Ranking.{response, place, entry, IsFitted};
+ghost use Rattle.rq_engine.specs.Ranking.{response, place, entry, IsOptimalPlace, IsFitted};
 
 use std::alloc::{AllocError, Global};
 use std::cmp::Reverse;
@@ -18,17 +18,15 @@ pub(crate) struct Quantile {
     ghost bounded: { denominator ≤ 1000 },
 }
 
-// The optimal places of n rows are ceil(n*tau) to floor(n*tau) + 1, as far as there are rows. The
-// one nearest to a place.
+// The optimal place of some rows that is nearest to a place. The optimal places are those from
+// `ceil(rows*tau)` to `floor(rows*tau) + 1` that there are.
 fn nearest_optimal(rows: u64, tau: Quantile, place: u64) -> u64
     requires some { 1 ≤ rows }
     requires few { rows ≤ 1000 }
     ensures within { (1 ≤ result) × (result ≤ rows) }
-    ensures low { result * tau.denominator ≤ rows * tau.numerator + tau.denominator }
-    ensures high { rows * tau.numerator ≤ result * tau.denominator }
-    ensures nearest { (k : ℕ) → 1 ≤ k → k ≤ rows
-        → k * tau.denominator ≤ rows * tau.numerator + tau.denominator
-        → rows * tau.numerator ≤ k * tau.denominator → abs_diff result place ≤ abs_diff k place }
+    ensures optimal { IsOptimalPlace rows (quotient (pos tau.numerator) tau.denominator) result }
+    ensures nearest { (k : ℕ) → 1 ≤ k → k ≤ rows → IsOptimalPlace rows (quotient (pos tau.numerator) tau.denominator) k
+        → abs_diff result place ≤ abs_diff k place }
 {
     let product = rows * tau.numerator;
     let first = product.div_ceil(tau.denominator).max(1);
@@ -36,11 +34,10 @@ fn nearest_optimal(rows: u64, tau: Quantile, place: u64) -> u64
     place.clamp(first, last)
 }
 
-// How many responses are at most the first: its place, since of equal responses the first stands
-// last.
+// The place of the first row. It stands last among the rows whose response is at most its own.
 fn first_place(responses: &[i64]) -> u64
     requires { 0 < length responses.now }
-    ensures { result ≡ count_by (λ y. int_le y (slice_index_or responses.now 0 (pos 0))) responses.now }
+    ensures { result ≡ place (response responses.now) (length responses.now) 0 }
 {
     let first = responses[0];
     responses.iter().filter(|y| **y <= first).count() as u64
