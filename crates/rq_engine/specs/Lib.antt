@@ -1,4 +1,5 @@
 pub mod Column
+pub mod FaultText
 pub mod Names
 pub mod Ranking
 pub mod ReportText

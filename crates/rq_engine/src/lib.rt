@@ -2,12 +2,14 @@
 #![tactic(auto)]
 
 mod column;
+mod fault;
 mod lines;
 mod page;
 mod ranking;
 mod report;
 
 pub use column::read_digits;
+pub use fault::{MEMORY_LINE, SINK_LINE, SOURCE_LINE, fault_line};
 pub use lines::report_bytes;
 pub use page::Page;
 pub use report::{Fault, Fit, Halt, Refusal, Report, ScorePair};

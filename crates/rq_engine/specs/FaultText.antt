@@ -1,0 +1,29 @@
+-- The line of a fault: what failed, and by which fault with which fields.
+use Rattle.std.specs.Prelude.{ℕ, List, ◌++◌, codes, decimal}
+use Rattle.rq_engine.specs.declared.report.Refusal.TheVariants.{TooLong}
+use Rattle.rq_engine.specs.declared.report.Halt.{Halt}
+use Rattle.rq_engine.specs.declared.report.Halt.TheVariants.{Refused, OutOfMemory, NotBuilt}
+use Rattle.rq_engine.specs.declared.report.Fault.{Fault}
+use Rattle.rq_engine.specs.declared.report.Fault.TheVariants as faults
+
+abbrev pub source_line : List ℕ
+source_line = codes "quantreg: source: SourceFault\n"
+
+abbrev pub sink_line : List ℕ
+sink_line = codes "quantreg: sink: SinkFault\n"
+
+abbrev pub memory_line : List ℕ
+memory_line = codes "quantreg: memory: OutOfMemory\n"
+
+unfoldable pub not_built_line : ℕ → List ℕ
+not_built_line part = codes "quantreg: build: " ++ codes "NotBuilt part=" ++ decimal part ++ codes "\n"
+
+abbrev pub halt_line : Halt → List ℕ
+halt_line (Refused TooLong) = codes "quantreg: input: TooLong\n"
+halt_line OutOfMemory = memory_line
+halt_line (NotBuilt part) = not_built_line part
+
+abbrev pub fault_line : Fault → List ℕ
+fault_line faults.Source = source_line
+fault_line faults.Sink = sink_line
+fault_line (faults.Halt halt) = halt_line halt.now
