@@ -1,6 +1,7 @@
 -- The words of the one job have one reading.
 use Rattle.std.proofs.Common.{◌≡◌, ℕ, true, List, [], ◌∷◌, ◌++◌, codes, length, get_or, map, arith, refl, sym, ap, subst, ◌∙◌}
 use Rattle.std.proofs.lemmas.List.{append_cancel_right}
+use Rattle.exact_algebra.specs.Rational.{ℚ}
 use Rattle.rq_cli.specs.Asked.{is_name, IsQuantile, job_words, Asks}
 
 -- a list of seven items is its items
@@ -15,7 +16,7 @@ pub one_formula : (f q f' q' : List ℕ) → job_words f q ≡ job_words f' q' �
 one_formula f q f' q' e = (cc, cc)
 
 -- the words ask for one column at one quantile
-pub one_reading : (words : List (List ℕ)) (name quantile other : List ℕ) (n d : ℕ) → words ≡ job_words (name ++ codes " ~ 1") quantile → Asks words other n d → (other ≡ name) × (is_name other ≡ true) × IsQuantile quantile n d
-one_reading words name quantile other n d e asks =
+pub one_reading : (words : List (List ℕ)) (name quantile other : List ℕ) (tau : ℚ) → words ≡ job_words (name ++ codes " ~ 1") quantile → Asks words other tau → (other ≡ name) × (is_name other ≡ true) × IsQuantile quantile tau
+one_reading words name quantile other tau e asks =
     let same = one_formula (other ++ codes " ~ 1") asks.quantile (name ++ codes " ~ 1") quantile (sym asks.words_are ∙ e) in
-    (append_cancel_right other name (codes " ~ 1") same.0, asks.is_name, subst (λ q. IsQuantile q n d) same.1 asks.is_quantile)
+    (append_cancel_right other name (codes " ~ 1") same.0, asks.is_name, subst (λ q. IsQuantile q tau) same.1 asks.is_quantile)

@@ -1,16 +1,20 @@
 ghost use Rattle.std.specs.Prelude.{◌≡◌, ◌++◌, ℕ, List, codes, slice_index, IfSome, IfNone, IsTrue, ◌↔◌, map, string_bytes};
 ghost use Rattle.rq_cli.specs.Asked.{is_name as is_name_of, both_parts, one_part, quantile_parts, IsQuantile, job_words, Asks};
+ghost use Rattle.exact_algebra.specs.Rational.{ℚ};
+ghost use Rattle.exact_algebra.specs.Fraction.{rational};
+ghost use Rattle.rq_engine.specs.ReportText.{value};
+ghost use Rattle.rq_engine.specs.Answers.{IsLevel};
 ghost use Rattle.std.specs.Char.{is_ascii_alphabetic, is_ascii_alphanumeric};
 ghost use Rattle.std.specs.List.{list_all};
 
+use frac_core::{Exact, Frac128};
 use rq_engine::read_digits;
 
-/// A column and a quantile `top/bottom`.
+/// A column and a quantile.
 #[derive(Clone, Copy)]
 pub(crate) struct Asked<'a> {
     pub name: &'a str,
-    pub top: u64,
-    pub bottom: u64,
+    pub tau: Frac128,
 }
 
 // What stands before ` ~ 1`.
@@ -69,29 +73,32 @@ fn quantile_parts(text: &str) -> Option<(u64, u64)>
 }
 
 // A quantile whose denominator is at most 1,000.
-fn read_quantile(text: &str) -> Option<(u64, u64)>
-    ensures found { IfSome result (λ q. IsQuantile text.now q.0 q.1) }
-    ensures missing { IfNone result ((n d : ℕ) → ¬ IsQuantile text.now n d) }
+fn read_quantile(text: &str) -> Option<Frac128>
+    ensures found { IfSome result (λ tau. IsQuantile text.now (rational (value tau))) }
+    ensures missing { IfNone result ((tau : ℚ) → ¬ IsQuantile text.now tau) }
+    ensures level { IfSome result (λ tau. IsLevel (value tau)) }
 {
     let (top, bottom) = quantile_parts(text)?;
     if bottom < 1 || bottom > 1000 || top > bottom {
         return None;
     }
-    Some((top, bottom))
+    let tau = Frac128::from_parts(top as i128, bottom as i128)?;
+    Some(tau)
 }
 
 /// What the words ask for, if they are those of the one job.
 pub(crate) fn read_words(words: &[String]) -> Option<Asked<'_>>
-    ensures found { IfSome result (λ asked. Asks (map string_bytes words.now) asked.name.now asked.top asked.bottom) }
-    ensures missing { IfNone result ((name : List ℕ) (n d : ℕ) → ¬ Asks (map string_bytes words.now) name n d) }
+    ensures found { IfSome result (λ asked. Asks (map string_bytes words.now) asked.name.now (rational (value asked.tau))) }
+    ensures missing { IfNone result ((name : List ℕ) (tau : ℚ) → ¬ Asks (map string_bytes words.now) name tau) }
+    ensures level { IfSome result (λ asked. IsLevel (value asked.tau)) }
 {
     let (formula, quantile) = job_texts(words)?;
     let name = level_name(formula)?;
     if !is_name(name) {
         return None;
     }
-    let (top, bottom) = read_quantile(quantile)?;
-    Some(Asked { name, top, bottom })
+    let tau = read_quantile(quantile)?;
+    Some(Asked { name, tau })
 }
 
 // The formula and the quantile of the one job's words.

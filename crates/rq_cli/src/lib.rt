@@ -2,3 +2,8 @@
 #![tactic(auto)]
 
 mod asked;
+mod outcome;
+mod top;
+
+pub use outcome::Outcome;
+pub use top::run;

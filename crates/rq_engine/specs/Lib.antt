@@ -1,3 +1,4 @@
+pub mod Answers
 pub mod Column
 pub mod FaultText
 pub mod Names

@@ -1,5 +1,6 @@
 ghost use Rattle.std.specs.Prelude.{◌≡◌, ◌<◌, ◌≤◌, ◌^◌, ◌∷◌, ◌++◌, ◌⊎◌, [], ℕ, ℤ, List as list, All, length, IfOk, OnOk, IfErr, IfSome, IfNone, IsErrOf};
 ghost use Rattle.std.specs.List.{slice_split, position};
+ghost use Rattle.rq_engine.specs.Answers.{HasCause};
 ghost use Rattle.rq_engine.specs.Column.{is_line_feed, digits_within, whole_of, IsSmall, AreCells, IsColumn};
 
 use crate::report::Halt;
@@ -40,8 +41,7 @@ fn read_whole(text: &[u8]) -> Option<i64>
 pub(crate) fn read_column(alloc: Global, name: &str, bytes: &[u8]) -> Result<Vec<i64>, Halt>
     ensures read { IfOk result (λ values. IsColumn name.now bytes.now values.items) }
     ensures small { IfOk result (λ values. All IsSmall values.items) }
-    ensures refused { IsErrOf result (Halt.NotBuilt 2) → (values : list ℤ) → ¬ IsColumn name.now bytes.now values }
-    ensures causes { IfErr result (λ halt. (halt ≡ Halt.OutOfMemory) ⊎ (halt ≡ Halt.NotBuilt 2)) }
+    ensures cause { IfErr result (HasCause name.now bytes.now) }
 {
     match split_line(bytes) {
         Some((header, cells)) if header == name.as_bytes() => read_cells(alloc, cells),

@@ -3,6 +3,7 @@
 
 mod column;
 mod fault;
+mod job;
 mod lines;
 mod page;
 mod ranking;
@@ -10,6 +11,7 @@ mod report;
 
 pub use column::read_digits;
 pub use fault::{MEMORY_LINE, SINK_LINE, SOURCE_LINE, fault_line};
+pub use job::answer;
 pub use lines::report_bytes;
 pub use page::Page;
 pub use report::{Fault, Fit, Halt, Refusal, Report, ScorePair};

@@ -48,6 +48,7 @@ pub enum Halt {
 }
 
 /// What is told on standard error.
+#[derive(Clone, Copy)]
 pub enum Fault<'a> {
     Source,
     Sink,

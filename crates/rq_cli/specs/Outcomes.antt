@@ -1,0 +1,111 @@
+-- What an outcome of a run says of the words, of the bytes that came, and of what was written.
+use Rattle.std.specs.Prelude.{◌≡◌, ℕ, ◌^◌, ◌<◌, ◌≤◌, ◌+◌, ◌⊎◌, List, [], Option, length, ℤ, Bool, true, false, ⊤}
+use Rattle.std.specs.Io.KnownBytes.{Appends, Keeps}
+use Rattle.exact_algebra.specs.Rational.{ℚ}
+use Rattle.port_io.specs.Counts.{Rose}
+use Rattle.port_io.specs.Told.{TakesAll, TakesFirst, AppendsPart}
+use Rattle.rq_engine.specs.Column.{IsColumn}
+use Rattle.rq_engine.specs.Answers.{IsRight}
+use Rattle.rq_engine.specs.FaultText.{source_line, sink_line, memory_line, halt_line}
+use Rattle.rq_engine.specs.ReportText.{report_text}
+use Rattle.rq_engine.specs.declared.report.Refusal.{Refusal}
+use Rattle.rq_engine.specs.declared.report.Report.{Report}
+use Rattle.rq_engine.specs.declared.report.Halt.TheVariants as halts
+use Rattle.rq_cli.specs.Asked.{Asks}
+use Rattle.rq_cli.specs.declared.outcome.Outcome.{Outcome}
+use Rattle.rq_cli.specs.declared.outcome.Outcome.TheVariants.{Done, Refused, SourceFault, SinkFault, OutOfMemory, NotBuilt}
+
+-- a fact of the report
+abbrev pub OnDone : Outcome → (Report → Type 0) → Type 0
+OnDone (Done report) P = P report
+OnDone _ P = ⊤
+
+-- a fact of every outcome but a report and a failing sink
+abbrev pub OnFault : Outcome → Type 0 → Type 0
+OnFault (Done _) P = ⊤
+OnFault SinkFault P = ⊤
+OnFault _ P = P
+
+-- whether an outcome is neither a report nor a failing sink
+abbrev pub is_fault : Outcome → Bool
+is_fault (Done _) = false
+is_fault SinkFault = false
+is_fault _ = true
+
+-- the line of an outcome
+abbrev pub outcome_line : Outcome → List ℕ
+outcome_line (Done _) = []
+outcome_line (Refused refusal) = halt_line (halts.Refused refusal)
+outcome_line SourceFault = source_line
+outcome_line SinkFault = sink_line
+outcome_line OutOfMemory = memory_line
+outcome_line (NotBuilt part) = halt_line (halts.NotBuilt part)
+
+-- the bytes of a source or a sink, where it tells them, and its count of faults
+pub record Stream : Type 0 where
+  pub bytes : Option (List ℕ)
+  pub faults : ℕ
+
+abbrev pub stream : Option (List ℕ) → ℕ → Stream
+stream bytes faults = record { bytes = bytes; faults = faults }
+
+-- the words ask for this column at this quantile, and these bytes of the source were read to its end
+pub record WereRead (words : List (List ℕ)) (before now : Stream) (name : List ℕ) (tau : ℚ) (bytes : List ℕ) : Type 0 where
+  pub asks : Asks words name tau
+  pub whole : TakesAll before.bytes now.bytes bytes
+  pub short : length bytes ≤ 2 ^ 26
+
+-- the report is right for the words and for the bytes of the source
+pub record IsAnswered (words : List (List ℕ)) (before now : Stream) (report : Report) : Type 0 where
+  pub name : List ℕ
+  pub tau : ℚ
+  pub bytes : List ℕ
+  pub read : WereRead words before now name tau bytes
+  pub right : IsRight name bytes tau report
+
+-- the bytes of the source are no column
+pub record IsNoColumn (words : List (List ℕ)) (before now : Stream) : Type 0 where
+  pub name : List ℕ
+  pub tau : ℚ
+  pub bytes : List ℕ
+  pub read : WereRead words before now name tau bytes
+  pub none : (values : List ℤ) → ¬ IsColumn name bytes values
+
+-- more than 2^26 bytes came
+pub record IsTooLong (words : List (List ℕ)) (before now : Stream) : Type 0 where
+  pub name : List ℕ
+  pub tau : ℚ
+  pub asks : Asks words name tau
+  pub came : TakesFirst before.bytes now.bytes (2 ^ 26 + 1)
+
+-- why there is this outcome. Want of memory is free of a cause, and a failing sink has its own
+abbrev pub HasCause : List (List ℕ) → Stream → Stream → Outcome → Type 0
+HasCause words before now (Done report) = IsAnswered words before now report
+HasCause words before now (Refused _) = IsTooLong words before now
+HasCause words before now SourceFault = Rose before.faults now.faults
+HasCause words before now (NotBuilt part) =
+    ((part ≡ 1) × ((name : List ℕ) (tau : ℚ) → ¬ Asks words name tau)) ⊎ ((part ≡ 2) × IsNoColumn words before now)
+HasCause words before now _ = ⊤
+
+-- all of the bytes were added, or the sink failed behind a part of them
+abbrev pub WasTried : Stream → Stream → List ℕ → Type 0
+WasTried before now bytes =
+    Appends before.bytes now.bytes bytes ⊎ (Rose before.faults now.faults × AppendsPart before.bytes now.bytes bytes)
+
+-- standard output failed behind a part of the text of the report, and the line of a failing sink was tried
+pub record IsOutputFault (words : List (List ℕ)) (source source' out out' err err' : Stream) : Type 0 where
+  pub report : Report
+  pub answered : IsAnswered words source source' report
+  pub rose : Rose out.faults out'.faults
+  pub part : AppendsPart out.bytes out'.bytes (report_text report)
+  pub tried : WasTried err err' sink_line
+
+-- standard output is as it was, and standard error failed behind a part of the line of a fault that has its cause
+pub record IsErrorFault (words : List (List ℕ)) (source source' out out' err err' : Stream) : Type 0 where
+  pub fault : Outcome
+  pub named : is_fault fault ≡ true
+  pub cause : HasCause words source source' fault
+  pub kept : Keeps out.bytes out'.bytes
+  pub counted : out'.faults ≡ out.faults
+  pub rose : Rose err.faults err'.faults
+  pub part : AppendsPart err.bytes err'.bytes (outcome_line fault)

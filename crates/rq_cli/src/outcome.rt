@@ -1,0 +1,37 @@
+ghost use Rattle.std.specs.Prelude.{◌≡◌};
+ghost use Rattle.rq_cli.specs.Codes.{code_of};
+
+use rq_engine::{Refusal, Report};
+
+/// What came of a run.
+#[derive(Drop)]
+pub enum Outcome {
+    /// The report, which was printed.
+    Done(Report),
+    /// The input has no report, for this cause.
+    Refused(Refusal),
+    /// The source failed.
+    SourceFault,
+    /// A sink failed.
+    SinkFault,
+    /// No memory was found.
+    OutOfMemory,
+    /// The words or the input ask for what this version does not do.
+    NotBuilt { part: u8 },
+}
+
+impl Outcome {
+    /// The exit status of the program.
+    pub fn code(&self) -> u8
+        ensures { result ≡ code_of self.now }
+    {
+        match self {
+            Outcome::Done(_) => 0,
+            Outcome::Refused(_) => 1,
+            Outcome::SourceFault => 3,
+            Outcome::SinkFault => 4,
+            Outcome::OutOfMemory => 5,
+            Outcome::NotBuilt { .. } => 9,
+        }
+    }
+}

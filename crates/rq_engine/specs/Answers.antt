@@ -1,0 +1,26 @@
+-- What the engine is asked and answers.
+use Rattle.std.specs.Prelude.{◌≡◌, ℕ, ◌≤◌, ◌≤ℤ◌, List, ℤ, pos, ⊤}
+use Rattle.exact_algebra.specs.Rational.{ℚ}
+use Rattle.exact_algebra.specs.Fraction.{Fraction, rational}
+use Rattle.rq_engine.specs.declared.report.Report.{Report}
+use Rattle.rq_engine.specs.declared.report.Report.TheVariants.{Process}
+use Rattle.rq_engine.specs.declared.report.Halt.{Halt}
+use Rattle.rq_engine.specs.declared.report.Halt.TheVariants.{Refused, OutOfMemory, NotBuilt}
+use Rattle.rq_engine.specs.Column.{IsColumn}
+
+-- a quantile from 0 to 1 whose denominator is at most 1,000
+pub record IsLevel (tau : Fraction) : Type 0 where
+  pub low : pos 0 ≤ℤ tau.num
+  pub high : tau.num ≤ℤ pos tau.den
+  pub some : 1 ≤ tau.den
+  pub short : tau.den ≤ 1000
+
+-- the report is right for the level of this column in the bytes, at this quantile
+abbrev pub IsRight : List ℕ → List ℕ → ℚ → Report → Type 0
+IsRight name bytes tau (Process fit) = (values : List ℤ) × IsColumn name bytes values
+
+-- why there is no report
+abbrev pub HasCause : List ℕ → List ℕ → Halt → Type 0
+HasCause name bytes (Refused _) = ⊥
+HasCause name bytes OutOfMemory = ⊤
+HasCause name bytes (NotBuilt part) = (part ≡ 2) × ((values : List ℤ) → ¬ IsColumn name bytes values)
