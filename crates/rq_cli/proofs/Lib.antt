@@ -1,2 +1,3 @@
 pub mod Quantiles
+pub mod Runs
 pub mod Words

@@ -1,4 +1,4 @@
 pub mod Asked
 pub mod Codes
 pub mod Outcomes
-pub mod Stops
+pub mod Steps

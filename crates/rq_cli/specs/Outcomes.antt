@@ -109,3 +109,20 @@ pub record IsErrorFault (words : List (List ℕ)) (source source' out out' err e
   pub counted : out'.faults ≡ out.faults
   pub rose : Rose err.faults err'.faults
   pub part : AppendsPart err.bytes err'.bytes (outcome_line fault)
+
+-- what a run with this outcome read and wrote
+pub record IsRun (words : List (List ℕ)) (source source' out out' err err' : Stream) (outcome : Outcome) : Type 0 where
+  -- a report is the right one, and every fault has its cause
+  pub cause : HasCause words source source' outcome
+  -- a report is printed whole, and nothing is told
+  pub printed : OnDone outcome (λ report. Appends out.bytes out'.bytes (report_text report))
+  pub quiet : OnDone outcome (λ _. Keeps err.bytes err'.bytes)
+  -- a fault leaves standard output alone, and its line is told
+  pub untouched : OnFault outcome (Keeps out.bytes out'.bytes)
+  pub told : OnFault outcome (Appends err.bytes err'.bytes (outcome_line outcome))
+  -- a sink failed, standard output or standard error
+  pub sink : outcome ≡ SinkFault → IsOutputFault words source source' out out' err err' ⊎ IsErrorFault words source source' out out' err err'
+  -- a fault that was counted has no other outcome
+  pub source_grew : source.faults < source'.faults → (outcome ≡ SourceFault) ⊎ (outcome ≡ SinkFault)
+  pub out_grew : out.faults < out'.faults → outcome ≡ SinkFault
+  pub err_grew : err.faults < err'.faults → outcome ≡ SinkFault

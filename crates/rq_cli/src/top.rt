@@ -1,13 +1,10 @@
 //! The top call.
-ghost use Rattle.std.specs.Prelude.{◌≡◌, ◌⊎◌, ◌<◌, ◌^◌, ◌≤◌, ℕ, List, map, true, string_bytes, IfOk, IfErr, IsErrOf};
-ghost use Rattle.std.specs.Io.KnownBytes.{Appends, Keeps};
+ghost use Rattle.std.specs.Prelude.{◌≡◌, ◌≢◌, ◌⊎◌, ◌<◌, ◌≤◌, ℕ, List, map, true, string_bytes, IfOk, IfErr, OnOk};
 ghost use Rattle.exact_algebra.specs.Rational.{ℚ};
-ghost use Rattle.port_io.specs.Counts.{Rose};
-ghost use Rattle.port_io.specs.Told.{AppendsPart};
 ghost use Rattle.rq_engine.specs.ReportText.{report_text};
 ghost use Rattle.rq_cli.specs.Asked.{Asks};
-ghost use Rattle.rq_cli.specs.Outcomes.{OnDone, OnFault, is_fault, outcome_line, stream, HasCause, IsAnswered, IsOutputFault, IsErrorFault};
-ghost use Rattle.rq_cli.specs.Stops.{outcome_of};
+ghost use Rattle.rq_cli.specs.Outcomes.{is_fault, outcome_line, stream, HasCause, IsAnswered, IsRun};
+ghost use Rattle.rq_cli.specs.Steps.{outcome_of, WasTold, WasPrinted};
 
 use crate::asked::read_words;
 use crate::outcome::Outcome;
@@ -19,49 +16,15 @@ use rq_engine::{
 use std::alloc::Global;
 use std::thread::Threads;
 
-// Why nothing is printed.
-enum Stop {
-    Refused(Refusal),
-    SourceFault,
-    OutOfMemory,
-    NotBuilt { part: u8 },
-}
-
-// The report of the words and the source, and its text.
-fn work<R: Threads + Sync, S: Source>(
-    rt: &R,
-    alloc: Global,
-    words: &[String],
-    source: &mut S,
-) -> Result<(Report, Vec<u8>), Stop>
-    ensures answered { IfOk result (λ done. IsAnswered (map string_bytes words.now) (stream (S.left source.old) (S.faults source.old)) (stream (S.left source.new) (S.faults source.new)) done.0) }
-    ensures text { IfOk result (λ done. done.1.items ≡ report_text done.0) }
-    ensures cause { IfErr result (λ stop. HasCause (map string_bytes words.now) (stream (S.left source.old) (S.faults source.old)) (stream (S.left source.new) (S.faults source.new)) (outcome_of stop)) }
-    ensures grew { S.faults source.old < S.faults source.new → IsErrOf result Stop.SourceFault }
-    ensures unread { ((name : List ℕ) (tau : ℚ) → ¬ Asks (map string_bytes words.now) name tau) → source.new ≡ source.old }
-{
-    let Some(asked) = read_words(words) else {
-        return Err(Stop::NotBuilt { part: 1 });
-    };
-    let bytes = match read_all(alloc, source) {
-        Ok(bytes) => bytes,
-        Err(ReadFault::Failed) => return Err(Stop::SourceFault),
-        Err(ReadFault::TooLong) => return Err(Stop::Refused(Refusal::TooLong)),
-        Err(ReadFault::OutOfMemory) => return Err(Stop::OutOfMemory),
-    };
-    let report = match answer(rt, alloc, asked.name, asked.tau, &bytes) {
-        Ok(report) => report,
-        Err(Halt::Refused(refusal)) => return Err(Stop::Refused(refusal)),
-        Err(Halt::OutOfMemory) => return Err(Stop::OutOfMemory),
-        Err(Halt::NotBuilt { part }) => return Err(Stop::NotBuilt { part }),
-    };
-    match report_bytes(alloc, &report) {
-        Ok(text) => Ok((report, text)),
-        Err(_) => Err(Stop::OutOfMemory),
-    }
-}
-
-/// All that the program does.
+/// All that the program does: reads the source where the words ask for a job, and writes the
+/// report to `out` or the line of a fault to `err`.
+///
+/// The whole text is made before the first byte of it is written. `NotBuilt` with part 1 comes
+/// exactly where the words ask for no job of this version, and leaves the source untouched; with
+/// part 2 exactly where the bytes are no column. `Refused` comes exactly where more than 2^26 bytes
+/// come. `SourceFault` and `SinkFault` come only where the count of faults of the source or of a
+/// sink rose in this call, and where it grew there is no other outcome but `SinkFault`.
+/// `OutOfMemory` may come in place of what would follow, and never after a write to `out`.
 pub fn run<R: Threads + Sync, S: Source, K: Sink, E: Sink>(
     rt: &R,
     alloc: Global,
@@ -69,14 +32,72 @@ pub fn run<R: Threads + Sync, S: Source, K: Sink, E: Sink>(
     source: &mut S,
     out: &mut K,
     err: &mut E,
-) -> Outcome {
+) -> Outcome
+    ensures ran { IsRun (map string_bytes words.now)
+        (stream (S.left source.old) (S.faults source.old)) (stream (S.left source.new) (S.faults source.new))
+        (stream (K.written out.old) (K.faults out.old)) (stream (K.written out.new) (K.faults out.new))
+        (stream (E.written err.old) (E.faults err.old)) (stream (E.written err.new) (E.faults err.new)) result }
+    ensures unread { ((name : List ℕ) (tau : ℚ) → ¬ Asks (map string_bytes words.now) name tau) → source.new ≡ source.old }
+{
     match work(rt, alloc, words, source) {
         Ok((report, text)) => print(report, &text, out, err),
-        Err(stop) => tell(alloc, stop, err),
+        Err(fault) => tell(alloc, fault, err),
     }
 }
 
-fn print<K: Sink, E: Sink>(report: Report, text: &[u8], out: &mut K, err: &mut E) -> Outcome {
+// The report of the words and the source with its text, or the fault.
+fn work<R: Threads + Sync, S: Source>(
+    rt: &R,
+    alloc: Global,
+    words: &[String],
+    source: &mut S,
+) -> Result<(Report, Vec<u8>), Outcome>
+    ensures answered { IfOk result (λ done. IsAnswered (map string_bytes words.now)
+        (stream (S.left source.old) (S.faults source.old)) (stream (S.left source.new) (S.faults source.new)) done.0) }
+    ensures text { IfOk result (λ done. done.1.items ≡ report_text done.0) }
+    ensures named { IfErr result (λ fault. is_fault fault ≡ true) }
+    ensures cause { IfErr result (HasCause (map string_bytes words.now)
+        (stream (S.left source.old) (S.faults source.old)) (stream (S.left source.new) (S.faults source.new))) }
+    ensures steady { OnOk result (S.faults source.new ≤ S.faults source.old) }
+    ensures grew { IfErr result (λ fault. S.faults source.old < S.faults source.new → fault ≡ Outcome.SourceFault) }
+    ensures unread { ((name : List ℕ) (tau : ℚ) → ¬ Asks (map string_bytes words.now) name tau) → source.new ≡ source.old }
+{
+    let Some(asked) = read_words(words) else {
+        return Err(Outcome::NotBuilt { part: 1 });
+    };
+    let bytes = match read_all(alloc, source) {
+        Ok(bytes) => bytes,
+        Err(ReadFault::Failed) => return Err(Outcome::SourceFault),
+        Err(ReadFault::TooLong) => return Err(Outcome::Refused(Refusal::TooLong)),
+        Err(ReadFault::OutOfMemory) => return Err(Outcome::OutOfMemory),
+    };
+    let report = match answer(rt, alloc, asked.name, asked.tau, &bytes) {
+        Ok(report) => report,
+        Err(halt) => return Err(outcome_of(halt)),
+    };
+    match report_bytes(alloc, &report) {
+        Ok(text) => Ok((report, text)),
+        Err(_) => Err(Outcome::OutOfMemory),
+    }
+}
+
+fn outcome_of(halt: Halt) -> Outcome
+    ensures { result ≡ outcome_of halt }
+{
+    match halt {
+        Halt::Refused(refusal) => Outcome::Refused(refusal),
+        Halt::OutOfMemory => Outcome::OutOfMemory,
+        Halt::NotBuilt { part } => Outcome::NotBuilt { part },
+    }
+}
+
+// Writes a report. After a failed write one line is still tried on `err`.
+fn print<K: Sink, E: Sink>(report: Report, text: &[u8], out: &mut K, err: &mut E) -> Outcome
+    requires { text.now ≡ report_text report }
+    ensures { WasPrinted report result
+        (stream (K.written out.old) (K.faults out.old)) (stream (K.written out.new) (K.faults out.new))
+        (stream (E.written err.old) (E.faults err.old)) (stream (E.written err.new) (E.faults err.new)) }
+{
     match write_all(out, text) {
         Ok(()) => Outcome::Done(report),
         Err(Failed) => {
@@ -86,35 +107,39 @@ fn print<K: Sink, E: Sink>(report: Report, text: &[u8], out: &mut K, err: &mut E
     }
 }
 
-fn tell<E: Sink>(alloc: Global, stop: Stop, err: &mut E) -> Outcome {
-    match stop {
-        Stop::SourceFault => say(err, SOURCE_LINE, Outcome::SourceFault),
-        Stop::OutOfMemory => say(err, MEMORY_LINE, Outcome::OutOfMemory),
-        Stop::Refused(refusal) => tell_halt(
-            alloc,
-            &Halt::Refused(refusal),
-            Outcome::Refused(refusal),
-            err,
-        ),
-        Stop::NotBuilt { part } => tell_halt(
-            alloc,
-            &Halt::NotBuilt { part },
-            Outcome::NotBuilt { part },
-            err,
-        ),
+// Writes the line of a fault, or that of want of memory where the line finds none.
+fn tell<E: Sink>(alloc: Global, fault: Outcome, err: &mut E) -> Outcome
+    requires { is_fault fault ≡ true }
+    ensures { let before = stream (E.written err.old) (E.faults err.old) in
+        let now = stream (E.written err.new) (E.faults err.new) in
+        WasTold fault result before now ⊎ ((fault ≢ Outcome.SourceFault) × WasTold Outcome.OutOfMemory result before now) }
+{
+    match fault {
+        Outcome::SourceFault => write_line(err, SOURCE_LINE, fault),
+        Outcome::Refused(refusal) => tell_halt(alloc, &Halt::Refused(refusal), fault, err),
+        Outcome::NotBuilt { part } => tell_halt(alloc, &Halt::NotBuilt { part }, fault, err),
+        _ => write_line(err, MEMORY_LINE, Outcome::OutOfMemory),
     }
 }
 
-fn tell_halt<E: Sink>(alloc: Global, halt: &Halt, outcome: Outcome, err: &mut E) -> Outcome {
+fn tell_halt<E: Sink>(alloc: Global, halt: &Halt, fault: Outcome, err: &mut E) -> Outcome
+    requires { fault ≡ outcome_of halt.now }
+    ensures { let before = stream (E.written err.old) (E.faults err.old) in
+        let now = stream (E.written err.new) (E.faults err.new) in
+        WasTold fault result before now ⊎ WasTold Outcome.OutOfMemory result before now }
+{
     match fault_line(alloc, &Fault::Halt(halt)) {
-        Ok(line) => say(err, &line, outcome),
-        Err(_) => say(err, MEMORY_LINE, Outcome::OutOfMemory),
+        Ok(line) => write_line(err, &line, fault),
+        Err(_) => write_line(err, MEMORY_LINE, Outcome::OutOfMemory),
     }
 }
 
-fn say<E: Sink>(err: &mut E, line: &[u8], outcome: Outcome) -> Outcome {
+fn write_line<E: Sink>(err: &mut E, line: &[u8], fault: Outcome) -> Outcome
+    requires { line.now ≡ outcome_line fault }
+    ensures { WasTold fault result (stream (E.written err.old) (E.faults err.old)) (stream (E.written err.new) (E.faults err.new)) }
+{
     match write_all(err, line) {
-        Ok(()) => outcome,
+        Ok(()) => fault,
         Err(Failed) => Outcome::SinkFault,
     }
 }

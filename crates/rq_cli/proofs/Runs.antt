@@ -1,0 +1,123 @@
+-- From the steps of a run to what the run did.
+use Rattle.std.proofs.Common.{◌≡◌, ◌⊎◌, ℕ, ◌<◌, List, Option, None, Some, Result, Ok, Err, OnOk, OnErr, true, false, arith, refl, sym, ap, subst, ◌∙◌, inl, inr}
+use Rattle.std.proofs.lemmas.Bool.{false≢true}
+use Rattle.std.specs.Io.KnownBytes.{Appends, Keeps}
+use Rattle.exact_algebra.specs.Rational.{ℚ}
+use Rattle.port_io.specs.Counts.{Rose, CountsFaults}
+use Rattle.port_io.specs.Told.{AppendsPart}
+use Rattle.rq_engine.specs.Answers as engine
+use Rattle.rq_engine.specs.ReportText.{report_text}
+use Rattle.rq_engine.specs.declared.report.Report.{Report}
+use Rattle.rq_engine.specs.declared.report.Halt.{Halt}
+use Rattle.rq_engine.specs.declared.report.Halt.TheVariants as halts
+use Rattle.rq_cli.specs.Outcomes.{Stream, OnDone, OnFault, is_fault, outcome_line, WereRead, HasCause, IsAnswered, WasTried, IsOutputFault, IsErrorFault, IsRun}
+use Rattle.rq_cli.specs.Steps.{outcome_of, IsTold, IsHalfTold, WasTold, IsPrinted, IsHalfPrinted, WasPrinted}
+use Rattle.rq_cli.specs.declared.outcome.Outcome.{Outcome}
+use Rattle.rq_cli.specs.declared.outcome.Outcome.TheVariants.{Done, Refused, SourceFault, SinkFault, OutOfMemory, NotBuilt}
+
+-- a write whose answer isn't looked at
+pub tried : {T E : Type 0} (r : Result T E) (before now : Stream) (line : List ℕ) → OnOk r (Appends before.bytes now.bytes line) → OnErr r (AppendsPart before.bytes now.bytes line) → CountsFaults before.faults now.faults r → WasTried before now line
+tried (Ok x) before now line ok err counted = inl ok
+tried (Err e) before now line ok err counted = inr (counted.rose, err)
+
+-- the cause of a halt is that of its outcome
+pub halt_cause : (words : List (List ℕ)) (source source' : Stream) (name : List ℕ) (tau : ℚ) (bytes : List ℕ) → WereRead words source source' name tau bytes → (halt : Halt) → engine.HasCause name bytes halt → HasCause words source source' (outcome_of halt)
+halt_cause words source source' name tau bytes read (halts.Refused refusal) cause = absurd cause
+halt_cause words source source' name tau bytes read halts.OutOfMemory cause = tt
+halt_cause words source source' name tau bytes read (halts.NotBuilt part) cause =
+    inr (cause.0, record { name = name; tau = tau; bytes = bytes; read = read; none = cause.1 })
+
+keeps : (bytes : Option (List ℕ)) → Keeps bytes bytes
+keeps None = tt
+keeps (Some xs) = refl
+
+module _ (words : List (List ℕ)) (source source' out out' err err' : Stream) where
+  -- a report that was printed, or half of it
+  pub printed_run : (report : Report) (outcome : Outcome) → IsAnswered words source source' report → (source.faults < source'.faults → ⊥) → WasPrinted report outcome out out' err err' → IsRun words source source' out out' err err' outcome
+  printed_run report outcome answered steady (inl p) =
+      subst (IsRun words source source' out out' err err') (sym p.is) (record {
+        cause = answered;
+        printed = p.printed;
+        quiet = p.quiet;
+        untouched = tt;
+        told = tt;
+        sink = λ e. absurd (cc);
+        source_grew = λ l. absurd (steady l);
+        out_grew = λ l. absurd (omega (arith, p.out_counted));
+        err_grew = λ l. absurd (omega (arith, p.err_counted));
+      })
+  printed_run report outcome answered steady (inr p) =
+      subst (IsRun words source source' out out' err err') (sym p.is) (record {
+        cause = tt;
+        printed = tt;
+        quiet = tt;
+        untouched = tt;
+        told = tt;
+        sink = λ _. inl (record { report = report; answered = answered; rose = p.rose; part = p.part; tried = p.tried });
+        source_grew = λ l. absurd (steady l);
+        out_grew = λ _. refl;
+        err_grew = λ _. refl;
+      })
+
+  -- a fact of every fault
+  on_fault : (fault : Outcome) (P : Type 0) → P → OnFault fault P
+  on_fault (Done _) P h = tt
+  on_fault SinkFault P h = tt
+  on_fault (Refused _) P h = h
+  on_fault SourceFault P h = h
+  on_fault OutOfMemory P h = h
+  on_fault (NotBuilt _) P h = h
+
+  not_done : (fault : Outcome) (P : Report → Type 0) → is_fault fault ≡ true → OnDone fault P
+  not_done (Done report) P h = absurd (false≢true h)
+  not_done SinkFault P h = tt
+  not_done (Refused _) P h = tt
+  not_done SourceFault P h = tt
+  not_done OutOfMemory P h = tt
+  not_done (NotBuilt _) P h = tt
+
+  not_sink : (fault : Outcome) → is_fault fault ≡ true → fault ≡ SinkFault → ⊥
+  not_sink fault named e = false≢true (sym (ap is_fault e) ∙ named)
+
+  -- the line of a fault that was told, or half of it
+  pub told_run : (fault outcome : Outcome) → is_fault fault ≡ true → HasCause words source source' fault → (source.faults < source'.faults → fault ≡ SourceFault) → out' ≡ out → WasTold fault outcome err err' → IsRun words source source' out out' err err' outcome
+  told_run fault outcome named cause grew same (inl p) =
+      subst (IsRun words source source' out out' err err') (sym p.is) (record {
+        cause = cause;
+        printed = not_done fault (λ report. Appends out.bytes out'.bytes (report_text report)) named;
+        quiet = not_done fault (λ _. Keeps err.bytes err'.bytes) named;
+        untouched = on_fault fault (Keeps out.bytes out'.bytes) kept;
+        told = on_fault fault (Appends err.bytes err'.bytes (outcome_line fault)) p.told;
+        sink = λ e. absurd (not_sink fault named e);
+        source_grew = λ l. inl (grew l);
+        out_grew = λ l. absurd (omega (arith, counted));
+        err_grew = λ l. absurd (omega (arith, p.counted));
+      })
+    where
+      kept : Keeps out.bytes out'.bytes
+      kept = subst (λ (s : Stream). Keeps out.bytes s.bytes) (sym same) (keeps out.bytes)
+
+      counted : out'.faults ≡ out.faults
+      counted = ap (λ (s : Stream). s.faults) same
+  told_run fault outcome named cause grew same (inr p) =
+      subst (IsRun words source source' out out' err err') (sym p.is) (record {
+        cause = tt;
+        printed = tt;
+        quiet = tt;
+        untouched = tt;
+        told = tt;
+        sink = λ _. inr (record { fault = fault; named = named; cause = cause; kept = kept; counted = counted; rose = p.rose; part = p.part });
+        source_grew = λ l. inr refl;
+        out_grew = λ _. refl;
+        err_grew = λ _. refl;
+      })
+    where
+      kept : Keeps out.bytes out'.bytes
+      kept = subst (λ (s : Stream). Keeps out.bytes s.bytes) (sym same) (keeps out.bytes)
+
+      counted : out'.faults ≡ out.faults
+      counted = ap (λ (s : Stream). s.faults) same
+
+  -- want of memory in place of a fault
+  pub memory_run : (outcome : Outcome) → (source.faults < source'.faults → ⊥) → out' ≡ out → WasTold OutOfMemory outcome err err' → IsRun words source source' out out' err err' outcome
+  memory_run outcome steady same told = told_run OutOfMemory outcome refl tt (λ l. absurd (steady l)) same told

@@ -1,0 +1,53 @@
+-- What the steps of a run write.
+use Rattle.std.specs.Prelude.{◌≡◌, ◌⊎◌}
+use Rattle.std.specs.Io.KnownBytes.{Appends, Keeps}
+use Rattle.port_io.specs.Counts.{Rose}
+use Rattle.port_io.specs.Told.{AppendsPart}
+use Rattle.rq_engine.specs.FaultText.{sink_line}
+use Rattle.rq_engine.specs.ReportText.{report_text}
+use Rattle.rq_engine.specs.declared.report.Report.{Report}
+use Rattle.rq_engine.specs.declared.report.Halt.{Halt}
+use Rattle.rq_engine.specs.declared.report.Halt.TheVariants as halts
+use Rattle.rq_cli.specs.Outcomes.{Stream, outcome_line, WasTried}
+use Rattle.rq_cli.specs.declared.outcome.Outcome.{Outcome}
+use Rattle.rq_cli.specs.declared.outcome.Outcome.TheVariants as outcomes
+use Rattle.rq_cli.specs.declared.outcome.Outcome.TheVariants.{Done, SinkFault}
+
+-- the outcome of a halt
+abbrev pub outcome_of : Halt → Outcome
+outcome_of (halts.Refused refusal) = outcomes.Refused refusal
+outcome_of halts.OutOfMemory = outcomes.OutOfMemory
+outcome_of (halts.NotBuilt part) = outcomes.NotBuilt part
+
+-- the line of the fault was added
+pub record IsTold (fault outcome : Outcome) (err err' : Stream) : Type 0 where
+  pub is : outcome ≡ fault
+  pub told : Appends err.bytes err'.bytes (outcome_line fault)
+  pub counted : err'.faults ≡ err.faults
+
+-- the sink failed behind a part of it
+pub record IsHalfTold (fault outcome : Outcome) (err err' : Stream) : Type 0 where
+  pub is : outcome ≡ SinkFault
+  pub part : AppendsPart err.bytes err'.bytes (outcome_line fault)
+  pub rose : Rose err.faults err'.faults
+
+abbrev pub WasTold : Outcome → Outcome → Stream → Stream → Type 0
+WasTold fault outcome err err' = IsTold fault outcome err err' ⊎ IsHalfTold fault outcome err err'
+
+-- the text of the report was added
+pub record IsPrinted (report : Report) (outcome : Outcome) (out out' err err' : Stream) : Type 0 where
+  pub is : outcome ≡ Done report
+  pub printed : Appends out.bytes out'.bytes (report_text report)
+  pub quiet : Keeps err.bytes err'.bytes
+  pub out_counted : out'.faults ≡ out.faults
+  pub err_counted : err'.faults ≡ err.faults
+
+-- standard output failed behind a part of it, and the line of a failing sink was tried
+pub record IsHalfPrinted (report : Report) (outcome : Outcome) (out out' err err' : Stream) : Type 0 where
+  pub is : outcome ≡ SinkFault
+  pub part : AppendsPart out.bytes out'.bytes (report_text report)
+  pub rose : Rose out.faults out'.faults
+  pub tried : WasTried err err' sink_line
+
+abbrev pub WasPrinted : Report → Outcome → Stream → Stream → Stream → Stream → Type 0
+WasPrinted report outcome out out' err err' = IsPrinted report outcome out out' err err' ⊎ IsHalfPrinted report outcome out out' err err'
