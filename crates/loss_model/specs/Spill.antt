@@ -53,6 +53,12 @@ residual_products p b i = record { first = p.y i; count = p.columns; left = λ k
 abbrev pub cost_products : ℚ → ℚ → ℚ → Products
 cost_products part0 part1 theta = record { first = part0; count = 1; left = λ k. part1; right = λ k. theta }
 
+abbrev pub up_products : Sample → ℚ → ℕ → Products
+up_products p theta i = cost_products (p.up0 i) (p.up1 i) theta
+
+abbrev pub down_products : Sample → ℚ → ℕ → Products
+down_products p theta i = cost_products (p.down0 i) (p.down1 i) theta
+
 -- the cost of the side on which a residual lies, which is the up side for 0
 abbrev pub side_cost : Sample → ℚ → (ℕ → ℚ) → ℕ → ℚ
 side_cost p theta b i = cond (le_ℚ (whole (pos 0)) (residual p b i)) (up_cost p theta i) (down_cost p theta i)
@@ -68,8 +74,8 @@ loss_products p theta b = record { first = whole (pos 0); count = p.rows; left =
 abbrev pub IsRowSpill : {F : Type 0} → (F → Fraction) → ℕ → Sample → ℚ → (ℕ → ℚ) → ℕ → Spill F → Type 0
 IsRowSpill value range p theta b i s =
     IsSpillOf value range (site_of Residual i 0 1) (residual_products p b i) s
-    ⊎ (IsSpillOf value range (site_of CostValue i 0 1) (cost_products (p.up0 i) (p.up1 i) theta) s
-    ⊎ IsSpillOf value range (site_of CostValue i 1 1) (cost_products (p.down0 i) (p.down1 i) theta) s)
+    ⊎ (IsSpillOf value range (site_of CostValue i 0 1) (up_products p theta i) s
+    ⊎ IsSpillOf value range (site_of CostValue i 1 1) (down_products p theta i) s)
 
 -- or one of the sum of the losses
 abbrev pub IsLossSpill : {F : Type 0} → (F → Fraction) → ℕ → Sample → ℚ → (ℕ → ℚ) → Spill F → Type 0
