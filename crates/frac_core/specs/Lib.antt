@@ -1,2 +1,5 @@
 pub mod Gcd
+pub mod GcdLaws
 pub mod Overflow
+pub mod Lowest
+pub mod Parts
