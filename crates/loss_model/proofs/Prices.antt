@@ -1,25 +1,17 @@
 -- The loss of a row is the cost of its side times the size of its residual.
-use Rattle.std.specs.Prelude.{◌≡◌, ℕ, ◌+◌, ◌<◌, Bool, true, false, cond, [], ◌∷◌, ℤ, pos, negsuc, ◌≤ℤ◌}
-use Rattle.std.proofs.Common.{arith, refl, sym, ap, subst, ◌∙◌}
-use Rattle.std.proofs.lemmas.Int.{ints}
+use Rattle.std.specs.Prelude.{◌≡◌, ℕ, ◌+◌, Bool, true, false, cond, [], ◌∷◌, ℤ, pos, ◌≤ℤ◌}
+use Rattle.std.proofs.Common.{refl, sym, ap, subst, ◌∙◌}
 use Rattle.exact_algebra.specs.Solver.{number, negated, ◌⊞◌, ◌⊠◌, v0, v1, v2}
-use Rattle.exact_algebra.specs.Rational.{ℚ, ◌+ℚ◌, ◌*ℚ◌, neg_ℚ, whole, le_ℚ, ◌≤ℚ◌, ring_ℚ, zero-+ℚ, ≤ℚ_total}
+use Rattle.exact_algebra.specs.Rational.{ℚ, ◌+ℚ◌, ◌*ℚ◌, neg_ℚ, whole, le_ℚ, ring_ℚ, zero-+ℚ}
 use Rattle.exact_algebra.specs.RationalSums.{sum_ℚ, sum_ℚ-same, positive_ℚ, negative_ℚ}
-use Rattle.exact_algebra.specs.Order.{sign_ℚ}
+use Rattle.exact_algebra.specs.Order.{sign_ℚ, sign_ℚ-not_below}
 use Rattle.loss_model.specs.Sample.{Sample, up_cost, down_cost, residual, row_loss, loss}
 use Rattle.loss_model.specs.Spill.{partial_sum, total, loss_products, side_cost, abs_ℚ}
 use Rattle.loss_model.proofs.Products.{partial_sum-zero, partial_sum-next}
 
 -- a sign that is not below 0
 pub sign_above : (x : ℚ) (s : ℤ) → s ≡ sign_ℚ x → pos 0 ≤ℤ s → le_ℚ (whole (pos 0)) x ≡ true
-sign_above x s e h = by (le_ℚ x (whole (pos 0))) refl (le_ℚ (whole (pos 0)) x) refl
-  where
-    by : (t : Bool) → le_ℚ x (whole (pos 0)) ≡ t → (u : Bool) → le_ℚ (whole (pos 0)) x ≡ u → le_ℚ (whole (pos 0)) x ≡ true
-    by t k true l = l
-    by false k false l = (≤ℚ_total x (whole (pos 0)) k).le
-    by true k false l =
-        let below : s ≡ negsuc 0 = e ∙ ap (λ t. cond t (cond (le_ℚ (whole (pos 0)) x) (pos 0) (negsuc 0)) (pos 1)) k ∙ ap (λ t. cond t (pos 0) (negsuc 0)) l in
-        absurd (omega (arith, ints))
+sign_above x s e h = ((sign_ℚ-not_below x).0 (subst (λ z. pos 0 ≤ℤ z) e h)).le
 
 -- the cost and the size where the residual r is not below 0
 pub cost_up : (x r u o : ℚ) → x ≡ r → le_ℚ (whole (pos 0)) x ≡ true → cond (le_ℚ (whole (pos 0)) r) u o ≡ u

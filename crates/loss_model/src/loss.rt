@@ -69,7 +69,12 @@ struct Priced<F> {
 }
 
 // What the loss of a row is the product of.
-fn price<F: Exact>(problem: &Problem<F>, row: u32, coef: &[F], theta: F) -> Result<Priced<F>, Spill<F>>
+fn price<F: Exact>(
+    problem: &Problem<F>,
+    row: u32,
+    coef: &[F],
+    theta: F,
+) -> Result<Priced<F>, Spill<F>>
     requires shaped { IsWellShaped problem.now }
     requires coefs { length coef.now ≡ problem.now.columns }
     requires inside { row < length problem.now.rows }
