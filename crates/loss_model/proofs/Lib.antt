@@ -9,3 +9,6 @@ pub mod Integers
 pub mod Denominators
 pub mod Vertices
 pub mod Covers
+pub mod Products
+pub mod Residuals
+pub mod Prices
