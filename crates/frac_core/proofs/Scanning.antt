@@ -67,7 +67,7 @@ any-digits p apart (d ∷ ds) xs h =
 
 -- ---- digits at the front
 
-and_false : (c : Bool) → (c && false) ≡ false
+pub and_false : (c : Bool) → (c && false) ≡ false
 and_false true = refl
 and_false false = refl
 
@@ -213,7 +213,7 @@ no_slash_behind ds xs b slash among = rw slash (by (is_point b))
     by true = in_decimal (front xs) (rest xs) (sym (any-digits is_slash slash_apart (front xs) (rest xs) (all-front xs)) ∙ ap (list_any is_slash) (front-rest xs) ∙ among)
     by false = in_decimal [] (b ∷ xs) (rw slash among)
 
-by_first_digits : (ds xs : List ℕ) → all_ascii_digits ds ≡ true → IsPast xs → written_body (ds ++ xs) ≡ scan_from ds xs
+pub by_first_digits : (ds xs : List ℕ) → all_ascii_digits ds ≡ true → IsPast xs → written_body (ds ++ xs) ≡ scan_from ds xs
 unfolding written_body
 by_first_digits ds [] digits past =
     rw (any-digits is_slash slash_apart ds [] digits, exponent-digits ds [] digits, before-digits is_exponent_mark mark_apart ds [] digits, before_point ds [] (codes "0") digits)
