@@ -1,25 +1,23 @@
 -- The laws of number text.
-use Rattle.std.proofs.Common.{◌≡◌, ◌∙◌, ℕ, ◌+◌, ◌-◌, ◌*◌, ◌%◌, ◌^◌, ◌<◌, ◌≤◌, ◌++◌, ◌==◌, ◌&&◌, ◌||◌, ◌⊎◌, inl, inr, zero, suc, Bool, true, false, List, [], ◌∷◌, Option, Some, None, Ok, Err, ℤ, pos, negsuc, length, reverse, decimal, arith, refl, sym, ap, subst, nat_le, if◌then◌else◌, codes, unsigned_abs, option_map}
+use Rattle.std.proofs.Common.{◌≡◌, ◌∙◌, ℕ, ◌+◌, ◌-◌, ◌*◌, ◌%◌, ◌^◌, ◌<◌, ◌≤◌, ◌++◌, ◌==◌, ◌⊎◌, inl, inr, suc, Bool, true, false, List, [], ◌∷◌, Option, Some, Err, ℤ, pos, negsuc, length, reverse, decimal, arith, refl, sym, ap, subst, nat_le, if◌then◌else◌, codes, unsigned_abs, option_map}
 use Rattle.std.specs.Fmt.{signed_decimal}
 use Rattle.std.specs.List.{suffix_len}
 use Rattle.std.specs.Char.{is_ascii_digit}
 use Rattle.std.specs.Str.{all_ascii_digits}
-use Rattle.std.specs.Str.Parse.{AllDigits, digits_value, starts_with_minus, without_leading_sign}
+use Rattle.std.specs.Str.Parse.{digits_value, starts_with_minus, without_leading_sign}
 use Rattle.std.proofs.Math.Dec.{lit<}
 use Rattle.std.proofs.Math.Nat.{mul-add-mod_self_right, mod-eq_of_lt, pow-le-pow_right}
 use Rattle.std.proofs.lemmas.Bool.{le-leb, lt-ltb, cases_lt}
 use Rattle.std.proofs.lemmas.Bool.Decides.{nat_tests}
 use Rattle.std.proofs.lemmas.List.{append-nil, reverse-append, reverse-reverse}
-use Rattle.frac_core.specs.Overflow.{IsWithin}
 use Rattle.frac_core.specs.NumberText.{are_digits, decimal_form, decimal_of, in_range, is_zero_digit, number_of, number_text_of, scaled, significand, with_sign, written, written_body, written_fraction}
-use Rattle.frac_core.specs.NumberReading.{scan_from}
-use Rattle.exact_algebra.specs.Fraction.{Fraction, rational}
+use Rattle.exact_algebra.specs.Fraction.{Fraction}
 use Rattle.std.proofs.lemmas.Fmt.{decimal_is_IsNumeral_wide}
 use Rattle.std.proofs.lemmas.Str.Parse.{IsNumeralModel, numerals_by_value, tells_all_ascii_digits}
 use Rattle.frac_core.specs.NumberLaws.{AreTooWide, HaveSignificand, ReadsBack}
 use Rattle.frac_core.specs.declared.number_reader.NumberFault.TheVariants.{TooWide}
 use Rattle.frac_core.proofs.DigitSteps.{digits_value-push, grows, next_power, significand-push_other, significand-push_zero, suffix_len-push, zeros-push_other}
-use Rattle.frac_core.proofs.Scanning.{and_false, both, by_first_digits, not_all}
+use Rattle.frac_core.proofs.Scanning.{and_false, both, by_first_digits}
 
 -- ---- digits
 

@@ -2,7 +2,9 @@
 //!
 //! `Exact` is the trait of such fractions: each operation gives the exact value, or hands back
 //! the operation exactly where a number that it needs is out of range. `Frac128` and `Frac64`
-//! implement it. The crate stands on `exact_algebra` alone, whose field ℚ its clauses speak of.
+//! implement it. `read_number` and `number_text` read and write their texts, for every type that
+//! implements it. The crate stands on `exact_algebra`, whose field ℚ its clauses speak of, and on
+//! `itoa` for the digits of whole numbers.
 #![tactic(auto)]
 
 mod bounded;
