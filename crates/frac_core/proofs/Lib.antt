@@ -4,5 +4,6 @@ pub mod Sums
 pub mod Products
 pub mod Values
 pub mod DigitSteps
+pub mod NumberLaws
 pub mod ReaderSteps
 pub mod Scanning

@@ -10,7 +10,6 @@ use Rattle.std.specs.Str.Parse.{digits_value, starts_with_minus, without_leading
 use Rattle.std.proofs.Math.Dec.{lit<}
 use Rattle.std.proofs.Math.Nat.{div-le_self, one-le-pow}
 use Rattle.std.proofs.lemmas.Bool.{leb-true, ltb-true, le-leb, lt-ltb, false_from_ne_true, ne_eqb}
-use Rattle.std.proofs.lemmas.Bool.Decides.{nat_tests}
 use Rattle.std.proofs.lemmas.Nat.{pow-add}
 use Rattle.std.proofs.lemmas.List.{append-nil, length-append, take_all}
 use Rattle.std.proofs.lemmas.List.Sums.{suffix_len-le-length}
@@ -23,7 +22,7 @@ use Rattle.frac_core.specs.Gcd.{gcd}
 use Rattle.frac_core.specs.Overflow.{ReducesWithin}
 use Rattle.frac_core.specs.declared.number_reader.Written.{Written}
 use Rattle.frac_core.specs.declared.number_reader.NumberFault.{NumberFault}
-use Rattle.frac_core.specs.declared.number_reader.NumberFault.TheVariants.{NotANumber, TooWide}
+use Rattle.frac_core.specs.declared.number_reader.NumberFault.TheVariants.{TooWide}
 use Rattle.frac_core.proofs.DigitSteps.{grows}
 use Rattle.frac_core.proofs.Scanning.{all-front, front-rest, past-rest, IsPast, both, not_all, written_body-scan}
 

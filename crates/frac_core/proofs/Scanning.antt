@@ -1,5 +1,5 @@
 -- The definition of number text cuts a text at its first `/`, `e` and `.`; read from left to right it gives the same.
-use Rattle.std.proofs.Common.{◌≡◌, ◌∙◌, ℕ, ◌+◌, ◌++◌, ◌==◌, ◌&&◌, ◌||◌, not, zero, suc, Bool, true, false, cond, List, [], ◌∷◌, Option, Some, None, codes, length, take, drop, get_or, arith, refl, sym, ap, nat_lt, if◌then◌else◌}
+use Rattle.std.proofs.Common.{◌≡◌, ◌∙◌, ℕ, ◌+◌, ◌++◌, ◌==◌, ◌&&◌, ◌||◌, suc, Bool, true, false, cond, List, [], ◌∷◌, Option, None, codes, length, take, drop, arith, refl, sym, ap, nat_lt, if◌then◌else◌}
 use Rattle.std.specs.List.{before_first, after_first, list_any, position_or_len, prefix_len}
 use Rattle.std.specs.Char.{is_ascii_digit}
 use Rattle.std.specs.Str.{all_ascii_digits}
@@ -67,7 +67,7 @@ any-digits p apart (d ∷ ds) xs h =
 
 -- ---- digits at the front
 
-and_false : (c : Bool) → (c && false) ≡ false
+pub and_false : (c : Bool) → (c && false) ≡ false
 and_false true = refl
 and_false false = refl
 
@@ -213,7 +213,7 @@ no_slash_behind ds xs b slash among = rw slash (by (is_point b))
     by true = in_decimal (front xs) (rest xs) (sym (any-digits is_slash slash_apart (front xs) (rest xs) (all-front xs)) ∙ ap (list_any is_slash) (front-rest xs) ∙ among)
     by false = in_decimal [] (b ∷ xs) (rw slash among)
 
-by_first_digits : (ds xs : List ℕ) → all_ascii_digits ds ≡ true → IsPast xs → written_body (ds ++ xs) ≡ scan_from ds xs
+pub by_first_digits : (ds xs : List ℕ) → all_ascii_digits ds ≡ true → IsPast xs → written_body (ds ++ xs) ≡ scan_from ds xs
 unfolding written_body
 by_first_digits ds [] digits past =
     rw (any-digits is_slash slash_apart ds [] digits, exponent-digits ds [] digits, before-digits is_exponent_mark mark_apart ds [] digits, before_point ds [] (codes "0") digits)

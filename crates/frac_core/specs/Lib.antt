@@ -3,5 +3,6 @@ pub mod GcdLaws
 pub mod Overflow
 pub mod Lowest
 pub mod Parts
+pub mod NumberLaws
 pub mod NumberReading
 pub mod NumberText

@@ -1,6 +1,8 @@
 ghost use Rattle.std.specs.Prelude.{◌≡◌, ◌<◌, ◌≤◌, ◌+◌, ◌*◌, ◌^◌, MatchOption};
 ghost use Rattle.std.specs.Option.{ForSome};
 
+use crate::bounded::product;
+
 /// Digits as they are taken in: the number `significand * 10^zeros`, whose significand doesn't end
 /// in 0.
 #[derive(Clone, Copy)]
@@ -107,10 +109,7 @@ pub(crate) fn times_power(number: u128, power: u128, limit: u128) -> Option<u128
     }
     let mut value = number;
     for _ in 0..power {
-        if value > limit / 10 {
-            return None;
-        }
-        value *= 10;
+        value = product(limit, value, 10)?;
     }
     Some(value)
 }

@@ -2,7 +2,9 @@
 //!
 //! `Exact` is the trait of such fractions: each operation gives the exact value, or hands back
 //! the operation exactly where a number that it needs is out of range. `Frac128` and `Frac64`
-//! implement it. The crate stands on `exact_algebra` alone, whose field ℚ its clauses speak of.
+//! implement it. `read_number` and `number_text` read and write their texts, for every type that
+//! implements it. The crate stands on `exact_algebra`, whose field ℚ its clauses speak of, and on
+//! `itoa` for the digits of whole numbers.
 #![tactic(auto)]
 
 mod bounded;
@@ -12,6 +14,7 @@ mod exact;
 mod frac128;
 mod frac64;
 mod list;
+mod number_laws;
 mod number_reader;
 mod number_writer;
 mod parts;
@@ -21,6 +24,7 @@ pub use exact::{Exact, Op, OpKind};
 pub use frac64::Frac64;
 pub use frac128::Frac128;
 pub use list::List;
+pub use number_laws::number_text_laws;
 pub use number_reader::{NumberFault, read_number};
 pub use number_writer::number_text;
 pub use text::Text;

@@ -6,6 +6,7 @@ ghost use Rattle.frac_core.specs.NumberText.{number_of, written_body, written_fr
 ghost use Rattle.frac_core.specs.NumberReading.{HasRead, IsMantissa, IsWithin, fraction_of, within, scan_decimal};
 
 use crate::Exact;
+use crate::bounded::signed;
 use crate::digits::{Digits, times_power};
 
 /// Why a text gives no number.
@@ -60,14 +61,6 @@ fn value_of<F: Exact>(is_negative: bool, parts: Written) -> F
 {
     let numerator = signed(is_negative, parts.numerator);
     F::from_parts(numerator, parts.denominator as i128).unwrap()
-}
-
-fn signed(is_negative: bool, magnitude: u128) -> i128
-    requires { magnitude < 2 ^ 127 }
-    ensures { result ≡ (if is_negative then neg_ℤ (pos magnitude) else pos magnitude) }
-{
-    let positive = magnitude as i128;
-    if is_negative { -positive } else { positive }
 }
 
 // Whether a text begins with a minus, and the text behind its sign.
@@ -217,3 +210,6 @@ fn scaled(number: u128, up: u128, down: u128, limit: u128) -> Result<Written, Nu
         _ => Err(NumberFault::TooWide),
     }
 }
+
+#[cfg(test)]
+mod tests;

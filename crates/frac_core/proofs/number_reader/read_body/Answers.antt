@@ -1,8 +1,8 @@
-use Rattle.std.proofs.Common.{◌≡◌, ◌<◌, ◌≤◌, ◌+◌, ◌-◌, ◌++◌, ◌∙◌, ℕ, List, [], length, take, drop, get_or, sym, arith, rules, true, false, ap}
+use Rattle.std.proofs.Common.{◌≡◌, ◌<◌, ◌∙◌, [], length, get_or, arith, rules, ap}
 use Rattle.std.proofs.lemmas.Bool.Decides.{nat_tests}
 use Rattle.std.proofs.lemmas.List.{append-nil}
 use Rattle.frac_core.specs.NumberText.{written_body}
-use Rattle.frac_core.specs.NumberReading.{front, rest, scan_decimal, within}
+use Rattle.frac_core.specs.NumberReading.{front}
 use Rattle.frac_core.proofs.Scanning.{all-front}
 use Rattle.frac_core.proofs.ReaderSteps.{behind_first, by_other, by_point, by_slash, digits_append, found_within, length-behind_first, length-front-rest, unsigned_body}
 use Rattle.frac_core.proofs.number_reader.read_body.Goals as goal

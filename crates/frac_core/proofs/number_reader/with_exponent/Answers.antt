@@ -1,4 +1,4 @@
-use Rattle.std.proofs.Common.{◌≡◌, ◌<◌, ◌≤◌, ◌++◌, ◌∙◌, sym, arith, rules, true, false, Some, ap}
+use Rattle.std.proofs.Common.{◌<◌, ◌++◌, ◌∙◌, sym, arith}
 use Rattle.frac_core.specs.NumberText.{significand}
 use Rattle.frac_core.proofs.ReaderSteps.{few_zeros, minus_power, plus_power, significand_is, wide_exponent, wide_significand, zero_significand}
 use Rattle.frac_core.proofs.number_reader.with_exponent.Goals as goal

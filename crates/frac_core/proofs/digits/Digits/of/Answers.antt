@@ -1,8 +1,6 @@
-use Rattle.std.proofs.Common.{◌≡◌, ◌<◌, ◌==◌, ◌∙◌, true, false, length, sym, arith, rules, ap}
+use Rattle.std.proofs.Common.{length, arith, ap}
 use Rattle.std.proofs.lemmas.Bool.Decides.{nat_tests}
-use Rattle.frac_core.specs.NumberText.{are_digits}
-use Rattle.frac_core.specs.NumberReading.{front, rest}
-use Rattle.frac_core.proofs.ReaderSteps.{digits_alone, front_alone, more_than_digits, no_digit_first}
+use Rattle.frac_core.proofs.ReaderSteps.{digits_alone, more_than_digits, no_digit_first}
 use Rattle.frac_core.proofs.digits.Digits.of.Goals as goal
 use Rattle.frac_core.proofs.digits.Digits.of.Goals.{then-is_empty, else-is_empty}
 

@@ -1,4 +1,4 @@
-use Rattle.std.proofs.Common.{refl, rules, arith, ◌≡◌, ◌-◌}
+use Rattle.std.proofs.Common.{refl, ◌-◌}
 use Rattle.frac_core.proofs.DigitSteps.{Appends, read_other, read_zero}
 use Rattle.frac_core.proofs.digits.Digits.push.Goals as goal
 use Rattle.frac_core.proofs.digits.Digits.push.Goals.{in-Some, in-None}
