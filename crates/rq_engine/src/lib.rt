@@ -1,6 +1,7 @@
 //! One job, from the bytes of its input to its report.
 #![tactic(auto)]
 
+mod fit;
 mod lines;
 mod page;
 mod ranking;
