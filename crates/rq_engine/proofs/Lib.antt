@@ -1,5 +1,7 @@
 pub mod Counts
 pub mod Fitting
+pub mod Location
 pub mod Multiples
 pub mod Numbered
+pub mod OrderSums
 pub mod Places

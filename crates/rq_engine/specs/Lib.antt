@@ -1,3 +1,4 @@
+pub mod Fit
 pub mod Names
 pub mod Ranking
 pub mod ReportText
