@@ -42,12 +42,12 @@ side_of_is y f i =
     by Greater = refl
 
 -- a row that stands before has no greater response, and any other no smaller one
-not_greater : (a b : ℤ) (c o : Ordering) → MatchOrdering c (a <ℤ b) (a ≡ b) (b <ℤ a) → is_lt (ordering_then c o) ≡ true → a ≤ℤ b
+pub not_greater : (a b : ℤ) (c o : Ordering) → MatchOrdering c (a <ℤ b) (a ≡ b) (b <ℤ a) → is_lt (ordering_then c o) ≡ true → a ≤ℤ b
 not_greater a b Less o m h = omega (arith, ints)
 not_greater a b Equal o m h = omega (arith, ints)
 not_greater a b Greater o m h = cc
 
-not_smaller : (a b : ℤ) (c o : Ordering) → MatchOrdering c (a <ℤ b) (a ≡ b) (b <ℤ a) → is_lt (ordering_then c o) ≡ false → b ≤ℤ a
+pub not_smaller : (a b : ℤ) (c o : Ordering) → MatchOrdering c (a <ℤ b) (a ≡ b) (b <ℤ a) → is_lt (ordering_then c o) ≡ false → b ≤ℤ a
 not_smaller a b Less o m h = cc
 not_smaller a b Equal o m h = omega (arith, ints)
 not_smaller a b Greater o m h = omega (arith, ints)
@@ -56,13 +56,13 @@ not_smaller a b Greater o m h = omega (arith, ints)
 -- ---- costs and residuals
 
 module _ (y : ℕ → ℤ) (n : ℕ) (p : Sample) (model : IsLocationModel y n p) where
-  up_cost_is : (tau : ℚ) (i : ℕ) → i < n → up_cost p tau i ≡ tau
+  pub up_cost_is : (tau : ℚ) (i : ℕ) → i < n → up_cost p tau i ≡ tau
   up_cost_is tau i l =
       ap (λ z. z +ℚ (p.up1 i *ℚ tau)) (model.observed i l).up0
       ∙ ap (λ z. whole (pos 0) +ℚ (z *ℚ tau)) (model.weight i l)
       ∙ ring_ℚ (tau ∷ []) (number (pos 0) ⊞ number (pos 1) ⊠ v0) v0 refl
 
-  down_cost_is : (tau : ℚ) (i : ℕ) → i < n → down_cost p tau i ≡ whole (pos 1) -ℚ tau
+  pub down_cost_is : (tau : ℚ) (i : ℕ) → i < n → down_cost p tau i ≡ whole (pos 1) -ℚ tau
   down_cost_is tau i l =
       ap (λ z. z +ℚ (p.down1 i *ℚ tau)) ((model.observed i l).down0 ∙ model.weight i l)
       ∙ ap (λ z. whole (pos 1) +ℚ (z *ℚ tau)) ((model.observed i l).down1 ∙ ap neg_ℚ (model.weight i l))
