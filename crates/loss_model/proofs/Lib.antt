@@ -8,3 +8,6 @@ pub mod CommonDenominators
 pub mod Integers
 pub mod Denominators
 pub mod Vertices
+pub mod Covers
+pub mod Products
+pub mod Residuals

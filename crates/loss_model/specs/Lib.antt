@@ -5,3 +5,5 @@ pub mod Vertex
 pub mod Segment
 pub mod Scaled
 pub mod Laws
+pub mod Spill
+pub mod Sign

@@ -7,12 +7,16 @@
 #![tactic(auto)]
 
 pub mod laws;
+mod loss;
 mod problem;
 mod process;
+mod sites;
 mod spill;
 mod vertex;
 
+pub use loss::residual_at;
 pub use problem::{Problem, Row};
 pub use process::{Exchange, Process, Segment, Trail};
+pub use sites::{Sign, minus_at, over_at, plus_at, sum_of_products, times_at};
 pub use spill::{Quantity, Short, Site, Spill};
 pub use vertex::{Basis, Side, Vertex};
