@@ -6,3 +6,4 @@ pub mod Numbered
 pub mod Optimum
 pub mod OrderSums
 pub mod Places
+pub mod UnitRows

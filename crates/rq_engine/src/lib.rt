@@ -8,4 +8,4 @@ mod ranking;
 mod report;
 
 pub use page::Page;
-pub use report::{Halt, Refusal, ScorePair};
+pub use report::{Fault, Fit, Halt, Refusal, Report, ScorePair};

@@ -1,4 +1,7 @@
 //! What a job answers.
+use frac_core::{Frac128, List, Text};
+use loss_model::{Problem, Process};
+
 /// The rankscores of a basic row at the two ends of a segment. Of a penalty row they are its dual
 /// values.
 #[derive(Clone, Copy)]
@@ -8,16 +11,45 @@ pub struct ScorePair<F> {
     pub at_hi: F,
 }
 
+/// A fitted model: how many records were kept and dropped, the names of its columns, its rows, of
+/// which the first `data_rows` are data rows, the process, and for each segment the rankscores of
+/// its basic rows.
+#[derive(Drop)]
+pub struct Fit {
+    pub kept: u32,
+    pub dropped: u32,
+    pub names: List<Text>,
+    pub data_rows: u32,
+    pub problem: Problem<Frac128>,
+    pub process: Process<Frac128>,
+    pub scores: List<List<ScorePair<Frac128>>>,
+}
+
+/// What a job found.
+#[derive(Drop)]
+pub enum Report {
+    Process(Fit),
+}
+
 /// Why an input has no report.
 #[derive(Clone, Copy, Debug, PartialEq, Eq)]
 pub enum Refusal {
+    /// It is longer than 2^26 bytes.
     TooLong,
 }
 
 /// Why a job ended without a report.
 #[derive(Clone, Copy, Debug, PartialEq, Eq)]
 pub enum Halt {
+    Refused(Refusal),
     OutOfMemory,
-    /// The input asks for what this version does not do: part 2 is its form.
+    /// It asks for what this version does not do: part 1 is the job, part 2 the form of the input.
     NotBuilt { part: u8 },
+}
+
+/// What is told on standard error.
+pub enum Fault<'a> {
+    Source,
+    Sink,
+    Halt(&'a Halt),
 }
