@@ -1,6 +1,7 @@
 -- Counts along a list, and how many stand before an element of a sorted list.
 use Rattle.std.proofs.Common.{◌≡◌, ℕ, zero, suc, ◌+◌, ◌<◌, ◌≤◌, Bool, true, false, cond, List, [], ◌∷◌, ◌++◌, length, get_or, map, add-zero, zero-add, arith, refl, sym, ap, ◌∙◌}
 use Rattle.std.proofs.lemmas.List.{get_or_default}
+use Rattle.std.proofs.lemmas.List.FromFn.{map-range_with_len_more}
 use Rattle.std.proofs.lemmas.List.Sorted.{ranks_by, sorted_far}
 use Rattle.std.proofs.lemmas.List.Sums.{sum_by-cons, sum_by_push}
 use Rattle.std.specs.Cmp.{IsTotalOrder}
@@ -105,3 +106,8 @@ pub count_by-range_more : (p : ℕ → Bool) (n : ℕ) → count_by p (range_wit
 count_by-range_more p n =
     ap (count_by p) (range_push 0 n ∙ ap (λ k. range_with_len 0 n ++ k ∷ []) (zero-add n))
     ∙ sum_by_push (λ x. cond (p x) 1 0) (range_with_len 0 n) n
+
+-- one more value of a function
+pub map_range_more : {X : Type 0} (f : ℕ → X) (n : ℕ) (xs new : List X) (x : X) → new ≡ xs ++ x ∷ [] → xs ≡ map f (range_with_len 0 n) → x ≡ f n → new ≡ map f (range_with_len 0 (n + 1))
+map_range_more f n xs new x pushed so_far last =
+    pushed ∙ ap (λ ys. ys ++ x ∷ []) so_far ∙ ap (λ y. map f (range_with_len 0 n) ++ y ∷ []) last ∙ sym (map-range_with_len_more f 0 n n (zero-add n))

@@ -16,12 +16,12 @@ use Rattle.exact_algebra.specs.WholeNumbers.{whole-le}
 use Rattle.loss_model.specs.declared.vertex.Side.{Side}
 use Rattle.loss_model.specs.declared.vertex.Side.TheVariants.{Up, Down, Basic}
 use Rattle.loss_model.specs.Sample.{Sample, up_cost, down_cost, fitted, residual}
-use Rattle.rq_engine.specs.Ranking.{comes_before, place, IsOptimalPlace}
+use Rattle.rq_engine.specs.Ranking.{comes_before, place, entry, IsOptimalPlace}
 use Rattle.rq_engine.specs.Fit.{IsLocationModel, side_of}
 use Rattle.rq_engine.proofs.Counts.{count_by-each}
 use Rattle.rq_engine.proofs.Multiples.{whole-minus}
 use Rattle.rq_engine.proofs.OrderSums.{pick, times, sum_by_order}
-use Rattle.rq_engine.proofs.Places.{row_cmp, comes_before_is, ties_is, place_is, alone}
+use Rattle.rq_engine.proofs.Places.{Entry, entry_cmp, row_cmp, comes_before_is, ties_is, place_is, alone}
 
 -- ---- the sides by the order of the rows
 
@@ -40,6 +40,11 @@ side_of_is y f i =
     by Less = refl
     by Equal = refl
     by Greater = refl
+
+-- the side of a row by how its entry compares with that of the fitted row
+pub side_from_entries : (y : ℕ → ℤ) (f i : ℕ) (a b : Entry) (o : Ordering) → o ≡ entry_cmp a b → a ≡ entry y i → b ≡ entry y f → to_side o ≡ side_of y f i
+side_from_entries y f i a b o is row fitted =
+    ap to_side (is ∙ ap (λ e. entry_cmp e b) row ∙ ap (entry_cmp (entry y i)) fitted) ∙ sym (side_of_is y f i)
 
 -- a row that stands before has no greater response, and any other no smaller one
 pub not_greater : (a b : ℤ) (c o : Ordering) → MatchOrdering c (a <ℤ b) (a ≡ b) (b <ℤ a) → is_lt (ordering_then c o) ≡ true → a ≤ℤ b
