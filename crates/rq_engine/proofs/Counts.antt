@@ -1,14 +1,15 @@
 -- Counts along a list, and how many stand before an element of a sorted list.
-use Rattle.std.proofs.Common.{◌≡◌, ℕ, zero, suc, ◌+◌, ◌<◌, ◌≤◌, Bool, true, false, cond, List, [], ◌∷◌, length, get_or, map, arith, refl, sym, ap, ◌∙◌}
+use Rattle.std.proofs.Common.{◌≡◌, ℕ, zero, suc, ◌+◌, ◌<◌, ◌≤◌, Bool, true, false, cond, List, [], ◌∷◌, ◌++◌, length, get_or, map, add-zero, zero-add, arith, refl, sym, ap, ◌∙◌}
 use Rattle.std.proofs.lemmas.List.{get_or_default}
+use Rattle.std.proofs.lemmas.List.FromFn.{map-range_with_len_more}
 use Rattle.std.proofs.lemmas.List.Sorted.{ranks_by, sorted_far}
-use Rattle.std.proofs.lemmas.List.Sums.{sum_by-cons}
+use Rattle.std.proofs.lemmas.List.Sums.{sum_by-cons, sum_by_push}
 use Rattle.std.specs.Cmp.{IsTotalOrder}
-use Rattle.std.specs.List.{sum_by, count_by}
+use Rattle.std.specs.List.{sum_by, count_by, range_with_len}
 use Rattle.std.specs.List.Sorted.{IsSorted}
 use Rattle.std.specs.declared.cmp.Ordering.{Ordering}
 use Rattle.std.specs.declared.cmp.Ordering.TheVariants.{Less, Equal, Greater}
-use Rattle.std.specs.Ordering.{is_lt, is_eq, is_le, ordering_reverse}
+use Rattle.std.specs.Ordering.{is_lt, is_eq, is_le, is_gt, ordering_reverse}
 
 pub sum_by-map : {X Y : Type 0} (g : Y → ℕ) (f : X → Y) (xs : List X) → sum_by g (map f xs) ≡ sum_by (λ x. g (f x)) xs
 sum_by-map g f [] = refl
@@ -59,6 +60,16 @@ count_by-orderings order xs =
     by Equal = refl
     by Greater = refl
 
+pub count_by-each : {X : Type 0} (order : X → Ordering) (xs : List X) → (count_by (λ x. is_lt (order x)) xs + count_by (λ x. is_eq (order x)) xs) + count_by (λ x. is_gt (order x)) xs ≡ length xs
+count_by-each order [] = refl
+count_by-each order (x ∷ xs) =
+    omega (arith, sum_by-cons (λ x. cond (is_lt (order x)) 1 0) x xs, sum_by-cons (λ x. cond (is_eq (order x)) 1 0) x xs, sum_by-cons (λ x. cond (is_gt (order x)) 1 0) x xs, count_by-each order xs, by (order x))
+  where
+    by : (o : Ordering) → (cond (is_lt o) 1 0 + cond (is_eq o) 1 0) + cond (is_gt o) 1 0 ≡ 1
+    by Less = refl
+    by Equal = refl
+    by Greater = refl
+
 not_less : (o : Ordering) → is_lt (ordering_reverse o) ≡ false → is_le o ≡ true
 not_less Less h = refl
 not_less Equal h = refl
@@ -82,3 +93,21 @@ count_by-before {X} R total xs sorted k d within alone =
     earlier i e low =
         not_less (R (get_or xs i e) (get_or xs k d))
         (ap is_lt (sym (total.antisymm (get_or xs k d) (get_or xs i e))) ∙ ap (λ z. is_lt (R z (get_or xs i e))) (get_or_default xs k d e within) ∙ far i k e (omega arith) within)
+
+-- ---- counts over the numbers below n
+
+range_push : (a n : ℕ) → range_with_len a (suc n) ≡ range_with_len a n ++ (a + n) ∷ []
+range_push a zero = ap (λ k. k ∷ []) (sym (add-zero a))
+range_push a (suc n) =
+    let last : (a + 1) + n ≡ a + suc n = omega arith in
+    ap (λ ks. a ∷ ks) (range_push (a + 1) n ∙ ap (λ k. range_with_len (a + 1) n ++ k ∷ []) last)
+
+pub count_by-range_more : (p : ℕ → Bool) (n : ℕ) → count_by p (range_with_len 0 (suc n)) ≡ count_by p (range_with_len 0 n) + cond (p n) 1 0
+count_by-range_more p n =
+    ap (count_by p) (range_push 0 n ∙ ap (λ k. range_with_len 0 n ++ k ∷ []) (zero-add n))
+    ∙ sum_by_push (λ x. cond (p x) 1 0) (range_with_len 0 n) n
+
+-- one more value of a function
+pub map_range_more : {X : Type 0} (f : ℕ → X) (n : ℕ) (xs new : List X) (x : X) → new ≡ xs ++ x ∷ [] → xs ≡ map f (range_with_len 0 n) → x ≡ f n → new ≡ map f (range_with_len 0 (n + 1))
+map_range_more f n xs new x pushed so_far last =
+    pushed ∙ ap (λ ys. ys ++ x ∷ []) so_far ∙ ap (λ y. map f (range_with_len 0 n) ++ y ∷ []) last ∙ sym (map-range_with_len_more f 0 n n (zero-add n))

@@ -4,6 +4,10 @@ pub mod Digits
 pub mod LineSplits
 pub mod Counts
 pub mod Fitting
+pub mod Location
 pub mod Multiples
 pub mod Numbered
+pub mod Optimum
+pub mod OrderSums
 pub mod Places
+pub mod UnitRows

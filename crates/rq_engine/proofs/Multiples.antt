@@ -28,3 +28,10 @@ pub multiple_of_product : (t n : ℕ) (s : ℤ) → 1 ≤ t → whole (pos t) *�
 multiple_of_product t n s some =
     ring_ℚ (whole (pos t) ∷ whole (pos n) ∷ quotient s t ∷ []) (v0 ⊠ (v1 ⊠ v2)) (v1 ⊠ (v0 ⊠ v2)) refl
     ∙ ap (λ z. whole (pos n) *ℚ z) (sym (whole-quotient s t some)) ∙ sym (whole-mul (pos n) s)
+
+-- a fraction from 0 to 1 has a numerator from 0 to its denominator
+pub parts_of_quantile : (n : ℤ) (d : ℕ) → 1 ≤ d → whole (pos 0) ≤ℚ quotient n d → quotient n d ≤ℚ whole (pos 1) → (pos 0 ≤ℤ n) × (n ≤ℤ pos d)
+parts_of_quantile n d some low high = (
+  multiples_from_le d some (whole (pos 0)) (quotient n d) (pos 0) n (ring_ℚ (whole (pos d) ∷ []) (v0 ⊠ number (pos 0)) (number (pos 0)) refl) (sym (whole-quotient n d some)) low,
+  multiples_from_le d some (quotient n d) (whole (pos 1)) n (pos d) (sym (whole-quotient n d some)) (ring_ℚ (whole (pos d) ∷ []) (v0 ⊠ number (pos 1)) v0 refl) high,
+)

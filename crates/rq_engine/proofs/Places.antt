@@ -39,12 +39,12 @@ before_by false false true v = refl
 before_by false false false true = refl
 before_by false false false false = refl
 
-comes_before_is : (y : ℕ → ℤ) (j i : ℕ) → comes_before y j i ≡ is_lt (row_cmp y j i)
+pub comes_before_is : (y : ℕ → ℤ) (j i : ℕ) → comes_before y j i ≡ is_lt (row_cmp y j i)
 unfolding comes_before
 comes_before_is y j i = before_by (int_lt (y j) (y i)) (int_lt (y i) (y j)) (ltb i j) (eqb i j)
 
 -- two rows tie only where they are one row
-ties_is : (y : ℕ → ℤ) (j i : ℕ) → is_eq (row_cmp y j i) ≡ eqb j i
+pub ties_is : (y : ℕ → ℤ) (j i : ℕ) → is_eq (row_cmp y j i) ≡ eqb j i
 ties_is y j i = by (eqb j i) refl
   where
     apart : (o p : Ordering) → (p ≡ Equal → ⊥) → is_eq (ordering_then o p) ≡ false

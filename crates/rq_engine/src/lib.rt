@@ -4,6 +4,7 @@
 mod column;
 mod fault;
 mod job;
+mod fit;
 mod lines;
 mod page;
 mod ranking;

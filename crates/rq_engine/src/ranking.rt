@@ -4,9 +4,11 @@ ghost use Rattle.std.specs.List.{range_with_len};
 ghost use Rattle.std.specs.Int.{abs_diff};
 ghost use Rattle.exact_algebra.specs.Rational.{quotient};
 ghost use Rattle.rq_engine.specs.Ranking.{response, place, entry, IsOptimalPlace, IsFitted};
+ghost use Rattle.rq_engine.specs.Fit.{side_of};
 
+use loss_model::Side;
 use std::alloc::{AllocError, Global};
-use std::cmp::Reverse;
+use std::cmp::{Ordering, Reverse};
 
 /// A quantile as two whole numbers, of which the second is 1 to 1,000.
 #[derive(Clone, Copy)]
@@ -43,9 +45,16 @@ fn first_place(responses: &[i64]) -> u64
     responses.iter().filter(|y| **y <= first).count() as u64
 }
 
-/// A response with the number of its row: the later row stands before the earlier of equal
-/// responses.
+// A response with the number of its row. Of equal responses the later row stands first.
 type Entry = (i64, Reverse<u32>);
+
+fn entry(responses: &[i64], row: usize) -> Entry
+    requires within { row < length responses.now }
+    requires few { length responses.now ≤ 1000 }
+    ensures { result ≡ entry (response responses.now) row }
+{
+    (responses[row], Reverse(row as u32))
+}
 
 // The responses with their rows, in the order of the rows.
 fn entries(alloc: Global, responses: &[i64]) -> Result<Vec<Entry>, AllocError>
@@ -53,8 +62,8 @@ fn entries(alloc: Global, responses: &[i64]) -> Result<Vec<Entry>, AllocError>
     ensures { IfOk result (λ v. v.items ≡ map (entry (response responses.now)) (range_with_len 0 (length responses.now))) }
 {
     let mut entries = Vec::with_capacity(alloc, responses.len())?;
-    for (row, response) in responses.iter().enumerate() {
-        entries.push((*response, Reverse(row as u32)))?;
+    for row in 0..responses.len() {
+        entries.push(entry(responses, row))?;
     }
     Ok(entries)
 }
@@ -82,4 +91,35 @@ pub(crate) fn fitted_row(
     let place = nearest_optimal(responses.len() as u64, tau, first_place(responses));
     let row = order[place as usize - 1].1.0;
     Ok(Fitted { row, place })
+}
+
+// The side of a row, by whether it stands before the fitted row or behind it.
+fn side_of(responses: &[i64], fitted: usize, row: usize) -> Side
+    requires fitted_in { fitted < length responses.now }
+    requires row_in { row < length responses.now }
+    requires few { length responses.now ≤ 1000 }
+    ensures { result ≡ side_of (response responses.now) fitted row }
+{
+    match entry(responses, row).cmp(&entry(responses, fitted)) {
+        Ordering::Less => Side::Down,
+        Ordering::Equal => Side::Basic,
+        Ordering::Greater => Side::Up,
+    }
+}
+
+/// The side of every row where one is fitted.
+pub(crate) fn sides(
+    alloc: Global,
+    responses: &[i64],
+    fitted: usize,
+) -> Result<Vec<Side>, AllocError>
+    requires within { fitted < length responses.now }
+    requires few { length responses.now ≤ 1000 }
+    ensures { IfOk result (λ v. v.items ≡ map (side_of (response responses.now) fitted) (range_with_len 0 (length responses.now))) }
+{
+    let mut sides = Vec::with_capacity(alloc, responses.len())?;
+    for row in 0..responses.len() {
+        sides.push(side_of(responses, fitted, row))?;
+    }
+    Ok(sides)
 }
