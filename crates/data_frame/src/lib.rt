@@ -1,0 +1,7 @@
+//! Tables.
+#![tactic(auto)]
+
+mod fault;
+mod records;
+
+pub use fault::TableFault;
