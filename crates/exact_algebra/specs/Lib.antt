@@ -8,3 +8,4 @@ pub mod IntegerSums
 pub mod RationalSums
 pub mod WholeNumbers
 pub mod Quotients
+pub mod Inverses

@@ -1,2 +1,7 @@
 pub mod Gcd
+pub mod GcdLaws
 pub mod Overflow
+pub mod Lowest
+pub mod Parts
+pub mod NumberReading
+pub mod NumberText
