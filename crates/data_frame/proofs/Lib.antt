@@ -1,3 +1,4 @@
 pub mod NextRecord
 pub mod Reading
 pub mod Faults
+pub mod Blanks

@@ -1,6 +1,7 @@
 //! Tables.
 #![tactic(auto)]
 
+mod cell;
 mod fault;
 mod records;
 
