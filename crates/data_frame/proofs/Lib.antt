@@ -2,3 +2,5 @@ pub mod NextRecord
 pub mod Reading
 pub mod Faults
 pub mod Blanks
+pub mod Fields
+pub mod Naming

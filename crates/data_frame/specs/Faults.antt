@@ -20,13 +20,17 @@ set_aside header = if has_row_names header then 1 else 0
 abbrev pub names_of : Row → List Text
 names_of header = drop (set_aside header) header
 
--- the first fault from left to right of names that stand from a column on, where `seen` stand to their left
+-- the fault of a name in a column, where `seen` stand to its left
+unfoldable pub name_fault : ℕ → List Text → Text → Option TableFault
+name_fault column seen name =
+    if length name == 0 then Some (EmptyName column)
+    else if list_any (bytes_eq name) seen then Some (DoubleName column) else None
+
+-- the first fault of names that stand from a column on
 unfoldable pub names_fault : ℕ → List Text → List Text → Option TableFault
 names_fault column seen [] = None
 names_fault column seen (name ∷ rest) =
-    if length name == 0 then Some (EmptyName column)
-    else if list_any (bytes_eq name) seen then Some (DoubleName column)
-    else names_fault (column + 1) (seen ++ name ∷ []) rest
+    option_or (name_fault column seen name) (names_fault (column + 1) (seen ++ name ∷ []) rest)
 
 unfoldable pub header_fault : Row → Option TableFault
 header_fault header =

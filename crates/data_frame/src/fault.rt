@@ -1,3 +1,8 @@
+ghost use Rattle.std.specs.Prelude.{◌≡◌};
+ghost use Rattle.data_frame.specs.declared.fault.TableFault.TheVariants.{OutOfMemory};
+
+use std::alloc::{AllocError, AllocFailed};
+
 /// Why bytes are no table. Records are counted from 1, and the header is record 0; columns are
 /// counted from 0, one that is set aside among them.
 #[derive(Clone, Copy, Debug, PartialEq, Eq)]
@@ -18,4 +23,28 @@ pub enum TableFault {
     TooManyColumns,
     /// More than 16,384 records stand under the header.
     TooManyRows,
+}
+
+impl From<AllocError> for TableFault {
+    ghost from_gives = { λ _ fault. fault ≡ OutOfMemory };
+
+    fn from(_error: AllocError) -> TableFault {
+        TableFault::OutOfMemory
+    }
+}
+
+impl<T: Drop> From<AllocFailed<T>> for TableFault {
+    ghost from_gives = { λ _ fault. fault ≡ OutOfMemory };
+
+    fn from(_error: AllocFailed<T>) -> TableFault {
+        TableFault::OutOfMemory
+    }
+}
+
+impl From<frac_core::OutOfMemory> for TableFault {
+    ghost from_gives = { λ _ fault. fault ≡ OutOfMemory };
+
+    fn from(_error: frac_core::OutOfMemory) -> TableFault {
+        TableFault::OutOfMemory
+    }
 }

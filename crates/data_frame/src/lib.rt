@@ -3,6 +3,7 @@
 
 mod cell;
 mod fault;
+mod header;
 mod records;
 
 pub use fault::TableFault;

@@ -1,5 +1,6 @@
 ghost use Rattle.std.specs.Prelude.{◌≡◌, ◌≢◌, ◌⊎◌, ◌+◌, ◌^◌, ◌<◌, ◌≤◌, ◌∷◌, [], Some, None, length, IfOk, IfErr, MatchBool, MatchResult};
 ghost use Rattle.csv.specs.Records.{fields_of};
+ghost use Rattle.data_frame.specs.Columns.{cell_at};
 ghost use Rattle.data_frame.specs.Records.{records_of};
 ghost use Rattle.data_frame.specs.Faults.{row_fault, rows_fault};
 ghost use Rattle.data_frame.specs.Reading.{Finds, IsReading, TakesRow, left_of, unread};
@@ -84,5 +85,15 @@ pub(crate) fn read_row(
                 Ok(true)
             }
         }
+    }
+}
+
+// The field at a place.
+pub(crate) fn text_at(row: &StringRecord, place: usize) -> &str
+    ensures { result.now ≡ cell_at place (fields_of row.now) }
+{
+    match row.get(place) {
+        Some(text) => text,
+        None => "",
     }
 }
