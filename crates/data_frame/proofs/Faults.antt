@@ -31,3 +31,19 @@ pub first_bad : (wanted rec : ℕ) (left : List Row) (row : Row) (rest : List Ro
     → row_fault wanted rec row ≡ Some fault → rows_fault wanted rec left ≡ Some fault
 unfolding rows_fault
 first_bad wanted rec left row rest fault e bad = rw (e, bad) refl
+
+pub first_good : (wanted rec : ℕ) (left : List Row) (row : Row) (rest : List Row) → left ≡ row ∷ rest
+    → row_fault wanted rec row ≡ None → rows_fault wanted rec left ≡ rows_fault wanted (rec + 1) rest
+unfolding rows_fault
+first_good wanted rec left row rest e good = rw (e, good) refl
+
+pub none_bad : (wanted rec : ℕ) (left : List Row) → left ≡ [] → rows_fault wanted rec left ≡ None
+unfolding rows_fault
+none_bad wanted rec left e = rw e refl
+
+pub good_is_early : (wanted rec : ℕ) (row : Row) → row_fault wanted rec row ≡ None → rec ≤ 16384
+good_is_early wanted rec row e = go (cases_Bool (nat_lt 16384 rec))
+  where
+    go : (nat_lt 16384 rec ≡ true) ⊎ (nat_lt 16384 rec ≡ false) → rec ≤ 16384
+    go (inl h) = let bad : Some TooManyRows ≡ None = sym (too_many wanted rec row (ltb-true 16384 rec h)) ∙ e in absurd (cc bad)
+    go (inr h) = ltb-false 16384 rec h

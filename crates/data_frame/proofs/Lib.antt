@@ -4,3 +4,4 @@ pub mod Faults
 pub mod Blanks
 pub mod Fields
 pub mod Naming
+pub mod Extending

@@ -5,5 +5,6 @@ mod cell;
 mod fault;
 mod header;
 mod records;
+mod rows;
 
 pub use fault::TableFault;

@@ -10,7 +10,7 @@ use csv::{ErrorKind, Reader, ReaderBuilder, StringRecord};
 use std::alloc::Global;
 
 // The most records under the header.
-const MOST_RECORDS: u32 = 16384;
+pub(crate) const MOST_RECORDS: u32 = 16384;
 
 /// What stands next.
 #[derive(Clone, Copy)]
