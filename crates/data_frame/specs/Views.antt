@@ -1,0 +1,20 @@
+-- How contracts see columns and tables whose numbers are the program's fractions.
+use Rattle.std.specs.Prelude.{List, Option, map, option_map}
+use Rattle.exact_algebra.specs.Fraction.{Fraction, rational}
+use Rattle.exact_algebra.specs.Rational.{ℚ}
+use Rattle.frac_core.specs.declared.frac128.Frac128.{Frac128}
+use Rattle.data_frame.specs.Cells.{ColumnOf, numbers, factor, too_wide}
+use Rattle.data_frame.specs.Tables.{TableOf}
+
+-- the value of a fraction
+abbrev pub exact : Frac128 → ℚ
+exact x = rational (record { num = x.num; den = x.den })
+
+abbrev pub exact_column : ColumnOf Frac128 → ColumnOf ℚ
+exact_column (numbers values) = numbers (map (option_map exact) values)
+exact_column (factor texts) = factor texts
+exact_column (too_wide rec) = too_wide rec
+
+-- the table with the values of its numbers
+abbrev pub exact_table : TableOf Frac128 → TableOf ℚ
+exact_table table = record { names = table.names; records = table.records; columns = map exact_column table.columns }
