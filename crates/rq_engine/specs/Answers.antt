@@ -1,6 +1,6 @@
 -- What the engine is asked and answers.
-use Rattle.std.specs.Prelude.{◌≡◌, ℕ, ◌≤◌, ◌≤ℤ◌, List, ℤ, pos, ⊤}
-use Rattle.exact_algebra.specs.Rational.{ℚ}
+use Rattle.std.specs.Prelude.{◌≡◌, ℕ, ◌≤◌, List, ℤ, pos, ⊤}
+use Rattle.exact_algebra.specs.Rational.{ℚ, whole, ◌≤ℚ◌}
 use Rattle.exact_algebra.specs.Fraction.{Fraction, rational}
 use Rattle.rq_engine.specs.declared.report.Report.{Report}
 use Rattle.rq_engine.specs.declared.report.Report.TheVariants.{Process}
@@ -10,9 +10,8 @@ use Rattle.rq_engine.specs.Column.{IsColumn}
 
 -- a quantile from 0 to 1 whose denominator is at most 1,000
 pub record IsLevel (tau : Fraction) : Type 0 where
-  pub low : pos 0 ≤ℤ tau.num
-  pub high : tau.num ≤ℤ pos tau.den
-  pub some : 1 ≤ tau.den
+  pub low : whole (pos 0) ≤ℚ rational tau
+  pub high : rational tau ≤ℚ whole (pos 1)
   pub short : tau.den ≤ 1000
 
 -- the report is right for the level of this column in the bytes, at this quantile

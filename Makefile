@@ -1,0 +1,27 @@
+# demo: builds the proved program and runs it on a table of examples/
+# check: the gate, as .ci/run runs it
+# try: the same job in seconds, with nothing proved
+# install: puts the proved program into PREFIX/bin
+
+PREFIX ?= /usr/local
+JOB = process --formula "rain ~ 1" --lo 9/10 --hi 9/10
+TABLE = $(CURDIR)/examples/rain.csv
+PROGRAM = crates/quantreg/out/quantreg
+
+.PHONY: demo check try install toolchain
+
+demo: toolchain
+	cd crates/quantreg && rt run -- $(JOB) < $(TABLE)
+
+check: toolchain
+	.ci/run
+
+try: toolchain
+	@echo "unproved: this run proves nothing"
+	cd crates/quantreg && rt try -- $(JOB) < $(TABLE)
+
+install: demo
+	install -D -m 755 $(PROGRAM) $(DESTDIR)$(PREFIX)/bin/quantreg
+
+toolchain:
+	@command -v rt > /dev/null || { echo "quantreg needs the Rattle toolchain: no command rt was found"; exit 1; }
