@@ -5,5 +5,8 @@ mod asked;
 mod outcome;
 mod top;
 
+#[cfg(test)]
+mod tests;
+
 pub use outcome::Outcome;
 pub use top::run;
