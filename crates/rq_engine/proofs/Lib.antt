@@ -6,4 +6,5 @@ pub mod Numbered
 pub mod Optimum
 pub mod OrderSums
 pub mod Places
+pub mod Residuals
 pub mod UnitRows

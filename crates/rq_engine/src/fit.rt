@@ -1,14 +1,15 @@
 //! The fit of a column of whole numbers at one quantile: a sample quantile.
-ghost use Rattle.std.specs.Prelude.{◌≡◌, ◌+◌, ◌*◌, ◌^◌, ◌<◌, ◌≤◌, ℕ, ℤ, pos, [], ◌∷◌, length, All, IfOk, unsigned_abs};
+ghost use Rattle.std.specs.Prelude.{◌≡◌, ◌+◌, ◌*◌, ◌^◌, ◌<◌, ◌≤◌, ℕ, ℤ, pos, ◌-ℤ◌, [], ◌∷◌, length, All, IfOk, unsigned_abs};
 ghost use Rattle.exact_algebra.specs.Fraction.{rational};
-ghost use Rattle.exact_algebra.specs.Rational.{◌≤ℚ◌, whole, quotient};
+ghost use Rattle.exact_algebra.specs.Rational.{◌≤ℚ◌, ◌+ℚ◌, ◌-ℚ◌, ◌*ℚ◌, whole, quotient};
+ghost use Rattle.exact_algebra.specs.IntegerSums.{sum_to, positive_part, negative_part};
 ghost use Rattle.loss_model.specs.Problem.{sample, IsWellShaped};
 ghost use Rattle.rq_engine.specs.Ranking.{response};
-ghost use Rattle.rq_engine.specs.Fit.{IsUnitRow, IsLocationModel};
+ghost use Rattle.rq_engine.specs.Fit.{IsUnitRow, IsLocationModel, IsLocationVertex, trail_to};
 
-use crate::ranking::Quantile;
+use crate::ranking::{Quantile, sides};
 use frac_core::{Exact, List};
-use loss_model::{Problem, Row};
+use loss_model::{Basis, Exchange, Problem, Row, Segment, Trail, Vertex};
 use std::alloc::{AllocError, Global};
 
 // `n / d`, which is within the range of every type of fractions.
@@ -74,5 +75,123 @@ fn location_problem<F: Exact>(
     Ok(Problem {
         columns: 1,
         rows: List::from(rows),
+    })
+}
+
+// `place - rows*tau`.
+fn excess<F: Exact>(rows: u64, tau: Quantile, place: u64) -> F
+    requires few { rows ≤ 1000 }
+    requires small { place ≤ 1000 }
+    ensures { rational (F.value result) ≡ whole (pos place) -ℚ (whole (pos rows) *ℚ quotient (pos tau.numerator) tau.denominator) }
+{
+    let above = (place * tau.denominator) as i128;
+    let below = (rows * tau.numerator) as i128;
+    ratio(above - below, tau.denominator)
+}
+
+// The sums of the residuals around the fit: of those that are positive, and of the sizes of those
+// that are negative.
+#[derive(Clone, Copy)]
+struct Distances {
+    above: u64,
+    below: u64,
+}
+
+fn distances_to(responses: &[i64], fitted: usize) -> Distances
+    requires within { fitted < length responses.now }
+    requires few { length responses.now ≤ 1000 }
+    requires small { All (λ y. unsigned_abs y < 10 ^ 9) responses.now }
+    ensures above { pos result.above ≡ sum_to (length responses.now) (λ i. positive_part (response responses.now i -ℤ response responses.now fitted)) }
+    ensures below { pos result.below ≡ sum_to (length responses.now) (λ i. negative_part (response responses.now i -ℤ response responses.now fitted)) }
+    ensures bounded { result.above + result.below ≤ 2 * 10 ^ 12 }
+{
+    let center = responses[fitted];
+    let mut above = 0;
+    let mut below = 0;
+    for response in responses {
+        if *response >= center {
+            above += response.abs_diff(center);
+        } else {
+            below += response.abs_diff(center);
+        }
+    }
+    Distances { above, below }
+}
+
+// The check loss of residuals with these sums.
+fn loss<F: Exact>(tau: Quantile, distances: Distances) -> F
+    requires { distances.above + distances.below ≤ 2 * 10 ^ 12 }
+    ensures { let q = quotient (pos tau.numerator) tau.denominator in
+        rational (F.value result) ≡ (q *ℚ whole (pos distances.above)) +ℚ ((whole (pos 1) -ℚ q) *ℚ whole (pos distances.below)) }
+{
+    let above = tau.numerator * distances.above;
+    let below = (tau.denominator - tau.numerator) * distances.below;
+    ratio((above + below) as i128, tau.denominator)
+}
+
+// The vertex of a row.
+fn location_vertex<F: Exact>(
+    alloc: Global,
+    responses: &[i64],
+    row: u32,
+) -> Result<Vertex<F>, AllocError>
+    requires within { row < length responses.now }
+    requires few { length responses.now ≤ 1000 }
+    requires small { All (λ y. unsigned_abs y < 10 ^ 9) responses.now }
+    ensures { IfOk result (IsLocationVertex F.value (response responses.now) (length responses.now) row) }
+{
+    let sides = sides(alloc, responses, row as usize)?;
+    let response = i128::from(responses[row as usize]);
+    Ok(Vertex {
+        basis: Basis {
+            rows: list_of(alloc, row)?,
+        },
+        sides: List::from(sides),
+        coef: list_of(alloc, ratio(response, 1))?,
+    })
+}
+
+// The segment of one quantile.
+fn point_segment<F: Exact>(
+    alloc: Global,
+    tau: F,
+    vertex: Vertex<F>,
+    dual: F,
+    loss: F,
+) -> Result<Segment<F>, AllocError>
+    ensures { IfOk result (λ s. s ≡ record { lo = tau; hi = tau; vertex = vertex; basic_lo = dual ∷ []; basic_hi = dual ∷ []; loss_lo = loss; loss_hi = loss }) }
+{
+    Ok(Segment {
+        lo: tau,
+        hi: tau,
+        vertex,
+        basic_lo: list_of(alloc, dual)?,
+        basic_hi: list_of(alloc, dual)?,
+        loss_lo: loss,
+        loss_hi: loss,
+    })
+}
+
+// The trail from the first row to a row, by one pivot at most.
+fn trail_to<F: Exact>(alloc: Global, tau: F, row: u32) -> Result<Trail<F>, AllocError>
+    ensures { IfOk result (λ t. t ≡ trail_to tau row) }
+{
+    let steps = if row == 0 {
+        List::new(alloc)
+    } else {
+        list_of(
+            alloc,
+            Exchange {
+                theta: tau,
+                position: 0,
+                row,
+            },
+        )?
+    };
+    Ok(Trail {
+        start: list_of(alloc, Some(0))?,
+        steps,
+        rise: List::new(alloc),
+        fall: List::new(alloc),
     })
 }
