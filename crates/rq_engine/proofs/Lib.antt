@@ -1,6 +1,7 @@
 pub mod Counts
 pub mod Fitting
 pub mod Location
+pub mod LocationFits
 pub mod Multiples
 pub mod Numbered
 pub mod Optimum

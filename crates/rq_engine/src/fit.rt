@@ -4,12 +4,13 @@ ghost use Rattle.exact_algebra.specs.Fraction.{rational};
 ghost use Rattle.exact_algebra.specs.Rational.{◌≤ℚ◌, ◌+ℚ◌, ◌-ℚ◌, ◌*ℚ◌, whole, quotient};
 ghost use Rattle.exact_algebra.specs.IntegerSums.{sum_to, positive_part, negative_part};
 ghost use Rattle.loss_model.specs.Problem.{sample, IsWellShaped};
-ghost use Rattle.rq_engine.specs.Ranking.{response};
-ghost use Rattle.rq_engine.specs.Fit.{IsUnitRow, IsLocationModel, IsLocationVertex, trail_to};
+ghost use Rattle.rq_engine.specs.Ranking.{response, place};
+ghost use Rattle.rq_engine.specs.Fit.{IsUnitRow, IsLocationModel, IsLocationVertex, IsLocationSegment, IsRightFit, trail_to};
 
-use crate::ranking::{Quantile, sides};
-use frac_core::{Exact, List};
-use loss_model::{Basis, Exchange, Problem, Row, Segment, Trail, Vertex};
+use crate::ranking::{Fitted, Quantile, fitted_row, sides};
+use crate::report::{Fit, ScorePair};
+use frac_core::{Exact, Frac128, List, OutOfMemory, Text};
+use loss_model::{Basis, Exchange, Problem, Process, Row, Segment, Trail, Vertex};
 use std::alloc::{AllocError, Global};
 
 // `n / d`, which is within the range of every type of fractions.
@@ -172,6 +173,28 @@ fn point_segment<F: Exact>(
     })
 }
 
+// The segment of the fitted row.
+fn location_segment<F: Exact>(
+    alloc: Global,
+    responses: &[i64],
+    tau: F,
+    level: Quantile,
+    fitted: Fitted,
+) -> Result<Segment<F>, AllocError>
+    requires level { quotient (pos level.numerator) level.denominator ≡ rational (F.value tau) }
+    requires within { fitted.row < length responses.now }
+    requires placed { fitted.place ≡ place (response responses.now) (length responses.now) fitted.row }
+    requires few { length responses.now ≤ 1000 }
+    requires small { All (λ y. unsigned_abs y < 10 ^ 9) responses.now }
+    ensures { IfOk result (IsLocationSegment F.value (response responses.now) (length responses.now) fitted.row tau) }
+{
+    let rows = responses.len() as u64;
+    let vertex = location_vertex(alloc, responses, fitted.row)?;
+    let dual = excess(rows - 1, level, fitted.place - 1);
+    let loss = loss(level, distances_to(responses, fitted.row as usize));
+    point_segment(alloc, tau, vertex, dual, loss)
+}
+
 // The trail from the first row to a row, by one pivot at most.
 fn trail_to<F: Exact>(alloc: Global, tau: F, row: u32) -> Result<Trail<F>, AllocError>
     ensures { IfOk result (λ t. t ≡ trail_to tau row) }
@@ -194,4 +217,64 @@ fn trail_to<F: Exact>(alloc: Global, tau: F, row: u32) -> Result<Trail<F>, Alloc
         rise: List::new(alloc),
         fall: List::new(alloc),
     })
+}
+
+// The fit of the location model, from its parts.
+fn location_fit(
+    alloc: Global,
+    responses: &[i64],
+    tau: Frac128,
+) -> Result<Fit, AllocError>
+    requires some { 1 ≤ length responses.now }
+    requires few { length responses.now ≤ 1000 }
+    requires small { All (λ y. unsigned_abs y < 10 ^ 9) responses.now }
+    requires low { whole (pos 0) ≤ℚ rational (⟦<Frac128 as Exact>⟧.value tau) }
+    requires high { rational (⟦<Frac128 as Exact>⟧.value tau) ≤ℚ whole (pos 1) }
+    requires fine { (⟦<Frac128 as Exact>⟧.value tau).den ≤ 1000 }
+    ensures { IfOk result (IsRightFit ⟦<Frac128 as Exact>⟧.value responses.now tau) }
+{
+    let rows = responses.len() as u32;
+    let level = quantile_of(tau);
+    let fitted = fitted_row(alloc, responses, level)?;
+    let segment = location_segment(alloc, responses, tau, level, fitted)?;
+    let score = excess(responses.len() as u64, level, fitted.place);
+    let pair = ScorePair {
+        row: fitted.row,
+        at_lo: score,
+        at_hi: score,
+    };
+    let intercept = Text::from(String::from_str(alloc, "(Intercept)")?);
+    Ok(Fit {
+        kept: rows,
+        dropped: 0,
+        names: list_of(alloc, intercept)?,
+        data_rows: rows,
+        problem: location_problem(alloc, responses)?,
+        process: Process {
+            segments: list_of(alloc, segment)?,
+            trail: trail_to(alloc, tau, fitted.row)?,
+        },
+        scores: list_of(alloc, list_of(alloc, pair)?)?,
+    })
+}
+
+/// The fit of an intercept alone to the responses at a quantile, which is a sample quantile. It
+/// refuses only for memory.
+pub(crate) fn fit_column(
+    alloc: Global,
+    responses: &[i64],
+    tau: Frac128,
+) -> Result<Fit, OutOfMemory>
+    requires some { 1 ≤ length responses.now }
+    requires few { length responses.now ≤ 1000 }
+    requires small { All (λ y. unsigned_abs y < 10 ^ 9) responses.now }
+    requires low { whole (pos 0) ≤ℚ rational (⟦<Frac128 as Exact>⟧.value tau) }
+    requires high { rational (⟦<Frac128 as Exact>⟧.value tau) ≤ℚ whole (pos 1) }
+    requires fine { (⟦<Frac128 as Exact>⟧.value tau).den ≤ 1000 }
+    ensures { IfOk result (IsRightFit ⟦<Frac128 as Exact>⟧.value responses.now tau) }
+{
+    match location_fit(alloc, responses, tau) {
+        Ok(fit) => Ok(fit),
+        Err(_) => Err(OutOfMemory),
+    }
 }
