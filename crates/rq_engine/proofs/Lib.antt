@@ -5,9 +5,11 @@ pub mod LineSplits
 pub mod Counts
 pub mod Fitting
 pub mod Location
+pub mod LocationFits
 pub mod Multiples
 pub mod Numbered
 pub mod Optimum
 pub mod OrderSums
 pub mod Places
+pub mod Residuals
 pub mod UnitRows

@@ -17,7 +17,7 @@ use Rattle.loss_model.specs.declared.vertex.Side.{Side}
 use Rattle.loss_model.specs.declared.vertex.Side.TheVariants.{Up, Down, Basic}
 use Rattle.loss_model.specs.Sample.{Sample, up_cost, down_cost, fitted, residual}
 use Rattle.rq_engine.specs.Ranking.{comes_before, place, entry, IsOptimalPlace}
-use Rattle.rq_engine.specs.Fit.{IsLocationModel, side_of}
+use Rattle.rq_engine.specs.Fit.{IsLocationModel, side_of, dual_at}
 use Rattle.rq_engine.proofs.Counts.{count_by-each}
 use Rattle.rq_engine.proofs.Multiples.{whole-minus}
 use Rattle.rq_engine.proofs.OrderSums.{pick, times, sum_by_order}
@@ -84,10 +84,6 @@ module _ (y : ℕ → ℤ) (n : ℕ) (p : Sample) (model : IsLocationModel y n p
       ap (λ z. z -ℚ fitted p b i) (model.response i l) ∙ ap (λ z. whole (y i) -ℚ z) (fitted_is b i l ∙ e) ∙ sym (whole-minus (y i) c)
 
 -- ---- the dual values of the vertex of a row
-
--- the dual value of the row at the place k of n
-abbrev pub dual_at : ℕ → ℚ → ℕ → ℚ
-dual_at n tau k = ((whole (pos k) -ℚ (whole (pos n) *ℚ tau)) -ℚ whole (pos 1)) +ℚ tau
 
 -- the dual value of a row by its side
 abbrev pub dual_on : ℕ → ℚ → ℕ → Side → ℚ

@@ -24,13 +24,13 @@ use Rattle.loss_model.proofs.Quotients.{inverse_of}
 use Rattle.loss_model.proofs.Duality.{minimum}
 use Rattle.loss_model.proofs.Vertices.{dual_value-at, vertex_dual}
 use Rattle.rq_engine.specs.Ranking.{comes_before, place, IsOptimalPlace}
-use Rattle.rq_engine.specs.Fit.{IsLocationModel, IsLocationVertex, IsOptimalAt, side_of}
-use Rattle.rq_engine.proofs.Location.{up_cost_is, down_cost_is, residual_is, not_greater, not_smaller, dual_at, dual_on, duals_balance, dual_bounds}
+use Rattle.rq_engine.specs.Fit.{IsLocationModel, IsLocationVertex, IsOptimalAt, side_of, score_at, dual_at, loss_around}
+use Rattle.rq_engine.proofs.Location.{up_cost_is, down_cost_is, residual_is, not_greater, not_smaller, dual_on, duals_balance, dual_bounds}
 use Rattle.rq_engine.proofs.Places.{comes_before_is}
 
 -- the loss of a coefficient c in the location model
 pub location_loss : (y : ℕ → ℤ) (n : ℕ) (p : Sample) → IsLocationModel y n p → (tau : ℚ) (b : ℕ → ℚ) (c : ℤ) → b 0 ≡ whole c
-    → loss p tau b ≡ (tau *ℚ whole (sum_to n (λ i. positive_part (y i -ℤ c)))) +ℚ ((whole (pos 1) -ℚ tau) *ℚ whole (sum_to n (λ i. negative_part (y i -ℤ c))))
+    → loss p tau b ≡ loss_around y n tau c
 location_loss y n p model tau b c e =
     ap (λ m. sum_ℚ m (row_loss p tau b)) model.rows
     ∙ sum_ℚ-same n (row_loss p tau b) (λ i. (tau *ℚ whole (positive_part (y i -ℤ c))) +ℚ ((whole (pos 1) -ℚ tau) *ℚ whole (negative_part (y i -ℤ c)))) each
@@ -122,7 +122,7 @@ module _ {F : Type 0} (value : F → Fraction) (p : Problem F) (v : Vertex F) (v
   location_dual = vertex_dual value p v values tau (size ∙ sym model.rows) lies feasible
 
   pub location_optimal : (cost : F) → length values ≡ 1
-      → rational (value cost) ≡ (tau *ℚ whole (sum_to n (λ i. positive_part (y i -ℤ y f)))) +ℚ ((whole (pos 1) -ℚ tau) *ℚ whole (sum_to n (λ i. negative_part (y i -ℤ y f))))
+      → rational (value cost) ≡ loss_around y n tau (y f)
       → IsOptimalAt value p v tau values cost
   location_optimal cost one lost =
       record {
@@ -132,7 +132,7 @@ module _ {F : Type 0} (value : F → Fraction) (p : Problem F) (v : Vertex F) (v
         lost = lost ∙ sym (location_loss y n (sample value p) model tau (value_at value v.coef) (y f) vertex.coef);
       }
 
-  pub location_score : rankscore (sample value p) tau (dual_value value p v values tau) f ≡ whole (pos (place y n f)) -ℚ (whole (pos n) *ℚ tau)
+  pub location_score : rankscore (sample value p) tau (dual_value value p v values tau) f ≡ score_at n tau (place y n f)
   location_score =
       ap (λ w. ((dual_value value p v values tau f *ℚ inverse w) +ℚ whole (pos 1)) -ℚ tau) (model.weight f within)
       ∙ ap (λ w. ((dual_value value p v values tau f *ℚ w) +ℚ whole (pos 1)) -ℚ tau) inverse_one
