@@ -2,7 +2,10 @@
 ghost use Rattle.std.specs.Prelude.{◌≡◌, ◌↔◌, IsTrue, length};
 ghost use Rattle.loss_model.specs.Problem.{IsWellShaped};
 
-use crate::{Problem, Quantity, Row, Site, Spill, loss_at};
+use crate::{
+    Problem, Process, Quantity, Row, Short, Site, Spill, loss_at, minus_at, over_at, plus_at,
+    times_at,
+};
 use frac_core::{Exact, Frac128, List, OpKind};
 use std::alloc::{AllocError, Global};
 use std::process::Abort;
@@ -369,4 +372,58 @@ fn sum_of_wide_losses_spills_at_its_row(rt: HostRuntime) -> Result<(), Fail> {
         Ok((WEIGHT, 1))
     );
     Ok(())
+}
+
+#[test]
+fn operations_at_a_site(rt: HostRuntime) {
+    let m = Frac128::RANGE;
+    let site = Site::new(Quantity::Score, 4, 1, 2);
+    // An operation, its operands, and its value or `None` for a spill.
+    let cases: [(OpKind, Ratio, Ratio, Option<Ratio>); 8] = [
+        (OpKind::Add, (3, 4), (1, 2), Some((5, 4))),
+        (OpKind::Sub, (3, 4), (1, 2), Some((1, 4))),
+        (OpKind::Mul, (3, 4), (1, 2), Some((3, 8))),
+        (OpKind::Div, (3, 4), (1, 2), Some((3, 2))),
+        (OpKind::Add, (m, 1), (1, 1), None),
+        (OpKind::Sub, (-m, 1), (1, 1), None),
+        (OpKind::Mul, (m, 1), (2, 1), None),
+        (OpKind::Div, (1, m), (2, 1), None),
+    ];
+    for (kind, left, right, want) in cases {
+        let x = make(&rt, left);
+        let y = make(&rt, right);
+        let got = match kind {
+            OpKind::Add => plus_at(site, x, y),
+            OpKind::Sub => minus_at(site, x, y),
+            OpKind::Mul => times_at(site, x, y),
+            OpKind::Div => {
+                assert!(rt; !y.is_zero());
+                over_at(site, x, y)
+            }
+        };
+        let spill = Spill {
+            site: Site { kind, ..site },
+            left: x,
+            right: y,
+        };
+        let want = match want {
+            Some(value) => Ok(make(&rt, value)),
+            None => Err(spill),
+        };
+        assert_eq!(rt; got, want, "{kind:?} of {left:?} and {right:?}");
+    }
+}
+
+fn crosses<T: Send + Sync>() {}
+
+// What is made of fractions may be handed to another thread where they may.
+fn all_cross<F: Send + Sync>() {
+    crosses::<Problem<F>>();
+    crosses::<Process<F>>();
+    crosses::<Short<F>>();
+}
+
+#[test]
+fn values_cross_threads() {
+    all_cross::<Frac128>();
 }
