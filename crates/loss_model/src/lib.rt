@@ -20,3 +20,6 @@ pub use process::{Exchange, Process, Segment, Trail};
 pub use sites::{Sign, minus_at, over_at, plus_at, sum_of_products, times_at};
 pub use spill::{Quantity, Short, Site, Spill};
 pub use vertex::{Basis, Side, Vertex};
+
+#[cfg(test)]
+mod tests;
