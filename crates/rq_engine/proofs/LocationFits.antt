@@ -1,6 +1,6 @@
 -- The segment of the fitted row is right, and so is the fit that consists of it.
 use Rattle.std.proofs.Common.{◌≡◌, ℕ, ◌+◌, ◌-◌, ◌<◌, ◌≤◌, List, [], ◌∷◌, length, map, get_or, ℤ, pos, ◌-ℤ◌, inr, arith, refl, sym, ap, subst, ◌∙◌}
-use Rattle.std.proofs.lemmas.List.Elements.{All-cons, All-nil}
+use Rattle.std.proofs.lemmas.List.Elements.{All-cons, All-nil, All-same}
 use Rattle.std.specs.List.{All}
 use Rattle.exact_algebra.specs.IntegerSums.{sum_to, positive_part, negative_part}
 use Rattle.exact_algebra.specs.Solver.{number, ◌⊞◌, ◌⊟◌, ◌⊠◌, v0, v1, v2}
@@ -16,6 +16,10 @@ use Rattle.rq_engine.specs.declared.report.ScorePair.{ScorePair}
 use Rattle.rq_engine.specs.Ranking.{place, IsFitted}
 use Rattle.rq_engine.specs.Fit.{IsLocationModel, IsLocationSegment, IsOptimalAt, IsRightSegment, IsScored, score_at, dual_at, loss_around}
 use Rattle.rq_engine.proofs.Optimum.{location_optimal, location_score, location_vertex}
+
+-- what holds of the one item of a list
+pub all_one : {X : Type 0} (P : X → Type 0) (x : X) (xs : List X) → xs ≡ x ∷ [] → P x → All P xs
+all_one P x xs is h = All-same P xs (x ∷ []) is (All-cons P x [] h (All-nil P))
 
 -- one more as a fraction
 whole_after : (k : ℕ) → 1 ≤ k → whole (pos k) ≡ whole (pos (k - 1)) +ℚ whole (pos 1)

@@ -278,3 +278,6 @@ pub(crate) fn fit_column(
         Err(_) => Err(OutOfMemory),
     }
 }
+
+#[cfg(test)]
+mod tests;

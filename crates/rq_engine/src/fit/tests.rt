@@ -1,0 +1,171 @@
+use super::{fit_column, ratio};
+use crate::report::Fit;
+use frac_core::{Exact, Frac128};
+use loss_model::Side::{self, Basic, Down, Up};
+use std::process::Abort;
+use std::test::Fail;
+
+// A column, a quantile, and the fit by the rule: the rows in ascending order, of equal responses
+// the later row first; a place is optimal where it is at least rows * tau and at most one more.
+#[derive(Clone, Copy)]
+struct Case {
+    responses: &'static [i64],
+    tau: (u64, u64),
+    row: u32,
+    pivots: usize,
+    sides: &'static [Side],
+    coef: i128,
+    loss: (i128, i128),
+    score: (i128, i128),
+}
+
+// Makes sure of what `fit_column` requires.
+fn fit_at(rt: &(impl Abort + AllocGlobal), responses: &[i64], tau: (u64, u64)) -> Result<Fit, Fail> {
+    let (n, d) = tau;
+    assert!(rt; 1 <= d && n <= d && d <= 1000);
+    let tau: Frac128 = ratio(i128::from(n), d);
+    assert!(rt; tau.denominator() <= 1000);
+    assert!(rt; 1 <= responses.len() && responses.len() <= 1000);
+    assert!(rt; responses.iter().all(|y| y.unsigned_abs() < 1_000_000_000));
+    Ok(fit_column(rt.alloc(), responses, tau)?)
+}
+
+fn verify(rt: &(impl Abort + AllocGlobal), case: &Case) -> Result<(), Fail> {
+    let fit = fit_at(rt, case.responses, case.tau)?;
+    let segments = fit.process.segments.as_slice();
+    assert_eq!(rt; segments.len(), 1);
+    let segment = &segments[0];
+    assert_eq!(rt; segment.vertex.basis.rows.as_slice(), [case.row].as_slice());
+    assert_eq!(rt; segment.vertex.sides.as_slice(), case.sides);
+    assert_eq!(rt; segment.vertex.coef.as_slice().first().copied(), Frac128::from_parts(case.coef, 1));
+    assert_eq!(rt; Some(segment.loss_lo), Frac128::from_parts(case.loss.0, case.loss.1));
+    assert_eq!(rt; fit.process.trail.steps.as_slice().len(), case.pivots);
+    let lists = fit.scores.as_slice();
+    assert_eq!(rt; lists.len(), 1);
+    let pairs = lists[0].as_slice();
+    assert_eq!(rt; pairs.len(), 1);
+    assert_eq!(rt; Some(pairs[0].at_hi), Frac128::from_parts(case.score.0, case.score.1));
+    Ok(())
+}
+
+#[test]
+fn fits_by_the_rule(rt: HostRuntime) -> Result<(), Fail> {
+    let cases = [
+        // The median is the one row in the middle.
+        Case {
+            responses: &[1, 2, 3],
+            tau: (1, 2),
+            row: 1,
+            pivots: 1,
+            sides: &[Down, Basic, Up],
+            coef: 2,
+            loss: (1, 1),
+            score: (1, 2),
+        },
+        // Both places are optimal, and the first row stands behind its equal.
+        Case {
+            responses: &[5, 5],
+            tau: (1, 2),
+            row: 0,
+            pivots: 0,
+            sides: &[Basic, Down],
+            coef: 5,
+            loss: (0, 1),
+            score: (1, 1),
+        },
+        // Of the optimal places 1 and 2 the second is nearer to the first row's, which is 3.
+        Case {
+            responses: &[5, 5, 5],
+            tau: (1, 3),
+            row: 1,
+            pivots: 1,
+            sides: &[Up, Basic, Down],
+            coef: 5,
+            loss: (0, 1),
+            score: (1, 1),
+        },
+        // There is no place 0.
+        Case {
+            responses: &[7],
+            tau: (0, 1),
+            row: 0,
+            pivots: 0,
+            sides: &[Basic],
+            coef: 7,
+            loss: (0, 1),
+            score: (1, 1),
+        },
+        // The first row's place is 2, and the optimal ones are 3 and 4.
+        // The loss is 3/4 * 4 + 1/4 * (3 + 3).
+        Case {
+            responses: &[-3, 4, -3, 0],
+            tau: (3, 4),
+            row: 3,
+            pivots: 1,
+            sides: &[Down, Up, Down, Basic],
+            coef: 0,
+            loss: (9, 2),
+            score: (0, 1),
+        },
+        // 5/4 lies between 1 and 2, so that the place is 2, behind an equal row.
+        // The loss is 1/4 * (20 + 10 + 15).
+        Case {
+            responses: &[10, -10, 0, -10, 5],
+            tau: (1, 4),
+            row: 1,
+            pivots: 1,
+            sides: &[Up, Basic, Up, Down, Up],
+            coef: -10,
+            loss: (45, 4),
+            score: (3, 4),
+        },
+        // The first row stands last, and its equal at the optimal place 3 is nearer than place 2.
+        Case {
+            responses: &[2, 1, 2, 1],
+            tau: (1, 2),
+            row: 2,
+            pivots: 1,
+            sides: &[Up, Down, Basic, Down],
+            coef: 2,
+            loss: (1, 1),
+            score: (1, 1),
+        },
+        // There is no place 6.
+        Case {
+            responses: &[0, -1, -2, -3, -4],
+            tau: (1, 1),
+            row: 0,
+            pivots: 0,
+            sides: &[Basic, Down, Down, Down, Down],
+            coef: 0,
+            loss: (0, 1),
+            score: (0, 1),
+        },
+        // The loss is 2/5 * (1 + 1) + 3/5 * 1.
+        Case {
+            responses: &[3, 3, 1, 2],
+            tau: (2, 5),
+            row: 3,
+            pivots: 1,
+            sides: &[Up, Up, Down, Basic],
+            coef: 2,
+            loss: (7, 5),
+            score: (2, 5),
+        },
+        // The loss is 1/1000 * 1999999998.
+        Case {
+            responses: &[-999_999_999, 999_999_999],
+            tau: (999, 1000),
+            row: 1,
+            pivots: 1,
+            sides: &[Down, Basic],
+            coef: 999_999_999,
+            loss: (999_999_999, 500),
+            score: (1, 500),
+        },
+    ];
+    for case in &cases {
+        verify(&rt, case)?;
+    }
+    Ok(())
+}
