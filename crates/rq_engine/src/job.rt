@@ -4,6 +4,7 @@ ghost use Rattle.rq_engine.specs.ReportText.{value, IsPrintable};
 ghost use Rattle.rq_engine.specs.Answers.{IsLevel, IsRight, HasCause};
 
 use crate::column::read_column;
+use crate::fit::fit_column;
 use crate::report::{Halt, Report};
 use frac_core::Frac128;
 use std::alloc::Global;
@@ -27,9 +28,9 @@ pub fn answer<R: Threads + Sync>(
     ensures printable { IfOk result IsPrintable }
     ensures cause { IfErr result (HasCause name.now bytes.now) }
 {
-    let _responses = match read_column(alloc, name, bytes) {
-        Ok(responses) => responses,
-        Err(halt) => return Err(halt),
-    };
-    Err(Halt::OutOfMemory)
+    let responses = read_column(alloc, name, bytes)?;
+    match fit_column(alloc, &responses, tau) {
+        Ok(fit) => Ok(Report::Process(fit)),
+        Err(_) => Err(Halt::OutOfMemory),
+    }
 }
