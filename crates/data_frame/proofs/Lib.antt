@@ -5,3 +5,4 @@ pub mod Blanks
 pub mod Fields
 pub mod Naming
 pub mod Extending
+pub mod Numeric

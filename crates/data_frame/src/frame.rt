@@ -1,0 +1,66 @@
+ghost use Rattle.std.specs.Prelude.{◌≡◌, ◌⊎◌, ◌+◌, ◌^◌, ◌<◌, ◌↔◌, Ok, Err, length, map, option_map, IfOk, IfErr, IsNone, Contains};
+ghost use Rattle.csv.specs.Records.{fields_of};
+ghost use Rattle.data_frame.specs.Cells.{column_of};
+ghost use Rattle.data_frame.specs.Tables.{column_named, table_of, table_of_records};
+ghost use Rattle.data_frame.specs.Reading.{IsReading, left_of, unread};
+ghost use Rattle.data_frame.specs.Views.{exact_column, exact_table, lent_column, stored_column};
+
+use crate::column::{Column, Stored, read_column};
+use crate::header::{Names, read_names, set_aside};
+use crate::records::{Found, next_row, open};
+use crate::rows::read_rows;
+use crate::TableFault;
+use csv::{Reader, StringRecord};
+use frac_core::Text;
+use std::alloc::{AllocError, Global};
+use std::marker::Model;
+
+/// A table that was read. Contracts see the names of its columns, the number of its records, and
+/// one column for each name; a column of row names that was set aside is in none of these.
+#[derive(Drop)]
+pub struct Frame {
+    names: Names,
+    records: u32,
+    columns: Vec<Stored>,
+}
+
+impl Model for Frame {
+    ghost use Rattle.std.specs.Prelude.{◌≡◌, length, map};
+    ghost use Rattle.frac_core.specs.declared.frac128.Frac128.{Frac128};
+    ghost use Rattle.data_frame.specs.Tables.{TableOf};
+    ghost use Rattle.data_frame.specs.Views.{stored_column};
+
+    ghost Value = { TableOf Frac128 };
+
+    ghost view = { λ f. record {
+        names = f.names;
+        records = f.records;
+        columns = map stored_column f.columns.items
+    } };
+
+    ghost invariant = { λ f. length f.columns.items ≡ length f.names };
+}
+
+impl Frame {
+    /// The names of the columns, in order.
+    pub fn names(&self) -> &[Text]
+        ensures { result.now ≡ self.now.names }
+    {
+        self.names.as_slice()
+    }
+
+    /// The number of records.
+    pub fn records(&self) -> u32
+        ensures { result ≡ self.now.records }
+    {
+        self.records
+    }
+
+    /// The column of a name, and `None` exactly where no column has it.
+    pub fn column(&self, name: &str) -> Option<Column<'_>>
+        ensures column { option_map lent_column result ≡ column_named name.now self.now }
+    {
+        let place = self.names.place(name)?;
+        Some(self.columns[place].lend())
+    }
+}
