@@ -6,3 +6,4 @@ pub mod Fields
 pub mod Naming
 pub mod Extending
 pub mod Numeric
+pub mod Tables

@@ -1,4 +1,4 @@
-ghost use Rattle.std.specs.Prelude.{◌≡◌, ◌⊎◌, ◌+◌, ◌^◌, ◌<◌, ◌↔◌, Ok, Err, length, map, option_map, IfOk, IfErr, IsNone, Contains};
+ghost use Rattle.std.specs.Prelude.{◌≡◌, ◌⊎◌, ◌+◌, ◌-◌, ◌^◌, ◌<◌, ◌↔◌, All, Ok, Err, length, map, option_map, IfOk, IfErr, IsNone, Contains};
 ghost use Rattle.csv.specs.Records.{fields_of};
 ghost use Rattle.data_frame.specs.Cells.{column_of};
 ghost use Rattle.data_frame.specs.Tables.{column_named, table_of, table_of_records};
@@ -63,4 +63,56 @@ impl Frame {
         let place = self.names.place(name)?;
         Some(self.columns[place].lend())
     }
+}
+
+// The columns of these cells, which are let go one after the other.
+fn read_columns(alloc: Global, columns: Vec<StringRecord>) -> Result<Vec<Stored>, AllocError>
+    requires { All (λ cells. length (fields_of cells) < 2 ^ 32 - 1) columns.items }
+    ensures { IfOk result (λ stored. map (λ s. exact_column (stored_column s)) stored.items
+        ≡ map column_of (map fields_of columns.items)) }
+{
+    let mut stored = Vec::with_capacity(alloc, columns.len())?;
+    for cells in columns {
+        stored.push(read_column(alloc, &cells)?)?;
+    }
+    Ok(stored)
+}
+
+// The table of the records that a reader has left.
+fn read_frame(alloc: Global, reader: &mut Reader<&[u8]>) -> Result<Frame, TableFault>
+    requires reading { IsReading reader.old }
+    requires small { length (unread reader.old) < 2 ^ 32 }
+    ensures table { IfOk result
+        (λ frame. table_of_records (left_of reader.old) ≡ Ok (exact_table frame)) }
+    ensures fault { IfErr result (λ e. (e ≡ TableFault.OutOfMemory)
+        ⊎ (table_of_records (left_of reader.old) ≡ Err e)) }
+{
+    let mut header = StringRecord::new(alloc);
+    match next_row(reader, &mut header)? {
+        Found::End => return Err(TableFault::NoHeader),
+        Found::NotText => return Err(TableFault::NotUtf8 { rec: 0 }),
+        Found::Row => {}
+    }
+    let names = read_names(alloc, &header)?;
+    let body = read_rows(alloc, reader, header.len() as u32, set_aside(&header))?;
+    let columns = read_columns(alloc, body.columns)?;
+    Ok(Frame {
+        names,
+        records: body.records,
+        columns,
+    })
+}
+
+/// Reads a table: a header and the records under it, of fields between commas.
+///
+/// The records are those of `csv` ... (see the crate's first lines). Each fault is the first in
+/// their order, and `OutOfMemory` alone may come at any step.
+pub fn read_table(alloc: Global, bytes: &[u8]) -> Result<Frame, TableFault>
+    requires { length bytes.now < 2 ^ 32 }
+    ensures table { IfOk result (λ frame. table_of bytes.now ≡ Ok (exact_table frame)) }
+    ensures fault { IfErr result (λ e. (e ≡ TableFault.OutOfMemory)
+        ⊎ (table_of bytes.now ≡ Err e)) }
+{
+    let mut reader = open(alloc, bytes);
+    read_frame(alloc, &mut reader)
 }

@@ -11,4 +11,4 @@ mod rows;
 
 pub use column::Column;
 pub use fault::TableFault;
-pub use frame::Frame;
+pub use frame::{Frame, read_table};
