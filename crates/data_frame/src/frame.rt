@@ -1,4 +1,4 @@
-ghost use Rattle.std.specs.Prelude.{◌≡◌, ◌⊎◌, ◌+◌, ◌-◌, ◌^◌, ◌<◌, ◌↔◌, All, Ok, Err, length, map, option_map, IfOk, IfErr, IsNone, Contains};
+ghost use Rattle.std.specs.Prelude.{◌≡◌, ◌⊎◌, ◌+◌, ◌-◌, ◌^◌, ◌<◌, All, Ok, Err, length, map, option_map, IfOk, IfErr, IfNone, OnSome, Contains};
 ghost use Rattle.csv.specs.Records.{fields_of};
 ghost use Rattle.data_frame.specs.Cells.{column_of};
 ghost use Rattle.data_frame.specs.Tables.{column_named, table_of, table_of_records};
@@ -59,6 +59,8 @@ impl Frame {
     /// The column of a name, and `None` exactly where no column has it.
     pub fn column(&self, name: &str) -> Option<Column<'_>>
         ensures column { option_map lent_column result ≡ column_named name.now self.now }
+        ensures known { OnSome result (Contains self.now.names name.now) }
+        ensures unknown { IfNone result (¬ (Contains self.now.names name.now)) }
     {
         let place = self.names.place(name)?;
         Some(self.columns[place].lend())
