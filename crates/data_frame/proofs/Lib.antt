@@ -5,3 +5,5 @@ pub mod Blanks
 pub mod Fields
 pub mod Naming
 pub mod Extending
+pub mod Numeric
+pub mod Tables

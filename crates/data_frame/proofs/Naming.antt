@@ -4,9 +4,12 @@ use Rattle.std.specs.List.{list_any, prefix_len}
 use Rattle.std.specs.Option.{option_or}
 use Rattle.std.specs.Str.{bytes_eq}
 use Rattle.std.specs.String.{string_eq}
-use Rattle.std.specs.Prelude.{String, position}
+use Rattle.std.specs.Prelude.{Contains, IfNone, OnSome, String, is_some, position}
 use Rattle.std.proofs.Math.Seq.{drop-cons}
-use Rattle.std.proofs.lemmas.Bool.{lt-ltb, ltb-true, false_from_ne_true}
+use Rattle.std.proofs.lemmas.Bool.{lt-ltb, ltb-true, false_from_ne_true, false≢true}
+use Rattle.std.proofs.lemmas.List.Folds.{list_any_at}
+use Rattle.std.proofs.lemmas.List.Quantifiers.{position-Some}
+use Rattle.std.proofs.lemmas.Slice.Eq.{bytes_eq-Decides}
 use Rattle.std.proofs.lemmas.List.{length-map, map-append}
 use Rattle.indexmap.specs.IndexSet.{insert_key}
 use Rattle.data_frame.specs.Records.{Row, Text, are_text}
@@ -95,3 +98,32 @@ prefix_map q f (x ∷ xs) = rw (prefix_map q f xs) refl
 pub place_is : (name : Text) (ks : List (String Global)) (texts : List Text) → map string_bytes ks ≡ texts
     → position (λ k. bytes_eq name (string_bytes k)) ks ≡ position (bytes_eq name) texts
 place_is name ks texts e = rw (← e, prefix_map (λ y. not (bytes_eq name y)) string_bytes ks, length-map) refl
+
+-- a name has a place among the names exactly where it is one of them
+place_known : (name : Text) (names : List Text) (i : ℕ) → position (bytes_eq name) names ≡ Some i → Contains names name
+place_known name names i e =
+    let found = position-Some (bytes_eq name) names i name e in
+    (i, found.0, sym ((bytes_eq-Decides name (get_or names i name)).0 found.1))
+
+place_unknown : (name : Text) (ks : List (String Global)) (names : List Text) → map string_bytes ks ≡ names
+    → list_any (λ k. bytes_eq name (string_bytes k)) ks ≡ false → ¬ (Contains names name)
+place_unknown name ks names e none there =
+    let same : get_or names there.0 name ≡ name = there.2 in
+    let passes : bytes_eq name (get_or names there.0 name) ≡ true = (bytes_eq-Decides name (get_or names there.0 name)).1 (sym same) in
+    let any : list_any (bytes_eq name) names ≡ true = list_any_at (bytes_eq name) names there.0 name there.1 passes in
+    let lone : list_any (bytes_eq name) names ≡ false = sym (any_of_map name ks names e) ∙ none in
+    false≢true (sym lone ∙ any)
+  where
+    any_of_map : (name : Text) → (ks : List (String Global)) (names : List Text) → map string_bytes ks ≡ names
+        → list_any (λ k. bytes_eq name (string_bytes k)) ks ≡ list_any (bytes_eq name) names
+    any_of_map name [] names e = rw (← e) refl
+    any_of_map name (k ∷ ks) names e = rw (← e) (ap (λ (b : Bool). bytes_eq name (string_bytes k) || b) (any_of_map name ks (map string_bytes ks) refl))
+
+pub known_by : (place : Option ℕ) (name : Text) (names : List Text) → place ≡ position (bytes_eq name) names → OnSome place (Contains names name)
+known_by None name names e = tt
+known_by (Some i) name names e = place_known name names i (sym e)
+
+pub unknown_by : (place : Option ℕ) (name : Text) (ks : List (String Global)) (names : List Text) → map string_bytes ks ≡ names
+    → is_some place ≡ list_any (λ k. bytes_eq name (string_bytes k)) ks → IfNone place (¬ (Contains names name))
+unknown_by None name ks names e found = place_unknown name ks names e (sym found)
+unknown_by (Some i) name ks names e found = tt

@@ -39,13 +39,18 @@ some_number (Err fault) = Err fault
 unfoldable pub number_in : Text → Result (Option ℚ) NumberFault
 number_in cell = if is_missing cell then Ok None else some_number (number_of (2 ^ 127 - 1) (bare cell))
 
+-- the number in a cell that is a number or missing
 abbrev pub number_or_none : Result (Option ℚ) NumberFault → Option ℚ
-number_or_none (Ok x) = x
+number_or_none (Ok number) = number
 number_or_none (Err fault) = None
 
-abbrev pub is_too_wide : Result (Option ℚ) NumberFault → Bool
-is_too_wide (Err TooWide) = true
-is_too_wide _ = false
+abbrev pub is_wide : Result (Option ℚ) NumberFault → Bool
+is_wide (Err TooWide) = true
+is_wide _ = false
+
+-- the cell holds a number that is too wide
+abbrev pub is_too_wide : Text → Bool
+is_too_wide cell = is_wide (number_in cell)
 
 -- the cell as it stands, none where it is missing
 abbrev pub kept : Text → Option Text
@@ -62,9 +67,9 @@ abbrev pub too_wide_or : Option ℕ → ColumnOf ℚ → ColumnOf ℚ
 too_wide_or None column = column
 too_wide_or (Some rec) column = too_wide rec
 
--- numeric where every cell fits
+-- a column is numeric where every cell fits; records are counted from 1
 unfoldable pub column_of : List Text → ColumnOf ℚ
 column_of cells =
     if list_all is_numeric cells
-    then too_wide_or (position_from (λ cell. is_too_wide (number_in cell)) 1 cells) (numbers (map (λ cell. number_or_none (number_in cell)) cells))
+    then too_wide_or (position_from is_too_wide 1 cells) (numbers (map (λ cell. number_or_none (number_in cell)) cells))
     else factor (map kept cells)

@@ -1,5 +1,5 @@
 ghost use Rattle.std.specs.Prelude.{◌≡◌, ◌-◌, ◌<◌, ◌≤◌, Ok, Err, length, take, drop, slice_index, MatchResult, option_map};
-ghost use Rattle.data_frame.specs.Cells.{bare, is_blank, is_missing, number_in, without_leading_blanks, without_trailing_blanks};
+ghost use Rattle.data_frame.specs.Cells.{bare, is_blank, is_missing, is_numeric, number_in, without_leading_blanks, without_trailing_blanks};
 ghost use Rattle.data_frame.specs.Views.{exact};
 
 use frac_core::{Frac128, NumberFault, read_number};
@@ -79,5 +79,16 @@ pub(crate) fn read_cell(cell: &str) -> Result<Option<Frac128>, NumberFault>
     match read_number(left) {
         Ok(number) => Ok(Some(number)),
         Err(fault) => Err(fault),
+    }
+}
+
+// Whether a cell fits a column of numbers: it is missing, or a number, too wide or not.
+pub(crate) fn is_numeric(cell: &str) -> bool
+    ensures { result ≡ is_numeric cell.now }
+{
+    match read_cell(cell) {
+        Ok(_) => true,
+        Err(NumberFault::TooWide) => true,
+        Err(NumberFault::NotANumber) => false,
     }
 }

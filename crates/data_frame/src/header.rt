@@ -1,4 +1,4 @@
-ghost use Rattle.std.specs.Prelude.{◌≡◌, ◌≢◌, ◌⊎◌, ◌++◌, ◌∷◌, [], None, Some, true, map, position, string_bytes, MatchResult};
+ghost use Rattle.std.specs.Prelude.{◌≡◌, ◌≢◌, ◌⊎◌, ◌++◌, ◌∷◌, [], None, Some, true, map, position, string_bytes, Contains, IfNone, MatchResult, OnSome};
 ghost use Rattle.std.specs.Str.{bytes_eq};
 ghost use Rattle.csv.specs.Records.{fields_of};
 ghost use Rattle.data_frame.specs.Records.{are_text};
@@ -41,7 +41,9 @@ impl Names {
 
     // The place of a name.
     pub(crate) fn place(&self, name: &str) -> Option<usize>
-        ensures { result ≡ position (bytes_eq name.now) self.now }
+        ensures place { result ≡ position (bytes_eq name.now) self.now }
+        ensures known { OnSome result (Contains self.now name.now) }
+        ensures unknown { IfNone result (¬ (Contains self.now name.now)) }
     {
         self.places.get_index_of(name)
     }
