@@ -11,10 +11,22 @@ use Rattle.rq_words.specs.declared.job.FitJob.{FitJob}
 use Rattle.rq_words.specs.declared.job.RankAsk.{RankAsk}
 use Rattle.rq_words.specs.declared.job.SampleJob.{SampleJob}
 use Rattle.rq_words.specs.declared.job.WordFault.{WordFault}
+use Rattle.rq_words.specs.declared.numbers.Numbers.{Numbers}
 
 -- the value of a fraction
 abbrev pub number : Frac128 → ℚ
 number x = rational (record { num = x.num; den = x.den })
+
+-- the numbers of the options, in the order in which they are read
+pub record OptionNumbers : Type 0 where
+  pub lo : ℚ
+  pub hi : ℚ
+  pub crit : Option ℚ
+  pub taus : Option (List ℚ)
+  pub limit : ℕ
+  pub number : ℕ
+  pub rows : ℕ
+  pub columns : ℕ
 
 -- rank intervals at these quantiles, with this critical value
 pub record RankRequest : Type 0 where
@@ -44,6 +56,18 @@ pub data Request : Type 0 where
   Certify : FitRequest → Request
   Check : Request
   Sample : SampleRequest → Request
+
+abbrev pub option_numbers : Numbers → OptionNumbers
+option_numbers n = record {
+  lo = number n.lo;
+  hi = number n.hi;
+  crit = option_map number n.crit;
+  taus = option_map (map number) n.taus;
+  limit = n.limit;
+  number = n.number;
+  rows = n.rows;
+  columns = n.columns;
+}
 
 abbrev pub rank_request : RankAsk → RankRequest
 rank_request r = record { crit = number r.crit; taus = map number r.taus }

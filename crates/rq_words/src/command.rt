@@ -34,10 +34,15 @@ impl Kind {
 
 // The names of the options that must stand, and of those that may.
 static FIT_REQUIRED: [&str; 3] = ["formula", "lo", "hi"];
+
 static FIT_OPTIONAL: [&str; 5] = ["weights", "contrasts", "pivots", "crit", "rank-at"];
+
 static RANKS_REQUIRED: [&str; 1] = ["formula"];
+
 static RANKS_OPTIONAL: [&str; 3] = ["weights", "contrasts", "pivots"];
+
 static SAMPLE_REQUIRED: [&str; 5] = ["number", "rows", "columns", "lo", "hi"];
+
 static SAMPLE_OPTIONAL: [&str; 1] = ["pivots"];
 
 fn option<'a>(alloc: Global, name: &'a str, required: bool) -> Arg<'a>
