@@ -1,0 +1,4 @@
+pub mod ByClap
+pub mod Counts
+pub mod Pieces
+pub mod ItemTests

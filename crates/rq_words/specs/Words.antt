@@ -1,0 +1,174 @@
+-- The request of a list of words, or its first fault.
+use Rattle.std.specs.Prelude.{ℕ, ◌-◌, ◌^◌, ◌==◌, ◌&&◌, ◌||◌, not, Bool, true, false, List, [], ◌∷◌, Option, Some, None, Result, Ok, Err, pos, codes, drop, length, nat_le, is_some, if◌then◌else◌, option_and_then, option_map, ok_or}
+use Rattle.std.specs.List.{slice_split, list_any}
+use Rattle.std.specs.Option.{option_map_or}
+use Rattle.std.specs.Result.{result_ok}
+use Rattle.std.specs.Str.{bytes_eq}
+use Rattle.std.specs.Str.Parse.{digits_value}
+use Rattle.clap.specs.Words.{Row, Text, first_of}
+use Rattle.exact_algebra.specs.Rational.{ℚ, le_ℚ, whole}
+use Rattle.frac_core.specs.NumberText.{are_digits, number_of}
+use Rattle.contrasts.specs.declared.Coding.{Coding}
+use Rattle.contrasts.specs.declared.Coding.TheVariants.{Treatment, Sas, Sum, Helmert}
+use Rattle.rq_words.specs.Commands.{command_of, kind_of, options_of, read_by}
+use Rattle.rq_words.specs.Requests.{FitRequest, OptionNumbers, RankRequest, Request, SampleRequest}
+use Rattle.rq_words.specs.Requests as request
+use Rattle.rq_words.specs.declared.command.Kind.{Kind}
+use Rattle.rq_words.specs.declared.command.Kind.TheVariants as kind
+use Rattle.rq_words.specs.declared.job.WordFault.{WordFault}
+use Rattle.rq_words.specs.declared.job.WordFault.TheVariants.{NoJob, UnknownJob, BadOption, BadNumber, BadContrasts, BadRange, RankHalf, BadTauForRank, NegativeLimit}
+
+-- a step that may find a fault, and the next one
+infixl 10 ◌>>=◌
+abbrev pub ◌>>=◌ : {A B : Type 0} → Result A WordFault → (A → Result B WordFault) → Result B WordFault
+(Ok x) >>= next = next x
+(Err fault) >>= next = Err fault
+
+abbrev pub zero : ℚ
+zero = whole (pos 0)
+
+abbrev pub one : ℚ
+one = whole (pos 1)
+
+-- ---- the texts of options
+
+-- a number text within the range of 128 bits
+unfoldable pub number_text : Text → Option ℚ
+number_text text = result_ok (number_of (2 ^ 127 - 1) text)
+
+unfoldable pub number_texts : List Text → Option (List ℚ)
+number_texts [] = Some []
+number_texts (text ∷ rest) = option_and_then (λ x. option_map (λ xs. x ∷ xs) (number_texts rest)) (number_text text)
+
+-- 1 to 64 number texts with single commas between them
+unfoldable pub quantiles : Text → Option (List ℚ)
+quantiles text =
+    let pieces = slice_split (λ b. b == 44) text in
+    if nat_le (length pieces) 64 then number_texts pieces else None
+
+-- 1 to `places` digits
+abbrev pub has_digits : ℕ → Text → Bool
+has_digits places text = nat_le (length text) places && are_digits text
+
+-- such digits of a number from `least` to `most`
+unfoldable pub count : ℕ → ℕ → ℕ → Text → Option ℕ
+count places least most text =
+    let n = digits_value 10 text in
+    if has_digits places text && nat_le least n && nat_le n most then Some n else None
+
+unfoldable pub coding : Text → Option Coding
+coding text = if bytes_eq text (codes "treatment") then Some Treatment
+    else if bytes_eq text (codes "sas") then Some Sas
+    else if bytes_eq text (codes "sum") then Some Sum
+    else if bytes_eq text (codes "helmert") then Some Helmert else None
+
+-- ---- the checks, in their order
+
+-- what an option's text reads as, `other` where the option isn't given
+abbrev pub option : {X : Type 0} → WordFault → List Row → Text → X → (Text → Option X) → Result X WordFault
+option fault found name other read = option_map_or (λ text. ok_or (read text) fault) (first_of name found) (Ok other)
+
+abbrev pub number_option : {X : Type 0} → List Row → Text → X → (Text → Option X) → Result X WordFault
+number_option found name other read = option (BadNumber name) found name other read
+
+-- a text that is read where it is given
+abbrev pub given : {X : Type 0} → (Text → Option X) → Text → Option (Option X)
+given read text = option_map (λ x. Some x) (read text)
+
+unfoldable pub numbers_of : List Row → Result OptionNumbers WordFault
+numbers_of found =
+    number_option found (codes "lo") zero number_text >>= (λ lo.
+    number_option found (codes "hi") one number_text >>= (λ hi.
+    number_option found (codes "crit") None (given number_text) >>= (λ crit.
+    number_option found (codes "rank-at") None (given quantiles) >>= (λ taus.
+    number_option found (codes "pivots") 100000 (count 8 0 10000000) >>= (λ limit.
+    number_option found (codes "number") 0 (count 10 0 (2 ^ 32 - 1)) >>= (λ number.
+    number_option found (codes "rows") 0 (count 5 1 16384) >>= (λ rows.
+    number_option found (codes "columns") 0 (count 3 1 100) >>= (λ columns.
+    Ok (record {
+      lo = lo;
+      hi = hi;
+      crit = crit;
+      taus = taus;
+      limit = limit;
+      number = number;
+      rows = rows;
+      columns = columns;
+    })))))))))
+
+abbrev pub is_in_order : ℚ → ℚ → Bool
+is_in_order lo hi = le_ℚ zero lo && le_ℚ lo hi && le_ℚ hi one
+
+abbrev pub are_alike : Bool → Bool → Bool
+are_alike true b = b
+are_alike false b = not b
+
+-- not strictly between 0 and 1
+abbrev pub is_outside : ℚ → Bool
+is_outside tau = le_ℚ tau zero || le_ℚ one tau
+
+-- what is wrong with the numbers, if anything is
+unfoldable pub fault_of : OptionNumbers → Option WordFault
+fault_of n =
+    if not (is_in_order n.lo n.hi) then Some BadRange
+    else if not (are_alike (is_some n.crit) (is_some n.taus)) then Some RankHalf
+    else if option_map_or (list_any is_outside) n.taus false then Some BadTauForRank
+    else if option_map_or (λ crit. not (le_ℚ zero crit)) n.crit false then Some NegativeLimit
+    else None
+
+-- ---- the request
+
+abbrev pub rank_of : OptionNumbers → Option RankRequest
+rank_of n = option_and_then (λ crit. option_map (λ taus. record { crit = crit; taus = taus }) n.taus) n.crit
+
+abbrev pub text_or_empty : Option Text → Text
+text_or_empty None = []
+text_or_empty (Some text) = text
+
+abbrev pub fit : List Row → OptionNumbers → Coding → FitRequest
+fit found n coding = record {
+  formula = text_or_empty (first_of (codes "formula") found);
+  lo = n.lo;
+  hi = n.hi;
+  weights = first_of (codes "weights") found;
+  coding = coding;
+  limit = n.limit;
+  rank = rank_of n;
+}
+
+abbrev pub sample : OptionNumbers → SampleRequest
+sample n = record {
+  number = n.number;
+  rows = n.rows;
+  columns = n.columns;
+  lo = n.lo;
+  hi = n.hi;
+  limit = n.limit;
+}
+
+abbrev pub request_for : Kind → List Row → OptionNumbers → Coding → Request
+request_for kind.Process found n coding = request.Process (fit found n coding)
+request_for kind.Ranks found n coding = request.Ranks (fit found n coding)
+request_for kind.Certify found n coding = request.Certify (fit found n coding)
+request_for kind.Check found n coding = request.Check
+request_for kind.Sample found n coding = request.Sample (sample n)
+
+-- the request of a job's options
+unfoldable pub checked : Kind → List Row → Result Request WordFault
+checked kind found =
+    numbers_of found >>= (λ n.
+    option BadContrasts found (codes "contrasts") Treatment coding >>= (λ coding.
+    option_map_or (λ fault. Err fault) (fault_of n) (Ok (request_for kind found n coding))))
+
+abbrev pub is_long : Text → Bool
+is_long word = nat_le (2 ^ 31) (length word)
+
+-- the request of a job's words, the first of which is the job
+unfoldable pub words_of_job : Kind → List Text → Result Request WordFault
+words_of_job kind words = if list_any is_long (drop 1 words) then Err BadOption
+    else option_map_or (checked kind) (read_by (command_of (options_of kind)) words) (Err BadOption)
+
+-- the request of the words after the program's name
+unfoldable pub words_of : List Text → Result Request WordFault
+words_of [] = Err NoJob
+words_of (job ∷ rest) = option_map_or (λ kind. words_of_job kind (job ∷ rest)) (kind_of job) (Err UnknownJob)

@@ -1,0 +1,62 @@
+ghost use Rattle.std.specs.Prelude.{◌≡◌};
+ghost use Rattle.std.specs.List.{list_any};
+ghost use Rattle.exact_algebra.specs.Rational.{le_ℚ};
+ghost use Rattle.rq_words.specs.Requests.{number, option_numbers};
+ghost use Rattle.rq_words.specs.Words.{fault_of, is_in_order, is_outside};
+
+use crate::WordFault;
+use crate::numbers::Numbers;
+use frac_core::{Exact, Frac128};
+use std::cmp::Ordering;
+
+fn is_at_most(x: Frac128, y: Frac128) -> bool
+    ensures { result ≡ le_ℚ (number x) (number y) }
+{
+    x.compare(y) != Ordering::Greater
+}
+
+// Whether `0 <= lo <= hi <= 1`.
+fn is_range(lo: Frac128, hi: Frac128) -> bool
+    ensures { result ≡ is_in_order (number lo) (number hi) }
+{
+    is_at_most(Frac128::zero(), lo) && is_at_most(lo, hi) && is_at_most(hi, Frac128::one())
+}
+
+// Whether a quantile isn't strictly between 0 and 1.
+fn is_outside(tau: Frac128) -> bool
+    ensures { result ≡ is_outside (number tau) }
+{
+    is_at_most(tau, Frac128::zero()) || is_at_most(Frac128::one(), tau)
+}
+
+fn has_outside(taus: &[Frac128]) -> bool
+    ensures { result ≡ list_any (λ tau. is_outside (number tau)) taus.now }
+{
+    taus.iter().any(|tau| is_outside(*tau))
+}
+
+impl Numbers {
+    /// What is wrong with the numbers, the first that the checks find.
+    #[tactic(auto, using(crate::proofs::ItemTests::any_of_values), unfolding(crate::specs::Words::fault_of))]
+    pub fn fault(&self) -> Option<WordFault>
+        ensures { result ≡ fault_of (option_numbers self.now) }
+    {
+        if !is_range(self.lo, self.hi) {
+            return Some(WordFault::BadRange);
+        }
+        if self.crit.is_some() != self.taus.is_some() {
+            return Some(WordFault::RankHalf);
+        }
+        if let Some(taus) = &self.taus
+            && has_outside(taus.as_slice())
+        {
+            return Some(WordFault::BadTauForRank);
+        }
+        if let Some(crit) = self.crit
+            && !is_at_most(Frac128::zero(), crit)
+        {
+            return Some(WordFault::NegativeLimit);
+        }
+        None
+    }
+}

@@ -1,0 +1,88 @@
+use contrasts::Coding;
+use frac_core::{Frac128, List, Text};
+
+/// What a command asks for.
+#[derive(Drop)]
+pub enum Job {
+    /// Fit a table's response at each quantile of a range.
+    Process(FitJob),
+    /// Wilcoxon rank scores of a table's response, over the range 0 to 1.
+    Ranks(FitJob),
+    /// The certificate of a fit.
+    Certify(FitJob),
+    /// Check a certificate.
+    Check,
+    /// Fit a table that is made from a number.
+    Sample(SampleJob),
+}
+
+/// A fit of a table.
+#[derive(Drop)]
+pub struct FitJob {
+    /// The formula, as it was written.
+    pub formula: Text,
+    /// The least quantile of the range.
+    pub lo: Frac128,
+    /// The greatest quantile of the range.
+    pub hi: Frac128,
+    /// The name of the column of weights.
+    pub weights: Option<Text>,
+    /// The coding of factors that are whole terms.
+    pub coding: Coding,
+    /// How many pivots a process or a rank interval may take.
+    pub limit: u32,
+    /// The rank intervals, where they are asked for.
+    pub rank: Option<RankAsk>,
+}
+
+/// Which rank intervals are asked for.
+#[derive(Drop)]
+pub struct RankAsk {
+    /// The critical value of the squared rank statistic.
+    pub crit: Frac128,
+    /// The quantiles, as given.
+    pub taus: List<Frac128>,
+}
+
+/// A fit of a generated table.
+#[derive(Clone, Copy, Drop)]
+pub struct SampleJob {
+    /// The number that the table is made from.
+    pub number: u32,
+    /// How many records it has.
+    pub rows: u32,
+    /// How many columns it has beside the response.
+    pub columns: u32,
+    /// The least quantile of the range.
+    pub lo: Frac128,
+    /// The greatest quantile of the range.
+    pub hi: Frac128,
+    /// How many pivots the process may take.
+    pub limit: u32,
+}
+
+/// Why words are refused.
+#[derive(Drop)]
+pub enum WordFault {
+    /// There is no word.
+    NoJob,
+    /// The first word names no job.
+    UnknownJob,
+    /// The words after it aren't options of the job with one value each, or a required one is
+    /// missing, or one of them has 2^31 bytes or more.
+    BadOption,
+    /// The value of this option isn't a number as the option wants it.
+    BadNumber { option: Text },
+    /// The range isn't `0 <= lo <= hi <= 1`.
+    BadRange,
+    /// A quantile of the rank intervals is at most 0 or at least 1.
+    BadTauForRank,
+    /// The critical value is below 0.
+    NegativeLimit,
+    /// The contrasts have no such name.
+    BadContrasts,
+    /// A critical value stands without quantiles, or they without it.
+    RankHalf,
+    /// No memory was found.
+    OutOfMemory,
+}

@@ -1,0 +1,104 @@
+ghost use Rattle.std.specs.Prelude.{◌≡◌, ◌⊎◌, Err, IfOk, codes, option_map};
+ghost use Rattle.std.specs.Result.{result_map_both};
+ghost use Rattle.rq_words.specs.Requests.{fit_request, option_numbers, request_or_fault, sample_request};
+ghost use Rattle.rq_words.specs.Words.{checked, coding, fit, option, sample};
+
+use crate::command::Kind;
+use crate::numbers::Numbers;
+use crate::options::Options;
+use crate::{FitJob, Job, RankAsk, SampleJob, WordFault};
+use contrasts::Coding;
+use frac_core::{OutOfMemory, Text};
+use std::alloc::Global;
+
+#[tactic(auto, unfolding(crate::specs::Words::coding))]
+fn coding_named(name: &str) -> Option<Coding>
+    ensures { result ≡ coding name.now }
+{
+    match name {
+        "treatment" => Some(Coding::Treatment),
+        "sas" => Some(Coding::Sas),
+        "sum" => Some(Coding::Sum),
+        "helmert" => Some(Coding::Helmert),
+        _ => None,
+    }
+}
+
+fn chosen_coding(options: &Options) -> Result<Coding, WordFault>
+    ensures { result ≡ option WordFault.BadContrasts options.now (codes "contrasts") Coding.Treatment coding }
+{
+    match options.get("contrasts") {
+        None => Ok(Coding::Treatment),
+        Some(name) => coding_named(name).ok_or(WordFault::BadContrasts),
+    }
+}
+
+fn copied(alloc: Global, text: Option<&str>) -> Result<Option<Text>, OutOfMemory>
+    ensures { IfOk result (λ copy. copy ≡ option_map (λ t. t.now) text.entry) }
+{
+    match text {
+        None => Ok(None),
+        Some(text) => Ok(Some(Text::new(alloc, text)?)),
+    }
+}
+
+fn fit_of(
+    alloc: Global,
+    options: &Options,
+    numbers: Numbers,
+    coding: Coding,
+) -> Result<FitJob, OutOfMemory>
+    ensures { IfOk result (λ job. fit_request job ≡ fit options.now (option_numbers numbers) coding) }
+{
+    let formula = Text::new(alloc, options.get("formula").unwrap_or(""))?;
+    let weights = copied(alloc, options.get("weights"))?;
+    let rank = match (numbers.crit, numbers.taus) {
+        (Some(crit), Some(taus)) => Some(RankAsk { crit, taus }),
+        _ => None,
+    };
+    Ok(FitJob {
+        formula,
+        lo: numbers.lo,
+        hi: numbers.hi,
+        weights,
+        coding,
+        limit: numbers.limit,
+        rank,
+    })
+}
+
+fn sample_of(numbers: &Numbers) -> SampleJob
+    ensures { sample_request result ≡ sample (option_numbers numbers.now) }
+{
+    SampleJob {
+        number: numbers.number,
+        rows: numbers.rows,
+        columns: numbers.columns,
+        lo: numbers.lo,
+        hi: numbers.hi,
+        limit: numbers.limit,
+    }
+}
+
+/// The job that a command's options ask for, or the first fault of the checks.
+#[tactic(auto, unfolding(crate::specs::Words::checked))]
+pub(crate) fn job_of(alloc: Global, kind: Kind, options: &Options) -> Result<Job, WordFault>
+    ensures { (result ≡ Err WordFault.OutOfMemory) ⊎ (request_or_fault result ≡ checked kind options.now) }
+{
+    let numbers = Numbers::read(alloc, options)?;
+    let coding = chosen_coding(options)?;
+    if let Some(fault) = numbers.fault() {
+        return Err(fault);
+    }
+    let made = match kind {
+        Kind::Check => return Ok(Job::Check),
+        Kind::Sample => return Ok(Job::Sample(sample_of(&numbers))),
+        Kind::Process => fit_of(alloc, options, numbers, coding).map(Job::Process),
+        Kind::Ranks => fit_of(alloc, options, numbers, coding).map(Job::Ranks),
+        Kind::Certify => fit_of(alloc, options, numbers, coding).map(Job::Certify),
+    };
+    match made {
+        Ok(job) => Ok(job),
+        Err(OutOfMemory) => Err(WordFault::OutOfMemory),
+    }
+}
