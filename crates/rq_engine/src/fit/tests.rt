@@ -22,10 +22,13 @@ struct Case {
 // Makes sure of what `fit_column` requires.
 fn fit_at(rt: &(impl Abort + AllocGlobal), responses: &[i64], tau: (u64, u64)) -> Result<Fit, Fail> {
     let (n, d) = tau;
-    assert!(rt; 1 <= d && n <= d && d <= 1000);
+    assert!(rt; d >= 1);
+    assert!(rt; n <= d);
+    assert!(rt; d <= 1000);
     let tau: Frac128 = ratio(i128::from(n), d);
     assert!(rt; tau.denominator() <= 1000);
-    assert!(rt; 1 <= responses.len() && responses.len() <= 1000);
+    assert!(rt; responses.len() >= 1);
+    assert!(rt; responses.len() <= 1000);
     assert!(rt; responses.iter().all(|y| y.unsigned_abs() < 1_000_000_000));
     Ok(fit_column(rt.alloc(), responses, tau)?)
 }
