@@ -1,5 +1,5 @@
 -- A cover has no gap.
-use Rattle.std.specs.Prelude.{◌≡◌, ℕ, zero, suc, ◌+◌, ◌-◌, ◌<◌, Bool, true, false, pos}
+use Rattle.std.specs.Prelude.{◌≡◌, ℕ, zero, suc, ◌+◌, ◌-◌, ◌<◌, Bool, true, false}
 use Rattle.std.proofs.Common.{arith, refl, sym, ap, subst, ◌∙◌}
 use Rattle.exact_algebra.specs.Rational.{ℚ, ◌≤ℚ◌, le_ℚ, ≤ℚ_total}
 use Rattle.loss_model.specs.Segment.{Segments, Covers}

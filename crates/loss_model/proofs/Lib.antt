@@ -11,3 +11,4 @@ pub mod Vertices
 pub mod Covers
 pub mod Products
 pub mod Residuals
+pub mod Prices

@@ -1,19 +1,19 @@
 -- The residual and the costs of a row by the row itself.
-use Rattle.std.specs.Prelude.{◌≡◌, ℕ, zero, suc, ◌+◌, ◌<◌, Bool, true, false, cond, List, [], ◌∷◌, length, get_or, slice_get, Option, Some, Result, Ok, Err, IsErr, IfErr, pos}
+use Rattle.std.specs.Prelude.{◌≡◌, ℕ, ◌<◌, List, [], ◌∷◌, length, get_or, slice_get, Option, Some, Result, IfOk, pos}
 use Rattle.std.specs.Option.{option_map_or}
-use Rattle.std.specs.List.{All}
-use Rattle.std.proofs.Common.{arith, refl, sym, ap, subst, ◌∙◌}
+use Rattle.std.proofs.Common.{refl, sym, ap, subst, ◌∙◌}
 use Rattle.std.proofs.lemmas.Option.{slice_get_read}
 use Rattle.std.proofs.lemmas.List.Elements.{All-get_or}
+use Rattle.std.proofs.lemmas.Result.{IfOk-weaker}
 use Rattle.exact_algebra.specs.Solver.{number, negated, ◌⊞◌, ◌⊟◌, ◌⊠◌, v0, v1}
-use Rattle.exact_algebra.specs.Rational.{ℚ, ◌+ℚ◌, ◌-ℚ◌, ◌*ℚ◌, neg_ℚ, whole, ring_ℚ}
-use Rattle.exact_algebra.specs.RationalSums.{sum_ℚ, sum_ℚ-same, sum_ℚ-scale}
+use Rattle.exact_algebra.specs.Rational.{ℚ, ◌+ℚ◌, ◌*ℚ◌, neg_ℚ, whole, ring_ℚ}
+use Rattle.exact_algebra.specs.RationalSums.{sum_ℚ-same, sum_ℚ-scale}
 use Rattle.exact_algebra.specs.Fraction.{Fraction, rational}
 use Rattle.loss_model.specs.declared.problem.Row.{Row}
 use Rattle.loss_model.specs.declared.problem.Problem.{Problem}
 use Rattle.loss_model.specs.declared.sites.Sign.TheVariants.{Minus}
 use Rattle.loss_model.specs.Sample.{Sample, fitted, residual}
-use Rattle.loss_model.specs.Problem.{value_at, of_row, sample, IsWellShaped}
+use Rattle.loss_model.specs.Problem.{value_at, sample, IsWellShaped}
 use Rattle.loss_model.specs.Spill.{Products, total, residual_products}
 use Rattle.loss_model.specs.Sign.{products_of}
 
@@ -55,3 +55,9 @@ pub products_at : {F : Type 0} (value : F → Fraction) (p : Problem F) (cs : Li
     → products_of value d.y Minus xs cs ≡ residual_products (sample value p) (value_at value cs) i
 products_at value p cs i seen d xs shaped e l h f =
     ap (λ xs. products_of value d.y Minus xs cs) f ∙ residual_products-row value p cs i d (row_is p.rows seen i d e l h) (width_is p seen i d shaped e l h)
+
+pub residual_exact : {F E : Type 0} (value : F → Fraction) (p : Problem F) (cs : List F) (i : ℕ) (t : Products) (r : Result F E) → t ≡ residual_products (sample value p) (value_at value cs) i
+    → IfOk r (λ x. rational (value x) ≡ total t) → IfOk r (λ x. rational (value x) ≡ residual (sample value p) (value_at value cs) i)
+residual_exact value p cs i t r e h =
+    IfOk-weaker r (λ x. rational (value x) ≡ total t) (λ x. rational (value x) ≡ residual (sample value p) (value_at value cs) i)
+    (λ x same. same ∙ ap total e ∙ residual-total (sample value p) (value_at value cs) i) h

@@ -14,9 +14,12 @@ mod sites;
 mod spill;
 mod vertex;
 
-pub use loss::residual_at;
+pub use loss::{down_cost_at, loss_at, residual_at, up_cost_at};
 pub use problem::{Problem, Row};
 pub use process::{Exchange, Process, Segment, Trail};
 pub use sites::{Sign, minus_at, over_at, plus_at, sum_of_products, times_at};
 pub use spill::{Quantity, Short, Site, Spill};
 pub use vertex::{Basis, Side, Vertex};
+
+#[cfg(test)]
+mod tests;

@@ -102,7 +102,13 @@ pub fn over_at<F: Exact>(site: Site, left: F, right: F) -> Result<F, Spill<F>>
 /// The site's term is the number of terms before the products: product `k`, counted from 0, and its
 /// addition have the term `site.term + k + 1`. A spill names one of these operations, which
 /// overflows, and has its operands.
-pub fn sum_of_products<F: Exact>(site: Site, first: F, sign: Sign, left: &[F], right: &[F]) -> Result<F, Spill<F>>
+pub fn sum_of_products<F: Exact>(
+    site: Site,
+    first: F,
+    sign: Sign,
+    left: &[F],
+    right: &[F],
+) -> Result<F, Spill<F>>
     requires same { length left.now ≡ length right.now }
     requires few { site.term + length left.now < 2 ^ 32 }
     ensures exact { IfOk result (λ r. rational (F.value r) ≡ total (products_of F.value first sign left.now right.now)) }

@@ -1,6 +1,6 @@
 use Rattle.std.proofs.Common.{◌+◌, arith}
 use Rattle.exact_algebra.specs.Fraction.{rational}
-use Rattle.loss_model.specs.Spill.{cost_products, IsSpillOf}
+use Rattle.loss_model.specs.Spill.{cost_products}
 use Rattle.loss_model.proofs.Products.{partial_sum-zero, addition_spill, refusal}
 use Rattle.loss_model.proofs.loss.cost_at.Goals as goal
 
