@@ -35,18 +35,17 @@ pub fitted : (ys : List ℤ) (tau : ℚ) (first k : ℕ) → first ≡ place (re
     → (sorted : List Entry) → IsPermutation (rows_of (response ys) (length ys)) sorted → IsSorted entry_cmp sorted → length sorted ≡ length ys
     → (e : Entry) → e ≡ get_or sorted (k - 1) e
     → IsFitted (response ys) (length ys) tau e.1.0 × (k ≡ place (response ys) (length ys) e.1.0)
-fitted ys tau first k first_is some within optimal nearest sorted moved ascends same e stands =
-    (
-      record {
-        within = subst (λ z. z.1.0 < length ys) (sym stands) at.0;
-        optimal = subst (λ z. IsOptimalPlace (length ys) tau z) here optimal;
-        nearest = λ j l h.
-            let bounds = place_within (response ys) (length ys) j l in
-            subst (λ z. abs_diff (place (response ys) (length ys) e.1.0) z ≤ abs_diff (place (response ys) (length ys) j) z) first_is
-            (subst (λ z. abs_diff z first ≤ abs_diff (place (response ys) (length ys) j) first) here (nearest (place (response ys) (length ys) j) bounds.0 bounds.1 h));
-      },
-      here,
-    )
+fitted ys tau first k first_is some within optimal nearest sorted moved ascends same e stands = (
+  record {
+    within = subst (λ z. z.1.0 < length ys) (sym stands) at.0;
+    optimal = subst (λ z. IsOptimalPlace (length ys) tau z) here optimal;
+    nearest = λ j l h.
+        let bounds = place_within (response ys) (length ys) j l in
+        subst (λ z. abs_diff (place (response ys) (length ys) e.1.0) z ≤ abs_diff (place (response ys) (length ys) j) z) first_is
+        (subst (λ z. abs_diff z first ≤ abs_diff (place (response ys) (length ys) j) first) here (nearest (place (response ys) (length ys) j) bounds.0 bounds.1 h));
+  },
+  here,
+)
   where
     at : ((get_or sorted (k - 1) e).1.0 < length ys) × (place (response ys) (length ys) (get_or sorted (k - 1) e).1.0 ≡ (k - 1) + 1)
     at = sorted_place (response ys) (length ys) sorted moved ascends (k - 1) e (omega arith)

@@ -2,9 +2,9 @@
 use Rattle.std.proofs.Common.{◌≡◌, ℕ, ◌+◌, ◌-◌, ◌*◌, ◌≤◌, List, [], ◌∷◌, ℤ, pos, ◌+ℤ◌, ◌-ℤ◌, ◌*ℤ◌, ◌≤ℤ◌, neg_ℤ, arith, refl, sym, ap, subst, ◌∙◌}
 use Rattle.std.proofs.lemmas.Int.{ints}
 use Rattle.exact_algebra.specs.Solver.{number, negated, ◌⊞◌, ◌⊟◌, ◌⊠◌, v0, v1, v2, v3}
-use Rattle.exact_algebra.specs.Rational.{ℚ, ◌+ℚ◌, ◌-ℚ◌, ◌*ℚ◌, neg_ℚ, whole, whole-add, whole-mul, inverse, quotient, ◌≤ℚ◌, ring_ℚ, ≤ℚ_mul}
+use Rattle.exact_algebra.specs.Rational.{ℚ, ◌+ℚ◌, ◌-ℚ◌, ◌*ℚ◌, neg_ℚ, whole, whole-add, whole-mul, quotient, ◌≤ℚ◌, ring_ℚ, ≤ℚ_mul}
 use Rattle.exact_algebra.specs.WholeNumbers.{whole-le, whole-neg, le_from_whole}
-use Rattle.loss_model.proofs.Quotients.{inverse_of, whole-quotient, inverse_not_negative, whole_not_negative, cancel, cancel_le}
+use Rattle.loss_model.proofs.Quotients.{whole-quotient, whole_not_negative, cancel_whole, cancel_whole_le}
 
 pub whole-minus : (a b : ℤ) → whole (a -ℤ b) ≡ whole a -ℚ whole b
 whole-minus a b = whole-add a (neg_ℤ b) ∙ ap (λ z. whole a +ℚ z) (whole-neg b)
@@ -12,7 +12,7 @@ whole-minus a b = whole-add a (neg_ℤ b) ∙ ap (λ z. whole a +ℚ z) (whole-n
 module _ (t : ℕ) (some : 1 ≤ t) (x y : ℚ) (a b : ℤ) (left : whole (pos t) *ℚ x ≡ whole a) (right : whole (pos t) *ℚ y ≡ whole b) where
   pub le_from_multiples : a ≤ℤ b → x ≤ℚ y
   le_from_multiples h =
-      cancel_le (whole (pos t)) (inverse (whole (pos t))) x y (inverse_of t some) (inverse_not_negative (whole (pos t)) (whole_not_negative t))
+      cancel_whole_le t x y some
       (subst (λ z. z ≤ℚ (whole (pos t) *ℚ y)) (sym left) (subst (λ z. whole a ≤ℚ z) (sym right) (whole-le a b h)))
 
   pub multiples_from_le : x ≤ℚ y → a ≤ℤ b
@@ -21,7 +21,7 @@ module _ (t : ℕ) (some : 1 ≤ t) (x y : ℚ) (a b : ℤ) (left : whole (pos t
       (subst (λ z. z ≤ℚ whole b) left (subst (λ z. (whole (pos t) *ℚ x) ≤ℚ z) right (≤ℚ_mul x y (whole (pos t)) (whole_not_negative t) h)))
 
   pub same_from_multiples : a ≡ b → x ≡ y
-  same_from_multiples h = cancel (whole (pos t)) (inverse (whole (pos t))) x y (inverse_of t some) (left ∙ ap whole h ∙ sym right)
+  same_from_multiples h = cancel_whole t x y some (left ∙ ap whole h ∙ sym right)
 
 -- t times n * (s/t)
 pub multiple_of_product : (t n : ℕ) (s : ℤ) → 1 ≤ t → whole (pos t) *ℚ (whole (pos n) *ℚ quotient s t) ≡ whole (pos n *ℤ s)

@@ -20,7 +20,11 @@ struct Case {
 }
 
 // Makes sure of what `fit_column` requires.
-fn fit_at(rt: &(impl Abort + AllocGlobal), responses: &[i64], tau: (u64, u64)) -> Result<Fit, Fail> {
+fn fit_at(
+    rt: &(impl Abort + AllocGlobal),
+    responses: &[i64],
+    tau: (u64, u64),
+) -> Result<Fit, Fail> {
     let (n, d) = tau;
     assert!(rt; d >= 1);
     assert!(rt; n <= d);
@@ -40,14 +44,23 @@ fn verify(rt: &(impl Abort + AllocGlobal), case: &Case) -> Result<(), Fail> {
     let segment = &segments[0];
     assert_eq!(rt; segment.vertex.basis.rows.as_slice(), [case.row].as_slice());
     assert_eq!(rt; segment.vertex.sides.as_slice(), case.sides);
-    assert_eq!(rt; segment.vertex.coef.as_slice().first().copied(), Frac128::from_parts(case.coef, 1));
-    assert_eq!(rt; Some(segment.loss_lo), Frac128::from_parts(case.loss.0, case.loss.1));
+    assert_eq!(rt;
+        segment.vertex.coef.as_slice().first().copied(),
+        Frac128::from_parts(case.coef, 1)
+    );
+    assert_eq!(rt;
+        Some(segment.loss_lo),
+        Frac128::from_parts(case.loss.0, case.loss.1)
+    );
     assert_eq!(rt; fit.process.trail.steps.as_slice().len(), case.pivots);
     let lists = fit.scores.as_slice();
     assert_eq!(rt; lists.len(), 1);
     let pairs = lists[0].as_slice();
     assert_eq!(rt; pairs.len(), 1);
-    assert_eq!(rt; Some(pairs[0].at_hi), Frac128::from_parts(case.score.0, case.score.1));
+    assert_eq!(rt;
+        Some(pairs[0].at_hi),
+        Frac128::from_parts(case.score.0, case.score.1)
+    );
     Ok(())
 }
 
