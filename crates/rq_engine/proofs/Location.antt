@@ -57,7 +57,6 @@ not_smaller a b Less o m h = cc
 not_smaller a b Equal o m h = omega (arith, ints)
 not_smaller a b Greater o m h = omega (arith, ints)
 
-
 -- ---- costs and residuals
 
 module _ (y : ℕ → ℤ) (n : ℕ) (p : Sample) (model : IsLocationModel y n p) where
@@ -142,9 +141,9 @@ dual_bounds n tau k s h = by s
     )
     by Basic = (
       subst (λ z. z ≤ℚ dual_at n tau k) (ring_ℚ ((whole (pos n) *ℚ tau) ∷ tau ∷ []) (((negated v0 ⊟ number (pos 1)) ⊞ v1) ⊞ v0) (negated (number (pos 1) ⊟ v1)) refl)
-      (subst (λ z. (((neg_ℚ (whole (pos n) *ℚ tau) -ℚ whole (pos 1)) +ℚ tau) +ℚ (whole (pos n) *ℚ tau)) ≤ℚ z) (ring_ℚ (whole (pos k) ∷ (whole (pos n) *ℚ tau) ∷ tau ∷ []) (((negated v1 ⊟ number (pos 1)) ⊞ v2) ⊞ v0) (((v0 ⊟ v1) ⊟ number (pos 1)) ⊞ v2) refl)
-      (≤ℚ_add (whole (pos n) *ℚ tau) (whole (pos k)) ((neg_ℚ (whole (pos n) *ℚ tau) -ℚ whole (pos 1)) +ℚ tau) h.high)),
+          (subst (λ z. (((neg_ℚ (whole (pos n) *ℚ tau) -ℚ whole (pos 1)) +ℚ tau) +ℚ (whole (pos n) *ℚ tau)) ≤ℚ z) (ring_ℚ (whole (pos k) ∷ (whole (pos n) *ℚ tau) ∷ tau ∷ []) (((negated v1 ⊟ number (pos 1)) ⊞ v2) ⊞ v0) (((v0 ⊟ v1) ⊟ number (pos 1)) ⊞ v2) refl)
+          (≤ℚ_add (whole (pos n) *ℚ tau) (whole (pos k)) ((neg_ℚ (whole (pos n) *ℚ tau) -ℚ whole (pos 1)) +ℚ tau) h.high)),
       subst (λ z. z ≤ℚ tau) (ring_ℚ (whole (pos k) ∷ (whole (pos n) *ℚ tau) ∷ tau ∷ []) ((v2 ⊟ v1) ⊞ (v0 ⊟ number (pos 1))) (((v0 ⊟ v1) ⊟ number (pos 1)) ⊞ v2) refl)
-      (subst (λ z. ((tau -ℚ (whole (pos n) *ℚ tau)) +ℚ (whole (pos k) -ℚ whole (pos 1))) ≤ℚ z) (ring_ℚ ((whole (pos n) *ℚ tau) ∷ tau ∷ []) ((v1 ⊟ v0) ⊞ v0) v1 refl)
-      (≤ℚ_add (whole (pos k) -ℚ whole (pos 1)) (whole (pos n) *ℚ tau) (tau -ℚ (whole (pos n) *ℚ tau)) h.low)),
+          (subst (λ z. ((tau -ℚ (whole (pos n) *ℚ tau)) +ℚ (whole (pos k) -ℚ whole (pos 1))) ≤ℚ z) (ring_ℚ ((whole (pos n) *ℚ tau) ∷ tau ∷ []) ((v1 ⊟ v0) ⊞ v0) v1 refl)
+          (≤ℚ_add (whole (pos k) -ℚ whole (pos 1)) (whole (pos n) *ℚ tau) (tau -ℚ (whole (pos n) *ℚ tau)) h.low)),
     )

@@ -36,6 +36,13 @@ parts_of_quantile n d some low high = (
   multiples_from_le d some (quotient n d) (whole (pos 1)) n (pos d) (sym (whole-quotient n d some)) (ring_ℚ (whole (pos d) ∷ []) (v0 ⊠ number (pos 1)) v0 refl) high,
 )
 
+-- and the other way round
+pub quantile_from_parts : (n d : ℕ) → 1 ≤ d → n ≤ d → (whole (pos 0) ≤ℚ quotient (pos n) d) × (quotient (pos n) d ≤ℚ whole (pos 1))
+quantile_from_parts n d some within = (
+  le_from_multiples d some (whole (pos 0)) (quotient (pos n) d) (pos 0) (pos n) (ring_ℚ (whole (pos d) ∷ []) (v0 ⊠ number (pos 0)) (number (pos 0)) refl) (sym (whole-quotient (pos n) d some)) (omega (arith, ints)),
+  le_from_multiples d some (quotient (pos n) d) (whole (pos 1)) (pos n) (pos d) (sym (whole-quotient (pos n) d some)) (ring_ℚ (whole (pos d) ∷ []) (v0 ⊠ number (pos 1)) v0 refl) (omega (arith, ints)),
+)
+
 -- (k*t - n*s) / t
 pub excess_is : (k n s t : ℕ) (z : ℤ) → 1 ≤ t → z ≡ pos (k * t) -ℤ pos (n * s) → quotient z t ≡ whole (pos k) -ℚ (whole (pos n) *ℚ quotient (pos s) t)
 excess_is k n s t z some is =

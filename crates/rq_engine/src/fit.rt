@@ -60,10 +60,7 @@ fn unit_row<F: Exact>(alloc: Global, response: i64) -> Result<Row<F>, AllocError
 }
 
 // The location model of the responses.
-fn location_problem<F: Exact>(
-    alloc: Global,
-    responses: &[i64],
-) -> Result<Problem<F>, AllocError>
+fn location_problem<F: Exact>(alloc: Global, responses: &[i64]) -> Result<Problem<F>, AllocError>
     requires few { length responses.now ≤ 1000 }
     requires small { All (λ y. unsigned_abs y < 10 ^ 9) responses.now }
     ensures shaped { IfOk result IsWellShaped }
@@ -220,11 +217,7 @@ fn trail_to<F: Exact>(alloc: Global, tau: F, row: u32) -> Result<Trail<F>, Alloc
 }
 
 // The fit of the location model, from its parts.
-fn location_fit(
-    alloc: Global,
-    responses: &[i64],
-    tau: Frac128,
-) -> Result<Fit, AllocError>
+fn location_fit(alloc: Global, responses: &[i64], tau: Frac128) -> Result<Fit, AllocError>
     requires some { 1 ≤ length responses.now }
     requires few { length responses.now ≤ 1000 }
     requires small { All (λ y. unsigned_abs y < 10 ^ 9) responses.now }
@@ -260,11 +253,7 @@ fn location_fit(
 
 /// The fit of an intercept alone to the responses at a quantile, which is a sample quantile. It
 /// refuses only for memory.
-pub(crate) fn fit_column(
-    alloc: Global,
-    responses: &[i64],
-    tau: Frac128,
-) -> Result<Fit, OutOfMemory>
+pub(crate) fn fit_column(alloc: Global, responses: &[i64], tau: Frac128) -> Result<Fit, OutOfMemory>
     requires some { 1 ≤ length responses.now }
     requires few { length responses.now ≤ 1000 }
     requires small { All (λ y. unsigned_abs y < 10 ^ 9) responses.now }

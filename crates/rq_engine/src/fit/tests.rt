@@ -20,12 +20,19 @@ struct Case {
 }
 
 // Makes sure of what `fit_column` requires.
-fn fit_at(rt: &(impl Abort + AllocGlobal), responses: &[i64], tau: (u64, u64)) -> Result<Fit, Fail> {
+fn fit_at(
+    rt: &(impl Abort + AllocGlobal),
+    responses: &[i64],
+    tau: (u64, u64),
+) -> Result<Fit, Fail> {
     let (n, d) = tau;
-    assert!(rt; 1 <= d && n <= d && d <= 1000);
+    assert!(rt; d >= 1);
+    assert!(rt; n <= d);
+    assert!(rt; d <= 1000);
     let tau: Frac128 = ratio(i128::from(n), d);
     assert!(rt; tau.denominator() <= 1000);
-    assert!(rt; 1 <= responses.len() && responses.len() <= 1000);
+    assert!(rt; responses.len() >= 1);
+    assert!(rt; responses.len() <= 1000);
     assert!(rt; responses.iter().all(|y| y.unsigned_abs() < 1_000_000_000));
     Ok(fit_column(rt.alloc(), responses, tau)?)
 }
@@ -37,14 +44,23 @@ fn verify(rt: &(impl Abort + AllocGlobal), case: &Case) -> Result<(), Fail> {
     let segment = &segments[0];
     assert_eq!(rt; segment.vertex.basis.rows.as_slice(), [case.row].as_slice());
     assert_eq!(rt; segment.vertex.sides.as_slice(), case.sides);
-    assert_eq!(rt; segment.vertex.coef.as_slice().first().copied(), Frac128::from_parts(case.coef, 1));
-    assert_eq!(rt; Some(segment.loss_lo), Frac128::from_parts(case.loss.0, case.loss.1));
+    assert_eq!(rt;
+        segment.vertex.coef.as_slice().first().copied(),
+        Frac128::from_parts(case.coef, 1)
+    );
+    assert_eq!(rt;
+        Some(segment.loss_lo),
+        Frac128::from_parts(case.loss.0, case.loss.1)
+    );
     assert_eq!(rt; fit.process.trail.steps.as_slice().len(), case.pivots);
     let lists = fit.scores.as_slice();
     assert_eq!(rt; lists.len(), 1);
     let pairs = lists[0].as_slice();
     assert_eq!(rt; pairs.len(), 1);
-    assert_eq!(rt; Some(pairs[0].at_hi), Frac128::from_parts(case.score.0, case.score.1));
+    assert_eq!(rt;
+        Some(pairs[0].at_hi),
+        Frac128::from_parts(case.score.0, case.score.1)
+    );
     Ok(())
 }
 

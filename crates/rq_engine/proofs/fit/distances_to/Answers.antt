@@ -17,14 +17,14 @@ loop-response-preserved c =
     let fits : SFits w64 (get_or ys i (pos 0)) = search rules in
     let fits' : SFits w64 (get_or ys c.args.fitted (pos 0)) = search rules in
     elim c.if-response-center.branch [
-      then-response-center w ↦
-        let distance = simp to_z-of_z at w.abs_diff-above.ensures in
-        let order = simp to_z-of_z at w.if-response-center.true in
-        let sums = one_above y at i c.loop-response.above c.loop-response.below c.loop-response.invariant.0 w.abs_diff-above.result distance order in
-        (same_sums y at (i + 1) _ _ _ _ w.above-is w.below-is sums, omega arith)
-    | else-response-center w ↦
-        let distance = simp to_z-of_z at w.abs_diff-below.ensures in
-        let order = simp to_z-of_z at w.if-response-center.false in
-        let sums = one_below y at i c.loop-response.above c.loop-response.below c.loop-response.invariant.0 w.abs_diff-below.result distance order in
-        (same_sums y at (i + 1) _ _ _ _ w.above-is w.below-is sums, omega arith)
+      | then-response-center w ↦
+          let distance = simp to_z-of_z at w.abs_diff-above.ensures in
+          let order = simp to_z-of_z at w.if-response-center.true in
+          let sums = one_above y at i c.loop-response.above c.loop-response.below c.loop-response.invariant.0 w.abs_diff-above.result distance order in
+          (same_sums y at (i + 1) _ _ _ _ w.above-is w.below-is sums, omega arith)
+      | else-response-center w ↦
+          let distance = simp to_z-of_z at w.abs_diff-below.ensures in
+          let order = simp to_z-of_z at w.if-response-center.false in
+          let sums = one_below y at i c.loop-response.above c.loop-response.below c.loop-response.invariant.0 w.abs_diff-below.result distance order in
+          (same_sums y at (i + 1) _ _ _ _ w.above-is w.below-is sums, omega arith)
     ]

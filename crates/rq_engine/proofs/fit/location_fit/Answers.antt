@@ -38,7 +38,7 @@ returns c =
     let pairs : c.in_ok-list_of-3.field-0 ≡ pair ∷ [] = c.in_ok-list_of-3.ensures in
     let lists : c.in_ok-list_of-4.field-0 ≡ c.in_ok-list_of-3.field-0 ∷ [] = c.in_ok-list_of-4.ensures in
     let score : rational (value c.excess-score.result) ≡ score_at n (rational (value tau)) (place y n f) =
-        c.excess-score.ensures ∙ ap (λ t. score_at n t c.in_ok-fitted.fitted.place) c.quantile_of-level.ensures ∙ ap (score_at n (rational (value tau))) c.in_ok-fitted.ensures.placed in
+    c.excess-score.ensures ∙ ap (λ t. score_at n t c.in_ok-fitted.fitted.place) c.quantile_of-level.ensures ∙ ap (score_at n (rational (value tau))) c.in_ok-fitted.ensures.placed in
     record {
       kept = refl;
       dropped = refl;

@@ -31,9 +31,9 @@ returns g c =
     let rows : 1 ≤ n = omega arith in
     let some : 1 ≤ c.args.fitted.place = omega (arith, c.requires.placed) in
     let dual : rational (value c.excess-dual.result) ≡ dual_at n (rational (value tau)) (place y n f) =
-        c.excess-dual.ensures ∙ dual_from_score n c.args.fitted.place q (rational (value tau)) rows some c.requires.level ∙ ap (dual_at n (rational (value tau))) c.requires.placed in
+    c.excess-dual.ensures ∙ dual_from_score n c.args.fitted.place q (rational (value tau)) rows some c.requires.level ∙ ap (dual_at n (rational (value tau))) c.requires.placed in
     let lost : rational (value c.loss-loss.result) ≡ loss_around y n (rational (value tau)) (y f) =
-        c.loss-loss.ensures ∙ loss_from_sums y n (y f) q (rational (value tau)) c.distances_to.result.above c.distances_to.result.below c.requires.level c.distances_to.ensures.above c.distances_to.ensures.below in
+    c.loss-loss.ensures ∙ loss_from_sums y n (y f) q (rational (value tau)) c.distances_to.result.above c.distances_to.result.below c.requires.level c.distances_to.ensures.above c.distances_to.ensures.below in
     IfOk-weaker c.point_segment.result _ _
     (λ s is.
     subst (IsLocationSegment value y n f tau) (sym is)
