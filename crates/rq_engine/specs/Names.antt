@@ -1,5 +1,5 @@
 -- How a name is printed.
-use Rattle.std.specs.Prelude.{ℕ, ◌+◌, ◌/◌, ◌%◌, Bool, List, [], ◌∷◌, ◌++◌, nat_lt, ◌==◌, ◌||◌, codes, slice_index, if◌then◌else◌}
+use Rattle.std.specs.Prelude.{ℕ, ◌/◌, ◌%◌, Bool, List, [], ◌∷◌, ◌++◌, nat_lt, ◌==◌, ◌||◌, codes, slice_index, if◌then◌else◌}
 use Rattle.std.specs.List.{flat_map}
 
 -- whether a byte is written as an escape: below 32, 127 or the backslash

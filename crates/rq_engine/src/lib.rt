@@ -3,8 +3,8 @@
 
 mod column;
 mod fault;
-mod job;
 mod fit;
+mod job;
 mod lines;
 mod page;
 mod ranking;
