@@ -1,10 +1,10 @@
 -- The row at the optimal place nearest to the place of the first row is the fitted row.
-use Rattle.std.proofs.Common.{◌≡◌, ℕ, ◌+◌, ◌-◌, ◌*◌, ◌<◌, ◌≤◌, List, [], ◌∷◌, length, get_or, ℤ, pos, ◌-ℤ◌, ◌*ℤ◌, ◌≤ℤ◌, arith, refl, sym, ap, subst, ◌∙◌}
+use Rattle.std.proofs.Common.{◌≡◌, ℕ, ◌+◌, ◌-◌, ◌*◌, ◌<◌, ◌≤◌, List, [], ◌∷◌, length, get_or, ℤ, pos, ◌-ℤ◌, ◌*ℤ◌, arith, refl, sym, ap, subst, ◌∙◌}
 use Rattle.std.proofs.lemmas.Int.{ints}
 use Rattle.std.specs.Int.{abs_diff}
 use Rattle.std.specs.List.Sorted.{IsPermutation, IsSorted}
-use Rattle.exact_algebra.specs.Solver.{number, negated, ◌⊞◌, ◌⊟◌, ◌⊠◌, v0, v1, v2}
-use Rattle.exact_algebra.specs.Rational.{ℚ, ◌-ℚ◌, ◌*ℚ◌, whole, whole-mul, quotient, ◌≤ℚ◌, ring_ℚ}
+use Rattle.exact_algebra.specs.Solver.{number, ◌⊟◌, ◌⊠◌, v0, v1}
+use Rattle.exact_algebra.specs.Rational.{ℚ, ◌-ℚ◌, ◌*ℚ◌, whole, whole-mul, quotient, ring_ℚ}
 use Rattle.rq_engine.specs.Ranking.{response, place, IsOptimalPlace, IsFitted}
 use Rattle.rq_engine.proofs.Multiples.{whole-minus, le_from_multiples, multiples_from_le, multiple_of_product}
 use Rattle.rq_engine.proofs.Places.{Entry, entry_cmp, rows_of, place_within, sorted_place}

@@ -1,5 +1,5 @@
 -- The vertex of the fitted row is optimal.
-use Rattle.std.proofs.Common.{◌≡◌, ℕ, zero, suc, ◌+◌, ◌<◌, ◌≤◌, Bool, true, false, cond, not, eqb, List, [], ◌∷◌, length, get_or, map, slice_get, Option, Some, ℤ, pos, ◌-ℤ◌, ◌≤ℤ◌, int_cmp, nat_cmp, zero-add, arith, refl, sym, ap, subst, ◌∙◌}
+use Rattle.std.proofs.Common.{◌≡◌, ℕ, ◌<◌, Bool, true, false, cond, not, eqb, List, [], ◌∷◌, length, get_or, map, slice_get, Some, ℤ, pos, ◌-ℤ◌, ◌≤ℤ◌, int_cmp, nat_cmp, zero-add, arith, refl, sym, ap, subst, ◌∙◌}
 use borrow.Author.Tests.{eqb-true, eq-eqb}
 use Rattle.std.proofs.lemmas.Cmp.{int_ranked}
 use Rattle.std.proofs.lemmas.Int.{ints}
@@ -16,7 +16,7 @@ use Rattle.loss_model.specs.declared.problem.Problem.{Problem}
 use Rattle.loss_model.specs.declared.vertex.Side.{Side}
 use Rattle.loss_model.specs.declared.vertex.Side.TheVariants.{Up, Down, Basic}
 use Rattle.loss_model.specs.declared.vertex.Vertex.{Vertex}
-use Rattle.loss_model.specs.Sample.{Sample, up_cost, down_cost, residual, row_loss, loss, Minimises}
+use Rattle.loss_model.specs.Sample.{Sample, down_cost, residual, row_loss, loss}
 use Rattle.loss_model.specs.Dual.{IsFeasible, IsDual, rankscore}
 use Rattle.loss_model.specs.Problem.{value_at, sample}
 use Rattle.loss_model.specs.Vertex.{value_of_side, IsOn, basic_value, dual_value, IsVertexOf}

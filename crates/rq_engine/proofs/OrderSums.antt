@@ -1,5 +1,5 @@
 -- Sums over the rows of a value for each of the three ways in which a row may stand.
-use Rattle.std.proofs.Common.{◌≡◌, ℕ, zero, suc, ◌+◌, cond, List, [], ◌∷◌, pos, add-zero, refl, sym, ap, ◌∙◌}
+use Rattle.std.proofs.Common.{◌≡◌, ℕ, zero, suc, ◌+◌, cond, [], ◌∷◌, pos, add-zero, refl, sym, ap, ◌∙◌}
 use Rattle.std.specs.List.{count_by, range_with_len}
 use Rattle.std.specs.declared.cmp.Ordering.{Ordering}
 use Rattle.std.specs.declared.cmp.Ordering.TheVariants.{Less, Equal, Greater}

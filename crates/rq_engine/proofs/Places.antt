@@ -1,13 +1,13 @@
 -- The places of rows, and the sorted list of rows.
-use Rattle.std.proofs.Common.{◌≡◌, ℕ, zero, suc, ◌+◌, ◌<◌, ◌≤◌, Bool, true, false, cond, eqb, ltb, List, [], ◌∷◌, length, get_or, map, zero-add, ℤ, pos, ◌<ℤ◌, arith, refl, sym, ap, subst, ◌∙◌, ◌&&◌, ◌||◌, int_lt, int_le, int_cmp, nat_cmp}
-use borrow.Author.Tests.{eqb-true, eqb-false, eq-eqb, ne_eqb}
+use Rattle.std.proofs.Common.{◌≡◌, ℕ, zero, suc, ◌+◌, ◌<◌, ◌≤◌, Bool, true, false, cond, eqb, ltb, List, length, get_or, map, zero-add, ℤ, pos, ◌<ℤ◌, arith, refl, sym, ap, subst, ◌∙◌, ◌&&◌, ◌||◌, int_lt, int_le, int_cmp, nat_cmp}
+use borrow.Author.Tests.{eqb-true, eqb-false, ne_eqb}
 use Rattle.std.proofs.lemmas.Cmp.{tied_itself, ranked, int_ranked, then_total, on_total, back_total, int_cmp_total, nat_cmp_total}
 use Rattle.std.proofs.lemmas.List.Elements.{All-from_get_or, All-map}
 use Rattle.std.proofs.lemmas.List.FromFn.{fill_by_all, get_or-range_with_len, length-range_with_len}
-use Rattle.std.proofs.lemmas.List.Sorted.{All-permutation, length_permutation, sum_by-IsPermutation}
+use Rattle.std.proofs.lemmas.List.Sorted.{All-permutation, sum_by-IsPermutation}
 use Rattle.std.proofs.lemmas.List.Sums.{sum_by-cons, count_by-le-length}
 use Rattle.std.specs.Cmp.{IsTotalOrder}
-use Rattle.std.specs.List.{All, sum_by, count_by, range_with_len}
+use Rattle.std.specs.List.{All, count_by, range_with_len}
 use Rattle.std.specs.List.Sorted.{IsPermutation, IsSorted}
 use Rattle.std.specs.declared.cmp.Ordering.{Ordering}
 use Rattle.std.specs.declared.cmp.Ordering.TheVariants.{Less, Equal, Greater}

@@ -1,8 +1,8 @@
-use Rattle.std.proofs.Common.{◌≡◌, ◌+◌, ◌*◌, ◌^◌, ◌<◌, ◌≤◌, true, false, pos, ◌-ℤ◌, int_le, to_z, of_z, w64, get_or, length, unsigned_abs, rules, arith, sym, ap, subst, ◌∙◌}
-use Rattle.std.proofs.lemmas.Int.{ints, to_z-of_z}
+use Rattle.std.proofs.Common.{◌+◌, ◌<◌, pos, w64, get_or, length, rules, arith}
+use Rattle.std.proofs.lemmas.Int.{to_z-of_z}
 use mir.Val.{SFits}
 use Rattle.rq_engine.specs.Ranking.{response}
-use Rattle.rq_engine.proofs.Residuals.{AreSums, near, one_above, one_below, same_sums}
+use Rattle.rq_engine.proofs.Residuals.{near, one_above, one_below, same_sums}
 use Rattle.rq_engine.proofs.fit.distances_to.Goals as goal
 use Rattle.rq_engine.proofs.fit.distances_to.Goals.{then-response-center, else-response-center}
 

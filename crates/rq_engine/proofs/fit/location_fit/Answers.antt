@@ -1,6 +1,5 @@
-use Rattle.std.proofs.Common.{◌≡◌, ◌≤◌, List, length, [], ◌∷◌, pos, arith, refl, sym, ap, subst, ◌∙◌}
+use Rattle.std.proofs.Common.{◌≡◌, length, [], ◌∷◌, arith, refl, sym, ap, subst, ◌∙◌}
 use Rattle.std.specs.List.{AllZip}
-use Rattle.exact_algebra.specs.Rational.{quotient}
 use Rattle.exact_algebra.specs.Fraction.{Fraction, rational}
 use Rattle.frac_core.specs.declared.frac128.Frac128.{Frac128}
 use Rattle.loss_model.specs.Segment.{Covers, segments_of}

@@ -1,4 +1,4 @@
-use Rattle.std.proofs.Common.{◌≡◌, ℕ, ◌<◌, length, get_or, pos}
+use Rattle.std.proofs.Common.{◌≡◌, ℕ, ◌<◌, length, get_or}
 use Rattle.rq_engine.specs.Ranking.{response}
 use Rattle.rq_engine.specs.Fit.{IsUnitRow}
 use Rattle.rq_engine.proofs.fit.location_problem.Given as goal

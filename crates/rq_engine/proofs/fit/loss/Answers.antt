@@ -1,4 +1,4 @@
-use Rattle.std.proofs.Common.{◌≡◌, ◌+◌, ◌-◌, ◌*◌, ◌^◌, ◌≤◌, pos, to_z, arith, ap, ◌∙◌}
+use Rattle.std.proofs.Common.{◌-◌, ◌*◌, ◌^◌, arith, ◌∙◌}
 use Rattle.std.proofs.lemmas.Int.{ints}
 use Rattle.std.proofs.lemmas.Nat.{mul-le}
 use Rattle.rq_engine.proofs.Multiples.{weighted_is}

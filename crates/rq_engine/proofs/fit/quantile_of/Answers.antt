@@ -1,11 +1,10 @@
-use Rattle.std.proofs.Common.{rules, ◌≡◌, ◌≤◌, ℕ, ℤ, pos, negsuc, ◌≤ℤ◌, unsigned_abs, to_z, of_z, refl, arith, sym, ap, ◌∙◌}
+use Rattle.std.proofs.Common.{rules, ◌≡◌, ◌≤◌, ℤ, pos, negsuc, ◌≤ℤ◌, unsigned_abs, refl, arith, ap, ◌∙◌}
 use Rattle.std.proofs.lemmas.Int.{ints, to_z-of_z}
 use Rattle.std.specs.Int.{w128}
 use lib.Dec.{T}
 use lib.Signed.{non_neg}
 use mir.Val.{SFits}
-use Rattle.exact_algebra.specs.Fraction.{rational}
-use Rattle.exact_algebra.specs.Rational.{◌≤ℚ◌, whole, quotient}
+use Rattle.exact_algebra.specs.Rational.{quotient}
 use Rattle.rq_engine.proofs.Multiples.{parts_of_quantile}
 use Rattle.rq_engine.proofs.fit.quantile_of.Goals as goal
 

@@ -1,10 +1,9 @@
-use Rattle.std.proofs.Common.{◌≡◌, ◌-◌, length, pos, arith, sym, ap, ◌∙◌, subst}
+use Rattle.std.proofs.Common.{◌≡◌, length, pos, arith, ap, ◌∙◌, subst}
 use Rattle.std.proofs.lemmas.List.FromFn.{length-map-range_with_len}
 use Rattle.std.specs.List.Sorted.{IsPermutation}
 use Rattle.exact_algebra.specs.Rational.{quotient}
 use Rattle.rq_engine.specs.Ranking.{response, place, entry, IsFitted}
 use Rattle.rq_engine.proofs.Fitting.{fitted}
-use Rattle.rq_engine.proofs.Places.{Entry, rows_of}
 use Rattle.rq_engine.proofs.ranking.fitted_row.Goals as goal
 use Rattle.rq_engine.proofs.ranking.fitted_row.Goals.{After-drop-order}
 
