@@ -33,13 +33,6 @@ dual_from_score n k q tau rows some same =
     ∙ ap (λ z. ((z -ℚ ((whole (pos (n - 1)) +ℚ whole (pos 1)) *ℚ tau)) -ℚ whole (pos 1)) +ℚ tau) (sym (whole_after k some))
     ∙ ap (λ z. ((whole (pos k) -ℚ (z *ℚ tau)) -ℚ whole (pos 1)) +ℚ tau) (sym (whole_after n rows))
 
-pub loss_from_sums : (y : ℕ → ℤ) (n : ℕ) (c : ℤ) (q tau : ℚ) (a b : ℕ) → q ≡ tau → pos a ≡ sum_to n (λ i. positive_part (y i -ℤ c)) → pos b ≡ sum_to n (λ i. negative_part (y i -ℤ c))
-    → (q *ℚ whole (pos a)) +ℚ ((whole (pos 1) -ℚ q) *ℚ whole (pos b)) ≡ loss_around y n tau c
-loss_from_sums y n c q tau a b same above below =
-    ap (λ t. (t *ℚ whole (pos a)) +ℚ ((whole (pos 1) -ℚ t) *ℚ whole (pos b))) same
-    ∙ ap (λ z. (tau *ℚ whole z) +ℚ ((whole (pos 1) -ℚ tau) *ℚ whole (pos b))) above
-    ∙ ap (λ z. (tau *ℚ whole (sum_to n (λ i. positive_part (y i -ℤ c)))) +ℚ ((whole (pos 1) -ℚ tau) *ℚ whole z)) below
-
 module _ {F : Type 0} (value : F → Fraction) (p : Problem F) (y : ℕ → ℤ) (n f : ℕ) (tau : F) (s : Segment F) (model : IsLocationModel y n (sample value p)) (segment : IsLocationSegment value y n f tau s) (fitted : IsFitted y n (rational (value tau)) f) where
   pub right_segment : IsRightSegment value p s
   right_segment =

@@ -44,8 +44,8 @@ quantile_from_parts n d some within = (
 )
 
 -- (k*t - n*s) / t
-pub excess_is : (k n s t : ℕ) (z : ℤ) → 1 ≤ t → z ≡ pos (k * t) -ℤ pos (n * s) → quotient z t ≡ whole (pos k) -ℚ (whole (pos n) *ℚ quotient (pos s) t)
-excess_is k n s t z some is =
+pub score_is : (k n s t : ℕ) (z : ℤ) → 1 ≤ t → z ≡ pos (k * t) -ℤ pos (n * s) → quotient z t ≡ whole (pos k) -ℚ (whole (pos n) *ℚ quotient (pos s) t)
+score_is k n s t z some is =
     same_from_multiples t some (quotient z t) (whole (pos k) -ℚ (whole (pos n) *ℚ quotient (pos s) t)) z ((pos t *ℤ pos k) -ℤ (pos n *ℤ pos s))
     (sym (whole-quotient z t some)) multiple (omega (arith, ints))
   where

@@ -3,7 +3,8 @@ use Rattle.std.proofs.Common.{◌≡◌, ℕ, zero, suc, ◌+◌, ◌^◌, ◌<�
 use borrow.Author.Differences.{le-false}
 use Rattle.std.proofs.lemmas.Int.{ints}
 use Rattle.exact_algebra.specs.IntegerSums.{sum_to, positive_part, negative_part}
-use Rattle.exact_algebra.specs.Rational.{to_le}
+use Rattle.exact_algebra.specs.Rational.{ℚ, ◌+ℚ◌, ◌-ℚ◌, ◌*ℚ◌, whole, to_le}
+use Rattle.rq_engine.specs.Fit.{loss_around}
 
 -- the sums over the rows below i
 pub record AreSums (y : ℕ → ℤ) (c : ℤ) (i a b : ℕ) : Type 0 where
@@ -52,3 +53,9 @@ module _ (y : ℕ → ℤ) (c : ℤ) (i above below : ℕ) (sums : AreSums y c i
 
 pub same_sums : (y : ℕ → ℤ) (c : ℤ) (i a b a' b' : ℕ) → a' ≡ a → b' ≡ b → AreSums y c i a b → AreSums y c i a' b'
 same_sums y c i a b a' b' e f sums = record { above = ap pos e ∙ sums.above; below = ap pos f ∙ sums.below }
+
+pub loss_from_sums : (y : ℕ → ℤ) (n : ℕ) (c : ℤ) (tau : ℚ) (a b : ℕ) → pos a ≡ sum_to n (λ i. positive_part (y i -ℤ c)) → pos b ≡ sum_to n (λ i. negative_part (y i -ℤ c))
+    → (tau *ℚ whole (pos a)) +ℚ ((whole (pos 1) -ℚ tau) *ℚ whole (pos b)) ≡ loss_around y n tau c
+loss_from_sums y n c tau a b above below =
+    ap (λ z. (tau *ℚ whole z) +ℚ ((whole (pos 1) -ℚ tau) *ℚ whole (pos b))) above
+    ∙ ap (λ z. (tau *ℚ whole (sum_to n (λ i. positive_part (y i -ℤ c)))) +ℚ ((whole (pos 1) -ℚ tau) *ℚ whole z)) below

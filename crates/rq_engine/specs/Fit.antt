@@ -1,4 +1,5 @@
--- The fit of a column of whole numbers at one quantile. A type F of fractions is seen by a function into pairs.
+-- The fit of a column of whole numbers at one quantile, which is the regression on an intercept
+-- alone (Koenker 2005, section 1.3). A type F of fractions is seen by a function into pairs.
 use Rattle.std.specs.Prelude.{◌≡◌, ℕ, zero, suc, ◌<◌, List, [], ◌∷◌, codes, length, map, All, ℤ, pos, ◌-ℤ◌, Some, ◌==◌, if◌then◌else◌}
 use Rattle.std.specs.List.{range_with_len, AllZip}
 use Rattle.exact_algebra.specs.Rational.{ℚ, ◌+ℚ◌, ◌-ℚ◌, ◌*ℚ◌, neg_ℚ, whole}
@@ -31,11 +32,11 @@ pub record IsLocationModel (y : ℕ → ℤ) (n : ℕ) (p : Sample) : Type 0 whe
   pub observed : (i : ℕ) → i < n → IsDataRow p i
   pub weight : (i : ℕ) → i < n → p.up1 i ≡ whole (pos 1)
 
--- row f is fitted exactly, and the rows that stand before it lie below the fit
+-- row f is fitted exactly; the rows that stand before it count as below the fit, the others as above
 abbrev pub side_of : (ℕ → ℤ) → ℕ → ℕ → Side
 side_of y f i = if i == f then Basic else (if comes_before y i f then Down else Up)
 
--- the rankscore k - n*tau of the row at the place k of n rows, and its dual value
+-- the rankscore of the fitted row at the place k of n rows, and its dual value
 abbrev pub score_at : ℕ → ℚ → ℕ → ℚ
 score_at n tau k = whole (pos k) -ℚ (whole (pos n) *ℚ tau)
 
@@ -106,7 +107,8 @@ module _ {F : Type 0} (value : F → Fraction) where
       pub at_lo : All (λ q. rational (value q.at_lo) ≡ rankscore (sample value p) (rational (value s.lo)) (dual_value value p s.vertex s.basic_lo (rational (value s.lo))) q.row) pairs
       pub at_hi : All (λ q. rational (value q.at_hi) ≡ rankscore (sample value p) (rational (value s.hi)) (dual_value value p s.vertex s.basic_hi (rational (value s.hi))) q.row) pairs
 
--- the fit of the responses at tau
+-- the fit of the responses at tau is that of the rule: its one point covers tau, its vertex is that of the
+-- fitted row and optimal, its scores are the rankscores, and its trail leads to the fitted row
 pub record IsRightFit (value : Frac128 → Fraction) (ys : List ℤ) (tau : Frac128) (fit : Fit) : Type 0 where
   pub kept : fit.kept ≡ length ys
   pub dropped : fit.dropped ≡ 0

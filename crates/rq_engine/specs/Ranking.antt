@@ -1,4 +1,5 @@
--- The ranking of a column of whole numbers, and the row that is fitted at a quantile.
+-- The ranking of a column of whole numbers, and the row that is fitted at a quantile
+-- (Koenker 2005, section 1.3: a sample quantile as a minimiser).
 use Rattle.std.specs.Prelude.{ℕ, ◌+◌, ◌<◌, ◌≤◌, Bool, ◌&&◌, ◌||◌, List, ℤ, pos, int_lt, nat_lt, count_by, slice_index_or}
 use Rattle.std.specs.Int.{abs_diff}
 use Rattle.std.specs.List.{range_with_len}
@@ -18,11 +19,11 @@ comes_before y j i = int_lt (y j) (y i) || (int_eq (y j) (y i) && nat_lt i j)
 unfoldable pub place : (ℕ → ℤ) → ℕ → ℕ → ℕ
 place y n i = 1 + count_by (λ j. comes_before y j i) (range_with_len 0 n)
 
--- row j as it is sorted
+-- what stands for row j when the rows are sorted
 abbrev pub entry : (ℕ → ℤ) → ℕ → ℤ × Reverse ℕ
 entry y j = (y j, record { 0 = j })
 
--- k - 1 <= n*tau <= k: the row at the place k of n rows can be fitted at tau
+-- k - 1 <= n*tau <= k: the response at the place k of n is a quantile at tau
 pub record IsOptimalPlace (n : ℕ) (tau : ℚ) (k : ℕ) : Type 0 where
   pub low : (whole (pos k) -ℚ whole (pos 1)) ≤ℚ (whole (pos n) *ℚ tau)
   pub high : (whole (pos n) *ℚ tau) ≤ℚ whole (pos k)

@@ -1,11 +1,11 @@
 //! The fit of a column of whole numbers at one quantile: a sample quantile.
 ghost use Rattle.std.specs.Prelude.{◌≡◌, ◌+◌, ◌*◌, ◌^◌, ◌<◌, ◌≤◌, ℕ, ℤ, pos, ◌-ℤ◌, [], ◌∷◌, length, All, IfOk, unsigned_abs};
 ghost use Rattle.exact_algebra.specs.Fraction.{rational};
-ghost use Rattle.exact_algebra.specs.Rational.{◌≤ℚ◌, ◌+ℚ◌, ◌-ℚ◌, ◌*ℚ◌, whole, quotient};
+ghost use Rattle.exact_algebra.specs.Rational.{◌≤ℚ◌, whole, quotient};
 ghost use Rattle.exact_algebra.specs.IntegerSums.{sum_to, positive_part, negative_part};
 ghost use Rattle.loss_model.specs.Problem.{sample, IsWellShaped};
 ghost use Rattle.rq_engine.specs.Ranking.{response, place};
-ghost use Rattle.rq_engine.specs.Fit.{IsUnitRow, IsLocationModel, IsLocationVertex, IsLocationSegment, IsRightFit, trail_to};
+ghost use Rattle.rq_engine.specs.Fit.{IsUnitRow, IsLocationModel, IsLocationVertex, IsLocationSegment, IsRightFit, score_at, loss_around, trail_to};
 
 use crate::ranking::{Fitted, Quantile, fitted_row, sides};
 use crate::report::{Fit, ScorePair};
@@ -76,19 +76,18 @@ fn location_problem<F: Exact>(alloc: Global, responses: &[i64]) -> Result<Proble
     })
 }
 
-// `place - rows*tau`.
-fn excess<F: Exact>(rows: u64, tau: Quantile, place: u64) -> F
+// The rankscore of the row at a place.
+fn score_at<F: Exact>(rows: u64, tau: Quantile, place: u64) -> F
     requires few { rows ≤ 1000 }
     requires small { place ≤ 1000 }
-    ensures { rational (F.value result) ≡ whole (pos place) -ℚ (whole (pos rows) *ℚ quotient (pos tau.numerator) tau.denominator) }
+    ensures { rational (F.value result) ≡ score_at rows (quotient (pos tau.numerator) tau.denominator) place }
 {
     let above = (place * tau.denominator) as i128;
     let below = (rows * tau.numerator) as i128;
     ratio(above - below, tau.denominator)
 }
 
-// The sums of the residuals around the fit: of those that are positive, and of the sizes of those
-// that are negative.
+// The sums of the sizes of residuals: of those above the fit, and of those below it.
 #[derive(Clone, Copy)]
 struct Distances {
     above: u64,
@@ -116,12 +115,15 @@ fn distances_to(responses: &[i64], fitted: usize) -> Distances
     Distances { above, below }
 }
 
-// The check loss of residuals with these sums.
-fn loss<F: Exact>(tau: Quantile, distances: Distances) -> F
-    requires { distances.above + distances.below ≤ 2 * 10 ^ 12 }
-    ensures { let q = quotient (pos tau.numerator) tau.denominator in
-        rational (F.value result) ≡ (q *ℚ whole (pos distances.above)) +ℚ ((whole (pos 1) -ℚ q) *ℚ whole (pos distances.below)) }
+// The check loss of the responses around the fitted one.
+fn loss_around<F: Exact>(responses: &[i64], tau: Quantile, fitted: usize) -> F
+    requires within { fitted < length responses.now }
+    requires few { length responses.now ≤ 1000 }
+    requires small { All (λ y. unsigned_abs y < 10 ^ 9) responses.now }
+    ensures { rational (F.value result) ≡ loss_around (response responses.now) (length responses.now)
+        (quotient (pos tau.numerator) tau.denominator) (response responses.now fitted) }
 {
+    let distances = distances_to(responses, fitted);
     let above = tau.numerator * distances.above;
     let below = (tau.denominator - tau.numerator) * distances.below;
     ratio((above + below) as i128, tau.denominator)
@@ -187,8 +189,9 @@ fn location_segment<F: Exact>(
 {
     let rows = responses.len() as u64;
     let vertex = location_vertex(alloc, responses, fitted.row)?;
-    let dual = excess(rows - 1, level, fitted.place - 1);
-    let loss = loss(level, distances_to(responses, fitted.row as usize));
+    // Its dual value is the rankscore of the place before it among one row less.
+    let dual = score_at(rows - 1, level, fitted.place - 1);
+    let loss = loss_around(responses, level, fitted.row as usize);
     point_segment(alloc, tau, vertex, dual, loss)
 }
 
@@ -230,7 +233,7 @@ fn location_fit(alloc: Global, responses: &[i64], tau: Frac128) -> Result<Fit, A
     let level = quantile_of(tau);
     let fitted = fitted_row(alloc, responses, level)?;
     let segment = location_segment(alloc, responses, tau, level, fitted)?;
-    let score = excess(responses.len() as u64, level, fitted.place);
+    let score = score_at(responses.len() as u64, level, fitted.place);
     let pair = ScorePair {
         row: fitted.row,
         at_lo: score,

@@ -13,8 +13,8 @@ use Rattle.rq_engine.proofs.fit.location_fit.Goals as goal
 abbrev value : Frac128 → Fraction
 value x = record { num = x.num; den = x.den }
 
-pub excess-score-requires-clause-small : goal.excess-score-requires-clause-small
-excess-score-requires-clause-small c =
+pub score_at-score-requires-clause-small : goal.score_at-score-requires-clause-small
+score_at-score-requires-clause-small c =
     let ys = c.args.responses.now in
     let fitted = c.in_ok-fitted.ensures in
     omega (arith, fitted.placed, c.requires.few, (place_within (response ys) (length ys) c.in_ok-fitted.fitted.row fitted.fitted.within).1)
@@ -33,11 +33,11 @@ returns c =
     let fitted : IsFitted y n (rational (value tau)) f = subst (λ t. IsFitted y n t f) c.quantile_of-level.ensures c.in_ok-fitted.ensures.fitted in
     let name : c.in_ok-list_of.field-0 ≡ c.from-intercept.result ∷ [] = c.in_ok-list_of.ensures in
     let segments : c.in_ok-list_of-2.field-0 ≡ segment ∷ [] = c.in_ok-list_of-2.ensures in
-    let pair : ScorePair Frac128 = record { row = f; at_lo = c.excess-score.result; at_hi = c.excess-score.result } in
+    let pair : ScorePair Frac128 = record { row = f; at_lo = c.score_at-score.result; at_hi = c.score_at-score.result } in
     let pairs : c.in_ok-list_of-3.field-0 ≡ pair ∷ [] = c.in_ok-list_of-3.ensures in
     let lists : c.in_ok-list_of-4.field-0 ≡ c.in_ok-list_of-3.field-0 ∷ [] = c.in_ok-list_of-4.ensures in
-    let score : rational (value c.excess-score.result) ≡ score_at n (rational (value tau)) (place y n f) =
-    c.excess-score.ensures ∙ ap (λ t. score_at n t c.in_ok-fitted.fitted.place) c.quantile_of-level.ensures ∙ ap (score_at n (rational (value tau))) c.in_ok-fitted.ensures.placed in
+    let score : rational (value c.score_at-score.result) ≡ score_at n (rational (value tau)) (place y n f) =
+    c.score_at-score.ensures ∙ ap (λ t. score_at n t c.in_ok-fitted.fitted.place) c.quantile_of-level.ensures ∙ ap (score_at n (rational (value tau))) c.in_ok-fitted.ensures.placed in
     record {
       kept = refl;
       dropped = refl;

@@ -4,7 +4,7 @@ use Rattle.exact_algebra.specs.Rational.{quotient}
 use Rattle.exact_algebra.specs.Fraction.{rational}
 use Rattle.rq_engine.specs.Ranking.{response, place}
 use Rattle.rq_engine.specs.Fit.{IsLocationSegment, dual_at, loss_around}
-use Rattle.rq_engine.proofs.LocationFits.{dual_from_score, loss_from_sums}
+use Rattle.rq_engine.proofs.LocationFits.{dual_from_score}
 use Rattle.rq_engine.proofs.Places.{place_within}
 use Rattle.rq_engine.proofs.fit.location_segment.Goals as goal
 
@@ -13,8 +13,8 @@ overflow_sub-fitted g c =
     let ys = c.args.responses.now in
     omega (arith, c.requires.placed, (place_within (response ys) (length ys) c.args.fitted.row c.requires.within).0)
 
-pub excess-dual-requires-clause-small : goal.excess-dual-requires-clause-small
-excess-dual-requires-clause-small g c =
+pub score_at-dual-requires-clause-small : goal.score_at-dual-requires-clause-small
+score_at-dual-requires-clause-small g c =
     let ys = c.args.responses.now in
     omega (arith, c.requires.placed, c.requires.few, (place_within (response ys) (length ys) c.args.fitted.row c.requires.within).1)
 
@@ -30,10 +30,10 @@ returns g c =
     let places = place_within y n f c.requires.within in
     let rows : 1 ≤ n = omega arith in
     let some : 1 ≤ c.args.fitted.place = omega (arith, c.requires.placed) in
-    let dual : rational (value c.excess-dual.result) ≡ dual_at n (rational (value tau)) (place y n f) =
-    c.excess-dual.ensures ∙ dual_from_score n c.args.fitted.place q (rational (value tau)) rows some c.requires.level ∙ ap (dual_at n (rational (value tau))) c.requires.placed in
-    let lost : rational (value c.loss-loss.result) ≡ loss_around y n (rational (value tau)) (y f) =
-    c.loss-loss.ensures ∙ loss_from_sums y n (y f) q (rational (value tau)) c.distances_to.result.above c.distances_to.result.below c.requires.level c.distances_to.ensures.above c.distances_to.ensures.below in
+    let dual : rational (value c.score_at-dual.result) ≡ dual_at n (rational (value tau)) (place y n f) =
+    c.score_at-dual.ensures ∙ dual_from_score n c.args.fitted.place q (rational (value tau)) rows some c.requires.level ∙ ap (dual_at n (rational (value tau))) c.requires.placed in
+    let lost : rational (value c.loss_around-loss.result) ≡ loss_around y n (rational (value tau)) (y f) =
+    c.loss_around-loss.ensures ∙ ap (λ t. loss_around y n t (y f)) c.requires.level in
     IfOk-weaker c.point_segment.result _ _
     (λ s is.
     subst (IsLocationSegment value y n f tau) (sym is)

@@ -1,8 +1,8 @@
 use Rattle.std.proofs.Common.{arith, ◌∙◌}
 use Rattle.std.proofs.lemmas.Int.{ints}
 use Rattle.std.proofs.lemmas.Nat.{mul-le}
-use Rattle.rq_engine.proofs.Multiples.{excess_is}
-use Rattle.rq_engine.proofs.fit.excess.Goals as goal
+use Rattle.rq_engine.proofs.Multiples.{score_is}
+use Rattle.rq_engine.proofs.fit.score_at.Goals as goal
 
 pub returns : goal.returns
 returns g c =
@@ -10,4 +10,4 @@ returns g c =
     let s = c.args.tau.numerator in
     let above = mul-le c.args.place t 1000 1000 c.requires.small c.args.tau.bounded in
     let below = mul-le c.args.rows s 1000 1000 c.requires.few (omega arith) in
-    c.ratio.ensures ∙ excess_is c.args.place c.args.rows s t _ c.args.tau.positive (omega (arith, ints))
+    c.ratio.ensures ∙ score_is c.args.place c.args.rows s t _ c.args.tau.positive (omega (arith, ints))
