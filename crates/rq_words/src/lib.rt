@@ -78,3 +78,6 @@ fn has_long(words: &[String]) -> bool
 {
     words.iter().skip(1).any(|word| word.len() >= LONG_WORD)
 }
+
+#[cfg(test)]
+mod tests;
