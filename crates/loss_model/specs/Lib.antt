@@ -4,3 +4,4 @@ pub mod Problem
 pub mod Vertex
 pub mod Segment
 pub mod Scaled
+pub mod Laws

@@ -3,13 +3,13 @@ use Rattle.std.specs.Prelude.{◌≡◌, ◌↔◌, ℕ, ◌<◌, List, length, 
 use Rattle.std.specs.Option.{option_map_or}
 use Rattle.std.specs.List.{position_or_len}
 use Rattle.std.specs.List.Sorted.{IsStrictlyIncreasing}
-use Rattle.exact_algebra.specs.Rational.{ℚ, neg_ℚ, whole}
+use Rattle.exact_algebra.specs.Rational.{ℚ, neg_ℚ, whole, ◌≤ℚ◌}
 use Rattle.exact_algebra.specs.Fraction.{Fraction}
 use Rattle.loss_model.specs.declared.problem.Problem.{Problem}
 use Rattle.loss_model.specs.declared.vertex.Side.{Side}
 use Rattle.loss_model.specs.declared.vertex.Side.TheVariants.{Up, Down, Basic}
 use Rattle.loss_model.specs.declared.vertex.Vertex.{Vertex}
-use Rattle.loss_model.specs.Sample.{Sample, up_cost, down_cost}
+use Rattle.loss_model.specs.Sample.{Sample, up_cost, down_cost, residual}
 use Rattle.loss_model.specs.Problem.{value_at, sample}
 
 -- the up cost, the negated down cost, or the basic value of row i
@@ -17,6 +17,13 @@ abbrev pub value_of_side : Sample → ℚ → (ℕ → ℚ) → ℕ → Side →
 value_of_side p theta basic i Up = up_cost p theta i
 value_of_side p theta basic i Down = neg_ℚ (down_cost p theta i)
 value_of_side p theta basic i Basic = basic i
+
+-- row i lies on the side at the coefficients b: above the fit at its up cost, below it at its
+-- negated down cost, or fitted exactly (complementary slackness)
+abbrev pub IsOnSide : Sample → ℚ → (ℕ → ℚ) → (ℕ → ℚ) → ℕ → Side → Type 0
+IsOnSide p theta b e i Up = (whole (pos 0) ≤ℚ residual p b i) × (e i ≡ up_cost p theta i)
+IsOnSide p theta b e i Down = (residual p b i ≤ℚ whole (pos 0)) × (e i ≡ neg_ℚ (down_cost p theta i))
+IsOnSide p theta b e i Basic = residual p b i ≡ whole (pos 0)
 
 -- the value of row i in a list that goes by the rows of the basis
 abbrev pub basic_value : {F : Type 0} → (F → Fraction) → Vertex F → List F → ℕ → ℚ

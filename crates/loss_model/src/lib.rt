@@ -6,6 +6,7 @@
 //! (`frac_core`) and on the algebra below them (`exact_algebra`).
 #![tactic(auto)]
 
+pub mod laws;
 mod problem;
 mod process;
 mod spill;
