@@ -5,3 +5,7 @@ pub mod Vertex
 pub mod Segment
 pub mod Scaled
 pub mod Laws
+pub mod FullRank
+pub mod Greedy
+pub mod Quantities
+pub mod StartStop

@@ -10,9 +10,11 @@ pub mod laws;
 mod problem;
 mod process;
 mod spill;
+mod stop;
 mod vertex;
 
 pub use problem::{Problem, Row};
 pub use process::{Exchange, Process, Segment, Trail};
 pub use spill::{Quantity, Short, Site, Spill};
+pub use stop::Stop;
 pub use vertex::{Basis, Side, Vertex};
