@@ -8,7 +8,7 @@ use Rattle.loss_model.specs.declared.vertex.Side.{Side}
 use Rattle.loss_model.specs.declared.vertex.Side.TheVariants.{Up, Down, Basic}
 use Rattle.loss_model.specs.Sample.{Sample, up_cost, down_cost, fitted, residual, row_loss, loss}
 use Rattle.loss_model.specs.Dual.{IsFeasible, dual_objective, IsDual}
-use Rattle.loss_model.specs.Vertex.{IsOnSide}
+use Rattle.loss_model.specs.Vertex.{value_of_side, IsOn}
 use Rattle.loss_model.specs.Laws.{WeakDuality, DualsShowMinimum, DualsAreGreatest, SidesShowDuals}
 
 abbrev IsBalanced : Sample → (ℕ → ℚ) → Type 0
@@ -103,16 +103,16 @@ cost_below u v r h =
     ap (λ z. (u *ℚ z) +ℚ (v *ℚ negative_ℚ r)) (positive_below r h) ∙ ap (λ z. (u *ℚ whole (pos 0)) +ℚ (v *ℚ z)) (negative_below r h)
     ∙ ring_ℚ (u ∷ v ∷ r ∷ []) (v0 ⊠ number (pos 0) ⊞ v1 ⊠ negated v2) (v1 ⊠ negated v2) refl
 
-on_side : (p : Sample) (theta : ℚ) (b e : ℕ → ℚ) (i : ℕ) (s : Side) → IsOnSide p theta b e i s → e i *ℚ residual p b i ≡ row_loss p theta b i
-on_side p theta b e i Up h =
-    ap (λ z. z *ℚ residual p b i) h.1 ∙ sym (cost_above (up_cost p theta i) (down_cost p theta i) (residual p b i) h.0)
-on_side p theta b e i Down h =
-    ap (λ z. z *ℚ residual p b i) h.1 ∙ ring_ℚ (down_cost p theta i ∷ residual p b i ∷ []) (negated v0 ⊠ v1) (v0 ⊠ negated v1) refl
-    ∙ sym (cost_below (up_cost p theta i) (down_cost p theta i) (residual p b i) h.0)
-on_side p theta b e i Basic h =
+on_side : (p : Sample) (theta : ℚ) (b e : ℕ → ℚ) (i : ℕ) (s : Side) → IsOn s (residual p b i) → e i ≡ value_of_side p theta e i s → e i *ℚ residual p b i ≡ row_loss p theta b i
+on_side p theta b e i Up h k =
+    ap (λ z. z *ℚ residual p b i) k ∙ sym (cost_above (up_cost p theta i) (down_cost p theta i) (residual p b i) h)
+on_side p theta b e i Down h k =
+    ap (λ z. z *ℚ residual p b i) k ∙ ring_ℚ (down_cost p theta i ∷ residual p b i ∷ []) (negated v0 ⊠ v1) (v0 ⊠ negated v1) refl
+    ∙ sym (cost_below (up_cost p theta i) (down_cost p theta i) (residual p b i) h)
+on_side p theta b e i Basic h k =
     ap (λ z. e i *ℚ z) h ∙ ring_ℚ (e i ∷ up_cost p theta i ∷ []) (v0 ⊠ number (pos 0)) (v1 ⊠ number (pos 0)) refl
     ∙ ap (λ z. up_cost p theta i *ℚ z) (sym h)
     ∙ sym (cost_above (up_cost p theta i) (down_cost p theta i) (residual p b i) (subst (λ z. whole (pos 0) ≤ℚ z) (sym h) (≤ℚ_refl (whole (pos 0)))))
 
 pub sides : SidesShowDuals
-sides p theta b e side f each = slack p theta b e f (λ i l. on_side p theta b e i (side i) (each i l))
+sides p theta b e side f each = slack p theta b e f (λ i l. on_side p theta b e i (side i) (each i l).0 (each i l).1)

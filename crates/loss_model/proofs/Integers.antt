@@ -3,7 +3,7 @@ use Rattle.std.specs.Prelude.{◌≡◌, ◌↔◌, ℕ, zero, suc, ◌+◌, ◌
 use Rattle.std.proofs.Common.{arith, refl, sym, ap, subst, ◌∙◌}
 use mathlib.Core.Bool.{Bool-set}
 use Rattle.exact_algebra.specs.IntegerSums.{sum_to}
-use Rattle.exact_algebra.specs.Solver.{number, negated, ◌⊞◌, ◌⊟◌, ◌⊠◌, v0, v1, v2, v3, v4, v5, v6}
+use Rattle.exact_algebra.specs.Solver.{number, negated, ◌⊞◌, ◌⊟◌, ◌⊠◌, v0, v1, v2, v3, v4, v5, v6, v7}
 use Rattle.exact_algebra.specs.Rational.{ℚ, ◌+ℚ◌, ◌*ℚ◌, neg_ℚ, inverse, quotient, whole, whole-add, whole-mul, one-*ℚ, ◌≤ℚ◌, le_ℚ, ring_ℚ, ring_by_ℚ, ≤ℚ_mul}
 use Rattle.exact_algebra.specs.RationalSums.{sum_ℚ, sum_ℚ-same, sum_ℚ-scale}
 use Rattle.exact_algebra.specs.WholeNumbers.{whole-le, le_from_whole, same_from_whole, whole-neg, whole-sum}
@@ -164,3 +164,91 @@ module _ (q : ℕ) (p : Sample) (w : Scaled) (s : Scales q p w) (qp : 1 ≤ q) (
         λ h. record { feasible = feasible.0 h.feasible; equal = equal_of.0 h.equal },
         λ h. record { feasible = feasible.1 h.feasible; equal = equal_of.1 h.equal },
       )
+
+-- ---- the laws of whole numbers, from those of fractions
+
+-- whole numbers as a sample of fractions
+abbrev embedded : Scaled → Sample
+embedded w =
+    record {
+      rows = w.rows;
+      columns = w.columns;
+      x = λ i k. whole (w.x i k);
+      y = λ i. whole (w.y i);
+      up0 = λ i. whole (w.up0 i);
+      up1 = λ i. whole (w.up1 i);
+      down0 = λ i. whole (w.down0 i);
+      down1 = λ i. whole (w.down1 i);
+    }
+
+once : (w : Scaled) → Scales 1 (embedded w) w
+once w =
+    record {
+      rows = refl;
+      columns = refl;
+      x = λ i k. sym (one-*ℚ (whole (w.x i k)));
+      y = λ i. sym (one-*ℚ (whole (w.y i)));
+      up0 = λ i. sym (one-*ℚ (whole (w.up0 i)));
+      up1 = λ i. sym (one-*ℚ (whole (w.up1 i)));
+      down0 = λ i. sym (one-*ℚ (whole (w.down0 i)));
+      down1 = λ i. sym (one-*ℚ (whole (w.down1 i)));
+    }
+
+over_all : (n : ℕ) (c : ℕ → ℤ) (d : ℕ) → 1 ≤ d → IsOver n c d (λ k. quotient (c k) d)
+over_all n c d h = record { each = λ k l. whole-quotient (c k) d h }
+
+as_fractions : (w : Scaled) (theta : Fraction) (c : ℕ → ℤ) (d : ℕ) (e : ℕ → ℤ) (g : ℕ) → 1 ≤ theta.den → 1 ≤ d → 1 ≤ g
+    → exact_dual.IsDual (embedded w) (rational theta) (λ k. quotient (c k) d) (λ i. quotient (e i) (1 * g)) ↔ IsDual w theta c d e g
+as_fractions w theta c d e g tp dp gp =
+    duals 1 (embedded w) w (once w) (omega arith) theta tp e g (λ i. quotient (e i) (1 * g)) gp (over_all w.rows e (1 * g) (omega arith)) c d (λ k. quotient (c k) d) dp (over_all w.columns c d dp)
+
+pub minimum_of : DualsShowMinimumInIntegers
+minimum_of w theta c d e g tp dp gp h =
+    (minima 1 (embedded w) w (once w) (omega arith) theta tp c d (λ k. quotient (c k) d) dp (over_all w.columns c d dp)).0
+    (minimum (embedded w) (rational theta) (λ k. quotient (c k) d) (λ i. quotient (e i) (1 * g)) ((as_fractions w theta c d e g tp dp gp).1 h))
+
+-- a mix of two quotients over one denominator
+mix-quotient : (m n : ℕ) (a b : ℤ) (g h : ℕ) → 1 ≤ g → 1 ≤ h → 0 < m + n → whole ((pos m *ℤ (a *ℤ pos h)) +ℤ (pos n *ℤ (b *ℤ pos g))) ≡ whole (pos ((m + n) * (g * h))) *ℚ mix m n (quotient a g) (quotient b h)
+mix-quotient m n a b g h gp hp some =
+    whole-add (pos m *ℤ (a *ℤ pos h)) (pos n *ℤ (b *ℤ pos g))
+    ∙ ap (λ z. z +ℚ whole (pos n *ℤ (b *ℤ pos g))) (whole-mul (pos m) (a *ℤ pos h) ∙ ap (λ z. whole (pos m) *ℚ z) (whole-mul a (pos h) ∙ ap (λ z. z *ℚ whole (pos h)) (whole-quotient a g gp)))
+    ∙ ap (λ z. (whole (pos m) *ℚ ((whole (pos g) *ℚ x) *ℚ whole (pos h))) +ℚ z) (whole-mul (pos n) (b *ℤ pos g) ∙ ap (λ z. whole (pos n) *ℚ z) (whole-mul b (pos g) ∙ ap (λ z. z *ℚ whole (pos g)) (whole-quotient b h hp)))
+    ∙ ring_by_ℚ (whole (pos m) ∷ whole (pos n) ∷ whole (pos g) ∷ whole (pos h) ∷ x ∷ y ∷ inverse (whole (pos (m + n))) ∷ whole (pos (m + n)) ∷ [])
+    (v0 ⊠ ((v2 ⊠ v4) ⊠ v3) ⊞ v1 ⊠ ((v3 ⊠ v5) ⊠ v2)) ((v7 ⊠ (v2 ⊠ v3)) ⊠ ((v0 ⊠ v4 ⊞ v1 ⊠ v5) ⊠ v6))
+    (negated ((v2 ⊠ v3) ⊠ (v0 ⊠ v4 ⊞ v1 ⊠ v5))) (v7 ⊠ v6) (number (pos 1)) refl (inverse_of (m + n) (omega arith))
+    ∙ ap (λ z. z *ℚ mix m n x y) (sym (whole-3 (m + n) g h))
+  where
+    x : ℚ
+    x = quotient a g
+
+    y : ℚ
+    y = quotient b h
+
+between-mix : (m n : ℕ) (lo hi : Fraction) → 1 ≤ lo.den → 1 ≤ hi.den → 0 < m + n → rational (between m n lo hi) ≡ mix m n (rational lo) (rational hi)
+between-mix m n lo hi p q some =
+    sym (is_quotient (mix m n (rational lo) (rational hi)) (between m n lo hi).num ((m + n) * (lo.den * hi.den)) (one_le (m + n) (lo.den * hi.den) (omega arith) (one_le lo.den hi.den p q))
+    (sym (mix-quotient m n lo.num hi.num lo.den hi.den p q some)))
+
+one-times : (n : ℕ) → n ≡ 1 * n
+one-times n = omega arith
+
+over_mix : (r m n : ℕ) (e f : ℕ → ℤ) (g h : ℕ) → 1 ≤ g → 1 ≤ h → 0 < m + n → IsOver r (mixed m n e g f h) (1 * ((m + n) * (g * h))) (λ i. mix m n (quotient (e i) (1 * g)) (quotient (f i) (1 * h)))
+over_mix r m n e f g h gp hp some =
+    record {
+      each = λ i l.
+          mix-quotient m n (e i) (f i) g h gp hp some
+          ∙ ap (λ k. whole (pos ((m + n) * (g * h))) *ℚ mix m n (quotient (e i) k) (quotient (f i) h)) (one-times g)
+          ∙ ap (λ k. whole (pos ((m + n) * (g * h))) *ℚ mix m n (quotient (e i) (1 * g)) (quotient (f i) k)) (one-times h)
+          ∙ ap (λ k. whole (pos k) *ℚ mix m n (quotient (e i) (1 * g)) (quotient (f i) (1 * h))) (one-times ((m + n) * (g * h)));
+    }
+
+pub mixed_of : MixIsDualInIntegers
+mixed_of w lo hi c d e f g h m n lp up dp gp hp some a b =
+    let bp = one_le (m + n) (lo.den * hi.den) (omega arith) (one_le lo.den hi.den lp up) in
+    let kp = one_le (m + n) (g * h) (omega arith) (one_le g h gp hp) in
+    let x = λ (i : ℕ). mix m n (quotient (e i) (1 * g)) (quotient (f i) (1 * h)) in
+    (duals 1 (embedded w) w (once w) (omega arith) (between m n lo hi) bp (mixed m n e g f h) ((m + n) * (g * h)) x kp (over_mix w.rows m n e f g h gp hp some)
+    c d (λ k. quotient (c k) d) dp (over_all w.columns c d dp)).0
+    (subst (λ t. exact_dual.IsDual (embedded w) t (λ k. quotient (c k) d) x) (sym (between-mix m n lo hi lp up some))
+    (mixes.mixed (embedded w) (rational lo) (rational hi) (λ k. quotient (c k) d) (λ i. quotient (e i) (1 * g)) (λ i. quotient (f i) (1 * h)) m n some
+    ((as_fractions w lo c d e g lp dp gp).1 a) ((as_fractions w hi c d f h up dp hp).1 b)))

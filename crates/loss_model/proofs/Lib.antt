@@ -6,3 +6,5 @@ pub mod Rankscores
 pub mod Scales
 pub mod CommonDenominators
 pub mod Integers
+pub mod Denominators
+pub mod Vertices

@@ -1,12 +1,13 @@
 -- What the laws of quantile regression say; each is the contract of a function.
-use Rattle.std.specs.Prelude.{◌≡◌, ◌↔◌, ℕ, ◌+◌, ◌*◌, ◌<◌, ◌≤◌, List, map, ℤ, pos}
+use Rattle.std.specs.Prelude.{◌≡◌, ◌↔◌, ℕ, ◌+◌, ◌*◌, ◌<◌, ◌≤◌, List, length, map, slice_get, Some, ℤ, pos}
 use Rattle.exact_algebra.specs.Rational.{ℚ, whole, ◌≤ℚ◌, quotient}
 use Rattle.exact_algebra.specs.Fraction.{Fraction, rational, common}
 use Rattle.loss_model.specs.declared.problem.Problem.{Problem}
 use Rattle.loss_model.specs.declared.vertex.Side.{Side}
-use Rattle.loss_model.specs.Sample.{Sample, loss, Minimises}
+use Rattle.loss_model.specs.declared.vertex.Vertex.{Vertex}
+use Rattle.loss_model.specs.Sample.{Sample, residual, loss, Minimises}
 use Rattle.loss_model.specs.Dual.{IsFeasible, dual_objective, IsDual, mix, IsDataRow, rankscore}
-use Rattle.loss_model.specs.Vertex.{IsOnSide}
+use Rattle.loss_model.specs.Vertex.{value_of_side, IsOn, dual_value}
 use Rattle.loss_model.specs.Problem.{value_at, sample}
 use Rattle.loss_model.specs.Scaled.{Scaled, unit, scaled, over_at, between, mixed}
 use Rattle.loss_model.specs.Scaled as integers
@@ -26,11 +27,19 @@ DualsAreGreatest =
     (p : Sample) (theta : ℚ) (b e other : ℕ → ℚ) → IsDual p theta b e → IsFeasible p theta other
     → dual_objective p other ≤ℚ dual_objective p e
 
--- feasible dual values are of equal cost where each row lies on the side that its value says
+-- feasible dual values are of equal cost where each row has the value of a side on which its residual lies
 abbrev pub SidesShowDuals : Type 0
 SidesShowDuals =
     (p : Sample) (theta : ℚ) (b e : ℕ → ℚ) (side : ℕ → Side) → IsFeasible p theta e
-    → ((i : ℕ) → i < p.rows → IsOnSide p theta b e i (side i)) → IsDual p theta b e
+    → ((i : ℕ) → i < p.rows → IsOn (side i) (residual p b i) × (e i ≡ value_of_side p theta e i (side i))) → IsDual p theta b e
+
+-- so it is at a vertex whose sides are those of the residuals
+abbrev pub VertexIsDual : {F : Type 0} → (F → Fraction) → Problem F → Vertex F → List F → Type 0
+VertexIsDual value p v basic =
+    (theta : ℚ) → length v.sides ≡ length p.rows
+    → ((i : ℕ) (side : Side) → slice_get v.sides i ≡ Some side → IsOn side (residual (sample value p) (value_at value v.coef) i))
+    → IsFeasible (sample value p) theta (dual_value value p v basic theta)
+    → IsDual (sample value p) theta (value_at value v.coef) (dual_value value p v basic theta)
 
 -- dual values at two ends give dual values at every mix of them
 abbrev pub MixIsDual : Type 0

@@ -9,7 +9,7 @@ use Rattle.loss_model.specs.declared.problem.Problem.{Problem}
 use Rattle.loss_model.specs.declared.vertex.Side.{Side}
 use Rattle.loss_model.specs.declared.vertex.Side.TheVariants.{Up, Down, Basic}
 use Rattle.loss_model.specs.declared.vertex.Vertex.{Vertex}
-use Rattle.loss_model.specs.Sample.{Sample, up_cost, down_cost, residual}
+use Rattle.loss_model.specs.Sample.{Sample, up_cost, down_cost}
 use Rattle.loss_model.specs.Problem.{value_at, sample}
 
 -- the up cost, the negated down cost, or the basic value of row i
@@ -18,12 +18,11 @@ value_of_side p theta basic i Up = up_cost p theta i
 value_of_side p theta basic i Down = neg_ℚ (down_cost p theta i)
 value_of_side p theta basic i Basic = basic i
 
--- row i lies on the side at the coefficients b: above the fit at its up cost, below it at its
--- negated down cost, or fitted exactly (complementary slackness)
-abbrev pub IsOnSide : Sample → ℚ → (ℕ → ℚ) → (ℕ → ℚ) → ℕ → Side → Type 0
-IsOnSide p theta b e i Up = (whole (pos 0) ≤ℚ residual p b i) × (e i ≡ up_cost p theta i)
-IsOnSide p theta b e i Down = (residual p b i ≤ℚ whole (pos 0)) × (e i ≡ neg_ℚ (down_cost p theta i))
-IsOnSide p theta b e i Basic = residual p b i ≡ whole (pos 0)
+-- where the residual of a row on a side lies
+abbrev pub IsOn : Side → ℚ → Type 0
+IsOn Up r = whole (pos 0) ≤ℚ r
+IsOn Down r = r ≤ℚ whole (pos 0)
+IsOn Basic r = r ≡ whole (pos 0)
 
 -- the value of row i in a list that goes by the rows of the basis
 abbrev pub basic_value : {F : Type 0} → (F → Fraction) → Vertex F → List F → ℕ → ℚ

@@ -1,6 +1,10 @@
 //! The laws of losses and dual values. No function here does anything: its contract is the law.
 
-ghost use Rattle.loss_model.specs.Laws.{WeakDuality, DualsShowMinimum, DualsAreGreatest, SidesShowDuals, MixIsDual, IntervalIsMixes, MinimisesBetween, RankscoresAreBounded, DualsShowMinimumInIntegers, MixIsDualInIntegers};
+ghost use Rattle.loss_model.specs.Laws.{WeakDuality, DualsShowMinimum, DualsAreGreatest, SidesShowDuals, VertexIsDual, MixIsDual, IntervalIsMixes, MinimisesBetween, RankscoresAreBounded, DualsShowMinimumInIntegers, MixIsDualInIntegers, MinimisesInIntegers, DualsInIntegers, ListIsOver};
+
+use crate::problem::Problem;
+use crate::vertex::Vertex;
+use frac_core::Exact;
 
 /// Feasible dual values bound every loss from below, and where one of them is of equal cost with
 /// coefficients, both are optimal (Koenker 2005, chapter 6).
@@ -14,6 +18,11 @@ pub fn duality()
 /// equal cost.
 pub fn complementary_slackness()
     ensures { SidesShowDuals }
+{}
+
+/// The same at a vertex, with the dual values of its basic rows.
+pub fn vertex_is_dual<F: Exact>(problem: &Problem<F>, vertex: &Vertex<F>, basic: &[F])
+    ensures { VertexIsDual F.value problem.now vertex.now basic.now }
 {}
 
 /// Coefficients with dual values at two quantiles have the mixed dual values at every quantile
@@ -33,4 +42,16 @@ pub fn rankscore_bounds()
 pub fn duality_in_integers()
     ensures minimum { DualsShowMinimumInIntegers }
     ensures mixed { MixIsDualInIntegers }
+{}
+
+/// What minimises, and what is dual, among fractions is so among whole numbers, and the other way
+/// round: for the problem in units of the product of all its denominators.
+pub fn minima_in_integers<F: Exact>(problem: &Problem<F>)
+    ensures minimum { MinimisesInIntegers F.value problem.now }
+    ensures dual { DualsInIntegers F.value problem.now }
+{}
+
+/// A list of fractions is a vector of whole numbers over the product of its denominators.
+pub fn vector_in_integers<F: Exact>(values: &[F])
+    ensures { ListIsOver F.value values.now }
 {}
