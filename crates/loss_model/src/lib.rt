@@ -6,6 +6,8 @@
 //! (`frac_core`) and on the algebra below them (`exact_algebra`).
 #![tactic(auto)]
 
+pub mod full_rank;
+pub mod greedy;
 pub mod laws;
 mod problem;
 mod process;
