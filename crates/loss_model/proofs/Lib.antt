@@ -6,6 +6,7 @@ pub mod Rankscores
 pub mod Scales
 pub mod Ranks
 pub mod Starts
+pub mod Products
 pub mod CommonDenominators
 pub mod Integers
 pub mod Denominators

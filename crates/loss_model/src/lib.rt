@@ -13,10 +13,12 @@ mod problem;
 mod process;
 mod spill;
 mod stop;
+mod sums;
 mod vertex;
 
 pub use problem::{Problem, Row};
 pub use process::{Exchange, Process, Segment, Trail};
 pub use spill::{Quantity, Short, Site, Spill};
 pub use stop::Stop;
+pub use sums::{plus_product, spill_at, sum_of_products};
 pub use vertex::{Basis, Side, Vertex};
