@@ -1,7 +1,7 @@
 //! Why a solver stops without an answer.
 use crate::process::Trail;
 use crate::spill::Spill;
-use frac_core::List;
+use frac_core::{List, OutOfMemory};
 
 /// A stop of the solver, with what shows that it had to stop.
 #[derive(Drop)]
@@ -14,4 +14,15 @@ pub enum Stop<F> {
     Overflow { trail: Trail<F>, spill: Spill<F> },
     /// The columns are dependent: the combination is not 0, and every row sends it to 0.
     Dependent { combination: List<F> },
+}
+
+impl<F> From<OutOfMemory> for Stop<F> {
+    ghost use Rattle.std.specs.Prelude.{◌≡◌};
+    ghost use Rattle.loss_model.specs.declared.stop.Stop.TheVariants.{OutOfMemory};
+
+    ghost from_gives = { λ _ stop. stop ≡ OutOfMemory };
+
+    fn from(_: OutOfMemory) -> Stop<F> {
+        Stop::OutOfMemory
+    }
 }
