@@ -1,12 +1,21 @@
--- Whole numbers among the fractions: what an equation or an order of fractions says of whole numbers.
-use Rattle.std.specs.Prelude.{◌≡◌, ℕ, zero, suc, ◌<◌, Bool, true, false, cond, List, [], ◌∷◌, ℤ, pos, negsuc, ◌+ℤ◌, ◌-ℤ◌, ◌*ℤ◌, ◌≤ℤ◌, neg_ℤ}
+-- Whole numbers among the fractions: an equation or an order of fractions, said of whole numbers,
+-- and the other way.
+--
+--     into ℚ      whole-neg, whole-le, whole-sum, whole-positive, whole-negative
+--                 (whole-add and whole-mul are in `specs.Rational`)
+--     out of ℚ    same_from_whole a b e, le_from_whole a b h
+--     pairs       same_from a b e: equal fractions have equal cross products
+--
+-- For a + b ≤ c of whole numbers from h : (whole a +ℚ whole b) ≤ℚ whole c:
+--
+--     le_from_whole (a +ℤ b) c (subst (λ z. z ≤ℚ whole c) (sym (whole-add a b)) h)
+use Rattle.std.specs.Prelude.{◌≡◌, ℕ, zero, suc, Bool, true, false, cond, ℤ, pos, negsuc, ◌*ℤ◌, ◌≤ℤ◌, neg_ℤ}
 use Rattle.std.proofs.Common.{arith, refl, sym, ap, subst, ◌∙◌}
 use Rattle.std.proofs.lemmas.Int.{ints}
-use lib.Signed.{le_z, le_z_yes}
-use mathlib.Core.Quot.{mk, sound}
+use lib.Signed.{le_z_yes}
+use mathlib.Core.Quot.{mk}
 use Rattle.exact_algebra.specs.IntegerSums.{sum_to, positive_part, negative_part}
-use Rattle.exact_algebra.specs.Solver.{Term, var, number, negated, ◌⊞◌, ◌⊟◌, ◌⊠◌, v0, v1, v2, v3}
-use Rattle.exact_algebra.specs.Rational.{ℚ, Pair, pair_le, Same, ◌+ℚ◌, ◌-ℚ◌, ◌*ℚ◌, neg_ℚ, whole, whole-add, whole-mul, ◌≤ℚ◌, le_ℚ, ring_ℚ, to_le, from_le, ≤ℚ_mul, ≤ℚ_total, ≤ℚ_refl, ≤ℚ_antisym}
+use Rattle.exact_algebra.specs.Rational.{ℚ, Pair, Same, ◌+ℚ◌, neg_ℚ, whole, whole-add, ◌≤ℚ◌, le_ℚ, to_le, from_le, ≤ℚ_refl}
 use Rattle.exact_algebra.specs.RationalSums.{sum_ℚ, positive_ℚ, negative_ℚ}
 
 -- equal fractions have equal cross products

@@ -16,7 +16,7 @@ pub enum OpKind {
 }
 
 /// An operation that was refused, with its operands as they were given.
-#[derive(Clone, Copy)]
+#[derive(Clone, Copy, Debug, PartialEq, Eq)]
 pub struct Op<F> {
     pub kind: OpKind,
     pub left: F,
@@ -111,3 +111,6 @@ pub trait Exact: Copy + Send + Sync {
 
     ghost range_is_wide: { 2 ^ 63 - 1 ≤ range };
 }
+
+#[cfg(test)]
+mod tests;

@@ -1,13 +1,24 @@
 //! Exact fractions of bounded size, and the lists and texts that every layer above hands on.
+//!
+//! `Exact` is the trait of such fractions: each operation gives the exact value, or hands back
+//! the operation exactly where a number that it needs is out of range. `Frac128` and `Frac64`
+//! implement it. The crate stands on `exact_algebra` alone, whose field ℚ its clauses speak of.
 #![tactic(auto)]
 
+mod bounded;
+mod divisor;
 mod exact;
+mod frac128;
+mod frac64;
 mod list;
 mod number_reader;
 mod number_writer;
+mod parts;
 mod text;
 
 pub use exact::{Exact, Op, OpKind};
+pub use frac64::Frac64;
+pub use frac128::Frac128;
 pub use list::List;
 pub use number_reader::NumberFault;
 pub use number_writer::number_text;

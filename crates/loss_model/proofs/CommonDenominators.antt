@@ -1,15 +1,14 @@
 -- Fractions over a common denominator: what holds of all vectors of whole numbers over one holds of all vectors of fractions.
-use Rattle.std.specs.Prelude.{◌≡◌, ℕ, zero, suc, ◌+◌, ◌*◌, ◌<◌, ◌≤◌, Bool, true, false, cond, ltb, [], ◌∷◌, ℤ, pos, negsuc, ◌*ℤ◌, ◌≤ℤ◌}
-use Rattle.std.proofs.Common.{arith, refl, sym, ap, subst, ◌∙◌}
+use Rattle.std.specs.Prelude.{◌≡◌, ℕ, zero, suc, ◌*◌, ◌<◌, ◌≤◌, Bool, true, false, cond, ltb, [], ◌∷◌, ℤ, pos, ◌*ℤ◌}
+use Rattle.std.proofs.Common.{arith, refl, sym, ap, ◌∙◌}
 use Rattle.std.proofs.Math.Nat.{mul-pos}
 use Rattle.std.proofs.lemmas.Bool.{ltb-false}
-use Rattle.std.proofs.lemmas.Int.{ints}
 use borrow.Author.Tests.{ltb-true}
 use mathlib.Core.HLevel.{Π_prop}
-use mathlib.Core.Quot.{mk, sound}
-use Rattle.exact_algebra.specs.Solver.{identity, number, ◌⊠◌, v0, v1, v2}
-use Rattle.exact_algebra.specs.Rational.{ℚ, Pair, by1, ◌*ℚ◌, whole, whole-mul, ring_ℚ}
-use Rattle.loss_model.proofs.Quotients.{IsOver}
+use Rattle.exact_algebra.specs.Quotients.{by_quotient}
+use Rattle.exact_algebra.specs.Solver.{◌⊠◌, v0, v1, v2}
+use Rattle.exact_algebra.specs.Rational.{ℚ, ◌*ℚ◌, whole, whole-mul, ring_ℚ}
+use Rattle.loss_model.proofs.Quotients.{IsOver, whole-quotient}
 
 pub one_le : (a b : ℕ) → 1 ≤ a → 1 ≤ b → 1 ≤ a * b
 one_le a b h k = let p : zero < a * b = mul-pos (omega arith) (omega arith) in omega arith
@@ -17,18 +16,9 @@ one_le a b h k = let p : zero < a * b = mul-pos (omega arith) (omega arith) in o
 pub whole-times : (a b : ℕ) → whole (pos (a * b)) ≡ whole (pos a) *ℚ whole (pos b)
 whole-times a b = whole-mul (pos a) (pos b)
 
--- a pair's numerator is its denominator times the fraction
-pair_is : (n : ℤ) (k : ℕ) (p : pos 1 ≤ℤ pos k) → whole n ≡ whole (pos k) *ℚ mk (record { n = n; d = pos k; positive = p })
-unfolding whole ◌*ℚ◌
-pair_is n k p = sound (identity (n ∷ pos k ∷ []) (v0 ⊠ (number (pos 1) ⊠ v1)) ((v1 ⊠ v0) ⊠ number (pos 1)) refl)
-
 -- a fraction may be taken as m/d
 by_value : (P : Type 0) → IsProp P → (x : ℚ) → ((m : ℤ) (d : ℕ) → 1 ≤ d → whole m ≡ whole (pos d) *ℚ x → P) → P
-by_value P prop = by1 (λ x. ((m : ℤ) (d : ℕ) → 1 ≤ d → whole m ≡ whole (pos d) *ℚ x → P) → P) (λ x. Π_prop (λ f. prop)) (λ a f. pairs a.n a.d a.positive f)
-  where
-    pairs : (n d : ℤ) (p : pos 1 ≤ℤ d) → ((m : ℤ) (b : ℕ) → 1 ≤ b → whole m ≡ whole (pos b) *ℚ mk (record { n = n; d = d; positive = p }) → P) → P
-    pairs n (pos k) p f = f n k (omega (arith, ints)) (pair_is n k p)
-    pairs n (negsuc k) p f = absurd (omega (arith, ints))
+by_value P prop = by_quotient (λ x. ((m : ℤ) (d : ℕ) → 1 ≤ d → whole m ≡ whole (pos d) *ℚ x → P) → P) (λ x. Π_prop (λ f. prop)) (λ n d h f. f n d h (whole-quotient n d h))
 
 -- c/d in the first n places, and m/b in the next
 abbrev extended : ℕ → (ℕ → ℤ) → ℕ → ℤ → ℕ → ℕ → ℤ

@@ -1,17 +1,18 @@
 -- The product of all denominators of a problem makes every value whole.
-use Rattle.std.specs.Prelude.{◌≡◌, ◌↔◌, ℕ, zero, suc, ◌+◌, ◌*◌, ◌/◌, ◌<◌, ◌≤◌, List, [], ◌∷◌, ◌++◌, length, map, slice_get, Option, Some, None, ℤ, pos, ◌*ℤ◌}
+use Rattle.std.specs.Prelude.{◌≡◌, ℕ, zero, suc, ◌*◌, ◌/◌, ◌≤◌, List, [], ◌∷◌, ◌++◌, map, slice_get, ℤ, pos}
 use Rattle.std.specs.Option.{option_map_or}
-use Rattle.std.proofs.Common.{arith, refl, sym, ap, subst, ◌∙◌}
+use Rattle.std.proofs.Common.{arith, refl, sym, ap, ◌∙◌}
 use Rattle.std.proofs.Math.Nat.{mul-div_cancel_left}
 use Rattle.exact_algebra.specs.Fraction.{Fraction, rational, common, over}
-use Rattle.exact_algebra.specs.Solver.{number, ◌⊞◌, ◌⊟◌, ◌⊠◌, v0, v1, v2, v3}
+use Rattle.exact_algebra.specs.Solver.{number, ◌⊠◌, v0, v1, v2, v3}
 use Rattle.exact_algebra.specs.Rational.{ℚ, ◌*ℚ◌, inverse, quotient, whole, whole-mul, ring_ℚ, ring_by_ℚ}
+use Rattle.exact_algebra.specs.Quotients.{quotient_from}
 use Rattle.loss_model.specs.declared.problem.Row.{Row}
 use Rattle.loss_model.specs.declared.problem.Problem.{Problem}
 use Rattle.loss_model.specs.Problem.{value_at, sample}
-use Rattle.loss_model.specs.Scaled.{Scaled, row_values, values, unit, over_at, scaled_by, scaled}
+use Rattle.loss_model.specs.Scaled.{row_values, values, unit, over_at, scaled}
 use Rattle.loss_model.specs.Laws.{MinimisesInIntegers, DualsInIntegers, ListIsOver}
-use Rattle.loss_model.proofs.Quotients.{inverse_of, whole-quotient, is_quotient}
+use Rattle.loss_model.proofs.Quotients.{inverse_of, whole-quotient}
 use Rattle.loss_model.proofs.CommonDenominators.{one_le, whole-times}
 use Rattle.loss_model.proofs.Scales.{Scales}
 use Rattle.loss_model.proofs.Integers.{minima, duals}
@@ -114,4 +115,4 @@ module _ {F : Type 0} (value : F → Fraction) (positive : (x : F) → 1 ≤ (va
   pub list_is_over : (xs : List F) → ListIsOver value xs
   list_is_over xs =
       let d = common (map value xs) in
-      (one_le_common xs, λ k. is_quotient (value_at value xs k) (over_at value d xs k) d (one_le_common xs) (sym (item_over d xs (common_divides (map value xs)) k)))
+      (one_le_common xs, λ k. quotient_from (value_at value xs k) (over_at value d xs k) d (one_le_common xs) (sym (item_over d xs (common_divides (map value xs)) k)))

@@ -1,20 +1,21 @@
 -- Minima and dual values in fractions and in whole numbers.
-use Rattle.std.specs.Prelude.{◌≡◌, ◌↔◌, ℕ, zero, suc, ◌+◌, ◌*◌, ◌<◌, ◌≤◌, true, [], ◌∷◌, ℤ, pos, ◌+ℤ◌, ◌*ℤ◌, ◌≤ℤ◌, neg_ℤ}
+use Rattle.std.specs.Prelude.{◌≡◌, ◌↔◌, ℕ, ◌+◌, ◌*◌, ◌<◌, ◌≤◌, true, [], ◌∷◌, ℤ, pos, ◌+ℤ◌, ◌*ℤ◌, ◌≤ℤ◌, neg_ℤ}
 use Rattle.std.proofs.Common.{arith, refl, sym, ap, subst, ◌∙◌}
 use mathlib.Core.Bool.{Bool-set}
 use Rattle.exact_algebra.specs.IntegerSums.{sum_to}
-use Rattle.exact_algebra.specs.Solver.{number, negated, ◌⊞◌, ◌⊟◌, ◌⊠◌, v0, v1, v2, v3, v4, v5, v6, v7}
+use Rattle.exact_algebra.specs.Solver.{number, negated, ◌⊞◌, ◌⊠◌, v0, v1, v2, v3, v4, v5, v6, v7}
 use Rattle.exact_algebra.specs.Rational.{ℚ, ◌+ℚ◌, ◌*ℚ◌, neg_ℚ, inverse, quotient, whole, whole-add, whole-mul, one-*ℚ, ◌≤ℚ◌, le_ℚ, ring_ℚ, ring_by_ℚ, ≤ℚ_mul}
 use Rattle.exact_algebra.specs.RationalSums.{sum_ℚ, sum_ℚ-same, sum_ℚ-scale}
 use Rattle.exact_algebra.specs.WholeNumbers.{whole-le, le_from_whole, same_from_whole, whole-neg, whole-sum}
 use Rattle.exact_algebra.specs.Fraction.{Fraction, rational}
+use Rattle.exact_algebra.specs.Quotients.{quotient_from}
 use Rattle.loss_model.specs.Sample.{Sample}
 use Rattle.loss_model.specs.Sample as exact
 use Rattle.loss_model.specs.Dual.{mix}
 use Rattle.loss_model.specs.Dual as exact_dual
 use Rattle.loss_model.specs.Scaled.{Scaled, up_cost, down_cost, loss, Minimises, IsFeasible, IsDual, between, mixed}
 use Rattle.loss_model.specs.Laws.{DualsShowMinimumInIntegers, MixIsDualInIntegers}
-use Rattle.loss_model.proofs.Quotients.{IsOver, inverse_of, whole-quotient, is_quotient, cancel_whole, cancel_whole_le, whole_not_negative}
+use Rattle.loss_model.proofs.Quotients.{IsOver, inverse_of, whole-quotient, cancel_whole, cancel_whole_le, whole_not_negative}
 use Rattle.loss_model.proofs.CommonDenominators.{one_le, whole-times, by_vector}
 use Rattle.loss_model.proofs.Scales.{Scales, up_scaled, down_scaled, loss_scaled}
 use Rattle.loss_model.proofs.Duality.{minimum}
@@ -226,7 +227,7 @@ mix-quotient m n a b g h gp hp some =
 
 between-mix : (m n : ℕ) (lo hi : Fraction) → 1 ≤ lo.den → 1 ≤ hi.den → 0 < m + n → rational (between m n lo hi) ≡ mix m n (rational lo) (rational hi)
 between-mix m n lo hi p q some =
-    sym (is_quotient (mix m n (rational lo) (rational hi)) (between m n lo hi).num ((m + n) * (lo.den * hi.den)) (one_le (m + n) (lo.den * hi.den) (omega arith) (one_le lo.den hi.den p q))
+    sym (quotient_from (mix m n (rational lo) (rational hi)) (between m n lo hi).num ((m + n) * (lo.den * hi.den)) (one_le (m + n) (lo.den * hi.den) (omega arith) (one_le lo.den hi.den p q))
     (sym (mix-quotient m n lo.num hi.num lo.den hi.den p q some)))
 
 one-times : (n : ℕ) → n ≡ 1 * n

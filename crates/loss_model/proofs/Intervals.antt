@@ -1,15 +1,15 @@
 -- Every fraction of a closed interval is a mix of its ends by whole numbers.
-use Rattle.std.specs.Prelude.{◌≡◌, ◌⊎◌, ℕ, zero, suc, ◌+◌, ◌<◌, ◌≤◌, [], ◌∷◌, ℤ, pos, negsuc, ◌+ℤ◌, ◌*ℤ◌, ◌-ℤ◌, ◌≤ℤ◌, neg_ℤ, unsigned_abs}
-use Rattle.std.proofs.Common.{arith, refl, sym, ap, subst, ◌∙◌, inl, inr}
+use Rattle.std.specs.Prelude.{◌≡◌, ℕ, zero, suc, ◌+◌, ◌<◌, ◌≤◌, [], ◌∷◌, ℤ, pos, negsuc, ◌*ℤ◌, ◌-ℤ◌, ◌≤ℤ◌, neg_ℤ, unsigned_abs}
+use Rattle.std.proofs.Common.{arith, refl, sym, ap, subst, ◌∙◌}
 use Rattle.std.proofs.lemmas.Int.{ints}
 use Rattle.exact_algebra.specs.Solver.{number, negated, ◌⊞◌, ◌⊟◌, ◌⊠◌, v0, v1, v2, v3, v4, v5, v6}
-use Rattle.exact_algebra.specs.Rational.{ℚ, ◌+ℚ◌, ◌-ℚ◌, ◌*ℚ◌, neg_ℚ, inverse, whole, whole-add, whole-mul, ◌≤ℚ◌, le_ℚ, ring_ℚ, ring_by_ℚ, quotient, to_le, ≤ℚ_mul}
+use Rattle.exact_algebra.specs.Rational.{ℚ, ◌+ℚ◌, ◌-ℚ◌, ◌*ℚ◌, inverse, whole, whole-add, whole-mul, ◌≤ℚ◌, ring_ℚ, ring_by_ℚ}
 use Rattle.exact_algebra.specs.Fraction.{Fraction, rational}
-use Rattle.exact_algebra.specs.Integers.{mul_positive, mul_not_negative}
-use Rattle.exact_algebra.specs.WholeNumbers.{whole-le, le_from_whole, whole-neg, same_from_whole}
+use Rattle.exact_algebra.specs.WholeNumbers.{le_from_whole, whole-neg}
+use Rattle.exact_algebra.specs.Order.{≤ℚ-minus}
 use Rattle.loss_model.specs.Dual.{mix}
 use Rattle.loss_model.specs.Laws.{IntervalIsMixes}
-use Rattle.loss_model.proofs.Quotients.{inverse_of, whole-quotient, cancel_whole, whole_not_negative, product_not_negative, difference_not_negative}
+use Rattle.loss_model.proofs.Quotients.{inverse_of, whole-quotient, cancel_whole, whole_not_negative, product_not_negative}
 
 pub whole-sub : (a b : ℤ) → whole (a -ℤ b) ≡ whole a -ℚ whole b
 whole-sub a b = whole-add a (neg_ℤ b) ∙ ap (λ z. whole a +ℚ z) (whole-neg b)
@@ -42,7 +42,7 @@ gap_not_negative a b c h k le =
     (product_not_negative (units a b c) (rational b -ℚ rational a)
     (product_not_negative (whole (pos a.den)) (whole (pos b.den) *ℚ whole (pos c.den)) (whole_not_negative a.den)
     (product_not_negative (whole (pos b.den)) (whole (pos c.den)) (whole_not_negative b.den) (whole_not_negative c.den)))
-    (difference_not_negative (rational a) (rational b) le)))
+    ((≤ℚ-minus (rational a) (rational b)).0 le)))
 
 whole-size : (a b c : Fraction) → 1 ≤ a.den → 1 ≤ b.den → rational a ≤ℚ rational b → whole (pos (unsigned_abs (gap a b c))) ≡ units a b c *ℚ (rational b -ℚ rational a)
 whole-size a b c h k le = ap whole (size (gap a b c) (gap_not_negative a b c h k le)) ∙ whole-gap a b c h k

@@ -6,8 +6,11 @@ pub mod Rankscores
 pub mod Scales
 pub mod Ranks
 pub mod Starts
-pub mod Products
 pub mod CommonDenominators
 pub mod Integers
 pub mod Denominators
 pub mod Vertices
+pub mod Covers
+pub mod Products
+pub mod Residuals
+pub mod Prices

@@ -1,14 +1,14 @@
 -- Dual values between two quantiles.
-use Rattle.std.specs.Prelude.{◌≡◌, ℕ, zero, suc, ◌+◌, ◌*◌, ◌<◌, ◌≤◌, Bool, true, false, [], ◌∷◌, ℤ, pos, ◌*ℤ◌, ◌-ℤ◌, ◌≤ℤ◌}
+use Rattle.std.specs.Prelude.{◌≡◌, ℕ, ◌+◌, ◌<◌, Bool, true, false, [], ◌∷◌, pos}
 use Rattle.std.proofs.Common.{arith, refl, sym, ap, subst, ◌∙◌}
-use Rattle.std.proofs.lemmas.Int.{ints}
 use Rattle.exact_algebra.specs.Solver.{var, number, negated, ◌⊞◌, ◌⊟◌, ◌⊠◌, v0, v1, v2, v3, v4, v5, v6, v7, v8}
 use Rattle.exact_algebra.specs.Rational.{ℚ, ◌+ℚ◌, ◌-ℚ◌, ◌*ℚ◌, neg_ℚ, inverse, whole, whole-add, ◌≤ℚ◌, le_ℚ, ring_ℚ, ring_by_ℚ, *ℚ-inverse, ≤ℚ_mul, ≤ℚ_trans, ≤ℚ_antisym, ≤ℚ_total, ≤ℚ_refl}
 use Rattle.exact_algebra.specs.RationalSums.{sum_ℚ, positive_ℚ, negative_ℚ, ≤ℚ_add2, sum_ℚ-same, sum_ℚ-mix}
+use Rattle.exact_algebra.specs.Order.{≤ℚ-minus, inverse_not_negative}
 use Rattle.loss_model.specs.Sample.{Sample, up_cost, down_cost, residual, row_loss, loss, Minimises}
 use Rattle.loss_model.specs.Dual.{IsFeasible, dual_objective, IsDual, mix}
 use Rattle.loss_model.specs.Laws.{MixIsDual, MinimisesBetween}
-use Rattle.loss_model.proofs.Quotients.{inverse_of, inverse_not_negative, product_not_negative, difference_not_negative, whole_not_negative}
+use Rattle.loss_model.proofs.Quotients.{inverse_of, product_not_negative, whole_not_negative}
 use Rattle.loss_model.proofs.Duality.{minimum}
 
 -- equal values of all rows are dual alike
@@ -127,8 +127,8 @@ between lo hi theta i one =
 between_weights : (lo hi theta i : ℚ) → (hi -ℚ lo) *ℚ i ≡ whole (pos 1) → whole (pos 0) ≤ℚ i → lo ≤ℚ theta → theta ≤ℚ hi → AreWeights ((hi -ℚ theta) *ℚ i) ((theta -ℚ lo) *ℚ i)
 between_weights lo hi theta i one known h k =
     record {
-      left = product_not_negative (hi -ℚ theta) i (difference_not_negative theta hi k) known;
-      right = product_not_negative (theta -ℚ lo) i (difference_not_negative lo theta h) known;
+      left = product_not_negative (hi -ℚ theta) i ((≤ℚ-minus theta hi).0 k) known;
+      right = product_not_negative (theta -ℚ lo) i ((≤ℚ-minus lo theta).0 h) known;
       one = ring_ℚ (lo ∷ hi ∷ theta ∷ i ∷ []) ((v1 ⊟ v2) ⊠ v3 ⊞ (v2 ⊟ v0) ⊠ v3) ((v1 ⊟ v0) ⊠ v3) refl ∙ one;
     }
 
@@ -147,7 +147,7 @@ minimum_between p lo hi theta b e f d g h k = by (le_ℚ hi lo) refl
     by false s =
         let i = inverse (hi -ℚ lo) in
         let one = *ℚ-inverse (hi -ℚ lo) (apart s) in
-        let known = inverse_not_negative (hi -ℚ lo) (difference_not_negative lo hi (≤ℚ_total hi lo s)) in
+        let known = inverse_not_negative (hi -ℚ lo) ((≤ℚ-minus lo hi).0 (≤ℚ_total hi lo s)) in
         let w = between_weights lo hi theta i one known h k in
         subst (λ z. Minimises p z b) (between lo hi theta i one)
         (minimum p _ b _ (dual_weighted p lo hi b e f ((hi -ℚ theta) *ℚ i) ((theta -ℚ lo) *ℚ i) w d g))

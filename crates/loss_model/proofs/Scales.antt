@@ -1,18 +1,16 @@
 -- A sample whose values were all multiplied by one whole number.
-use Rattle.std.specs.Prelude.{◌≡◌, ◌↔◌, ℕ, zero, suc, ◌+◌, ◌*◌, ◌<◌, ◌≤◌, Bool, true, false, cond, List, [], ◌∷◌, ℤ, pos, ◌+ℤ◌, ◌-ℤ◌, ◌*ℤ◌, ◌≤ℤ◌, neg_ℤ}
-use Rattle.std.proofs.Common.{arith, refl, sym, ap, subst, ◌∙◌}
-use Rattle.std.proofs.lemmas.Int.{ints}
+use Rattle.std.specs.Prelude.{◌≡◌, ℕ, ◌≤◌, Bool, true, false, [], ◌∷◌, ℤ, pos, ◌+ℤ◌, ◌*ℤ◌}
+use Rattle.std.proofs.Common.{refl, sym, ap, subst, ◌∙◌}
 use Rattle.exact_algebra.specs.IntegerSums.{sum_to, positive_part, negative_part}
-use Rattle.exact_algebra.specs.Solver.{number, negated, ◌⊞◌, ◌⊟◌, ◌⊠◌, v0, v1, v2, v3, v4, v5, v6, v7}
-use Rattle.exact_algebra.specs.Rational.{ℚ, ◌+ℚ◌, ◌-ℚ◌, ◌*ℚ◌, neg_ℚ, inverse, quotient, whole, whole-add, whole-mul, ◌≤ℚ◌, le_ℚ, ring_ℚ, ring_by_ℚ, ≤ℚ_refl, ≤ℚ_mul, ≤ℚ_total}
+use Rattle.exact_algebra.specs.Solver.{number, negated, ◌⊞◌, ◌⊟◌, ◌⊠◌, v0, v1, v2, v3, v4, v5, v6}
+use Rattle.exact_algebra.specs.Rational.{ℚ, ◌+ℚ◌, ◌-ℚ◌, ◌*ℚ◌, whole, whole-add, whole-mul, ◌≤ℚ◌, le_ℚ, ring_ℚ, ≤ℚ_mul, ≤ℚ_total}
 use Rattle.exact_algebra.specs.RationalSums.{sum_ℚ, positive_ℚ, negative_ℚ, sum_ℚ-same, sum_ℚ-scale}
-use Rattle.exact_algebra.specs.WholeNumbers.{whole-le, le_from_whole, same_from_whole, whole-neg, whole-sum, whole-positive, whole-negative}
+use Rattle.exact_algebra.specs.WholeNumbers.{whole-sum, whole-positive, whole-negative}
 use Rattle.exact_algebra.specs.Fraction.{Fraction, rational}
 use Rattle.loss_model.specs.Sample.{Sample}
 use Rattle.loss_model.specs.Sample as exact
-use Rattle.loss_model.specs.Dual as exact_dual
-use Rattle.loss_model.specs.Scaled.{Scaled, up_cost, down_cost, residual, row_loss, loss, Minimises, IsFeasible, IsDual}
-use Rattle.loss_model.proofs.Quotients.{IsOver, whole-quotient, cancel_whole, cancel_whole_le, product_not_negative, whole_not_negative}
+use Rattle.loss_model.specs.Scaled.{Scaled, up_cost, down_cost, residual, row_loss, loss}
+use Rattle.loss_model.proofs.Quotients.{IsOver, whole-quotient, product_not_negative, whole_not_negative}
 use Rattle.loss_model.proofs.Duality.{positive_when, negative_when, positive_below, negative_below}
 use Rattle.loss_model.proofs.Intervals.{whole-sub}
 
@@ -37,14 +35,16 @@ parts_scaled k x p = by (le_ℚ (whole (pos 0)) x) refl
     by : (t : Bool) → le_ℚ (whole (pos 0)) x ≡ t → (positive_ℚ (k *ℚ x) ≡ k *ℚ positive_ℚ x) × (negative_ℚ (k *ℚ x) ≡ k *ℚ negative_ℚ x)
     by true e =
         let above : whole (pos 0) ≤ℚ x = record { le = e } in
-        let product : whole (pos 0) ≤ℚ (k *ℚ x) = product_not_negative k x p above in
-        (positive_when (k *ℚ x) product ∙ ap (λ z. k *ℚ z) (sym (positive_when x above)),
-        negative_when (k *ℚ x) product ∙ nothing ∙ ap (λ z. k *ℚ z) (sym (negative_when x above)))
+        let product : whole (pos 0) ≤ℚ (k *ℚ x) = product_not_negative k x p above in (
+          positive_when (k *ℚ x) product ∙ ap (λ z. k *ℚ z) (sym (positive_when x above)),
+          negative_when (k *ℚ x) product ∙ nothing ∙ ap (λ z. k *ℚ z) (sym (negative_when x above)),
+        )
     by false e =
         let below : x ≤ℚ whole (pos 0) = ≤ℚ_total (whole (pos 0)) x e in
-        let product : (k *ℚ x) ≤ℚ whole (pos 0) = subst (λ z. (k *ℚ x) ≤ℚ z) (sym nothing) (≤ℚ_mul x (whole (pos 0)) k p below) in
-        (positive_below (k *ℚ x) product ∙ nothing ∙ ap (λ z. k *ℚ z) (sym (positive_below x below)),
-        negative_below (k *ℚ x) product ∙ ring_ℚ (k ∷ x ∷ []) (negated (v0 ⊠ v1)) (v0 ⊠ negated v1) refl ∙ ap (λ z. k *ℚ z) (sym (negative_below x below)))
+        let product : (k *ℚ x) ≤ℚ whole (pos 0) = subst (λ z. (k *ℚ x) ≤ℚ z) (sym nothing) (≤ℚ_mul x (whole (pos 0)) k p below) in (
+          positive_below (k *ℚ x) product ∙ nothing ∙ ap (λ z. k *ℚ z) (sym (positive_below x below)),
+          negative_below (k *ℚ x) product ∙ ring_ℚ (k ∷ x ∷ []) (negated (v0 ⊠ v1)) (v0 ⊠ negated v1) refl ∙ ap (λ z. k *ℚ z) (sym (negative_below x below)),
+        )
 
 module _ (q : ℕ) (p : Sample) (w : Scaled) (s : Scales q p w) (theta : Fraction) (tp : 1 ≤ theta.den) where
   abbrev Q : ℚ

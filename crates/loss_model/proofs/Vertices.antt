@@ -1,9 +1,8 @@
 -- The dual values of a vertex.
-use Rattle.std.specs.Prelude.{◌≡◌, ℕ, zero, suc, ◌+◌, ◌-◌, ◌<◌, Bool, true, false, List, [], ◌∷◌, length, slice_get, slice_index, get_or, Option, Some, None, ◌==◌, pos}
-use Rattle.std.specs.Option.{option_map_or, unwrap_or}
-use Rattle.std.specs.List.{position_or_len}
+use Rattle.std.specs.Prelude.{◌≡◌, ℕ, zero, suc, ◌+◌, ◌-◌, ◌<◌, true, false, List, length, slice_get, slice_index, get_or, Some, ◌==◌, pos}
+use Rattle.std.specs.Option.{option_map_or}
 use Rattle.std.specs.List.Sorted.{IsStrictlyIncreasing}
-use Rattle.std.proofs.Common.{arith, refl, sym, ap, subst, ◌∙◌}
+use Rattle.std.proofs.Common.{arith, refl, sym, ap, subst}
 use Rattle.std.proofs.lemmas.List.Sums.{position_or_len_is}
 use Rattle.std.proofs.lemmas.Option.{slice_get-get_or}
 use Rattle.exact_algebra.specs.Rational.{ℚ, neg_ℚ, whole, ◌≤ℚ◌, ≤ℚ_refl}
@@ -12,11 +11,10 @@ use Rattle.loss_model.specs.declared.problem.Problem.{Problem}
 use Rattle.loss_model.specs.declared.vertex.Side.{Side}
 use Rattle.loss_model.specs.declared.vertex.Side.TheVariants.{Up, Down, Basic}
 use Rattle.loss_model.specs.declared.vertex.Vertex.{Vertex}
-use Rattle.loss_model.specs.Sample.{Sample, up_cost, down_cost, residual}
+use Rattle.loss_model.specs.Sample.{up_cost, down_cost, residual}
 use Rattle.loss_model.specs.Dual.{IsFeasible, IsDual}
 use Rattle.loss_model.specs.Problem.{value_at, sample}
 use Rattle.loss_model.specs.Vertex.{value_of_side, IsOn, basic_value, dual_value}
-use Rattle.loss_model.specs.Laws.{VertexIsDual}
 use Rattle.loss_model.proofs.Duality.{sides}
 
 -- the side of row i, and Basic beyond the last

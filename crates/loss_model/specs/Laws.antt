@@ -8,6 +8,7 @@ use Rattle.loss_model.specs.declared.vertex.Vertex.{Vertex}
 use Rattle.loss_model.specs.Sample.{Sample, residual, loss, Minimises}
 use Rattle.loss_model.specs.Dual.{IsFeasible, dual_objective, IsDual, mix, IsDataRow, rankscore}
 use Rattle.loss_model.specs.Vertex.{value_of_side, IsOn, dual_value}
+use Rattle.loss_model.specs.Segment.{Segments, Covers}
 use Rattle.loss_model.specs.Problem.{value_at, sample}
 use Rattle.loss_model.specs.Scaled.{Scaled, unit, scaled, over_at, between, mixed}
 use Rattle.loss_model.specs.Scaled as integers
@@ -59,6 +60,12 @@ abbrev pub MinimisesBetween : Type 0
 MinimisesBetween =
     (p : Sample) (lo hi theta : ℚ) (b e f : ℕ → ℚ) → IsDual p lo b e → IsDual p hi b f
     → lo ≤ℚ theta → theta ≤ℚ hi → Minimises p theta b
+
+-- every value of a covered range lies in a segment
+abbrev pub CoversEveryValue : Type 0
+CoversEveryValue =
+    (rows : ℕ) (lo hi : ℚ) (s : Segments) → Covers rows lo hi s → (theta : ℚ) → lo ≤ℚ theta → theta ≤ℚ hi
+    → (j : ℕ) × (j < s.count) × (s.lo j ≤ℚ theta) × (theta ≤ℚ s.hi j)
 
 -- a rankscore lies in 0 to 1
 abbrev pub RankscoresAreBounded : Type 0

@@ -9,3 +9,5 @@ pub mod FullRank
 pub mod Greedy
 pub mod Quantities
 pub mod StartStop
+pub mod Spill
+pub mod Sign

@@ -1,6 +1,6 @@
 //! The laws of losses and dual values. No function here does anything: its contract is the law.
 
-ghost use Rattle.loss_model.specs.Laws.{WeakDuality, DualsShowMinimum, DualsAreGreatest, SidesShowDuals, VertexIsDual, MixIsDual, IntervalIsMixes, MinimisesBetween, RankscoresAreBounded, DualsShowMinimumInIntegers, MixIsDualInIntegers, MinimisesInIntegers, DualsInIntegers, ListIsOver};
+ghost use Rattle.loss_model.specs.Laws.{WeakDuality, DualsShowMinimum, DualsAreGreatest, SidesShowDuals, VertexIsDual, MixIsDual, IntervalIsMixes, MinimisesBetween, CoversEveryValue, RankscoresAreBounded, DualsShowMinimumInIntegers, MixIsDualInIntegers, MinimisesInIntegers, DualsInIntegers, ListIsOver};
 
 use crate::problem::Problem;
 use crate::vertex::Vertex;
@@ -31,6 +31,11 @@ pub fn optimal_between()
     ensures mixed { MixIsDual }
     ensures every { IntervalIsMixes }
     ensures minimum { MinimisesBetween }
+{}
+
+/// Segments that cover a range leave no gap.
+pub fn covers_every_value()
+    ensures { CoversEveryValue }
 {}
 
 /// The rankscore of a data row is at least 0 and at most 1.

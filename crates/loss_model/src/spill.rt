@@ -43,6 +43,26 @@ pub struct Site {
     pub kind: OpKind,
 }
 
+impl Site {
+    ghost use Rattle.std.specs.Prelude.{◌≡◌};
+    ghost use Rattle.loss_model.specs.Spill.{site_of};
+
+    /// The site of a quantity of at most two indices before its products, where `terms` plain
+    /// values stand before them.
+    pub fn new(quantity: Quantity, first: u32, second: u32, terms: u32) -> Site
+        ensures { result ≡ site_of quantity first second terms }
+    {
+        Site {
+            quantity,
+            first,
+            second,
+            third: 0,
+            term: terms,
+            kind: OpKind::Mul,
+        }
+    }
+}
+
 /// An operation that overflows, with its operands.
 #[derive(Clone, Copy)]
 pub struct Spill<F> {

@@ -1,0 +1,144 @@
+//! Fractions whose parts have at most 127 bits and a sign.
+
+ghost use Rattle.std.specs.Prelude.{◌≡◌, ◌-◌, ◌^◌, pos, refl};
+ghost use Rattle.frac_core.specs.Overflow.{IsWithin};
+
+use crate::parts::Parts;
+use crate::{Exact, Op, OpKind};
+use std::cmp::Ordering;
+
+/// A fraction in lowest terms, whose numerator and denominator are at most `2^127 - 1` in size.
+#[derive(Clone, Copy, Debug, PartialEq, Eq)]
+pub struct Frac128 {
+    num: i128,
+    den: u128,
+    ghost within: { IsWithin (2 ^ 127 - 1) (record { num = num; den = den }) },
+}
+
+const LIMIT: u128 = i128::MAX as u128;
+
+impl Frac128 {
+    ghost use Rattle.frac_core.specs.Parts.{fraction};
+
+    fn parts(self) -> Parts
+        ensures { fraction result ≡ record { num = self.num; den = self.den } }
+    {
+        Parts {
+            num: self.num,
+            den: self.den,
+        }
+    }
+
+    fn from_lowest(parts: Parts) -> Frac128
+        requires { IsWithin (2 ^ 127 - 1) (fraction parts) }
+        ensures { fraction parts ≡ record { num = result.num; den = result.den } }
+    {
+        Frac128 {
+            num: parts.num,
+            den: parts.den,
+        }
+    }
+}
+
+impl Exact for Frac128 {
+    ghost use Rattle.std.proofs.Common.{lit≤};
+    ghost use Rattle.frac_core.specs.Lowest.{same_fraction, IsWithin-along};
+
+    ghost range = { 2 ^ 127 - 1 };
+
+    ghost RANGE = { pos (2 ^ 127 - 1) };
+
+    ghost value = { λ x. record { num = x.num; den = x.den } };
+
+    ghost within = { λ x. x.within };
+
+    ghost same = { λ x y e.
+        let parts = same_fraction (2 ^ 127 - 1) _ _ x.within y.within e in
+        λ i. record { num = (parts i).num; den = (parts i).den; within = IsWithin-along (2 ^ 127 - 1) parts x.within y.within i } };
+
+    ghost range_is = { refl };
+
+    ghost range_is_wide = { lit≤ tt };
+
+    const RANGE: i128 = i128::MAX;
+
+    fn zero() -> Self {
+        Frac128::from_lowest(Parts::whole(0, LIMIT))
+    }
+
+    fn one() -> Self {
+        Frac128::from_lowest(Parts::whole(1, LIMIT))
+    }
+
+    fn from_parts(n: i128, d: i128) -> Option<Self> {
+        Some(Frac128::from_lowest(Parts::reduced(n, d, LIMIT)?))
+    }
+
+    fn numerator(self) -> i128 {
+        self.num
+    }
+
+    fn denominator(self) -> i128 {
+        self.den as i128
+    }
+
+    fn try_add(self, other: Self) -> Result<Self, Op<Self>> {
+        match self.parts().plus(other.parts(), LIMIT) {
+            Some(sum) => Ok(Frac128::from_lowest(sum)),
+            None => Err(Op {
+                kind: OpKind::Add,
+                left: self,
+                right: other,
+            }),
+        }
+    }
+
+    fn try_sub(self, other: Self) -> Result<Self, Op<Self>> {
+        match self.parts().plus(other.parts().negated(LIMIT), LIMIT) {
+            Some(difference) => Ok(Frac128::from_lowest(difference)),
+            None => Err(Op {
+                kind: OpKind::Sub,
+                left: self,
+                right: other,
+            }),
+        }
+    }
+
+    fn try_mul(self, other: Self) -> Result<Self, Op<Self>> {
+        match self.parts().times(other.parts(), LIMIT) {
+            Some(product) => Ok(Frac128::from_lowest(product)),
+            None => Err(Op {
+                kind: OpKind::Mul,
+                left: self,
+                right: other,
+            }),
+        }
+    }
+
+    fn try_div(self, other: Self) -> Result<Self, Op<Self>> {
+        match self.parts().times(other.parts().inverted(LIMIT), LIMIT) {
+            Some(ratio) => Ok(Frac128::from_lowest(ratio)),
+            None => Err(Op {
+                kind: OpKind::Div,
+                left: self,
+                right: other,
+            }),
+        }
+    }
+
+    fn neg(self) -> Self {
+        Frac128::from_lowest(self.parts().negated(LIMIT))
+    }
+
+    fn sign(self) -> i8 {
+        self.parts().sign()
+    }
+
+    fn is_zero(self) -> bool {
+        self.parts().is_zero()
+    }
+
+    fn compare(self, other: Self) -> Ordering {
+        self.parts().compare(other.parts())
+    }
+}
