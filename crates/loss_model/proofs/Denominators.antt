@@ -11,10 +11,10 @@ use Rattle.loss_model.specs.declared.problem.Row.{Row}
 use Rattle.loss_model.specs.declared.problem.Problem.{Problem}
 use Rattle.loss_model.specs.Problem.{value_at, sample}
 use Rattle.loss_model.specs.Scaled.{row_values, values, unit, over_at, scaled}
-use Rattle.loss_model.specs.Laws.{MinimisesInIntegers, DualsInIntegers, ListIsOver}
+use Rattle.loss_model.specs.Laws.{LossInIntegers, MinimisesInIntegers, DualsInIntegers, ListIsOver}
 use Rattle.loss_model.proofs.Quotients.{inverse_of, whole-quotient}
 use Rattle.loss_model.proofs.CommonDenominators.{one_le, whole-times}
-use Rattle.loss_model.proofs.Scales.{Scales}
+use Rattle.loss_model.proofs.Scales.{Scales, loss_scaled}
 use Rattle.loss_model.proofs.Integers.{minima, duals}
 
 record Divides (d q : ℕ) : Type 0 where
@@ -99,6 +99,11 @@ module _ {F : Type 0} (value : F → Fraction) (positive : (x : F) → 1 ≤ (va
         down0 = at_row q (λ r. over q (value r.down0)) (λ r. rational (value r.down0)) p.rows (λ r h. whole-over q (value r.down0) (positive r.down0) h.1.1.1.0) all;
         down1 = at_row q (λ r. over q (value r.down1)) (λ r. rational (value r.down1)) p.rows (λ r h. whole-over q (value r.down1) (positive r.down1) h.1.1.1.1.0) all;
       }
+
+  pub losses : (p : Problem F) → LossInIntegers value p
+  losses p theta c d tp dp =
+      loss_scaled (unit value p) (sample value p) (scaled value p) (scales p) theta tp c d (λ k. quotient (c k) d)
+      (record { each = λ k l. whole-quotient (c k) d dp })
 
   pub minimises : (p : Problem F) → MinimisesInIntegers value p
   minimises p theta c d tp dp =

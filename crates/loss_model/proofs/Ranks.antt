@@ -2,14 +2,13 @@
 use Rattle.std.specs.Prelude.{◌≡◌, ◌↔◌, ℕ, ◌<◌, ◌≤◌, [], ◌∷◌, ℤ, pos, ◌*ℤ◌}
 use Rattle.std.proofs.Common.{refl, sym, ap, subst, ◌∙◌}
 use Rattle.exact_algebra.specs.IntegerSums.{sum_to}
-use Rattle.exact_algebra.specs.Fraction.{Fraction}
 use Rattle.exact_algebra.specs.Solver.{number, ◌⊠◌, v0, v1, v2, v3}
 use Rattle.exact_algebra.specs.Rational.{ℚ, ℚ_set, ◌*ℚ◌, whole, whole-mul, ring_ℚ}
 use Rattle.exact_algebra.specs.RationalSums.{sum_ℚ, sum_ℚ-same, sum_ℚ-scale}
 use Rattle.exact_algebra.specs.WholeNumbers.{same_from_whole, whole-sum}
 use Rattle.loss_model.specs.Sample.{Sample, fitted}
 use Rattle.loss_model.specs.Scaled.{Scaled}
-use Rattle.loss_model.specs.FullRank.{HasFullRank, HasFullRankInIntegers, IsDependence, DependenceRefutes}
+use Rattle.loss_model.specs.FullRank.{HasFullRank, HasFullRankInIntegers, DependenceRefutes}
 use Rattle.loss_model.proofs.Quotients.{IsOver, cancel_whole}
 use Rattle.loss_model.proofs.CommonDenominators.{by_vector}
 use Rattle.loss_model.proofs.Scales.{Scales}

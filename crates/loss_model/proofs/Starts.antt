@@ -1,11 +1,11 @@
 -- There is one greedy start.
-use Rattle.std.specs.Prelude.{◌≡◌, ◌⊎◌, ℕ, zero, suc, ◌<◌, Bool, true, false, List, Option, Some, slice_set}
+use Rattle.std.specs.Prelude.{◌≡◌, ◌⊎◌, ℕ, zero, suc, Bool, true, false, List, Option, Some, slice_set}
 use Rattle.std.proofs.Common.{arith, refl, sym, ap, subst, ◌∙◌, inl, inr}
 use Rattle.std.proofs.lemmas.Bool.{ltb-false}
 use Rattle.std.specs.Prelude.{nat_lt}
 use borrow.Author.Tests.{ltb-true}
 use Rattle.loss_model.specs.Sample.{Sample}
-use Rattle.loss_model.specs.Greedy.{Enters, Passes, IsLeastTaken, IsStartAfter, StartIsUnique}
+use Rattle.loss_model.specs.Greedy.{Enters, Passes, IsLeastTaken, StartIsUnique}
 
 -- there is one least position
 one_least : (p : Sample) (start : List (Option ℕ)) (i q r : ℕ) → IsLeastTaken p start i q → IsLeastTaken p start i r → q ≡ r

@@ -33,7 +33,8 @@ residual p b i = p.y i -ℚ fitted p b i
 -- the check loss of row i, with its weight and penalty in its costs
 abbrev pub row_loss : Sample → ℚ → (ℕ → ℚ) → ℕ → ℚ
 row_loss p theta b i =
-    (up_cost p theta i *ℚ positive_ℚ (residual p b i)) +ℚ (down_cost p theta i *ℚ negative_ℚ (residual p b i))
+    let r = residual p b i in
+    (up_cost p theta i *ℚ positive_ℚ r) +ℚ (down_cost p theta i *ℚ negative_ℚ r)
 
 abbrev pub loss : Sample → ℚ → (ℕ → ℚ) → ℚ
 loss p theta b = sum_ℚ p.rows (row_loss p theta b)

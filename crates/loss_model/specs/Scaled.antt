@@ -69,7 +69,8 @@ residual p c d i = (p.y i *ℤ pos d) -ℤ sum_to p.columns (λ k. p.x i k *ℤ 
 
 abbrev pub row_loss : Scaled → Fraction → (ℕ → ℤ) → ℕ → ℕ → ℤ
 row_loss p theta c d i =
-    (up_cost p theta i *ℤ positive_part (residual p c d i)) +ℤ (down_cost p theta i *ℤ negative_part (residual p c d i))
+    let r = residual p c d i in
+    (up_cost p theta i *ℤ positive_part r) +ℤ (down_cost p theta i *ℤ negative_part r)
 
 abbrev pub loss : Scaled → Fraction → (ℕ → ℤ) → ℕ → ℤ
 loss p theta c d = sum_to p.rows (row_loss p theta c d)

@@ -7,6 +7,7 @@ use Rattle.exact_algebra.specs.Fraction.{Fraction, rational}
 use Rattle.exact_algebra.specs.Order.{cmp_ℚ}
 use Rattle.loss_model.specs.declared.problem.Problem.{Problem}
 use Rattle.loss_model.specs.declared.process.Segment.{Segment}
+use Rattle.loss_model.specs.declared.vertex.Vertex.{Vertex}
 use Rattle.loss_model.specs.Vertex.{dual_value}
 
 -- segment j goes from lo j to hi j, where row i has the dual values at_lo j i and at_hi j i
@@ -30,6 +31,10 @@ pub record Covers (rows : ℕ) (lo hi : ℚ) (s : Segments) : Type 0 where
 abbrev pub of_segment : {F : Type 0} → List (Segment F) → (Segment F → ℚ) → ℕ → ℚ
 of_segment segments number j = option_map_or number (slice_get segments j) (whole (pos 0))
 
+-- the dual value of row i at a fraction
+abbrev pub dual_at : {F : Type 0} → (F → Fraction) → Problem F → Vertex F → List F → F → ℕ → ℚ
+dual_at value p v basic theta i = dual_value value p v basic (rational (value theta)) i
+
 -- the segments of a process on a problem
 abbrev pub segments_of : {F : Type 0} → (F → Fraction) → Problem F → List (Segment F) → Segments
 segments_of value p segments =
@@ -37,6 +42,6 @@ segments_of value p segments =
       count = length segments;
       lo = of_segment segments (λ s. rational (value s.lo));
       hi = of_segment segments (λ s. rational (value s.hi));
-      at_lo = λ j i. of_segment segments (λ s. dual_value value p s.vertex s.basic_lo (rational (value s.lo)) i) j;
-      at_hi = λ j i. of_segment segments (λ s. dual_value value p s.vertex s.basic_hi (rational (value s.hi)) i) j;
+      at_lo = λ j i. of_segment segments (λ s. dual_at value p s.vertex s.basic_lo s.lo i) j;
+      at_hi = λ j i. of_segment segments (λ s. dual_at value p s.vertex s.basic_hi s.hi i) j;
     }

@@ -33,8 +33,10 @@ AreOperands t Add k left right = (left ≡ partial_sum t k) × (right ≡ t.left
 AreOperands t Sub k left right = ⊥
 AreOperands t Div k left right = ⊥
 
--- an operation at a product overflows; the site counts the terms from 1, and `site.term` of them stand before the products
-pub record IsSpillOf {F : Type 0} (value : F → Fraction) (range : ℕ) (site : Site) (t : Products) (s : Spill F) : Type 0 where
+-- the spill is an operation at a product, and it overflows; terms are counted from 1, and
+-- `site.term` of them stand before the products
+pub record IsSpillOf {F : Type 0} (value : F → Fraction) (range : ℕ) (site : Site) (t : Products) (s : Spill F)
+    : Type 0 where
   pub place : ℕ
   pub within : place < t.count
   pub named : s.site ≡ record site { term = site.term + place + 1; kind = s.site.kind }
@@ -43,7 +45,8 @@ pub record IsSpillOf {F : Type 0} (value : F → Fraction) (range : ℕ) (site :
 
 -- a site, with the number of terms before the products
 abbrev pub site_of : Quantity → ℕ → ℕ → ℕ → Site
-site_of quantity first second before = record { quantity = quantity; first = first; second = second; third = 0; term = before; kind = Mul }
+site_of quantity first second terms =
+    record { quantity = quantity; first = first; second = second; third = 0; term = terms; kind = Mul }
 
 -- a value and one product
 abbrev pub one_product : ℚ → ℚ → ℚ → Products
@@ -51,7 +54,8 @@ one_product first left right = record { first = first; count = 1; left = λ k. l
 
 -- the response, and the negated entries times the coefficients
 abbrev pub residual_products : Sample → (ℕ → ℚ) → ℕ → Products
-residual_products p b i = record { first = p.y i; count = p.columns; left = λ k. neg_ℚ (p.x i k); right = b }
+residual_products p b i =
+    record { first = p.y i; count = p.columns; left = λ k. neg_ℚ (p.x i k); right = b }
 
 -- part 0 of a cost, and part 1 times theta
 abbrev pub cost_products : ℚ → ℚ → ℚ → Products
@@ -65,23 +69,39 @@ down_products p theta i = cost_products (p.down0 i) (p.down1 i) theta
 
 -- the cost of the side on which a residual lies, which is the up side for 0
 abbrev pub side_cost : Sample → ℚ → (ℕ → ℚ) → ℕ → ℚ
-side_cost p theta b i = cond (le_ℚ (whole (pos 0)) (residual p b i)) (up_cost p theta i) (down_cost p theta i)
+side_cost p theta b i =
+    cond (le_ℚ (whole (pos 0)) (residual p b i)) (up_cost p theta i) (down_cost p theta i)
 
 abbrev pub abs_ℚ : ℚ → ℚ
 abs_ℚ x = cond (le_ℚ (whole (pos 0)) x) x (neg_ℚ x)
 
 -- costs times absolute residuals
 abbrev pub loss_products : Sample → ℚ → (ℕ → ℚ) → Products
-loss_products p theta b = record { first = whole (pos 0); count = p.rows; left = side_cost p theta b; right = λ i. abs_ℚ (residual p b i) }
+loss_products p theta b =
+    record {
+      first = whole (pos 0);
+      count = p.rows;
+      left = side_cost p theta b;
+      right = λ i. abs_ℚ (residual p b i);
+    }
 
--- an operation of the residual or of a cost of row i overflows
+-- an operation of the residual of row i overflows
+abbrev pub IsResidualSpill : {F : Type 0} → (F → Fraction) → ℕ → Sample → (ℕ → ℚ) → ℕ → Spill F → Type 0
+IsResidualSpill value range p b i s = IsSpillOf value range (site_of Residual i 0 1) (residual_products p b i) s
+
+-- one of its up cost does
+abbrev pub IsUpCostSpill : {F : Type 0} → (F → Fraction) → ℕ → Sample → ℚ → ℕ → Spill F → Type 0
+IsUpCostSpill value range p theta i s = IsSpillOf value range (site_of CostValue i 0 1) (up_products p theta i) s
+
+-- one of its down cost does
+abbrev pub IsDownCostSpill : {F : Type 0} → (F → Fraction) → ℕ → Sample → ℚ → ℕ → Spill F → Type 0
+IsDownCostSpill value range p theta i s = IsSpillOf value range (site_of CostValue i 1 1) (down_products p theta i) s
+
 abbrev pub IsRowSpill : {F : Type 0} → (F → Fraction) → ℕ → Sample → ℚ → (ℕ → ℚ) → ℕ → Spill F → Type 0
 IsRowSpill value range p theta b i s =
-    IsSpillOf value range (site_of Residual i 0 1) (residual_products p b i) s
-    ⊎ (IsSpillOf value range (site_of CostValue i 0 1) (up_products p theta i) s
-    ⊎ IsSpillOf value range (site_of CostValue i 1 1) (down_products p theta i) s)
+    IsResidualSpill value range p b i s ⊎ (IsUpCostSpill value range p theta i s ⊎ IsDownCostSpill value range p theta i s)
 
--- or one of the sum of the losses
+-- an operation of a row's residual or cost, or of the sum of the losses, overflows
 abbrev pub IsLossSpill : {F : Type 0} → (F → Fraction) → ℕ → Sample → ℚ → (ℕ → ℚ) → Spill F → Type 0
 IsLossSpill value range p theta b s =
     ((i : ℕ) × (i < p.rows) × IsRowSpill value range p theta b i s)

@@ -31,9 +31,11 @@ basic_value value v basic i = value_at value basic (position_or_len (λ r. r == 
 -- the dual value of row i at theta, where the basic rows, ascending, have the values of the list
 abbrev pub dual_value : {F : Type 0} → (F → Fraction) → Problem F → Vertex F → List F → ℚ → ℕ → ℚ
 dual_value value p v basic theta i =
-    option_map_or (value_of_side (sample value p) theta (basic_value value v basic) i) (slice_get v.sides i) (whole (pos 0))
+    let of = value_of_side (sample value p) theta (basic_value value v basic) i in
+    option_map_or of (slice_get v.sides i) (whole (pos 0))
 
--- an ascending basis of as many rows as there are columns, a coefficient for each column, and a side for each row, which is Basic at exactly the rows of the basis
+-- an ascending basis of as many rows as there are columns, a coefficient for each column, and a side
+-- for each row, which is Basic at exactly the rows of the basis
 pub record IsVertexOf {F : Type 0} (p : Problem F) (v : Vertex F) : Type 0 where
   pub ascending : IsStrictlyIncreasing v.basis.rows
   pub size : length v.basis.rows ≡ p.columns

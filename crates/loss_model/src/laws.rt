@@ -1,6 +1,6 @@
 //! The laws of losses and dual values. No function here does anything: its contract is the law.
 
-ghost use Rattle.loss_model.specs.Laws.{WeakDuality, DualsShowMinimum, DualsAreGreatest, SidesShowDuals, VertexIsDual, MixIsDual, IntervalIsMixes, MinimisesBetween, CoversEveryValue, RankscoresAreBounded, DualsShowMinimumInIntegers, MixIsDualInIntegers, MinimisesInIntegers, DualsInIntegers, ListIsOver};
+ghost use Rattle.loss_model.specs.Laws.{WeakDuality, DualsShowMinimum, DualsAreGreatest, SidesShowDuals, VertexIsDual, MixIsDual, IntervalIsMixes, MinimisesBetween, CoversEveryValue, RankscoresAreBounded, DualsShowMinimumInIntegers, MixIsDualInIntegers, LossInIntegers, MinimisesInIntegers, DualsInIntegers, ListIsOver};
 
 use crate::problem::Problem;
 use crate::vertex::Vertex;
@@ -49,9 +49,11 @@ pub fn duality_in_integers()
     ensures mixed { MixIsDualInIntegers }
 {}
 
-/// What minimises, and what is dual, among fractions is so among whole numbers, and the other way
-/// round: for the problem in units of the product of all its denominators.
+/// A loss among fractions is one among whole numbers in other units. So what minimises, and what is
+/// dual, among fractions is so among whole numbers, and the other way round: for the problem in
+/// units of the product of all its denominators.
 pub fn minima_in_integers<F: Exact>(problem: &Problem<F>)
+    ensures loss { LossInIntegers F.value problem.now }
     ensures minimum { MinimisesInIntegers F.value problem.now }
     ensures dual { DualsInIntegers F.value problem.now }
 {}

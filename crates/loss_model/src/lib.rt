@@ -24,3 +24,6 @@ pub use sites::{Sign, minus_at, over_at, plus_at, plus_product, sum_of_products,
 pub use spill::{Quantity, Short, Site, Spill};
 pub use stop::Stop;
 pub use vertex::{Basis, Side, Vertex};
+
+#[cfg(test)]
+mod tests;

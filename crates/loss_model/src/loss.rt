@@ -5,7 +5,7 @@ ghost use Rattle.exact_algebra.specs.Fraction.{rational};
 ghost use Rattle.exact_algebra.specs.Rational.{◌+ℚ◌, ◌*ℚ◌};
 ghost use Rattle.loss_model.specs.Sample.{up_cost, down_cost, residual, loss};
 ghost use Rattle.loss_model.specs.Problem.{value_at, sample, IsWellShaped};
-ghost use Rattle.loss_model.specs.Spill.{site_of, IsSpillOf, residual_products, cost_products, up_products, down_products, side_cost, abs_ℚ, IsRowSpill, IsLossSpill};
+ghost use Rattle.loss_model.specs.Spill.{IsSpillOf, cost_products, side_cost, abs_ℚ, IsResidualSpill, IsUpCostSpill, IsDownCostSpill, IsRowSpill, IsLossSpill};
 
 use crate::problem::Problem;
 use crate::sites::{Sign, plus_product, sum_of_products};
@@ -17,8 +17,10 @@ pub fn residual_at<F: Exact>(problem: &Problem<F>, row: u32, coef: &[F]) -> Resu
     requires shaped { IsWellShaped problem.now }
     requires coefs { length coef.now ≡ problem.now.columns }
     requires inside { row < length problem.now.rows }
-    ensures exact { IfOk result (λ r. rational (F.value r) ≡ residual (sample F.value problem.now) (value_at F.value coef.now) row) }
-    ensures spilled { IfErr result (IsSpillOf F.value F.range (site_of Quantity.Residual row 0 1) (residual_products (sample F.value problem.now) (value_at F.value coef.now) row)) }
+    ensures exact { let p = sample F.value problem.now in let b = value_at F.value coef.now in
+        IfOk result (λ r. rational (F.value r) ≡ residual p b row) }
+    ensures spilled { let p = sample F.value problem.now in let b = value_at F.value coef.now in
+        IfErr result (IsResidualSpill F.value F.range p b row) }
 {
     let chosen = &problem.rows.as_slice()[row as usize];
     let site = Site::new(Quantity::Residual, row, 0, 1);
@@ -28,8 +30,10 @@ pub fn residual_at<F: Exact>(problem: &Problem<F>, row: u32, coef: &[F]) -> Resu
 /// The up cost of a row at theta: part 0, and then part 1 times theta.
 pub fn up_cost_at<F: Exact>(problem: &Problem<F>, row: u32, theta: F) -> Result<F, Spill<F>>
     requires { row < length problem.now.rows }
-    ensures exact { IfOk result (λ r. rational (F.value r) ≡ up_cost (sample F.value problem.now) (rational (F.value theta)) row) }
-    ensures spilled { IfErr result (IsSpillOf F.value F.range (site_of Quantity.CostValue row 0 1) (up_products (sample F.value problem.now) (rational (F.value theta)) row)) }
+    ensures exact { let p = sample F.value problem.now in let t = rational (F.value theta) in
+        IfOk result (λ r. rational (F.value r) ≡ up_cost p t row) }
+    ensures spilled { let p = sample F.value problem.now in let t = rational (F.value theta) in
+        IfErr result (IsUpCostSpill F.value F.range p t row) }
 {
     let chosen = &problem.rows.as_slice()[row as usize];
     let site = Site::new(Quantity::CostValue, row, 0, 1);
@@ -39,8 +43,10 @@ pub fn up_cost_at<F: Exact>(problem: &Problem<F>, row: u32, theta: F) -> Result<
 /// The down cost of a row at theta: part 0, and then part 1 times theta.
 pub fn down_cost_at<F: Exact>(problem: &Problem<F>, row: u32, theta: F) -> Result<F, Spill<F>>
     requires { row < length problem.now.rows }
-    ensures exact { IfOk result (λ r. rational (F.value r) ≡ down_cost (sample F.value problem.now) (rational (F.value theta)) row) }
-    ensures spilled { IfErr result (IsSpillOf F.value F.range (site_of Quantity.CostValue row 1 1) (down_products (sample F.value problem.now) (rational (F.value theta)) row)) }
+    ensures exact { let p = sample F.value problem.now in let t = rational (F.value theta) in
+        IfOk result (λ r. rational (F.value r) ≡ down_cost p t row) }
+    ensures spilled { let p = sample F.value problem.now in let t = rational (F.value theta) in
+        IfErr result (IsDownCostSpill F.value F.range p t row) }
 {
     let chosen = &problem.rows.as_slice()[row as usize];
     let site = Site::new(Quantity::CostValue, row, 1, 1);
@@ -64,9 +70,12 @@ fn price<F: Exact>(
     requires shaped { IsWellShaped problem.now }
     requires coefs { length coef.now ≡ problem.now.columns }
     requires inside { row < length problem.now.rows }
-    ensures cost { IfOk result (λ r. rational (F.value r.cost) ≡ side_cost (sample F.value problem.now) (rational (F.value theta)) (value_at F.value coef.now) row) }
-    ensures size { IfOk result (λ r. rational (F.value r.size) ≡ abs_ℚ (residual (sample F.value problem.now) (value_at F.value coef.now) row)) }
-    ensures spilled { IfErr result (IsRowSpill F.value F.range (sample F.value problem.now) (rational (F.value theta)) (value_at F.value coef.now) row) }
+    ensures cost { let p = sample F.value problem.now in let t = rational (F.value theta) in
+        IfOk result (λ r. rational (F.value r.cost) ≡ side_cost p t (value_at F.value coef.now) row) }
+    ensures size { let p = sample F.value problem.now in let b = value_at F.value coef.now in
+        IfOk result (λ r. rational (F.value r.size) ≡ abs_ℚ (residual p b row)) }
+    ensures spilled { let p = sample F.value problem.now in let b = value_at F.value coef.now in
+        IfErr result (IsRowSpill F.value F.range p (rational (F.value theta)) b row) }
 {
     let residual = residual_at(problem, row, coef)?;
     if residual.sign() < 0 {
@@ -90,8 +99,10 @@ fn price<F: Exact>(
 pub fn loss_at<F: Exact>(problem: &Problem<F>, coef: &[F], theta: F) -> Result<F, Spill<F>>
     requires shaped { IsWellShaped problem.now }
     requires coefs { length coef.now ≡ problem.now.columns }
-    ensures exact { IfOk result (λ r. rational (F.value r) ≡ loss (sample F.value problem.now) (rational (F.value theta)) (value_at F.value coef.now)) }
-    ensures spilled { IfErr result (IsLossSpill F.value F.range (sample F.value problem.now) (rational (F.value theta)) (value_at F.value coef.now)) }
+    ensures exact { let p = sample F.value problem.now in let b = value_at F.value coef.now in
+        IfOk result (λ r. rational (F.value r) ≡ loss p (rational (F.value theta)) b) }
+    ensures spilled { let p = sample F.value problem.now in let b = value_at F.value coef.now in
+        IfErr result (IsLossSpill F.value F.range p (rational (F.value theta)) b) }
 {
     let rows = problem.rows.as_slice().len() as u32;
     let mut total = F::zero();

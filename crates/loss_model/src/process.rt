@@ -17,7 +17,7 @@ pub struct Segment<F> {
 
 /// A pivot: at the parameter `theta` the row enters the basis at the position, and takes the place
 /// of the row that leaves.
-#[derive(Clone, Copy)]
+#[derive(Clone, Copy, Debug, PartialEq, Eq)]
 pub struct Exchange<F> {
     pub theta: F,
     pub position: u32,

@@ -64,7 +64,7 @@ impl Site {
 }
 
 /// An operation that overflows, with its operands.
-#[derive(Clone, Copy)]
+#[derive(Clone, Copy, Debug, PartialEq, Eq)]
 pub struct Spill<F> {
     pub site: Site,
     pub left: F,

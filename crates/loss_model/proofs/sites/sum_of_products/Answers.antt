@@ -1,4 +1,4 @@
-use Rattle.std.proofs.Common.{◌+◌, ◌<◌, length, refl, sym, ap, ◌∙◌, arith}
+use Rattle.std.proofs.Common.{◌<◌, length, refl, sym, ap, ◌∙◌, arith}
 use Rattle.std.proofs.lemmas.Result.{err_from_is_err_and}
 use Rattle.loss_model.specs.Sign.{signed, products_of}
 use Rattle.loss_model.proofs.Products.{value_at-item, partial_sum-zero, partial_sum-next, step_spill, product_is}
