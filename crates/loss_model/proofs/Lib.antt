@@ -4,6 +4,8 @@ pub mod Mixes
 pub mod Intervals
 pub mod Rankscores
 pub mod Scales
+pub mod Ranks
+pub mod Starts
 pub mod CommonDenominators
 pub mod Integers
 pub mod Denominators

@@ -5,5 +5,9 @@ pub mod Vertex
 pub mod Segment
 pub mod Scaled
 pub mod Laws
+pub mod FullRank
+pub mod Greedy
+pub mod Quantities
+pub mod StartStop
 pub mod Spill
 pub mod Sign

@@ -48,6 +48,10 @@ abbrev pub site_of : Quantity → ℕ → ℕ → ℕ → Site
 site_of quantity first second terms =
     record { quantity = quantity; first = first; second = second; third = 0; term = terms; kind = Mul }
 
+-- a value and one product
+abbrev pub one_product : ℚ → ℚ → ℚ → Products
+one_product first left right = record { first = first; count = 1; left = λ k. left; right = λ k. right }
+
 -- the response, and the negated entries times the coefficients
 abbrev pub residual_products : Sample → (ℕ → ℚ) → ℕ → Products
 residual_products p b i =
@@ -55,8 +59,7 @@ residual_products p b i =
 
 -- part 0 of a cost, and part 1 times theta
 abbrev pub cost_products : ℚ → ℚ → ℚ → Products
-cost_products part0 part1 theta =
-    record { first = part0; count = 1; left = λ k. part1; right = λ k. theta }
+cost_products part0 part1 theta = one_product part0 part1 theta
 
 abbrev pub up_products : Sample → ℚ → ℕ → Products
 up_products p theta i = cost_products (p.up0 i) (p.up1 i) theta

@@ -6,19 +6,23 @@
 //! (`frac_core`) and on the algebra below them (`exact_algebra`).
 #![tactic(auto)]
 
+pub mod full_rank;
+pub mod greedy;
 pub mod laws;
 mod loss;
 mod problem;
 mod process;
 mod sites;
 mod spill;
+mod stop;
 mod vertex;
 
 pub use loss::{down_cost_at, loss_at, residual_at, up_cost_at};
 pub use problem::{Problem, Row};
 pub use process::{Exchange, Process, Segment, Trail};
-pub use sites::{Sign, minus_at, over_at, plus_at, sum_of_products, times_at};
+pub use sites::{Sign, minus_at, over_at, plus_at, plus_product, sum_of_products, times_at};
 pub use spill::{Quantity, Short, Site, Spill};
+pub use stop::Stop;
 pub use vertex::{Basis, Side, Vertex};
 
 #[cfg(test)]

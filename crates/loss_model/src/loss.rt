@@ -8,7 +8,7 @@ ghost use Rattle.loss_model.specs.Problem.{value_at, sample, IsWellShaped};
 ghost use Rattle.loss_model.specs.Spill.{IsSpillOf, cost_products, side_cost, abs_ℚ, IsResidualSpill, IsUpCostSpill, IsDownCostSpill, IsRowSpill, IsLossSpill};
 
 use crate::problem::Problem;
-use crate::sites::{Sign, plus_at, sum_of_products, times_at};
+use crate::sites::{Sign, plus_product, sum_of_products};
 use crate::spill::{Quantity, Site, Spill};
 use frac_core::Exact;
 
@@ -37,7 +37,7 @@ pub fn up_cost_at<F: Exact>(problem: &Problem<F>, row: u32, theta: F) -> Result<
 {
     let chosen = &problem.rows.as_slice()[row as usize];
     let site = Site::new(Quantity::CostValue, row, 0, 1);
-    cost_at(site, chosen.up0, chosen.up1, theta)
+    plus_product(site, chosen.up0, chosen.up1, theta)
 }
 
 /// The down cost of a row at theta: part 0, and then part 1 times theta.
@@ -50,23 +50,7 @@ pub fn down_cost_at<F: Exact>(problem: &Problem<F>, row: u32, theta: F) -> Resul
 {
     let chosen = &problem.rows.as_slice()[row as usize];
     let site = Site::new(Quantity::CostValue, row, 1, 1);
-    cost_at(site, chosen.down0, chosen.down1, theta)
-}
-
-// A cost at theta: part 0, and then part 1 times theta.
-fn cost_at<F: Exact>(site: Site, part0: F, part1: F, theta: F) -> Result<F, Spill<F>>
-    requires few { site.term < 2 }
-    ensures exact { let t = rational (F.value theta) in let a = rational (F.value part0) in
-        IfOk result (λ r. rational (F.value r) ≡ a +ℚ (rational (F.value part1) *ℚ t)) }
-    ensures spilled { let t = rational (F.value theta) in let a = rational (F.value part0) in
-        IfErr result (IsSpillOf F.value F.range site (cost_products a (rational (F.value part1)) t)) }
-{
-    let at = Site {
-        term: site.term + 1,
-        ..site
-    };
-    let moved = times_at(at, part1, theta)?;
-    plus_at(at, part0, moved)
+    plus_product(site, chosen.down0, chosen.down1, theta)
 }
 
 // The cost of the side on which a residual lies, and the size of the residual.
@@ -124,9 +108,8 @@ pub fn loss_at<F: Exact>(problem: &Problem<F>, coef: &[F], theta: F) -> Result<F
     let mut total = F::zero();
     for row in 0..rows {
         let priced = price(problem, row, coef, theta)?;
-        let site = Site::new(Quantity::Loss, 0, 0, row + 1);
-        let product = times_at(site, priced.cost, priced.size)?;
-        total = plus_at(site, total, product)?;
+        let site = Site::new(Quantity::Loss, 0, 0, row);
+        total = plus_product(site, total, priced.cost, priced.size)?;
     }
     Ok(total)
 }

@@ -5,7 +5,7 @@ ghost use Rattle.exact_algebra.specs.Fraction.{rational};
 ghost use Rattle.exact_algebra.specs.Rational.{◌+ℚ◌, ◌-ℚ◌, ◌*ℚ◌, inverse, whole};
 ghost use Rattle.frac_core.specs.Overflow.{IsWithin, Overflows};
 ghost use Rattle.loss_model.specs.Problem.{value_at};
-ghost use Rattle.loss_model.specs.Spill.{Products, total, IsSpillOf};
+ghost use Rattle.loss_model.specs.Spill.{Products, total, one_product, IsSpillOf};
 ghost use Rattle.loss_model.specs.Sign.{signed, products_of};
 
 use crate::spill::{Site, Spill};
@@ -97,11 +97,30 @@ pub fn over_at<F: Exact>(site: Site, left: F, right: F) -> Result<F, Spill<F>>
     }
 }
 
+/// `first` plus a product. Both operations have the term `site.term + 1`. Neither is made where a
+/// factor is 0, for then it changes nothing and cannot overflow.
+#[tactic(auto, using(crate::proofs::Products::plus_zero_left, crate::proofs::Products::plus_zero_right))]
+pub fn plus_product<F: Exact>(site: Site, first: F, left: F, right: F) -> Result<F, Spill<F>>
+    requires few { site.term + 1 < 2 ^ 32 }
+    ensures exact { IfOk result (λ r. rational (F.value r) ≡ rational (F.value first) +ℚ (rational (F.value left) *ℚ rational (F.value right))) }
+    ensures spilled { IfErr result (IsSpillOf F.value F.range site (one_product (rational (F.value first)) (rational (F.value left)) (rational (F.value right)))) }
+{
+    if left.is_zero() || right.is_zero() {
+        return Ok(first);
+    }
+    let at = Site {
+        term: site.term + 1,
+        ..site
+    };
+    let product = times_at(at, left, right)?;
+    plus_at(at, first, product)
+}
+
 /// `first` plus or minus the products of the two lists, added from the left.
 ///
 /// The site's term is the number of terms before the products: product `k`, counted from 0, and its
-/// addition have the term `site.term + k + 1`. A spill names one of these operations, which
-/// overflows, and has its operands.
+/// addition have the term `site.term + k + 1`. Products of which a factor is 0 are passed over. A
+/// spill names one of these operations, which overflows, and has its operands.
 pub fn sum_of_products<F: Exact>(
     site: Site,
     first: F,
@@ -116,13 +135,11 @@ pub fn sum_of_products<F: Exact>(
 {
     let mut sum = first;
     for k in 0..left.len() {
-        let at = Site {
-            term: site.term + k as u32 + 1,
+        let before = Site {
+            term: site.term + k as u32,
             ..site
         };
-        let factor = sign.apply(left[k]);
-        let product = times_at(at, factor, right[k])?;
-        sum = plus_at(at, sum, product)?;
+        sum = plus_product(before, sum, sign.apply(left[k]), right[k])?;
     }
     Ok(sum)
 }

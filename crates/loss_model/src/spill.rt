@@ -1,5 +1,5 @@
 //! Operations that overflow, and the quantities that they belong to.
-use frac_core::OpKind;
+use frac_core::{OpKind, OutOfMemory};
 
 /// A quantity that is computed in steps. Most are lists of products added from the left.
 #[derive(Clone, Copy, Debug, PartialEq, Eq)]
@@ -76,4 +76,26 @@ pub struct Spill<F> {
 pub enum Short<F> {
     OutOfMemory,
     Overflow(Spill<F>),
+}
+
+impl<F> From<Spill<F>> for Short<F> {
+    ghost use Rattle.std.specs.Prelude.{◌≡◌};
+    ghost use Rattle.loss_model.specs.declared.spill.Short.TheVariants.{Overflow};
+
+    ghost from_gives = { λ spill short. short ≡ Overflow spill };
+
+    fn from(spill: Spill<F>) -> Short<F> {
+        Short::Overflow(spill)
+    }
+}
+
+impl<F> From<OutOfMemory> for Short<F> {
+    ghost use Rattle.std.specs.Prelude.{◌≡◌};
+    ghost use Rattle.loss_model.specs.declared.spill.Short.TheVariants.{OutOfMemory};
+
+    ghost from_gives = { λ _ short. short ≡ OutOfMemory };
+
+    fn from(_: OutOfMemory) -> Short<F> {
+        Short::OutOfMemory
+    }
 }

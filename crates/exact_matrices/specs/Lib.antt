@@ -1,0 +1,5 @@
+pub mod Terms
+pub mod Matrices
+pub mod Exchange
+pub mod Spans
+pub mod Selections
