@@ -2,7 +2,7 @@
 use Rattle.std.proofs.Common.{◌≡◌, ◌⊎◌, ℕ, ◌<◌, List, Option, None, Some, Result, Ok, Err, OnOk, OnErr, true, false, arith, refl, sym, ap, subst, ◌∙◌, inl, inr}
 use Rattle.std.proofs.lemmas.Bool.{false≢true}
 use Rattle.std.specs.Io.KnownBytes.{Appends, Keeps}
-use Rattle.exact_algebra.specs.Rational.{ℚ}
+use Rattle.rq_words.specs.declared.job.Job.{Job}
 use Rattle.port_io.specs.Counts.{Rose, CountsFaults}
 use Rattle.port_io.specs.Told.{AppendsPart}
 use Rattle.rq_engine.specs.Answers as engine
@@ -11,9 +11,9 @@ use Rattle.rq_engine.specs.declared.report.Report.{Report}
 use Rattle.rq_engine.specs.declared.report.Halt.{Halt}
 use Rattle.rq_engine.specs.declared.report.Halt.TheVariants as halts
 use Rattle.rq_cli.specs.Outcomes.{Stream, OnDone, OnFault, is_fault, outcome_line, WereRead, HasCause, IsAnswered, WasTried, IsOutputFault, IsErrorFault, IsRun}
-use Rattle.rq_cli.specs.Steps.{outcome_of, IsTold, IsHalfTold, WasTold, IsPrinted, IsHalfPrinted, WasPrinted}
+use Rattle.rq_cli.specs.Steps.{outcome_of, IsWordOutcome, IsTold, IsHalfTold, WasTold, IsPrinted, IsHalfPrinted, WasPrinted}
 use Rattle.rq_cli.specs.declared.outcome.Outcome.{Outcome}
-use Rattle.rq_cli.specs.declared.outcome.Outcome.TheVariants.{Done, Refused, SourceFault, SinkFault, OutOfMemory, NotBuilt}
+use Rattle.rq_cli.specs.declared.outcome.Outcome.TheVariants.{Done, Refused, Usage, SourceFault, SinkFault, OutOfMemory, NotBuilt}
 
 -- a write whose answer isn't looked at
 pub tried : {T E : Type 0} (r : Result T E) (before now : Stream) (line : List ℕ) → OnOk r (Appends before.bytes now.bytes line) → OnErr r (AppendsPart before.bytes now.bytes line) → CountsFaults before.faults now.faults r → WasTried before now line
@@ -21,11 +21,21 @@ tried (Ok x) before now line ok err counted = inl ok
 tried (Err e) before now line ok err counted = inr (counted.rose, err)
 
 -- the cause of a halt is that of its outcome
-pub halt_cause : (words : List (List ℕ)) (source source' : Stream) (name : List ℕ) (tau : ℚ) (bytes : List ℕ) → WereRead words source source' name tau bytes → (halt : Halt) → engine.HasCause name bytes halt → HasCause words source source' (outcome_of halt)
-halt_cause words source source' name tau bytes read (halts.Refused refusal) cause = absurd cause
-halt_cause words source source' name tau bytes read halts.OutOfMemory cause = tt
-halt_cause words source source' name tau bytes read (halts.NotBuilt part) cause =
-    inr (cause.0, record { name = name; tau = tau; bytes = bytes; read = read; none = cause.1 })
+pub halt_cause : (words : List (List ℕ)) (source source' : Stream) (job : Job) (bytes : List ℕ) → WereRead words source source' job bytes → (halt : Halt) → engine.HasCause job bytes halt → HasCause words source source' (outcome_of halt)
+halt_cause words source source' job bytes read (halts.Refused refusal) cause = absurd cause
+halt_cause words source source' job bytes read halts.OutOfMemory cause = tt
+halt_cause words source source' job bytes read (halts.NotBuilt part) cause =
+    inr (cause.0, record { job = job; bytes = bytes; read = read; none = cause.1 })
+
+-- what is wrong with the words is a fault with its cause
+pub word_cause : (words : List (List ℕ)) (source source' : Stream) (outcome : Outcome) → IsWordOutcome words outcome → (is_fault outcome ≡ true) × HasCause words source source' outcome
+word_cause words source source' (Done report) h = absurd h
+word_cause words source source' (Refused refusal) h = absurd h
+word_cause words source source' (Usage fault) h = (refl, h)
+word_cause words source source' SourceFault h = absurd h
+word_cause words source source' SinkFault h = absurd h
+word_cause words source source' OutOfMemory h = (refl, tt)
+word_cause words source source' (NotBuilt part) h = (refl, inl h)
 
 keeps : (bytes : Option (List ℕ)) → Keeps bytes bytes
 keeps None = tt
@@ -64,6 +74,7 @@ module _ (words : List (List ℕ)) (source source' out out' err err' : Stream) w
   on_fault (Done _) P h = tt
   on_fault SinkFault P h = tt
   on_fault (Refused _) P h = h
+  on_fault (Usage _) P h = h
   on_fault SourceFault P h = h
   on_fault OutOfMemory P h = h
   on_fault (NotBuilt _) P h = h
@@ -72,6 +83,7 @@ module _ (words : List (List ℕ)) (source source' out out' err err' : Stream) w
   not_done (Done report) P h = absurd (false≢true h)
   not_done SinkFault P h = tt
   not_done (Refused _) P h = tt
+  not_done (Usage _) P h = tt
   not_done SourceFault P h = tt
   not_done OutOfMemory P h = tt
   not_done (NotBuilt _) P h = tt

@@ -1,11 +1,12 @@
 -- Exit statuses.
 use Rattle.std.specs.Prelude.{ℕ}
 use Rattle.rq_cli.specs.declared.outcome.Outcome.{Outcome}
-use Rattle.rq_cli.specs.declared.outcome.Outcome.TheVariants.{Done, Refused, SourceFault, SinkFault, OutOfMemory, NotBuilt}
+use Rattle.rq_cli.specs.declared.outcome.Outcome.TheVariants.{Done, Refused, Usage, SourceFault, SinkFault, OutOfMemory, NotBuilt}
 
 abbrev pub code_of : Outcome → ℕ
 code_of (Done _) = 0
 code_of (Refused _) = 1
+code_of (Usage _) = 2
 code_of SourceFault = 3
 code_of SinkFault = 4
 code_of OutOfMemory = 5

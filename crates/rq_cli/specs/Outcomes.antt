@@ -1,19 +1,19 @@
 -- What an outcome of a run says of the words, of the bytes that came, and of what was written.
-use Rattle.std.specs.Prelude.{◌≡◌, ℕ, ◌^◌, ◌<◌, ◌≤◌, ◌+◌, ◌⊎◌, List, [], Option, length, ℤ, Bool, true, false, ⊤}
+use Rattle.std.specs.Prelude.{◌≡◌, ℕ, ◌^◌, ◌<◌, ◌≤◌, ◌+◌, ◌⊎◌, List, [], Option, Err, length, Bool, true, false, ⊤}
 use Rattle.std.specs.Io.KnownBytes.{Appends, Keeps}
-use Rattle.exact_algebra.specs.Rational.{ℚ}
 use Rattle.port_io.specs.Counts.{Rose}
 use Rattle.port_io.specs.Told.{TakesAll, TakesFirst, AppendsPart}
-use Rattle.rq_engine.specs.Column.{IsColumn}
-use Rattle.rq_engine.specs.Answers.{IsRight}
-use Rattle.rq_engine.specs.FaultText.{source_line, sink_line, memory_line, halt_line}
+use Rattle.rq_words.specs.Words.{words_of}
+use Rattle.rq_words.specs.declared.job.Job.{Job}
+use Rattle.rq_engine.specs.Answers.{IsRight, IsNoColumn}
+use Rattle.rq_engine.specs.FaultText.{source_line, sink_line, memory_line, halt_line, usage_line}
 use Rattle.rq_engine.specs.ReportText.{report_text}
 use Rattle.rq_engine.specs.declared.report.Refusal.{Refusal}
 use Rattle.rq_engine.specs.declared.report.Report.{Report}
 use Rattle.rq_engine.specs.declared.report.Halt.TheVariants as halts
-use Rattle.rq_cli.specs.Asked.{Asks}
+use Rattle.rq_engine.specs.Level.{IsBuilt, IsJobOf}
 use Rattle.rq_cli.specs.declared.outcome.Outcome.{Outcome}
-use Rattle.rq_cli.specs.declared.outcome.Outcome.TheVariants.{Done, Refused, SourceFault, SinkFault, OutOfMemory, NotBuilt}
+use Rattle.rq_cli.specs.declared.outcome.Outcome.TheVariants.{Done, Refused, Usage, SourceFault, SinkFault, OutOfMemory, NotBuilt}
 
 -- a fact of the report
 abbrev pub OnDone : Outcome → (Report → Type 0) → Type 0
@@ -36,6 +36,7 @@ is_fault _ = true
 abbrev pub outcome_line : Outcome → List ℕ
 outcome_line (Done _) = []
 outcome_line (Refused refusal) = halt_line (halts.Refused refusal)
+outcome_line (Usage fault) = usage_line fault
 outcome_line SourceFault = source_line
 outcome_line SinkFault = sink_line
 outcome_line OutOfMemory = memory_line
@@ -49,43 +50,54 @@ pub record Stream : Type 0 where
 abbrev pub stream : Option (List ℕ) → ℕ → Stream
 stream bytes faults = record { bytes = bytes; faults = faults }
 
--- the words ask for this column at this quantile, and these bytes of the source were read to its end
-pub record WereRead (words : List (List ℕ)) (before now : Stream) (name : List ℕ) (tau : ℚ) (bytes : List ℕ) : Type 0 where
-  pub asks : Asks words name tau
+-- the words ask for a job that is done, and these bytes of the source were read to its end
+pub record WereRead (words : List (List ℕ)) (before now : Stream) (job : Job) (bytes : List ℕ) : Type 0 where
+  pub asked : IsJobOf words job
+  pub built : IsBuilt job
   pub whole : TakesAll before.bytes now.bytes bytes
   pub short : length bytes ≤ 2 ^ 26
 
--- the report is right for the words and for the bytes of the source
+-- the report is right for the job of the words and for the bytes of the source
 pub record IsAnswered (words : List (List ℕ)) (before now : Stream) (report : Report) : Type 0 where
-  pub name : List ℕ
-  pub tau : ℚ
+  pub job : Job
   pub bytes : List ℕ
-  pub read : WereRead words before now name tau bytes
-  pub right : IsRight name bytes tau report
+  pub read : WereRead words before now job bytes
+  pub right : IsRight job bytes report
 
--- the bytes of the source are no column
-pub record IsNoColumn (words : List (List ℕ)) (before now : Stream) : Type 0 where
-  pub name : List ℕ
-  pub tau : ℚ
+-- the words ask for a job that this version doesn't do
+pub record IsNotBuilt (words : List (List ℕ)) : Type 0 where
+  pub job : Job
+  pub asked : IsJobOf words job
+  pub other : ¬ IsBuilt job
+
+-- the bytes of the source are no column for the job
+pub record IsOtherTable (words : List (List ℕ)) (before now : Stream) : Type 0 where
+  pub job : Job
   pub bytes : List ℕ
-  pub read : WereRead words before now name tau bytes
-  pub none : (values : List ℤ) → ¬ IsColumn name bytes values
+  pub read : WereRead words before now job bytes
+  pub none : IsNoColumn job bytes
 
 -- more than 2^26 bytes came
 pub record IsTooLong (words : List (List ℕ)) (before now : Stream) : Type 0 where
-  pub name : List ℕ
-  pub tau : ℚ
-  pub asks : Asks words name tau
+  pub job : Job
+  pub asked : IsJobOf words job
+  pub built : IsBuilt job
   pub came : TakesFirst before.bytes now.bytes (2 ^ 26 + 1)
 
 -- why there is this outcome. Want of memory is free of a cause, and a failing sink has its own
 abbrev pub HasCause : List (List ℕ) → Stream → Stream → Outcome → Type 0
 HasCause words before now (Done report) = IsAnswered words before now report
 HasCause words before now (Refused _) = IsTooLong words before now
+HasCause words before now (Usage fault) = words_of words ≡ Err fault
 HasCause words before now SourceFault = Rose before.faults now.faults
-HasCause words before now (NotBuilt part) =
-    ((part ≡ 1) × ((name : List ℕ) (tau : ℚ) → ¬ Asks words name tau)) ⊎ ((part ≡ 2) × IsNoColumn words before now)
+HasCause words before now (NotBuilt part) = ((part ≡ 1) × IsNotBuilt words) ⊎ ((part ≡ 2) × IsOtherTable words before now)
 HasCause words before now _ = ⊤
+
+-- the words ask for a job that is done
+pub record AskBuilt (words : List (List ℕ)) : Type 0 where
+  pub job : Job
+  pub asked : IsJobOf words job
+  pub built : IsBuilt job
 
 -- all of the bytes were added, or the sink failed behind a part of them
 abbrev pub WasTried : Stream → Stream → List ℕ → Type 0

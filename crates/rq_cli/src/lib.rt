@@ -1,7 +1,6 @@
 //! All that the program does: words and a source of bytes to a report or a line.
 #![tactic(auto)]
 
-mod asked;
 mod outcome;
 mod top;
 

@@ -2,6 +2,7 @@ ghost use Rattle.std.specs.Prelude.{◌≡◌};
 ghost use Rattle.rq_cli.specs.Codes.{code_of};
 
 use rq_engine::{Refusal, Report};
+use rq_words::WordFault;
 
 /// What came of a run.
 #[derive(Drop)]
@@ -10,6 +11,8 @@ pub enum Outcome {
     Done(Report),
     /// The input has no report, for this cause.
     Refused(Refusal),
+    /// The words are no job's, for this fault.
+    Usage(WordFault),
     /// The source failed.
     SourceFault,
     /// A sink failed.
@@ -28,6 +31,7 @@ impl Outcome {
         match self {
             Outcome::Done(_) => 0,
             Outcome::Refused(_) => 1,
+            Outcome::Usage(_) => 2,
             Outcome::SourceFault => 3,
             Outcome::SinkFault => 4,
             Outcome::OutOfMemory => 5,

@@ -1,27 +1,27 @@
 //! The top call.
-ghost use Rattle.std.specs.Prelude.{◌≡◌, ◌≢◌, ◌⊎◌, ◌<◌, ◌≤◌, ℕ, List, map, true, string_bytes, IfOk, IfErr, OnOk};
-ghost use Rattle.exact_algebra.specs.Rational.{ℚ};
+ghost use Rattle.std.specs.Prelude.{◌≡◌, ◌≢◌, ◌⊎◌, ◌<◌, ◌≤◌, map, true, string_bytes, IfOk, IfErr, OnOk};
+ghost use Rattle.rq_engine.specs.Level.{IsBuilt, IsJobOf};
 ghost use Rattle.rq_engine.specs.ReportText.{report_text};
-ghost use Rattle.rq_cli.specs.Asked.{Asks};
-ghost use Rattle.rq_cli.specs.Outcomes.{is_fault, outcome_line, stream, HasCause, IsAnswered, IsRun};
-ghost use Rattle.rq_cli.specs.Steps.{outcome_of, WasTold, WasPrinted};
+ghost use Rattle.rq_cli.specs.Outcomes.{is_fault, outcome_line, stream, AskBuilt, HasCause, IsAnswered, IsRun};
+ghost use Rattle.rq_cli.specs.Steps.{outcome_of, IsWordOutcome, WasTold, WasPrinted};
 
-use crate::asked::read_words;
 use crate::outcome::Outcome;
 use port_io::{Failed, ReadFault, Sink, Source, read_all, write_all};
 use rq_engine::{
     Fault, Halt, MEMORY_LINE, Refusal, Report, SINK_LINE, SOURCE_LINE, answer, fault_line,
-    report_bytes,
+    is_built, report_bytes,
 };
+use rq_words::{Job, WordFault, read_words};
 use std::alloc::Global;
 use std::thread::Threads;
 
 /// All that the program does: reads the source where the words ask for a job, and writes the
 /// report to `out` or the line of a fault to `err`.
 ///
-/// The whole text is made before the first byte of it is written. `NotBuilt` with part 1 comes
-/// exactly where the words ask for no job of this version, and leaves the source untouched; with
-/// part 2 exactly where the bytes are no column. `Refused` comes exactly where more than 2^26 bytes
+/// The whole text is made before the first byte of it is written. `Usage` comes exactly where the
+/// words are refused by that fault, and `NotBuilt` with part 1 exactly where they ask for a job that
+/// this version doesn't do; both leave the source untouched. `NotBuilt` with part 2 comes exactly
+/// where the bytes are no column. `Refused` comes exactly where more than 2^26 bytes
 /// come. `SourceFault` and `SinkFault` come only where the count of faults of the source or of a
 /// sink rose in this call, and where it grew there is no other outcome but `SinkFault`.
 /// `OutOfMemory` may come in place of what would follow, and never after a write to `out`.
@@ -37,7 +37,7 @@ pub fn run<R: Threads + Sync, S: Source, K: Sink, E: Sink>(
         (stream (S.left source.old) (S.faults source.old)) (stream (S.left source.new) (S.faults source.new))
         (stream (K.written out.old) (K.faults out.old)) (stream (K.written out.new) (K.faults out.new))
         (stream (E.written err.old) (E.faults err.old)) (stream (E.written err.new) (E.faults err.new)) result }
-    ensures unread { ((name : List ℕ) (tau : ℚ) → ¬ Asks (map string_bytes words.now) name tau) → source.new ≡ source.old }
+    ensures unread { ¬ AskBuilt (map string_bytes words.now) → source.new ≡ source.old }
 {
     match work(rt, alloc, words, source) {
         Ok((report, text)) => print(report, &text, out, err),
@@ -60,10 +60,11 @@ fn work<R: Threads + Sync, S: Source>(
         (stream (S.left source.old) (S.faults source.old)) (stream (S.left source.new) (S.faults source.new))) }
     ensures steady { OnOk result (S.faults source.new ≤ S.faults source.old) }
     ensures grew { IfErr result (λ fault. S.faults source.old < S.faults source.new → fault ≡ Outcome.SourceFault) }
-    ensures unread { ((name : List ℕ) (tau : ℚ) → ¬ Asks (map string_bytes words.now) name tau) → source.new ≡ source.old }
+    ensures unread { ¬ AskBuilt (map string_bytes words.now) → source.new ≡ source.old }
 {
-    let Some(asked) = read_words(words) else {
-        return Err(Outcome::NotBuilt { part: 1 });
+    let job = match read_job(alloc, words) {
+        Ok(job) => job,
+        Err(fault) => return Err(fault),
     };
     let bytes = match read_all(alloc, source) {
         Ok(bytes) => bytes,
@@ -71,13 +72,32 @@ fn work<R: Threads + Sync, S: Source>(
         Err(ReadFault::TooLong) => return Err(Outcome::Refused(Refusal::TooLong)),
         Err(ReadFault::OutOfMemory) => return Err(Outcome::OutOfMemory),
     };
-    let report = match answer(rt, alloc, asked.name, asked.tau, &bytes) {
+    let report = match answer(rt, alloc, &job, &bytes) {
         Ok(report) => report,
         Err(halt) => return Err(outcome_of(halt)),
     };
     match report_bytes(alloc, &report) {
         Ok(text) => Ok((report, text)),
         Err(_) => Err(Outcome::OutOfMemory),
+    }
+}
+
+// The job that the words ask for, if this version does it.
+fn read_job(alloc: Global, words: &[String]) -> Result<Job, Outcome>
+    ensures asked { IfOk result (IsJobOf (map string_bytes words.now)) }
+    ensures built { IfOk result IsBuilt }
+    ensures refused { IfErr result (IsWordOutcome (map string_bytes words.now)) }
+{
+    match read_words(alloc, words) {
+        Ok(job) => {
+            if is_built(&job) {
+                Ok(job)
+            } else {
+                Err(Outcome::NotBuilt { part: 1 })
+            }
+        }
+        Err(WordFault::OutOfMemory) => Err(Outcome::OutOfMemory),
+        Err(fault) => Err(Outcome::Usage(fault)),
     }
 }
 
@@ -115,21 +135,32 @@ fn tell<E: Sink>(alloc: Global, fault: Outcome, err: &mut E) -> Outcome
         WasTold fault result before now ⊎ ((fault ≢ Outcome.SourceFault) × WasTold Outcome.OutOfMemory result before now) }
 {
     match fault {
-        Outcome::SourceFault => write_line(err, SOURCE_LINE, fault),
-        Outcome::Refused(refusal) => tell_halt(alloc, &Halt::Refused(refusal), fault, err),
-        Outcome::NotBuilt { part } => tell_halt(alloc, &Halt::NotBuilt { part }, fault, err),
+        Outcome::Usage(fault) => tell_usage(alloc, fault, err),
+        Outcome::SourceFault => write_line(err, SOURCE_LINE, Outcome::SourceFault),
+        Outcome::Refused(refusal) => tell_halt(alloc, Halt::Refused(refusal), err),
+        Outcome::NotBuilt { part } => tell_halt(alloc, Halt::NotBuilt { part }, err),
         _ => write_line(err, MEMORY_LINE, Outcome::OutOfMemory),
     }
 }
 
-fn tell_halt<E: Sink>(alloc: Global, halt: &Halt, fault: Outcome, err: &mut E) -> Outcome
-    requires { fault ≡ outcome_of halt.now }
+fn tell_usage<E: Sink>(alloc: Global, fault: WordFault, err: &mut E) -> Outcome
     ensures { let before = stream (E.written err.old) (E.faults err.old) in
         let now = stream (E.written err.new) (E.faults err.new) in
-        WasTold fault result before now ⊎ WasTold Outcome.OutOfMemory result before now }
+        WasTold (Outcome.Usage fault) result before now ⊎ WasTold Outcome.OutOfMemory result before now }
 {
-    match fault_line(alloc, &Fault::Halt(halt)) {
-        Ok(line) => write_line(err, &line, fault),
+    match fault_line(alloc, &Fault::Usage(&fault)) {
+        Ok(line) => write_line(err, &line, Outcome::Usage(fault)),
+        Err(_) => write_line(err, MEMORY_LINE, Outcome::OutOfMemory),
+    }
+}
+
+fn tell_halt<E: Sink>(alloc: Global, halt: Halt, err: &mut E) -> Outcome
+    ensures { let before = stream (E.written err.old) (E.faults err.old) in
+        let now = stream (E.written err.new) (E.faults err.new) in
+        WasTold (outcome_of halt) result before now ⊎ WasTold Outcome.OutOfMemory result before now }
+{
+    match fault_line(alloc, &Fault::Halt(&halt)) {
+        Ok(line) => write_line(err, &line, outcome_of(halt)),
         Err(_) => write_line(err, MEMORY_LINE, Outcome::OutOfMemory),
     }
 }

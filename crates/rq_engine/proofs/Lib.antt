@@ -13,3 +13,4 @@ pub mod OrderSums
 pub mod Places
 pub mod Residuals
 pub mod UnitRows
+pub mod Levels

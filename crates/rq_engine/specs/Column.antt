@@ -1,8 +1,10 @@
 -- The bytes of a column: its name and then whole numbers, a line each.
-use Rattle.std.specs.Prelude.{◌≡◌, ℕ, ◌<◌, ◌≤◌, ◌^◌, Bool, ◌==◌, ◌&&◌, nat_le, List, [], ◌∷◌, Option, Some, None, option_and_then, option_map, length, drop, ℤ, pos, neg_ℤ, unsigned_abs, if◌then◌else◌}
+use Rattle.std.specs.Prelude.{◌≡◌, ℕ, ◌<◌, ◌≤◌, ◌^◌, Bool, ◌==◌, ◌&&◌, nat_le, List, [], ◌∷◌, Option, Some, None, option_and_then, option_map, length, drop, ℤ, pos, neg_ℤ, unsigned_abs, ⊤, if◌then◌else◌}
 use Rattle.std.specs.List.{slice_split, list_all}
 use Rattle.std.specs.Char.{is_ascii_digit}
 use Rattle.std.specs.Str.Parse.{digits_value, starts_with_minus}
+use Rattle.rq_engine.specs.declared.report.Halt.{Halt}
+use Rattle.rq_engine.specs.declared.report.Halt.TheVariants.{Refused, OutOfMemory, NotBuilt}
 
 abbrev pub is_line_feed : ℕ → Bool
 is_line_feed b = b == 10
@@ -40,3 +42,9 @@ pub record IsColumn (name bytes : List ℕ) (values : List ℤ) : Type 0 where
   pub lines : List (List ℕ)
   pub header : slice_split is_line_feed bytes ≡ name ∷ lines
   pub cells : AreCells lines values
+
+-- why no column was read
+abbrev pub IsUnread : List ℕ → List ℕ → Halt → Type 0
+IsUnread name bytes (Refused _) = ⊥
+IsUnread name bytes OutOfMemory = ⊤
+IsUnread name bytes (NotBuilt part) = (part ≡ 2) × ((values : List ℤ) → ¬ IsColumn name bytes values)

@@ -1,5 +1,9 @@
 -- The line of a fault: what failed, and by which fault with which fields.
 use Rattle.std.specs.Prelude.{ℕ, List, ◌++◌, codes, decimal}
+use Rattle.rq_words.specs.declared.job.WordFault.{WordFault}
+use Rattle.rq_words.specs.declared.job.WordFault.TheVariants.{NoJob, UnknownJob, BadOption, BadNumber, BadRange, BadTauForRank, NegativeLimit, BadContrasts, RankHalf}
+use Rattle.rq_words.specs.declared.job.WordFault.TheVariants as words
+use Rattle.rq_engine.specs.Names.{name_bytes}
 use Rattle.rq_engine.specs.declared.report.Refusal.TheVariants.{TooLong}
 use Rattle.rq_engine.specs.declared.report.Halt.{Halt}
 use Rattle.rq_engine.specs.declared.report.Halt.TheVariants.{Refused, OutOfMemory, NotBuilt}
@@ -23,7 +27,21 @@ halt_line (Refused TooLong) = codes "quantreg: input: TooLong\n"
 halt_line OutOfMemory = memory_line
 halt_line (NotBuilt part) = not_built_line part
 
+-- the line of words that are refused
+unfoldable pub usage_line : WordFault → List ℕ
+usage_line NoJob = codes "quantreg: usage: NoJob\n"
+usage_line UnknownJob = codes "quantreg: usage: UnknownJob\n"
+usage_line BadOption = codes "quantreg: usage: BadOption\n"
+usage_line (BadNumber option) = codes "quantreg: usage: BadNumber option=" ++ name_bytes option ++ codes "\n"
+usage_line BadRange = codes "quantreg: usage: BadRange\n"
+usage_line BadTauForRank = codes "quantreg: usage: BadTauForRank\n"
+usage_line NegativeLimit = codes "quantreg: usage: NegativeLimit\n"
+usage_line BadContrasts = codes "quantreg: usage: BadContrasts\n"
+usage_line RankHalf = codes "quantreg: usage: RankHalf\n"
+usage_line words.OutOfMemory = memory_line
+
 abbrev pub fault_line : Fault → List ℕ
+fault_line (faults.Usage fault) = usage_line fault.now
 fault_line faults.Source = source_line
 fault_line faults.Sink = sink_line
 fault_line (faults.Halt halt) = halt_line halt.now

@@ -1,13 +1,12 @@
 ghost use Rattle.std.specs.Prelude.{◌≡◌, ◌<◌, ◌≤◌, ◌^◌, ◌∷◌, ◌++◌, ◌⊎◌, [], ℕ, ℤ, List as list, All, length, IfOk, OnOk, IfErr, IfSome, IfNone, IsErrOf};
 ghost use Rattle.std.specs.List.{slice_split, position};
-ghost use Rattle.rq_engine.specs.Answers.{HasCause};
-ghost use Rattle.rq_engine.specs.Column.{is_line_feed, digits_within, whole_of, IsSmall, AreCells, IsColumn};
+ghost use Rattle.rq_engine.specs.Column.{is_line_feed, digits_within, whole_of, IsSmall, AreCells, IsColumn, IsUnread};
 
 use crate::report::Halt;
 use std::alloc::Global;
 
-/// The number that 1 to `most` decimal digits write.
-pub fn read_digits(text: &[u8], most: usize) -> Option<u64>
+// The number that 1 to `most` decimal digits write.
+fn read_digits(text: &[u8], most: usize) -> Option<u64>
     requires { most ≤ 9 }
     ensures read { result ≡ digits_within most text.now }
     ensures bound { IfSome result (λ n. n < 10 ^ most) }
@@ -41,7 +40,7 @@ fn read_whole(text: &[u8]) -> Option<i64>
 pub(crate) fn read_column(alloc: Global, name: &str, bytes: &[u8]) -> Result<Vec<i64>, Halt>
     ensures read { IfOk result (λ values. IsColumn name.now bytes.now values.items) }
     ensures small { IfOk result (λ values. All IsSmall values.items) }
-    ensures cause { IfErr result (HasCause name.now bytes.now) }
+    ensures cause { IfErr result (IsUnread name.now bytes.now) }
 {
     match split_line(bytes) {
         Some((header, cells)) if header == name.as_bytes() => read_cells(alloc, cells),

@@ -1,10 +1,11 @@
 //! The line of a fault.
 ghost use Rattle.std.specs.Prelude.{◌≡◌, ◌++◌, IfOk, OnOk};
-ghost use Rattle.rq_engine.specs.FaultText.{source_line, sink_line, memory_line, not_built_line, halt_line, fault_line as line_of};
+ghost use Rattle.rq_engine.specs.FaultText.{source_line, sink_line, memory_line, not_built_line, halt_line, usage_line, fault_line as line_of};
 
 use crate::page::Page;
 use crate::report::{Fault, Halt, Refusal};
-use frac_core::OutOfMemory;
+use frac_core::{OutOfMemory, Text};
+use rq_words::WordFault;
 use std::alloc::Global;
 
 /// The line of a failing source.
@@ -22,6 +23,7 @@ pub fn fault_line(alloc: Global, fault: &Fault) -> Result<Vec<u8>, OutOfMemory>
 {
     let mut page = Page::new(alloc);
     match fault {
+        Fault::Usage(fault) => page.usage_line(fault)?,
         Fault::Source => page.put(SOURCE_LINE)?,
         Fault::Sink => page.put(SINK_LINE)?,
         Fault::Halt(halt) => page.halt_line(halt)?,
@@ -30,6 +32,33 @@ pub fn fault_line(alloc: Global, fault: &Fault) -> Result<Vec<u8>, OutOfMemory>
 }
 
 impl Page {
+    #[tactic(auto, unfolding(crate::specs::FaultText::usage_line))]
+    fn usage_line(&mut self, fault: &WordFault) -> Result<(), OutOfMemory>
+        ensures { OnOk result (self.new ≡ self.old ++ usage_line fault.now) }
+    {
+        match fault {
+            WordFault::NoJob => self.put(b"quantreg: usage: NoJob\n"),
+            WordFault::UnknownJob => self.put(b"quantreg: usage: UnknownJob\n"),
+            WordFault::BadOption => self.put(b"quantreg: usage: BadOption\n"),
+            WordFault::BadNumber { option } => self.bad_number_line(option),
+            WordFault::BadRange => self.put(b"quantreg: usage: BadRange\n"),
+            WordFault::BadTauForRank => self.put(b"quantreg: usage: BadTauForRank\n"),
+            WordFault::NegativeLimit => self.put(b"quantreg: usage: NegativeLimit\n"),
+            WordFault::BadContrasts => self.put(b"quantreg: usage: BadContrasts\n"),
+            WordFault::RankHalf => self.put(b"quantreg: usage: RankHalf\n"),
+            WordFault::OutOfMemory => self.put(MEMORY_LINE),
+        }
+    }
+
+    #[tactic(auto, unfolding(crate::specs::FaultText::usage_line))]
+    fn bad_number_line(&mut self, option: &Text) -> Result<(), OutOfMemory>
+        ensures { OnOk result (self.new ≡ self.old ++ usage_line (WordFault.BadNumber option.now)) }
+    {
+        self.put(b"quantreg: usage: BadNumber option=")?;
+        self.put_name(option)?;
+        self.put(b"\n")
+    }
+
     fn halt_line(&mut self, halt: &Halt) -> Result<(), OutOfMemory>
         ensures { OnOk result (self.new ≡ self.old ++ halt_line halt.now) }
     {

@@ -5,14 +5,15 @@ mod column;
 mod fault;
 mod fit;
 mod job;
+mod level;
 mod lines;
 mod page;
 mod ranking;
 mod report;
 
-pub use column::read_digits;
 pub use fault::{MEMORY_LINE, SINK_LINE, SOURCE_LINE, fault_line};
 pub use job::answer;
+pub use level::is_built;
 pub use lines::report_bytes;
 pub use page::Page;
 pub use report::{Fault, Fit, Halt, Refusal, Report, ScorePair};

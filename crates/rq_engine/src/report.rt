@@ -1,6 +1,7 @@
 //! What a job answers.
 use frac_core::{Frac128, List, Text};
 use loss_model::{Problem, Process};
+use rq_words::WordFault;
 
 /// The rankscores of a basic row at the two ends of a segment. Of a penalty row they are its dual
 /// values.
@@ -50,6 +51,7 @@ pub enum Halt {
 /// What is told on standard error.
 #[derive(Clone, Copy)]
 pub enum Fault<'a> {
+    Usage(&'a WordFault),
     Source,
     Sink,
     Halt(&'a Halt),

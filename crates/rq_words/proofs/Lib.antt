@@ -2,3 +2,4 @@ pub mod ByClap
 pub mod Counts
 pub mod Pieces
 pub mod ItemTests
+pub mod Orders

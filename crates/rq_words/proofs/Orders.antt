@@ -1,0 +1,85 @@
+-- The range of a job that the words give lies in 0 to 1, and in order.
+use Rattle.std.proofs.Common.{◌≡◌, ℕ, Bool, true, false, not, ◌&&◌, List, [], ◌∷◌, Option, Some, None, Result, Ok, Err, refl, subst, codes, drop, if◌then◌else◌}
+use Rattle.std.specs.List.{list_any}
+use Rattle.std.specs.Option.{option_map_or}
+use Rattle.clap.specs.Words.{Row, Text}
+use Rattle.exact_algebra.specs.Rational.{ℚ, le_ℚ, ◌≤ℚ◌, whole}
+use Rattle.contrasts.specs.declared.Coding.{Coding}
+use Rattle.contrasts.specs.declared.Coding.TheVariants.{Treatment}
+use Rattle.rq_words.specs.Commands.{command_of, kind_of, options_of, read_by}
+use Rattle.rq_words.specs.Requests.{FitRequest, OptionNumbers, Request}
+use Rattle.rq_words.specs.Requests as request
+use Rattle.rq_words.specs.Words.{◌>>=◌, zero, one, option, coding, numbers_of, is_in_order, fault_of, fit, request_for, checked, is_long, words_of_job, words_of}
+use Rattle.rq_words.specs.declared.command.Kind.{Kind}
+use Rattle.rq_words.specs.declared.command.Kind.TheVariants as kind
+use Rattle.rq_words.specs.declared.job.WordFault.{WordFault}
+use Rattle.rq_words.specs.declared.job.WordFault.TheVariants.{BadContrasts, BadOption, BadRange, UnknownJob}
+
+-- the answer of a step is that of the next one
+step_ok : {A B : Type 0} (r : Result A WordFault) (next : A → Result B WordFault) (x : B) → (r >>= next) ≡ Ok x → (a : A) × (next a ≡ Ok x)
+step_ok (Ok a) next x h = (a, h)
+step_ok (Err fault) next x h = absurd (cc h)
+
+found_ok : {A B : Type 0} (o : Option A) (next : A → Result B WordFault) (fault : WordFault) (x : B) → option_map_or next o (Err fault) ≡ Ok x → (a : A) × (next a ≡ Ok x)
+found_ok (Some a) next fault x h = (a, h)
+found_ok None next fault x h = absurd (cc h)
+
+short_ok : {B : Type 0} (b : Bool) (r : Result B WordFault) (fault : WordFault) (x : B) → (if b then Err fault else r) ≡ Ok x → r ≡ Ok x
+short_ok true r fault x h = absurd (cc h)
+short_ok false r fault x h = h
+
+no_fault : {B : Type 0} (o : Option WordFault) (y x : B) → option_map_or (λ fault. Err fault) o (Ok y) ≡ Ok x → (o ≡ None) × (y ≡ x)
+no_fault (Some fault) y x h = absurd (cc h)
+no_fault None y x h = (refl, cc h)
+
+in_order : (n : OptionNumbers) → fault_of n ≡ None → is_in_order n.lo n.hi ≡ true
+unfolding fault_of
+in_order n h = by (is_in_order n.lo n.hi) _ h
+  where
+    by : (b : Bool) (rest : Option WordFault) → (if not b then Some BadRange else rest) ≡ None → b ≡ true
+    by true rest h = refl
+    by false rest h = absurd (cc h)
+
+-- the range of a process is that of the options
+same_range : (kind : Kind) (found : List Row) (n : OptionNumbers) (chosen : Coding) (f : FitRequest) → request_for kind found n chosen ≡ request.Process f → (n.lo ≡ f.lo) × (n.hi ≡ f.hi)
+same_range kind.Process found n chosen f h = (cc h, cc h)
+same_range kind.Ranks found n chosen f h = absurd (cc h)
+same_range kind.Certify found n chosen f h = absurd (cc h)
+same_range kind.Check found n chosen f h = absurd (cc h)
+same_range kind.Sample found n chosen f h = absurd (cc h)
+
+checked_in_order : (kind : Kind) (found : List Row) (f : FitRequest) → checked kind found ≡ Ok (request.Process f) → is_in_order f.lo f.hi ≡ true
+unfolding checked
+checked_in_order kind found f h =
+    let numbers = step_ok (numbers_of found) _ _ h in
+    let chosen = step_ok (option BadContrasts found (codes "contrasts") Treatment coding) _ _ numbers.1 in
+    let n = numbers.0 in
+    let sound = no_fault (fault_of n) (request_for kind found n chosen.0) _ chosen.1 in
+    let same = same_range kind found n chosen.0 f sound.1 in
+    subst (λ lo. is_in_order lo f.hi ≡ true) same.0 (subst (λ hi. is_in_order n.lo hi ≡ true) same.1 (in_order n sound.0))
+
+job_in_order : (kind : Kind) (words : List Text) (f : FitRequest) → words_of_job kind words ≡ Ok (request.Process f) → is_in_order f.lo f.hi ≡ true
+unfolding words_of_job
+job_in_order kind words f h =
+    let short = short_ok (list_any is_long (drop 1 words)) _ BadOption _ h in
+    let found = found_ok (read_by (command_of (options_of kind)) words) (checked kind) BadOption _ short in
+    checked_in_order kind found.0 f found.1
+
+process_in_order : (words : List Text) (f : FitRequest) → words_of words ≡ Ok (request.Process f) → is_in_order f.lo f.hi ≡ true
+unfolding words_of
+process_in_order [] f h = absurd (cc h)
+process_in_order (job ∷ rest) f h =
+    let kind = found_ok (kind_of job) (λ kind. words_of_job kind (job ∷ rest)) UnknownJob _ h in
+    job_in_order kind.0 (job ∷ rest) f kind.1
+
+both : (a b : Bool) → (a && b) ≡ true → (a ≡ true) × (b ≡ true)
+both true b h = (refl, h)
+both false b h = absurd (cc h)
+
+-- the range of a process that the words ask for
+pub process_range : (words : List Text) (f : FitRequest) → words_of words ≡ Ok (request.Process f) → (zero ≤ℚ f.lo) × (f.lo ≤ℚ f.hi) × (f.hi ≤ℚ one)
+process_range words f h =
+    let order = process_in_order words f h in
+    let high = both (le_ℚ zero f.lo && le_ℚ f.lo f.hi) (le_ℚ f.hi one) order in
+    let within = both (le_ℚ zero f.lo) (le_ℚ f.lo f.hi) high.0 in
+    (record { le = within.0 }, record { le = within.1 }, record { le = high.1 })
