@@ -54,20 +54,21 @@ fn columns_are_fitted_at_one_quantile(rt: HostRuntime) -> Result<(), Fail> {
 }
 
 // Each case: formula, quantile, table, exit status and line.
-const FAULTS: [(&str, &str, &str, u8, &str); 23] = [
+const FAULTS: [(&str, &str, &str, u8, &str); 24] = [
     ("y ~ x", "1/2", "y\n1\n2\n3\n", 9, "quantreg: build: NotBuilt part=1\n"),
     ("y ~ 1 ", "1/2", "y\n1\n", 9, "quantreg: build: NotBuilt part=1\n"),
     ("y~1", "1/2", "y\n1\n", 9, "quantreg: build: NotBuilt part=1\n"),
     ("1y ~ 1", "1/2", "1y\n1\n", 9, "quantreg: build: NotBuilt part=1\n"),
     (" ~ 1", "1/2", "\n1\n", 9, "quantreg: build: NotBuilt part=1\n"),
     ("y_z ~ 1", "1/2", "y_z\n1\n", 9, "quantreg: build: NotBuilt part=1\n"),
-    ("y ~ 1", "2/1", "y\n1\n", 9, "quantreg: build: NotBuilt part=1\n"),
-    ("y ~ 1", "1/0", "y\n1\n", 9, "quantreg: build: NotBuilt part=1\n"),
     ("y ~ 1", "1/1001", "y\n1\n", 9, "quantreg: build: NotBuilt part=1\n"),
-    ("y ~ 1", "0.5", "y\n1\n", 9, "quantreg: build: NotBuilt part=1\n"),
-    ("y ~ 1", "00001/2", "y\n1\n", 9, "quantreg: build: NotBuilt part=1\n"),
-    ("y ~ 1", "-1/2", "y\n1\n", 9, "quantreg: build: NotBuilt part=1\n"),
-    ("y ~ 1", "", "y\n1\n", 9, "quantreg: build: NotBuilt part=1\n"),
+    ("y ~ 1", "0.0001", "y\n1\n", 9, "quantreg: build: NotBuilt part=1\n"),
+    ("y ~ 1", "2/1", "y\n1\n", 2, "quantreg: usage: BadRange\n"),
+    ("y ~ 1", "1.0001", "y\n1\n", 2, "quantreg: usage: BadRange\n"),
+    ("y ~ 1", "1/0", "y\n1\n", 2, "quantreg: usage: BadNumber option=lo\n"),
+    ("y ~ 1", "1/2/3", "y\n1\n", 2, "quantreg: usage: BadNumber option=lo\n"),
+    ("y ~ 1", "", "y\n1\n", 2, "quantreg: usage: BadNumber option=lo\n"),
+    ("y ~ 1", "-1/2", "y\n1\n", 2, "quantreg: usage: BadOption\n"),
     ("y ~ 1", "1/2", "y\n1.5\n", 9, "quantreg: build: NotBuilt part=2\n"),
     ("y ~ 1", "1/2", "", 9, "quantreg: build: NotBuilt part=2\n"),
     ("y ~ 1", "1/2", "y\n", 9, "quantreg: build: NotBuilt part=2\n"),
@@ -145,14 +146,48 @@ fn failing_streams_leave_a_prefix_and_a_line(rt: HostRuntime) -> Result<(), Fail
     Ok(())
 }
 
+// Each case: the words, the exit status, and the line, or none where the report is printed.
+type Command = (&'static [&'static str], u8, &'static str);
+
+const COMMANDS: [Command; 22] = [
+    (&[], 2, "quantreg: usage: NoJob\n"),
+    (&["fit"], 2, "quantreg: usage: UnknownJob\n"),
+    (&["--help"], 2, "quantreg: usage: UnknownJob\n"),
+    (&["--version"], 2, "quantreg: usage: UnknownJob\n"),
+    (&["process", "--help"], 2, "quantreg: usage: BadOption\n"),
+    (&["process", "--formula", "y ~ 1", "--lo", "1/2"], 2, "quantreg: usage: BadOption\n"),
+    (&["process", "--formula", "y ~ 1", "--lo", "1/2", "--hi", "x"], 2, "quantreg: usage: BadNumber option=hi\n"),
+    (&["process", "--formula", "y ~ 1", "--lo", "1/2", "--hi", "1/2", "--pivots", "x"], 2, "quantreg: usage: BadNumber option=pivots\n"),
+    (&["process", "--formula", "y ~ 1", "--lo", "1/2", "--hi", "1/3"], 2, "quantreg: usage: BadRange\n"),
+    (&["process", "--formula", "y ~ 1", "--lo", "1/2", "--hi", "1/2", "--contrasts", "poly"], 2, "quantreg: usage: BadContrasts\n"),
+    (&["process", "--formula", "y ~ 1", "--lo", "1/2", "--hi", "1/2", "--crit", "1"], 2, "quantreg: usage: RankHalf\n"),
+    (&["process", "--formula", "y ~ 1", "--lo", "1/2", "--hi", "1/2", "--crit=-1", "--rank-at", "1/2"], 2, "quantreg: usage: NegativeLimit\n"),
+    (&["process", "--formula", "y ~ 1", "--lo", "1/2", "--hi", "1/2", "--crit", "1", "--rank-at", "0"], 2, "quantreg: usage: BadTauForRank\n"),
+    (&["process", "--formula", "y ~ 1", "--lo", "0", "--hi", "1"], 9, "quantreg: build: NotBuilt part=1\n"),
+    (&["process", "--formula", "y ~ 1", "--lo", "1/2", "--hi", "1/2", "--pivots", "7"], 9, "quantreg: build: NotBuilt part=1\n"),
+    (&["process", "--formula", "y ~ 1", "--lo", "1/2", "--hi", "1/2", "--contrasts", "sas"], 9, "quantreg: build: NotBuilt part=1\n"),
+    (&["process", "--formula", "y ~ 1", "--lo", "1/2", "--hi", "1/2", "--weights", "w"], 9, "quantreg: build: NotBuilt part=1\n"),
+    (&["process", "--formula", "y ~ 1", "--lo", "1/2", "--hi", "1/2", "--crit", "1", "--rank-at", "1/2"], 9, "quantreg: build: NotBuilt part=1\n"),
+    (&["check"], 9, "quantreg: build: NotBuilt part=1\n"),
+    (&["ranks", "--formula", "y ~ 1"], 9, "quantreg: build: NotBuilt part=1\n"),
+    (&["process", "--hi=0.5", "--lo=2/4", "--formula=y ~ 1"], 0, ""),
+    (&["process", "--pivots", "100000", "--contrasts", "treatment", "--hi", "5e-1", "--lo", "00001/2", "--formula", "y ~ 1"], 0, ""),
+];
+
 #[test]
-fn no_words_are_no_job(rt: HostRuntime) -> Result<(), Fail> {
-    let words = Vec::new(rt.alloc());
-    let mut source = SureSource::new(TABLE.as_bytes().to_vec(rt.alloc())?);
-    let mut out = sink_of(rt.alloc(), 4096, &[])?;
-    let mut err = sink_of(rt.alloc(), 4096, &[])?;
-    let outcome = run(&rt, rt.alloc(), &words, &mut source, &mut out, &mut err);
-    assert_eq!(rt; outcome.code(), 9);
-    assert_eq!(rt; err.written(), b"quantreg: build: NotBuilt part=1\n".as_slice());
+fn words_are_a_job_or_their_first_fault(rt: HostRuntime) -> Result<(), Fail> {
+    for (list, code, line) in COMMANDS {
+        let mut words = Vec::new(rt.alloc());
+        for word in list {
+            words.push(String::from_str(rt.alloc(), word)?)?;
+        }
+        let mut source = SureSource::new(TABLE.as_bytes().to_vec(rt.alloc())?);
+        let mut out = sink_of(rt.alloc(), 4096, &[])?;
+        let mut err = sink_of(rt.alloc(), 4096, &[])?;
+        let outcome = run(&rt, rt.alloc(), &words, &mut source, &mut out, &mut err);
+        assert_eq!(rt; outcome.code(), code, "{list:?}");
+        assert_eq!(rt; err.written(), line.as_bytes());
+        assert_eq!(rt; out.written().is_empty(), code != 0);
+    }
     Ok(())
 }

@@ -1,5 +1,5 @@
 -- The quantile of a job that the words ask for lies in 0 to 1, and one job has one level.
-use Rattle.std.proofs.Common.{◌≡◌, ℕ, ◌^◌, ◌-◌, Bool, true, false, not, ◌&&◌, eqb, int_eq, List, ◌++◌, codes, ℤ, pos, Result, Ok, Err, IfErr, IsErrAnd, refl, sym, subst, ◌∙◌}
+use Rattle.std.proofs.Common.{◌≡◌, ℕ, ◌^◌, ◌-◌, Bool, true, false, not, ◌&&◌, eqb, int_eq, List, ◌++◌, codes, ℤ, pos, Option, Some, None, is_some, IfSome, IfNone, IsTrue, ◌↔◌, Result, Ok, Err, IfErr, IsErrAnd, refl, sym, subst, ◌∙◌}
 use Rattle.std.proofs.lemmas.Bool.{eqb-true}
 use Rattle.std.proofs.lemmas.Bool.Decides.{Decides-int_eq}
 use Rattle.std.proofs.lemmas.List.{append_cancel_right}
@@ -62,3 +62,8 @@ unread_cause job name bytes tau (NotBuilt part) level cause =
 pub returned : {T E : Type 0} (r : Result T E) (Q P : E → Type 0) → IsErrAnd r Q → ((y : E) → Q y → P y) → IfErr r P
 returned (Ok x) Q P h f = absurd h
 returned (Err y) Q P h f = f y h
+
+-- what was found or not decides a test
+pub decided : {L : Type 0} (o : Option L) (P : L → Type 0) (N B : Type 0) → IfSome o P → IfNone o N → ((l : L) → P l → B) → (N → ¬ B) → IsTrue (is_some o) ↔ B
+decided (Some l) P N B found missing made none = ((λ _. made l found), λ _. refl)
+decided None P N B found missing made none = ((λ t. absurd (cc t)), λ b. absurd (none missing b))
