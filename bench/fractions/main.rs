@@ -5,7 +5,6 @@ mod divisor;
 mod exact;
 mod frac128;
 mod frac64;
-mod fractions;
 mod parts;
 mod work;
 
@@ -47,7 +46,8 @@ fn report<F: Exact>(name: &str, bits: u32) {
             };
             best = best.min(start.elapsed().as_nanos());
         }
-        println!("{name} {bits} {word} {} {sum}", best * 10 / pairs);
+        let tenths = best * 10 / pairs;
+        println!("{name} {bits} {word} {tenths} {sum}");
     }
 }
 
