@@ -1,4 +1,11 @@
 -- Fractions as they are written: a numerator over a denominator (Knuth, TAOCP 4.5.1).
+--
+-- `Fraction` is what a value of the code's fraction types is seen as, and `rational` leads into ℚ,
+-- where its laws are: an exact operation ensures an equation between the `rational` of its operands
+-- and that of its result. `common` and `over` bring a list of fractions to one denominator.
+--
+--     x : Fraction = record { num = negsuc 1; den = 3 }     -2/3
+--     rational x                                            whole (negsuc 1) *ℚ inverse (whole (pos 3))
 use Rattle.std.specs.Prelude.{ℕ, ◌/◌, ◌*◌, List, [], ◌∷◌, ℤ, pos, ◌*ℤ◌}
 use Rattle.exact_algebra.specs.Rational.{ℚ, quotient}
 

@@ -1,4 +1,10 @@
 -- Inverses, and products that are 0.
+--
+--     y is 1/x, from x * y = 1              inverse_from x y h
+--     the inverse of a product, of -x, of 1/x, of 0    inverse-mul, inverse-neg, inverse_inverse, inverse-zero
+--     a factor taken away from both sides   *ℚ_cancel x y z h e
+--     a factor is 0, or none is             zero_from_product, product_nonzero, inverse_nonzero
+--     by cases                              zero_or_not x
 use Rattle.std.specs.Prelude.{◌≡◌, ◌≢◌, ◌⊎◌, Bool, true, false, [], ◌∷◌, pos}
 use Rattle.std.proofs.Common.{refl, sym, ap, ap₂, subst, ◌∙◌, inl, inr}
 use Rattle.exact_algebra.specs.Solver.{number, negated, ◌⊠◌, v0, v1, v2, v3}

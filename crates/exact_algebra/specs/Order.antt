@@ -1,4 +1,23 @@
 -- The order of ℚ as an answer: how two fractions compare, and the sign of one.
+--
+-- `cmp_ℚ` and `sign_ℚ` are what the code's `compare` and `sign` give. They compute from the tests
+-- of the order, which are opaque, so a proof goes by these laws:
+--
+--     cmp_ℚ x y ≡ Less, Equal, Greater      cmp_ℚ-Less: y isn't at most x; cmp_ℚ-Equal: x ≡ y;
+--                                           cmp_ℚ-Greater: x isn't at most y
+--     it isn't Greater, it isn't Less       cmp_ℚ-not_Greater: x ≤ℚ y; cmp_ℚ-not_Less: y ≤ℚ x
+--     the other way round                   cmp_ℚ_swap
+--     sign_ℚ x ≡ 1, 0, -1                   sign_ℚ-positive, sign_ℚ-zero, sign_ℚ-negative
+--     sign_ℚ x < 0, > 0, >= 0, <= 0         sign_ℚ-below, sign_ℚ-above, sign_ℚ-not_below, sign_ℚ-not_above
+--     of -x, x * y, 1/x                     sign_ℚ-neg, sign_ℚ-mul, sign_ℚ-inverse
+--     of n/d, of a whole number             sign_ℚ-quotient, sign_ℚ-whole, cmp_ℚ-quotient
+--     by the three cases                    by_cmp x y P less equal greater, by_sign x P below at_zero above
+--     the order itself                      ≤ℚ_neg, ≤ℚ_cancel, ≤ℚ-minus, ≤ℚ-from_mul, inverse_not_negative,
+--                                           not_le, le_from_not
+--
+-- For x ≤ℚ y from e : cmp_ℚ x y ≡ Less:
+--
+--     le_from_not x y ((cmp_ℚ-Less x y).0 e)
 use Rattle.std.specs.Prelude.{◌≡◌, ◌≢◌, ◌↔◌, ◌⊎◌, ℕ, zero, suc, ◌*◌, ◌≤◌, Bool, true, false, cond, [], ◌∷◌, ℤ, pos, negsuc, neg_ℤ, ◌*ℤ◌, ◌<ℤ◌, ◌≤ℤ◌}
 use Rattle.std.specs.Int.{int_signum}
 use Rattle.std.specs.Ordering.{int_cmp, ordering_reverse}
@@ -267,6 +286,9 @@ sign_ℚ-inverse x = by (zero_or_not x)
     by (inr h) =
         turned (sign_ℚ x) (sign_ℚ (inverse x)) (sym (sign_ℚ-mul x (inverse x)) ∙ ap sign_ℚ (*ℚ-inverse x h) ∙ sign_ℚ-whole (pos 1)) (cases x)
 
+pub inverse_not_negative : (x : ℚ) → whole (pos 0) ≤ℚ x → whole (pos 0) ≤ℚ inverse x
+inverse_not_negative x h = (sign_ℚ-not_below (inverse x)).0 (subst (λ s. pos 0 ≤ℤ s) (sym (sign_ℚ-inverse x)) ((sign_ℚ-not_below x).1 h))
+
 -- a positive factor may be taken away
 pub ≤ℚ-from_mul : (x y z : ℚ) → ¬ (z ≤ℚ whole (pos 0)) → (z *ℚ x) ≤ℚ (z *ℚ y) → x ≤ℚ y
 ≤ℚ-from_mul x y z h k =
@@ -276,7 +298,7 @@ pub ≤ℚ-from_mul : (x y z : ℚ) → ¬ (z ≤ℚ whole (pos 0)) → (z *ℚ 
     nonzero e = h (same_le z (whole (pos 0)) e)
 
     not_negative : whole (pos 0) ≤ℚ inverse z
-    not_negative = le_from_not (whole (pos 0)) (inverse z) (λ l. (sign_ℚ-positive (inverse z)).0 (sign_ℚ-inverse z ∙ (sign_ℚ-positive z).1 h) l)
+    not_negative = inverse_not_negative z (le_from_not (whole (pos 0)) z h)
 
     back : (v : ℚ) → inverse z *ℚ (z *ℚ v) ≡ v
     back v =

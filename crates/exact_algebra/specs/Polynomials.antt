@@ -1,4 +1,14 @@
--- Identities of any commutative ring, by computing both sides as polynomials with whole coefficients.
+-- Identities of any commutative ring, by computing both sides as polynomials with whole
+-- coefficients.
+--
+-- A ring is given by its operations and an embedding of the whole numbers; `IsRing` says that they
+-- obey the laws. The terms are those of `specs.Solver`, and `worth` is what one is worth.
+--
+--     ring add mul neg embed r vs a b refl               worth vs a ≡ worth vs b
+--     ring_by add mul neg embed r vs a b k l l' refl h   the same from h : worth vs l ≡ worth vs l',
+--                                                        where a - b = k * (l - l')
+--
+-- Over ℚ write `ring_ℚ` and `ring_by_ℚ` of `specs.Rational`.
 use Rattle.std.specs.Prelude.{◌≡◌, ℕ, Bool, true, false, cond, ltb, List, [], ◌∷◌, get_or, ℤ, pos, negsuc, ◌+ℤ◌, ◌*ℤ◌}
 use Rattle.std.proofs.Common.{refl, sym, ap, ◌∙◌}
 use Rattle.exact_algebra.specs.Solver.{Term, var, number, plus, minus, times, negated, Monomial, put, merge, same, before, insert, joined, scaled, spread, multiplied, normal, is_zero, vanishes, same-true, and-true, zero_is}
@@ -17,6 +27,7 @@ pub record IsRing {A : Type 0} (add mul : A → A → A) (neg : A → A) (embed 
   pub embed_mul : (x y : ℤ) → embed (x *ℤ y) ≡ mul (embed x) (embed y)
 
 module _ {A : Type 0} (add mul : A → A → A) (neg : A → A) (embed : ℤ → A) where
+  -- what a term is worth in the ring
   abbrev pub worth : List A → Term → A
   worth vs (var i) = get_or vs i (embed (pos 0))
   worth vs (number z) = embed z
@@ -25,10 +36,12 @@ module _ {A : Type 0} (add mul : A → A → A) (neg : A → A) (embed : ℤ →
   worth vs (times a b) = mul (worth vs a) (worth vs b)
   worth vs (negated a) = neg (worth vs a)
 
+  -- the product of the variables
   abbrev power : List A → List ℕ → A
   power vs [] = embed (pos 1)
   power vs (i ∷ is) = mul (get_or vs i (embed (pos 0))) (power vs is)
 
+  -- the sum of a polynomial's monomials
   abbrev sum : List A → List Monomial → A
   sum vs [] = embed (pos 0)
   sum vs (m ∷ ms) = add (mul (embed m.factor) (power vs m.vars)) (sum vs ms)

@@ -1,4 +1,27 @@
--- The field of fractions.
+-- ℚ, the field of fractions of whole numbers of any size, with its order.
+--
+-- A fraction is a pair n/d with d at least 1, and two pairs are one fraction where n*d' = n'*d. So ℚ
+-- is the quotient of `Pair` by that relation, each operation is the one of pairs, and no common
+-- divisor is spoken of. The operations are opaque: a proof sees them by the laws alone.
+--
+--     x +ℚ y, x -ℚ y, x *ℚ y, neg_ℚ x, inverse x    inverse (whole (pos 0)) is 0
+--     whole z                                       a whole number
+--     quotient n d                                  n/d
+--     x ≤ℚ y, le_ℚ x y                              the order, and its test
+--
+-- Which law closes which goal:
+--
+--     an identity of sums and products    ring_ℚ vs a b refl, with terms of `specs.Solver`
+--     the same from an equation h         ring_by_ℚ vs a b k l l' refl h
+--     x * 1/x = 1                         *ℚ-inverse x h; more in `specs.Inverses`
+--     an order                            ≤ℚ_refl, ≤ℚ_trans, ≤ℚ_antisym, ≤ℚ_add, ≤ℚ_mul, ≤ℚ_total;
+--                                         more in `specs.Order` and `specs.RationalSums`
+--     whole numbers                       whole-add, whole-mul; more in `specs.WholeNumbers`
+--     a fact of n/d                       `specs.Quotients`
+--
+-- For (x + y) * z = y * z + x * z:
+--
+--     ring_ℚ (x ∷ y ∷ z ∷ []) ((v0 ⊞ v1) ⊠ v2) (v1 ⊠ v2 ⊞ v0 ⊠ v2) refl
 use Rattle.std.specs.Prelude.{◌≡◌, ℕ, zero, suc, ℤ, pos, negsuc, ◌+ℤ◌, ◌*ℤ◌, ◌≤ℤ◌, neg_ℤ, Bool, true, false, T, List, [], ◌∷◌}
 use Rattle.std.proofs.Common.{refl, sym, ap, arith, ◌∙◌}
 use Rattle.std.proofs.lemmas.Int.{ints}
@@ -21,18 +44,22 @@ pub record Pair : Type 0 where
 abbrev pub Same : Pair → Pair → Type 0
 Same a b = a.n *ℤ b.d ≡ b.n *ℤ a.d
 
+-- the fractions of whole numbers
 abbrev pub ℚ : Type 0
 ℚ = Quot Same
 
 pub ℚ_set : IsSet ℚ
 ℚ_set = Quot-set
 
+-- f gives equal results at equal second arguments
 abbrev pub RespectsRight : (Pair → Pair → Pair) → Type 0
 RespectsRight f = (a b b' : Pair) → Same b b' → Same (f a b) (f a b')
 
+-- and at equal first arguments
 abbrev pub RespectsLeft : (Pair → Pair → Pair) → Type 0
 RespectsLeft f = (a a' b : Pair) → Same a a' → Same (f a b) (f a' b)
 
+-- f on pairs as an operation on fractions, first with one argument a pair
 abbrev pub lift1 : (f : Pair → Pair → Pair) → RespectsRight f → Pair → ℚ → ℚ
 lift1 f right a y = lift ℚ_set (λ b. mk (f a b)) (λ b b' s. sound (right a b b' s)) y
 
@@ -46,9 +73,11 @@ lift2 f left right x y = lift ℚ_set (λ a. lift1 f right a y) (λ a a' s. lift
 pub product_positive : (a b : Pair) → pos 1 ≤ℤ (a.d *ℤ b.d)
 product_positive a b = mul_positive a.d b.d a.positive b.positive
 
+-- a.n/a.d + b.n/b.d
 abbrev pub pair_add : Pair → Pair → Pair
 pair_add a b = record { n = (a.n *ℤ b.d) +ℤ (b.n *ℤ a.d); d = a.d *ℤ b.d; positive = product_positive a b }
 
+-- a.n/a.d * b.n/b.d
 abbrev pub pair_mul : Pair → Pair → Pair
 pair_mul a b = record { n = a.n *ℤ b.n; d = a.d *ℤ b.d; positive = product_positive a b }
 
@@ -72,32 +101,39 @@ mul_right a b b' s =
     (from1 (a.n ∷ a.d ∷ b.n ∷ b.d ∷ b'.n ∷ b'.d ∷ [])
     ((v0 ⊠ v2) ⊠ (v1 ⊠ v5)) ((v0 ⊠ v4) ⊠ (v1 ⊠ v3)) (v0 ⊠ v1) (v2 ⊠ v5) (v4 ⊠ v3) refl s)
 
+-- the sum
 infixl 6 ◌+ℚ◌
 unfoldable pub ◌+ℚ◌ : ℚ → ℚ → ℚ
 x +ℚ y = lift2 pair_add add_left add_right x y
 
+-- the product
 infixl 7 ◌*ℚ◌
 unfoldable pub ◌*ℚ◌ : ℚ → ℚ → ℚ
 x *ℚ y = lift2 pair_mul mul_left mul_right x y
 
+-- -(a.n/a.d)
 abbrev pub pair_neg : Pair → Pair
 pair_neg a = record { n = neg_ℤ a.n; d = a.d; positive = a.positive }
 
 pub neg_same : (a b : Pair) → Same a b → Same (pair_neg a) (pair_neg b)
 neg_same a b s = from1 (a.n ∷ a.d ∷ b.n ∷ b.d ∷ []) (negated v0 ⊠ v3) (negated v2 ⊠ v1) (negated (number (pos 1))) (v0 ⊠ v3) (v2 ⊠ v1) refl s
 
+-- the negated fraction
 unfoldable pub neg_ℚ : ℚ → ℚ
 neg_ℚ x = lift ℚ_set (λ a. mk (pair_neg a)) (λ a b s. sound (neg_same a b s)) x
 
+-- the whole number z
 unfoldable pub whole : ℤ → ℚ
 whole z = mk (record { n = z; d = pos 1; positive = le_z_yes tt })
 
+-- the difference
 infixl 6 ◌-ℚ◌
 abbrev pub ◌-ℚ◌ : ℚ → ℚ → ℚ
 x -ℚ y = x +ℚ neg_ℚ y
 
 -- ---- laws
 
+-- what holds of all pairs holds of all fractions
 pub by1 : (P : ℚ → Type 0) → ((x : ℚ) → IsProp (P x)) → ((a : Pair) → P (mk a)) → (x : ℚ) → P x
 by1 P prop f x = ind {β = P} prop f x
 
@@ -192,6 +228,7 @@ ring_by_ℚ vs a b k l l' h e = ring_by ◌+ℚ◌ ◌*ℚ◌ neg_ℚ whole is_r
 
 -- ---- the order
 
+-- a is at most b, by the cross product
 abbrev pub pair_le : Pair → Pair → Bool
 pair_le a b = le_z (a.n *ℤ b.d) (b.n *ℤ a.d)
 
@@ -230,25 +267,23 @@ pair_le_right a b b' s =
     ∙ ap (λ z. le_z (b.d *ℤ (a.n *ℤ b'.d)) z) (from1 (a.n ∷ a.d ∷ b.n ∷ b.d ∷ b'.n ∷ b'.d ∷ []) (v5 ⊠ (v2 ⊠ v1)) (v3 ⊠ (v4 ⊠ v1)) v1 (v2 ⊠ v5) (v4 ⊠ v3) refl s)
     ∙ sym (le_z-mul b.d (a.n *ℤ b'.d) (b'.n *ℤ a.d) b.positive)
 
+-- the test of a pair and a fraction
 abbrev pub test_right : Pair → ℚ → Bool
 test_right a y = lift Bool-set (λ b. pair_le a b) (λ b b' s. pair_le_right a b b' s) y
 
 pub test_same : (a a' : Pair) → Same a a' → (y : ℚ) → test_right a y ≡ test_right a' y
 test_same a a' s = ind {β = λ y. test_right a y ≡ test_right a' y} (λ y. Bool-set _ _) (λ b. pair_le_left a a' b s)
 
--- x is at most y
+-- whether x is at most y
 unfoldable pub le_ℚ : ℚ → ℚ → Bool
 le_ℚ x y = lift Bool-set (λ a. test_right a y) (λ a a' s. test_same a a' s y) x
 
+-- x is at most y
 infix 50 ◌≤ℚ◌
 pub record ◌≤ℚ◌ (x y : ℚ) : Type 0 where
   pub le : le_ℚ x y ≡ true
 
--- what holds of the tests of fractions holds of the order
-by_pairs2 : (P : Bool → Type 0) → ((t : Bool) → IsProp (P t)) → ((a b : Pair) → P (pair_le a b)) → (x y : ℚ) → P (le_ℚ x y)
-unfolding le_ℚ
-by_pairs2 P prop h x y = by1 (λ x. P (le_ℚ x y)) (λ x. prop (le_ℚ x y)) (λ a. by1 (λ y. P (le_ℚ (mk a) y)) (λ y. prop (le_ℚ (mk a) y)) (λ b. h a b) y) x
-
+-- what holds of all pairs of pairs holds of all pairs of fractions
 at_pairs2 : (P : ℚ → ℚ → Type 0) → ((x y : ℚ) → IsProp (P x y)) → ((a b : Pair) → P (mk a) (mk b)) → (x y : ℚ) → P x y
 at_pairs2 P prop h = by1 (λ x. (y : ℚ) → P x y) (λ x. Π_prop (λ y. prop x y)) (λ a. by1 (λ y. P (mk a) y) (λ y. prop (mk a) y) (λ b. h a b))
 
@@ -334,6 +369,7 @@ inverse_at (pos zero) d p = record { n = pos 0; d = pos 1; positive = le_z_yes t
 inverse_at (pos (suc k)) d p = record { n = d; d = pos (suc k); positive = suc_positive k }
 inverse_at (negsuc k) d p = record { n = neg_ℤ d; d = pos (suc k); positive = suc_positive k }
 
+-- 1/a
 abbrev pub pair_inverse : Pair → Pair
 pair_inverse a = inverse_at a.n a.d a.positive
 
@@ -351,6 +387,7 @@ inverse_respects (negsuc j) (negsuc k) d d' p q s = from1 (d ∷ d' ∷ pos (suc
 pub inverse_same : (a b : Pair) → Same a b → Same (pair_inverse a) (pair_inverse b)
 inverse_same a b s = inverse_respects a.n b.n a.d b.d a.positive b.positive s
 
+-- 1/x, and 0 for 0
 unfoldable pub inverse : ℚ → ℚ
 inverse x = lift ℚ_set (λ a. mk (pair_inverse a)) (λ a b s. sound (inverse_same a b s)) x
 

@@ -1,6 +1,21 @@
--- Sums of fractions by index, and parts of fractions.
-use Rattle.std.specs.Prelude.{◌≡◌, ℕ, zero, suc, ◌<◌, Bool, true, false, cond, [], ◌∷◌, pos}
-use Rattle.std.proofs.Common.{arith, refl, sym, ap, subst, ◌∙◌}
+-- Sums of fractions by index, and the parts of a fraction.
+--
+-- `sum_ℚ n f` is f 0 + .. + f (n - 1). In a loop `for i in 0..n` that adds from the left the
+-- invariant `rational (value total) ≡ sum_ℚ l.i f` is kept by `sum_ℚ-next`.
+--
+--     one more term                        sum_ℚ-next n f
+--     the same or lesser terms             sum_ℚ-same n f g h, sum_ℚ-le n f g h
+--     all terms 0                          sum_ℚ-zero n
+--     a sum, a multiple, a mix of terms    sum_ℚ-add, sum_ℚ-scale, sum_ℚ-mix
+--     the two orders of a double sum       sum_ℚ-swap m n f
+--     x = its positive part - its negative part, neither negative    parts_ℚ x
+--     x + z ≤ y + w, and x ≤ y from the difference                   ≤ℚ_add2, ≤ℚ_from
+--
+-- For the sum of 2 * f k:
+--
+--     sum_ℚ-scale n (whole (pos 2)) f : sum_ℚ n (λ k. whole (pos 2) *ℚ f k) ≡ whole (pos 2) *ℚ sum_ℚ n f
+use Rattle.std.specs.Prelude.{◌≡◌, ℕ, zero, suc, ◌+◌, ◌<◌, Bool, true, false, cond, [], ◌∷◌, pos}
+use Rattle.std.proofs.Common.{add-one, arith, refl, sym, ap, subst, ◌∙◌}
 use Rattle.exact_algebra.specs.Solver.{number, negated, ◌⊞◌, ◌⊟◌, ◌⊠◌, v0, v1, v2, v3, v4, v5}
 use Rattle.exact_algebra.specs.Rational.{ℚ, ◌+ℚ◌, ◌-ℚ◌, ◌*ℚ◌, neg_ℚ, whole, ◌≤ℚ◌, le_ℚ, ring_ℚ, zero-+ℚ, ≤ℚ_refl, ≤ℚ_trans, ≤ℚ_add, ≤ℚ_total, +ℚ_comm}
 
@@ -9,9 +24,11 @@ abbrev pub sum_ℚ : ℕ → (ℕ → ℚ) → ℚ
 sum_ℚ zero f = whole (pos 0)
 sum_ℚ (suc n) f = sum_ℚ n f +ℚ f n
 
+-- x, or 0 where it is negative
 abbrev pub positive_ℚ : ℚ → ℚ
 positive_ℚ x = cond (le_ℚ (whole (pos 0)) x) x (whole (pos 0))
 
+-- -x, or 0 where x is positive
 abbrev pub negative_ℚ : ℚ → ℚ
 negative_ℚ x = cond (le_ℚ (whole (pos 0)) x) (whole (pos 0)) (neg_ℚ x)
 
@@ -25,6 +42,10 @@ pub ≤ℚ_from : (x y : ℚ) → whole (pos 0) ≤ℚ (y -ℚ x) → x ≤ℚ y
 ≤ℚ_from x y h =
     subst (λ v. v ≤ℚ y) (ring_ℚ (x ∷ []) (v0 ⊞ number (pos 0)) v0 refl)
     (subst (λ v. (x +ℚ whole (pos 0)) ≤ℚ v) (ring_ℚ (x ∷ y ∷ []) (v0 ⊞ (v1 ⊟ v0)) v1 refl) (≤ℚ_add (whole (pos 0)) (y -ℚ x) x h))
+
+-- one more term
+pub sum_ℚ-next : (n : ℕ) (f : ℕ → ℚ) → sum_ℚ (n + 1) f ≡ sum_ℚ n f +ℚ f n
+sum_ℚ-next n f = ap (λ m. sum_ℚ m f) (add-one n)
 
 pub sum_ℚ-same : (n : ℕ) (f g : ℕ → ℚ) → ((k : ℕ) → k < n → f k ≡ g k) → sum_ℚ n f ≡ sum_ℚ n g
 sum_ℚ-same zero f g h = refl

@@ -1,4 +1,22 @@
--- Identities of sums and products, by computing both sides as polynomials.
+-- Identities of whole numbers, proved by computing both sides as polynomials.
+--
+-- Both sides are written as a `Term`: `v0` to `v9` (or `var k`) are variables by their place in a
+-- list of values, `number z` is a whole number, and `⊞`, `⊟`, `⊠` and `negated` stand for the
+-- operations. `value vs t` is what the term is worth, and computes to the expression meant. The
+-- polynomials are compared by computation, so the proof that they agree is `refl`.
+--
+--     identity vs a b refl                 value vs a ≡ value vs b
+--     from1 vs a b k l r refl h            the same from h : value vs l ≡ value vs r,
+--                                          where a - b = k * (l - r)
+--     from2 vs a b k l r k' l' r' refl h h'    from two equations,
+--                                          where a - b = k * (l - r) + k' * (l' - r')
+--
+-- For (x + y) * (x - y) = x * x - y * y, and for x * z = y * z from h : x ≡ y:
+--
+--     identity (x ∷ y ∷ []) ((v0 ⊞ v1) ⊠ (v0 ⊟ v1)) (v0 ⊠ v0 ⊟ v1 ⊠ v1) refl
+--     from1 (x ∷ y ∷ z ∷ []) (v0 ⊠ v2) (v1 ⊠ v2) v2 v0 v1 refl h
+--
+-- `specs.Polynomials` does the same over any commutative ring, and `specs.Rational` over ℚ.
 use Rattle.std.specs.Prelude.{◌≡◌, ℕ, Bool, true, false, cond, ◌&&◌, ltb, eqb, List, [], ◌∷◌, get_or, ℤ, pos, negsuc, ◌+ℤ◌, ◌-ℤ◌, ◌*ℤ◌, neg_ℤ}
 use Rattle.std.proofs.Common.{arith, refl, sym, ap, ◌∙◌}
 use Rattle.std.proofs.lemmas.Int.{ints}
@@ -14,6 +32,7 @@ pub data Term : Type 0 where
   times : Term → Term → Term
   negated : Term → Term
 
+-- what a term is worth where vs are the values of the variables
 abbrev pub value : List ℤ → Term → ℤ
 value vs (var i) = get_or vs i (pos 0)
 value vs (number z) = z
@@ -27,55 +46,67 @@ pub record Monomial : Type 0 where
   pub factor : ℤ
   pub vars : List ℕ
 
+-- the product of the variables
 abbrev pub power : List ℤ → List ℕ → ℤ
 power vs [] = pos 1
 power vs (i ∷ is) = get_or vs i (pos 0) *ℤ power vs is
 
+-- the sum of a polynomial's monomials
 abbrev pub total : List ℤ → List Monomial → ℤ
 total vs [] = pos 0
 total vs (m ∷ ms) = (m.factor *ℤ power vs m.vars) +ℤ total vs ms
 
+-- one more variable, in ascending order
 abbrev pub put : ℕ → List ℕ → List ℕ
 put i [] = i ∷ []
 put i (j ∷ js) = cond (ltb j i) (j ∷ put i js) (i ∷ j ∷ js)
 
+-- both lists of variables
 abbrev pub merge : List ℕ → List ℕ → List ℕ
 merge [] js = js
 merge (i ∷ is) js = put i (merge is js)
 
+-- whether two lists of variables are the same
 abbrev pub same : List ℕ → List ℕ → Bool
 same [] [] = true
 same [] (j ∷ js) = false
 same (i ∷ is) [] = false
 same (i ∷ is) (j ∷ js) = eqb i j && same is js
 
+-- the order of monomials: by their variables
 abbrev pub before : List ℕ → List ℕ → Bool
 before [] js = true
 before (i ∷ is) [] = false
 before (i ∷ is) (j ∷ js) = cond (eqb i j) (before is js) (ltb i j)
 
+-- one more monomial, added to the one with its variables
 abbrev pub insert : Monomial → List Monomial → List Monomial
 insert m [] = m ∷ []
 insert m (n ∷ ns) =
     cond (same m.vars n.vars) (record { factor = m.factor +ℤ n.factor; vars = n.vars } ∷ ns)
     (cond (before m.vars n.vars) (m ∷ n ∷ ns) (n ∷ insert m ns))
 
+-- the sum of two polynomials
 abbrev pub joined : List Monomial → List Monomial → List Monomial
 joined [] ns = ns
 joined (m ∷ ms) ns = insert m (joined ms ns)
 
+-- a polynomial times a number
 abbrev pub scaled : ℤ → List Monomial → List Monomial
 scaled z [] = []
 scaled z (m ∷ ms) = record { factor = z *ℤ m.factor; vars = m.vars } ∷ scaled z ms
 
+-- a polynomial times a monomial
 abbrev pub spread : Monomial → List Monomial → List Monomial
 spread m [] = []
 spread m (n ∷ ns) = insert (record { factor = m.factor *ℤ n.factor; vars = merge m.vars n.vars }) (spread m ns)
 
+-- the product of two polynomials
 abbrev pub multiplied : List Monomial → List Monomial → List Monomial
 multiplied [] ns = []
 multiplied (m ∷ ms) ns = joined (spread m ns) (multiplied ms ns)
 
+-- a term as a polynomial: equal monomials joined, in order
 abbrev pub normal : Term → List Monomial
 normal (var i) = record { factor = pos 1; vars = i ∷ [] } ∷ []
 normal (number z) = record { factor = z; vars = [] } ∷ []
@@ -84,10 +115,12 @@ normal (minus a b) = joined (normal a) (scaled (negsuc 0) (normal b))
 normal (times a b) = multiplied (normal a) (normal b)
 normal (negated a) = scaled (negsuc 0) (normal a)
 
+-- whether a number is 0
 abbrev pub is_zero : ℤ → Bool
 is_zero (pos n) = eqb n 0
 is_zero (negsuc n) = false
 
+-- whether all factors are 0
 abbrev pub vanishes : List Monomial → Bool
 vanishes [] = true
 vanishes (m ∷ ms) = is_zero m.factor && vanishes ms

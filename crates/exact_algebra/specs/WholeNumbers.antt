@@ -1,4 +1,14 @@
--- Whole numbers among the fractions: what an equation or an order of fractions says of whole numbers.
+-- Whole numbers among the fractions: an equation or an order of fractions, said of whole numbers,
+-- and the other way.
+--
+--     into ℚ      whole-neg, whole-le, whole-sum, whole-positive, whole-negative
+--                 (whole-add and whole-mul are in `specs.Rational`)
+--     out of ℚ    same_from_whole a b e, le_from_whole a b h
+--     pairs       same_from a b e: equal fractions have equal cross products
+--
+-- For a + b ≤ c of whole numbers from h : (whole a +ℚ whole b) ≤ℚ whole c:
+--
+--     le_from_whole (a +ℤ b) c (subst (λ z. z ≤ℚ whole c) (sym (whole-add a b)) h)
 use Rattle.std.specs.Prelude.{◌≡◌, ℕ, zero, suc, Bool, true, false, cond, ℤ, pos, negsuc, ◌*ℤ◌, ◌≤ℤ◌, neg_ℤ}
 use Rattle.std.proofs.Common.{arith, refl, sym, ap, subst, ◌∙◌}
 use Rattle.std.proofs.lemmas.Int.{ints}

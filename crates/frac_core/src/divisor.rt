@@ -5,6 +5,7 @@ ghost use Rattle.frac_core.specs.Gcd.{gcd};
 
 /// The greatest common divisor; of 0 and a number it is that number.
 #[tactic(auto, using(crate::proofs::Binary::gcd_of_one, crate::specs::GcdLaws::gcd_pos))]
+#[inline(always)]
 pub(crate) fn common_divisor(a: u128, b: u128) -> u128
     ensures value { result ≡ gcd a b }
     ensures positive { 0 < b → 0 < result }

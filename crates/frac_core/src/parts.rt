@@ -22,6 +22,7 @@ impl Parts {
     ghost use Rattle.frac_core.specs.Parts.{fraction, IsExact, Cancelled};
 
     /// `n / 1`.
+    #[inline(always)]
     pub(crate) fn whole(n: i128, limit: u128) -> Parts
         requires num_fits { unsigned_abs n ≤ limit }
         requires den_fits { 1 ≤ limit }
@@ -65,6 +66,7 @@ impl Parts {
     }
 
     /// The sum, where its four numbers are within the limit.
+    #[inline(always)]
     pub(crate) fn plus(self, other: Parts, limit: u128) -> Option<Parts>
         requires limited { limit < 2 ^ 127 }
         requires left { IsWithin limit (fraction self) }
@@ -87,6 +89,7 @@ impl Parts {
 
     // Both factors with the common divisors of either numerator and the other denominator taken
     // away: the product of the answers needs no reduction.
+    #[inline(always)]
     fn cancelled(self, other: Parts, limit: u128) -> (Parts, Parts)
         requires limited { limit < 2 ^ 127 }
         requires left { IsWithin limit (fraction self) }
@@ -107,6 +110,7 @@ impl Parts {
     }
 
     /// The product, where it is within the limit.
+    #[inline(always)]
     pub(crate) fn times(self, other: Parts, limit: u128) -> Option<Parts>
         requires limited { limit < 2 ^ 127 }
         requires left { IsWithin limit (fraction self) }
@@ -121,6 +125,7 @@ impl Parts {
     }
 
     /// The negated fraction.
+    #[inline(always)]
     pub(crate) fn negated(self, limit: u128) -> Parts
         requires limited { limit < 2 ^ 127 }
         requires within { IsWithin limit (fraction self) }
@@ -134,6 +139,7 @@ impl Parts {
     }
 
     /// 1 over the fraction.
+    #[inline(always)]
     pub(crate) fn inverted(self, limit: u128) -> Parts
         requires limited { limit < 2 ^ 127 }
         requires within { IsWithin limit (fraction self) }
@@ -148,6 +154,7 @@ impl Parts {
     }
 
     /// -1, 0 or 1.
+    #[inline(always)]
     pub(crate) fn sign(self) -> i8
         requires { 1 ≤ self.den }
         ensures { result ≡ sign_ℚ (rational (fraction self)) }
@@ -156,6 +163,7 @@ impl Parts {
     }
 
     /// Whether it is 0.
+    #[inline(always)]
     pub(crate) fn is_zero(self) -> bool
         requires { 1 ≤ self.den }
         ensures { IsTrue result ↔ (rational (fraction self) ≡ whole (pos 0)) }
@@ -164,16 +172,25 @@ impl Parts {
     }
 
     /// How two fractions compare.
+    #[inline(always)]
     pub(crate) fn compare(self, other: Parts) -> Ordering
         requires left { 1 ≤ self.den }
         requires right { 1 ≤ other.den }
         ensures { result ≡ cmp_ℚ (rational (fraction self)) (rational (fraction other)) }
     {
-        let size = self.num.unsigned_abs();
-        let other_size = other.num.unsigned_abs();
         match (self.num < 0, other.num < 0) {
-            (false, false) => compare_products(size, other.den, other_size, self.den),
-            (true, true) => compare_products(other_size, self.den, size, other.den),
+            (false, false) => compare_products(
+                self.num.unsigned_abs(),
+                other.den,
+                other.num.unsigned_abs(),
+                self.den,
+            ),
+            (true, true) => compare_products(
+                other.num.unsigned_abs(),
+                self.den,
+                self.num.unsigned_abs(),
+                other.den,
+            ),
             (true, false) => Ordering::Less,
             (false, true) => Ordering::Greater,
         }

@@ -11,8 +11,8 @@ returns-in-false-false c =
     let y = fraction c.args.other in
     let fx : SFits w128 x.num = search rules in
     let fy : SFits w128 y.num = search rules in
-    let size : c.unsigned_abs-size.result ≡ unsigned_abs x.num = simp to_z-of_z at c.unsigned_abs-size.ensures.value in
-    let other_size : c.unsigned_abs-other_size.result ≡ unsigned_abs y.num = simp to_z-of_z at c.unsigned_abs-other_size.ensures.value in
+    let size : c.unsigned_abs-in-false-false.result ≡ unsigned_abs x.num = simp to_z-of_z at c.unsigned_abs-in-false-false.ensures.value in
+    let other_size : c.unsigned_abs-in-false-false-2.result ≡ unsigned_abs y.num = simp to_z-of_z at c.unsigned_abs-in-false-false-2.ensures.value in
     let left = simp to_z-of_z at c.in-false-false.is-0 in
     let right = simp to_z-of_z at c.in-false-false.is-1 in
     c.compare_products-in-false-false.ensures ∙ ap₂ (λ m n. nat_cmp (m * y.den) (n * x.den)) size other_size ∙ compare_above x y c.requires.left c.requires.right left right
@@ -23,8 +23,8 @@ returns-in-true-true c =
     let y = fraction c.args.other in
     let fx : SFits w128 x.num = search rules in
     let fy : SFits w128 y.num = search rules in
-    let size : c.unsigned_abs-size.result ≡ unsigned_abs x.num = simp to_z-of_z at c.unsigned_abs-size.ensures.value in
-    let other_size : c.unsigned_abs-other_size.result ≡ unsigned_abs y.num = simp to_z-of_z at c.unsigned_abs-other_size.ensures.value in
+    let size : c.unsigned_abs-in-true-true.result ≡ unsigned_abs x.num = simp to_z-of_z at c.unsigned_abs-in-true-true.ensures.value in
+    let other_size : c.unsigned_abs.result ≡ unsigned_abs y.num = simp to_z-of_z at c.unsigned_abs.ensures.value in
     let left = simp to_z-of_z at c.in-true-true.is-0 in
     let right = simp to_z-of_z at c.in-true-true.is-1 in
     c.compare_products.ensures ∙ ap₂ (λ m n. nat_cmp (m * x.den) (n * y.den)) other_size size ∙ compare_below x y c.requires.left c.requires.right left right
