@@ -5,11 +5,11 @@ ghost use Rattle.data_frame.specs.Tables.{column_named, table_of, table_of_recor
 ghost use Rattle.data_frame.specs.Reading.{IsReading, left_of, unread};
 ghost use Rattle.data_frame.specs.Views.{exact_column, exact_table, lent_column, stored_column};
 
+use crate::TableFault;
 use crate::column::{Column, Stored, read_column};
 use crate::header::{Names, read_names, set_aside};
 use crate::records::{Found, next_row, open};
 use crate::rows::read_rows;
-use crate::TableFault;
 use csv::{Reader, StringRecord};
 use frac_core::Text;
 use std::alloc::{AllocError, Global};
@@ -33,9 +33,9 @@ impl Model for Frame {
     ghost Value = { TableOf Frac128 };
 
     ghost view = { λ f. record {
-        names = f.names;
-        records = f.records;
-        columns = map stored_column f.columns.items
+      names = f.names;
+      records = f.records;
+      columns = map stored_column f.columns.items;
     } };
 
     ghost invariant = { λ f. length f.columns.items ≡ length f.names };

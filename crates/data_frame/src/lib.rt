@@ -12,3 +12,6 @@ mod rows;
 pub use column::Column;
 pub use fault::TableFault;
 pub use frame::{Frame, read_table};
+
+#[cfg(test)]
+mod tests;

@@ -62,11 +62,11 @@ pub(crate) fn read_row(
     requires small { length (unread reader.old) + 1 < 2 ^ 32 }
     ensures { MatchResult result
         (λ found. MatchBool found
-            (TakesRow reader.old reader.new (fields_of row.new)
-            × (row_fault wanted rec (fields_of row.new) ≡ None))
-            (left_of reader.old ≡ []))
+        (TakesRow reader.old reader.new (fields_of row.new)
+        × (row_fault wanted rec (fields_of row.new) ≡ None))
+        (left_of reader.old ≡ []))
         (λ e. (e ≡ TableFault.OutOfMemory)
-            ⊎ (rows_fault wanted rec (left_of reader.old) ≡ Some e)) }
+        ⊎ (rows_fault wanted rec (left_of reader.old) ≡ Some e)) }
 {
     match next_row(reader, row)? {
         Found::End => Ok(false),
