@@ -32,7 +32,8 @@ pub(crate) fn open(alloc: Global, bytes: &[u8]) -> Reader<&[u8]>
         .from_reader(alloc, bytes)
 }
 
-// Reads the next record into `row`.
+// Reads the next record into `row`. Bytes in memory never fail to be read, but no clause of the
+// reader says so: that error, too, is answered as want of memory.
 pub(crate) fn next_row(
     reader: &mut Reader<&[u8]>,
     row: &mut StringRecord,
