@@ -1,6 +1,7 @@
 -- On the faults of records.
-use Rattle.std.proofs.Common.{◌≡◌, ◌∙◌, ◌<◌, ◌≤◌, ◌+◌, ℕ, true, false, List, [], ◌∷◌, ◌++◌, Some, None, length, refl, arith, nat_lt, inl, inr, sym, ◌⊎◌}
+use Rattle.std.proofs.Common.{◌≡◌, ◌∙◌, ◌<◌, ◌≤◌, ◌+◌, ℕ, true, false, List, [], ◌∷◌, Option, Some, None, length, refl, arith, nat_lt, inl, inr, sym, ◌⊎◌}
 use Rattle.std.proofs.lemmas.Bool.{lt-ltb, ltb-true, ne_eqb, eq-eqb, false_from_ne_true, ltb-false, cases_Bool}
+use Rattle.std.specs.Option.{option_or}
 use Rattle.data_frame.specs.Records.{Row, are_text}
 use Rattle.data_frame.specs.Faults.{first_fault, header_fault, row_fault, rows_fault}
 use Rattle.data_frame.specs.declared.fault.TableFault.{TableFault}
@@ -47,3 +48,11 @@ good_is_early wanted rec row e = go (cases_Bool (nat_lt 16384 rec))
     go : (nat_lt 16384 rec ≡ true) ⊎ (nat_lt 16384 rec ≡ false) → rec ≤ 16384
     go (inl h) = let bad : Some TooManyRows ≡ None = sym (too_many wanted rec row (ltb-true 16384 rec h)) ∙ e in absurd (cc bad)
     go (inr h) = ltb-false 16384 rec h
+
+pub none_first : (a b : Option TableFault) → option_or a b ≡ None → a ≡ None
+none_first None b h = refl
+none_first (Some f) b h = absurd (cc h)
+
+pub none_second : (a b : Option TableFault) → option_or a b ≡ None → b ≡ None
+none_second None b h = h
+none_second (Some f) b h = absurd (cc h)

@@ -7,3 +7,4 @@ pub mod Naming
 pub mod Extending
 pub mod Numeric
 pub mod Tables
+pub mod Accepting

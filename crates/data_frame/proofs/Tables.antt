@@ -16,7 +16,7 @@ use Rattle.data_frame.specs.declared.fault.TableFault.{TableFault}
 use Rattle.data_frame.specs.declared.fault.TableFault.TheVariants.{NoHeader, NotUtf8, TooManyColumns}
 use Rattle.data_frame.specs.declared.column.Stored.{Stored}
 use Rattle.data_frame.specs.Views.{exact_column, stored_column}
-use Rattle.data_frame.proofs.Faults.{good_is_early}
+use Rattle.data_frame.proofs.Faults.{good_is_early, none_first, none_second}
 use Rattle.data_frame.proofs.Naming.{too_wide_header}
 
 pub no_records : (records : List Row) → records ≡ [] → table_of_records records ≡ Err NoHeader
@@ -53,14 +53,6 @@ header_short header e = elim (cases_Bool (are_text header)) [
   ]
   | inr other ↦ let bad : Some (NotUtf8 0) ≡ None = sym (header_not_text header other) ∙ e in absurd (cc bad)
 ]
-
-none_first : (a b : Option TableFault) → option_or a b ≡ None → a ≡ None
-none_first None b h = refl
-none_first (Some f) b h = absurd (cc h)
-
-none_second : (a b : Option TableFault) → option_or a b ≡ None → b ≡ None
-none_second None b h = h
-none_second (Some f) b h = absurd (cc h)
 
 few_from : (wanted rec : ℕ) (rows : List Row) → rec ≤ 16385 → rows_fault wanted rec rows ≡ None → rec + length rows ≤ 16385
 unfolding rows_fault

@@ -5,3 +5,4 @@ pub mod Reading
 pub mod Cells
 pub mod Tables
 pub mod Views
+pub mod WellFormed

@@ -1,15 +1,17 @@
-ghost use Rattle.std.specs.Prelude.{◌≡◌, ◌⊎◌, ◌+◌, ◌-◌, ◌^◌, ◌<◌, All, Ok, Err, length, map, option_map, IfOk, IfErr, IfNone, OnSome, Contains};
+ghost use Rattle.std.specs.Prelude.{◌≡◌, ◌⊎◌, ◌+◌, ◌-◌, ◌^◌, ◌<◌, All, Ok, Err, length, map, option_map, IfOk, IfErr, IfNone, OnOk, OnSome, Contains};
 ghost use Rattle.csv.specs.Records.{fields_of};
 ghost use Rattle.data_frame.specs.Cells.{column_of};
 ghost use Rattle.data_frame.specs.Tables.{column_named, table_of, table_of_records};
 ghost use Rattle.data_frame.specs.Reading.{IsReading, left_of, unread};
+ghost use Rattle.data_frame.specs.Records.{records_of};
+ghost use Rattle.data_frame.specs.WellFormed.{AreTable};
 ghost use Rattle.data_frame.specs.Views.{exact_column, exact_table, lent_column, stored_column};
 
+use crate::TableFault;
 use crate::column::{Column, Stored, read_column};
 use crate::header::{Names, read_names, set_aside};
 use crate::records::{Found, next_row, open};
 use crate::rows::read_rows;
-use crate::TableFault;
 use csv::{Reader, StringRecord};
 use frac_core::Text;
 use std::alloc::{AllocError, Global};
@@ -33,9 +35,9 @@ impl Model for Frame {
     ghost Value = { TableOf Frac128 };
 
     ghost view = { λ f. record {
-        names = f.names;
-        records = f.records;
-        columns = map stored_column f.columns.items
+      names = f.names;
+      records = f.records;
+      columns = map stored_column f.columns.items;
     } };
 
     ghost invariant = { λ f. length f.columns.items ≡ length f.names };
@@ -105,15 +107,20 @@ fn read_frame(alloc: Global, reader: &mut Reader<&[u8]>) -> Result<Frame, TableF
     })
 }
 
-/// Reads a table: a header and the records under it, of fields between commas.
+/// Reads a table: a header and the records under it.
 ///
-/// The records are those of `csv` ... (see the crate's first lines). Each fault is the first in
-/// their order, and `OutOfMemory` alone may come at any step.
+/// The answer is the table of the bytes, or their first fault, in the order that the crate's first
+/// lines give; `OutOfMemory` alone may come at any step. In particular, bytes are read exactly
+/// where their records are a table: all fields are UTF-8, the header has at most 1,024 of them and
+/// distinct names that aren't empty, and at most 16,384 records of as many fields stand under it.
 pub fn read_table(alloc: Global, bytes: &[u8]) -> Result<Frame, TableFault>
     requires { length bytes.now < 2 ^ 32 }
     ensures table { IfOk result (λ frame. table_of bytes.now ≡ Ok (exact_table frame)) }
     ensures fault { IfErr result (λ e. (e ≡ TableFault.OutOfMemory)
         ⊎ (table_of bytes.now ≡ Err e)) }
+    ensures accepts { OnOk result (AreTable (records_of bytes.now)) }
+    ensures accepted { AreTable (records_of bytes.now)
+        → IfErr result (λ e. e ≡ TableFault.OutOfMemory) }
 {
     let mut reader = open(alloc, bytes);
     read_frame(alloc, &mut reader)

@@ -71,10 +71,10 @@ fn add_name(
     requires { map string_bytes places.old.keys ≡ texts.old }
     ensures { MatchResult result
         (λ _. (name_fault column texts.old name.now ≡ None)
-            × (texts.new ≡ texts.old ++ name.now ∷ [])
-            × (map string_bytes places.new.keys ≡ texts.new))
+        × (texts.new ≡ texts.old ++ name.now ∷ [])
+        × (map string_bytes places.new.keys ≡ texts.new))
         (λ e. (e ≡ TableFault.OutOfMemory)
-            ⊎ (name_fault column texts.old name.now ≡ Some e)) }
+        ⊎ (name_fault column texts.old name.now ≡ Some e)) }
 {
     if name.is_empty() {
         return Err(TableFault::EmptyName { column });
@@ -96,9 +96,9 @@ pub(crate) fn read_names(alloc: Global, header: &StringRecord) -> Result<Names, 
     requires { are_text (fields_of header.now) ≡ true }
     ensures { MatchResult result
         (λ names. (header_fault (fields_of header.now) ≡ None)
-            × (names ≡ names_of (fields_of header.now)))
+        × (names ≡ names_of (fields_of header.now)))
         (λ e. (e ≡ TableFault.OutOfMemory)
-            ⊎ (header_fault (fields_of header.now) ≡ Some e)) }
+        ⊎ (header_fault (fields_of header.now) ≡ Some e)) }
 {
     let len = header.len();
     if len > MOST_COLUMNS {

@@ -32,7 +32,8 @@ pub(crate) fn open(alloc: Global, bytes: &[u8]) -> Reader<&[u8]>
         .from_reader(alloc, bytes)
 }
 
-// Reads the next record into `row`.
+// Reads the next record into `row`. Bytes in memory never fail to be read, but no clause of the
+// reader says so: that error, too, is answered as want of memory.
 pub(crate) fn next_row(
     reader: &mut Reader<&[u8]>,
     row: &mut StringRecord,
@@ -62,11 +63,11 @@ pub(crate) fn read_row(
     requires small { length (unread reader.old) + 1 < 2 ^ 32 }
     ensures { MatchResult result
         (λ found. MatchBool found
-            (TakesRow reader.old reader.new (fields_of row.new)
-            × (row_fault wanted rec (fields_of row.new) ≡ None))
-            (left_of reader.old ≡ []))
+        (TakesRow reader.old reader.new (fields_of row.new)
+        × (row_fault wanted rec (fields_of row.new) ≡ None))
+        (left_of reader.old ≡ []))
         (λ e. (e ≡ TableFault.OutOfMemory)
-            ⊎ (rows_fault wanted rec (left_of reader.old) ≡ Some e)) }
+        ⊎ (rows_fault wanted rec (left_of reader.old) ≡ Some e)) }
 {
     match next_row(reader, row)? {
         Found::End => Ok(false),

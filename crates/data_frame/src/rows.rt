@@ -58,11 +58,11 @@ pub(crate) fn read_rows(
     requires first { first ≤ wanted }
     ensures { MatchResult result
         (λ body. (rows_fault wanted 1 (left_of reader.old) ≡ None)
-            × (map fields_of body.columns.items
-                ≡ columns_from (left_of reader.old) first (wanted - first))
-            × (body.records ≡ length (left_of reader.old)))
+        × (map fields_of body.columns.items
+        ≡ columns_from (left_of reader.old) first (wanted - first))
+        × (body.records ≡ length (left_of reader.old)))
         (λ e. (e ≡ TableFault.OutOfMemory)
-            ⊎ (rows_fault wanted 1 (left_of reader.old) ≡ Some e)) }
+        ⊎ (rows_fault wanted 1 (left_of reader.old) ≡ Some e)) }
 {
     let mut columns = empty_columns(alloc, wanted as usize - first)?;
     let mut row = StringRecord::new(alloc);

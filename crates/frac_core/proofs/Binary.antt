@@ -18,6 +18,7 @@ gcd_drop u m c e =
       λ d p q. dvd-gcd d u m p (dvd_from_coprime d c m (coprime_by d c (λ k x y. one_from_coprime k c u e y (dvd_trans k x p))) (subst (λ s. d ∣ s) (mul_comm m c) q)),
     )
 
+-- 2 and its powers are coprime to an odd number
 two_apart : (u : ℕ) → u % 2 ≡ 1 → gcd 2 u ≡ 1
 two_apart u o = coprime_by 2 u by
   where
@@ -31,10 +32,11 @@ powers_apart : (u k : ℕ) → u % 2 ≡ 1 → gcd (2 ^ k) u ≡ 1
 powers_apart u zero o = coprime_by 1 u (λ k p q. one_from_coprime k 1 1 (gcd_unique 1 1 1 (dvd_refl 1, dvd_refl 1, λ d x y. x)) p p)
 powers_apart u (suc k) o = rw (pow-suc 2 k) (coprime-mul (2 ^ k) 2 u (powers_apart u k o) (two_apart u o))
 
-pub gcd_shifted : (u m k : ℕ) → u % 2 ≡ 1 → gcd u (m * 2 ^ k) ≡ gcd u m
+-- so they change nothing beside one
+gcd_shifted : (u m k : ℕ) → u % 2 ≡ 1 → gcd u (m * 2 ^ k) ≡ gcd u m
 gcd_shifted u m k o = gcd_drop u m (2 ^ k) (powers_apart u k o)
 
--- the lowest set digit
+-- a number whose lowest t binary digits are 0 is a multiple of 2^t
 low_zeros : (n t : ℕ) → ((i : ℕ) → i < t → n / 2 ^ i % 2 ≡ 0) → n / 2 ^ t * 2 ^ t ≡ n
 low_zeros n zero h = omega (arith, div-one n)
 low_zeros n (suc t) h =
@@ -44,26 +46,28 @@ low_zeros n (suc t) h =
     let half : n / 2 ^ t / 2 * 2 ≡ n / 2 ^ t = omega arith in
     rw (s, pow-suc 2 t) (omega (arith, ap (λ x. x * 2 ^ t) half, r))
 
+-- without its trailing zeros a number is odd, and nothing is lost
 pub odd_is : (w : Width) (n : ℕ) → 0 < n → n < 2 ^ bits w → (n / 2 ^ trailing_zeros w n % 2 ≡ 1) × (n / 2 ^ trailing_zeros w n * 2 ^ trailing_zeros w n ≡ n)
 odd_is w n p h = let b = bit_at-trailing_zeros w n p h in (b.1, low_zeros n (trailing_zeros w n) b.2)
 
-pub odd_same : (w : Width) (n u : ℕ) → 0 < n → n < 2 ^ bits w → u % 2 ≡ 1 → gcd u (n / 2 ^ trailing_zeros w n) ≡ gcd u n
+-- they change nothing beside an odd number
+odd_same : (w : Width) (n u : ℕ) → 0 < n → n < 2 ^ bits w → u % 2 ≡ 1 → gcd u (n / 2 ^ trailing_zeros w n) ≡ gcd u n
 odd_same w n u p h o = sym (gcd_shifted u (n / 2 ^ trailing_zeros w n) (trailing_zeros w n) o) ∙ ap (gcd u) (odd_is w n p h).1
 
 -- a difference in place of the greater number
-pub gcd_gap : (a b : ℕ) → b ≤ a → gcd b (a - b) ≡ gcd a b
+gcd_gap : (a b : ℕ) → b ≤ a → gcd b (a - b) ≡ gcd a b
 gcd_gap a b h = sym (gcd_unique a b (gcd b (a - b)) (IsGcd-from_sub a b _ h ((gcd-is b (a - b)).1, (gcd-is b (a - b)).0, λ d p q. (gcd-is b (a - b)).2 d q p)))
 
-pub gcd_self : (a : ℕ) → gcd a a ≡ a
+gcd_self : (a : ℕ) → gcd a a ≡ a
 gcd_self a = gcd_unique a a a (dvd_refl a, dvd_refl a, λ d p q. p)
 
--- the factor 2^min in front
+-- the common power of 2 goes in front
 apart : (a b i r : ℕ) → a % 2 ≡ 1 → gcd (a * 2 ^ i) (b * 2 ^ (i + r)) ≡ gcd a b * 2 ^ i
 apart a b i r o =
     ap (gcd (a * 2 ^ i)) (ap (λ x. b * x) (ap (λ x. 2 ^ x) (omega arith) ∙ pow-add 2 r i) ∙ sym (mul_assoc b (2 ^ r) (2 ^ i)))
     ∙ gcd-mul a (b * 2 ^ r) (2 ^ i) (pow_pos i) ∙ ap (λ x. x * 2 ^ i) (gcd_shifted a b r o)
 
-pub gcd_split : (a b i j : ℕ) → a % 2 ≡ 1 → b % 2 ≡ 1 → gcd (a * 2 ^ i) (b * 2 ^ j) ≡ gcd a b * 2 ^ min i j
+gcd_split : (a b i j : ℕ) → a % 2 ≡ 1 → b % 2 ≡ 1 → gcd (a * 2 ^ i) (b * 2 ^ j) ≡ gcd a b * 2 ^ min i j
 gcd_split a b i j o q = by (order i j)
   where
     order : (i j : ℕ) → (i ≤ j) ⊎ (j ≤ i)
@@ -79,6 +83,7 @@ gcd_split a b i j o q = by (order i j)
         let m : j ≡ min i j = omega arith in
         gcd_comm (a * 2 ^ i) (b * 2 ^ j) ∙ ap (λ x. gcd (b * 2 ^ j) (a * 2 ^ x)) e ∙ apart b a j (i - j) q ∙ ap₂ (λ x y. x * 2 ^ y) (gcd_comm b a) m
 
+-- one step: the lesser number stays, and the odd part of the gap takes the place of the greater
 stepped : (w : Width) (u v m g : ℕ) → u % 2 ≡ 1 → v % 2 ≡ 1 → 0 < g → g < 2 ^ bits w → (m ≡ u) × (g ≡ v - u) × (u ≤ v) ⊎ (m ≡ v) × (g ≡ u - v) × (v ≤ u)
     → (m % 2 ≡ 1) × (g / 2 ^ trailing_zeros w g % 2 ≡ 1) × (gcd m (g / 2 ^ trailing_zeros w g) ≡ gcd u v)
 stepped w u v m g o q p h (inl s) =
@@ -95,6 +100,7 @@ pub binary_step : (w : Width) (u v m g : ℕ) → u % 2 ≡ 1 → v % 2 ≡ 1 �
     → (m % 2 ≡ 1) × (g / 2 ^ trailing_zeros w g % 2 ≡ 1) × (gcd m (g / 2 ^ trailing_zeros w g) ≡ gcd u v)
 binary_step w u v m g o q e f p h = stepped w u v m g o q p h (smaller_first u v m g e f)
 
+-- where the loop ends
 pub gcd_same : (u v : ℕ) → u ≡ v → u ≡ gcd u v
 gcd_same u v e = sym (gcd_self u) ∙ ap (gcd u) e
 
@@ -104,6 +110,7 @@ gap_pos u v g e h = grind arith
 pub gap_none : (u v g : ℕ) → g ≡ abs_diff u v → g ≡ 0 → u ≡ v
 gap_none u v g e h = grind arith
 
+-- the common power of 2 is put back, and what it gives fits
 pub shifted_back : (a b i j r : ℕ) (B : ℕ) → a / 2 ^ i % 2 ≡ 1 → b / 2 ^ j % 2 ≡ 1 → a / 2 ^ i * 2 ^ i ≡ a → b / 2 ^ j * 2 ^ j ≡ b → 0 < a → a < B
     → r ≡ gcd (a / 2 ^ i) (b / 2 ^ j) → r * 2 ^ min i j % B ≡ gcd a b
 shifted_back a b i j r B o q ae be p h e =
@@ -111,6 +118,7 @@ shifted_back a b i j r B o q ae be p h e =
     let l : gcd a b ≤ a = le_of_dvd p (gcd_dvd_l a b) in
     ap (λ x. x % B) s ∙ mod-eq_of_lt (omega arith)
 
+-- 1 has no other divisor
 pub gcd_of_one : (a b : ℕ) → (a ≡ 1) ⊎ (b ≡ 1) → gcd a b ≡ 1
 gcd_of_one a b (inl e) = ap (λ x. gcd x b) e ∙ gcd_comm 1 b ∙ gcd_one b
 gcd_of_one a b (inr e) = ap (gcd a) e ∙ gcd_one a

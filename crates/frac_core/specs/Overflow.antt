@@ -12,6 +12,7 @@ pub record IsWithin (range : ℕ) (x : Fraction) : Type 0 where
   pub num_fits : unsigned_abs x.num ≤ range
   pub den_fits : x.den ≤ range
 
+-- -x
 abbrev pub negated : Fraction → Fraction
 negated x = record { num = neg_ℤ x.num; den = x.den }
 
@@ -45,6 +46,8 @@ pub record SumFits (range : ℕ) (x y : Fraction) : Type 0 where
   pub sum : unsigned_abs (joined x y) ≤ range
   pub den : sum_den x y ≤ range
 
+-- the numbers that the operation needs are within `range`; a difference is a sum with the second negated,
+-- a quotient a product with it inverted
 abbrev pub Fits : ℕ → OpKind → Fraction → Fraction → Type 0
 Fits range Add x y = SumFits range x y
 Fits range Sub x y = SumFits range x (negated y)

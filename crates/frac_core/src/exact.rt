@@ -34,6 +34,7 @@ pub trait Exact: Copy + Send + Sync {
     /// The greatest size of a numerator or denominator.
     ghost range: { ℕ };
 
+    /// `RANGE`, as clauses see it.
     ghost RANGE: { ℤ };
 
     /// The greatest size of a numerator or denominator, at least `2^63 - 1`.

@@ -15,11 +15,13 @@ pub struct Frac64 {
     ghost within: { IsWithin (2 ^ 63 - 1) (record { num = num; den = den }) },
 }
 
+// The greatest size of a part.
 const LIMIT: u128 = i64::MAX as u128;
 
 impl Frac64 {
     ghost use Rattle.frac_core.specs.Parts.{fraction};
 
+    // The parts, as the operations take them.
     fn parts(self) -> Parts
         ensures { fraction result ≡ record { num = self.num; den = self.den } }
     {
@@ -29,6 +31,7 @@ impl Frac64 {
         }
     }
 
+    // The fraction of parts in lowest terms.
     fn from_lowest(parts: Parts) -> Frac64
         requires { IsWithin (2 ^ 63 - 1) (fraction parts) }
         ensures { fraction parts ≡ record { num = result.num; den = result.den } }

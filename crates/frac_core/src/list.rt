@@ -72,3 +72,6 @@ impl<T> From<Vec<T>> for List<T> {
         List { contents }
     }
 }
+
+#[cfg(test)]
+mod tests;

@@ -773,3 +773,11 @@ fn at_most_64_quantiles(rt: HostRuntime) -> Result<(), Fail> {
     );
     Ok(())
 }
+
+fn crosses<T: Send + Sync>() {}
+
+#[test]
+fn jobs_may_cross_threads() {
+    crosses::<Job>();
+    crosses::<WordFault>();
+}

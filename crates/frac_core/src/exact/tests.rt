@@ -1,6 +1,6 @@
 //! Worked cases of the operations, at both types through the trait.
 
-use crate::{Exact, Frac64, Frac128, List, Op, OpKind, Text};
+use crate::{Exact, Frac64, Frac128, OpKind};
 use std::cmp::Ordering;
 use std::process::Abort;
 
@@ -154,13 +154,6 @@ fn orders<F: Exact>(rt: &impl Abort) {
     assert_eq!(rt; ratio(F::one()), (1, 1));
 }
 
-fn crosses<T: Send + Sync>(_value: &T) {}
-
-// A list may be handed to another thread where its items may.
-fn list_crosses<T: Send + Sync>(list: &List<T>) {
-    crosses(list);
-}
-
 #[test]
 fn operations_of_both_types(rt: HostRuntime) {
     operations::<Frac128>(&rt);
@@ -176,18 +169,4 @@ fn parts_in_range(rt: HostRuntime) {
 fn orders_of_both_types(rt: HostRuntime) {
     orders::<Frac128>(&rt);
     orders::<Frac64>(&rt);
-}
-
-#[test]
-fn values_cross_threads(rt: HostRuntime) {
-    let text = Text::new(rt.alloc(), "a").expect(&rt, "memory");
-    crosses(&text);
-    list_crosses(&List::<Text>::new(rt.alloc()));
-    crosses(&Frac128::one());
-    crosses(&Frac64::one());
-    crosses(&Op {
-        kind: OpKind::Add,
-        left: Frac128::one(),
-        right: Frac128::zero(),
-    });
 }

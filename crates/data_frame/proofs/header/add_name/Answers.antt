@@ -15,10 +15,10 @@ returns c =
     let pushed : c.push.new.self ≡ c.args.texts.now ++ c.args.name.now ∷ [] = search rules in
     let added = c.in_ok-is_new.ensures.added in (
       good_name c.args.column c.args.texts.now c.args.name.now c.in_ok-key.key c.args.places.now.keys c.in_ok-is_new.is_new
-      (sym c.is_empty.ensures ∙ c.if-is_empty.false) c.in_ok-key.ensures.ok c.requires added c.if-not-is_new.false,
+          (sym c.is_empty.ensures ∙ c.if-is_empty.false) c.in_ok-key.ensures.ok c.requires added c.if-not-is_new.false,
       pushed,
       ap (map string_bytes) c.in_ok-is_new.ensures.keys
-      ∙ key_added c.args.texts.now c.args.name.now c.in_ok-key.key c.args.places.now.keys c.in_ok-is_new.is_new
-      c.in_ok-key.ensures.ok c.requires added c.if-not-is_new.false
-      ∙ sym pushed,
+          ∙ key_added c.args.texts.now c.args.name.now c.in_ok-key.key c.args.places.now.keys c.in_ok-is_new.is_new
+          c.in_ok-key.ensures.ok c.requires added c.if-not-is_new.false
+          ∙ sym pushed,
     )

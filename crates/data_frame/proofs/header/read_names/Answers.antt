@@ -17,7 +17,7 @@ returns-in_err-add_name c =
     rw (p.1, p.2) (elim c.in_err-add_name.ensures [
       | inl memory ↦ inl memory
       | inr bad ↦ inr (named h c.requires (omega arith) ∙ c.loop-column.invariant.faults
-      ∙ first_name_bad c.loop-column.column c.loop-column.texts _ _ _ _ (next_field h c.loop-column.column (omega arith)) (rw c.text_at-name.ensures at bad))
+          ∙ first_name_bad c.loop-column.column c.loop-column.texts _ _ _ _ (next_field h c.loop-column.column (omega arith)) (rw c.text_at-name.ensures at bad))
     ])
 
 pub loop-column-preserved : goal.loop-column-preserved

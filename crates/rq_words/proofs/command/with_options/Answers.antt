@@ -1,4 +1,4 @@
-use Rattle.std.proofs.Common.{◌≡◌, ◌∙◌, ap₂, rules, arith}
+use Rattle.std.proofs.Common.{◌∙◌, ap₂, arith}
 use Rattle.clap.specs.Words.{with_rule}
 use Rattle.rq_words.proofs.ByClap.{all_options, one_more}
 use Rattle.rq_words.proofs.command.with_options.Goals as goal

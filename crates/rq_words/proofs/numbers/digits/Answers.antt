@@ -1,5 +1,4 @@
-use Rattle.std.proofs.Common.{◌≡◌, ◌∙◌, sym, arith, rules}
-use Rattle.std.proofs.lemmas.Bool.Decides.{nat_tests}
+use Rattle.std.proofs.Common.{◌∙◌, sym, arith}
 use Rattle.rq_words.proofs.Counts.{Digits, digits_none, digits_some, other_byte, parsed, too_long}
 use Rattle.rq_words.proofs.numbers.digits.Goals as goal
 use Rattle.rq_words.proofs.numbers.digits.Goals.{then-text-places-via-then-text-places, then-text-places-via-else-text-places+then-not-all_digits}

@@ -1,4 +1,4 @@
-use Rattle.std.proofs.Common.{◌≡◌, ◌∙◌, ◌⊎◌, inr, refl, map, string_bytes}
+use Rattle.std.proofs.Common.{◌∙◌, inr, refl, map, string_bytes}
 use Rattle.clap.specs.Words.{kind_of}
 use Rattle.rq_words.proofs.ByClap.{refused, simple, taken}
 use Rattle.rq_words.proofs.options.Options.read.Goals as goal
