@@ -1,8 +1,7 @@
 -- The segment of the fitted row is right, and so is the fit that consists of it.
-use Rattle.std.proofs.Common.{◌≡◌, ℕ, ◌+◌, ◌-◌, ◌≤◌, List, [], ◌∷◌, ℤ, pos, ◌-ℤ◌, inr, arith, refl, sym, ap, subst, ◌∙◌}
+use Rattle.std.proofs.Common.{◌≡◌, ℕ, ◌+◌, ◌-◌, ◌≤◌, List, [], ◌∷◌, ℤ, pos, inr, arith, refl, sym, ap, subst, ◌∙◌}
 use Rattle.std.proofs.lemmas.List.Elements.{All-cons, All-nil, All-same}
 use Rattle.std.specs.List.{All}
-use Rattle.exact_algebra.specs.IntegerSums.{sum_to, positive_part, negative_part}
 use Rattle.exact_algebra.specs.Solver.{number, ◌⊞◌, ◌⊟◌, ◌⊠◌, v0, v1, v2}
 use Rattle.exact_algebra.specs.Rational.{ℚ, ◌+ℚ◌, ◌-ℚ◌, ◌*ℚ◌, whole, whole-add, ring_ℚ}
 use Rattle.exact_algebra.specs.Fraction.{Fraction, rational}
@@ -14,7 +13,7 @@ use Rattle.loss_model.specs.Segment.{Covers, segments_of}
 use Rattle.loss_model.specs.Vertex.{dual_value}
 use Rattle.rq_engine.specs.declared.report.ScorePair.{ScorePair}
 use Rattle.rq_engine.specs.Ranking.{place, IsFitted}
-use Rattle.rq_engine.specs.Fit.{IsLocationModel, IsLocationSegment, IsOptimalAt, IsRightSegment, IsScored, score_at, dual_at, loss_around}
+use Rattle.rq_engine.specs.Fit.{IsLocationModel, IsLocationSegment, IsOptimalAt, IsRightSegment, IsScored, score_at, dual_at}
 use Rattle.rq_engine.proofs.Optimum.{location_optimal, location_score, location_vertex}
 
 -- what holds of the one item of a list

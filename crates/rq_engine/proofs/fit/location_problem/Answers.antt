@@ -1,4 +1,4 @@
-use Rattle.std.proofs.Common.{◌≡◌, ℕ, ◌+◌, ◌<◌, length, get_or, pos, w64, rules, arith, sym, ap, subst, ◌∙◌}
+use Rattle.std.proofs.Common.{◌≡◌, ℕ, ◌+◌, ◌<◌, [], ◌∷◌, ◌++◌, length, get_or, pos, w64, rules, arith, sym, ap, subst, ◌∙◌}
 use Rattle.std.proofs.lemmas.Int.{to_z-of_z}
 use Rattle.std.proofs.lemmas.List.{length_push}
 use mir.Val.{SFits}
@@ -17,7 +17,7 @@ loop-response-preserved g c =
     let row = c.in_ok-unit_row.field-0 in
     let fits : SFits w64 (get_or ys i (pos 0)) = search rules in
     let unit : IsUnitRow value (response ys i) row = subst (λ z. IsUnitRow value z row) (to_z-of_z w64 (get_or ys i (pos 0)) fits) c.in_ok-unit_row.ensures in
-    subst (λ new. (length new ≡ i + 1) × ((k : ℕ) (d : _) → k < i + 1 → IsUnitRow value (response ys k) (get_or new k d))) (sym c.in_ok-push.ensures.items)
+    subst (λ new. (length new ≡ i + 1) × ((k : ℕ) (d : _) → k < i + 1 → IsUnitRow value (response ys k) (get_or new k d))) {x = rows ++ row ∷ []} (sym c.in_ok-push.ensures.items)
     (length_push rows row ∙ ap (λ n. n + 1) c.loop-response.invariant.0, each_more (λ k r. IsUnitRow value (response ys k) r) rows row i c.loop-response.invariant.0 c.loop-response.invariant.1 unit)
 
 pub returns-clause-model : goal.returns-clause-model

@@ -1,6 +1,7 @@
-use Rattle.std.proofs.Common.{◌≡◌, ◌≤◌, length, pos, arith, refl, sym, ap, subst, ◌∙◌}
+use Rattle.std.proofs.Common.{◌≡◌, ◌≤◌, [], ◌∷◌, length, pos, arith, refl, sym, ap, subst, ◌∙◌}
 use Rattle.std.proofs.lemmas.Result.{IfOk-weaker}
 use Rattle.exact_algebra.specs.Rational.{quotient}
+use Rattle.loss_model.specs.declared.process.Segment.{Segment}
 use Rattle.exact_algebra.specs.Fraction.{rational}
 use Rattle.rq_engine.specs.Ranking.{response, place}
 use Rattle.rq_engine.specs.Fit.{IsLocationSegment, dual_at, loss_around}
@@ -34,10 +35,12 @@ returns g c =
     c.score_at-dual.ensures ∙ dual_from_score n c.args.fitted.place q (rational (value tau)) rows some c.requires.level ∙ ap (dual_at n (rational (value tau))) c.requires.placed in
     let lost : rational (value c.loss_around-loss.result) ≡ loss_around y n (rational (value tau)) (y f) =
     c.loss_around-loss.ensures ∙ ap (λ t. loss_around y n t (y f)) c.requires.level in
-    IfOk-weaker c.point_segment.result _ _
-    (λ s is.
-    subst (IsLocationSegment value y n f tau) (sym is)
-    (record {
+    let dual_value = c.score_at-dual.result in
+    let cost = c.loss_around-loss.result in
+    let made : Segment g.row.F.Denot =
+    record { lo = tau; hi = tau; vertex = c.in_ok-vertex.vertex; basic_lo = dual_value ∷ []; basic_hi = dual_value ∷ []; loss_lo = cost; loss_hi = cost } in
+    let right : IsLocationSegment value y n f tau made =
+    record {
       lo = refl;
       hi = refl;
       vertex = c.in_ok-vertex.ensures;
@@ -47,5 +50,7 @@ returns g c =
       dual_hi = dual;
       loss_lo = lost;
       loss_hi = lost;
-    }))
+    } in
+    IfOk-weaker c.point_segment.result (λ s. s ≡ made) (IsLocationSegment value y n f tau)
+    (λ s is. subst (IsLocationSegment value y n f tau) {x = made} {y = s} (sym is) right)
     c.point_segment.ensures
