@@ -55,7 +55,8 @@ impl Digits {
         requires room { self.old.zeros + length text.now < 2 ^ 65 }
         ensures front { result.0.now ≡ front text.entry.now }
         ensures rest { result.1.now ≡ rest text.entry.now }
-        ensures read { (digits : List ℕ) → HasRead digits self.old → HasRead (digits ++ front text.entry.now) self.new }
+        ensures read { (digits : List ℕ) → HasRead digits self.old
+            → HasRead (digits ++ front text.entry.now) self.new }
         ensures limit { self.new.limit ≡ self.old.limit }
         ensures room { self.new.zeros ≤ self.old.zeros + length result.0.now }
     {
@@ -74,7 +75,8 @@ impl Digits {
     fn push(&mut self, byte: u8)
         requires digit { is_ascii_digit byte ≡ true }
         requires room { self.old.zeros < 2 ^ 65 }
-        ensures read { (digits : List ℕ) → HasRead digits self.old → HasRead (digits ++ byte ∷ []) self.new }
+        ensures read { (digits : List ℕ) → HasRead digits self.old
+            → HasRead (digits ++ byte ∷ []) self.new }
         ensures limit { self.new.limit ≡ self.old.limit }
         ensures room { self.new.zeros ≤ self.old.zeros + 1 }
     {
@@ -92,7 +94,9 @@ impl Digits {
 
     /// The number of all the digits, or `None` where it exceeds the limit.
     pub fn value(self) -> Option<u128>
-        ensures { (digits : List ℕ) → HasRead digits self → MatchOption result (self.limit < digits_value 10 digits) (λ v. (v ≡ digits_value 10 digits) × (v ≤ self.limit)) }
+        ensures { (digits : List ℕ) → HasRead digits self
+            → MatchOption result (self.limit < digits_value 10 digits)
+            (λ v. (v ≡ digits_value 10 digits) × (v ≤ self.limit)) }
     {
         times_power(self.significand?, self.zeros, self.limit)
     }
@@ -102,7 +106,8 @@ impl Digits {
 /// after 39 turns at most.
 pub(crate) fn times_power(number: u128, power: u128, limit: u128) -> Option<u128>
     requires { number ≤ limit }
-    ensures { MatchOption result (limit < number * 10 ^ power) (λ v. (v ≡ number * 10 ^ power) × (v ≤ limit)) }
+    ensures { MatchOption result (limit < number * 10 ^ power)
+        (λ v. (v ≡ number * 10 ^ power) × (v ≤ limit)) }
 {
     if number == 0 {
         return Some(0);

@@ -41,9 +41,10 @@ const MOST_EXPONENT: u128 = 1 << 66;
 ///
 /// The value is exact, in lowest terms. A decimal is written `m * 10^k` with `m` not divisible by
 /// 10, that is as `m * 10^k` over 1 or as `m` over `10^-k`; it is `TooWide` exactly where one of
-/// these two whole numbers exceeds `RANGE`, and 0 is never too wide. A fraction is `TooWide` exactly
-/// where one of the two numbers that are written exceeds `RANGE`. A fraction over 0, and every
-/// other text, is `NotANumber`. The text is read once from left to right, and takes no memory.
+/// these two whole numbers exceeds `RANGE`, and 0 is never too wide. A fraction is `TooWide`
+/// exactly where one of the two numbers that are written exceeds `RANGE`. A fraction over 0, and
+/// every other text, is `NotANumber`. The text is read once from left to right, and takes no
+/// memory.
 pub fn read_number<F: Exact>(text: &str) -> Result<F, NumberFault>
     ensures { MatchResult result
         (λ r. number_of F.range text.now ≡ Ok (rational (F.value r)))
@@ -65,7 +66,8 @@ fn value_of<F: Exact>(is_negative: bool, parts: Written) -> F
 
 // Whether a text begins with a minus, and the text behind its sign.
 fn split_sign(text: &[u8]) -> (bool, &[u8])
-    ensures { (result.0 ≡ starts_with_minus text.now) × (result.1.now ≡ without_leading_sign text.now) }
+    ensures sign { result.0 ≡ starts_with_minus text.now }
+    ensures body { result.1.now ≡ without_leading_sign text.now }
 {
     match text {
         [b'-', body @ ..] => (true, body),
@@ -133,7 +135,8 @@ fn read_decimal(mantissa: Mantissa, rest: &[u8]) -> Result<Written, NumberFault>
     requires mantissa { IsMantissa mantissa }
     requires some { 1 ≤ mantissa.digits.limit }
     requires most { mantissa.digits.limit < 2 ^ 127 }
-    ensures { result ≡ within mantissa.entry.digits.limit (scan_decimal mantissa.entry.whole.now mantissa.entry.behind.now rest.now) }
+    ensures { let m = mantissa.entry in
+        result ≡ within m.digits.limit (scan_decimal m.whole.now m.behind.now rest.now) }
 {
     match rest {
         [] => read_exponent(mantissa, b"0"),
@@ -146,7 +149,8 @@ fn read_exponent(mantissa: Mantissa, text: &[u8]) -> Result<Written, NumberFault
     requires mantissa { IsMantissa mantissa }
     requires some { 1 ≤ mantissa.digits.limit }
     requires most { mantissa.digits.limit < 2 ^ 127 }
-    ensures { result ≡ within mantissa.entry.digits.limit (decimal_form mantissa.entry.whole.now mantissa.entry.behind.now text.now) }
+    ensures { let m = mantissa.entry in
+        result ≡ within m.digits.limit (decimal_form m.whole.now m.behind.now text.now) }
 {
     let (is_negative, unsigned) = split_sign(text);
     let Some(exponent) = Digits::of(unsigned, MOST_EXPONENT) else {
@@ -168,8 +172,9 @@ fn with_exponent(
     requires some { 1 ≤ mantissa.digits.limit }
     requires most { mantissa.digits.limit < 2 ^ 127 }
     requires exponent { IfSome exponent (λ e. e ≤ MOST_EXPONENT) }
-    ensures { (e : ℕ) → MatchOption exponent (MOST_EXPONENT < e) (λ v. v ≡ e)
-        → result ≡ within mantissa.entry.digits.limit (Some (with_exponent mantissa.entry.whole.now mantissa.entry.behind.now is_negative e)) }
+    ensures { let m = mantissa.entry in
+        (e : ℕ) → MatchOption exponent (MOST_EXPONENT < e) (λ v. v ≡ e)
+        → result ≡ within m.digits.limit (Some (with_exponent m.whole.now m.behind.now is_negative e)) }
 {
     let Some(significand) = mantissa.digits.significand else {
         return Err(NumberFault::TooWide);

@@ -53,3 +53,7 @@ some_if_none (k ∷ ks) rows = None
 -- what `clap` finds in the words, or none where it refuses them
 unfoldable pub read_by : App → List Text → Option (List Row)
 read_by app words = some_if_none (fault_of app words) (matches_of app words)
+
+-- what stands in the words of a job, the first of which is the job
+abbrev pub found_in : Kind → List Text → Option (List Row)
+found_in kind words = read_by (command_of (options_of kind)) words

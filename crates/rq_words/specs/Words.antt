@@ -10,7 +10,7 @@ use Rattle.exact_algebra.specs.Rational.{ℚ, le_ℚ, whole}
 use Rattle.frac_core.specs.NumberText.{are_digits, number_of}
 use Rattle.contrasts.specs.declared.Coding.{Coding}
 use Rattle.contrasts.specs.declared.Coding.TheVariants.{Treatment, Sas, Sum, Helmert}
-use Rattle.rq_words.specs.Commands.{command_of, kind_of, options_of, read_by}
+use Rattle.rq_words.specs.Commands.{found_in, kind_of}
 use Rattle.rq_words.specs.Requests.{FitRequest, OptionNumbers, RankRequest, Request, SampleRequest}
 use Rattle.rq_words.specs.Requests as request
 use Rattle.rq_words.specs.declared.command.Kind.{Kind}
@@ -166,7 +166,7 @@ is_long word = nat_le (2 ^ 31) (length word)
 -- the request of a job's words, the first of which is the job
 unfoldable pub words_of_job : Kind → List Text → Result Request WordFault
 words_of_job kind words = if list_any is_long (drop 1 words) then Err BadOption
-    else option_map_or (checked kind) (read_by (command_of (options_of kind)) words) (Err BadOption)
+    else option_map_or (checked kind) (found_in kind words) (Err BadOption)
 
 -- the request of the words after the program's name
 unfoldable pub words_of : List Text → Result Request WordFault

@@ -62,7 +62,8 @@ fn with_options<'a>(
     required: bool,
 ) -> Result<Command<'a>, AllocError>
     ensures { IfOk result (λ c. app_of c
-        ≡ with_rules (app_of command.entry) (map (λ name. option_rule name.now required) names.entry.now)) }
+        ≡ with_rules (app_of command.entry)
+        (map (λ name. option_rule name.now required) names.entry.now)) }
 {
     for name in names {
         command = command.arg(option(alloc, name, required))?;

@@ -45,7 +45,7 @@ pub struct RankAsk {
 }
 
 /// A fit of a generated table.
-#[derive(Clone, Copy, Drop)]
+#[derive(Clone, Copy)]
 pub struct SampleJob {
     /// The number that the table is made from.
     pub number: u32,

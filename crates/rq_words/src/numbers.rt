@@ -79,7 +79,8 @@ fn fraction_or(
     other: Frac128,
 ) -> Result<Frac128, WordFault>
     ensures { (result ≡ Err WordFault.OutOfMemory)
-        ⊎ (result_map_both number (λ e. e) result ≡ number_option options.now name.now (number other) number_text) }
+        ⊎ (result_map_both number (λ e. e) result
+        ≡ number_option options.now name.now (number other) number_text) }
 {
     match options.get(name) {
         None => Ok(other),
@@ -96,7 +97,8 @@ fn fraction_if_given(
     name: &str,
 ) -> Result<Option<Frac128>, WordFault>
     ensures { (result ≡ Err WordFault.OutOfMemory)
-        ⊎ (result_map_both (option_map number) (λ e. e) result ≡ number_option options.now name.now None (given number_text)) }
+        ⊎ (result_map_both (option_map number) (λ e. e) result
+        ≡ number_option options.now name.now None (given number_text)) }
 {
     match options.get(name) {
         None => Ok(None),
@@ -135,7 +137,8 @@ fn quantiles_if_given(
     name: &str,
 ) -> Result<Option<List<Frac128>>, WordFault>
     ensures { (result ≡ Err WordFault.OutOfMemory)
-        ⊎ (result_map_both (option_map (map number)) (λ e. e) result ≡ number_option options.now name.now None (given quantiles)) }
+        ⊎ (result_map_both (option_map (map number)) (λ e. e) result
+        ≡ number_option options.now name.now None (given quantiles)) }
 {
     match options.get(name) {
         None => Ok(None),
@@ -187,7 +190,8 @@ fn count_or(
 ) -> Result<u32, WordFault>
     requires { bounds.places ≤ 10 }
     ensures { (result ≡ Err WordFault.OutOfMemory)
-        ⊎ (result ≡ number_option options.now name.now other (count bounds.places bounds.least bounds.most)) }
+        ⊎ (result
+        ≡ number_option options.now name.now other (count bounds.places bounds.least bounds.most)) }
 {
     match options.get(name) {
         None => Ok(other),

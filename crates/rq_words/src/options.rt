@@ -1,6 +1,6 @@
 ghost use Rattle.std.specs.Prelude.{◌≡◌, ◌⊎◌, Some, None, MatchResult, map, option_map, string_bytes};
 ghost use Rattle.clap.specs.Words.{first_of};
-ghost use Rattle.rq_words.specs.Commands.{command_of, options_of, read_by};
+ghost use Rattle.rq_words.specs.Commands.{found_in};
 
 use crate::WordFault;
 use crate::command::{Kind, command};
@@ -28,9 +28,9 @@ impl<'a> Options<'a> {
     /// Reads the words of a command, the first of which is its job.
     pub fn read(alloc: Global, kind: Kind, words: &'a [String]) -> Result<Options<'a>, WordFault>
         ensures { MatchResult result
-            (λ o. read_by (command_of (options_of kind)) (map string_bytes words.entry.now) ≡ Some o)
+            (λ o. found_in kind (map string_bytes words.entry.now) ≡ Some o)
             (λ e. (e ≡ WordFault.OutOfMemory) ⊎ ((e ≡ WordFault.BadOption)
-            × (read_by (command_of (options_of kind)) (map string_bytes words.entry.now) ≡ None))) }
+            × (found_in kind (map string_bytes words.entry.now) ≡ None))) }
     {
         let Ok(command) = command(alloc, kind) else {
             return Err(WordFault::OutOfMemory);

@@ -25,7 +25,8 @@ fn coding_named(name: &str) -> Option<Coding>
 }
 
 fn chosen_coding(options: &Options) -> Result<Coding, WordFault>
-    ensures { result ≡ option WordFault.BadContrasts options.now (codes "contrasts") Coding.Treatment coding }
+    ensures { result
+        ≡ option WordFault.BadContrasts options.now (codes "contrasts") Coding.Treatment coding }
 {
     match options.get("contrasts") {
         None => Ok(Coding::Treatment),
@@ -48,7 +49,8 @@ fn fit_of(
     numbers: Numbers,
     coding: Coding,
 ) -> Result<FitJob, OutOfMemory>
-    ensures { IfOk result (λ job. fit_request job ≡ fit options.now (option_numbers numbers) coding) }
+    ensures { IfOk result (λ job.
+        fit_request job ≡ fit options.now (option_numbers numbers) coding) }
 {
     let formula = Text::new(alloc, options.get("formula").unwrap_or(""))?;
     let weights = copied(alloc, options.get("weights"))?;
@@ -83,7 +85,8 @@ fn sample_of(numbers: &Numbers) -> SampleJob
 /// The job that a command's options ask for, or the first fault of the checks.
 #[tactic(auto, unfolding(crate::specs::Words::checked))]
 pub(crate) fn job_of(alloc: Global, kind: Kind, options: &Options) -> Result<Job, WordFault>
-    ensures { (result ≡ Err WordFault.OutOfMemory) ⊎ (request_or_fault result ≡ checked kind options.now) }
+    ensures { (result ≡ Err WordFault.OutOfMemory)
+        ⊎ (request_or_fault result ≡ checked kind options.now) }
 {
     let numbers = Numbers::read(alloc, options)?;
     let coding = chosen_coding(options)?;
