@@ -1,9 +1,8 @@
 -- On records and columns.
-use Rattle.std.proofs.Common.{◌≡◌, ◌∙◌, ◌<◌, ◌≤◌, ◌+◌, ◌-◌, ℕ, zero, suc, List, [], ◌∷◌, ◌++◌, length, take, drop, get_or, set, map, replicate, refl, sym, ap, arith, add-one, add-zero, rules}
+use Rattle.std.proofs.Common.{◌≡◌, ◌∙◌, ◌<◌, ◌≤◌, ◌+◌, ℕ, zero, suc, List, [], ◌∷◌, ◌++◌, length, take, drop, get_or, set, replicate, refl, sym, ap, arith, add-one, add-zero}
 use Rattle.std.proofs.lemmas.List.{append-nil, drop_all, length-drop, map-append, take-append-drop, take_all}
-use Rattle.std.specs.List.{range_with_len}
 use Rattle.data_frame.specs.Records.{Row, Text}
-use Rattle.data_frame.specs.Columns.{cell_at, cells_at, columns_from, with_row}
+use Rattle.data_frame.specs.Columns.{cell_at, columns_from, with_row}
 
 -- one more column gets its cell
 next_column : (old : List (List Text)) (first i place : ℕ) (row : Row) → i < length old → place ≡ first + i

@@ -11,7 +11,7 @@ use Rattle.frac_core.specs.NumberText.{in_range, is_number_text, number_of, writ
 use Rattle.frac_core.specs.declared.number_reader.NumberFault.{NumberFault}
 use Rattle.frac_core.specs.declared.number_reader.NumberFault.TheVariants.{NotANumber, TooWide}
 use Rattle.data_frame.specs.Records.{Text}
-use Rattle.data_frame.specs.Cells.{ColumnOf, bare, column_of, is_missing, is_numeric, is_too_wide, is_wide, kept, number_in, number_or_none, numbers, factor, too_wide, some_number, too_wide_or}
+use Rattle.data_frame.specs.Cells.{bare, column_of, is_missing, is_numeric, is_too_wide, is_wide, kept, number_in, number_or_none, numbers, factor, too_wide, some_number}
 
 -- what a cell holds shows whether it fits
 fits_by : Result (Option ℚ) NumberFault → Bool
