@@ -64,13 +64,6 @@ few_from wanted rec (row ∷ rows) le h =
 pub few_rows : (wanted : ℕ) (rows : List Row) → rows_fault wanted 1 rows ≡ None → length rows ≤ 16384
 few_rows wanted rows h = omega (arith, few_from wanted 1 rows (omega arith) h)
 
-pub aside_within : (header : Row) → set_aside header ≤ length header
-aside_within [] = omega arith
-aside_within ([] ∷ []) = omega arith
-aside_within ((b ∷ bs) ∷ []) = omega arith
-aside_within ([] ∷ name ∷ rest) = omega arith
-aside_within ((b ∷ bs) ∷ name ∷ rest) = omega arith
-
 -- each column has a cell for each record
 column_length : (rows : List Row) (first count k : ℕ) → k < count → length (get_or (columns_from rows first count) k []) ≡ length rows
 unfolding columns_from
