@@ -1,9 +1,8 @@
 -- On records and columns.
-use Rattle.std.proofs.Common.{◌≡◌, ◌∙◌, ◌<◌, ◌≤◌, ◌+◌, ◌-◌, ℕ, zero, suc, List, [], ◌∷◌, ◌++◌, length, take, drop, get_or, set, map, replicate, refl, sym, ap, arith, add-one, add-zero, rules}
-use Rattle.std.proofs.lemmas.List.{append-nil, drop_all, length-drop, map-append, take-append-drop, take_all}
-use Rattle.std.specs.List.{range_with_len}
+use Rattle.std.proofs.Common.{◌≡◌, ◌∙◌, ◌<◌, ◌≤◌, ◌+◌, ℕ, zero, suc, List, [], ◌∷◌, ◌++◌, length, take, drop, get_or, set, replicate, refl, sym, ap, arith, add-one, add-zero}
+use Rattle.std.proofs.lemmas.List.{append-nil, length-drop, map-append, take-append-drop}
 use Rattle.data_frame.specs.Records.{Row, Text}
-use Rattle.data_frame.specs.Columns.{cell_at, cells_at, columns_from, with_row}
+use Rattle.data_frame.specs.Columns.{cell_at, columns_from, with_row}
 
 -- one more column gets its cell
 next_column : (old : List (List Text)) (first i place : ℕ) (row : Row) → i < length old → place ≡ first + i
@@ -19,10 +18,6 @@ pub column_extended : (old now : List (List Text)) (first i place : ℕ) (row : 
     → now ≡ with_row (take i old) first row ++ drop i old → cells ≡ get_or now i [] ++ cell_at place row ∷ []
     → set now i cells ≡ with_row (take (i + 1) old) first row ++ drop (i + 1) old
 column_extended old now first i place row cells lt e is more = rw (more, is, add-one) (next_column old first i place row lt e)
-
-pub all_extended : (old now : List (List Text)) (first n : ℕ) (row : Row) → now ≡ with_row (take n old) first row ++ drop n old → length old ≤ n
-    → now ≡ with_row old first row
-all_extended old now first n row is le = is ∙ rw (take_all n old le, drop_all n old le) (append-nil (with_row old first row))
 
 pub none_extended : (old : List (List Text)) (first : ℕ) (row : Row) → old ≡ with_row (take 0 old) first row ++ drop 0 old
 unfolding with_row

@@ -3,9 +3,9 @@ use Rattle.std.proofs.Common.{◌≡◌, ◌∙◌, ◌<◌, ◌≤◌, ◌+◌,
 use Rattle.std.proofs.lemmas.Bool.{lt-ltb, ltb-true, ne_eqb, eq-eqb, false_from_ne_true, ltb-false, cases_Bool}
 use Rattle.std.specs.Option.{option_or}
 use Rattle.data_frame.specs.Records.{Row, are_text}
-use Rattle.data_frame.specs.Faults.{first_fault, header_fault, row_fault, rows_fault}
+use Rattle.data_frame.specs.Faults.{row_fault, rows_fault}
 use Rattle.data_frame.specs.declared.fault.TableFault.{TableFault}
-use Rattle.data_frame.specs.declared.fault.TableFault.TheVariants.{NoHeader, NotUtf8, Ragged, TooManyRows}
+use Rattle.data_frame.specs.declared.fault.TableFault.TheVariants.{NotUtf8, Ragged, TooManyRows}
 
 few : (rec : ℕ) → rec ≤ 16384 → nat_lt 16384 rec ≡ false
 few rec h = false_from_ne_true (nat_lt 16384 rec) (λ e. let more = ltb-true 16384 rec e in absurd (omega arith))

@@ -1,17 +1,14 @@
 -- On cells that fit a column of numbers, and cells that don't.
-use Rattle.std.proofs.Common.{◌≡◌, ◌∙◌, ◌<◌, ◌+◌, ◌-◌, ◌^◌, ◌&&◌, ◌||◌, ℕ, zero, suc, Bool, true, false, List, [], ◌∷◌, ◌++◌, Option, Some, None, Result, Ok, Err, is_some, length, drop, take, get_or, map, refl, sym, ap, add-one, arith, nat_le, unsigned_abs, if◌then◌else◌}
+use Rattle.std.proofs.Common.{◌≡◌, ◌∙◌, ◌<◌, ◌+◌, ◌-◌, ◌^◌, ◌&&◌, ◌||◌, ℕ, zero, suc, Bool, true, false, List, [], ◌∷◌, Option, Some, None, Result, Ok, Err, is_some, length, drop, take, get_or, map, refl, sym, ap, add-one, arith, nat_le, unsigned_abs, if◌then◌else◌}
 use Rattle.std.specs.List.{list_all, position_from}
 use Rattle.std.specs.Result.{is_ok}
-use Rattle.std.proofs.Math.Seq.{drop-cons}
-use Rattle.std.proofs.lemmas.List.{map-append, take_more}
-use Rattle.std.proofs.lemmas.List.Folds.{list_all-append}
 use Rattle.exact_algebra.specs.Fraction.{Fraction, rational}
 use Rattle.exact_algebra.specs.Rational.{ℚ}
 use Rattle.frac_core.specs.NumberText.{in_range, is_number_text, number_of, written}
 use Rattle.frac_core.specs.declared.number_reader.NumberFault.{NumberFault}
 use Rattle.frac_core.specs.declared.number_reader.NumberFault.TheVariants.{NotANumber, TooWide}
 use Rattle.data_frame.specs.Records.{Text}
-use Rattle.data_frame.specs.Cells.{ColumnOf, bare, column_of, is_missing, is_numeric, is_too_wide, is_wide, kept, number_in, number_or_none, numbers, factor, too_wide, some_number, too_wide_or}
+use Rattle.data_frame.specs.Cells.{bare, column_of, is_missing, is_numeric, is_too_wide, is_wide, kept, number_in, number_or_none, numbers, factor, too_wide, some_number}
 
 -- what a cell holds shows whether it fits
 fits_by : Result (Option ℚ) NumberFault → Bool
@@ -52,15 +49,6 @@ wide_fits cell e = numeric_is cell ∙ ap fits_by e
 pub word_fits_not : (cell : Text) → number_in cell ≡ Err NotANumber → is_numeric cell ≡ false
 unfolding fits_by
 word_fits_not cell e = numeric_is cell ∙ ap fits_by e
-
--- one more cell
-pub all_numeric_on : (cells : List Text) (i : ℕ) → i < length cells → is_numeric (get_or cells i []) ≡ true
-    → list_all is_numeric (drop i cells) ≡ list_all is_numeric (drop (i + 1) cells)
-all_numeric_on cells i lt e = rw (drop-cons cells i [], e, add-one) refl
-
-pub not_all_numeric : (cells : List Text) (i : ℕ) → i < length cells → is_numeric (get_or cells i []) ≡ false
-    → list_all is_numeric (drop i cells) ≡ false
-not_all_numeric cells i lt e = rw (drop-cons cells i [], e) refl
 
 pub not_numeric_at : (cells : List Text) (i : ℕ) → i < length cells → is_numeric (get_or cells i []) ≡ false → list_all is_numeric cells ≡ false
 not_numeric_at [] i lt e = absurd (omega arith)
@@ -143,15 +131,6 @@ wide_column cells i h lt e rest =
 pub word_behind : (cells : List Text) (i : ℕ) → list_all holds_number (take i cells) ≡ true → i < length cells
     → number_in (get_or cells i []) ≡ Err TooWide → list_all is_numeric (drop (i + 1) cells) ≡ false → list_all is_numeric cells ≡ false
 word_behind cells i h lt e rest = rest_decides cells i h lt (wide_fits (get_or cells i []) e) ∙ rw (← add-one) rest
-
-pub holds_more : (cells : List Text) (i : ℕ) (x : Option ℚ) → list_all holds_number (take i cells) ≡ true → i < length cells
-    → number_in (get_or cells i []) ≡ Ok x → list_all holds_number (take (i + 1) cells) ≡ true
-holds_more cells i x h lt e = rw (take_more cells i [] lt, list_all-append holds_number (take i cells) (get_or cells i [] ∷ []), h, e) refl
-
-pub numbers_more : (cells : List Text) (values : List (Option ℚ)) (i : ℕ) (x : Option ℚ) → values ≡ map (λ cell. number_or_none (number_in cell)) (take i cells)
-    → i < length cells → number_in (get_or cells i []) ≡ Ok x → values ++ x ∷ [] ≡ map (λ cell. number_or_none (number_in cell)) (take (i + 1) cells)
-numbers_more cells values i x h lt e =
-    rw (take_more cells i [] lt, map-append (λ cell. number_or_none (number_in cell)) (take i cells) (get_or cells i [] ∷ []), e, h) refl
 
 pub factor_column : (cells : List Text) → list_all is_numeric cells ≡ false → factor (map kept cells) ≡ column_of cells
 unfolding column_of

@@ -1,11 +1,11 @@
 -- From the clauses of `csv`'s reader to the records that are left.
-use Rattle.std.proofs.Common.{◌≡◌, ◌∙◌, ℕ, Bool, true, false, List, [], ◌∷◌, Option, Some, None, ap, refl, sym, inl, inr, unwrap_or, ◌&&◌, ◌≤◌, length, arith, if◌then◌else◌}
+use Rattle.std.proofs.Common.{◌≡◌, ◌∙◌, ℕ, Bool, true, false, List, [], ◌∷◌, Option, Some, None, ap, refl, inl, inr, unwrap_or, ◌&&◌, ◌≤◌, length, arith, if◌then◌else◌}
 use Rattle.std.proofs.lemmas.Bool.{cases_Bool}
 use Rattle.std.proofs.lemmas.Str.{IsUtf8-from_is_utf8, is_utf8-from_IsUtf8}
 use Rattle.std.specs.Str.{is_utf8}
 use Rattle.std.specs.List.{list_all}
 use Rattle.csv.specs.Machine.{Read, next_record}
-use Rattle.csv.specs.Reading.{ExplainsRead, NextIs, ReadRecord, ReadsNext, TookRecord, default_config, is_bom, is_flexible, pending_of, reader_state, source_of, strip_bom, took_first}
+use Rattle.csv.specs.Reading.{ExplainsRead, NextIs, ReadRecord, ReadsNext, default_config, is_bom, is_flexible, pending_of, reader_state, source_of, strip_bom, took_first}
 use Rattle.csv.specs.declared.error.ErrorKind.{ErrorKind}
 use Rattle.csv.specs.declared.error.ErrorKind.TheVariants as kind
 use Rattle.csv.specs.Records.{AllText}

@@ -1,6 +1,5 @@
 -- From records without a fault to their table.
-use Rattle.std.proofs.Common.{◌≡◌, ◌∙◌, ◌<◌, ◌≤◌, ◌+◌, ◌-◌, ◌^◌, ℕ, Bool, true, false, List, [], ◌∷◌, Option, Some, None, Ok, Err, All, length, drop, get_or, map, refl, sym, ap, arith, inl, inr, nat_lt}
-use Rattle.std.specs.Option.{option_or}
+use Rattle.std.proofs.Common.{◌≡◌, ◌∙◌, ◌<◌, ◌≤◌, ◌+◌, ◌-◌, ◌^◌, ℕ, false, List, [], ◌∷◌, Some, None, Ok, Err, All, length, get_or, map, refl, sym, ap, arith, inl, inr, nat_lt}
 use Rattle.std.proofs.lemmas.Bool.{cases_Bool, ltb-false, ltb-true}
 use Rattle.std.proofs.lemmas.List.{get_or-map, length-drop, length-map}
 use Rattle.std.proofs.lemmas.List.FromFn.{get_or-map-range_with_len, length-map-range_with_len}
@@ -64,13 +63,6 @@ few_from wanted rec (row ∷ rows) le h =
 
 pub few_rows : (wanted : ℕ) (rows : List Row) → rows_fault wanted 1 rows ≡ None → length rows ≤ 16384
 few_rows wanted rows h = omega (arith, few_from wanted 1 rows (omega arith) h)
-
-pub aside_within : (header : Row) → set_aside header ≤ length header
-aside_within [] = omega arith
-aside_within ([] ∷ []) = omega arith
-aside_within ((b ∷ bs) ∷ []) = omega arith
-aside_within ([] ∷ name ∷ rest) = omega arith
-aside_within ((b ∷ bs) ∷ name ∷ rest) = omega arith
 
 -- each column has a cell for each record
 column_length : (rows : List Row) (first count k : ℕ) → k < count → length (get_or (columns_from rows first count) k []) ≡ length rows

@@ -1,11 +1,11 @@
 -- What the cells of a column hold.
-use Rattle.std.specs.Prelude.{ℕ, ◌+◌, ◌-◌, ◌^◌, ◌==◌, ◌||◌, Bool, true, false, List, [], ◌∷◌, Option, Some, None, Result, Ok, Err, codes, length, map, reverse, if◌then◌else◌}
+use Rattle.std.specs.Prelude.{ℕ, ◌-◌, ◌^◌, ◌==◌, ◌||◌, Bool, true, false, List, [], ◌∷◌, Option, Some, None, Result, Ok, Err, codes, length, map, reverse, if◌then◌else◌}
 use Rattle.std.specs.List.{list_all, position_from}
 use Rattle.std.specs.Str.{bytes_eq}
 use Rattle.exact_algebra.specs.Rational.{ℚ}
 use Rattle.frac_core.specs.NumberText.{is_number_text, number_of}
 use Rattle.frac_core.specs.declared.number_reader.NumberFault.{NumberFault}
-use Rattle.frac_core.specs.declared.number_reader.NumberFault.TheVariants.{NotANumber, TooWide}
+use Rattle.frac_core.specs.declared.number_reader.NumberFault.TheVariants.{TooWide}
 use Rattle.data_frame.specs.Records.{Text}
 
 -- a space or a tab

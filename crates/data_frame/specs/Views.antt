@@ -1,6 +1,6 @@
 -- How contracts see columns and tables whose numbers are the program's fractions.
-use Rattle.std.specs.Prelude.{List, Option, map, option_map}
-use Rattle.exact_algebra.specs.Fraction.{Fraction, rational}
+use Rattle.std.specs.Prelude.{map, option_map}
+use Rattle.exact_algebra.specs.Fraction.{rational}
 use Rattle.exact_algebra.specs.Rational.{ℚ}
 use Rattle.frac_core.specs.declared.frac128.Frac128.{Frac128}
 use Rattle.data_frame.specs.Cells.{ColumnOf, numbers, factor, too_wide}

@@ -9,7 +9,8 @@ use crate::records::{MOST_RECORDS, read_row, text_at};
 use csv::{Reader, StringRecord};
 use std::alloc::{AllocError, Global};
 
-/// The cells of the records under a header, column by column.
+/// The cells of the records under a header, column by column. A column's cells are kept one behind
+/// the other, as the fields of a record are.
 #[derive(Drop)]
 pub(crate) struct Body {
     pub(crate) columns: Vec<StringRecord>,

@@ -2,10 +2,10 @@
 use Rattle.std.specs.Prelude.{◌≡◌, ℕ, ◌+◌, ◌-◌, ◌≤◌, List, ◌++◌, length, take, drop, Option, Some, None}
 use Rattle.std.proofs.Common.{arith, sym, subst, ◌∙◌, ap, length-drop, length-append}
 use Rattle.std.proofs.Math.Seq.{take-add, take-length, take-append_seam, drop-append_seam}
-use Rattle.std.proofs.lemmas.List.{take-append-drop, length-take-le, drop-drop, append-nil}
-use Rattle.std.specs.Io.KnownBytes.{Appends, Consumes, IsAtEnd}
+use Rattle.std.proofs.lemmas.List.{take-append-drop, length-take-le, drop-drop}
+use Rattle.std.specs.Io.KnownBytes.{Appends, Consumes}
 use Rattle.std.proofs.KnownBytes.{Appends-trans, Consumes-trans}
-use Rattle.port_io.specs.Told.{TakesAll, TakesFirst}
+use Rattle.port_io.specs.Told.{TakesFirst}
 
 -- what `&bytes[n..]` is
 pub tail_is : (n : ℕ) (bytes : List ℕ) → take (length bytes - n) (drop n bytes) ≡ drop n bytes
@@ -41,9 +41,3 @@ taken_first (Some xs) (Some ys) bytes n len h = (
   omega (arith, ap length h, length-append bytes ys),
   ap (λ (zs : List ℕ). Some zs) (sym (ap (drop n) h ∙ ap (λ m. drop m (bytes ++ ys)) (sym len) ∙ drop-append_seam bytes ys)),
 )
-
-pub taken_all : (a b : Option (List ℕ)) (bytes : List ℕ) → Consumes a b bytes → IsAtEnd b → TakesAll a b bytes
-taken_all None b bytes h end = end
-taken_all (Some xs) None bytes h end = absurd h
-taken_all (Some xs) (Some ys) bytes h end =
-    (sym (h ∙ ap (λ zs. bytes ++ zs) end ∙ append-nil bytes), ap (λ (zs : List ℕ). Some zs) end)

@@ -1,4 +1,3 @@
-use Rattle.std.proofs.Common.{arith}
 use Rattle.data_frame.proofs.Blanks.{boundary_behind}
 use Rattle.data_frame.proofs.cell.after_blanks.Goals as goal
 

@@ -1,4 +1,4 @@
-use Rattle.std.proofs.Common.{◌∙◌, sym}
+use Rattle.std.proofs.Common.{sym}
 use Rattle.data_frame.proofs.Numeric.{number_fits, wide_fits, word_fits_not}
 use Rattle.data_frame.proofs.cell.is_numeric.Goals as goal
 

@@ -1,11 +1,7 @@
-use Rattle.std.proofs.Common.{◌≡◌, ◌∙◌, ap, arith, inl, inr, length, map, sym}
-use Rattle.std.proofs.lemmas.List.{length-map}
+use Rattle.std.proofs.Common.{arith, inl, inr}
 use Rattle.std.proofs.lemmas.Result.{err_from_is_err_and}
-use Rattle.std.proofs.lemmas.Simd.{map-map}
 use Rattle.csv.specs.Records.{fields_of}
-use Rattle.data_frame.specs.Faults.{names_of, set_aside}
 use Rattle.data_frame.specs.Reading.{left_of}
-use Rattle.data_frame.specs.Views.{exact_column, stored_column}
 use Rattle.data_frame.proofs.Tables.{bad_header, bad_row, columns_short, few_rows, header_not_text, header_short, named_columns, no_records, stored_columns, table_is}
 use Rattle.data_frame.proofs.frame.read_frame.Goals as goal
 

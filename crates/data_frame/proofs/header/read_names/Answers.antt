@@ -1,9 +1,8 @@
-use Rattle.std.proofs.Common.{◌≡◌, ◌∙◌, ◌++◌, List, ap, arith, inl, inr, sym, append_assoc, drop, length}
+use Rattle.std.proofs.Common.{◌∙◌, ◌++◌, List, ap, arith, inl, inr, sym, append_assoc}
 use Rattle.std.proofs.lemmas.List.{append-nil, drop_all}
 use Rattle.std.proofs.lemmas.Result.{err_from_is_err_and}
 use Rattle.csv.specs.Records.{fields_of}
 use Rattle.data_frame.specs.Records.{Row, Text}
-use Rattle.data_frame.specs.Faults.{header_fault, names_of, set_aside}
 use Rattle.data_frame.proofs.Naming.{first_name_bad, first_name_good, named, next_field, no_names, too_wide_header}
 use Rattle.data_frame.proofs.header.read_names.Goals as goal
 
