@@ -2,10 +2,9 @@
 #![tactic(auto)]
 
 mod outcome;
-mod top;
-
 #[cfg(test)]
 mod tests;
+mod top;
 
 pub use outcome::Outcome;
 pub use top::run;

@@ -48,5 +48,5 @@ returns-in_err-responses-clause-cause g c =
     let level = c.unwrap-level.result in
     let asked : IsLevelJob c.args.job.now level.name.now level.tau = subst (λ r. IfSome r (λ level. IsLevelJob c.args.job.now level.name.now level.tau)) c.unwrap-level.ensures c.level_of.ensures.found in
     returned c.from_residual.result _ (HasCause c.args.job.now c.args.bytes.now) c.from_residual.ensures.1 (λ halt same.
-        subst (HasCause c.args.job.now c.args.bytes.now) (sym same)
-        (unread_cause c.args.job.now level.name.now c.args.bytes.now level.tau c.in_err-responses.field-0.0 asked c.in_err-responses.ensures.cause))
+    subst (HasCause c.args.job.now c.args.bytes.now) (sym same)
+    (unread_cause c.args.job.now level.name.now c.args.bytes.now level.tau c.in_err-responses.field-0.0 asked c.in_err-responses.ensures.cause))
