@@ -37,6 +37,31 @@ fn fit_at(
     Ok(fit_column(rt.alloc(), responses, tau)?)
 }
 
+// The check loss around a center, times the denominator of the quantile: the plain sum over rows.
+fn plain_loss(responses: &[i64], tau: (u64, u64), center: i128) -> i128 {
+    let (n, d) = (i128::from(tau.0), i128::from(tau.1));
+    let mut sum: i128 = 0;
+    for response in responses {
+        let residual = i128::from(*response).wrapping_sub(center);
+        let cost = if residual < 0 { n.wrapping_sub(d) } else { n };
+        sum = sum.wrapping_add(residual.wrapping_mul(cost));
+    }
+    sum
+}
+
+// The loss is the plain sum, and no response has a smaller one.
+fn verify_loss(rt: &impl Abort, case: &Case, loss: Frac128) {
+    let least = plain_loss(case.responses, case.tau, case.coef);
+    assert_eq!(rt;
+        Some(loss),
+        Frac128::from_parts(least, i128::from(case.tau.1))
+    );
+    for response in case.responses {
+        let other = plain_loss(case.responses, case.tau, i128::from(*response));
+        assert!(rt; other >= least);
+    }
+}
+
 fn verify(rt: &(impl Abort + AllocGlobal), case: &Case) -> Result<(), Fail> {
     let fit = fit_at(rt, case.responses, case.tau)?;
     let segments = fit.process.segments.as_slice();
@@ -52,6 +77,7 @@ fn verify(rt: &(impl Abort + AllocGlobal), case: &Case) -> Result<(), Fail> {
         Some(segment.loss_lo),
         Frac128::from_parts(case.loss.0, case.loss.1)
     );
+    verify_loss(rt, case, segment.loss_lo);
     assert_eq!(rt; fit.process.trail.steps.as_slice().len(), case.pivots);
     let lists = fit.scores.as_slice();
     assert_eq!(rt; lists.len(), 1);
