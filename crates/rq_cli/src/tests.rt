@@ -31,7 +31,7 @@ fn sink_of(alloc: Global, room: usize, fails: &[u32]) -> Result<MemSink, OutOfMe
 // Each case: the quantile, the table, and what is printed behind the first line, worked by hand: the
 // place of the first record among the responses, of which equal ones stand in the order of the
 // later record first, is moved to the nearest of the places k with k - 1 <= n*tau <= k.
-const REPORTS: [(&str, &str, &str); 12] = [
+static REPORTS: [(&str, &str, &str); 12] = [
     (
         "1/2",
         "y\n1\n2\n3\n",
@@ -96,7 +96,7 @@ const REPORTS: [(&str, &str, &str); 12] = [
 
 #[test]
 fn columns_are_fitted_at_one_quantile(rt: HostRuntime) -> Result<(), Fail> {
-    for (quantile, table, report) in REPORTS {
+    for (quantile, table, report) in &REPORTS {
         let words = words_of(rt.alloc(), "y ~ 1", quantile)?;
         let mut source = SureSource::new(table.as_bytes().to_vec(rt.alloc())?);
         let mut out = sink_of(rt.alloc(), 4096, &[])?;
@@ -114,7 +114,7 @@ fn columns_are_fitted_at_one_quantile(rt: HostRuntime) -> Result<(), Fail> {
 }
 
 // Each case: formula, quantile, table, exit status and line.
-const FAULTS: [(&str, &str, &str, u8, &str); 24] = [
+static FAULTS: [(&str, &str, &str, u8, &str); 24] = [
     (
         "y ~ x",
         "1/2",
@@ -269,13 +269,13 @@ const FAULTS: [(&str, &str, &str, u8, &str); 24] = [
 
 #[test]
 fn other_words_and_tables_are_told(rt: HostRuntime) -> Result<(), Fail> {
-    for (formula, quantile, table, code, line) in FAULTS {
+    for (formula, quantile, table, code, line) in &FAULTS {
         let words = words_of(rt.alloc(), formula, quantile)?;
         let mut source = SureSource::new(table.as_bytes().to_vec(rt.alloc())?);
         let mut out = sink_of(rt.alloc(), 4096, &[])?;
         let mut err = sink_of(rt.alloc(), 4096, &[])?;
         let outcome = run(&rt, rt.alloc(), &words, &mut source, &mut out, &mut err);
-        assert_eq!(rt; outcome.code(), code, "{formula:?} {quantile:?} {table:?}");
+        assert_eq!(rt; outcome.code(), *code, "{formula:?} {quantile:?} {table:?}");
         assert!(rt; out.written().is_empty());
         assert_eq!(rt; err.written(), line.as_bytes());
     }
@@ -304,7 +304,7 @@ const SOURCE_TOLD: &str = "quantreg: source: SourceFault\n";
 
 const SINK_TOLD: &str = "quantreg: sink: SinkFault\n";
 
-const STREAMS: [Stream; 17] = [
+static STREAMS: [Stream; 17] = [
     (&[], 4096, &[], &[], 0, 145, ""),
     (&[1], 4096, &[], &[], 3, 0, SOURCE_TOLD),
     (&[2], 4096, &[], &[], 3, 0, SOURCE_TOLD),
@@ -326,19 +326,19 @@ const STREAMS: [Stream; 17] = [
 
 #[test]
 fn failing_streams_leave_a_prefix_and_a_line(rt: HostRuntime) -> Result<(), Fail> {
-    for (reads, room, writes, tellings, code, printed, told) in STREAMS {
+    for (reads, room, writes, tellings, code, printed, told) in &STREAMS {
         let words = words_of(rt.alloc(), "y ~ 1", "1/2")?;
         let bytes = TABLE.as_bytes().to_vec(rt.alloc())?;
         let mut source = MemSource::new(bytes, 4, reads.to_vec(rt.alloc())?);
-        let mut out = sink_of(rt.alloc(), room, writes)?;
+        let mut out = sink_of(rt.alloc(), *room, writes)?;
         let mut err = sink_of(rt.alloc(), 4096, tellings)?;
         let outcome = run(&rt, rt.alloc(), &words, &mut source, &mut out, &mut err);
         assert_eq!(rt;
             outcome.code(),
-            code,
+            *code,
             "{reads:?} {room} {writes:?} {tellings:?}"
         );
-        assert_eq!(rt; out.written().len(), printed);
+        assert_eq!(rt; out.written().len(), *printed);
         assert!(rt; REPORT.as_bytes().starts_with(out.written()));
         assert_eq!(rt; err.written(), told.as_bytes());
     }
@@ -348,7 +348,7 @@ fn failing_streams_leave_a_prefix_and_a_line(rt: HostRuntime) -> Result<(), Fail
 // Each case: the words, the exit status, and the line, or none where the report is printed.
 type Command = (&'static [&'static str], u8, &'static str);
 
-const COMMANDS: [Command; 22] = [
+static COMMANDS: [Command; 22] = [
     (&[], 2, "quantreg: usage: NoJob\n"),
     (&["fit"], 2, "quantreg: usage: UnknownJob\n"),
     (&["--help"], 2, "quantreg: usage: UnknownJob\n"),
@@ -554,18 +554,18 @@ const COMMANDS: [Command; 22] = [
 
 #[test]
 fn words_are_a_job_or_their_first_fault(rt: HostRuntime) -> Result<(), Fail> {
-    for (list, code, line) in COMMANDS {
+    for (list, code, line) in &COMMANDS {
         let mut words = Vec::new(rt.alloc());
-        for word in list {
+        for word in *list {
             words.push(String::from_str(rt.alloc(), word)?)?;
         }
         let mut source = SureSource::new(TABLE.as_bytes().to_vec(rt.alloc())?);
         let mut out = sink_of(rt.alloc(), 4096, &[])?;
         let mut err = sink_of(rt.alloc(), 4096, &[])?;
         let outcome = run(&rt, rt.alloc(), &words, &mut source, &mut out, &mut err);
-        assert_eq!(rt; outcome.code(), code, "{list:?}");
+        assert_eq!(rt; outcome.code(), *code, "{list:?}");
         assert_eq!(rt; err.written(), line.as_bytes());
-        assert_eq!(rt; out.written().is_empty(), code != 0);
+        assert_eq!(rt; out.written().is_empty(), *code != 0);
     }
     Ok(())
 }
