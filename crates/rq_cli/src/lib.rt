@@ -2,8 +2,6 @@
 #![tactic(auto)]
 
 mod outcome;
-#[cfg(test)]
-mod tests;
 mod top;
 
 pub use outcome::Outcome;
