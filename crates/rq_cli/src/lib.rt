@@ -2,6 +2,8 @@
 #![tactic(auto)]
 
 mod outcome;
+#[cfg(test)]
+mod tests;
 mod top;
 
 pub use outcome::Outcome;
