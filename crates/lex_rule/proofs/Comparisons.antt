@@ -1,6 +1,6 @@
 -- Perturbed ratios compared entry by entry.
-use Rattle.std.specs.Prelude.{◌≡◌, ◌≢◌, ◌↔◌, ◌⊎◌, ℕ, zero, suc, ◌+◌, ◌<◌, ◌≤◌, Bool, true, false, not, IsTrue, pos}
-use Rattle.std.specs.Ordering.{is_ne, ordering_reverse}
+use Rattle.std.specs.Prelude.{◌≡◌, ◌≢◌, ◌↔◌, ◌⊎◌, ℕ, zero, suc, ◌<◌, ◌≤◌, Bool, true, false, not, IsTrue, pos}
+use Rattle.std.specs.Ordering.{is_ne, is_lt, ordering_reverse}
 use Rattle.std.specs.declared.cmp.Ordering.{Ordering}
 use Rattle.std.specs.declared.cmp.Ordering.TheVariants.{Less, Equal, Greater}
 use Rattle.std.proofs.Common.{arith, refl, sym, ap, ap₂, subst, ◌∙◌, inl, inr}
@@ -13,14 +13,14 @@ use Rattle.loss_model.specs.declared.spill.Quantity.TheVariants.{PerturbedRatio}
 use Rattle.loss_model.specs.declared.vertex.Side.{Side}
 use Rattle.loss_model.specs.declared.vertex.Side.TheVariants.{Up, Down}
 use Rattle.loss_model.specs.declared.spill.Spill.{Spill}
-use Rattle.perturbation.specs.Lexicographic.{lex_cmp, lex_cmp-Equal, lex_cmp-first, lex_cmp-longer}
+use Rattle.perturbation.specs.Lexicographic.{lex_cmp, lex_cmp-first, lex_cmp-longer, same_from-lex_cmp}
 use Rattle.perturbation.specs.Perturbed.{Nonbasic, IsOutside, perturbed, turned, side_of, ratio_on, perturbed-other, held_coordinate-at}
 use Rattle.perturbation.specs.Ratios.{ratio-none, ratio-own, own-up, own-down}
 use Rattle.perturbation.specs.RatioSpill.{IsRatioEntrySpill, IsSpillOn}
 use Rattle.lex_rule.specs.declared.quotient.Divisor.{Divisor}
 use Rattle.lex_rule.specs.Divisor.{entry_over, IsDivisorSpill}
 use Rattle.lex_rule.specs.Compared.{IsDivisorOf}
-use Rattle.lex_rule.specs.Scan.{AreZeroBetween, IsNextAt}
+use Rattle.lex_rule.specs.Scan.{AreZeroBetween}
 
 pub equal_from : (o : Ordering) → is_ne o ≡ false → o ≡ Equal
 equal_from Less h = absurd (cc h)
@@ -103,7 +103,34 @@ module _ (s t : Side) (n : ℕ) (at : ℕ → ℕ) (j : ℕ) (u v : Nonbasic) wh
       lex_cmp-first (suc rows) (suc v.row) (ratio_on s n at j u) (ratio_on t n at j v) (omega arith) agree (λ e. ratio-own t n at j v some (sym e ∙ none))
       ∙ ap (λ z. cmp_ℚ z (ratio_on t n at j v (suc v.row))) none
 
+-- ---- the spill of an entry
+
+module _ {F : Type 0} (value : F → Fraction) (n : ℕ) (at : ℕ → ℕ) (j : ℕ) (u v : Nonbasic) (by and_by : Divisor F) (d : IsDivisorOf value j u by) (e : IsDivisorOf value j v and_by) (m : ℕ) (x y : F) (p : rational (value x) ≡ perturbed n at u m) (q : rational (value y) ≡ perturbed n at v m) where
+  pub spill_on : (range rows entry : ℕ) (s : Spill F) → entry ≡ m → m ≤ rows → AgreeBefore by.side and_by.side n at j u v m → IsDivisorSpill value range by entry x s ⊎ IsDivisorSpill value range and_by entry y s → IsSpillOn value range rows n at j by.side and_by.side u v s
+  spill_on range rows entry s same within agree h =
+      record {
+        entry = m;
+        within = within;
+        agree = agree;
+        spill = either (subst (λ k. IsDivisorSpill value range by k x s ⊎ IsDivisorSpill value range and_by k y s) same h);
+      }
+    where
+      either : IsDivisorSpill value range by m x s ⊎ IsDivisorSpill value range and_by m y s → IsRatioEntrySpill value range n at j u m s ⊎ IsRatioEntrySpill value range n at j v m s
+      either (inl found) = inl (entry_spill value n at j u by d m x p range s found)
+      either (inr found) = inr (entry_spill value n at j v and_by e m y q range s found)
+
 -- ---- what the last test tells
+
+lt_less : (o : Ordering) → IsTrue (is_lt o) ↔ (o ≡ Less)
+lt_less Less = (λ yes. refl, λ e. refl)
+lt_less Equal = (λ yes. absurd (cc yes), λ e. absurd (cc e))
+lt_less Greater = (λ yes. absurd (cc yes), λ e. absurd (cc e))
+
+-- lists that differ at their first entries compare in the same way with the others
+pub less_from_first : (rows end : ℕ) (o : Ordering) (f g : ℕ → ℚ) → end ≤ rows → o ≡ lex_cmp (suc end) f g → is_ne o ≡ true → IsTrue (is_lt o) ↔ (lex_cmp (suc rows) f g ≡ Less)
+less_from_first rows end o f g l is differ =
+    let same : o ≡ lex_cmp (suc rows) f g = is ∙ sym (lex_cmp-longer (suc end) (suc rows) f g (omega arith) (λ e. not_equal o differ (is ∙ e))) in
+    subst (λ p. IsTrue (is_lt o) ↔ (p ≡ Less)) same (lt_less o)
 
 pub side_cases : (o : Ordering) → (side_of o ≡ Up) ⊎ (side_of o ≡ Down)
 side_cases Less = inr refl
@@ -132,3 +159,19 @@ module _ (n : ℕ) (at : ℕ → ℕ) (j : ℕ) (u : Nonbasic) (some : u.coord j
         λ less. absurd (cc (sym less ∙ cmp_ℚ_swap (ratio_on s n at j u (suc u.row)) (whole (pos 0)) ∙ ap ordering_reverse (own-down s n at j u some down))),
       )
       by (inr down) false e = absurd (cc (sym (test.1 down) ∙ e))
+
+-- where two ratios agree before the entry of the lesser row's own, the side of that row decides
+module _ (rows n : ℕ) (at : ℕ → ℕ) (j : ℕ) (u v : Nonbasic) (s t : Side) (b : Bool) where
+  pub left_decides : (end : ℕ) → end ≡ u.row → u.row < v.row → u.row < rows → IsOutside n at u.row → u.coord j ≢ whole (pos 0)
+      → (IsTrue b ↔ (s ≡ Down)) → (s ≡ Up) ⊎ (s ≡ Down) → Equal ≡ lex_cmp (suc end) (ratio_on s n at j u) (ratio_on t n at j v)
+      → IsTrue b ↔ (lex_cmp (suc rows) (ratio_on s n at j u) (ratio_on t n at j v) ≡ Less)
+  left_decides end here less l out some test cases same =
+      let first = by_left s t n at j u v rows less l out some (λ i li. same_from-lex_cmp (suc end) (ratio_on s n at j u) (ratio_on t n at j v) (sym same) i (omega arith)) in
+      subst (λ o. IsTrue b ↔ (o ≡ Less)) (sym first) (below_zero n at j u some s b test cases)
+
+  pub right_decides : (end : ℕ) → end ≡ v.row → v.row < u.row → v.row < rows → IsOutside n at v.row → v.coord j ≢ whole (pos 0)
+      → (IsTrue b ↔ (t ≡ Down)) → (t ≡ Up) ⊎ (t ≡ Down) → Equal ≡ lex_cmp (suc end) (ratio_on s n at j u) (ratio_on t n at j v)
+      → IsTrue (not b) ↔ (lex_cmp (suc rows) (ratio_on s n at j u) (ratio_on t n at j v) ≡ Less)
+  right_decides end here less l out some test cases same =
+      let first = by_right s t n at j u v rows less l out some (λ i li. same_from-lex_cmp (suc end) (ratio_on s n at j u) (ratio_on t n at j v) (sym same) i (omega arith)) in
+      subst (λ o. IsTrue (not b) ↔ (o ≡ Less)) (sym first) (above_zero n at j v some t b test cases)

@@ -1,10 +1,9 @@
 -- The sign of a perturbed residual is that of its first entry that isn't 0.
-use Rattle.std.specs.Prelude.{◌≡◌, ◌≢◌, ℕ, zero, suc, ◌<◌, ◌≤◌, [], ◌∷◌, ℤ, pos, ◌≤ℤ◌}
+use Rattle.std.specs.Prelude.{◌≡◌, ◌≢◌, ℕ, zero, suc, ◌<◌, ◌≤◌, pos, ◌≤ℤ◌}
 use Rattle.std.specs.declared.cmp.Ordering.TheVariants.{Greater}
 use Rattle.std.proofs.Common.{arith, refl, sym, ap, ◌∙◌}
 use Rattle.std.proofs.lemmas.Int.{ints}
-use Rattle.exact_algebra.specs.Solver.{negated, v0}
-use Rattle.exact_algebra.specs.Rational.{ℚ, neg_ℚ, whole, ◌≤ℚ◌, ring_ℚ}
+use Rattle.exact_algebra.specs.Rational.{neg_ℚ, whole}
 use Rattle.exact_algebra.specs.Inverses.{one-zero}
 use Rattle.exact_algebra.specs.Order.{cmp_ℚ, cmp_ℚ-Greater}
 use Rattle.exact_algebra.specs.WholeNumbers.{le_from_whole}

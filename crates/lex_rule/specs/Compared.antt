@@ -24,3 +24,4 @@ pub record IsDivisorOf {F : Type 0} (value : F → Fraction) (j : ℕ) (u : Nonb
   pub row : by.row ≡ u.row
   pub position : by.position ≡ j
   pub size : rational (value by.size) ≡ abs_ℚ (u.coord j)
+  pub some : rational (value by.size) ≢ whole (pos 0)

@@ -105,7 +105,7 @@ pub fn lex_less<F: Exact>(
     ensures less { let n = length basis.now.rows in let at = slice_index basis.now.rows in
         let u = of_ratio F.value left.now in let v = of_ratio F.value right.now in
         IfOk result (λ less. (rows : ℕ) → u.row < rows → v.row < rows
-            → (IsTrue less ↔ (lex_cmp (suc rows) (ratio rows n at position u) (ratio rows n at position v) ≡ Less))) }
+        → (IsTrue less ↔ (lex_cmp (suc rows) (ratio rows n at position u) (ratio rows n at position v) ≡ Less))) }
     ensures spill { let n = length basis.now.rows in let at = slice_index basis.now.rows in
         let u = of_ratio F.value left.now in let v = of_ratio F.value right.now in
         IfErr result (λ s. (rows : ℕ) → u.row < rows → v.row < rows → IsRatioSpill F.value F.range rows n at position u v s) }
