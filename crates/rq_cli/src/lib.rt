@@ -2,6 +2,8 @@
 #![tactic(auto)]
 
 mod outcome;
+#[cfg(test)]
+mod table_tests;
 mod top;
 
 pub use outcome::Outcome;

@@ -1,10 +1,13 @@
 -- The line of a fault: what failed, and by which fault with which fields.
-use Rattle.std.specs.Prelude.{ℕ, List, ◌++◌, codes, decimal}
+use Rattle.std.specs.Prelude.{ℕ, ◌+◌, List, ◌++◌, codes, decimal}
+use Rattle.data_frame.specs.declared.fault.TableFault.{TableFault}
+use Rattle.data_frame.specs.declared.fault.TableFault.TheVariants.{NoHeader, NotUtf8, Ragged, DoubleName, EmptyName, TooManyColumns, TooManyRows}
+use Rattle.data_frame.specs.declared.fault.TableFault.TheVariants as tables
 use Rattle.rq_words.specs.declared.job.WordFault.{WordFault}
 use Rattle.rq_words.specs.declared.job.WordFault.TheVariants.{NoJob, UnknownJob, BadOption, BadNumber, BadRange, BadTauForRank, NegativeLimit, BadContrasts, RankHalf}
 use Rattle.rq_words.specs.declared.job.WordFault.TheVariants as words
 use Rattle.rq_engine.specs.Names.{name_bytes}
-use Rattle.rq_engine.specs.declared.report.Refusal.TheVariants.{TooLong}
+use Rattle.rq_engine.specs.declared.report.Refusal.TheVariants.{TooLong, Table}
 use Rattle.rq_engine.specs.declared.report.Halt.{Halt}
 use Rattle.rq_engine.specs.declared.report.Halt.TheVariants.{Refused, OutOfMemory, NotBuilt}
 use Rattle.rq_engine.specs.declared.report.Fault.{Fault}
@@ -22,8 +25,21 @@ memory_line = codes "quantreg: memory: OutOfMemory\n"
 unfoldable pub not_built_line : ℕ → List ℕ
 not_built_line part = codes "quantreg: build: " ++ codes "NotBuilt part=" ++ decimal part ++ codes "\n"
 
+-- the line of a faulty table: records stand as they are, and columns are counted from 1
+unfoldable pub table_line : TableFault → List ℕ
+table_line NoHeader = codes "quantreg: table: NoHeader\n"
+table_line (NotUtf8 rec) = codes "quantreg: table: NotUtf8" ++ codes " record=" ++ decimal rec ++ codes "\n"
+table_line (Ragged rec found wanted) =
+    codes "quantreg: table: Ragged" ++ codes " record=" ++ decimal rec ++ codes " found=" ++ decimal found ++ codes " wanted=" ++ decimal wanted ++ codes "\n"
+table_line (DoubleName column) = codes "quantreg: table: DoubleName" ++ codes " column=" ++ decimal (column + 1) ++ codes "\n"
+table_line (EmptyName column) = codes "quantreg: table: EmptyName" ++ codes " column=" ++ decimal (column + 1) ++ codes "\n"
+table_line TooManyColumns = codes "quantreg: table: TooManyColumns\n"
+table_line TooManyRows = codes "quantreg: table: TooManyRows\n"
+table_line tables.OutOfMemory = memory_line
+
 abbrev pub halt_line : Halt → List ℕ
 halt_line (Refused TooLong) = codes "quantreg: input: TooLong\n"
+halt_line (Refused (Table fault)) = table_line fault
 halt_line OutOfMemory = memory_line
 halt_line (NotBuilt part) = not_built_line part
 

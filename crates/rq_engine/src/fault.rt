@@ -1,9 +1,10 @@
 //! The line of a fault.
-ghost use Rattle.std.specs.Prelude.{◌≡◌, ◌++◌, IfOk, OnOk};
-ghost use Rattle.rq_engine.specs.FaultText.{source_line, sink_line, memory_line, not_built_line, halt_line, usage_line, fault_line as line_of};
+ghost use Rattle.std.specs.Prelude.{◌≡◌, ◌+◌, ◌++◌, IfOk, OnOk, codes, decimal};
+ghost use Rattle.rq_engine.specs.FaultText.{source_line, sink_line, memory_line, not_built_line, table_line, halt_line, usage_line, fault_line as line_of};
 
 use crate::page::Page;
 use crate::report::{Fault, Halt, Refusal};
+use data_frame::TableFault;
 use frac_core::{OutOfMemory, Text};
 use rq_words::WordFault;
 use std::alloc::Global;
@@ -64,9 +65,69 @@ impl Page {
     {
         match halt {
             Halt::Refused(Refusal::TooLong) => self.put(b"quantreg: input: TooLong\n"),
+            Halt::Refused(Refusal::Table(fault)) => self.table_line(fault),
             Halt::OutOfMemory => self.put(MEMORY_LINE),
             Halt::NotBuilt { part } => self.not_built_line(*part),
         }
+    }
+
+    #[tactic(auto, unfolding(crate::specs::FaultText::table_line))]
+    fn table_line(&mut self, fault: &TableFault) -> Result<(), OutOfMemory>
+        ensures { OnOk result (self.new ≡ self.old ++ table_line fault.now) }
+    {
+        match fault {
+            TableFault::NoHeader => self.put(b"quantreg: table: NoHeader\n"),
+            TableFault::NotUtf8 { rec } => self.not_utf8_line(*rec),
+            TableFault::Ragged { rec, found, wanted } => self.ragged_line(*rec, *found, *wanted),
+            TableFault::DoubleName { column } => {
+                self.name_line(b"quantreg: table: DoubleName", *column)
+            }
+            TableFault::EmptyName { column } => {
+                self.name_line(b"quantreg: table: EmptyName", *column)
+            }
+            TableFault::TooManyColumns => self.put(b"quantreg: table: TooManyColumns\n"),
+            TableFault::TooManyRows => self.put(b"quantreg: table: TooManyRows\n"),
+            TableFault::OutOfMemory => self.put(MEMORY_LINE),
+        }
+    }
+
+    #[tactic(auto, unfolding(crate::specs::FaultText::table_line))]
+    fn not_utf8_line(&mut self, rec: u32) -> Result<(), OutOfMemory>
+        ensures { OnOk result (self.new ≡ self.old ++ table_line (TableFault.NotUtf8 rec)) }
+    {
+        self.put(b"quantreg: table: NotUtf8")?;
+        self.put(b" record=")?;
+        self.put_count(rec as u64)?;
+        self.put(b"\n")
+    }
+
+    #[tactic(auto, unfolding(crate::specs::FaultText::table_line))]
+    fn ragged_line(&mut self, rec: u32, found: u32, wanted: u32) -> Result<(), OutOfMemory>
+        ensures { OnOk result (self.new ≡ self.old ++ table_line (TableFault.Ragged rec found wanted)) }
+    {
+        self.put(b"quantreg: table: Ragged")?;
+        self.put_field(b" record=", rec)?;
+        self.put_field(b" found=", found)?;
+        self.put_field(b" wanted=", wanted)?;
+        self.put(b"\n")
+    }
+
+    // The line of a fault of a name.
+    fn name_line(&mut self, fault: &[u8], column: u32) -> Result<(), OutOfMemory>
+        ensures { OnOk result (self.new ≡ self.old ++ (fault.now ++ codes " column=" ++ decimal (column + 1) ++ codes "\n")) }
+    {
+        self.put(fault)?;
+        self.put(b" column=")?;
+        self.put_count(column as u64 + 1)?;
+        self.put(b"\n")
+    }
+
+    // What names a field, and its number.
+    fn put_field(&mut self, name: &[u8], number: u32) -> Result<(), OutOfMemory>
+        ensures { OnOk result (self.new ≡ self.old ++ (name.now ++ decimal number)) }
+    {
+        self.put(name)?;
+        self.put_count(number as u64)
     }
 
     fn not_built_line(&mut self, part: u8) -> Result<(), OutOfMemory>
