@@ -1,5 +1,5 @@
 -- The quantile of a job that the words ask for lies in 0 to 1, and one job has one level.
-use Rattle.std.proofs.Common.{◌≡◌, ℕ, ◌^◌, ◌-◌, Bool, true, false, not, ◌&&◌, eqb, int_eq, List, ◌++◌, codes, ℤ, pos, Option, Some, None, is_some, IfSome, IfNone, IsTrue, ◌↔◌, Result, Ok, Err, IfErr, IsErrAnd, refl, sym, subst, ◌∙◌}
+use Rattle.std.proofs.Common.{◌≡◌, ℕ, ◌^◌, ◌-◌, Bool, true, false, not, ◌&&◌, eqb, int_eq, List, codes, pos, Option, Some, None, is_some, IfSome, IfNone, IsTrue, ◌↔◌, Result, Ok, Err, IfErr, IsErrAnd, refl, sym, subst, ◌∙◌}
 use Rattle.std.proofs.lemmas.Bool.{eqb-true}
 use Rattle.std.proofs.lemmas.Bool.Decides.{Decides-int_eq}
 use Rattle.std.proofs.lemmas.List.{append_cancel_right}
@@ -16,7 +16,7 @@ use Rattle.rq_engine.specs.Responses.{HasResponses, IsUnread}
 use Rattle.rq_engine.specs.declared.report.Refusal.TheVariants.{TooLong, Table}
 use Rattle.rq_engine.specs.declared.report.Halt.{Halt}
 use Rattle.rq_engine.specs.declared.report.Halt.TheVariants.{Refused, OutOfMemory, NotBuilt}
-use Rattle.rq_engine.specs.Level.{IsLevelFit, IsLevelJob, IsJobOf}
+use Rattle.rq_engine.specs.Level.{IsLevelJob, IsJobOf}
 use Rattle.rq_engine.specs.ReportText.{value}
 
 -- quantiles of the same parts are the same

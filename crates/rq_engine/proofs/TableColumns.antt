@@ -1,5 +1,5 @@
 -- The columns of a table of bytes.
-use Rattle.std.proofs.Common.{◌≡◌, ℕ, zero, suc, ◌<◌, ◌≤◌, ◌^◌, Bool, true, false, cond, List, [], ◌∷◌, Option, Some, None, Ok, Err, length, map, option_map, slice_get, position, arith, refl, sym, ap, subst, ◌∙◌}
+use Rattle.std.proofs.Common.{◌≡◌, ℕ, ◌<◌, ◌≤◌, ◌^◌, Bool, true, false, cond, List, [], ◌∷◌, Option, Some, None, Ok, length, map, option_map, slice_get, position, arith, refl, sym, ap, subst, ◌∙◌}
 use Rattle.std.specs.List.{list_all, position_from, range_with_len}
 use Rattle.std.specs.Option.{option_and_then}
 use Rattle.std.specs.Str.{bytes_eq}
@@ -13,7 +13,7 @@ use Rattle.data_frame.specs.Columns.{cell_at, cells_at, columns_from}
 use Rattle.data_frame.specs.Faults.{first_fault, names_of, set_aside}
 use Rattle.data_frame.specs.Records.{Row, Text, records_of}
 use Rattle.data_frame.specs.Tables.{TableOf, column_named, table_of, table_of_records, table_under, unless}
-use Rattle.data_frame.specs.Views.{exact, exact_column, exact_table}
+use Rattle.data_frame.specs.Views.{exact_column, exact_table}
 use Rattle.data_frame.specs.WellFormed.{AreTable}
 
 -- ---- the values of a column of fractions

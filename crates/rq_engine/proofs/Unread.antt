@@ -5,18 +5,10 @@ use Rattle.frac_core.specs.declared.frac128.Frac128.{Frac128}
 use Rattle.data_frame.specs.Cells.{ColumnOf, numbers}
 use Rattle.data_frame.specs.Tables.{TableOf, column_named, table_of}
 use Rattle.data_frame.specs.Views.{exact_column, exact_table}
-use Rattle.rq_engine.specs.Responses.{AreResponses, HasResponses, IsNoTable, IsOther, IsUnread}
+use Rattle.rq_engine.specs.Responses.{AreResponses, HasResponses, IsOther, IsUnread}
 use Rattle.rq_engine.proofs.TableColumns.{column_is}
-use Rattle.rq_engine.specs.declared.report.Refusal.TheVariants.{TooLong, Table}
 use Rattle.rq_engine.specs.declared.report.Halt.{Halt}
 use Rattle.rq_engine.specs.declared.report.Halt.TheVariants.{Refused, OutOfMemory, NotBuilt}
-
--- they are no table
-pub no_table : (name bytes : List ℕ) (halt : Halt) → IsNoTable bytes halt → IsUnread name bytes halt
-no_table name bytes (Refused TooLong) cause = absurd cause
-no_table name bytes (Refused (Table fault)) cause = cause
-no_table name bytes OutOfMemory cause = tt
-no_table name bytes (NotBuilt part) cause = absurd cause
 
 -- the column is another
 pub other_column : (name bytes : List ℕ) (table : TableOf ℚ) → table_of bytes ≡ Ok table → (halt : Halt) → IsOther (HasResponses name table) halt → IsUnread name bytes halt

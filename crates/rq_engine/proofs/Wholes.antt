@@ -1,6 +1,6 @@
 -- Fractions that are whole numbers.
-use Rattle.std.proofs.Common.{◌≡◌, ℕ, ◌-◌, ◌≤◌, ◌^◌, ℤ, unsigned_abs, arith, refl, sym, ap, ◌∙◌}
-use Rattle.exact_algebra.specs.Fraction.{Fraction, rational}
+use Rattle.std.proofs.Common.{◌≡◌, ◌-◌, ◌^◌, ℤ, unsigned_abs, arith, sym, ap, ◌∙◌}
+use Rattle.exact_algebra.specs.Fraction.{Fraction}
 use Rattle.exact_algebra.specs.Quotients.{quotient-one}
 use Rattle.exact_algebra.specs.Rational.{quotient, whole}
 use Rattle.frac_core.specs.GcdLaws.{gcd_one}

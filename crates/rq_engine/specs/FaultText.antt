@@ -25,14 +25,18 @@ memory_line = codes "quantreg: memory: OutOfMemory\n"
 unfoldable pub not_built_line : ℕ → List ℕ
 not_built_line part = codes "quantreg: build: " ++ codes "NotBuilt part=" ++ decimal part ++ codes "\n"
 
+-- what names a field, and its number
+abbrev pub field : List ℕ → ℕ → List ℕ
+field name number = name ++ decimal number
+
 -- the line of a faulty table: records stand as they are, and columns are counted from 1
 unfoldable pub table_line : TableFault → List ℕ
 table_line NoHeader = codes "quantreg: table: NoHeader\n"
-table_line (NotUtf8 rec) = codes "quantreg: table: NotUtf8" ++ codes " record=" ++ decimal rec ++ codes "\n"
+table_line (NotUtf8 rec) = codes "quantreg: table: NotUtf8" ++ field (codes " record=") rec ++ codes "\n"
 table_line (Ragged rec found wanted) =
-    codes "quantreg: table: Ragged" ++ codes " record=" ++ decimal rec ++ codes " found=" ++ decimal found ++ codes " wanted=" ++ decimal wanted ++ codes "\n"
-table_line (DoubleName column) = codes "quantreg: table: DoubleName" ++ codes " column=" ++ decimal (column + 1) ++ codes "\n"
-table_line (EmptyName column) = codes "quantreg: table: EmptyName" ++ codes " column=" ++ decimal (column + 1) ++ codes "\n"
+    codes "quantreg: table: Ragged" ++ field (codes " record=") rec ++ field (codes " found=") found ++ field (codes " wanted=") wanted ++ codes "\n"
+table_line (DoubleName column) = codes "quantreg: table: DoubleName" ++ field (codes " column=") (column + 1) ++ codes "\n"
+table_line (EmptyName column) = codes "quantreg: table: EmptyName" ++ field (codes " column=") (column + 1) ++ codes "\n"
 table_line TooManyColumns = codes "quantreg: table: TooManyColumns\n"
 table_line TooManyRows = codes "quantreg: table: TooManyRows\n"
 table_line tables.OutOfMemory = memory_line

@@ -1,6 +1,6 @@
 //! The line of a fault.
-ghost use Rattle.std.specs.Prelude.{◌≡◌, ◌+◌, ◌++◌, IfOk, OnOk, codes, decimal};
-ghost use Rattle.rq_engine.specs.FaultText.{source_line, sink_line, memory_line, not_built_line, table_line, halt_line, usage_line, fault_line as line_of};
+ghost use Rattle.std.specs.Prelude.{◌≡◌, ◌+◌, ◌++◌, IfOk, OnOk, codes};
+ghost use Rattle.rq_engine.specs.FaultText.{source_line, sink_line, memory_line, not_built_line, field, table_line, halt_line, usage_line, fault_line as line_of};
 
 use crate::page::Page;
 use crate::report::{Fault, Halt, Refusal};
@@ -96,38 +96,35 @@ impl Page {
         ensures { OnOk result (self.new ≡ self.old ++ table_line (TableFault.NotUtf8 rec)) }
     {
         self.put(b"quantreg: table: NotUtf8")?;
-        self.put(b" record=")?;
-        self.put_count(rec as u64)?;
+        self.put_field(b" record=", rec as u64)?;
         self.put(b"\n")
     }
 
-    #[tactic(auto, unfolding(crate::specs::FaultText::table_line))]
     fn ragged_line(&mut self, rec: u32, found: u32, wanted: u32) -> Result<(), OutOfMemory>
         ensures { OnOk result (self.new ≡ self.old ++ table_line (TableFault.Ragged rec found wanted)) }
     {
         self.put(b"quantreg: table: Ragged")?;
-        self.put_field(b" record=", rec)?;
-        self.put_field(b" found=", found)?;
-        self.put_field(b" wanted=", wanted)?;
+        self.put_field(b" record=", rec as u64)?;
+        self.put_field(b" found=", found as u64)?;
+        self.put_field(b" wanted=", wanted as u64)?;
         self.put(b"\n")
     }
 
-    // The line of a fault of a name.
+    // The line of a name's fault.
     fn name_line(&mut self, fault: &[u8], column: u32) -> Result<(), OutOfMemory>
-        ensures { OnOk result (self.new ≡ self.old ++ (fault.now ++ codes " column=" ++ decimal (column + 1) ++ codes "\n")) }
+        ensures { OnOk result (self.new ≡ self.old ++ (fault.now ++ field (codes " column=") (column + 1) ++ codes "\n")) }
     {
         self.put(fault)?;
-        self.put(b" column=")?;
-        self.put_count(column as u64 + 1)?;
+        self.put_field(b" column=", column as u64 + 1)?;
         self.put(b"\n")
     }
 
     // What names a field, and its number.
-    fn put_field(&mut self, name: &[u8], number: u32) -> Result<(), OutOfMemory>
-        ensures { OnOk result (self.new ≡ self.old ++ (name.now ++ decimal number)) }
+    fn put_field(&mut self, name: &[u8], number: u64) -> Result<(), OutOfMemory>
+        ensures { OnOk result (self.new ≡ self.old ++ field name.now number) }
     {
         self.put(name)?;
-        self.put_count(number as u64)
+        self.put_count(number)
     }
 
     fn not_built_line(&mut self, part: u8) -> Result<(), OutOfMemory>

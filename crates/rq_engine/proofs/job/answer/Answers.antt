@@ -1,4 +1,4 @@
-use Rattle.std.proofs.Common.{◌≡◌, ◌≤◌, length, IfSome, List, [], ◌∷◌, arith, refl, sym, subst, ap, suc}
+use Rattle.std.proofs.Common.{◌≡◌, length, IfSome, List, [], ◌∷◌, arith, refl, sym, subst, ap, suc}
 use Rattle.std.specs.List.{AllZip}
 use Rattle.rq_engine.specs.ReportText.{value}
 use Rattle.rq_engine.specs.Responses.{HoldResponses}

@@ -1,4 +1,4 @@
-use Rattle.std.proofs.Common.{◌≡◌, ◌+◌, ◌-◌, ◌<◌, ◌≤◌, ◌∷◌, ◌++◌, [], All, Some, SFits, arith, ap, drop, get_or, length, length-append, map, option_map, refl, subst, sym, to_z-of_z, vec_len, w64, ◌∙◌}
+use Rattle.std.proofs.Common.{◌≡◌, ◌+◌, ◌-◌, ◌≤◌, ◌∷◌, ◌++◌, [], All, Some, SFits, arith, ap, drop, get_or, length, length-append, map, option_map, refl, subst, sym, to_z-of_z, vec_len, w64, ◌∙◌}
 use Rattle.std.proofs.lemmas.Bool.{eqb-false}
 use Rattle.std.proofs.lemmas.Int.{ints}
 use Rattle.std.proofs.lemmas.List.Elements.{All-push}

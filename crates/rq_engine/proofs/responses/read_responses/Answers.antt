@@ -1,9 +1,8 @@
 use Rattle.std.proofs.lemmas.Result.{IfErr-weaker, IfOk-weaker}
 use Rattle.data_frame.specs.Views.{exact_table}
 use Rattle.rq_engine.specs.Responses.{HasResponses, HoldResponses, IsOther, IsUnread}
-use Rattle.rq_engine.proofs.Levels.{returned}
 use Rattle.rq_engine.proofs.TableColumns.{few_cells}
-use Rattle.rq_engine.proofs.Unread.{no_table, other_column}
+use Rattle.rq_engine.proofs.Unread.{other_column}
 use Rattle.rq_engine.proofs.responses.read_responses.Goals as goal
 
 pub responses_of-requires : goal.responses_of-requires

@@ -1,4 +1,4 @@
-use Rattle.std.proofs.Common.{◌≡◌, None, Some, arith, length, map, option_map, refl}
+use Rattle.std.proofs.Common.{◌≡◌, None, Some, arith, map, option_map, refl}
 use Rattle.std.proofs.lemmas.List.{length-map}
 use Rattle.std.proofs.lemmas.Result.{IfErr-weaker, IfOk-weaker}
 use Rattle.data_frame.specs.Cells.{factor, numbers, too_wide}

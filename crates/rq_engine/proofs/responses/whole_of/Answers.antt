@@ -1,4 +1,4 @@
-use Rattle.std.proofs.Common.{◌≡◌, ◌<◌, ◌^◌, ℤ, SFits, arith, ap, rules, sym, to_z-of_z, unsigned_abs, w64, ◌∙◌}
+use Rattle.std.proofs.Common.{◌≡◌, ◌<◌, ◌^◌, SFits, arith, ap, rules, sym, to_z-of_z, unsigned_abs, w64, ◌∙◌}
 use Rattle.std.proofs.lemmas.Int.{ints}
 use Rattle.std.specs.Int.{w128}
 use Rattle.exact_algebra.specs.Rational.{whole}
