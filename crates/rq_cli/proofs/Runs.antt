@@ -8,6 +8,7 @@ use Rattle.port_io.specs.Told.{AppendsPart}
 use Rattle.rq_engine.specs.Answers as engine
 use Rattle.rq_engine.specs.ReportText.{report_text}
 use Rattle.rq_engine.specs.declared.report.Report.{Report}
+use Rattle.rq_engine.specs.declared.report.Refusal.TheVariants.{TooLong, Table}
 use Rattle.rq_engine.specs.declared.report.Halt.{Halt}
 use Rattle.rq_engine.specs.declared.report.Halt.TheVariants as halts
 use Rattle.rq_cli.specs.Outcomes.{Stream, OnDone, OnFault, is_fault, outcome_line, WereRead, HasCause, IsAnswered, WasTried, IsOutputFault, IsErrorFault, IsRun}
@@ -22,10 +23,10 @@ tried (Err e) before now line ok err counted = inr (counted.rose, err)
 
 -- the cause of a halt is that of its outcome
 pub halt_cause : (words : List (List ℕ)) (source source' : Stream) (job : Job) (bytes : List ℕ) → WereRead words source source' job bytes → (halt : Halt) → engine.HasCause job bytes halt → HasCause words source source' (outcome_of halt)
-halt_cause words source source' job bytes read (halts.Refused refusal) cause = absurd cause
+halt_cause words source source' job bytes read (halts.Refused TooLong) cause = absurd cause
+halt_cause words source source' job bytes read (halts.Refused (Table fault)) cause = record { job = job; bytes = bytes; read = read; cause = cause }
 halt_cause words source source' job bytes read halts.OutOfMemory cause = tt
-halt_cause words source source' job bytes read (halts.NotBuilt part) cause =
-    inr (cause.0, record { job = job; bytes = bytes; read = read; none = cause.1 })
+halt_cause words source source' job bytes read (halts.NotBuilt part) cause = inr (record { job = job; bytes = bytes; read = read; cause = cause })
 
 -- what is wrong with the words is a fault with its cause
 pub word_cause : (words : List (List ℕ)) (source source' : Stream) (outcome : Outcome) → IsWordOutcome words outcome → (is_fault outcome ≡ true) × HasCause words source source' outcome

@@ -5,11 +5,13 @@ use Rattle.port_io.specs.Counts.{Rose}
 use Rattle.port_io.specs.Told.{TakesAll, TakesFirst, AppendsPart}
 use Rattle.rq_words.specs.Words.{words_of}
 use Rattle.rq_words.specs.declared.job.Job.{Job}
-use Rattle.rq_engine.specs.Answers.{IsRight, IsNoColumn}
+use Rattle.rq_engine.specs.Answers as engine
+use Rattle.rq_engine.specs.Answers.{IsRight}
 use Rattle.rq_engine.specs.FaultText.{source_line, sink_line, memory_line, halt_line, usage_line}
 use Rattle.rq_engine.specs.ReportText.{report_text}
-use Rattle.rq_engine.specs.declared.report.Refusal.{Refusal}
+use Rattle.rq_engine.specs.declared.report.Refusal.TheVariants.{TooLong}
 use Rattle.rq_engine.specs.declared.report.Report.{Report}
+use Rattle.rq_engine.specs.declared.report.Halt.{Halt}
 use Rattle.rq_engine.specs.declared.report.Halt.TheVariants as halts
 use Rattle.rq_engine.specs.Level.{IsBuilt, IsJobOf}
 use Rattle.rq_cli.specs.declared.outcome.Outcome.{Outcome}
@@ -70,12 +72,12 @@ pub record IsNotBuilt (words : List (List ℕ)) : Type 0 where
   pub asked : IsJobOf words job
   pub other : ¬ IsBuilt job
 
--- the bytes of the source are no column for the job
-pub record IsOtherTable (words : List (List ℕ)) (before now : Stream) : Type 0 where
+-- the bytes of the source have no report for the job of the words, for the cause of this halt
+pub record IsHalted (words : List (List ℕ)) (before now : Stream) (halt : Halt) : Type 0 where
   pub job : Job
   pub bytes : List ℕ
   pub read : WereRead words before now job bytes
-  pub none : IsNoColumn job bytes
+  pub cause : engine.HasCause job bytes halt
 
 -- more than 2^26 bytes came
 pub record IsTooLong (words : List (List ℕ)) (before now : Stream) : Type 0 where
@@ -87,10 +89,11 @@ pub record IsTooLong (words : List (List ℕ)) (before now : Stream) : Type 0 wh
 -- why there is this outcome. Want of memory is free of a cause, and a failing sink has its own
 abbrev pub HasCause : List (List ℕ) → Stream → Stream → Outcome → Type 0
 HasCause words before now (Done report) = IsAnswered words before now report
-HasCause words before now (Refused _) = IsTooLong words before now
+HasCause words before now (Refused TooLong) = IsTooLong words before now
+HasCause words before now (Refused refusal) = IsHalted words before now (halts.Refused refusal)
 HasCause words before now (Usage fault) = words_of words ≡ Err fault
 HasCause words before now SourceFault = Rose before.faults now.faults
-HasCause words before now (NotBuilt part) = ((part ≡ 1) × IsNotBuilt words) ⊎ ((part ≡ 2) × IsOtherTable words before now)
+HasCause words before now (NotBuilt part) = ((part ≡ 1) × IsNotBuilt words) ⊎ IsHalted words before now (halts.NotBuilt part)
 HasCause words before now _ = ⊤
 
 -- the words ask for a job that is done

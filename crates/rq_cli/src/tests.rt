@@ -1,4 +1,6 @@
 //! Whole runs, from words and the bytes of a table to what is written.
+mod tables;
+
 use super::run;
 use port_io::{MemSink, MemSource, Source, SureSource};
 use std::alloc::Global;
@@ -58,8 +60,13 @@ fn ran<R: Threads + Sync, S: Source>(
     })
 }
 
-fn ran_on<R: Threads + Sync>(rt: &R, alloc: Global, line: &str, table: &str) -> Result<Left, Fail> {
-    let mut source = SureSource::new(table.as_bytes().to_vec(alloc)?);
+fn ran_on<R: Threads + Sync>(
+    rt: &R,
+    alloc: Global,
+    line: &str,
+    table: &[u8],
+) -> Result<Left, Fail> {
+    let mut source = SureSource::new(table.to_vec(alloc)?);
     ran(rt, alloc, line, &mut source, &SOUND)
 }
 
@@ -141,164 +148,33 @@ fn columns_are_fitted_at_one_quantile(rt: HostRuntime) -> Result<(), Fail> {
         let line = format!(in rt.alloc();
             "process|--formula|y ~ 1|--lo|{quantile}|--hi|{quantile}"
         )?;
-        let left = ran_on(&rt, rt.alloc(), &line, table)?;
+        let left = ran_on(&rt, rt.alloc(), &line, table.as_bytes())?;
         assert_printed(&rt, &left, report, table);
     }
     Ok(())
 }
 
-// Each case: formula, quantile, table, exit status and line.
-static FAULTS: [(&str, &str, &str, u8, &str); 24] = [
-    (
-        "y ~ x",
-        "1/2",
-        "y\n1\n2\n3\n",
-        9,
-        "quantreg: build: NotBuilt part=1\n",
-    ),
-    (
-        "y ~ 1 ",
-        "1/2",
-        "y\n1\n",
-        9,
-        "quantreg: build: NotBuilt part=1\n",
-    ),
-    (
-        "y~1",
-        "1/2",
-        "y\n1\n",
-        9,
-        "quantreg: build: NotBuilt part=1\n",
-    ),
-    (
-        "1y ~ 1",
-        "1/2",
-        "1y\n1\n",
-        9,
-        "quantreg: build: NotBuilt part=1\n",
-    ),
-    (
-        " ~ 1",
-        "1/2",
-        "\n1\n",
-        9,
-        "quantreg: build: NotBuilt part=1\n",
-    ),
-    (
-        "y_z ~ 1",
-        "1/2",
-        "y_z\n1\n",
-        9,
-        "quantreg: build: NotBuilt part=1\n",
-    ),
-    (
-        "y ~ 1",
-        "1/1001",
-        "y\n1\n",
-        9,
-        "quantreg: build: NotBuilt part=1\n",
-    ),
-    (
-        "y ~ 1",
-        "0.0001",
-        "y\n1\n",
-        9,
-        "quantreg: build: NotBuilt part=1\n",
-    ),
-    ("y ~ 1", "2/1", "y\n1\n", 2, "quantreg: usage: BadRange\n"),
-    (
-        "y ~ 1",
-        "1.0001",
-        "y\n1\n",
-        2,
-        "quantreg: usage: BadRange\n",
-    ),
-    (
-        "y ~ 1",
-        "1/0",
-        "y\n1\n",
-        2,
-        "quantreg: usage: BadNumber option=lo\n",
-    ),
+// Each case: formula, quantile, exit status and line.
+static FAULTS: [(&str, &str, u8, &str); 14] = [
+    ("y ~ x", "1/2", 9, "quantreg: build: NotBuilt part=1\n"),
+    ("y ~ 1 ", "1/2", 9, "quantreg: build: NotBuilt part=1\n"),
+    ("y~1", "1/2", 9, "quantreg: build: NotBuilt part=1\n"),
+    ("1y ~ 1", "1/2", 9, "quantreg: build: NotBuilt part=1\n"),
+    (" ~ 1", "1/2", 9, "quantreg: build: NotBuilt part=1\n"),
+    ("y_z ~ 1", "1/2", 9, "quantreg: build: NotBuilt part=1\n"),
+    ("y ~ 1", "1/1001", 9, "quantreg: build: NotBuilt part=1\n"),
+    ("y ~ 1", "0.0001", 9, "quantreg: build: NotBuilt part=1\n"),
+    ("y ~ 1", "2/1", 2, "quantreg: usage: BadRange\n"),
+    ("y ~ 1", "1.0001", 2, "quantreg: usage: BadRange\n"),
+    ("y ~ 1", "1/0", 2, "quantreg: usage: BadNumber option=lo\n"),
     (
         "y ~ 1",
         "1/2/3",
-        "y\n1\n",
         2,
         "quantreg: usage: BadNumber option=lo\n",
     ),
-    (
-        "y ~ 1",
-        "",
-        "y\n1\n",
-        2,
-        "quantreg: usage: BadNumber option=lo\n",
-    ),
-    ("y ~ 1", "-1/2", "y\n1\n", 2, "quantreg: usage: BadOption\n"),
-    (
-        "y ~ 1",
-        "1/2",
-        "y\n1.5\n",
-        9,
-        "quantreg: build: NotBuilt part=2\n",
-    ),
-    ("y ~ 1", "1/2", "", 9, "quantreg: build: NotBuilt part=2\n"),
-    (
-        "y ~ 1",
-        "1/2",
-        "y\n",
-        9,
-        "quantreg: build: NotBuilt part=2\n",
-    ),
-    (
-        "y ~ 1",
-        "1/2",
-        "y\n1",
-        9,
-        "quantreg: build: NotBuilt part=2\n",
-    ),
-    (
-        "y ~ 1",
-        "1/2",
-        "y\n1\n\n",
-        9,
-        "quantreg: build: NotBuilt part=2\n",
-    ),
-    (
-        "y ~ 1",
-        "1/2",
-        "y\r\n1\r\n",
-        9,
-        "quantreg: build: NotBuilt part=2\n",
-    ),
-    (
-        "y ~ 1",
-        "1/2",
-        "x\n1\n",
-        9,
-        "quantreg: build: NotBuilt part=2\n",
-    ),
-    (
-        "y ~ 1",
-        "1/2",
-        "y\n1234567890\n",
-        9,
-        "quantreg: build: NotBuilt part=2\n",
-    ),
-    (
-        "y ~ 1",
-        "1/2",
-        "y\n--1\n",
-        9,
-        "quantreg: build: NotBuilt part=2\n",
-    ),
-    (
-        "y ~ 1",
-        "1/2",
-        "y\n+1\n",
-        9,
-        "quantreg: build: NotBuilt part=2\n",
-    ),
+    ("y ~ 1", "", 2, "quantreg: usage: BadNumber option=lo\n"),
+    ("y ~ 1", "-1/2", 2, "quantreg: usage: BadOption\n"),
 ];
 
 fn assert_refused(rt: &impl Abort, left: &Left, status: u8, told: &str, case: &str) {
@@ -308,12 +184,12 @@ fn assert_refused(rt: &impl Abort, left: &Left, status: u8, told: &str, case: &s
 }
 
 #[test]
-fn other_words_and_tables_are_told(rt: HostRuntime) -> Result<(), Fail> {
-    for (formula, quantile, table, status, told) in &FAULTS {
+fn other_formulas_and_quantiles_are_told(rt: HostRuntime) -> Result<(), Fail> {
+    for (formula, quantile, status, told) in &FAULTS {
         let line = format!(in rt.alloc();
             "process|--formula|{formula}|--lo|{quantile}|--hi|{quantile}"
         )?;
-        let left = ran_on(&rt, rt.alloc(), &line, table)?;
+        let left = ran_on(&rt, rt.alloc(), &line, TABLE.as_bytes())?;
         assert_refused(&rt, &left, *status, told, &line);
     }
     Ok(())
@@ -402,7 +278,7 @@ static COMMANDS: [(&str, u8, &str); 20] = [
 #[test]
 fn words_have_their_first_fault(rt: HostRuntime) -> Result<(), Fail> {
     for (line, status, told) in &COMMANDS {
-        let left = ran_on(&rt, rt.alloc(), line, TABLE)?;
+        let left = ran_on(&rt, rt.alloc(), line, TABLE.as_bytes())?;
         assert_refused(&rt, &left, *status, told, line);
     }
     Ok(())
@@ -418,7 +294,7 @@ static SAME_JOB: [&str; 3] = [
 #[test]
 fn words_of_one_job_print_one_report(rt: HostRuntime) -> Result<(), Fail> {
     for line in &SAME_JOB {
-        let left = ran_on(&rt, rt.alloc(), line, TABLE)?;
+        let left = ran_on(&rt, rt.alloc(), line, TABLE.as_bytes())?;
         assert_printed(&rt, &left, REPORT, line);
     }
     Ok(())

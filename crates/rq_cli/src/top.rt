@@ -20,11 +20,13 @@ use std::thread::Threads;
 ///
 /// The whole text is made before the first byte of it is written. `Usage` comes exactly where the
 /// words are refused by that fault, and `NotBuilt` with part 1 exactly where they ask for a job that
-/// this version doesn't do; both leave the source untouched. `NotBuilt` with part 2 comes exactly
-/// where the bytes are no column. `Refused` comes exactly where more than 2^26 bytes
-/// come. `SourceFault` and `SinkFault` come only where the count of faults of the source or of a
-/// sink rose in this call, and where it grew there is no other outcome but `SinkFault`.
-/// `OutOfMemory` may come in place of what would follow, and never after a write to `out`.
+/// this version doesn't do; both leave the source untouched. `Refused` comes exactly where more than
+/// 2^26 bytes come, or where the bytes have this first fault as a table. `NotBuilt` with part 2 comes
+/// exactly where they are a table without a column of the job's name, or whose column of that name
+/// holds anything else than 1 to 1,000 whole numbers below 10^9 in size beside its missing cells.
+/// `SourceFault` and `SinkFault` come only where the count of faults of the source or of a sink rose
+/// in this call, and where it grew there is no other outcome but `SinkFault`. `OutOfMemory` may come
+/// in place of what would follow, and never after a write to `out`.
 pub fn run<R: Threads + Sync, S: Source, K: Sink, E: Sink>(
     rt: &R,
     alloc: Global,

@@ -1,5 +1,5 @@
 -- The quantile of a job that the words ask for lies in 0 to 1, and one job has one level.
-use Rattle.std.proofs.Common.{◌≡◌, ℕ, ◌^◌, ◌-◌, Bool, true, false, not, ◌&&◌, eqb, int_eq, List, ◌++◌, codes, ℤ, pos, Option, Some, None, is_some, IfSome, IfNone, IsTrue, ◌↔◌, Result, Ok, Err, IfErr, IsErrAnd, refl, sym, subst, ◌∙◌}
+use Rattle.std.proofs.Common.{◌≡◌, ℕ, ◌^◌, ◌-◌, Bool, true, false, not, ◌&&◌, eqb, int_eq, List, codes, pos, Option, Some, None, is_some, IfSome, IfNone, IsTrue, ◌↔◌, Result, Ok, Err, IfErr, IsErrAnd, refl, sym, subst, ◌∙◌}
 use Rattle.std.proofs.lemmas.Bool.{eqb-true}
 use Rattle.std.proofs.lemmas.Bool.Decides.{Decides-int_eq}
 use Rattle.std.proofs.lemmas.List.{append_cancel_right}
@@ -12,10 +12,11 @@ use Rattle.rq_words.specs.declared.job.Job.{Job}
 use Rattle.rq_words.specs.declared.job.Job.TheVariants.{Process, Ranks, Certify, Check, Sample}
 use Rattle.rq_words.proofs.Orders.{process_range}
 use Rattle.rq_engine.specs.Answers.{HasCause}
-use Rattle.rq_engine.specs.Column.{IsColumn, IsUnread}
+use Rattle.rq_engine.specs.Responses.{HasResponses, IsUnread}
+use Rattle.rq_engine.specs.declared.report.Refusal.TheVariants.{TooLong, Table}
 use Rattle.rq_engine.specs.declared.report.Halt.{Halt}
 use Rattle.rq_engine.specs.declared.report.Halt.TheVariants.{Refused, OutOfMemory, NotBuilt}
-use Rattle.rq_engine.specs.Level.{IsLevelFit, IsLevelJob, IsJobOf}
+use Rattle.rq_engine.specs.Level.{IsLevelJob, IsJobOf}
 use Rattle.rq_engine.specs.ReportText.{value}
 
 -- quantiles of the same parts are the same
@@ -51,12 +52,20 @@ one_name (Certify fit) name other tau tau' h k = absurd h
 one_name Check name other tau tau' h k = absurd h
 one_name (Sample sample) name other tau tau' h k = absurd h
 
--- why a job has no report is why its column was not read
+-- why a job has no report is why its responses were not read
 pub unread_cause : (job : Job) (name bytes : List ℕ) (tau : Frac128) (halt : Halt) → IsLevelJob job name tau → IsUnread name bytes halt → HasCause job bytes halt
-unread_cause job name bytes tau (Refused refusal) level cause = absurd cause
+unread_cause job name bytes tau (Refused TooLong) level cause = absurd cause
+unread_cause job name bytes tau (Refused (Table fault)) level cause = cause
 unread_cause job name bytes tau OutOfMemory level cause = tt
-unread_cause job name bytes tau (NotBuilt part) level cause =
-    (cause.0, λ other tau' values asked. subst (λ n. ¬ IsColumn n bytes values) (one_name job name other tau tau' level asked) (cause.1 values))
+unread_cause job name bytes tau (NotBuilt part) level cause = (
+  cause.0,
+  record {
+    table = cause.1.table;
+    read = cause.1.read;
+    none = λ other tau' values missing asked.
+        subst (λ n. ¬ HasResponses n cause.1.table values missing) (one_name job name other tau tau' level asked) (cause.1.none values missing);
+  },
+)
 
 -- what an early return says of its fault
 pub returned : {T E : Type 0} (r : Result T E) (Q P : E → Type 0) → IsErrAnd r Q → ((y : E) → Q y → P y) → IfErr r P

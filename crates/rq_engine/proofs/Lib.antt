@@ -1,7 +1,4 @@
 pub mod Appends
-pub mod Cells
-pub mod Digits
-pub mod LineSplits
 pub mod Counts
 pub mod Fitting
 pub mod Location
@@ -11,6 +8,10 @@ pub mod Numbered
 pub mod Optimum
 pub mod OrderSums
 pub mod Places
+pub mod Present
 pub mod Residuals
+pub mod TableColumns
+pub mod Wholes
 pub mod UnitRows
+pub mod Unread
 pub mod Levels

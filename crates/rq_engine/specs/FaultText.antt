@@ -1,10 +1,13 @@
 -- The line of a fault: what failed, and by which fault with which fields.
-use Rattle.std.specs.Prelude.{ℕ, List, ◌++◌, codes, decimal}
+use Rattle.std.specs.Prelude.{ℕ, ◌+◌, List, ◌++◌, codes, decimal}
+use Rattle.data_frame.specs.declared.fault.TableFault.{TableFault}
+use Rattle.data_frame.specs.declared.fault.TableFault.TheVariants.{NoHeader, NotUtf8, Ragged, DoubleName, EmptyName, TooManyColumns, TooManyRows}
+use Rattle.data_frame.specs.declared.fault.TableFault.TheVariants as tables
 use Rattle.rq_words.specs.declared.job.WordFault.{WordFault}
 use Rattle.rq_words.specs.declared.job.WordFault.TheVariants.{NoJob, UnknownJob, BadOption, BadNumber, BadRange, BadTauForRank, NegativeLimit, BadContrasts, RankHalf}
 use Rattle.rq_words.specs.declared.job.WordFault.TheVariants as words
 use Rattle.rq_engine.specs.Names.{name_bytes}
-use Rattle.rq_engine.specs.declared.report.Refusal.TheVariants.{TooLong}
+use Rattle.rq_engine.specs.declared.report.Refusal.TheVariants.{TooLong, Table}
 use Rattle.rq_engine.specs.declared.report.Halt.{Halt}
 use Rattle.rq_engine.specs.declared.report.Halt.TheVariants.{Refused, OutOfMemory, NotBuilt}
 use Rattle.rq_engine.specs.declared.report.Fault.{Fault}
@@ -22,8 +25,25 @@ memory_line = codes "quantreg: memory: OutOfMemory\n"
 unfoldable pub not_built_line : ℕ → List ℕ
 not_built_line part = codes "quantreg: build: " ++ codes "NotBuilt part=" ++ decimal part ++ codes "\n"
 
+-- what names a field, and its number
+abbrev pub field : List ℕ → ℕ → List ℕ
+field name number = name ++ decimal number
+
+-- the line of a faulty table: records stand as they are, and columns are counted from 1
+unfoldable pub table_line : TableFault → List ℕ
+table_line NoHeader = codes "quantreg: table: NoHeader\n"
+table_line (NotUtf8 rec) = codes "quantreg: table: NotUtf8" ++ field (codes " record=") rec ++ codes "\n"
+table_line (Ragged rec found wanted) =
+    codes "quantreg: table: Ragged" ++ field (codes " record=") rec ++ field (codes " found=") found ++ field (codes " wanted=") wanted ++ codes "\n"
+table_line (DoubleName column) = codes "quantreg: table: DoubleName" ++ field (codes " column=") (column + 1) ++ codes "\n"
+table_line (EmptyName column) = codes "quantreg: table: EmptyName" ++ field (codes " column=") (column + 1) ++ codes "\n"
+table_line TooManyColumns = codes "quantreg: table: TooManyColumns\n"
+table_line TooManyRows = codes "quantreg: table: TooManyRows\n"
+table_line tables.OutOfMemory = memory_line
+
 abbrev pub halt_line : Halt → List ℕ
 halt_line (Refused TooLong) = codes "quantreg: input: TooLong\n"
+halt_line (Refused (Table fault)) = table_line fault
 halt_line OutOfMemory = memory_line
 halt_line (NotBuilt part) = not_built_line part
 

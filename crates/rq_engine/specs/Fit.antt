@@ -107,11 +107,12 @@ module _ {F : Type 0} (value : F → Fraction) where
       pub at_lo : All (λ q. rational (value q.at_lo) ≡ rankscore (sample value p) (rational (value s.lo)) (dual_value value p s.vertex s.basic_lo (rational (value s.lo))) q.row) pairs
       pub at_hi : All (λ q. rational (value q.at_hi) ≡ rankscore (sample value p) (rational (value s.hi)) (dual_value value p s.vertex s.basic_hi (rational (value s.hi))) q.row) pairs
 
--- the fit of the responses at tau is that of the rule: its one point covers tau, its vertex is that of the
--- fitted row and optimal, its scores are the rankscores, and its trail leads to the fitted row
-pub record IsRightFit (value : Frac128 → Fraction) (ys : List ℤ) (tau : Frac128) (fit : Fit) : Type 0 where
+-- the fit of the responses at tau, beside so many records that miss theirs, is that of the rule: its one
+-- point covers tau, its vertex is that of the fitted row and optimal, its scores are the rankscores, and its
+-- trail leads to the fitted row
+pub record IsRightFit (value : Frac128 → Fraction) (ys : List ℤ) (missing : ℕ) (tau : Frac128) (fit : Fit) : Type 0 where
   pub kept : fit.kept ≡ length ys
-  pub dropped : fit.dropped ≡ 0
+  pub dropped : fit.dropped ≡ missing
   pub names : fit.names ≡ codes "(Intercept)" ∷ []
   pub data_rows : fit.data_rows ≡ length ys
   pub shaped : IsWellShaped fit.problem

@@ -1,9 +1,10 @@
 //! The line of a fault.
-ghost use Rattle.std.specs.Prelude.{◌≡◌, ◌++◌, IfOk, OnOk};
-ghost use Rattle.rq_engine.specs.FaultText.{source_line, sink_line, memory_line, not_built_line, halt_line, usage_line, fault_line as line_of};
+ghost use Rattle.std.specs.Prelude.{◌≡◌, ◌+◌, ◌++◌, IfOk, OnOk, codes};
+ghost use Rattle.rq_engine.specs.FaultText.{source_line, sink_line, memory_line, not_built_line, field, table_line, halt_line, usage_line, fault_line as line_of};
 
 use crate::page::Page;
 use crate::report::{Fault, Halt, Refusal};
+use data_frame::TableFault;
 use frac_core::{OutOfMemory, Text};
 use rq_words::WordFault;
 use std::alloc::Global;
@@ -64,9 +65,66 @@ impl Page {
     {
         match halt {
             Halt::Refused(Refusal::TooLong) => self.put(b"quantreg: input: TooLong\n"),
+            Halt::Refused(Refusal::Table(fault)) => self.table_line(fault),
             Halt::OutOfMemory => self.put(MEMORY_LINE),
             Halt::NotBuilt { part } => self.not_built_line(*part),
         }
+    }
+
+    #[tactic(auto, unfolding(crate::specs::FaultText::table_line))]
+    fn table_line(&mut self, fault: &TableFault) -> Result<(), OutOfMemory>
+        ensures { OnOk result (self.new ≡ self.old ++ table_line fault.now) }
+    {
+        match fault {
+            TableFault::NoHeader => self.put(b"quantreg: table: NoHeader\n"),
+            TableFault::NotUtf8 { rec } => self.not_utf8_line(*rec),
+            TableFault::Ragged { rec, found, wanted } => self.ragged_line(*rec, *found, *wanted),
+            TableFault::DoubleName { column } => {
+                self.name_line(b"quantreg: table: DoubleName", *column)
+            }
+            TableFault::EmptyName { column } => {
+                self.name_line(b"quantreg: table: EmptyName", *column)
+            }
+            TableFault::TooManyColumns => self.put(b"quantreg: table: TooManyColumns\n"),
+            TableFault::TooManyRows => self.put(b"quantreg: table: TooManyRows\n"),
+            TableFault::OutOfMemory => self.put(MEMORY_LINE),
+        }
+    }
+
+    #[tactic(auto, unfolding(crate::specs::FaultText::table_line))]
+    fn not_utf8_line(&mut self, rec: u32) -> Result<(), OutOfMemory>
+        ensures { OnOk result (self.new ≡ self.old ++ table_line (TableFault.NotUtf8 rec)) }
+    {
+        self.put(b"quantreg: table: NotUtf8")?;
+        self.put_field(b" record=", rec as u64)?;
+        self.put(b"\n")
+    }
+
+    fn ragged_line(&mut self, rec: u32, found: u32, wanted: u32) -> Result<(), OutOfMemory>
+        ensures { OnOk result (self.new ≡ self.old ++ table_line (TableFault.Ragged rec found wanted)) }
+    {
+        self.put(b"quantreg: table: Ragged")?;
+        self.put_field(b" record=", rec as u64)?;
+        self.put_field(b" found=", found as u64)?;
+        self.put_field(b" wanted=", wanted as u64)?;
+        self.put(b"\n")
+    }
+
+    // The line of a name's fault.
+    fn name_line(&mut self, fault: &[u8], column: u32) -> Result<(), OutOfMemory>
+        ensures { OnOk result (self.new ≡ self.old ++ (fault.now ++ field (codes " column=") (column + 1) ++ codes "\n")) }
+    {
+        self.put(fault)?;
+        self.put_field(b" column=", column as u64 + 1)?;
+        self.put(b"\n")
+    }
+
+    // What names a field, and its number.
+    fn put_field(&mut self, name: &[u8], number: u64) -> Result<(), OutOfMemory>
+        ensures { OnOk result (self.new ≡ self.old ++ field name.now number) }
+    {
+        self.put(name)?;
+        self.put_count(number)
     }
 
     fn not_built_line(&mut self, part: u8) -> Result<(), OutOfMemory>

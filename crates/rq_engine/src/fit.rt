@@ -220,14 +220,19 @@ fn trail_to<F: Exact>(alloc: Global, tau: F, row: u32) -> Result<Trail<F>, Alloc
 }
 
 // The fit of the location model, from its parts.
-fn location_fit(alloc: Global, responses: &[i64], tau: Frac128) -> Result<Fit, AllocError>
+fn location_fit(
+    alloc: Global,
+    responses: &[i64],
+    missing: u32,
+    tau: Frac128,
+) -> Result<Fit, AllocError>
     requires some { 1 ≤ length responses.now }
     requires few { length responses.now ≤ 1000 }
     requires small { All (λ y. unsigned_abs y < 10 ^ 9) responses.now }
     requires low { whole (pos 0) ≤ℚ rational (⟦<Frac128 as Exact>⟧.value tau) }
     requires high { rational (⟦<Frac128 as Exact>⟧.value tau) ≤ℚ whole (pos 1) }
     requires fine { (⟦<Frac128 as Exact>⟧.value tau).den ≤ 1000 }
-    ensures { IfOk result (IsRightFit ⟦<Frac128 as Exact>⟧.value responses.now tau) }
+    ensures { IfOk result (IsRightFit ⟦<Frac128 as Exact>⟧.value responses.now missing tau) }
 {
     let rows = responses.len() as u32;
     let level = quantile_of(tau);
@@ -242,7 +247,7 @@ fn location_fit(alloc: Global, responses: &[i64], tau: Frac128) -> Result<Fit, A
     let intercept = Text::from(String::from_str(alloc, "(Intercept)")?);
     Ok(Fit {
         kept: rows,
-        dropped: 0,
+        dropped: missing,
         names: list_of(alloc, intercept)?,
         data_rows: rows,
         problem: location_problem(alloc, responses)?,
@@ -254,18 +259,23 @@ fn location_fit(alloc: Global, responses: &[i64], tau: Frac128) -> Result<Fit, A
     })
 }
 
-/// The fit of an intercept alone to the responses at a quantile, which is a sample quantile. It
-/// refuses only for memory.
-pub(crate) fn fit_column(alloc: Global, responses: &[i64], tau: Frac128) -> Result<Fit, OutOfMemory>
+/// The fit of an intercept alone to the responses at a quantile, which is a sample quantile, beside
+/// so many records that miss theirs. It refuses only for memory.
+pub(crate) fn fit_column(
+    alloc: Global,
+    responses: &[i64],
+    missing: u32,
+    tau: Frac128,
+) -> Result<Fit, OutOfMemory>
     requires some { 1 ≤ length responses.now }
     requires few { length responses.now ≤ 1000 }
     requires small { All (λ y. unsigned_abs y < 10 ^ 9) responses.now }
     requires low { whole (pos 0) ≤ℚ rational (⟦<Frac128 as Exact>⟧.value tau) }
     requires high { rational (⟦<Frac128 as Exact>⟧.value tau) ≤ℚ whole (pos 1) }
     requires fine { (⟦<Frac128 as Exact>⟧.value tau).den ≤ 1000 }
-    ensures { IfOk result (IsRightFit ⟦<Frac128 as Exact>⟧.value responses.now tau) }
+    ensures { IfOk result (IsRightFit ⟦<Frac128 as Exact>⟧.value responses.now missing tau) }
 {
-    match location_fit(alloc, responses, tau) {
+    match location_fit(alloc, responses, missing, tau) {
         Ok(fit) => Ok(fit),
         Err(_) => Err(OutOfMemory),
     }

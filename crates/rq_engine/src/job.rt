@@ -3,19 +3,20 @@ ghost use Rattle.rq_engine.specs.Answers.{IsRight, HasCause};
 ghost use Rattle.rq_engine.specs.Level.{IsBuilt, IsJobOf};
 ghost use Rattle.rq_engine.specs.ReportText.{IsPrintable};
 
-use crate::column::read_column;
 use crate::fit::fit_column;
 use crate::level::level_of;
 use crate::report::{Halt, Report};
+use crate::responses::read_responses;
 use rq_words::Job;
 use std::alloc::Global;
 use std::thread::Threads;
 
 /// The report of a job that this version does, from the bytes of its input.
 ///
-/// The bytes are a line of the column's name and then 1 to 1,000 lines of a whole number, each of
-/// an optional minus and 1 to 9 digits; other bytes are `NotBuilt` with part 2. `OutOfMemory` may
-/// come at any step.
+/// `Refused` is the first fault of the bytes as a table. `NotBuilt` with part 2 comes exactly where
+/// they are a table without a column of the job's name, or whose column of that name holds anything
+/// else than 1 to 1,000 whole numbers below 10^9 in size beside its missing cells. A record that
+/// misses its response is dropped and counted. `OutOfMemory` may come at any step.
 pub fn answer<R: Threads + Sync>(
     _rt: &R,
     alloc: Global,
@@ -30,8 +31,8 @@ pub fn answer<R: Threads + Sync>(
     ensures cause { IfErr result (HasCause job.now bytes.now) }
 {
     let level = level_of(job).unwrap();
-    let responses = read_column(alloc, level.name, bytes)?;
-    match fit_column(alloc, &responses, level.tau) {
+    let responses = read_responses(alloc, level.name, bytes)?;
+    match fit_column(alloc, &responses.values, responses.missing, level.tau) {
         Ok(fit) => Ok(Report::Process(fit)),
         Err(_) => Err(Halt::OutOfMemory),
     }

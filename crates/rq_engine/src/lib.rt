@@ -1,7 +1,6 @@
 //! One job, from the bytes of its input to its report.
 #![tactic(auto)]
 
-mod column;
 mod fault;
 mod fit;
 mod job;
@@ -10,6 +9,7 @@ mod lines;
 mod page;
 mod ranking;
 mod report;
+mod responses;
 
 pub use fault::{MEMORY_LINE, SINK_LINE, SOURCE_LINE, fault_line};
 pub use job::answer;

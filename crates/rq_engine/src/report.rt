@@ -1,4 +1,5 @@
 //! What a job answers.
+use data_frame::TableFault;
 use frac_core::{Frac128, List, Text};
 use loss_model::{Problem, Process};
 use rq_words::WordFault;
@@ -37,6 +38,8 @@ pub enum Report {
 pub enum Refusal {
     /// It is longer than 2^26 bytes.
     TooLong,
+    /// It is no table, for this fault, which is never want of memory.
+    Table(TableFault),
 }
 
 /// Why a job ended without a report.
@@ -44,7 +47,7 @@ pub enum Refusal {
 pub enum Halt {
     Refused(Refusal),
     OutOfMemory,
-    /// It asks for what this version does not do: part 1 is the job, part 2 the form of the input.
+    /// It asks for what this version does not do: part 1 is the job, part 2 the table.
     NotBuilt { part: u8 },
 }
 

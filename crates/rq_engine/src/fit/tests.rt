@@ -34,7 +34,7 @@ fn fit_at(
     assert!(rt; responses.len() >= 1);
     assert!(rt; responses.len() <= 1000);
     assert!(rt; responses.iter().all(|y| y.unsigned_abs() < 1_000_000_000));
-    Ok(fit_column(rt.alloc(), responses, tau)?)
+    Ok(fit_column(rt.alloc(), responses, 0, tau)?)
 }
 
 // The check loss around a center, times the denominator of the quantile: the plain sum over rows.

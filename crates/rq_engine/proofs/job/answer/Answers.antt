@@ -1,7 +1,7 @@
-use Rattle.std.proofs.Common.{◌≡◌, ◌≤◌, length, IfSome, List, [], ◌∷◌, arith, refl, sym, subst, ap, suc}
+use Rattle.std.proofs.Common.{◌≡◌, length, IfSome, List, [], ◌∷◌, arith, refl, sym, subst, ap, suc}
 use Rattle.std.specs.List.{AllZip}
 use Rattle.rq_engine.specs.ReportText.{value}
-use Rattle.rq_engine.specs.Column.{IsColumn}
+use Rattle.rq_engine.specs.Responses.{HoldResponses}
 use Rattle.rq_engine.specs.Answers.{HasCause}
 use Rattle.rq_engine.specs.Fit.{IsScored}
 use Rattle.rq_engine.specs.Level.{IsLevelJob}
@@ -21,7 +21,8 @@ returns-in-Ok-clause-right g c =
       tau = c.unwrap-level.result.tau;
       asked = subst (λ r. IfSome r (λ level. IsLevelJob c.args.job.now level.name.now level.tau)) c.unwrap-level.ensures c.level_of.ensures.found;
       values = c.deref.result.now;
-      column = subst (IsColumn c.unwrap-level.result.name.now c.args.bytes.now) (sym c.deref.ensures.value) c.in_ok-responses.ensures.read;
+      missing = c.in_ok-responses.responses.missing;
+      input = subst (λ values. HoldResponses c.unwrap-level.result.name.now c.args.bytes.now values c.in_ok-responses.responses.missing) (sym c.deref.ensures.value) c.in_ok-responses.ensures.read;
       right = c.in-Ok.ensures;
     }
 

@@ -1,4 +1,4 @@
-use Rattle.std.proofs.Common.{◌≡◌, ℕ, List, IsTrue, ◌↔◌, sym, subst}
+use Rattle.std.proofs.Common.{ℕ, List, IsTrue, ◌↔◌, sym, subst}
 use Rattle.frac_core.specs.declared.frac128.Frac128.{Frac128}
 use Rattle.rq_engine.specs.Level.{IsLevelJob, IsBuilt}
 use Rattle.rq_engine.proofs.Levels.{decided}

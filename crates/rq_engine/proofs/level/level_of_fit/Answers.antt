@@ -1,4 +1,4 @@
-use Rattle.std.proofs.Common.{◌≡◌, arith, refl, sym, subst, ◌∙◌}
+use Rattle.std.proofs.Common.{arith, refl, sym, subst, ◌∙◌}
 use Rattle.std.proofs.lemmas.Int.{ints}
 use Rattle.rq_engine.specs.Level.{IsLevelFormula}
 use Rattle.rq_engine.proofs.Levels.{tested_quantile}

@@ -1,0 +1,133 @@
+//! Runs on tables: what is read, what is dropped, and what is refused for which fault. The answers
+//! were worked out by hand from the rules.
+use super::{Left, assert_printed, assert_refused, ran_on};
+use std::alloc::Global;
+use std::test::Fail;
+use std::thread::Threads;
+
+// The median of the column y.
+fn median_of<R: Threads + Sync>(rt: &R, alloc: Global, table: &[u8]) -> Result<Left, Fail> {
+    ran_on(
+        rt,
+        alloc,
+        "process|--formula|y ~ 1|--lo|1/2|--hi|1/2",
+        table,
+    )
+}
+
+// Each case: the table, and what is printed.
+static REPORTS: [(&[u8], &str); 6] = [
+    // A record that misses its response is dropped, and one that misses another cell isn't.
+    (
+        b"y,x\n1,NA\n2,5\n,3\n4,4\n",
+        "quantreg 1\nrecords 3 dropped 1\ncolumn 1 (Intercept)\ndata 3 penalty 0\npivots 1\nsegment 1 1/2 1/2\ncoef 1 2\nloss 3/2 3/2\nscores 0*1\nbasic 2 1/2 1/2\nend\n",
+    ),
+    (
+        b"y\nNA\n9\n \n\"\"\n",
+        "quantreg 1\nrecords 1 dropped 3\ncolumn 1 (Intercept)\ndata 1 penalty 0\npivots 0\nsegment 1 1/2 1/2\ncoef 1 9\nloss 0 0\nscores *\nbasic 1 1/2 1/2\nend\n",
+    ),
+    // Another column may be too wide, or a factor.
+    (
+        b"y,x\n3,0.1e-40\n",
+        "quantreg 1\nrecords 1 dropped 0\ncolumn 1 (Intercept)\ndata 1 penalty 0\npivots 0\nsegment 1 1/2 1/2\ncoef 1 3\nloss 0 0\nscores *\nbasic 1 1/2 1/2\nend\n",
+    ),
+    (
+        b"f,y\na,-2",
+        "quantreg 1\nrecords 1 dropped 0\ncolumn 1 (Intercept)\ndata 1 penalty 0\npivots 0\nsegment 1 1/2 1/2\ncoef 1 -2\nloss 0 0\nscores *\nbasic 1 1/2 1/2\nend\n",
+    ),
+    // Whole numbers in other forms, quoted, beside row names.
+    (
+        b"\"\",\"x\",\"y\"\r\n\"a\",1,\"+7.0\"\r\n\"b\",2,\" 14/2 \"\r\n",
+        "quantreg 1\nrecords 2 dropped 0\ncolumn 1 (Intercept)\ndata 2 penalty 0\npivots 0\nsegment 1 1/2 1/2\ncoef 1 7\nloss 0 0\nscores *0\nbasic 1 1 1\nend\n",
+    ),
+    (
+        b"\xef\xbb\xbfy\n\n1e3\n\n",
+        "quantreg 1\nrecords 1 dropped 0\ncolumn 1 (Intercept)\ndata 1 penalty 0\npivots 0\nsegment 1 1/2 1/2\ncoef 1 1000\nloss 0 0\nscores *\nbasic 1 1/2 1/2\nend\n",
+    ),
+];
+
+#[test]
+fn responses_are_read_from_tables(rt: HostRuntime) -> Result<(), Fail> {
+    for (table, report) in &REPORTS {
+        let left = median_of(&rt, rt.alloc(), table)?;
+        assert_printed(&rt, &left, report, report);
+    }
+    Ok(())
+}
+
+// Each case: the table, the exit status, and the line.
+static FAULTS: [(&[u8], u8, &str); 22] = [
+    (b"", 1, "quantreg: table: NoHeader\n"),
+    (b"\n\r\n", 1, "quantreg: table: NoHeader\n"),
+    (
+        b"y,x\n1,2\n3\n",
+        1,
+        "quantreg: table: Ragged record=2 found=1 wanted=2\n",
+    ),
+    (b"y,y\n1,2\n", 1, "quantreg: table: DoubleName column=2\n"),
+    (b"y,\n1,2\n", 1, "quantreg: table: EmptyName column=2\n"),
+    (b"y,x\xff\n1,2\n", 1, "quantreg: table: NotUtf8 record=0\n"),
+    (b"y\n1\n\xff\n", 1, "quantreg: table: NotUtf8 record=2\n"),
+    // A fault of the table comes before what the column holds.
+    (b"x,x\n1,2\n", 1, "quantreg: table: DoubleName column=2\n"),
+    (
+        b"y\na\n1,2\n",
+        1,
+        "quantreg: table: Ragged record=2 found=2 wanted=1\n",
+    ),
+    // No column of the name.
+    (b"x\n1\n", 9, "quantreg: build: NotBuilt part=2\n"),
+    (b"Y\n1\n", 9, "quantreg: build: NotBuilt part=2\n"),
+    // A factor, and a number that is too wide.
+    (b"y\n1\na\n", 9, "quantreg: build: NotBuilt part=2\n"),
+    (b"y\n--1\n", 9, "quantreg: build: NotBuilt part=2\n"),
+    (b"y\n2e38\n", 9, "quantreg: build: NotBuilt part=2\n"),
+    // No response.
+    (b"y\n", 9, "quantreg: build: NotBuilt part=2\n"),
+    (b"y,x\nNA,1\n,2\n", 9, "quantreg: build: NotBuilt part=2\n"),
+    // A response that isn't a whole number below 10^9 in size.
+    (b"y\n1.5\n", 9, "quantreg: build: NotBuilt part=2\n"),
+    (b"y\n1\n1.5\n", 9, "quantreg: build: NotBuilt part=2\n"),
+    (b"y\n2/4\n", 9, "quantreg: build: NotBuilt part=2\n"),
+    (b"y\n1000000000\n", 9, "quantreg: build: NotBuilt part=2\n"),
+    (b"y\n-1000000000\n", 9, "quantreg: build: NotBuilt part=2\n"),
+    (b"y\n1e37\n", 9, "quantreg: build: NotBuilt part=2\n"),
+];
+
+#[test]
+fn other_tables_are_told(rt: HostRuntime) -> Result<(), Fail> {
+    for (table, status, line) in &FAULTS {
+        let left = median_of(&rt, rt.alloc(), table)?;
+        assert_refused(&rt, &left, *status, line, line);
+    }
+    Ok(())
+}
+
+// Each case: what stands first, a piece and how often it follows, the exit status, and the line.
+static LARGE: [(&str, &str, usize, u8, &str); 6] = [
+    ("", ",", 1024, 1, "quantreg: table: TooManyColumns\n"),
+    ("", ",", 1023, 1, "quantreg: table: EmptyName column=2\n"),
+    ("y\n", "1\n", 16_385, 1, "quantreg: table: TooManyRows\n"),
+    ("y\n", "1\n", 1001, 9, "quantreg: build: NotBuilt part=2\n"),
+    ("y\n", "1\n", 1000, 0, ""),
+    ("y\n1\n", "NA\n", 16_383, 0, ""),
+];
+
+fn repeated(alloc: Global, first: &str, piece: &str, count: usize) -> Result<String, Fail> {
+    let mut table = String::from_str(alloc, first)?;
+    for _ in 0..count {
+        table.push_str(piece)?;
+    }
+    Ok(table)
+}
+
+#[test]
+fn large_tables_are_read_to_their_limits(rt: HostRuntime) -> Result<(), Fail> {
+    for (first, piece, count, status, line) in &LARGE {
+        let table = repeated(rt.alloc(), first, piece, *count)?;
+        let left = median_of(&rt, rt.alloc(), table.as_bytes())?;
+        assert_eq!(rt; left.status, *status, "{count} {line}");
+        assert_eq!(rt; left.told.as_slice(), line.as_bytes(), "{count}");
+    }
+    Ok(())
+}
