@@ -1,0 +1,4 @@
+pub mod Phases
+pub mod Automaton
+pub mod Laws
+pub mod Shown

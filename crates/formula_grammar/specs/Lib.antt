@@ -1,0 +1,5 @@
+pub mod Numerals
+pub mod Grammar
+pub mod Codes
+pub mod Faults
+pub mod Machine
