@@ -2,3 +2,4 @@ pub mod Phases
 pub mod Automaton
 pub mod Laws
 pub mod Shown
+pub mod Shapes

@@ -53,12 +53,12 @@ items_code (Then j x n (Intercept m)) = items_code j
 items_code (ThenSmooth j n s) = items_code j
 
 -- `+ 1` and `- 0` put the intercept there, `- 1` and `+ 0` take it away
-abbrev pub intercept_by : Sign → Item → Bool → Bool
-intercept_by Plus (Nil n) before = false
-intercept_by Minus (Nil n) before = true
-intercept_by Plus (Intercept n) before = true
-intercept_by Minus (Intercept n) before = false
-intercept_by x (Term p) before = before
+abbrev pub intercept_by : Item → Sign → Bool → Bool
+intercept_by (Nil n) Plus before = false
+intercept_by (Nil n) Minus before = true
+intercept_by (Intercept n) Plus before = true
+intercept_by (Intercept n) Minus before = false
+intercept_by (Term p) x before = before
 
 abbrev pub sign_of : Lead → Sign
 sign_of Bare = Plus
@@ -66,10 +66,10 @@ sign_of (Led x n) = x
 
 -- the intercept is there at first, and the last such item decides
 abbrev pub has_intercept : Items → Bool
-has_intercept (Start l i) = intercept_by (sign_of l) i true
+has_intercept (Start l i) = intercept_by i (sign_of l) true
 has_intercept (StartSmooth s) = true
 has_intercept (StartPlus n s) = true
-has_intercept (Then j x n i) = intercept_by x i (has_intercept j)
+has_intercept (Then j x n i) = intercept_by i x (has_intercept j)
 has_intercept (ThenSmooth j n s) = has_intercept j
 
 abbrev pub smooth_part : Smooth → SmoothPart
