@@ -1,5 +1,6 @@
 pub mod Phases
 pub mod Automaton
-pub mod Laws
+pub mod WholeFormulas
 pub mod Shown
 pub mod Shapes
+pub mod Outcomes

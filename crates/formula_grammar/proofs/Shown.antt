@@ -12,7 +12,7 @@ use Rattle.formula_grammar.specs.declared.token.Kind.TheVariants.{Name, FactorWo
 use Rattle.formula_grammar.specs.declared.token.Token.{Token}
 use Rattle.formula_grammar.specs.Grammar.{token, Lead, Bare, Led, Sum, First, More, Product, One, Times, Inter, Lone, Cross, Power, Plain, Raised, Atom, Leaf, Factor, Dot, Group, Smooth, Item, Nil, Intercept, Term, Items, Start, StartSmooth, StartPlus, Then, ThenSmooth, Head, Formula, lead_tokens, sum_tokens, product_tokens, inter_tokens, power_tokens, atom_tokens, smooth_tokens, item_tokens, items_tokens, head_tokens, formula_tokens, Begins, OneFormula}
 use Rattle.formula_grammar.proofs.Automaton.{Left, Lefts, no_lefts, Front, Leads, After, SmoothFront, Nowhere, BehindPlus, BehindItems, Around, Bottom, Inside, State, Begin, Named, Fresh, Wants, Factor1, Factor2, Factor3, HasAtom, Raising, HasRaised, Smooth1, Smooth2, Smooth3, Smooth4, Smooth5, HasItems, Done, may_smooth, onto_inter, onto_product, product_of, onto_sum, onto_items, onto_smooth, operand, led, item, smooth, fresh, signed, closing, ending, behind, behind_atom, behind_items, if_name, if_open, if_close, if_comma, if_tilde, if_number, if_digits, step_at, step, run}
-use Rattle.formula_grammar.proofs.Laws.{reads_formula}
+use Rattle.formula_grammar.proofs.WholeFormulas.{reads_formula}
 
 -- some place of a name
 abbrev nowhere : Span
@@ -95,7 +95,7 @@ sum_of_shown f l a = sum_shown f (product_of l a) ∙ ap (λ (x : List Token). s
 items_of_shown : (f : Front Items) (l : Lefts) (a : Power) → items_tokens (onto_items f (Term (product_of l a))) ≡ items_front f ++ (product_left l.product ++ (inter_left l.inter ++ power_tokens a))
 items_of_shown f l a = items_shown f (Term (product_of l a)) ∙ ap (λ (x : List Token). items_front f ++ x) (product_of_shown l a)
 
-some_is : {A : Type 0} {x y : A} → Some x ≡ Some y → x ≡ y
+pub some_is : {A : Type 0} {x y : A} → Some x ≡ Some y → x ≡ y
 some_is h = cc
 
 abbrev Shows : State → ℕ → Kind → State → Type 0
@@ -216,7 +216,7 @@ step_shows (HasItems i h) n End s e = ap shown (sym (some_is e)) ∙ simp append
 step_shows (HasItems i h) n k s e = cc
 step_shows (Done f) n k s e = cc
 
-run_append : (s : State) (a b : List Token) → run s (a ++ b) ≡ option_and_then (λ s'. run s' b) (run s a)
+pub run_append : (s : State) (a b : List Token) → run s (a ++ b) ≡ option_and_then (λ s'. run s' b) (run s a)
 run_append s [] b = refl
 run_append s (t ∷ a) b =
     elim (step s t) as (λ q. option_and_then (λ s'. run s' (a ++ b)) q ≡ option_and_then (λ s'. run s' b) (option_and_then (λ s'. run s' a) q))

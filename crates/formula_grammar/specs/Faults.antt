@@ -1,5 +1,5 @@
 -- The formula of some tokens, or their first fault.
-use Rattle.std.specs.Prelude.{◌≡◌, ◌<◌, ◌+◌, ◌-◌, ◌&&◌, ℕ, Bool, nat_le, List, [], ◌∷◌, length, take, slice_index_or, Option, Some, None, if◌then◌else◌}
+use Rattle.std.specs.Prelude.{◌≡◌, ◌⊎◌, ◌++◌, ◌<◌, ◌+◌, ◌-◌, ◌&&◌, ℕ, Bool, nat_le, List, [], ◌∷◌, length, take, slice_index_or, Option, Some, None, if◌then◌else◌}
 use Rattle.formula_grammar.specs.declared.token.Kind.{Kind}
 use Rattle.formula_grammar.specs.declared.token.Kind.TheVariants.{Number, Caret, Open, Close, Comma, End}
 use Rattle.formula_grammar.specs.declared.token.Whole.{Whole}
@@ -88,3 +88,20 @@ pub record IsReading (ts : List Token) (r : Reading) : Type 0 where
 abbrev pub IsFault : List Token → ReadFault → Type 0
 IsFault ts OutOfMemory = Unit {0}
 IsFault ts fault = IsFirstFault ts fault
+
+-- tokens whose last one is the end of a text
+pub record EndText (ts : List Token) : Type 0 where
+  pub front : List Token
+  pub ended : ℕ
+  pub is : ts ≡ front ++ (token End ended ∷ [])
+
+-- tokens have one first fault at most, and none where they are a formula
+abbrev pub OneFault : Type 0
+OneFault = (ts : List Token) (a b : ReadFault) → IsFirstFault ts a → IsFirstFault ts b → a ≡ b
+
+abbrev pub NoFormulaHasFaults : Type 0
+NoFormulaHasFaults = (ts : List Token) (f : Formula) (fault : ReadFault) → IsFormula ts f → IsFirstFault ts fault → ⊥
+
+-- the tokens of a text are a formula or have a first fault
+abbrev pub FormulaOrFault : Type 0
+FormulaOrFault = (ts : List Token) → EndText ts → ((f : Formula) × IsFormula ts f) ⊎ ((fault : ReadFault) × IsFirstFault ts fault)

@@ -1,8 +1,11 @@
-ghost use Rattle.std.specs.Prelude.{◌≡◌, ◌++◌, ◌∷◌, [], true, false, None, IfOk, OnOk};
+ghost use Rattle.std.specs.Prelude.{◌≡◌, ◌++◌, ◌∷◌, [], true, false, None, IfErr, IfOk, OnOk};
 ghost use Rattle.formula_grammar.specs.Codes.{signed_step};
+ghost use Rattle.formula_grammar.specs.Faults.{EndText, IsFault, IsReading};
 ghost use Rattle.formula_grammar.specs.Machine.{atom_read, bare, close_read, end_read, exponent_read, factor_read, first_step, inter_end, intercept_read, item_read, next_phase, opening_read, operand_read, operator_sign, phase_read, power_read, product_end, response_read, sign_read, smooth_end_read, smooth_read, sum_end, token_read, with_sign, Reads};
 
+use crate::fault::ReadFault;
 use crate::levels::{Level, Levels, Operator};
+use crate::limits::Limits;
 use crate::reading::{Reading, SmoothPart, Step};
 use crate::token::{Kind, Numeral, Sign, Span, Token, Whole};
 use frac_core::{List, OutOfMemory};
@@ -453,4 +456,37 @@ impl Reader {
             _ => Ok(self.take_other(at, kind)),
         }
     }
+}
+
+/// Reads the tokens of a text as a formula.
+///
+/// The answer is the code of the one formula that has these tokens, or else their first fault from
+/// left to right: `Syntax` at the first token that no formula can have there, where the end of the
+/// text counts as a token; `TooDeep` at the 65th parenthesis that is open at once; `PowerRange` at
+/// an exponent whose value isn't 1 to 8; `NumberTooWide` at a lambda that `Frac128` doesn't hold.
+/// `OutOfMemory` may come at any token. The reader keeps its own stack: deep or long formulas take
+/// no more of the program's.
+pub fn read(alloc: Global, tokens: &[Token]) -> Result<Reading, ReadFault>
+    requires { EndText tokens.now }
+    ensures read { IfOk result (IsReading tokens.now) }
+    ensures fault { IfErr result (IsFault tokens.now) }
+{
+    let mut reader = Reader::new(alloc);
+    let mut limits = Limits::new();
+    for token in tokens {
+        let can_stand = reader.take(*token)?;
+        if !can_stand {
+            return Err(ReadFault::Syntax { offset: token.at });
+        }
+        match limits.pass(*token) {
+            None => {}
+            Some(fault) => return Err(fault),
+        }
+    }
+    Ok(Reading {
+        response: reader.response,
+        intercept: reader.intercept,
+        steps: reader.steps,
+        smooths: reader.smooths,
+    })
 }
