@@ -4,3 +4,5 @@ pub mod WholeFormulas
 pub mod Shown
 pub mod Shapes
 pub mod Outcomes
+pub mod NumberTexts
+pub mod Lexing

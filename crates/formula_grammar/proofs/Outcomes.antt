@@ -75,7 +75,8 @@ wrong ts i d r r' lt h clean e = record {
   here = (
     held_begins (take i ts) r h,
     λ b. stops_behind (take i ts) (get_or ts i d) r h e (subst Begins (take_more ts i d lt) b),
-    ap (λ (t : Token). t.at) (sym (at_index ts i d lt)));
+    ap (λ (t : Token). t.at) (sym (at_index ts i d lt)),
+  );
   first = clean;
 }
 
@@ -269,12 +270,15 @@ goes_or_stops ts i lt g =
     let more : take (i + 1) ts ≡ take i ts ++ (t ∷ []) = take_more ts i (token End 0) lt in
     let next = run_more (take i ts) t g.state g.is in
     elim (step g.state t) as (λ q. step g.state t ≡ q → Goes ts (i + 1) ⊎ ((fault : ReadFault) × IsFirstFault ts fault)) [
-      | None ↦ λ e. inr (Syntax t.at, record {
+      | None ↦ λ e. inr (
+        Syntax t.at,
+        record {
           index = i;
           there = lt;
           here = (begins (take i ts) g.state g.is, λ b. begins_not (take i ts ++ (t ∷ [])) (next ∙ ap (option_and_then (λ s. Some s)) e) (subst Begins more b), refl);
           first = g.clean;
-        })
+        },
+      )
       | Some s ↦ λ e.
           let is : run Begin (take (i + 1) ts) ≡ Some s = ap (run Begin) more ∙ next ∙ ap (option_and_then (λ s. Some s)) e in
           let b = begins (take (i + 1) ts) s is in

@@ -3,3 +3,5 @@ pub mod Grammar
 pub mod Codes
 pub mod Faults
 pub mod Machine
+pub mod Numbers
+pub mod Tokens
