@@ -17,3 +17,6 @@ pub use lexer::tokens_of;
 pub use reader::read;
 pub use reading::{Reading, SmoothPart, Step};
 pub use token::{Kind, Numeral, Sign, Span, Token, Whole};
+
+#[cfg(test)]
+mod tests;
