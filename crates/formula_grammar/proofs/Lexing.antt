@@ -1,10 +1,9 @@
 -- The tokens of a text, one at a time.
-use Rattle.std.proofs.Common.{◌≡◌, ◌<◌, ◌≤◌, ◌+◌, ◌-◌, ◌==◌, ◌++◌, ◌∷◌, [], ℕ, zero, suc, Bool, true, false, List, length, take, drop, drop-cons, get_or, get_or-drop, subst, position, slice_index, slice_range, add-one, refl, sym, ◌∙◌, ap, append_assoc, arith, length-drop}
+use Rattle.std.proofs.Common.{◌≡◌, ◌<◌, ◌≤◌, ◌+◌, ◌-◌, ◌++◌, ◌∷◌, [], ℕ, zero, suc, true, false, List, length, take, drop, drop-cons, get_or, get_or-drop, subst, position, slice_range, add-one, refl, sym, ◌∙◌, ap, append_assoc, arith, length-drop}
 use Rattle.std.proofs.lemmas.List.{drop-drop, take_all}
-use Rattle.std.proofs.lemmas.Bool.Decides.{nat_tests}
 use Rattle.std.specs.Str.{IsCharBoundary, IsUtf8}
 use Rattle.std.proofs.lemmas.Str.{IsCharBoundary-after_ascii}
-use Rattle.formula_grammar.specs.declared.token.Kind.TheVariants.{Number, End}
+use Rattle.formula_grammar.specs.declared.token.Kind.TheVariants.{Number}
 use Rattle.formula_grammar.specs.declared.token.Numeral.{Numeral}
 use Rattle.formula_grammar.specs.declared.token.Token.{Token}
 use Rattle.formula_grammar.specs.declared.lexer.Lexeme.{Lexeme}

@@ -1,5 +1,5 @@
 -- What a reader holds behind some tokens, and what the next token does.
-use Rattle.std.proofs.Common.{◌≡◌, ◌<◌, ◌≤◌, ◌⊎◌, ℕ, ◌+◌, zero, suc, Bool, true, false, List, [], ◌∷◌, ◌++◌, Option, Some, None, option_map, option_and_then, inl, inr, nat_le, refl, sym, ◌∙◌, ap, append_assoc, append-nil, arith, below_more, cond, get_or, length, length-append, subst, take}
+use Rattle.std.proofs.Common.{◌≡◌, ◌<◌, ◌≤◌, ◌⊎◌, ℕ, ◌+◌, zero, suc, Bool, true, false, List, [], ◌∷◌, ◌++◌, Option, Some, None, option_map, option_and_then, inl, inr, nat_le, refl, sym, ◌∙◌, ap, arith, below_more, cond, get_or, length, subst, take}
 use Rattle.std.proofs.lemmas.List.{get_or_default, take_more, take_all}
 use Rattle.formula_grammar.specs.declared.token.Kind.{Kind}
 use Rattle.formula_grammar.specs.declared.token.Kind.TheVariants.{Number, Caret, Open, Comma, End}
@@ -11,11 +11,10 @@ use Rattle.formula_grammar.specs.declared.fault.ReadFault.TheVariants.{OutOfMemo
 use Rattle.formula_grammar.specs.declared.reading.Reading.{Reading}
 use Rattle.formula_grammar.specs.declared.reader.Reader.{Reader}
 use Rattle.formula_grammar.specs.Numerals.{is_wide}
-use Rattle.formula_grammar.specs.Grammar.{Formula, token, formula_tokens, Begins}
-use Rattle.formula_grammar.specs.Codes.{reading_of}
+use Rattle.formula_grammar.specs.Grammar.{Formula, token, Begins}
 use Rattle.formula_grammar.specs.Faults.{token_at, depth_behind, depth_from, depth, is_power, number_fault, last_from, last_kind, limit_fault, limit_at, IsFaultAt, IsCleanBelow, IsFirstFault, IsFormula, IsReading, IsFault, EndText, OneFault, NoFormulaHasFaults, FormulaOrFault}
 use Rattle.formula_grammar.specs.Machine.{token_read, Reads}
-use Rattle.formula_grammar.proofs.Automaton.{State, Begin, Fresh, Wants, HasAtom, HasRaised, HasItems, Done, Bottom, Inside, step, step_at, run}
+use Rattle.formula_grammar.proofs.Automaton.{State, Begin, Fresh, HasAtom, HasRaised, HasItems, Done, Bottom, Inside, step, step_at, run}
 use Rattle.formula_grammar.proofs.Shown.{begins, begins_not, run_append, reads_only, some_is}
 use Rattle.formula_grammar.proofs.Shapes.{shape, commutes}
 

@@ -1,11 +1,11 @@
 -- The phases whose tokens do nothing but lead to the next one.
-use Rattle.std.proofs.Common.{◌≡◌, ℕ, refl, sym, subst}
-use Rattle.std.specs.Prelude.{Bool, Option}
+use Rattle.std.proofs.Common.{◌≡◌, ℕ, refl}
+use Rattle.std.specs.Prelude.{Bool}
 use Rattle.formula_grammar.specs.declared.token.Span.{Span}
 use Rattle.formula_grammar.specs.declared.token.Kind.{Kind}
 use Rattle.formula_grammar.specs.declared.reading.SmoothPart.{SmoothPart}
 use Rattle.formula_grammar.specs.declared.reader.Phase.{Phase}
-use Rattle.formula_grammar.specs.declared.reader.Phase.TheVariants.{Response, BeforeTilde, Opening, Operand, FactorOpen, FactorName, FactorClose, BehindAtom, Exponent, BehindPower, SmoothOpen, SmoothName, SmoothComma, SmoothLambda, SmoothClose, BehindItem, Ended}
+use Rattle.formula_grammar.specs.declared.reader.Phase.TheVariants.{Response, Opening, Operand, FactorClose, BehindAtom, Exponent, BehindPower, SmoothClose, BehindItem}
 use Rattle.formula_grammar.specs.declared.reader.Reader.{Reader}
 use Rattle.formula_grammar.specs.Machine.{phase_read, next_phase, read_in, Reads}
 

@@ -4,25 +4,23 @@ use Rattle.std.proofs.lemmas.Bool.Decides.{nat_tests}
 use Rattle.formula_grammar.specs.declared.token.Span.{Span}
 use Rattle.formula_grammar.specs.declared.token.Sign.{Sign}
 use Rattle.formula_grammar.specs.declared.token.Sign.TheVariants.{Plus, Minus}
-use Rattle.formula_grammar.specs.declared.token.Whole.{Whole}
-use Rattle.formula_grammar.specs.declared.token.Whole.TheVariants.{Zero, Unity, Longer}
+use Rattle.formula_grammar.specs.declared.token.Whole.TheVariants.{Zero, Unity}
 use Rattle.formula_grammar.specs.declared.token.Numeral.{Numeral}
-use Rattle.formula_grammar.specs.declared.token.Numeral.TheVariants.{Digits, Written}
+use Rattle.formula_grammar.specs.declared.token.Numeral.TheVariants.{Digits}
 use Rattle.formula_grammar.specs.declared.token.Kind.{Kind}
-use Rattle.formula_grammar.specs.declared.token.Kind.TheVariants.{Name, FactorWord, QssWord, Number, Signed, Tilde, Star, Colon, Caret, Open, Close, Comma, Point, End, Stray}
-use Rattle.formula_grammar.specs.declared.token.Token.{Token}
+use Rattle.formula_grammar.specs.declared.token.Kind.TheVariants.{Name, FactorWord, QssWord, Number, Signed, Tilde, Star, Colon, Caret, Open, Close, Comma, Point, End}
 use Rattle.formula_grammar.specs.declared.reading.Step.{Step}
-use Rattle.formula_grammar.specs.declared.reading.Step.TheVariants.{Load, LoadAll, Nothing, Add, Remove, Multiply, Interact, Raise}
+use Rattle.formula_grammar.specs.declared.reading.Step.TheVariants.{Load, LoadAll, Nothing, Multiply, Interact}
 use Rattle.formula_grammar.specs.declared.reading.SmoothPart.{SmoothPart}
 use Rattle.formula_grammar.specs.declared.levels.Operator.{Operator}
 use Rattle.formula_grammar.specs.declared.levels.Level.{Level}
 use Rattle.formula_grammar.specs.declared.reader.Phase.{Phase}
 use Rattle.formula_grammar.specs.declared.reader.Phase.TheVariants.{Response, BeforeTilde, Opening, Operand, FactorOpen, FactorName, FactorClose, BehindAtom, Exponent, BehindPower, SmoothOpen, SmoothName, SmoothComma, SmoothLambda, SmoothClose, BehindItem, Ended}
 use Rattle.formula_grammar.specs.declared.reader.Reader.{Reader}
-use Rattle.formula_grammar.specs.Grammar.{token, Lead, Bare, Led, Sum, First, More, Product, One, Times, Inter, Lone, Cross, Power, Plain, Raised, Atom, Leaf, Factor, Dot, Group, Smooth, Item, Nil, Intercept, Term, Items, Start, StartSmooth, StartPlus, Then, ThenSmooth, Head, Formula}
-use Rattle.formula_grammar.specs.Codes.{signed_step, sum_code, product_code, inter_code, power_code, atom_code, items_code, intercept_by, sign_of, has_intercept, smooth_part, smooths_of}
-use Rattle.formula_grammar.specs.Machine.{step_of, sum_step, inter_end, product_end, sum_end, bare, first_step, operator_sign, with_sign, operand_read, sign_read, intercept_read, smooth_read, opening_read, close_read, end_read, power_read, atom_read, item_read, exponent_read, response_read, factor_read, smooth_end_read, next_phase, phase_read, read_in, token_read}
-use Rattle.formula_grammar.proofs.Automaton.{Left, Lefts, no_lefts, Front, Leads, After, SmoothFront, Nowhere, BehindPlus, BehindItems, Around, Bottom, Inside, State, Begin, Named, Fresh, Wants, Factor1, Factor2, Factor3, HasAtom, Raising, HasRaised, Smooth1, Smooth2, Smooth3, Smooth4, Smooth5, HasItems, Done, may_smooth, onto_inter, onto_product, product_of, onto_sum, onto_items, onto_smooth, operand, led, item, smooth, fresh, signed, closing, ending, behind, behind_atom, behind_items, if_name, if_open, if_close, if_comma, if_tilde, if_number, if_digits, step_at}
+use Rattle.formula_grammar.specs.Grammar.{token, Bare, Led, Sum, Product, Inter, Power, Plain, Raised, Atom, Group, Nil, Intercept, Term, Items, Then, Head}
+use Rattle.formula_grammar.specs.Codes.{sum_code, product_code, inter_code, power_code, atom_code, items_code, has_intercept, smooths_of}
+use Rattle.formula_grammar.specs.Machine.{step_of, sum_step, inter_end, sum_end, bare, operand_read, sign_read, intercept_read, smooth_read, power_read, token_read}
+use Rattle.formula_grammar.proofs.Automaton.{Left, Lefts, no_lefts, Front, Leads, After, SmoothFront, Nowhere, BehindPlus, BehindItems, Around, Bottom, Inside, State, Begin, Named, Fresh, Wants, Factor1, Factor2, Factor3, HasAtom, Raising, HasRaised, Smooth1, Smooth2, Smooth3, Smooth4, Smooth5, HasItems, Done, onto_inter, onto_product, product_of, onto_sum, onto_items, led, item, smooth, behind, step_at}
 
 abbrev place_of : {T : Type 0} → Option (Left T) → Option ℕ
 place_of None = None

@@ -1,17 +1,12 @@
 -- Every formula is read.
-use Rattle.std.proofs.Common.{◌≡◌, ◌<◌, ℕ, ◌+◌, List, [], ◌∷◌, ◌++◌, Option, Some, None, option_and_then, refl, sym, ◌∙◌, ap, append_assoc, append-nil}
-use Rattle.formula_grammar.specs.declared.token.Span.{Span}
+use Rattle.std.proofs.Common.{◌≡◌, ℕ, List, [], ◌∷◌, ◌++◌, Option, Some, None, option_and_then, refl, sym, ◌∙◌, ap, append_assoc}
 use Rattle.formula_grammar.specs.declared.token.Sign.{Sign}
-use Rattle.formula_grammar.specs.declared.token.Sign.TheVariants.{Plus, Minus}
-use Rattle.formula_grammar.specs.declared.token.Whole.{Whole}
-use Rattle.formula_grammar.specs.declared.token.Whole.TheVariants.{Zero, Unity, Longer}
-use Rattle.formula_grammar.specs.declared.token.Numeral.{Numeral}
-use Rattle.formula_grammar.specs.declared.token.Numeral.TheVariants.{Digits, Written}
-use Rattle.formula_grammar.specs.declared.token.Kind.{Kind}
-use Rattle.formula_grammar.specs.declared.token.Kind.TheVariants.{Name, FactorWord, QssWord, Number, Signed, Tilde, Star, Colon, Caret, Open, Close, Comma, Point, End, Stray}
+use Rattle.formula_grammar.specs.declared.token.Sign.TheVariants.{Plus}
+use Rattle.formula_grammar.specs.declared.token.Numeral.TheVariants.{Digits}
+use Rattle.formula_grammar.specs.declared.token.Kind.TheVariants.{Number, Signed, Star, Colon, Caret, Close, End}
 use Rattle.formula_grammar.specs.declared.token.Token.{Token}
-use Rattle.formula_grammar.specs.Grammar.{token, Lead, Bare, Led, Sum, First, More, Product, One, Times, Inter, Lone, Cross, Power, Plain, Raised, Atom, Leaf, Factor, Dot, Group, Smooth, Item, Nil, Intercept, Term, Items, Start, StartSmooth, StartPlus, Then, ThenSmooth, Head, Formula, lead_tokens, sum_tokens, product_tokens, inter_tokens, power_tokens, atom_tokens, smooth_tokens, item_tokens, items_tokens, head_tokens, formula_tokens, Begins, OneFormula}
-use Rattle.formula_grammar.proofs.Automaton.{Left, Lefts, no_lefts, Front, Leads, After, SmoothFront, Nowhere, BehindPlus, BehindItems, Around, Bottom, Inside, State, Begin, Named, Fresh, Wants, Factor1, Factor2, Factor3, HasAtom, Raising, HasRaised, Smooth1, Smooth2, Smooth3, Smooth4, Smooth5, HasItems, Done, onto_inter, onto_product, product_of, onto_sum, onto_items, onto_smooth, operand, led, item, smooth, fresh, signed, closing, ending, behind, behind_atom, behind_items, if_name, if_open, if_close, if_comma, if_tilde, if_number, if_digits, step_at, step, run}
+use Rattle.formula_grammar.specs.Grammar.{token, Bare, Led, Sum, First, More, Product, One, Times, Inter, Lone, Cross, Power, Plain, Raised, Atom, Leaf, Factor, Dot, Group, Item, Nil, Intercept, Term, Items, Start, StartSmooth, StartPlus, Then, ThenSmooth, Head, Formula, sum_tokens, product_tokens, inter_tokens, power_tokens, atom_tokens, smooth_tokens, item_tokens, items_tokens, formula_tokens, OneFormula}
+use Rattle.formula_grammar.proofs.Automaton.{Left, Lefts, no_lefts, Front, Leads, After, Around, Bottom, Inside, State, Begin, Fresh, Wants, HasAtom, HasRaised, HasItems, Done, onto_inter, onto_product, product_of, onto_sum, onto_items, signed, closing, ending, run}
 
 abbrev last_inter : Inter → Power
 last_inter (Lone a) = a

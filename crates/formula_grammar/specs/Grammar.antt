@@ -10,7 +10,7 @@
 use Rattle.std.specs.Prelude.{◌≡◌, ℕ, List, [], ◌∷◌, ◌++◌}
 use Rattle.formula_grammar.specs.declared.token.Span.{Span}
 use Rattle.formula_grammar.specs.declared.token.Sign.{Sign}
-use Rattle.formula_grammar.specs.declared.token.Sign.TheVariants.{Plus, Minus}
+use Rattle.formula_grammar.specs.declared.token.Sign.TheVariants.{Plus}
 use Rattle.formula_grammar.specs.declared.token.Whole.{Whole}
 use Rattle.formula_grammar.specs.declared.token.Whole.TheVariants.{Zero, Unity}
 use Rattle.formula_grammar.specs.declared.token.Numeral.{Numeral}

@@ -1,11 +1,9 @@
 -- What a token does to a half read formula: the formula then, or none where it can't stand there.
-use Rattle.std.specs.Prelude.{◌≡◌, ℕ, ◌==◌, Bool, true, false, not, List, [], ◌∷◌, ◌++◌, length, Option, Some, None, option_map, if◌then◌else◌}
+use Rattle.std.specs.Prelude.{◌≡◌, ℕ, ◌==◌, Bool, true, false, not, List, [], ◌∷◌, ◌++◌, length, Option, Some, None, if◌then◌else◌}
 use Rattle.formula_grammar.specs.declared.token.Span.{Span}
 use Rattle.formula_grammar.specs.declared.token.Sign.{Sign}
 use Rattle.formula_grammar.specs.declared.token.Sign.TheVariants.{Plus, Minus}
-use Rattle.formula_grammar.specs.declared.token.Whole.{Whole}
 use Rattle.formula_grammar.specs.declared.token.Whole.TheVariants.{Zero, Unity}
-use Rattle.formula_grammar.specs.declared.token.Numeral.{Numeral}
 use Rattle.formula_grammar.specs.declared.token.Numeral.TheVariants.{Digits}
 use Rattle.formula_grammar.specs.declared.token.Kind.{Kind}
 use Rattle.formula_grammar.specs.declared.token.Kind.TheVariants.{Name, FactorWord, QssWord, Number, Signed, Tilde, Star, Colon, Caret, Open, Close, Comma, Point, End}

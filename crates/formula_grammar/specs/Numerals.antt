@@ -1,5 +1,5 @@
 -- What the number of a token says.
-use Rattle.std.specs.Prelude.{ℕ, Bool, true, false}
+use Rattle.std.specs.Prelude.{ℕ, Bool, false}
 use Rattle.formula_grammar.specs.declared.token.Whole.{Whole}
 use Rattle.formula_grammar.specs.declared.token.Whole.TheVariants.{Zero, Unity, Longer}
 use Rattle.formula_grammar.specs.declared.token.Numeral.{Numeral}

@@ -1,6 +1,4 @@
-use Rattle.std.proofs.Common.{arith, length, sym, ◌∙◌, ◌≡◌, ◌≤◌, ◌+◌}
-use Rattle.formula_grammar.specs.declared.lexer.Lexeme.{Lexeme}
-use Rattle.formula_grammar.specs.Tokens.{lexeme}
+use Rattle.std.proofs.Common.{arith, sym, ◌∙◌}
 use Rattle.formula_grammar.proofs.Lexing.{nothing_yet, token_here}
 use Rattle.formula_grammar.proofs.lexer.tokens_of.Goals as goal
 

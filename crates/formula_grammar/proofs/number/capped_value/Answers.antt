@@ -1,4 +1,4 @@
-use Rattle.std.proofs.Common.{◌≡◌, ◌<◌, ◌+◌, ◌-◌, ◌*◌, ◌∙◌, arith, drop, get_or, sym}
+use Rattle.std.proofs.Common.{◌<◌, ◌+◌, ◌-◌, ◌*◌, ◌∙◌, arith, drop, get_or, sym}
 use Rattle.formula_grammar.proofs.NumberTexts.{digit_at, over_cap}
 use Rattle.formula_grammar.proofs.number.capped_value.Goals as goal
 

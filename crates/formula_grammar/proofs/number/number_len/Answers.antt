@@ -1,5 +1,4 @@
-use Rattle.std.proofs.Common.{◌≡◌, ◌≤◌, ◌∙◌, arith, length, sym, Some, None, true, false}
-use Rattle.formula_grammar.specs.Numbers.{is_whole}
+use Rattle.std.proofs.Common.{◌≡◌, ◌∙◌, arith, length, sym, Some, None}
 use Rattle.formula_grammar.proofs.NumberTexts.{at_the_end, last_ascii, longer, not_longer, part_more, stopped}
 use Rattle.formula_grammar.proofs.number.number_len.Goals as goal
 use Rattle.formula_grammar.proofs.number.number_len.Goals.{then-is_whole, else-is_whole}

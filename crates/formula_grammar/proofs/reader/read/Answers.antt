@@ -1,4 +1,4 @@
-use Rattle.std.proofs.Common.{◌≤◌, arith, ap, lit≤, sym}
+use Rattle.std.proofs.Common.{ap, lit≤}
 use Rattle.formula_grammar.proofs.Outcomes.{clean_next, clean_none, depth_next, first_is_fault, goes, last_next, nothing_held, passed, reading_held, wrong}
 use Rattle.formula_grammar.proofs.reader.read.Goals as goal
 
