@@ -1,0 +1,207 @@
+-- Reading tokens one by one: what has been read of a formula as partial trees, and what comes of the next token.
+use Rattle.std.specs.Prelude.{ℕ, List, [], ◌∷◌, Option, Some, None, option_and_then}
+use Rattle.formula_grammar.specs.declared.token.Span.{Span}
+use Rattle.formula_grammar.specs.declared.token.Sign.{Sign}
+use Rattle.formula_grammar.specs.declared.token.Sign.TheVariants.{Plus, Minus}
+use Rattle.formula_grammar.specs.declared.token.Whole.{Whole}
+use Rattle.formula_grammar.specs.declared.token.Whole.TheVariants.{Zero, Unity}
+use Rattle.formula_grammar.specs.declared.token.Numeral.{Numeral}
+use Rattle.formula_grammar.specs.declared.token.Numeral.TheVariants.{Digits}
+use Rattle.formula_grammar.specs.declared.token.Kind.{Kind}
+use Rattle.formula_grammar.specs.declared.token.Kind.TheVariants.{Name, FactorWord, QssWord, Number, Signed, Tilde, Star, Colon, Caret, Open, Close, Comma, Point, End}
+use Rattle.formula_grammar.specs.declared.token.Token.{Token}
+use Rattle.formula_grammar.specs.Grammar.{Lead, Bare, Led, Sum, First, More, Product, One, Times, Inter, Lone, Cross, Power, Plain, Raised, Atom, Leaf, Factor, Dot, Group, Smooth, Item, Nil, Intercept, Term, Items, Start, StartSmooth, StartPlus, Then, ThenSmooth, Head, Formula}
+
+-- a left operand and the place of its operator
+pub record Left (T : Type 0) : Type 0 where
+  pub tree : T
+  pub place : ℕ
+
+pub record Lefts : Type 0 where
+  pub product : Option (Left Product)
+  pub inter : Option (Left Inter)
+
+abbrev pub no_lefts : Lefts
+no_lefts = record { product = None; inter = None }
+
+-- what stands before the part to come
+pub data Front (T : Type 0) : Type 0 where
+  Leads : (lead : Lead) → Front T
+  After : (left : T) (sign : Sign) (place : ℕ) → Front T
+
+-- what may stand before a smooth
+pub data SmoothFront : Type 0 where
+  Nowhere : SmoothFront
+  BehindPlus : (place : ℕ) → SmoothFront
+  BehindItems : (left : Items) (place : ℕ) → SmoothFront
+
+-- what is open around the product to come
+pub data Around : Type 0 where
+  Bottom : (head : Head) (front : Front Items) → Around
+  Inside : (front : Front Sum) (opened : ℕ) (lefts : Lefts) (outer : Around) → Around
+
+pub data State : Type 0 where
+  Begin : State
+  Named : (name : Span) (place : ℕ) → State
+  -- a product, or a sign or an item where the front lets one stand
+  Fresh : (around : Around) → State
+  -- an operand
+  Wants : (lefts : Lefts) (around : Around) → State
+  Factor1 : (word : ℕ) (lefts : Lefts) (around : Around) → State
+  Factor2 : (word opened : ℕ) (lefts : Lefts) (around : Around) → State
+  Factor3 : (word opened : ℕ) (name : Span) (place : ℕ) (lefts : Lefts) (around : Around) → State
+  HasAtom : (atom : Atom) (lefts : Lefts) (around : Around) → State
+  Raising : (atom : Atom) (caret : ℕ) (lefts : Lefts) (around : Around) → State
+  HasRaised : (atom : Atom) (caret : ℕ) (exponent : Whole) (at : ℕ) (lefts : Lefts) (around : Around) → State
+  Smooth1 : (word : ℕ) (head : Head) (front : SmoothFront) → State
+  Smooth2 : (word opened : ℕ) (head : Head) (front : SmoothFront) → State
+  Smooth3 : (word opened : ℕ) (name : Span) (place : ℕ) (head : Head) (front : SmoothFront) → State
+  Smooth4 : (word opened : ℕ) (name : Span) (place comma : ℕ) (head : Head) (front : SmoothFront) → State
+  Smooth5 : (word opened : ℕ) (name : Span) (place comma : ℕ) (lambda : Numeral) (at : ℕ) (head : Head) (front : SmoothFront) → State
+  HasItems : (items : Items) (head : Head) → State
+  Done : (formula : Formula) → State
+
+abbrev pub onto_inter : Option (Left Inter) → Power → Inter
+onto_inter None a = Lone a
+onto_inter (Some l) a = Cross l.tree l.place a
+
+abbrev pub onto_product : Option (Left Product) → Inter → Product
+onto_product None i = One i
+onto_product (Some l) i = Times l.tree l.place i
+
+abbrev pub product_of : Lefts → Power → Product
+product_of l a = onto_product l.product (onto_inter l.inter a)
+
+abbrev pub onto_sum : Front Sum → Product → Sum
+onto_sum (Leads l) p = First l p
+onto_sum (After s x n) p = More s x n p
+
+abbrev pub onto_items : Front Items → Item → Items
+onto_items (Leads l) i = Start l i
+onto_items (After j x n) i = Then j x n i
+
+abbrev pub onto_smooth : SmoothFront → Smooth → Items
+onto_smooth Nowhere s = StartSmooth s
+onto_smooth (BehindPlus n) s = StartPlus n s
+onto_smooth (BehindItems j n) s = ThenSmooth j n s
+
+-- a smooth never follows a minus
+abbrev pub may_smooth : Front Items → ℕ → Head → Option State
+may_smooth (Leads Bare) n h = Some (Smooth1 n h Nowhere)
+may_smooth (Leads (Led Plus k)) n h = Some (Smooth1 n h (BehindPlus k))
+may_smooth (Leads (Led Minus k)) n h = None
+may_smooth (After j Plus k) n h = Some (Smooth1 n h (BehindItems j k))
+may_smooth (After j Minus k) n h = None
+
+abbrev pub operand : Lefts → Around → ℕ → Kind → Option State
+operand l o n (Name x) = Some (HasAtom (Leaf x n) l o)
+operand l o n Point = Some (HasAtom (Dot n) l o)
+operand l o n FactorWord = Some (Factor1 n l o)
+operand l o n Open = Some (Fresh (Inside (Leads Bare) n l o))
+operand l o n k = None
+
+abbrev pub led : Around → Sign → ℕ → Option State
+led (Bottom h (Leads Bare)) x n = Some (Fresh (Bottom h (Leads (Led x n))))
+led (Inside (Leads Bare) p l o) x n = Some (Fresh (Inside (Leads (Led x n)) p l o))
+led o x n = None
+
+abbrev pub item : Around → ℕ → Item → Option State
+item (Bottom h f) n i = Some (HasItems (onto_items f i) h)
+item (Inside f p l o) n i = None
+
+abbrev pub smooth : Around → ℕ → Option State
+smooth (Bottom h f) n = may_smooth f n h
+smooth (Inside f p l o) n = None
+
+abbrev pub fresh : Around → ℕ → Kind → Option State
+fresh o n (Signed x) = led o x n
+fresh o n (Number (Digits Zero)) = item o n (Nil n)
+fresh o n (Number (Digits Unity)) = item o n (Intercept n)
+fresh o n QssWord = smooth o n
+fresh o n k = operand no_lefts o n k
+
+abbrev pub signed : Product → Around → Sign → ℕ → State
+signed p (Bottom h f) x n = Fresh (Bottom h (After (onto_items f (Term p)) x n))
+signed p (Inside f m l o) x n = Fresh (Inside (After (onto_sum f p) x n) m l o)
+
+abbrev pub closing : Product → Around → ℕ → Option State
+closing p (Bottom h f) n = None
+closing p (Inside f m l o) n = Some (HasAtom (Group m (onto_sum f p) n) l o)
+
+abbrev pub ending : Product → Around → ℕ → Option State
+ending p (Bottom h f) n = Some (Done (record { head = h; items = onto_items f (Term p); ended = n }))
+ending p (Inside f m l o) n = None
+
+-- behind a power
+abbrev pub behind : Power → Lefts → Around → ℕ → Kind → Option State
+behind p l o n Colon = Some (Wants (record { product = l.product; inter = Some (record { tree = onto_inter l.inter p; place = n }) }) o)
+behind p l o n Star = Some (Wants (record { product = Some (record { tree = product_of l p; place = n }); inter = None }) o)
+behind p l o n (Signed x) = Some (signed (product_of l p) o x n)
+behind p l o n Close = closing (product_of l p) o n
+behind p l o n End = ending (product_of l p) o n
+behind p l o n k = None
+
+abbrev pub behind_atom : Atom → Lefts → Around → ℕ → Kind → Option State
+behind_atom a l o n Caret = Some (Raising a n l o)
+behind_atom a l o n k = behind (Plain a) l o n k
+
+abbrev pub behind_items : Items → Head → ℕ → Kind → Option State
+behind_items i h n (Signed x) = Some (Fresh (Bottom h (After i x n)))
+behind_items i h n End = Some (Done (record { head = h; items = i; ended = n }))
+behind_items i h n k = None
+
+-- a token of one kind alone
+abbrev pub if_name : Kind → (Span → State) → Option State
+if_name (Name x) go = Some (go x)
+if_name k go = None
+
+abbrev pub if_open : Kind → State → Option State
+if_open Open s = Some s
+if_open k s = None
+
+abbrev pub if_close : Kind → Option State → Option State
+if_close Close s = s
+if_close k s = None
+
+abbrev pub if_comma : Kind → State → Option State
+if_comma Comma s = Some s
+if_comma k s = None
+
+abbrev pub if_tilde : Kind → State → Option State
+if_tilde Tilde s = Some s
+if_tilde k s = None
+
+abbrev pub if_number : Kind → (Numeral → State) → Option State
+if_number (Number x) go = Some (go x)
+if_number k go = None
+
+abbrev pub if_digits : Kind → (Whole → State) → Option State
+if_digits (Number (Digits x)) go = Some (go x)
+if_digits k go = None
+
+abbrev pub step_at : State → ℕ → Kind → Option State
+step_at Begin n k = if_name k (λ x. Named x n)
+step_at (Named x m) n k = if_tilde k (Fresh (Bottom (record { response = x; place = m; tilde = n }) (Leads Bare)))
+step_at (Fresh o) n k = fresh o n k
+step_at (Wants l o) n k = operand l o n k
+step_at (Factor1 w l o) n k = if_open k (Factor2 w n l o)
+step_at (Factor2 w p l o) n k = if_name k (λ x. Factor3 w p x n l o)
+step_at (Factor3 w p x m l o) n k = if_close k (Some (HasAtom (Factor w p x m n) l o))
+step_at (HasAtom a l o) n k = behind_atom a l o n k
+step_at (Raising a c l o) n k = if_digits k (λ e. HasRaised a c e n l o)
+step_at (HasRaised a c e m l o) n k = behind (Raised a c e m) l o n k
+step_at (Smooth1 w h f) n k = if_open k (Smooth2 w n h f)
+step_at (Smooth2 w p h f) n k = if_name k (λ x. Smooth3 w p x n h f)
+step_at (Smooth3 w p x m h f) n k = if_comma k (Smooth4 w p x m n h f)
+step_at (Smooth4 w p x m c h f) n k = if_number k (λ v. Smooth5 w p x m c v n h f)
+step_at (Smooth5 w p x m c v q h f) n k =
+    if_close k (Some (HasItems (onto_smooth f (record { word = w; opened = p; name = x; place = m; comma = c; lambda = v; at = q; closed = n })) h))
+step_at (HasItems i h) n k = behind_items i h n k
+step_at (Done f) n k = None
+
+abbrev pub step : State → Token → Option State
+step s t = step_at s t.at t.kind
+
+abbrev pub run : State → List Token → Option State
+run s [] = Some s
+run s (t ∷ ts) = option_and_then (λ s'. run s' ts) (step s t)

@@ -1,0 +1,135 @@
+-- The tokens of a text, one at a time.
+use Rattle.std.proofs.Common.{◌≡◌, ◌<◌, ◌≤◌, ◌+◌, ◌-◌, ◌++◌, ◌∷◌, [], ℕ, zero, suc, true, false, List, length, take, drop, drop-cons, get_or, get_or-drop, subst, position, slice_range, add-one, refl, sym, ◌∙◌, ap, append_assoc, arith, length-drop}
+use Rattle.std.proofs.lemmas.List.{drop-drop, take_all}
+use Rattle.std.specs.Str.{IsCharBoundary, IsUtf8}
+use Rattle.std.proofs.lemmas.Str.{IsCharBoundary-after_ascii}
+use Rattle.formula_grammar.specs.declared.token.Kind.TheVariants.{Number}
+use Rattle.formula_grammar.specs.declared.token.Numeral.{Numeral}
+use Rattle.formula_grammar.specs.declared.token.Token.{Token}
+use Rattle.formula_grammar.specs.declared.lexer.Lexeme.{Lexeme}
+use Rattle.formula_grammar.specs.Numbers.{number_len, numeral_of}
+use Rattle.formula_grammar.proofs.NumberTexts.{some_number}
+use Rattle.formula_grammar.specs.Tokens.{begins_name, begins_number, is_backtick, is_blank, lexeme, number_lexeme, quoted_to, tokens, tokens_from}
+
+-- a slice to the end of a text
+pub to_the_end : (bs : List ℕ) (i : ℕ) → i ≤ length bs → take (length bs - i) (drop i bs) ≡ drop i bs
+to_the_end bs i h = take_all (length bs - i) (drop i bs) (omega (arith, length-drop i bs))
+
+pub first_and_rest : (bs : List ℕ) (i : ℕ) → i < length bs → drop i bs ≡ get_or bs i 0 ∷ drop (i + 1) bs
+first_and_rest bs i lt = drop-cons bs i 0 lt ∙ ap (λ (n : ℕ). get_or bs i 0 ∷ drop n bs) (sym (add-one i))
+
+-- a text may be cut behind a number, whose last byte is ASCII
+pub boundary_behind : (text : List ℕ) (at n : ℕ) → IsUtf8 text → at + n ≤ length text → 1 ≤ n → get_or (drop at text) (n - 1) 0 < 128 → IsCharBoundary text (at + n)
+boundary_behind text at n whole le some ascii =
+    let last : at + n - 1 + 1 ≡ at + n = omega arith in
+    let place : at + (n - 1) ≡ at + n - 1 = omega arith in
+    let low : get_or text (at + n - 1) 0 < 128 = rw (← place, ← get_or-drop) ascii in
+    rw last at (IsCharBoundary-after_ascii text (at + n - 1) whole (omega arith) low)
+
+pub quoted_lexeme : (at b : ℕ) (bs : List ℕ) (l : Lexeme) → begins_name b bs ≡ false → begins_number b bs ≡ false → b ≡ 96 → l ≡ quoted_to at (position is_backtick bs) → l ≡ lexeme at b bs
+quoted_lexeme at b bs l name number quote e =
+    let test : is_backtick b ≡ true = rw quote refl in
+    rw (name, number, test) e
+
+-- what is known of a number at a place
+pub record IsNumberHere (text : List ℕ) (at n : ℕ) : Type 0 where
+  pub some : 1 ≤ n
+  pub cut : IsCharBoundary text (at + n)
+
+-- a slice from a place on
+abbrev pub from : List ℕ → ℕ → List ℕ
+from bs i = take (length bs - i) (drop i bs)
+
+number_of_text : (text : List ℕ) (at n : ℕ) → IsUtf8 text → at < length text → n ≡ number_len (from text at) → n ≤ length (from text at)
+    → (0 < n → get_or (from text at) (n - 1) 0 < 128) → begins_number (get_or text at 0) (from text (at + 1)) ≡ true → IsNumberHere text at n
+number_of_text text at n whole lt is within ascii begins =
+    let here : from text at ≡ drop at text = to_the_end text at (omega arith) in
+    let rest : from text (at + 1) ≡ drop (at + 1) text = to_the_end text (at + 1) (omega arith) in
+    let some : 1 ≤ number_len (get_or text at 0 ∷ drop (at + 1) text) = some_number (get_or text at 0) (drop (at + 1) text) (ap (begins_number (get_or text at 0)) (sym rest) ∙ begins) in
+    let len : n ≡ number_len (get_or text at 0 ∷ drop (at + 1) text) = is ∙ ap number_len (here ∙ first_and_rest text at lt) in
+    let positive : 1 ≤ n = rw len some in
+    let low : get_or (drop at text) (n - 1) 0 < 128 = rw here at (ascii positive) in
+    record { some = positive; cut = boundary_behind text at n whole (omega (arith, ap length here, length-drop at text, within)) positive low }
+
+pub number_here : (text bytes : List ℕ) (at n : ℕ) → bytes ≡ text → IsUtf8 text → at < length text → n ≡ number_len (from bytes at) → n ≤ length (from bytes at)
+    → (0 < n → get_or (from bytes at) (n - 1) 0 < 128) → begins_number (get_or bytes at 0) (from bytes (at + 1)) ≡ true → IsNumberHere text at n
+number_here text bytes at n e whole lt =
+    let P : List ℕ → Type 0 = λ bs. n ≡ number_len (from bs at) → n ≤ length (from bs at)
+    → (0 < n → get_or (from bs at) (n - 1) 0 < 128) → begins_number (get_or bs at 0) (from bs (at + 1)) ≡ true → IsNumberHere text at n in
+    subst P (sym e) (number_of_text text at n whole lt)
+
+pub quote_here : (text bytes : List ℕ) (at : ℕ) (l : Lexeme) → bytes ≡ text → at < length text → begins_name (get_or bytes at 0) (from bytes (at + 1)) ≡ false
+    → begins_number (get_or bytes at 0) (from bytes (at + 1)) ≡ false → get_or bytes at 0 ≡ 96 → l ≡ quoted_to at (position is_backtick (from bytes (at + 1)))
+    → l ≡ lexeme at (get_or text at 0) (drop (at + 1) text)
+quote_here text bytes at l e lt =
+    let P : List ℕ → Type 0 = λ bs. begins_name (get_or bs at 0) (from bs (at + 1)) ≡ false
+    → begins_number (get_or bs at 0) (from bs (at + 1)) ≡ false → get_or bs at 0 ≡ 96 → l ≡ quoted_to at (position is_backtick (from bs (at + 1)))
+    → l ≡ lexeme at (get_or text at 0) (drop (at + 1) text) in
+    let Q : List ℕ → Type 0 = λ rest. begins_name (get_or text at 0) rest ≡ false
+    → begins_number (get_or text at 0) rest ≡ false → get_or text at 0 ≡ 96 → l ≡ quoted_to at (position is_backtick rest)
+    → l ≡ lexeme at (get_or text at 0) (drop (at + 1) text) in
+    subst P (sym e) (subst Q (sym (to_the_end text (at + 1) (omega arith))) (quoted_lexeme at (get_or text at 0) (drop (at + 1) text) l))
+
+number_lexeme_of : (text : List ℕ) (at n : ℕ) (v : Numeral) → at < length text → begins_name (get_or text at 0) (from text (at + 1)) ≡ false → begins_number (get_or text at 0) (from text (at + 1)) ≡ true
+    → n ≡ number_len (from text at) → v ≡ numeral_of (take n (drop at text))
+    → (let l : Lexeme = record { kind = Number v; len = n } in l) ≡ lexeme at (get_or text at 0) (drop (at + 1) text)
+number_lexeme_of text at n v lt name number is value =
+    let b = get_or text at 0 in
+    let rest : from text (at + 1) ≡ drop (at + 1) text = to_the_end text (at + 1) (omega arith) in
+    let here : from text at ≡ b ∷ drop (at + 1) text = to_the_end text at (omega arith) ∙ first_and_rest text at lt in
+    let no_name : begins_name b (drop (at + 1) text) ≡ false = ap (begins_name b) (sym rest) ∙ name in
+    let a_number : begins_number b (drop (at + 1) text) ≡ true = ap (begins_number b) (sym rest) ∙ number in
+    let len : n ≡ number_len (b ∷ drop (at + 1) text) = is ∙ ap number_len here in
+    let same : v ≡ numeral_of (take n (b ∷ drop (at + 1) text)) = value ∙ ap (λ (x : List ℕ). numeral_of (take n x)) (first_and_rest text at lt) in
+    let made : (let l : Lexeme = record { kind = Number v; len = n } in l) ≡ number_lexeme n (b ∷ drop (at + 1) text) = ap (λ (x : Numeral). let l : Lexeme = record { kind = Number x; len = n } in l) same in
+    rw (no_name, a_number) (made ∙ ap (λ (m : ℕ). number_lexeme m (b ∷ drop (at + 1) text)) len)
+
+pub number_lexeme_here : (text bytes slice : List ℕ) (at n : ℕ) (v : Numeral) → bytes ≡ text → at < length text → begins_name (get_or bytes at 0) (from bytes (at + 1)) ≡ false
+    → begins_number (get_or bytes at 0) (from bytes (at + 1)) ≡ true → n ≡ number_len (from bytes at) → v ≡ numeral_of slice → slice ≡ slice_range text at (at + n)
+    → (let l : Lexeme = record { kind = Number v; len = n } in l) ≡ lexeme at (get_or text at 0) (drop (at + 1) text)
+number_lexeme_here text bytes slice at n v e lt name number is value cut =
+    let len : at + n - at ≡ n = omega arith in
+    let piece : slice_range text at (at + n) ≡ take n (drop at text) = ap (λ (m : ℕ). take m (drop at text)) len in
+    number_lexeme_of text at n v lt (rw (← e) name) (rw (← e) number) (rw (← e) is) (value ∙ ap numeral_of (cut ∙ piece))
+
+-- ---- the loop
+
+pub passed : (k at : ℕ) (bs : List ℕ) → k ≤ length bs → tokens_from at k bs ≡ tokens_from (at + k) 0 (drop k bs)
+passed zero at bs h = let e : at + 0 ≡ at = omega arith in rw e refl
+passed (suc k) at [] h = absurd (omega arith)
+passed (suc k) at (b ∷ bs) h =
+    let e : at + 1 + k ≡ at + suc k = omega arith in
+    passed k (at + 1) bs (omega arith) ∙ ap (λ (n : ℕ). tokens_from n 0 (drop k bs)) e
+
+token_step : (bs : List ℕ) (i n : ℕ) → i < length bs → is_blank (get_or bs i 0) ≡ false → n ≡ (lexeme i (get_or bs i 0) (drop (i + 1) bs)).len → 1 ≤ n → i + n ≤ length bs
+    → tokens_from i 0 (drop i bs) ≡ (let t : Token = record { kind = (lexeme i (get_or bs i 0) (drop (i + 1) bs)).kind; at = i } in t) ∷ tokens_from (i + n) 0 (drop (i + n) bs)
+token_step bs i n lt blank len some within =
+    let b = get_or bs i 0 in
+    let rest = drop (i + 1) bs in
+    let t : Token = record { kind = (lexeme i b rest).kind; at = i } in
+    let cut = ap (tokens_from i 0) (first_and_rest bs i lt) in
+    let here : tokens_from i 0 (b ∷ rest) ≡ t ∷ tokens_from (i + 1) (n - 1) rest = rw (blank, len) refl in
+    let over = passed (n - 1) (i + 1) rest (omega (arith, length-drop (i + 1) bs)) in
+    let place : i + 1 + (n - 1) ≡ i + n = omega arith in
+    let left : drop (n - 1) rest ≡ drop (i + n) bs = drop-drop (n - 1) (i + 1) bs ∙ ap (λ (j : ℕ). drop j bs) place in
+    cut ∙ here ∙ ap (λ (x : List Token). t ∷ x) (over ∙ ap (λ (j : ℕ). tokens_from j 0 (drop (n - 1) rest)) place ∙ ap (tokens_from (i + n) 0) left)
+
+pub token_more : (bs : List ℕ) (all all' : List Token) (i : ℕ) (l : Lexeme) → i < length bs → is_blank (get_or bs i 0) ≡ false → l ≡ lexeme i (get_or bs i 0) (drop (i + 1) bs) → 1 ≤ l.len → i + l.len ≤ length bs
+    → all' ≡ all ++ ((let t : Token = record { kind = l.kind; at = i } in t) ∷ []) → all ++ tokens_from i 0 (drop i bs) ≡ tokens bs → all' ++ tokens_from (i + l.len) 0 (drop (i + l.len) bs) ≡ tokens bs
+token_more bs all all' i l lt blank is some within pushed left =
+    let t : Token = record { kind = l.kind; at = i } in
+    let rest = tokens_from (i + l.len) 0 (drop (i + l.len) bs) in
+    let kind : (let u : Token = record { kind = (lexeme i (get_or bs i 0) (drop (i + 1) bs)).kind; at = i } in u) ≡ t =
+    ap (λ (x : Lexeme). let u : Token = record { kind = x.kind; at = i } in u) (sym is) in
+    let step = token_step bs i l.len lt blank (ap (λ (x : Lexeme). x.len) is) some within ∙ ap (λ (u : Token). u ∷ rest) kind in
+    ap (λ (x : List Token). x ++ rest) pushed ∙ append_assoc all (t ∷ []) rest ∙ ap (λ (x : List Token). all ++ x) (sym step) ∙ left
+
+pub nothing_yet : (bs : List ℕ) (all : List Token) → all ≡ [] → all ++ tokens_from 0 0 bs ≡ tokens bs
+unfolding tokens
+nothing_yet bs all e = rw e refl
+
+pub token_here : (text bytes : List ℕ) (all all' : List Token) (i : ℕ) (l : Lexeme) → bytes ≡ text → i < length bytes → is_blank (get_or bytes i 0) ≡ false
+    → l ≡ lexeme i (get_or text i 0) (drop (i + 1) text) → 1 ≤ l.len → i + l.len ≤ length text → all' ≡ all ++ ((let t : Token = record { kind = l.kind; at = i } in t) ∷ [])
+    → all ++ tokens_from i 0 (drop i bytes) ≡ tokens bytes → all' ++ tokens_from (i + l.len) 0 (drop (i + l.len) bytes) ≡ tokens bytes
+token_here text bytes all all' i l e lt blank is some within pushed left =
+    token_more bytes all all' i l lt blank (rw e is) some (rw e within) pushed left

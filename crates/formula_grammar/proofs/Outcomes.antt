@@ -1,0 +1,312 @@
+-- What a reader holds behind some tokens, and what the next token does.
+use Rattle.std.proofs.Common.{◌≡◌, ◌<◌, ◌≤◌, ◌⊎◌, ℕ, ◌+◌, zero, suc, Bool, true, false, List, [], ◌∷◌, ◌++◌, Option, Some, None, option_map, option_and_then, inl, inr, nat_le, refl, sym, ◌∙◌, ap, arith, below_more, cond, get_or, length, subst, take}
+use Rattle.std.proofs.lemmas.List.{get_or_default, take_more, take_all}
+use Rattle.formula_grammar.specs.declared.token.Kind.{Kind}
+use Rattle.formula_grammar.specs.declared.token.Kind.TheVariants.{Number, Caret, Open, Comma, End}
+use Rattle.formula_grammar.specs.declared.token.Numeral.{Numeral}
+use Rattle.formula_grammar.specs.declared.token.Numeral.TheVariants.{Digits, Written}
+use Rattle.formula_grammar.specs.declared.token.Token.{Token}
+use Rattle.formula_grammar.specs.declared.fault.ReadFault.{ReadFault}
+use Rattle.formula_grammar.specs.declared.fault.ReadFault.TheVariants.{OutOfMemory, Syntax, TooDeep, PowerRange, NumberTooWide}
+use Rattle.formula_grammar.specs.declared.reading.Reading.{Reading}
+use Rattle.formula_grammar.specs.declared.reader.Reader.{Reader}
+use Rattle.formula_grammar.specs.Numerals.{is_wide}
+use Rattle.formula_grammar.specs.Grammar.{Formula, token, Begins}
+use Rattle.formula_grammar.specs.Faults.{token_at, depth_behind, depth_from, depth, is_power, number_fault, last_from, last_kind, limit_fault, limit_at, IsFaultAt, IsCleanBelow, IsFirstFault, IsFormula, IsReading, IsFault, EndText, OneFault, NoFormulaHasFaults, FormulaOrFault}
+use Rattle.formula_grammar.specs.Machine.{token_read, Reads}
+use Rattle.formula_grammar.proofs.Automaton.{State, Begin, Fresh, HasAtom, HasRaised, HasItems, Done, Bottom, Inside, step, step_at, run}
+use Rattle.formula_grammar.proofs.Shown.{begins, begins_not, run_append, reads_only, some_is}
+use Rattle.formula_grammar.proofs.Shapes.{shape, commutes}
+
+-- what a reader holds behind some tokens
+pub record Holds (ts : List Token) (r : Reader) : Type 0 where
+  pub state : State
+  pub is : run Begin ts ≡ Some state
+  pub shaped : r ≡ shape state
+
+run_more : (ts : List Token) (t : Token) (s : State) → run Begin ts ≡ Some s → run Begin (ts ++ (t ∷ [])) ≡ option_and_then (λ q. Some q) (step s t)
+run_more ts t s e = run_append Begin ts (t ∷ []) ∙ ap (option_and_then (λ q. run q (t ∷ []))) e
+
+record Mapped (q : Option State) (r : Reader) : Type 0 where
+  state : State
+  is : q ≡ Some state
+  shaped : r ≡ shape state
+
+mapped : (q : Option State) (r : Reader) → option_map shape q ≡ Some r → Mapped q r
+mapped None r e = cc
+mapped (Some s) r e = record { state = s; is = refl; shaped = cc }
+
+unmapped : (q : Option State) → option_map shape q ≡ None → q ≡ None
+unmapped None e = refl
+unmapped (Some s) e = cc
+
+read_at : (s : State) (t : Token) (r : Reader) (q : Option Reader) → r ≡ shape s → token_read r t ≡ q → option_map shape (step s t) ≡ q
+read_at s t r q e h = sym (commutes s t.at t.kind) ∙ ap (λ x. token_read x t) (sym e) ∙ h
+
+goes_behind : (ts : List Token) (t : Token) (r r' : Reader) → Holds ts r → token_read r t ≡ Some r' → Holds (ts ++ (t ∷ [])) r'
+goes_behind ts t r r' h e =
+    let m = mapped (step h.state t) r' (read_at h.state t r (Some r') h.shaped e) in
+    record { state = m.state; is = run_more ts t h.state h.is ∙ ap (option_and_then (λ q. Some q)) m.is; shaped = m.shaped }
+
+stops_behind : (ts : List Token) (t : Token) (r : Reader) → Holds ts r → token_read r t ≡ None → Begins (ts ++ (t ∷ [])) → ⊥
+stops_behind ts t r h e =
+    let m = unmapped (step h.state t) (read_at h.state t r None h.shaped e) in
+    begins_not (ts ++ (t ∷ [])) (run_more ts t h.state h.is ∙ ap (option_and_then (λ q. Some q)) m)
+
+pub nothing_held : (r : Reader) → r ≡ shape Begin → Holds [] r
+nothing_held r e = record { state = Begin; is = refl; shaped = e }
+
+pub goes : (ts : List Token) (i : ℕ) (d : Token) (r r' : Reader) → i < length ts → Holds (take i ts) r → Reads (token_read r (get_or ts i d)) true r' → Holds (take (i + 1) ts) r'
+goes ts i d r r' lt h e = let P : List Token → Type 0 = λ x. Holds x r' in subst P (sym (take_more ts i d lt)) (goes_behind (take i ts) (get_or ts i d) r r' h e)
+
+pub held_begins : (ts : List Token) (r : Reader) → Holds ts r → Begins ts
+held_begins ts r h = begins ts h.state h.is
+
+-- the token itself, whatever the default
+at_index : (ts : List Token) (i : ℕ) (d : Token) → i < length ts → token_at ts i ≡ get_or ts i d
+at_index ts i d lt = get_or_default ts i (token End 0) d lt
+
+pub wrong : (ts : List Token) (i : ℕ) (d : Token) (r r' : Reader) → i < length ts → Holds (take i ts) r → IsCleanBelow ts i
+    → Reads (token_read r (get_or ts i d)) false r' → IsFirstFault ts (Syntax (get_or ts i d).at)
+wrong ts i d r r' lt h clean e = record {
+  index = i;
+  there = lt;
+  here = (
+    held_begins (take i ts) r h,
+    λ b. stops_behind (take i ts) (get_or ts i d) r h e (subst Begins (take_more ts i d lt) b),
+    ap (λ (t : Token). t.at) (sym (at_index ts i d lt)),
+  );
+  first = clean;
+}
+
+-- ---- limits
+
+depth_more : (n : ℕ) (ts : List Token) (t : Token) → depth_from n (ts ++ (t ∷ [])) ≡ depth_behind t.kind (depth_from n ts)
+depth_more n [] t = refl
+depth_more n (u ∷ ts) t = depth_more (depth_behind u.kind n) ts t
+
+last_more : (k : Kind) (ts : List Token) (t : Token) → last_from k (ts ++ (t ∷ [])) ≡ t.kind
+last_more k [] t = refl
+last_more k (u ∷ ts) t = last_more u.kind ts t
+
+pub depth_next : (ts : List Token) (i : ℕ) (d : Token) (n m : ℕ) → i < length ts → n ≡ depth (take i ts) → m ≡ depth_behind (get_or ts i d).kind n → m ≡ depth (take (i + 1) ts)
+depth_next ts i d n m lt e f =
+    f ∙ ap (depth_behind (get_or ts i d).kind) e ∙ sym (depth_more 0 (take i ts) (get_or ts i d)) ∙ ap depth (sym (take_more ts i d lt))
+
+pub last_next : (ts : List Token) (i : ℕ) (d : Token) (k : Kind) → i < length ts → k ≡ (get_or ts i d).kind → k ≡ last_kind (take (i + 1) ts)
+last_next ts i d k lt e = e ∙ sym (last_more End (take i ts) (get_or ts i d)) ∙ ap last_kind (sym (take_more ts i d lt))
+
+limits_at : (ts : List Token) (i : ℕ) (d : Token) (n : ℕ) (k : Kind) (fault : Option ReadFault) → i < length ts → n ≡ depth (take i ts) → k ≡ last_kind (take i ts)
+    → fault ≡ limit_fault (get_or ts i d).kind (get_or ts i d).at n k → limit_at ts i ≡ fault
+limits_at ts i d n k fault lt e f g =
+    ap (λ (t : Token). limit_fault t.kind t.at (depth (take i ts)) (last_kind (take i ts))) (at_index ts i d lt)
+    ∙ ap (λ (m : ℕ). limit_fault (get_or ts i d).kind (get_or ts i d).at m (last_kind (take i ts))) (sym e)
+    ∙ ap (limit_fault (get_or ts i d).kind (get_or ts i d).at n) (sym f)
+    ∙ sym g
+
+abbrev IsLimit : ReadFault → Type 0
+IsLimit OutOfMemory = ⊥
+IsLimit (Syntax n) = ⊥
+IsLimit fault = Unit {0}
+
+one_limit : (b : Bool) (x fault : ReadFault) → IsLimit x → cond b (Some x) None ≡ Some fault → IsLimit fault
+one_limit true x fault l e = subst IsLimit (some_is e) l
+one_limit false x fault l e = cc
+
+other_limit : (b : Bool) (x fault : ReadFault) → IsLimit x → cond b None (Some x) ≡ Some fault → IsLimit fault
+other_limit true x fault l e = cc
+other_limit false x fault l e = subst IsLimit (some_is e) l
+
+number_limit : (before : Kind) (x : Numeral) (n : ℕ) (fault : ReadFault) → number_fault before x n ≡ Some fault → IsLimit fault
+number_limit Caret (Digits k) n fault e = other_limit (is_power k) (PowerRange n) fault tt e
+number_limit Caret (Written t u) n fault e = cc
+number_limit Comma x n fault e = one_limit (is_wide x) (NumberTooWide n) fault tt e
+number_limit before x n fault e = cc
+
+any_limit : (k : Kind) (n opened : ℕ) (before : Kind) (fault : ReadFault) → limit_fault k n opened before ≡ Some fault → IsLimit fault
+any_limit Open n opened before fault e = one_limit (nat_le 64 opened) (TooDeep n) fault tt e
+any_limit (Number x) n opened before fault e = number_limit before x n fault e
+any_limit k n opened before fault e = cc
+
+-- a limit that is passed is a fault
+limit_here : (ts : List Token) (i : ℕ) (fault : ReadFault) → Begins (take (i + 1) ts) → limit_at ts i ≡ Some fault → IsFaultAt ts i fault
+limit_here ts i OutOfMemory b e = absurd (any_limit (token_at ts i).kind (token_at ts i).at (depth (take i ts)) (last_kind (take i ts)) OutOfMemory e)
+limit_here ts i (Syntax n) b e = absurd (any_limit (token_at ts i).kind (token_at ts i).at (depth (take i ts)) (last_kind (take i ts)) (Syntax n) e)
+limit_here ts i (TooDeep n) b e = (b, e)
+limit_here ts i (PowerRange n) b e = (b, e)
+limit_here ts i (NumberTooWide n) b e = (b, e)
+
+-- a token that can stand there and passes no limit has no fault
+none_here : (ts : List Token) (i : ℕ) → Begins (take (i + 1) ts) → limit_at ts i ≡ None → (fault : ReadFault) → IsFaultAt ts i fault → ⊥
+none_here ts i b e OutOfMemory f = f
+none_here ts i b e (Syntax n) f = f.1 b
+none_here ts i b e (TooDeep n) f = let h : Some (TooDeep n) ≡ None = sym f.1 ∙ e in absurd (cc)
+none_here ts i b e (PowerRange n) f = let h : Some (PowerRange n) ≡ None = sym f.1 ∙ e in absurd (cc)
+none_here ts i b e (NumberTooWide n) f = let h : Some (NumberTooWide n) ≡ None = sym f.1 ∙ e in absurd (cc)
+
+clean_more : (ts : List Token) (i : ℕ) → IsCleanBelow ts i → ((fault : ReadFault) → IsFaultAt ts i fault → ⊥) → IsCleanBelow ts (i + 1)
+clean_more ts i clean here j lt =
+    let P : ℕ → Type 0 = λ j. (fault : ReadFault) → IsFaultAt ts j fault → ⊥ in
+    below_more P i clean here j lt
+
+pub clean_next : (ts : List Token) (i : ℕ) (d : Token) (r : Reader) (n : ℕ) (k : Kind) → i < length ts → Holds (take (i + 1) ts) r → IsCleanBelow ts i
+    → n ≡ depth (take i ts) → k ≡ last_kind (take i ts) → None ≡ limit_fault (get_or ts i d).kind (get_or ts i d).at n k → IsCleanBelow ts (i + 1)
+clean_next ts i d r n k lt h clean e f g =
+    clean_more ts i clean (none_here ts i (held_begins (take (i + 1) ts) r h) (limits_at ts i d n k None lt e f g))
+
+pub passed : (ts : List Token) (i : ℕ) (d : Token) (r : Reader) (n : ℕ) (k : Kind) (fault : ReadFault) → i < length ts → Holds (take (i + 1) ts) r → IsCleanBelow ts i
+    → n ≡ depth (take i ts) → k ≡ last_kind (take i ts) → Some fault ≡ limit_fault (get_or ts i d).kind (get_or ts i d).at n k → IsFirstFault ts fault
+passed ts i d r n k fault lt h clean e f g = record {
+  index = i;
+  there = lt;
+  here = limit_here ts i fault (held_begins (take (i + 1) ts) r h) (limits_at ts i d n k (Some fault) lt e f g);
+  first = clean;
+}
+
+pub first_is_fault : (ts : List Token) (fault : ReadFault) → IsFirstFault ts fault → IsFault ts fault
+first_is_fault ts OutOfMemory f = tt
+first_is_fault ts (Syntax n) f = f
+first_is_fault ts (TooDeep n) f = f
+first_is_fault ts (PowerRange n) f = f
+first_is_fault ts (NumberTooWide n) f = f
+
+-- ---- the end
+
+-- the end of the text ends a formula
+record Ended (s : State) : Type 0 where
+  formula : Formula
+  is : s ≡ Done formula
+
+done : (f : Formula) (s : State) → Some (Done f) ≡ Some s → Ended s
+done f s e = record { formula = f; is = sym (some_is e) }
+
+ended : (s : State) (n : ℕ) (s' : State) → step_at s n End ≡ Some s' → Ended s'
+ended (HasAtom a l (Bottom h f)) n s' e = done _ s' e
+ended (HasRaised a c x m l (Bottom h f)) n s' e = done _ s' e
+ended (HasItems i h) n s' e = done _ s' e
+ended (HasAtom a l (Inside f m q o)) n s' e = cc
+ended (HasRaised a c x m l (Inside f p q o)) n s' e = cc
+ended (Fresh (Bottom h f)) n s' e = cc
+ended (Fresh (Inside f m l o)) n s' e = cc
+ended s n s' e = cc
+
+step_ended : (q : Option State) (n : ℕ) (s' : State) → option_and_then (λ s. option_and_then (λ s. Some s) (step_at s n End)) q ≡ Some s' → Ended s'
+step_ended None n s' e = cc
+step_ended (Some s) n s' e =
+    elim (step_at s n End) as (λ x. step_at s n End ≡ x → option_and_then (λ s. Some s) x ≡ Some s' → Ended s') [
+      | None ↦ λ d e. cc
+      | Some m ↦ λ d e. ended s n s' (d ∙ e)
+    ] refl e
+
+whole_ended : (ts : List Token) (s : State) → EndText ts → run Begin ts ≡ Some s → Ended s
+whole_ended ts s w e = step_ended (run Begin w.front) w.ended s (sym (run_append Begin w.front (token End w.ended ∷ [])) ∙ ap (run Begin) (sym w.is) ∙ e)
+
+pub whole_held : (ts : List Token) (i : ℕ) (r : Reader) → length ts ≤ i → Holds (take i ts) r → Holds ts r
+whole_held ts i r le h = let P : List Token → Type 0 = λ x. Holds x r in subst P (take_all i ts le) h
+
+is_formula : (ts : List Token) (s : State) (i : ℕ) → EndText ts → run Begin ts ≡ Some s → length ts ≤ i → IsCleanBelow ts i → (f : Formula) × (s ≡ Done f) × IsFormula ts f
+is_formula ts s i w e le clean =
+    let d = whole_ended ts s w e in
+    (d.formula, d.is, record { reads = reads_only ts d.formula (e ∙ ap (λ (x : State). Some x) d.is); clean = λ j lt. clean j (omega arith) })
+
+pub reading_held : (ts : List Token) (i : ℕ) (r : Reader) → EndText ts → length ts ≤ i → Holds (take i ts) r → IsCleanBelow ts i
+    → IsReading ts (record { response = r.response; intercept = r.intercept; steps = r.steps; smooths = r.smooths })
+reading_held ts i r w le h clean =
+    let held = whole_held ts i r le h in
+    let f = is_formula ts held.state i w held.is le clean in
+    record {
+      formula = f.0;
+      is = f.2;
+      code = ap (λ (x : Reader). let y : Reading = record { response = x.response; intercept = x.intercept; steps = x.steps; smooths = x.smooths } in y) (held.shaped ∙ ap shape f.1);
+    }
+
+-- ---- one outcome
+
+-- the faults of one token are one
+same_fault : (ts : List Token) (i : ℕ) (a b : ReadFault) → IsFaultAt ts i a → IsFaultAt ts i b → a ≡ b
+same_fault ts i OutOfMemory b f g = absurd f
+same_fault ts i (Syntax n) OutOfMemory f g = absurd g
+same_fault ts i (Syntax n) (Syntax m) f g = ap (λ (x : ℕ). Syntax x) (f.2 ∙ sym g.2)
+same_fault ts i (Syntax n) (TooDeep m) f g = absurd (f.1 g.0)
+same_fault ts i (Syntax n) (PowerRange m) f g = absurd (f.1 g.0)
+same_fault ts i (Syntax n) (NumberTooWide m) f g = absurd (f.1 g.0)
+same_fault ts i (TooDeep n) OutOfMemory f g = absurd g
+same_fault ts i (TooDeep n) (Syntax m) f g = absurd (g.1 f.0)
+same_fault ts i (TooDeep n) (TooDeep m) f g = some_is (sym f.1 ∙ g.1)
+same_fault ts i (TooDeep n) (PowerRange m) f g = some_is (sym f.1 ∙ g.1)
+same_fault ts i (TooDeep n) (NumberTooWide m) f g = some_is (sym f.1 ∙ g.1)
+same_fault ts i (PowerRange n) OutOfMemory f g = absurd g
+same_fault ts i (PowerRange n) (Syntax m) f g = absurd (g.1 f.0)
+same_fault ts i (PowerRange n) (TooDeep m) f g = some_is (sym f.1 ∙ g.1)
+same_fault ts i (PowerRange n) (PowerRange m) f g = some_is (sym f.1 ∙ g.1)
+same_fault ts i (PowerRange n) (NumberTooWide m) f g = some_is (sym f.1 ∙ g.1)
+same_fault ts i (NumberTooWide n) OutOfMemory f g = absurd g
+same_fault ts i (NumberTooWide n) (Syntax m) f g = absurd (g.1 f.0)
+same_fault ts i (NumberTooWide n) (TooDeep m) f g = some_is (sym f.1 ∙ g.1)
+same_fault ts i (NumberTooWide n) (PowerRange m) f g = some_is (sym f.1 ∙ g.1)
+same_fault ts i (NumberTooWide n) (NumberTooWide m) f g = some_is (sym f.1 ∙ g.1)
+
+same_index : (i j : ℕ) → (i < j → ⊥) → (j < i → ⊥) → i ≡ j
+same_index i j f g = omega (arith, f, g)
+
+pub one_fault : OneFault
+one_fault ts a b f g =
+    let e : f.index ≡ g.index = same_index f.index g.index (λ lt. g.first f.index lt a f.here) (λ lt. f.first g.index lt b g.here) in
+    same_fault ts g.index a b (subst (λ (i : ℕ). IsFaultAt ts i a) e f.here) g.here
+
+pub no_formula_has_faults : NoFormulaHasFaults
+no_formula_has_faults ts f fault w g = w.clean g.index g.there fault g.here
+
+-- the first so many tokens begin a formula and have no fault
+record Goes (ts : List Token) (i : ℕ) : Type 0 where
+  state : State
+  is : run Begin (take i ts) ≡ Some state
+  clean : IsCleanBelow ts i
+
+goes_or_stops : (ts : List Token) (i : ℕ) → i < length ts → Goes ts i → Goes ts (i + 1) ⊎ ((fault : ReadFault) × IsFirstFault ts fault)
+goes_or_stops ts i lt g =
+    let t : Token = token_at ts i in
+    let more : take (i + 1) ts ≡ take i ts ++ (t ∷ []) = take_more ts i (token End 0) lt in
+    let next = run_more (take i ts) t g.state g.is in
+    elim (step g.state t) as (λ q. step g.state t ≡ q → Goes ts (i + 1) ⊎ ((fault : ReadFault) × IsFirstFault ts fault)) [
+      | None ↦ λ e. inr (
+        Syntax t.at,
+        record {
+          index = i;
+          there = lt;
+          here = (begins (take i ts) g.state g.is, λ b. begins_not (take i ts ++ (t ∷ [])) (next ∙ ap (option_and_then (λ s. Some s)) e) (subst Begins more b), refl);
+          first = g.clean;
+        },
+      )
+      | Some s ↦ λ e.
+          let is : run Begin (take (i + 1) ts) ≡ Some s = ap (run Begin) more ∙ next ∙ ap (option_and_then (λ s. Some s)) e in
+          let b = begins (take (i + 1) ts) s is in
+          elim (limit_at ts i) as (λ l. limit_at ts i ≡ l → Goes ts (i + 1) ⊎ ((fault : ReadFault) × IsFirstFault ts fault)) [
+            | None ↦ λ d. inl (record { state = s; is = is; clean = clean_more ts i g.clean (none_here ts i b d) })
+            | Some fault ↦ λ d. inr (fault, record { index = i; there = lt; here = limit_here ts i fault b d; first = g.clean })
+          ] refl
+    ] refl
+
+pub clean_none : (ts : List Token) → IsCleanBelow ts 0
+clean_none ts i lt = absurd (omega (arith, lt))
+
+begun : (ts : List Token) → Goes ts 0
+begun ts = record { state = Begin; is = refl; clean = clean_none ts }
+
+goes_on : (ts : List Token) (i : ℕ) → i ≤ length ts → Goes ts i ⊎ ((fault : ReadFault) × IsFirstFault ts fault)
+goes_on ts zero le = inl (begun ts)
+goes_on ts (suc i) le =
+    elim (goes_on ts i (omega arith)) [
+      | inl g ↦ let e : i + 1 ≡ suc i = omega arith in subst (λ (j : ℕ). Goes ts j ⊎ ((fault : ReadFault) × IsFirstFault ts fault)) e (goes_or_stops ts i (omega arith) g)
+      | inr f ↦ inr f
+    ]
+
+pub formula_or_fault : FormulaOrFault
+formula_or_fault ts w =
+    elim (goes_on ts (length ts) (omega arith)) [
+      | inl g ↦
+          let is : run Begin ts ≡ Some g.state = ap (run Begin) (sym (take_all (length ts) ts (omega arith))) ∙ g.is in
+          let f = is_formula ts g.state (length ts) w is (omega arith) g.clean in
+          inl (f.0, f.2)
+      | inr f ↦ inr f
+    ]

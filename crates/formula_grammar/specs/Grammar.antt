@@ -1,0 +1,146 @@
+-- The grammar of formulas, one type for each line of it. A tree keeps where its tokens begin.
+--
+--   formula = NAME "~" [ "+" | "-" ] item { ( "+" | "-" ) item }      no qss follows "-"
+--   item    = "0" | "1" | "qss" "(" NAME "," NUMBER ")" | product
+--   sum     = [ "+" | "-" ] product { ( "+" | "-" ) product }
+--   product = inter { "*" inter }
+--   inter   = power { ":" power }
+--   power   = atom [ "^" DIGITS ]
+--   atom    = NAME | "factor" "(" NAME ")" | "." | "(" sum ")"
+use Rattle.std.specs.Prelude.{◌≡◌, ℕ, List, [], ◌∷◌, ◌++◌}
+use Rattle.formula_grammar.specs.declared.token.Span.{Span}
+use Rattle.formula_grammar.specs.declared.token.Sign.{Sign}
+use Rattle.formula_grammar.specs.declared.token.Sign.TheVariants.{Plus}
+use Rattle.formula_grammar.specs.declared.token.Whole.{Whole}
+use Rattle.formula_grammar.specs.declared.token.Whole.TheVariants.{Zero, Unity}
+use Rattle.formula_grammar.specs.declared.token.Numeral.{Numeral}
+use Rattle.formula_grammar.specs.declared.token.Numeral.TheVariants.{Digits}
+use Rattle.formula_grammar.specs.declared.token.Kind.{Kind}
+use Rattle.formula_grammar.specs.declared.token.Kind.TheVariants.{Name, FactorWord, QssWord, Number, Signed, Tilde, Star, Colon, Caret, Open, Close, Comma, Point, End}
+use Rattle.formula_grammar.specs.declared.token.Token.{Token}
+
+abbrev pub token : Kind → ℕ → Token
+token kind place = record { kind = kind; at = place }
+
+-- a leading sign, or none
+pub data Lead : Type 0 where
+  Bare : Lead
+  Led : (sign : Sign) (place : ℕ) → Lead
+
+mutual
+  pub data Sum : Type 0 where
+    First : (lead : Lead) (only : Product) → Sum
+    More : (left : Sum) (sign : Sign) (place : ℕ) (right : Product) → Sum
+
+  pub data Product : Type 0 where
+    One : (only : Inter) → Product
+    Times : (left : Product) (place : ℕ) (right : Inter) → Product
+
+  pub data Inter : Type 0 where
+    Lone : (only : Power) → Inter
+    Cross : (left : Inter) (place : ℕ) (right : Power) → Inter
+
+  pub data Power : Type 0 where
+    Plain : (only : Atom) → Power
+    Raised : (base : Atom) (place : ℕ) (exponent : Whole) (at : ℕ) → Power
+
+  pub data Atom : Type 0 where
+    Leaf : (name : Span) (place : ℕ) → Atom
+    Factor : (word opened : ℕ) (name : Span) (place closed : ℕ) → Atom
+    Dot : (place : ℕ) → Atom
+    Group : (opened : ℕ) (inner : Sum) (closed : ℕ) → Atom
+
+pub record Smooth : Type 0 where
+  pub word : ℕ
+  pub opened : ℕ
+  pub name : Span
+  pub place : ℕ
+  pub comma : ℕ
+  pub lambda : Numeral
+  pub at : ℕ
+  pub closed : ℕ
+
+-- an item that isn't a smooth
+pub data Item : Type 0 where
+  Nil : (place : ℕ) → Item
+  Intercept : (place : ℕ) → Item
+  Term : (product : Product) → Item
+
+-- items with the signs between them; a smooth stands first, behind a leading plus, or behind a plus
+pub data Items : Type 0 where
+  Start : (lead : Lead) (item : Item) → Items
+  StartSmooth : (smooth : Smooth) → Items
+  StartPlus : (place : ℕ) (smooth : Smooth) → Items
+  Then : (left : Items) (sign : Sign) (place : ℕ) (item : Item) → Items
+  ThenSmooth : (left : Items) (place : ℕ) (smooth : Smooth) → Items
+
+pub record Head : Type 0 where
+  pub response : Span
+  pub place : ℕ
+  pub tilde : ℕ
+
+pub record Formula : Type 0 where
+  pub head : Head
+  pub items : Items
+  pub ended : ℕ
+
+abbrev pub lead_tokens : Lead → List Token
+lead_tokens Bare = []
+lead_tokens (Led s n) = token (Signed s) n ∷ []
+
+abbrev mutual
+  pub sum_tokens : Sum → List Token
+  sum_tokens (First l p) = lead_tokens l ++ product_tokens p
+  sum_tokens (More s x n p) = sum_tokens s ++ (token (Signed x) n ∷ product_tokens p)
+
+  pub product_tokens : Product → List Token
+  product_tokens (One i) = inter_tokens i
+  product_tokens (Times p n i) = product_tokens p ++ (token Star n ∷ inter_tokens i)
+
+  pub inter_tokens : Inter → List Token
+  inter_tokens (Lone p) = power_tokens p
+  inter_tokens (Cross i n p) = inter_tokens i ++ (token Colon n ∷ power_tokens p)
+
+  pub power_tokens : Power → List Token
+  power_tokens (Plain a) = atom_tokens a
+  power_tokens (Raised a n k m) = atom_tokens a ++ (token Caret n ∷ token (Number (Digits k)) m ∷ [])
+
+  pub atom_tokens : Atom → List Token
+  atom_tokens (Leaf x n) = token (Name x) n ∷ []
+  atom_tokens (Factor w o x n c) = token FactorWord w ∷ token Open o ∷ token (Name x) n ∷ token Close c ∷ []
+  atom_tokens (Dot n) = token Point n ∷ []
+  atom_tokens (Group o s c) = token Open o ∷ (sum_tokens s ++ (token Close c ∷ []))
+
+abbrev pub smooth_tokens : Smooth → List Token
+smooth_tokens s =
+    token QssWord s.word ∷ token Open s.opened ∷ token (Name s.name) s.place ∷ token Comma s.comma
+    ∷ token (Number s.lambda) s.at ∷ token Close s.closed ∷ []
+
+abbrev pub item_tokens : Item → List Token
+item_tokens (Nil n) = token (Number (Digits Zero)) n ∷ []
+item_tokens (Intercept n) = token (Number (Digits Unity)) n ∷ []
+item_tokens (Term p) = product_tokens p
+
+abbrev pub items_tokens : Items → List Token
+items_tokens (Start l i) = lead_tokens l ++ item_tokens i
+items_tokens (StartSmooth s) = smooth_tokens s
+items_tokens (StartPlus n s) = token (Signed Plus) n ∷ smooth_tokens s
+items_tokens (Then i x n j) = items_tokens i ++ (token (Signed x) n ∷ item_tokens j)
+items_tokens (ThenSmooth i n s) = items_tokens i ++ (token (Signed Plus) n ∷ smooth_tokens s)
+
+abbrev pub head_tokens : Head → List Token
+head_tokens h = token (Name h.response) h.place ∷ token Tilde h.tilde ∷ []
+
+-- the end of the text counts as a token
+abbrev pub formula_tokens : Formula → List Token
+formula_tokens f = head_tokens f.head ++ (items_tokens f.items ++ (token End f.ended ∷ []))
+
+-- some formula begins with these tokens
+pub record Begins (front : List Token) : Type 0 where
+  pub formula : Formula
+  pub rest : List Token
+  pub whole : front ++ rest ≡ formula_tokens formula
+
+-- the grammar is unambiguous: no tokens are those of two formulas
+abbrev pub OneFormula : Type 0
+OneFormula = (f g : Formula) → formula_tokens f ≡ formula_tokens g → f ≡ g

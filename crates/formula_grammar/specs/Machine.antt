@@ -1,0 +1,160 @@
+-- What a token does to a half read formula: the formula then, or none where it can't stand there.
+use Rattle.std.specs.Prelude.{◌≡◌, ℕ, ◌==◌, Bool, true, false, not, List, [], ◌∷◌, ◌++◌, length, Option, Some, None, if◌then◌else◌}
+use Rattle.formula_grammar.specs.declared.token.Span.{Span}
+use Rattle.formula_grammar.specs.declared.token.Sign.{Sign}
+use Rattle.formula_grammar.specs.declared.token.Sign.TheVariants.{Plus, Minus}
+use Rattle.formula_grammar.specs.declared.token.Whole.TheVariants.{Zero, Unity}
+use Rattle.formula_grammar.specs.declared.token.Numeral.TheVariants.{Digits}
+use Rattle.formula_grammar.specs.declared.token.Kind.{Kind}
+use Rattle.formula_grammar.specs.declared.token.Kind.TheVariants.{Name, FactorWord, QssWord, Number, Signed, Tilde, Star, Colon, Caret, Open, Close, Comma, Point, End}
+use Rattle.formula_grammar.specs.declared.token.Token.{Token}
+use Rattle.formula_grammar.specs.declared.reading.Step.{Step}
+use Rattle.formula_grammar.specs.declared.reading.Step.TheVariants.{Load, LoadAll, Nothing, Multiply, Interact, Raise}
+use Rattle.formula_grammar.specs.declared.reading.SmoothPart.{SmoothPart}
+use Rattle.formula_grammar.specs.declared.levels.Operator.{Operator}
+use Rattle.formula_grammar.specs.declared.levels.Level.{Level}
+use Rattle.formula_grammar.specs.declared.reader.Phase.{Phase}
+use Rattle.formula_grammar.specs.declared.reader.Phase.TheVariants.{Response, BeforeTilde, Opening, Operand, FactorOpen, FactorName, FactorClose, BehindAtom, Exponent, BehindPower, SmoothOpen, SmoothName, SmoothComma, SmoothLambda, SmoothClose, BehindItem, Ended}
+use Rattle.formula_grammar.specs.declared.reader.Reader.{Reader}
+use Rattle.formula_grammar.specs.Numerals.{power_of}
+use Rattle.formula_grammar.specs.Codes.{signed_step}
+
+-- the steps of the operators that a token ends
+abbrev pub step_of : (ℕ → Step) → Option ℕ → List Step
+step_of f None = []
+step_of f (Some n) = f n ∷ []
+
+abbrev pub sum_step : Option Operator → List Step
+sum_step None = []
+sum_step (Some o) = signed_step o.sign o.at ∷ []
+
+abbrev pub inter_end : Level → List Step
+inter_end w = step_of Interact w.inter
+
+abbrev pub product_end : Level → List Step
+product_end w = inter_end w ++ step_of Multiply w.product
+
+abbrev pub sum_end : Level → List Step
+sum_end w = product_end w ++ sum_step w.sum
+
+abbrev pub bare : Level
+bare = record { sum = None; product = None; inter = None }
+
+-- an item that stands first acts on the empty list where it has no terms
+abbrev pub first_step : Option Operator → List Step
+first_step None = Nothing ∷ []
+first_step (Some o) = []
+
+abbrev pub operator_sign : Option Operator → Sign
+operator_sign None = Plus
+operator_sign (Some o) = o.sign
+
+abbrev pub with_sign : Sign → Bool → Bool
+with_sign Plus b = b
+with_sign Minus b = not b
+
+abbrev pub operand_read : Reader → Kind → Option Reader
+operand_read r (Name x) = Some (record r { steps = r.steps ++ (Load x false ∷ []); phase = BehindAtom })
+operand_read r Point = Some (record r { steps = r.steps ++ (LoadAll ∷ []); phase = BehindAtom })
+operand_read r FactorWord = Some (record r { phase = FactorOpen })
+operand_read r Open = Some (record r { level = bare; outer = r.level ∷ r.outer; phase = Opening })
+operand_read r k = None
+
+abbrev pub sign_read : Reader → Option Operator → Sign → ℕ → Option Reader
+sign_read r None x n = Some (record r { steps = r.steps ++ (Nothing ∷ []); level = record { sum = Some (record { sign = x; at = n }); product = None; inter = None }; phase = Opening })
+sign_read r (Some o) x n = None
+
+abbrev pub intercept_read : Reader → Bool → Option Reader
+intercept_read r one =
+    if length r.outer == 0
+    then Some (record r { intercept = with_sign (operator_sign r.level.sum) one; steps = r.steps ++ first_step r.level.sum; level = bare; phase = BehindItem })
+    else None
+
+abbrev pub smooth_read_behind : Reader → Sign → Option Reader
+smooth_read_behind r Plus = Some (record r { steps = r.steps ++ first_step r.level.sum; level = bare; phase = SmoothOpen })
+smooth_read_behind r Minus = None
+
+abbrev pub smooth_read : Reader → Option Reader
+smooth_read r = if length r.outer == 0 then smooth_read_behind r (operator_sign r.level.sum) else None
+
+abbrev pub opening_read : Reader → ℕ → Kind → Option Reader
+opening_read r n (Signed x) = sign_read r r.level.sum x n
+opening_read r n (Number (Digits Zero)) = intercept_read r false
+opening_read r n (Number (Digits Unity)) = intercept_read r true
+opening_read r n QssWord = smooth_read r
+opening_read r n k = operand_read r k
+
+abbrev pub close_read : Reader → List Level → Option Reader
+close_read r [] = None
+close_read r (w ∷ ws) = Some (record r { steps = r.steps ++ sum_end r.level; level = w; outer = ws; phase = BehindAtom })
+
+abbrev pub end_read : Reader → Option Reader
+end_read r = if length r.outer == 0 then Some (record r { steps = r.steps ++ sum_end r.level; level = bare; phase = Ended }) else None
+
+abbrev pub power_read : Reader → ℕ → Kind → Option Reader
+power_read r n Colon = Some (record r { steps = r.steps ++ inter_end r.level; level = record { sum = r.level.sum; product = r.level.product; inter = Some n }; phase = Operand })
+power_read r n Star = Some (record r { steps = r.steps ++ product_end r.level; level = record { sum = r.level.sum; product = Some n; inter = None }; phase = Operand })
+power_read r n (Signed x) = Some (record r { steps = r.steps ++ sum_end r.level; level = record { sum = Some (record { sign = x; at = n }); product = None; inter = None }; phase = Opening })
+power_read r n Close = close_read r r.outer
+power_read r n End = end_read r
+power_read r n k = None
+
+abbrev pub atom_read : Reader → ℕ → Kind → Option Reader
+atom_read r n Caret = Some (record r { phase = Exponent n })
+atom_read r n k = power_read r n k
+
+abbrev pub item_read : Reader → ℕ → Kind → Option Reader
+item_read r n (Signed x) = Some (record r { level = record { sum = Some (record { sign = x; at = n }); product = None; inter = None }; phase = Opening })
+item_read r n End = Some (record r { phase = Ended })
+item_read r n k = None
+
+abbrev pub exponent_read : Reader → ℕ → Kind → Option Reader
+exponent_read r caret (Number (Digits k)) = Some (record r { steps = r.steps ++ (Raise (power_of k) caret ∷ []); phase = BehindPower })
+exponent_read r caret k = None
+
+abbrev pub response_read : Reader → Kind → Option Reader
+response_read r (Name x) = Some (record r { response = x; phase = BeforeTilde })
+response_read r k = None
+
+abbrev pub factor_read : Reader → Span → Kind → Option Reader
+factor_read r x Close = Some (record r { steps = r.steps ++ (Load x true ∷ []); phase = BehindAtom })
+factor_read r x k = None
+
+abbrev pub smooth_end_read : Reader → SmoothPart → Kind → Option Reader
+smooth_end_read r s Close = Some (record r { smooths = r.smooths ++ (s ∷ []); phase = BehindItem })
+smooth_end_read r s k = None
+
+-- the tokens that stand for nothing but themselves, and those inside `factor(..)` and `qss(..)`
+abbrev pub next_phase : Phase → ℕ → Kind → Option Phase
+next_phase BeforeTilde n Tilde = Some Opening
+next_phase FactorOpen n Open = Some FactorName
+next_phase FactorName n (Name x) = Some (FactorClose x)
+next_phase SmoothOpen n Open = Some SmoothName
+next_phase SmoothName n (Name x) = Some (SmoothComma x)
+next_phase (SmoothComma x) n Comma = Some (SmoothLambda x)
+next_phase (SmoothLambda x) n (Number v) = Some (SmoothClose (record { name = x; lambda = v; at = n }))
+next_phase p n k = None
+
+abbrev pub phase_read : Reader → Option Phase → Option Reader
+phase_read r None = None
+phase_read r (Some p) = Some (record r { phase = p })
+
+abbrev pub read_in : Phase → Reader → ℕ → Kind → Option Reader
+read_in Response r n k = response_read r k
+read_in Opening r n k = opening_read r n k
+read_in Operand r n k = operand_read r k
+read_in (FactorClose x) r n k = factor_read r x k
+read_in BehindAtom r n k = atom_read r n k
+read_in (Exponent c) r n k = exponent_read r c k
+read_in BehindPower r n k = power_read r n k
+read_in (SmoothClose s) r n k = smooth_end_read r s k
+read_in BehindItem r n k = item_read r n k
+read_in p r n k = phase_read r (next_phase p n k)
+
+abbrev pub token_read : Reader → Token → Option Reader
+token_read r t = read_in r.phase r t.at t.kind
+
+-- a call that answers whether the token can stand there, and changes the reader where it can
+abbrev pub Reads : Option Reader → Bool → Reader → Type 0
+Reads q true r = q ≡ Some r
+Reads q false r = q ≡ None

@@ -1,0 +1,83 @@
+-- The number at the front of a text.
+use Rattle.std.specs.Prelude.{ℕ, zero, suc, ◌^◌, ◌-◌, ◌==◌, ◌||◌, nat_le, Bool, true, false, List, [], ◌∷◌, Option, Some, None, option_and_then, Result, Err, bytes_eq, codes, length, take, if◌then◌else◌}
+use Rattle.std.specs.Char.{is_ascii_digit}
+use Rattle.std.specs.List.{list_all}
+use Rattle.std.specs.Str.Parse.{digits_value}
+use Rattle.exact_algebra.specs.Rational.{ℚ}
+use Rattle.frac_core.specs.NumberText.{is_exponent_mark, is_number_text, is_point, is_slash, is_zero_digit, number_of}
+use Rattle.frac_core.specs.declared.number_reader.NumberFault.{NumberFault}
+use Rattle.frac_core.specs.declared.number_reader.NumberFault.TheVariants.{TooWide}
+use Rattle.formula_grammar.specs.declared.token.Whole.{Whole}
+use Rattle.formula_grammar.specs.declared.token.Whole.TheVariants.{Zero, Unity, Longer}
+use Rattle.formula_grammar.specs.declared.token.Numeral.{Numeral}
+use Rattle.formula_grammar.specs.declared.token.Numeral.TheVariants.{Digits, Written}
+use Rattle.formula_grammar.specs.declared.number.NumberPart.{NumberPart}
+use Rattle.formula_grammar.specs.declared.number.NumberPart.TheVariants.{Empty, Integer, LonePoint, Decimals, ExponentMark, ExponentSign, Exponent, Slash, Denominator}
+
+-- a sign stands in front
+abbrev pub is_signed : List ℕ → Bool
+is_signed [] = false
+is_signed (b ∷ bs) = (b == 45) || (b == 43)
+
+-- the greatest number up to a bound that passes a test, or 0
+abbrev pub greatest : (ℕ → Bool) → ℕ → ℕ
+greatest p zero = 0
+greatest p (suc n) = if p (suc n) then suc n else greatest p n
+
+-- how many bytes the longest number text at the front of a text has
+unfoldable pub number_len : List ℕ → ℕ
+number_len text = greatest (λ n. is_number_text (take n text)) (length text)
+
+abbrev pub is_wide_answer : Result ℚ NumberFault → Bool
+is_wide_answer (Err TooWide) = true
+is_wide_answer _ = false
+
+-- fractions of 128 bits don't hold the number of the text
+unfoldable pub is_too_wide : List ℕ → Bool
+is_too_wide number = is_wide_answer (number_of (2 ^ 127 - 1) number)
+
+-- the value of digits, or 9 where it is more than 8
+unfoldable pub capped_value : List ℕ → ℕ
+capped_value digits = if nat_le (digits_value 10 digits) 8 then digits_value 10 digits else 9
+
+unfoldable pub whole_of : List ℕ → Whole
+whole_of digits =
+    if bytes_eq digits (codes "0") then Zero
+    else if bytes_eq digits (codes "1") then Unity
+    else Longer (length digits) (capped_value digits) (is_too_wide digits)
+
+-- what a number text is as a token
+unfoldable pub numeral_of : List ℕ → Numeral
+numeral_of number = if list_all is_ascii_digit number then Digits (whole_of number) else Written (length number) (is_too_wide number)
+
+-- ---- a number text byte by byte
+
+abbrev pub digit_then : ℕ → NumberPart → Option NumberPart
+digit_then b next = if is_ascii_digit b then Some next else None
+
+abbrev pub next_part : NumberPart → ℕ → Option NumberPart
+next_part Empty b = if is_point b then Some LonePoint else digit_then b Integer
+next_part Integer b =
+    if is_slash b then Some Slash
+    else if is_point b then Some Decimals
+    else if is_exponent_mark b then Some ExponentMark
+    else digit_then b Integer
+next_part LonePoint b = digit_then b Decimals
+next_part Decimals b = if is_exponent_mark b then Some ExponentMark else digit_then b Decimals
+next_part ExponentMark b = if (b == 45) || (b == 43) then Some ExponentSign else digit_then b Exponent
+next_part ExponentSign b = digit_then b Exponent
+next_part Exponent b = digit_then b Exponent
+next_part Slash b = if is_zero_digit b then Some Slash else digit_then b Denominator
+next_part Denominator b = digit_then b Denominator
+
+-- a number may end there
+abbrev pub is_whole : NumberPart → Bool
+is_whole Integer = true
+is_whole Decimals = true
+is_whole Exponent = true
+is_whole Denominator = true
+is_whole _ = false
+
+abbrev pub part_behind : NumberPart → List ℕ → Option NumberPart
+part_behind p [] = Some p
+part_behind p (b ∷ bs) = option_and_then (λ q. part_behind q bs) (next_part p b)

@@ -1,0 +1,14 @@
+ghost use Rattle.formula_grammar.specs.Grammar.{OneFormula};
+ghost use Rattle.formula_grammar.specs.Faults.{FormulaOrFault, NoFormulaHasFaults, OneFault};
+
+/// The grammar is unambiguous: no tokens are those of two formulas.
+pub fn one_formula()
+    ensures { OneFormula }
+{}
+
+/// The tokens of a text are one formula, or they have one first fault.
+pub fn one_outcome()
+    ensures some { FormulaOrFault }
+    ensures fault { OneFault }
+    ensures either { NoFormulaHasFaults }
+{}

@@ -1,0 +1,57 @@
+//! The grammar of formulas: from a text to its tokens, and from tokens to code.
+//!
+//! ```text
+//! formula = NAME "~" [ "+" | "-" ] item { ( "+" | "-" ) item }
+//! item    = "0" | "1" | "qss" "(" NAME "," NUMBER ")" | product
+//! sum     = [ "+" | "-" ] product { ( "+" | "-" ) product }
+//! product = inter { "*" inter }
+//! inter   = power { ":" power }
+//! power   = atom [ "^" DIGITS ]
+//! atom    = NAME | "factor" "(" NAME ")" | "." | "(" sum ")"
+//! ```
+//!
+//! No `qss` follows `-`. Spaces, tabs and line ends stand freely between tokens. A name starts with
+//! an ASCII letter, or with `.` and then a letter, `.` or `_`, and goes on with letters, digits, `.`
+//! and `_`; any text between backticks is one too. `factor` and `qss` are names unless `(` follows.
+//! A number is the longest number text that starts with a digit, or with `.` and a digit; DIGITS is
+//! one of digits alone. This is R's formula language in the project's profile, with the smooths of
+//! Koenker, Ng and Portnoy (1994).
+//!
+//! `tokens_of` gives the tokens of a text, and `read` the code of the formula that they are: steps
+//! in postfix order over a stack of lists of terms, the intercept, and the smooths. Faults are looked
+//! for from left to right, and the first is the answer:
+//! - `Syntax` at the first token that no formula can have there; the end of the text counts as one;
+//! - `TooDeep` at the 65th parenthesis that is open at once, those of `factor` and `qss` included;
+//! - `PowerRange` at an exponent whose value isn't 1 to 8;
+//! - `NumberTooWide` at a lambda that fractions of 128 bits don't hold.
+//!
+//! The crate's one contract: `read` gives the code of the one formula that has these tokens, or
+//! their first fault, as `specs/Grammar.antt`, `specs/Codes.antt` and `specs/Faults.antt` define
+//! them. `one_formula` says that no tokens are those of two formulas, and `one_outcome` that the
+//! tokens of a text are a formula or have one first fault, and never both.
+//!
+//! One loop over the bytes makes the tokens, and one loop over the tokens makes the code, with a
+//! stack of its own: no call is nested more deeply for a deeper or longer formula.
+//!
+//! It stands on `frac_core`, for number texts, lists and `OutOfMemory`.
+#![tactic(auto)]
+
+mod fault;
+mod laws;
+mod levels;
+mod lexer;
+mod limits;
+mod number;
+mod reader;
+mod reading;
+mod token;
+
+pub use fault::ReadFault;
+pub use laws::{one_formula, one_outcome};
+pub use lexer::tokens_of;
+pub use reader::read;
+pub use reading::{Reading, SmoothPart, Step};
+pub use token::{Kind, Numeral, Sign, Span, Token, Whole};
+
+#[cfg(test)]
+mod tests;

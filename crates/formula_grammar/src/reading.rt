@@ -1,0 +1,46 @@
+use crate::token::{Numeral, Span};
+use frac_core::List;
+
+/// One step of an evaluation over a stack of lists of terms: a list is pushed, or an operator takes
+/// its operands off, the right one first, and pushes what it gives. An operator keeps the byte at
+/// which it stands.
+#[derive(Clone, Copy, Debug, PartialEq, Eq)]
+pub enum Step {
+    /// The term of one variable, which was written with `factor` or without it.
+    Load { name: Span, as_factor: bool },
+    /// `.`: one term for each column but the response.
+    LoadAll,
+    /// No term: what a leading sign acts on.
+    Nothing,
+    /// `+`
+    Add { at: u32 },
+    /// `-`
+    Remove { at: u32 },
+    /// `*`
+    Multiply { at: u32 },
+    /// `:`
+    Interact { at: u32 },
+    /// `^`, with an exponent of 1 to 8.
+    Raise { exponent: u32, at: u32 },
+}
+
+/// A smooth: the name of its column, its lambda, and the byte at which the lambda stands.
+#[derive(Clone, Copy, Debug, PartialEq, Eq)]
+pub struct SmoothPart {
+    pub name: Span,
+    pub lambda: Numeral,
+    pub at: u32,
+}
+
+/// What was read of a formula.
+#[derive(Drop)]
+pub struct Reading {
+    /// The name before `~`.
+    pub response: Span,
+    /// A constant column is among the explaining ones.
+    pub intercept: bool,
+    /// The terms, as steps that leave one list on the stack.
+    pub steps: List<Step>,
+    /// The smooths in the order of the text.
+    pub smooths: List<SmoothPart>,
+}
