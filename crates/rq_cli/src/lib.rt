@@ -3,7 +3,7 @@
 
 mod outcome;
 #[cfg(test)]
-mod table_tests;
+mod tests;
 mod top;
 
 pub use outcome::Outcome;

@@ -1,49 +1,18 @@
 //! Runs on tables: what is read, what is dropped, and what is refused for which fault. The answers
 //! were worked out by hand from the rules.
-use super::run;
-use port_io::{MemSink, SureSource};
+use super::{Left, assert_printed, assert_refused, ran_on};
 use std::alloc::Global;
 use std::test::Fail;
 use std::thread::Threads;
 
-static WORDS: [&str; 7] = [
-    "process",
-    "--formula",
-    "y ~ 1",
-    "--lo",
-    "1/2",
-    "--hi",
-    "1/2",
-];
-
-fn words(alloc: Global) -> Result<Vec<String>, Fail> {
-    let mut words = Vec::new(alloc);
-    for word in &WORDS {
-        words.push(String::from_str(alloc, word)?)?;
-    }
-    Ok(words)
-}
-
-// What a run leaves: its exit status, and what stands on the outputs.
-#[derive(Drop)]
-struct Left {
-    status: u8,
-    printed: Vec<u8>,
-    told: Vec<u8>,
-}
-
 // The median of the column y.
-fn ran_on<R: Threads + Sync>(rt: &R, alloc: Global, table: &[u8]) -> Result<Left, Fail> {
-    let words = words(alloc)?;
-    let mut source = SureSource::new(table.to_vec(alloc)?);
-    let mut out = MemSink::new(alloc, 4096, 512, Vec::new(alloc))?;
-    let mut err = MemSink::new(alloc, 4096, 512, Vec::new(alloc))?;
-    let outcome = run(rt, alloc, &words, &mut source, &mut out, &mut err);
-    Ok(Left {
-        status: outcome.code(),
-        printed: out.written().to_vec(alloc)?,
-        told: err.written().to_vec(alloc)?,
-    })
+fn median_of<R: Threads + Sync>(rt: &R, alloc: Global, table: &[u8]) -> Result<Left, Fail> {
+    ran_on(
+        rt,
+        alloc,
+        "process|--formula|y ~ 1|--lo|1/2|--hi|1/2",
+        table,
+    )
 }
 
 // Each case: the table, and what is printed.
@@ -80,16 +49,14 @@ static REPORTS: [(&[u8], &str); 6] = [
 #[test]
 fn responses_are_read_from_tables(rt: HostRuntime) -> Result<(), Fail> {
     for (table, report) in &REPORTS {
-        let left = ran_on(&rt, rt.alloc(), table)?;
-        assert_eq!(rt; left.status, 0, "{report}");
-        assert!(rt; left.told.is_empty(), "{report}");
-        assert_eq!(rt; left.printed.as_slice(), report.as_bytes());
+        let left = median_of(&rt, rt.alloc(), table)?;
+        assert_printed(&rt, &left, report, report);
     }
     Ok(())
 }
 
 // Each case: the table, the exit status, and the line.
-static FAULTS: [(&[u8], u8, &str); 21] = [
+static FAULTS: [(&[u8], u8, &str); 22] = [
     (b"", 1, "quantreg: table: NoHeader\n"),
     (b"\n\r\n", 1, "quantreg: table: NoHeader\n"),
     (
@@ -119,6 +86,7 @@ static FAULTS: [(&[u8], u8, &str); 21] = [
     (b"y\n", 9, "quantreg: build: NotBuilt part=2\n"),
     (b"y,x\nNA,1\n,2\n", 9, "quantreg: build: NotBuilt part=2\n"),
     // A response that isn't a whole number below 10^9 in size.
+    (b"y\n1.5\n", 9, "quantreg: build: NotBuilt part=2\n"),
     (b"y\n1\n1.5\n", 9, "quantreg: build: NotBuilt part=2\n"),
     (b"y\n2/4\n", 9, "quantreg: build: NotBuilt part=2\n"),
     (b"y\n1000000000\n", 9, "quantreg: build: NotBuilt part=2\n"),
@@ -129,10 +97,8 @@ static FAULTS: [(&[u8], u8, &str); 21] = [
 #[test]
 fn other_tables_are_told(rt: HostRuntime) -> Result<(), Fail> {
     for (table, status, line) in &FAULTS {
-        let left = ran_on(&rt, rt.alloc(), table)?;
-        assert_eq!(rt; left.status, *status, "{table:?}");
-        assert!(rt; left.printed.is_empty(), "{table:?}");
-        assert_eq!(rt; left.told.as_slice(), line.as_bytes(), "{table:?}");
+        let left = median_of(&rt, rt.alloc(), table)?;
+        assert_refused(&rt, &left, *status, line, line);
     }
     Ok(())
 }
@@ -159,7 +125,7 @@ fn repeated(alloc: Global, first: &str, piece: &str, count: usize) -> Result<Str
 fn large_tables_are_read_to_their_limits(rt: HostRuntime) -> Result<(), Fail> {
     for (first, piece, count, status, line) in &LARGE {
         let table = repeated(rt.alloc(), first, piece, *count)?;
-        let left = ran_on(&rt, rt.alloc(), table.as_bytes())?;
+        let left = median_of(&rt, rt.alloc(), table.as_bytes())?;
         assert_eq!(rt; left.status, *status, "{count} {line}");
         assert_eq!(rt; left.told.as_slice(), line.as_bytes(), "{count}");
     }
