@@ -1,9 +1,9 @@
 -- From the steps of a run to what the run did.
-use Rattle.std.proofs.Common.{◌≡◌, ◌⊎◌, ℕ, ◌<◌, List, Option, None, Some, Result, Ok, Err, OnOk, OnErr, true, false, arith, refl, sym, ap, subst, ◌∙◌, inl, inr}
+use Rattle.std.proofs.Common.{◌≡◌, ℕ, ◌<◌, List, Option, None, Some, Result, Ok, Err, OnOk, OnErr, true, arith, refl, sym, ap, subst, ◌∙◌, inl, inr}
 use Rattle.std.proofs.lemmas.Bool.{false≢true}
 use Rattle.std.specs.Io.KnownBytes.{Appends, Keeps}
 use Rattle.rq_words.specs.declared.job.Job.{Job}
-use Rattle.port_io.specs.Counts.{Rose, CountsFaults}
+use Rattle.port_io.specs.Counts.{CountsFaults}
 use Rattle.port_io.specs.Told.{AppendsPart}
 use Rattle.rq_engine.specs.Answers as engine
 use Rattle.rq_engine.specs.ReportText.{report_text}
@@ -11,8 +11,8 @@ use Rattle.rq_engine.specs.declared.report.Report.{Report}
 use Rattle.rq_engine.specs.declared.report.Refusal.TheVariants.{TooLong, Table}
 use Rattle.rq_engine.specs.declared.report.Halt.{Halt}
 use Rattle.rq_engine.specs.declared.report.Halt.TheVariants as halts
-use Rattle.rq_cli.specs.Outcomes.{Stream, OnDone, OnFault, is_fault, outcome_line, WereRead, HasCause, IsAnswered, WasTried, IsOutputFault, IsErrorFault, IsRun}
-use Rattle.rq_cli.specs.Steps.{outcome_of, IsWordOutcome, IsTold, IsHalfTold, WasTold, IsPrinted, IsHalfPrinted, WasPrinted}
+use Rattle.rq_cli.specs.Outcomes.{Stream, OnDone, OnFault, is_fault, outcome_line, WereRead, HasCause, IsAnswered, WasTried, IsRun}
+use Rattle.rq_cli.specs.Steps.{outcome_of, IsWordOutcome, WasTold, WasPrinted}
 use Rattle.rq_cli.specs.declared.outcome.Outcome.{Outcome}
 use Rattle.rq_cli.specs.declared.outcome.Outcome.TheVariants.{Done, Refused, Usage, SourceFault, SinkFault, OutOfMemory, NotBuilt}
 

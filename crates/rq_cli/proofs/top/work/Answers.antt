@@ -1,4 +1,3 @@
-use Rattle.std.proofs.Common.{◌≡◌, sym, ap, ◌∙◌}
 use Rattle.rq_cli.proofs.Runs.{halt_cause}
 use Rattle.rq_cli.proofs.top.work.Goals as goal
 
