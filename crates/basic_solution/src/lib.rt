@@ -15,6 +15,8 @@ mod duals;
 mod primal;
 mod signs;
 mod solution;
+#[cfg(test)]
+mod tests;
 
 pub use columns::totals;
 pub use coordinates::{coordinates_at, row_coordinates};
