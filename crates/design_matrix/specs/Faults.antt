@@ -1,0 +1,79 @@
+-- Why a table and a formula have no design: the faults in the order in which they are looked for.
+use Rattle.std.specs.Prelude.{◌≡◌, ◌==◌, ◌&&◌, ℕ, not, Bool, List, [], ◌∷◌, Option, Some, None, length, nat_lt, if◌then◌else◌}
+use Rattle.std.specs.List.{flat_map}
+use Rattle.std.specs.Option.{option_or}
+use Rattle.contrasts.specs.declared.Coding.{Coding}
+use Rattle.data_frame.specs.Cells.{numbers, factor, too_wide}
+use Rattle.data_frame.specs.Records.{Text}
+use Rattle.formula_parser.specs.declared.formula.Formula.{Formula}
+use Rattle.design_matrix.specs.declared.design.Design.{Design}
+use Rattle.design_matrix.specs.declared.fault.DesignFault.{DesignFault}
+use Rattle.design_matrix.specs.declared.fault.DesignFault.TheVariants.{OutOfMemory, UnknownWeights, ResponseNotNumeric, WeightNotNumeric, NumberTooWide, NegativeWeight, NoRows, OneLevel, NoColumns, TooManyColumns, Overflow}
+use Rattle.design_matrix.specs.Cells.{Column, Table, column_of, kept, used_names}
+use Rattle.design_matrix.specs.Coded.{Coded, coded_terms, width}
+use Rattle.design_matrix.specs.Designs.{AllFit, DesignOf, OverflowsFirst, design_of, exact_design}
+use Rattle.design_matrix.specs.Parts.{columns_of}
+
+abbrev pub response_fault : Column → Option DesignFault
+response_fault (numbers cells) = None
+response_fault (factor cells) = Some ResponseNotNumeric
+response_fault (too_wide rec) = None
+
+abbrev pub wide_fault : Text → Column → Option DesignFault
+wide_fault name (numbers cells) = None
+wide_fault name (factor cells) = None
+wide_fault name (too_wide rec) = Some (NumberTooWide rec name)
+
+-- the first of these columns with a number that is too wide
+abbrev pub widths_fault : Table → List Text → Option DesignFault
+widths_fault table [] = None
+widths_fault table (name ∷ rest) = option_or (wide_fault name (column_of table name)) (widths_fault table rest)
+
+abbrev pub rows_fault : List ℕ → Option DesignFault
+rows_fault records = if length records == 0 then Some NoRows else None
+
+-- the first variable without a column: a factor of one level that is coded by contrasts
+abbrev pub levels_fault : List Coded → Option DesignFault
+levels_fault [] = None
+levels_fault (v ∷ vs) = if width v == 0 then Some (OneLevel v.name) else levels_fault vs
+
+abbrev pub terms_fault : List (List Coded) → Option DesignFault
+terms_fault terms = levels_fault (flat_map (λ vs. vs) terms)
+
+abbrev pub empty_fault : Formula → Option DesignFault
+empty_fault model =
+    if (not model.intercept && (length model.terms == 0)) && (length model.smooths == 0) then Some NoColumns else None
+
+abbrev pub columns_fault : ℕ → Option DesignFault
+columns_fault columns = if nat_lt 128 columns then Some TooManyColumns else None
+
+-- the first fault but for products that overflow
+unfoldable pub fault_of : Table → Formula → Coding → Option DesignFault
+fault_of table model coding =
+    option_or (response_fault (column_of table model.response))
+    (option_or (widths_fault table (used_names model))
+    (option_or (rows_fault (kept table model))
+    (option_or (terms_fault (coded_terms table model coding))
+    (option_or (empty_fault model)
+    (columns_fault (length (columns_of table model coding)))))))
+
+-- the design is that of the table and the formula: nothing is wrong with these, and every product fits
+pub record IsDesign (table : Table) (model : Formula) (coding : Coding) (design : Design) : Type 0 where
+  pub sound : fault_of table model coding ≡ None
+  pub exact : exact_design design ≡ design_of table model coding
+  pub fits : AllFit (columns_of table model coding) (kept table model)
+
+-- Want of memory has no cause here; a product that overflows is looked for last.
+abbrev pub HasCause : Table → Formula → Coding → DesignFault → Type 0
+HasCause table model coding OutOfMemory = Unit {0}
+HasCause table model coding (Overflow spill) =
+    (fault_of table model coding ≡ None) × OverflowsFirst (columns_of table model coding) (kept table model) spill
+HasCause table model coding UnknownWeights = fault_of table model coding ≡ Some UnknownWeights
+HasCause table model coding ResponseNotNumeric = fault_of table model coding ≡ Some ResponseNotNumeric
+HasCause table model coding WeightNotNumeric = fault_of table model coding ≡ Some WeightNotNumeric
+HasCause table model coding (NumberTooWide rec column) = fault_of table model coding ≡ Some (NumberTooWide rec column)
+HasCause table model coding (NegativeWeight rec) = fault_of table model coding ≡ Some (NegativeWeight rec)
+HasCause table model coding NoRows = fault_of table model coding ≡ Some NoRows
+HasCause table model coding (OneLevel name) = fault_of table model coding ≡ Some (OneLevel name)
+HasCause table model coding NoColumns = fault_of table model coding ≡ Some NoColumns
+HasCause table model coding TooManyColumns = fault_of table model coding ≡ Some TooManyColumns
