@@ -1,5 +1,5 @@
 -- The variables of terms with their values at the kept records and their codings.
-use Rattle.std.specs.Prelude.{◌≡◌, ◌==◌, ℕ, ◌+◌, ◌++◌, ◌&&◌, ◌||◌, Bool, true, false, List, [], ◌∷◌, codes, length, map, take, drop, if◌then◌else◌}
+use Rattle.std.specs.Prelude.{◌==◌, ℕ, ◌+◌, ◌++◌, ◌&&◌, ◌||◌, Bool, true, false, List, [], ◌∷◌, codes, length, map, take, drop, if◌then◌else◌}
 use Rattle.std.specs.List.{list_all, list_any}
 use Rattle.std.specs.Str.{bytes_eq}
 use Rattle.std.specs.declared.cmp.Ordering.{Ordering}
@@ -48,7 +48,7 @@ is_text (factor cells) = true
 is_text (too_wide rec) = false
 
 -- the column is a factor, or `factor` was written
-abbrev pub is_factor : Table → Variable → Bool
+unfoldable pub is_factor : Table → Variable → Bool
 is_factor table v = v.as_factor || is_text (column_of table v.name)
 
 abbrev pub same_bool : Bool → Bool → Bool
@@ -69,16 +69,16 @@ same_variables (v ∷ vs) (w ∷ ws) = same_variable v w && same_variables vs ws
 abbrev pub without : ℕ → List Variable → List Variable
 without place vs = take place vs ++ drop (place + 1) vs
 
-abbrev pub is_in_model : List Term → List Variable → Bool
+unfoldable pub is_in_model : List Term → List Variable → Bool
 is_in_model terms vs = list_any (λ t. same_variables vs t.variables) terms
 
 -- the term is one factor
-abbrev pub is_whole_factor : Table → Term → Bool
+unfoldable pub is_whole_factor : Table → Term → Bool
 is_whole_factor table t = (length t.variables == 1) && list_all (is_factor table) t.variables
 
 -- The columns of a factor would add up to columns that the model has: where the factor is the whole term, to the
 -- intercept or to those of an earlier term that is a factor; in a longer term, to those of the term without it.
-abbrev pub is_spanned : Table → Formula → ℕ → List Variable → ℕ → Bool
+unfoldable pub is_spanned : Table → Formula → ℕ → List Variable → ℕ → Bool
 is_spanned table model number vs place =
     if length vs == 1
     then model.intercept || list_any (is_whole_factor table) (take number model.terms)
@@ -90,19 +90,20 @@ coding_of table model contrasts number vs place =
     if is_spanned table model number vs place then contrasts else Indicator
 
 -- a variable at a place of the term of this number
-abbrev pub coded_variable : Table → Formula → Coding → ℕ → List Variable → ℕ → Variable → Coded
-coded_variable table model contrasts number vs place v = record {
+unfoldable pub coded_variable : Table → Formula → Coding → List ℕ → ℕ → List Variable → ℕ → Variable → Coded
+coded_variable table model contrasts records number vs place v = record {
   name = printed_name v.as_factor v.name;
   coding = coding_of table model contrasts number vs place;
-  values = values_in v.as_factor (column_of table v.name) (kept table model);
+  values = values_in v.as_factor (column_of table v.name) records;
 }
 
-abbrev pub coded_term : Table → Formula → Coding → ℕ → Term → List Coded
-coded_term table model contrasts number t = each (coded_variable table model contrasts number t.variables) 0 t.variables
+abbrev pub coded_term : Table → Formula → Coding → List ℕ → ℕ → Term → List Coded
+coded_term table model contrasts records number t =
+    each (coded_variable table model contrasts records number t.variables) 0 t.variables
 
 -- the terms of a formula, variable by variable
 unfoldable pub coded_terms : Table → Formula → Coding → List (List Coded)
-coded_terms table model contrasts = each (coded_term table model contrasts) 0 model.terms
+coded_terms table model contrasts = each (coded_term table model contrasts (kept table model)) 0 model.terms
 
 -- the number of a variable's columns
 abbrev pub width_in : Coding → Values → ℕ

@@ -1,14 +1,15 @@
 -- Why a table and a formula have no design: the faults in the order in which they are looked for.
-use Rattle.std.specs.Prelude.{◌≡◌, ◌==◌, ◌&&◌, ℕ, not, Bool, List, [], ◌∷◌, Option, Some, None, length, nat_lt, if◌then◌else◌}
-use Rattle.std.specs.List.{flat_map}
+use Rattle.std.specs.Prelude.{◌≡◌, ◌⊎◌, ◌==◌, ◌&&◌, ℕ, not, Bool, List, [], ◌∷◌, Option, Some, None, length, nat_lt, if◌then◌else◌}
 use Rattle.std.specs.Option.{option_or}
 use Rattle.contrasts.specs.declared.Coding.{Coding}
+use Rattle.frac_core.specs.declared.frac128.Frac128.{Frac128}
+use Rattle.loss_model.specs.declared.spill.Spill.{Spill}
 use Rattle.data_frame.specs.Cells.{numbers, factor, too_wide}
 use Rattle.data_frame.specs.Records.{Text}
 use Rattle.formula_parser.specs.declared.formula.Formula.{Formula}
 use Rattle.design_matrix.specs.declared.design.Design.{Design}
 use Rattle.design_matrix.specs.declared.fault.DesignFault.{DesignFault}
-use Rattle.design_matrix.specs.declared.fault.DesignFault.TheVariants.{OutOfMemory, UnknownWeights, ResponseNotNumeric, WeightNotNumeric, NumberTooWide, NegativeWeight, NoRows, OneLevel, NoColumns, TooManyColumns, Overflow}
+use Rattle.design_matrix.specs.declared.fault.DesignFault.TheVariants.{OutOfMemory, ResponseNotNumeric, NumberTooWide, NoRows, OneLevel, NoColumns, TooManyColumns, Overflow}
 use Rattle.design_matrix.specs.Cells.{Column, Table, column_of, kept, used_names}
 use Rattle.design_matrix.specs.Coded.{Coded, coded_terms, width}
 use Rattle.design_matrix.specs.Designs.{AllFit, DesignOf, OverflowsFirst, design_of, exact_design}
@@ -38,7 +39,8 @@ levels_fault [] = None
 levels_fault (v ∷ vs) = if width v == 0 then Some (OneLevel v.name) else levels_fault vs
 
 abbrev pub terms_fault : List (List Coded) → Option DesignFault
-terms_fault terms = levels_fault (flat_map (λ vs. vs) terms)
+terms_fault [] = None
+terms_fault (vs ∷ rest) = option_or (levels_fault vs) (terms_fault rest)
 
 abbrev pub empty_fault : Formula → Option DesignFault
 empty_fault model =
@@ -63,17 +65,14 @@ pub record IsDesign (table : Table) (model : Formula) (coding : Coding) (design 
   pub exact : exact_design design ≡ design_of table model coding
   pub fits : AllFit (columns_of table model coding) (kept table model)
 
--- Want of memory has no cause here; a product that overflows is looked for last.
+-- a product overflows, and nothing is wrong before that
+pub record IsOverflow (table : Table) (model : Formula) (coding : Coding) (fault : DesignFault) : Type 0 where
+  pub spill : Spill Frac128
+  pub is : fault ≡ Overflow spill
+  pub sound : fault_of table model coding ≡ None
+  pub first : OverflowsFirst (columns_of table model coding) (kept table model) spill
+
+-- Why there is no design. Want of memory has no cause here.
 abbrev pub HasCause : Table → Formula → Coding → DesignFault → Type 0
-HasCause table model coding OutOfMemory = Unit {0}
-HasCause table model coding (Overflow spill) =
-    (fault_of table model coding ≡ None) × OverflowsFirst (columns_of table model coding) (kept table model) spill
-HasCause table model coding UnknownWeights = fault_of table model coding ≡ Some UnknownWeights
-HasCause table model coding ResponseNotNumeric = fault_of table model coding ≡ Some ResponseNotNumeric
-HasCause table model coding WeightNotNumeric = fault_of table model coding ≡ Some WeightNotNumeric
-HasCause table model coding (NumberTooWide rec column) = fault_of table model coding ≡ Some (NumberTooWide rec column)
-HasCause table model coding (NegativeWeight rec) = fault_of table model coding ≡ Some (NegativeWeight rec)
-HasCause table model coding NoRows = fault_of table model coding ≡ Some NoRows
-HasCause table model coding (OneLevel name) = fault_of table model coding ≡ Some (OneLevel name)
-HasCause table model coding NoColumns = fault_of table model coding ≡ Some NoColumns
-HasCause table model coding TooManyColumns = fault_of table model coding ≡ Some TooManyColumns
+HasCause table model coding fault =
+    (fault ≡ OutOfMemory) ⊎ ((fault_of table model coding ≡ Some fault) ⊎ IsOverflow table model coding fault)

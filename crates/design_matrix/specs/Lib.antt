@@ -6,3 +6,5 @@ pub mod Parts
 pub mod Products
 pub mod Designs
 pub mod Faults
+pub mod Views
+pub mod Widths

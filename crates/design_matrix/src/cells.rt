@@ -1,6 +1,6 @@
 //! The columns that a formula uses, and the records that are kept.
 
-ghost use Rattle.std.specs.Prelude.{◌≡◌, ◌<◌, IfOk, filter, is_some, length, map};
+ghost use Rattle.std.specs.Prelude.{◌≡◌, ◌<◌, IfOk, filter, is_some, length, map, option_map};
 ghost use Rattle.std.specs.List.{list_all, range_with_len};
 ghost use Rattle.data_frame.specs.Views.{exact, lent_column};
 ghost use Rattle.design_matrix.specs.Cells.{cell_of, column_of, is_complete, is_present, number_at, number_in};
@@ -20,13 +20,13 @@ pub(crate) fn column<'a>(frame: &'a Frame, name: &str) -> Column<'a>
     }
 }
 
-// Whether the cell of a record isn't missing. Records are counted from 0 here.
-fn has_cell<T>(cells: &[Option<T>], index: u32) -> bool
-    ensures { result ≡ is_some (cell_of cells.now index) }
+/// The cell of a record, where it isn't missing. Records are counted from 0 here.
+pub(crate) fn cell<'a, T>(cells: &'a [Option<T>], index: u32) -> Option<&'a T>
+    ensures { option_map (λ c. c.now) result ≡ cell_of cells.now index }
 {
     match cells.get(index as usize) {
-        Some(cell) => cell.is_some(),
-        None => false,
+        Some(found) => found.as_ref(),
+        None => None,
     }
 }
 
@@ -34,8 +34,8 @@ fn has_value(column: &Column<'_>, index: u32) -> bool
     ensures { result ≡ is_present (lent_column column.now) index }
 {
     match *column {
-        Column::Numbers(cells) => has_cell(cells, index),
-        Column::Factor(cells) => has_cell(cells, index),
+        Column::Numbers(cells) => cell(cells, index).is_some(),
+        Column::Factor(cells) => cell(cells, index).is_some(),
         Column::TooWide { .. } => false,
     }
 }
@@ -44,14 +44,14 @@ fn has_value(column: &Column<'_>, index: u32) -> bool
 pub(crate) fn number(cells: &[Option<Frac128>], index: u32) -> Frac128
     ensures { exact result ≡ number_in cells.now index }
 {
-    match cells.get(index as usize) {
-        Some(Some(number)) => *number,
-        _ => Frac128::zero(),
+    match cell(cells, index) {
+        Some(number) => *number,
+        None => Frac128::zero(),
     }
 }
 
 fn is_whole(columns: &[Column<'_>], index: u32) -> bool
-    ensures { result ≡ is_complete (map lent_column columns.now) index }
+    ensures { result ≡ list_all (λ column. is_present (lent_column column) index) columns.now }
 {
     columns.iter().all(|column| has_value(column, index))
 }

@@ -2,9 +2,12 @@
 #![tactic(auto)]
 
 mod cells;
+mod coded;
 mod design;
 mod fault;
 mod levels;
+mod part;
+mod parts;
 
 pub use design::{Design, DesignRow};
 pub use fault::DesignFault;

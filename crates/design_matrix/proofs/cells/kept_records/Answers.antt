@@ -1,17 +1,16 @@
-use Rattle.std.proofs.Common.{rules, ◌≡◌, ◌<◌, IfOk, filter, is_some, length, map, ℕ, ◌+◌, ◌-◌, ◌*◌, ◌≤◌, ◌/◌, ◌%◌, Bool, true, false, nat_eq, nat_lt, List, [], ◌∷◌, ◌++◌, slice_index_or, slice_set, bit_and, bit_or, Fits, w8, w32, w64, Bor, MutBor}
-use Rattle.std.specs.List.{list_all, range_with_len}
-use Rattle.data_frame.specs.Views.{exact, lent_column}
-use Rattle.design_matrix.specs.Cells.{cell_of, column_of, is_complete, is_present, number_at, number_in}
+use Rattle.std.proofs.Common.{ap, map, sym, ◌∙◌}
+use Rattle.data_frame.specs.Views.{lent_column}
+use Rattle.design_matrix.specs.Cells.{is_complete, is_present}
+use Rattle.design_matrix.proofs.Steps.{keeps, list_all-map, passes_over}
 use Rattle.design_matrix.proofs.cells.kept_records.Goals as goal
+use Rattle.design_matrix.proofs.cells.kept_records.Goals.{then-is_whole+in_ok-push, else-is_whole}
 
--- src/cells.rt:69:5
-pub loop-index-init : goal.loop-index-init
-loop-index-init c = ?
-
--- src/cells.rt:69:5
 pub loop-index-preserved : goal.loop-index-preserved
-loop-index-preserved c = ?
-
--- src/cells.rt:60:1
-pub returns : goal.returns
-returns c = ?
+loop-index-preserved c =
+    let complete = list_all-map lent_column (λ column. is_present column c.loop-index.index) c.args.columns.now ∙ sym c.is_whole.ensures in
+    elim c.if-is_whole.branch [
+      then-is_whole+in_ok-push w ↦ keeps (is_complete (map lent_column c.args.columns.now)) _ _ _ c.loop-index.invariant
+        (ap (λ v. v.items) w.kept-is ∙ w.in_ok-push.ensures.items) (complete ∙ w.if-is_whole.true)
+      | else-is_whole w ↦ passes_over (is_complete (map lent_column c.args.columns.now)) _ _ _ c.loop-index.invariant
+        (ap (λ v. v.items) w.kept-is) (complete ∙ w.if-is_whole.false)
+    ]

@@ -1,0 +1,94 @@
+-- One item more.
+use Rattle.std.proofs.Common.{◌≡◌, ◌<◌, ◌&&◌, ℕ, suc, ◌+◌, Bool, true, false, cond, List, [], ◌∷◌, ◌++◌, Option, take, length, map, filter, get_or, refl, sym, ap, ◌∙◌, append_assoc, arith, subst}
+use Rattle.std.specs.declared.cmp.Ordering.{Ordering}
+use Rattle.std.specs.List.{filter_map, flat_map, list_all, range_with_len}
+use Rattle.std.proofs.lemmas.List.{map-append, take_more}
+use Rattle.std.proofs.lemmas.List.Elements.{filter-append, filter_map-append}
+use Rattle.std.proofs.lemmas.List.FromFn.{map-range_with_len_more}
+use Rattle.design_matrix.specs.Cells.{cell_of, present}
+use Rattle.design_matrix.specs.Levels.{level_of, put, put_all}
+use Rattle.design_matrix.specs.Lists.{each}
+
+map_same : {A : Type 0} (xs : List A) → map (λ x. x) xs ≡ xs
+map_same [] = refl
+map_same (x ∷ xs) = ap (λ l. x ∷ l) (map_same xs)
+
+pub range_more : (n : ℕ) → range_with_len 0 (n + 1) ≡ range_with_len 0 n ++ (n ∷ [])
+range_more n =
+    sym (map_same (range_with_len 0 (n + 1)))
+    ∙ map-range_with_len_more (λ x. x) 0 n n (omega arith)
+    ∙ ap (λ l. l ++ (n ∷ [])) (map_same (range_with_len 0 n))
+
+pub list_all-map : {A B : Type 0} (f : A → B) (test : B → Bool) (xs : List A) → list_all test (map f xs) ≡ list_all (λ x. test (f x)) xs
+list_all-map f test [] = refl
+list_all-map f test (x ∷ xs) = ap (λ b. test (f x) && b) (list_all-map f test xs)
+
+filter_more : (test : ℕ → Bool) (n : ℕ) (b : Bool) → test n ≡ b
+    → filter test (range_with_len 0 (n + 1)) ≡ filter test (range_with_len 0 n) ++ cond b (n ∷ []) []
+filter_more test n b e =
+    ap (λ l. filter test l) (range_more n)
+    ∙ filter-append test (range_with_len 0 n) (n ∷ [])
+    ∙ ap (λ t. filter test (range_with_len 0 n) ++ cond t (n ∷ []) []) e
+
+pub keeps : (test : ℕ → Bool) (n : ℕ) (old new : List ℕ) → old ≡ filter test (range_with_len 0 n) → new ≡ old ++ (n ∷ []) → test n ≡ true
+    → new ≡ filter test (range_with_len 0 (n + 1))
+keeps test n old new e f t = f ∙ ap (λ l. l ++ (n ∷ [])) e ∙ sym (filter_more test n true t)
+
+append_nothing : {A : Type 0} (xs : List A) → xs ++ [] ≡ xs
+append_nothing [] = refl
+append_nothing (x ∷ xs) = ap (λ l. x ∷ l) (append_nothing xs)
+
+pub passes_over : (test : ℕ → Bool) (n : ℕ) (old new : List ℕ) → old ≡ filter test (range_with_len 0 n) → new ≡ old → test n ≡ false
+    → new ≡ filter test (range_with_len 0 (n + 1))
+passes_over test n old new e f t = f ∙ e ∙ sym (filter_more test n false t ∙ append_nothing (filter test (range_with_len 0 n)))
+
+pub present_more : {K : Type 0} (cells : List (Option K)) (records : List ℕ) (i r : ℕ) → i < length records → r ≡ get_or records i 0
+    → present cells (take (i + 1) records) ≡ present cells (take i records) ++ present cells (r ∷ [])
+present_more cells records i r h e =
+    ap (λ l. present cells l) (take_more records i 0 h ∙ ap (λ x. take i records ++ (x ∷ [])) (sym e))
+    ∙ filter_map-append (cell_of cells) (take i records) (r ∷ [])
+
+put_all-append : {K : Type 0} (order : K → K → Ordering) (levels xs ys : List K)
+    → put_all order levels (xs ++ ys) ≡ put_all order (put_all order levels xs) ys
+put_all-append order levels [] ys = refl
+put_all-append order levels (x ∷ xs) ys = put_all-append order (put order x levels) xs ys
+
+pub levels_more : {K : Type 0} (order : K → K → Ordering) (cells : List (Option K)) (records : List ℕ) (i r : ℕ)
+    (old new : List K) → i < length records → r ≡ get_or records i 0 → old ≡ put_all order [] (present cells (take i records))
+    → new ≡ put_all order old (present cells (r ∷ [])) → new ≡ put_all order [] (present cells (take (i + 1) records))
+levels_more order cells records i r old new h e f g =
+    g
+    ∙ ap (λ l. put_all order l (present cells (r ∷ []))) f
+    ∙ sym (put_all-append order [] (present cells (take i records)) (present cells (r ∷ [])))
+    ∙ ap (λ l. put_all order [] l) (sym (present_more cells records i r h e))
+
+pub places_more : {K : Type 0} (level : K → ℕ) (cells : List (Option K)) (records : List ℕ) (i r : ℕ) (old new : List ℕ)
+    → i < length records → r ≡ get_or records i 0 → old ≡ map level (present cells (take i records))
+    → new ≡ old ++ map level (present cells (r ∷ [])) → new ≡ map level (present cells (take (i + 1) records))
+places_more level cells records i r old new h e f g =
+    g
+    ∙ ap (λ l. l ++ map level (present cells (r ∷ []))) f
+    ∙ sym (map-append level (present cells (take i records)) (present cells (r ∷ [])))
+    ∙ ap (λ l. map level l) (sym (present_more cells records i r h e))
+
+each_push : {A B : Type 0} (f : ℕ → A → B) (k n : ℕ) (xs : List A) (x : A) → n ≡ k + length xs
+    → each f k (xs ++ (x ∷ [])) ≡ each f k xs ++ (f n x ∷ [])
+each_push f k n [] x e = ap (λ m. f m x ∷ []) (let e' : k ≡ n = omega arith in e')
+each_push f k n (y ∷ ys) x e = ap (λ l. f k y ∷ l) (each_push f (k + 1) n ys x (omega arith))
+
+pub each_more : {A B : Type 0} (f : ℕ → A → B) (xs : List A) (i : ℕ) (x : A) (old new : List B) → i < length xs → x ≡ get_or xs i x
+    → old ≡ each f 0 (take i xs) → new ≡ old ++ (f i x ∷ []) → new ≡ each f 0 (take (i + 1) xs)
+each_more f xs i x old new h e p q =
+    let n : i ≡ 0 + length (take i xs) = ? in
+    q
+    ∙ ap (λ l. l ++ (f i x ∷ [])) p
+    ∙ sym (each_push f 0 i (take i xs) x n)
+    ∙ ap (λ l. each f 0 l) (sym (take_more xs i x h ∙ ap (λ y. take i xs ++ (y ∷ [])) (sym e)))
+
+pub map_push : {A B : Type 0} (f : A → B) (xs : List A) (i : ℕ) (x : A) (old new : List B) → i < length xs → x ≡ get_or xs i x
+    → old ≡ map f (take i xs) → new ≡ old ++ (f x ∷ []) → new ≡ map f (take (i + 1) xs)
+map_push f xs i x old new h e p q =
+    q
+    ∙ ap (λ l. l ++ (f x ∷ [])) p
+    ∙ sym (map-append f (take i xs) (x ∷ []))
+    ∙ ap (λ l. map f l) (sym (take_more xs i x h ∙ ap (λ y. take i xs ++ (y ∷ [])) (sym e)))
