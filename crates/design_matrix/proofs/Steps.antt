@@ -1,8 +1,9 @@
 -- One item more.
-use Rattle.std.proofs.Common.{◌≡◌, ◌<◌, ◌&&◌, ℕ, suc, ◌+◌, Bool, true, false, cond, List, [], ◌∷◌, ◌++◌, Option, take, length, map, filter, get_or, refl, sym, ap, ◌∙◌, append_assoc, arith, subst}
+use Rattle.std.proofs.Common.{◌≡◌, ◌<◌, ◌&&◌, ℕ, suc, ◌+◌, Bool, true, false, cond, List, [], ◌∷◌, ◌++◌, Option, take, length, map, filter, get_or, refl, sym, ap, ◌∙◌, append_assoc, arith, nat_eq, eq-eqb}
+use Rattle.std.proofs.lemmas.Bool.{eqb-true}
 use Rattle.std.specs.declared.cmp.Ordering.{Ordering}
 use Rattle.std.specs.List.{filter_map, flat_map, list_all, range_with_len}
-use Rattle.std.proofs.lemmas.List.{map-append, take_more}
+use Rattle.std.proofs.lemmas.List.{length-take-le, map-append, take_more}
 use Rattle.std.proofs.lemmas.List.Elements.{filter-append, filter_map-append}
 use Rattle.std.proofs.lemmas.List.FromFn.{map-range_with_len_more}
 use Rattle.design_matrix.specs.Cells.{cell_of, present}
@@ -79,7 +80,8 @@ each_push f k n (y ∷ ys) x e = ap (λ l. f k y ∷ l) (each_push f (k + 1) n y
 pub each_more : {A B : Type 0} (f : ℕ → A → B) (xs : List A) (i : ℕ) (x : A) (old new : List B) → i < length xs → x ≡ get_or xs i x
     → old ≡ each f 0 (take i xs) → new ≡ old ++ (f i x ∷ []) → new ≡ each f 0 (take (i + 1) xs)
 each_more f xs i x old new h e p q =
-    let n : i ≡ 0 + length (take i xs) = ? in
+    let e' : length (take i xs) ≡ i = length-take-le i xs (omega arith) in
+    let n : i ≡ 0 + length (take i xs) = omega arith in
     q
     ∙ ap (λ l. l ++ (f i x ∷ [])) p
     ∙ sym (each_push f 0 i (take i xs) x n)
@@ -92,3 +94,20 @@ map_push f xs i x old new h e p q =
     ∙ ap (λ l. l ++ (f x ∷ [])) p
     ∙ sym (map-append f (take i xs) (x ∷ []))
     ∙ ap (λ l. map f l) (sym (take_more xs i x h ∙ ap (λ y. take i xs ++ (y ∷ [])) (sym e)))
+
+pub map_map : {A B C : Type 0} (f : B → C) (g : A → B) (xs : List A) → map f (map g xs) ≡ map (λ x. f (g x)) xs
+map_map f g [] = refl
+map_map f g (x ∷ xs) = ap (λ l. f (g x) ∷ l) (map_map f g xs)
+
+pub at_one : {A : Type 0} (n : ℕ) (x y : A) → n ≡ 1 → cond (nat_eq n 1) x y ≡ x
+at_one n x y e = ap (λ b. cond b x y) (eq-eqb n 1 e)
+
+pub not_one : (n : ℕ) → (n ≡ 1 → ⊥) → nat_eq n 1 ≡ false
+not_one n h = at (nat_eq n 1) refl
+  where
+    at : (b : Bool) → nat_eq n 1 ≡ b → nat_eq n 1 ≡ false
+    at true e = absurd (h (eqb-true n 1 e))
+    at false e = e
+
+pub elsewhere : {A : Type 0} (n : ℕ) (x y : A) → (n ≡ 1 → ⊥) → cond (nat_eq n 1) x y ≡ y
+elsewhere n x y h = ap (λ b. cond b x y) (not_one n h)

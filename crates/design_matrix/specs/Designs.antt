@@ -55,14 +55,17 @@ exact_design design = record { names = design.names; rows = map exact_row design
 abbrev pub RowFits : List (List Part) → ℕ → Type 0
 RowFits columns place = All (λ column. Fits (factors column place)) columns
 
--- A product of the row at a place overflows, of the record of this number, and it is the first there by column and by the
--- number of its factors.
+-- a product of a column's parts overflows at a place, at the record and the column of these numbers
+pub record OverflowsInColumn (parts : List Part) (place rec column : ℕ) (spill : Spill Frac128) : Type 0 where
+  pub term : ℕ
+  pub site : spill.site ≡ record { quantity = DesignEntry; first = rec; second = column; third = 0; term = term; kind = Mul }
+  pub overflows : OverflowsAt (factors parts place) term spill.left spill.right
+
+-- a product of the row at a place overflows, and it is of the first such column
 pub record OverflowsInRow (columns : List (List Part)) (place rec : ℕ) (spill : Spill Frac128) : Type 0 where
   pub column : ℕ
-  pub term : ℕ
   pub there : column < length columns
-  pub site : spill.site ≡ record { quantity = DesignEntry; first = rec; second = column; third = 0; term = term; kind = Mul }
-  pub overflows : OverflowsAt (factors (slice_index_or columns column []) place) term spill.left spill.right
+  pub first : OverflowsInColumn (slice_index_or columns column []) place rec column spill
   pub before : RowFits (take column columns) place
 
 -- the same of a row of kept records, and it is the first such row

@@ -1,6 +1,6 @@
 -- The columns of a design.
-use Rattle.std.specs.Prelude.{◌≡◌, ◌<◌, ℕ, ◌+◌, ◌*◌, ◌/◌, ◌%◌, ◌++◌, Bool, true, false, List, [], ◌∷◌, codes, length, map, pos, slice_index_or}
-use Rattle.std.specs.List.{flat_map, join_with_byte, range_with_len}
+use Rattle.std.specs.Prelude.{ℕ, ◌*◌, ◌/◌, ◌%◌, ◌++◌, Bool, true, false, List, [], ◌∷◌, codes, length, map, pos, slice_index_or}
+use Rattle.std.specs.List.{flat_map, range_with_len}
 use Rattle.exact_algebra.specs.Rational.{ℚ, whole}
 use Rattle.contrasts.specs.declared.Coding.{Coding}
 use Rattle.contrasts.specs.Coding.{entry_of, label_of}
@@ -48,9 +48,10 @@ columns_in false terms = flat_map term_columns terms
 unfoldable pub columns_of : Table → Formula → Coding → List (List Part)
 columns_of table model coding = columns_in model.intercept (coded_terms table model coding)
 
+-- the labels with colons between
 abbrev pub column_name : List Part → Text
 column_name [] = codes "(Intercept)"
-column_name (p ∷ ps) = join_with_byte 58 (map (λ q. q.label) (p ∷ ps))
+column_name (p ∷ ps) = p.label ++ flat_map (λ q. 58 ∷ q.label) ps
 
 -- the entries of a column's parts at a kept record
 abbrev pub factors : List Part → ℕ → List ℚ

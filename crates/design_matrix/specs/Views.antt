@@ -1,6 +1,6 @@
 -- How contracts see what the code holds of variables and columns.
-use Rattle.std.specs.Prelude.{ℕ, List, length, map}
-use Rattle.contrasts.specs.Coding.{width_of}
+use Rattle.std.specs.Prelude.{List, Vec, map}
+use Rattle.std.specs.declared.alloc.Global.{Global}
 use Rattle.design_matrix.specs.declared.coded.Values.{Values as Held}
 use Rattle.design_matrix.specs.declared.coded.Values.TheVariants as held
 use Rattle.design_matrix.specs.declared.coded.Coded.{Coded as HeldCoded}
@@ -18,3 +18,9 @@ coded_seen v = record { name = v.name; coding = v.coding; values = values_seen v
 
 abbrev pub part_seen : HeldPart → Part
 part_seen p = part_of (coded_seen p.variable.now) p.column
+
+abbrev pub terms_seen : List (Vec HeldCoded Global) → List (List Coded)
+terms_seen terms = map (λ vs. map coded_seen vs.items) terms
+
+abbrev pub columns_seen : List (Vec HeldPart Global) → List (List Part)
+columns_seen columns = map (λ parts. map part_seen parts.items) columns

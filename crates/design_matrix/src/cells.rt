@@ -73,3 +73,14 @@ pub(crate) fn kept_records(
     }
     Ok(kept)
 }
+
+/// The number of a record in a column, and 0 where there is none.
+pub(crate) fn number_of(column: &Column<'_>, index: u32) -> Frac128
+    ensures { exact result ≡ number_at (lent_column column.now) index }
+{
+    match *column {
+        Column::Numbers(cells) => number(cells, index),
+        Column::Factor(_) => Frac128::zero(),
+        Column::TooWide { .. } => Frac128::zero(),
+    }
+}

@@ -1,6 +1,7 @@
 //! The variables of terms with their values and codings.
 
 ghost use Rattle.std.specs.Prelude.{◌≡◌, ◌<◌, ◌^◌, IfOk, length, map};
+ghost use Rattle.std.specs.List.{list_all, list_any};
 ghost use Rattle.data_frame.specs.Views.{lent_column};
 ghost use Rattle.design_matrix.specs.Cells.{column_of};
 ghost use Rattle.design_matrix.specs.Coded.{coded_term, coded_variable, coding_of, is_factor, is_in_model, is_spanned, is_text, is_whole_factor, printed_name, same_bool, same_variable, same_variables, values_in, width, without};
@@ -97,12 +98,26 @@ fn is_factor(frame: &Frame, variable: &Variable) -> bool
     variable.as_factor || is_text(column(frame, variable.name.as_str()))
 }
 
-#[tactic(auto, unfolding(crate::specs::Coded::is_whole_factor))]
+fn are_factors(frame: &Frame, variables: &[Variable]) -> bool
+    ensures { result ≡ list_all (is_factor frame.now) variables.now }
+{
+    variables.iter().all(|v| is_factor(frame, v))
+}
+
 fn is_whole_factor(frame: &Frame, term: &Term) -> bool
     ensures { result ≡ is_whole_factor frame.now term.now }
 {
     let variables = term.variables.as_slice();
-    variables.len() == 1 && variables.iter().all(|v| is_factor(frame, v))
+    if variables.len() != 1 {
+        return false;
+    }
+    are_factors(frame, variables)
+}
+
+fn has_whole_factor(frame: &Frame, terms: &[Term]) -> bool
+    ensures { result ≡ list_any (is_whole_factor frame.now) terms.now }
+{
+    terms.iter().any(|term| is_whole_factor(frame, term))
 }
 
 fn is_same(left: &Variable, right: &Variable) -> bool
@@ -163,23 +178,19 @@ pub(crate) struct Coder<'a> {
 impl<'a> Coder<'a> {
     // Whether the model has the columns that the levels of the factor at a place of the term of
     // this number add up to.
-    #[tactic(auto, unfolding(crate::specs::Coded::is_spanned))]
     fn is_spanned(&self, number: usize, variables: &[Variable], place: usize) -> bool
         requires inside { number < length self.now.model.now.terms }
         requires there { place < length variables.now }
         ensures { result ≡ is_spanned self.now.frame.now self.now.model.now number variables.now place }
     {
         let terms = self.model.terms.as_slice();
-        if variables.len() == 1 {
-            if self.model.intercept {
-                return true;
-            }
-            terms[..number]
-                .iter()
-                .any(|term| is_whole_factor(self.frame, term))
-        } else {
-            is_in_model(terms, variables, place)
+        if variables.len() != 1 {
+            return is_in_model(terms, variables, place);
         }
+        if self.model.intercept {
+            return true;
+        }
+        has_whole_factor(self.frame, &terms[..number])
     }
 
     fn coding(&self, number: usize, variables: &[Variable], place: usize) -> Coding

@@ -8,6 +8,7 @@ mod fault;
 mod levels;
 mod part;
 mod parts;
+mod rows;
 
 pub use design::{Design, DesignRow};
 pub use fault::DesignFault;

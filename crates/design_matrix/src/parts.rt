@@ -1,11 +1,11 @@
 //! The columns of a design, each as the parts that it is the product of.
 
-ghost use Rattle.std.specs.Prelude.{◌≡◌, ◌≤◌, ◌<◌, ◌^◌, ℕ, All, IfOk, codes, length, map, min, pos, slice_index_or, unsigned_abs};
-ghost use Rattle.std.specs.List.{join_with_byte};
+ghost use Rattle.std.specs.Prelude.{◌≡◌, ◌≤◌, ◌++◌, [], All, IfOk, OnOk, length, map, min, pos, slice_index_or, unsigned_abs};
 ghost use Rattle.exact_algebra.specs.Rational.{whole};
 ghost use Rattle.data_frame.specs.Views.{exact};
 ghost use Rattle.design_matrix.specs.Parts.{chosen, column_name, columns_in, count, term_columns};
-ghost use Rattle.design_matrix.specs.Views.{coded_seen, part_seen};
+ghost use Rattle.design_matrix.specs.Views.{coded_seen, columns_seen, part_seen, terms_seen};
+ghost use Rattle.design_matrix.specs.Widths.{IsUsable};
 
 use crate::cells::number;
 use crate::coded::{Coded, Values};
@@ -75,11 +75,95 @@ fn count_of(term: &[Coded<'_>]) -> u64
 
 /// The columns of a design, or 129 where it has more.
 pub(crate) fn column_count(intercept: bool, terms: &[Vec<Coded<'_>>]) -> u64
-    ensures { result ≡ min (length (columns_in intercept (map (λ vs. map coded_seen vs.items) terms.now))) 129 }
+    ensures { result ≡ min (length (columns_in intercept (terms_seen terms.now))) 129 }
 {
     let mut columns = u64::from(intercept);
     for term in terms {
         columns = (columns + count_of(term)).min(129);
     }
     columns
+}
+
+// One column of each variable of a term, by the digits of a number.
+fn chosen_parts<'a>(
+    alloc: Global,
+    term: &'a [Coded<'a>],
+    number: u32,
+) -> Result<Vec<Part<'a>>, AllocError>
+    requires { All IsUsable term.now }
+    ensures { IfOk result (λ parts. map part_seen parts.items ≡ chosen (map coded_seen term.now) number) }
+{
+    let mut parts = Vec::with_capacity(alloc, term.len())?;
+    let mut rest = number;
+    for variable in term {
+        let width = variable.width();
+        parts.push(Part {
+            variable,
+            column: rest % width,
+        })?;
+        rest /= width;
+    }
+    Ok(parts)
+}
+
+// Adds the columns of a term.
+fn push_columns<'a>(
+    alloc: Global,
+    columns: &mut Vec<Vec<Part<'a>>>,
+    term: &'a [Coded<'a>],
+) -> Result<(), AllocError>
+    requires usable { All IsUsable term.now }
+    requires few { count (map coded_seen term.now) ≤ 128 }
+    ensures { OnOk result (columns_seen columns.new.items
+        ≡ columns_seen columns.old.items ++ term_columns (map coded_seen term.now)) }
+{
+    let count = count_of(term) as u32;
+    for number in 0..count {
+        columns.push(chosen_parts(alloc, term, number)?)?;
+    }
+    Ok(())
+}
+
+// The column of the intercept, where there is one.
+fn first_columns<'a>(alloc: Global, intercept: bool) -> Result<Vec<Vec<Part<'a>>>, AllocError>
+    ensures { IfOk result (λ columns. columns_seen columns.items ≡ columns_in intercept []) }
+{
+    let mut columns = Vec::new(alloc);
+    if intercept {
+        columns.push(Vec::new(alloc))?;
+        return Ok(columns);
+    }
+    Ok(columns)
+}
+
+/// The columns of a design.
+pub(crate) fn design_columns<'a>(
+    alloc: Global,
+    intercept: bool,
+    terms: &'a [Vec<Coded<'a>>],
+) -> Result<Vec<Vec<Part<'a>>>, AllocError>
+    requires usable { All (λ vs. All IsUsable vs.items) terms.now }
+    requires few { All (λ vs. count (map coded_seen vs.items) ≤ 128) terms.now }
+    ensures { IfOk result (λ columns. columns_seen columns.items ≡ columns_in intercept (terms_seen terms.now)) }
+{
+    let mut columns = first_columns(alloc, intercept)?;
+    for term in terms {
+        push_columns(alloc, &mut columns, term)?;
+    }
+    Ok(columns)
+}
+
+/// What a column is called.
+pub(crate) fn name_of(alloc: Global, column: &[Part<'_>]) -> Result<Text, AllocError>
+    ensures { IfOk result (λ t. t ≡ column_name (map part_seen column.now)) }
+{
+    let Some((first, rest)) = column.split_first() else {
+        return Ok(Text::from(String::from_str(alloc, "(Intercept)")?));
+    };
+    let mut name = String::from_str(alloc, first.label(alloc)?.as_str())?;
+    for part in rest {
+        name.push(':')?;
+        name.push_str(part.label(alloc)?.as_str())?;
+    }
+    Ok(Text::from(name))
 }
