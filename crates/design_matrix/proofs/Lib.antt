@@ -1,3 +1,6 @@
 pub mod Puts
 pub mod Steps
 pub mod Bounds
+pub mod Same
+pub mod Counts
+pub mod Products

@@ -1,9 +1,10 @@
 -- One item more.
-use Rattle.std.proofs.Common.{◌≡◌, ◌<◌, ◌&&◌, ℕ, suc, ◌+◌, Bool, true, false, cond, List, [], ◌∷◌, ◌++◌, Option, take, length, map, filter, get_or, refl, sym, ap, ◌∙◌, append_assoc, arith, nat_eq, eq-eqb}
+use Rattle.std.proofs.Common.{◌≡◌, ◌<◌, ◌&&◌, ◌||◌, ℕ, suc, ◌+◌, Bool, true, false, cond, List, [], ◌∷◌, ◌++◌, Option, take, length, map, filter, get_or, refl, sym, ap, ◌∙◌, append_assoc, arith, nat_eq, eq-eqb, drop, take_all, length-drop, ◌-◌, ◌≤◌}
 use Rattle.std.proofs.lemmas.Bool.{eqb-true}
 use Rattle.std.specs.declared.cmp.Ordering.{Ordering}
 use Rattle.std.specs.List.{filter_map, flat_map, list_all, range_with_len}
 use Rattle.std.proofs.lemmas.List.{length-take-le, map-append, take_more}
+use Rattle.std.proofs.lemmas.Grind.{flat_map-append}
 use Rattle.std.proofs.lemmas.List.Elements.{filter-append, filter_map-append}
 use Rattle.std.proofs.lemmas.List.FromFn.{map-range_with_len_more}
 use Rattle.design_matrix.specs.Cells.{cell_of, present}
@@ -111,3 +112,59 @@ not_one n h = at (nat_eq n 1) refl
 
 pub elsewhere : {A : Type 0} (n : ℕ) (x y : A) → (n ≡ 1 → ⊥) → cond (nat_eq n 1) x y ≡ y
 elsewhere n x y h = ap (λ b. cond b x y) (not_one n h)
+
+pub one_no : (n m : ℕ) (b : Bool) → m ≡ n → (m ≡ 1 → ⊥) → false ≡ (nat_eq n 1 && b)
+one_no n m b e h = ap (λ t. t && b) (sym (not_one n (λ k. h (e ∙ k))))
+
+pub one_yes : (n m : ℕ) (b r : Bool) → m ≡ n → m ≡ 1 → r ≡ b → r ≡ (nat_eq n 1 && b)
+one_yes n m b r e h k = k ∙ ap (λ t. t && b) (sym (eq-eqb n 1 (sym e ∙ h)))
+
+-- what is told of a new item
+pub each_told : {X A B : Type 0} (told : X → B) (f : ℕ → A → B) (xs : List A) (i : ℕ) (x : A) (old new : List X) (y : X) → i < length xs
+    → x ≡ get_or xs i x → map told old ≡ each f 0 (take i xs) → new ≡ old ++ (y ∷ []) → told y ≡ f i x → map told new ≡ each f 0 (take (i + 1) xs)
+each_told told f xs i x old new y h e p q s =
+    each_more f xs i x (map told old) (map told new) h e p
+    (ap (λ l. map told l) q ∙ map-append told old (y ∷ []) ∙ ap (λ z. map told old ++ (z ∷ [])) s)
+
+pub each_all : {A B : Type 0} (f : ℕ → A → B) (xs : List A) (i : ℕ) (ys : List B) → length xs ≤ i → ys ≡ each f 0 (take i xs) → ys ≡ each f 0 xs
+each_all f xs i ys h e = e ∙ ap (λ l. each f 0 l) (take_all i xs h)
+
+pub rest_is : {A : Type 0} (xs : List A) (n : ℕ) → take (length xs - n) (drop n xs) ≡ drop n xs
+rest_is xs n = let e : length (drop n xs) ≡ length xs - n = length-drop n xs in take_all (length xs - n) (drop n xs) (omega arith)
+
+pub front_is : {A : Type 0} (xs : List A) (n : ℕ) → take (n - 0) xs ≡ take n xs
+front_is xs n = ap (λ k. take k xs) (let e : n - 0 ≡ n = omega arith in e)
+
+pub spanned_now : (n : ℕ) (a b y : Bool) → n ≡ 1 → a ≡ true → true ≡ cond (nat_eq n 1) (a || b) y
+spanned_now n a b y e f = sym (at_one n (a || b) y e ∙ ap (λ t. t || b) f)
+
+pub spanned_later : (n : ℕ) (a b y r : Bool) → n ≡ 1 → a ≡ false → r ≡ b → r ≡ cond (nat_eq n 1) (a || b) y
+spanned_later n a b y r e f g = g ∙ sym (at_one n (a || b) y e ∙ ap (λ t. t || b) f)
+
+-- what is told of the item for one more number
+pub range_told : {X B : Type 0} (told : X → B) (f : ℕ → B) (start : List B) (n : ℕ) (old new : List X) (y : X)
+    → map told old ≡ start ++ map f (range_with_len 0 n) → new ≡ old ++ (y ∷ []) → told y ≡ f n
+    → map told new ≡ start ++ map f (range_with_len 0 (n + 1))
+range_told told f start n old new y p q s =
+    ap (λ l. map told l) q
+    ∙ map-append told old (y ∷ [])
+    ∙ ap (λ l. l ++ (told y ∷ [])) p
+    ∙ append_assoc start (map f (range_with_len 0 n)) (told y ∷ [])
+    ∙ ap (λ z. start ++ (map f (range_with_len 0 n) ++ (z ∷ []))) s
+    ∙ ap (λ l. start ++ l) (sym (map-range_with_len_more f 0 n n (omega arith)))
+
+flat_one : {A B : Type 0} (f : A → List B) (x : A) → flat_map f (x ∷ []) ≡ f x
+flat_one f x = append_nothing (f x)
+
+-- what one more item adds
+pub flat_told : {X A B : Type 0} (told : X → A) (f : A → List B) (start : List B) (xs : List X) (i : ℕ) (x : X) (old new : List B)
+    → i < length xs → x ≡ get_or xs i x → old ≡ start ++ flat_map f (map told (take i xs)) → new ≡ old ++ f (told x)
+    → new ≡ start ++ flat_map f (map told (take (i + 1) xs))
+flat_told told f start xs i x old new h e p q =
+    q
+    ∙ ap (λ l. l ++ f (told x)) p
+    ∙ append_assoc start (flat_map f (map told (take i xs))) (f (told x))
+    ∙ ap (λ l. start ++ (flat_map f (map told (take i xs)) ++ l)) (sym (flat_one f (told x)))
+    ∙ ap (λ l. start ++ l) (sym (flat_map-append f (map told (take i xs)) (told x ∷ [])))
+    ∙ ap (λ l. start ++ flat_map f l) (sym (map-append told (take i xs) (x ∷ [])))
+    ∙ ap (λ l. start ++ flat_map f (map told l)) (sym (take_more xs i x h ∙ ap (λ y. take i xs ++ (y ∷ [])) (sym e)))

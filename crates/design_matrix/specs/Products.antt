@@ -4,6 +4,8 @@ use Rattle.exact_algebra.specs.Rational.{ℚ, ◌*ℚ◌, whole}
 use Rattle.frac_core.specs.Overflow.{Overflows}
 use Rattle.frac_core.specs.declared.exact.OpKind.TheVariants.{Mul}
 use Rattle.frac_core.specs.declared.frac128.Frac128.{Frac128}
+use Rattle.loss_model.specs.declared.spill.Site.{Site}
+use Rattle.loss_model.specs.declared.spill.Spill.{Spill}
 use Rattle.data_frame.specs.Views.{exact}
 
 abbrev pub product_onto : ℚ → List ℚ → ℚ
@@ -28,4 +30,10 @@ pub record OverflowsAt (xs : List ℚ) (term : ℕ) (left right : Frac128) : Typ
   pub more : term < length xs
   pub left_is : exact left ≡ product (take term xs)
   pub right_is : exact right ≡ slice_index_or xs term (whole (pos 0))
+  pub overflows : Overflows (2 ^ 127 - 1) Mul (record { num = left.num; den = left.den }) (record { num = right.num; den = right.den })
+
+-- the multiplication at a site overflows
+pub record SpillsAt (site : Site) (left right : Frac128) (spill : Spill Frac128) : Type 0 where
+  pub some : 1 ≤ site.term
+  pub is : spill ≡ record { site = record site { kind = Mul }; left = left; right = right }
   pub overflows : Overflows (2 ^ 127 - 1) Mul (record { num = left.num; den = left.den }) (record { num = right.num; den = right.den })

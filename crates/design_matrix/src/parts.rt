@@ -1,6 +1,6 @@
 //! The columns of a design, each as the parts that it is the product of.
 
-ghost use Rattle.std.specs.Prelude.{◌≡◌, ◌≤◌, ◌++◌, [], All, IfOk, OnOk, length, map, min, pos, slice_index_or, unsigned_abs};
+ghost use Rattle.std.specs.Prelude.{◌≡◌, ◌≤◌, ◌++◌, [], false, All, IfOk, OnOk, length, map, min, pos, slice_index_or, unsigned_abs};
 ghost use Rattle.exact_algebra.specs.Rational.{whole};
 ghost use Rattle.data_frame.specs.Views.{exact};
 ghost use Rattle.design_matrix.specs.Parts.{chosen, column_name, columns_in, count, term_columns};
@@ -62,13 +62,31 @@ impl Part<'_> {
     }
 }
 
+// A number of columns, or 129 where it is more.
+fn capped(columns: u64) -> u64
+    ensures { result ≡ min columns 129 }
+{
+    if columns < 129 { columns } else { 129 }
+}
+
 // The columns of a term, or 129 where it has more.
 fn count_of(term: &[Coded<'_>]) -> u64
     ensures { result ≡ min (count (map coded_seen term.now)) 129 }
 {
     let mut columns: u64 = 1;
     for variable in term {
-        columns = (columns * u64::from(variable.width())).min(129);
+        columns = capped(columns * u64::from(variable.width()));
+    }
+    columns
+}
+
+// The columns of terms, or 129 where they have more.
+fn count_all(terms: &[Vec<Coded<'_>>]) -> u64
+    ensures { result ≡ min (length (columns_in false (terms_seen terms.now))) 129 }
+{
+    let mut columns: u64 = 0;
+    for term in terms {
+        columns = capped(columns + count_of(term));
     }
     columns
 }
@@ -77,11 +95,12 @@ fn count_of(term: &[Coded<'_>]) -> u64
 pub(crate) fn column_count(intercept: bool, terms: &[Vec<Coded<'_>>]) -> u64
     ensures { result ≡ min (length (columns_in intercept (terms_seen terms.now))) 129 }
 {
-    let mut columns = u64::from(intercept);
-    for term in terms {
-        columns = (columns + count_of(term)).min(129);
+    let columns = count_all(terms);
+    if intercept {
+        capped(columns + 1)
+    } else {
+        columns
     }
-    columns
 }
 
 // One column of each variable of a term, by the digits of a number.

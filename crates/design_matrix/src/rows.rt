@@ -1,12 +1,13 @@
 //! The rows of a design.
 
-ghost use Rattle.std.specs.Prelude.{◌≡◌, ◌<◌, ◌+◌, ◌^◌, ◌⊎◌, All, IfOk, IfErr, OnOk, length, map};
+ghost use Rattle.std.specs.Prelude.{◌≡◌, ◌<◌, ◌+◌, ◌^◌, ◌⊎◌, pos, All, IfOk, IfErr, OnOk, length, map};
+ghost use Rattle.exact_algebra.specs.Rational.{◌*ℚ◌, whole};
 ghost use Rattle.data_frame.specs.Views.{exact, lent_column};
 ghost use Rattle.loss_model.specs.declared.spill.Spill.{Spill as Spilt};
 ghost use Rattle.design_matrix.specs.Designs.{AllFit, OverflowsFirst, OverflowsInColumn, OverflowsInRow, RowFits, exact_row, row_of};
 ghost use Rattle.design_matrix.specs.Lists.{each};
 ghost use Rattle.design_matrix.specs.Parts.{factors};
-ghost use Rattle.design_matrix.specs.Products.{Fits, product};
+ghost use Rattle.design_matrix.specs.Products.{Fits, SpillsAt, product};
 ghost use Rattle.design_matrix.specs.Views.{columns_seen, part_seen};
 ghost use Rattle.frac_core.specs.declared.frac128.Frac128.{Frac128 as Fraction128};
 
@@ -17,6 +18,22 @@ use data_frame::Column;
 use frac_core::{Exact, Frac128, List, OpKind};
 use loss_model::{Quantity, Site, Spill, times_at};
 use std::alloc::Global;
+
+// A product with one more factor; a single factor takes no operation.
+fn next_product(
+    site: Site,
+    product: Frac128,
+    factor: Frac128,
+) -> Result<Frac128, Spill<Frac128>>
+    requires { site.term ≡ 0 → exact product ≡ whole (pos 1) }
+    ensures exact { IfOk result (λ v. exact v ≡ exact product *ℚ exact factor) }
+    ensures spill { IfErr result (λ s. SpillsAt site product factor s) }
+{
+    if site.term == 0 {
+        return Ok(factor);
+    }
+    times_at(site, product, factor)
+}
 
 // The product of a column's parts at a place, of the record and the column of these numbers.
 fn product_of(
@@ -30,20 +47,17 @@ fn product_of(
     ensures fits { OnOk result (Fits (factors (map part_seen parts.now) place)) }
     ensures spill { IfErr result (λ s. OverflowsInColumn (map part_seen parts.now) place rec column s) }
 {
-    let Some((first, rest)) = parts.split_first() else {
-        return Ok(Frac128::one());
-    };
-    let mut product = first.entry(place);
-    for (behind, part) in rest.iter().enumerate() {
+    let mut product = Frac128::one();
+    for (term, part) in parts.iter().enumerate() {
         let site = Site {
             quantity: Quantity::DesignEntry,
             first: rec,
             second: column,
             third: 0,
-            term: behind as u32 + 1,
+            term: term as u32,
             kind: OpKind::Mul,
         };
-        product = times_at(site, product, part.entry(place))?;
+        product = next_product(site, product, part.entry(place))?;
     }
     Ok(product)
 }

@@ -1,0 +1,13 @@
+use Rattle.std.proofs.Common.{map}
+use Rattle.design_matrix.specs.Parts.{chosen}
+use Rattle.design_matrix.specs.Views.{coded_seen, columns_seen, part_seen}
+use Rattle.design_matrix.proofs.Steps.{range_told}
+use Rattle.design_matrix.proofs.parts.push_columns.Goals as goal
+
+pub loop-number-preserved : goal.loop-number-preserved
+loop-number-preserved c =
+    range_told (λ parts. map part_seen parts.items) (chosen (map coded_seen c.args.term.now)) (columns_seen c.args.columns.now.items) _ _ _ _
+    c.loop-number.invariant c.in_ok-push.ensures.items c.in_ok-chosen_parts.ensures
+
+pub returns : goal.returns
+returns c = ?
