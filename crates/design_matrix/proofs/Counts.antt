@@ -14,8 +14,9 @@ count_push (u ∷ us) v = ap (λ n. width u * n) (count_push us v) ∙ sym (mul_
 
 beyond : (n w : ℕ) → 129 ≤ n → min (129 * suc w) 129 ≡ min (n * suc w) 129
 beyond n w h =
-    let a : 129 * 1 ≤ 129 * suc w = mul-le-mul_left 129 (omega arith) in
-    let b : n * 1 ≤ n * suc w = mul-le-mul_left n (omega arith) in
+    let one : 1 ≤ suc w = omega arith in
+    let a : 129 * 1 ≤ 129 * suc w = mul-le-mul_left 129 one in
+    let b : n * 1 ≤ n * suc w = mul-le-mul_left n one in
     omega arith
 
 times_zero : (n : ℕ) → n * 0 ≡ 0

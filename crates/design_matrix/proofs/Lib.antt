@@ -4,3 +4,5 @@ pub mod Bounds
 pub mod Same
 pub mod Counts
 pub mod Products
+pub mod Firsts
+pub mod Overflows

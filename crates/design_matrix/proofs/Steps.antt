@@ -1,15 +1,16 @@
 -- One item more.
-use Rattle.std.proofs.Common.{◌≡◌, ◌<◌, ◌&&◌, ◌||◌, ℕ, suc, ◌+◌, Bool, true, false, cond, List, [], ◌∷◌, ◌++◌, Option, take, length, map, filter, get_or, refl, sym, ap, ◌∙◌, append_assoc, arith, nat_eq, eq-eqb, drop, take_all, length-drop, ◌-◌, ◌≤◌}
+use Rattle.std.proofs.Common.{◌≡◌, ◌<◌, ◌&&◌, ◌||◌, ℕ, suc, ◌+◌, Bool, true, false, cond, List, [], ◌∷◌, ◌++◌, Option, take, length, map, filter, get_or, refl, sym, ap, ◌∙◌, append_assoc, arith, nat_eq, eq-eqb, drop, take_all, length-drop, ◌-◌, ◌≤◌, All, subst}
 use Rattle.std.proofs.lemmas.Bool.{eqb-true}
 use Rattle.std.specs.declared.cmp.Ordering.{Ordering}
 use Rattle.std.specs.List.{filter_map, flat_map, list_all, range_with_len}
 use Rattle.std.proofs.lemmas.List.{length-take-le, map-append, take_more}
 use Rattle.std.proofs.lemmas.Grind.{flat_map-append}
-use Rattle.std.proofs.lemmas.List.Elements.{filter-append, filter_map-append}
+use Rattle.std.proofs.lemmas.List.Elements.{All-push, filter-append, filter_map-append}
 use Rattle.std.proofs.lemmas.List.FromFn.{map-range_with_len_more}
 use Rattle.design_matrix.specs.Cells.{cell_of, present}
 use Rattle.design_matrix.specs.Levels.{level_of, put, put_all}
 use Rattle.design_matrix.specs.Lists.{each}
+use Rattle.design_matrix.proofs.Puts.{first_item}
 
 map_same : {A : Type 0} (xs : List A) → map (λ x. x) xs ≡ xs
 map_same [] = refl
@@ -168,3 +169,42 @@ flat_told told f start xs i x old new h e p q =
     ∙ ap (λ l. start ++ l) (sym (flat_map-append f (map told (take i xs)) (told x ∷ [])))
     ∙ ap (λ l. start ++ flat_map f l) (sym (map-append told (take i xs) (x ∷ [])))
     ∙ ap (λ l. start ++ flat_map f (map told l)) (sym (take_more xs i x h ∙ ap (λ y. take i xs ++ (y ∷ [])) (sym e)))
+
+pub flat_more : {A B : Type 0} (f : A → List B) (start : List B) (xs : List A) (i : ℕ) (x : A) (old new : List B)
+    → i < length xs → x ≡ get_or xs i x → old ≡ start ++ flat_map f (take i xs) → new ≡ old ++ f x
+    → new ≡ start ++ flat_map f (take (i + 1) xs)
+flat_more f start xs i x old new h e p q =
+    q
+    ∙ ap (λ l. l ++ f x) p
+    ∙ append_assoc start (flat_map f (take i xs)) (f x)
+    ∙ ap (λ l. start ++ (flat_map f (take i xs) ++ l)) (sym (flat_one f x))
+    ∙ ap (λ l. start ++ l) (sym (flat_map-append f (take i xs) (x ∷ [])))
+    ∙ ap (λ l. start ++ flat_map f l) (sym (take_more xs i x h ∙ ap (λ y. take i xs ++ (y ∷ [])) (sym e)))
+
+pub mapped_told : {X A B : Type 0} (told : X → B) (f : A → B) (start : List B) (xs : List A) (i : ℕ) (x : A) (old new : List X) (y : X)
+    → i < length xs → x ≡ get_or xs i x → map told old ≡ start ++ map f (take i xs) → new ≡ old ++ (y ∷ []) → told y ≡ f x
+    → map told new ≡ start ++ map f (take (i + 1) xs)
+mapped_told told f start xs i x old new y h e p q s =
+    ap (λ l. map told l) q
+    ∙ map-append told old (y ∷ [])
+    ∙ ap (λ l. l ++ (told y ∷ [])) p
+    ∙ append_assoc start (map f (take i xs)) (told y ∷ [])
+    ∙ ap (λ z. start ++ (map f (take i xs) ++ (z ∷ []))) s
+    ∙ ap (λ l. start ++ l) (sym (map-append f (take i xs) (x ∷ [])))
+    ∙ ap (λ l. start ++ map f l) (sym (take_more xs i x h ∙ ap (λ y. take i xs ++ (y ∷ [])) (sym e)))
+
+pub told_more : {V B X Y : Type 0} (value : V → B) (f : Y → B) (told : X → Y) (xs : List X) (i : ℕ) (x : X) (old new : List V) (v : V)
+    → i < length xs → x ≡ get_or xs i x → map value old ≡ map f (map told (take i xs)) → new ≡ old ++ (v ∷ []) → value v ≡ f (told x)
+    → map value new ≡ map f (map told (take (i + 1) xs))
+told_more value f told xs i x old new v h e p q s =
+    ap (λ l. map value l) q
+    ∙ map-append value old (v ∷ [])
+    ∙ ap (λ l. l ++ (value v ∷ [])) p
+    ∙ ap (λ z. map f (map told (take i xs)) ++ (z ∷ [])) s
+    ∙ sym (map-append f (map told (take i xs)) (told x ∷ []))
+    ∙ ap (λ l. map f l) (sym (first_item told xs i x h e))
+
+pub all_told : {X Y : Type 0} (P : Y → Type 0) (told : X → Y) (xs : List X) (i : ℕ) (x : X) → i < length xs → x ≡ get_or xs i x
+    → All P (map told (take i xs)) → P (told x) → All P (map told (take (i + 1) xs))
+all_told {X} {Y} P told xs i x h e a b =
+    let Q : List Y → Type 0 = λ l. All P l in subst Q (sym (first_item told xs i x h e)) (All-push P (map told (take i xs)) (told x) a b)

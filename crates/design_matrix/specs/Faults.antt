@@ -13,6 +13,7 @@ use Rattle.design_matrix.specs.declared.fault.DesignFault.TheVariants.{OutOfMemo
 use Rattle.design_matrix.specs.Cells.{Column, Table, column_of, kept, used_names}
 use Rattle.design_matrix.specs.Coded.{Coded, coded_terms, width}
 use Rattle.design_matrix.specs.Designs.{AllFit, DesignOf, OverflowsFirst, design_of, exact_design}
+use Rattle.design_matrix.specs.Lists.{first_some}
 use Rattle.design_matrix.specs.Parts.{columns_of}
 
 abbrev pub response_fault : Column → Option DesignFault
@@ -26,38 +27,44 @@ wide_fault name (factor cells) = None
 wide_fault name (too_wide rec) = Some (NumberTooWide rec name)
 
 -- the first of these columns with a number that is too wide
-abbrev pub widths_fault : Table → List Text → Option DesignFault
-widths_fault table [] = None
-widths_fault table (name ∷ rest) = option_or (wide_fault name (column_of table name)) (widths_fault table rest)
+unfoldable pub widths_fault : Table → List Text → Option DesignFault
+widths_fault table names = first_some (λ name. wide_fault name (column_of table name)) names
 
 abbrev pub rows_fault : List ℕ → Option DesignFault
 rows_fault records = if length records == 0 then Some NoRows else None
 
--- the first variable without a column: a factor of one level that is coded by contrasts
-abbrev pub levels_fault : List Coded → Option DesignFault
-levels_fault [] = None
-levels_fault (v ∷ vs) = if width v == 0 then Some (OneLevel v.name) else levels_fault vs
+-- a variable without a column: a factor of one level that is coded by contrasts
+abbrev pub level_fault : Coded → Option DesignFault
+level_fault v = if width v == 0 then Some (OneLevel v.name) else None
 
-abbrev pub terms_fault : List (List Coded) → Option DesignFault
-terms_fault [] = None
-terms_fault (vs ∷ rest) = option_or (levels_fault vs) (terms_fault rest)
+-- the first such variable, by terms and then by variables
+unfoldable pub levels_fault : List Coded → Option DesignFault
+levels_fault vs = first_some level_fault vs
+
+unfoldable pub terms_fault : List (List Coded) → Option DesignFault
+terms_fault terms = first_some levels_fault terms
+
+-- there is neither intercept nor terms nor smooths
+abbrev pub lacks_columns : Formula → Bool
+lacks_columns model = not model.intercept && ((length model.terms == 0) && (length model.smooths == 0))
 
 abbrev pub empty_fault : Formula → Option DesignFault
-empty_fault model =
-    if (not model.intercept && (length model.terms == 0)) && (length model.smooths == 0) then Some NoColumns else None
+empty_fault model = if lacks_columns model then Some NoColumns else None
 
 abbrev pub columns_fault : ℕ → Option DesignFault
 columns_fault columns = if nat_lt 128 columns then Some TooManyColumns else None
+
+-- the first fault of the columns
+unfoldable pub late_fault : Table → Formula → Coding → Option DesignFault
+late_fault table model coding =
+    option_or (terms_fault (coded_terms table model coding))
+    (option_or (empty_fault model) (columns_fault (length (columns_of table model coding))))
 
 -- the first fault but for products that overflow
 unfoldable pub fault_of : Table → Formula → Coding → Option DesignFault
 fault_of table model coding =
     option_or (response_fault (column_of table model.response))
-    (option_or (widths_fault table (used_names model))
-    (option_or (rows_fault (kept table model))
-    (option_or (terms_fault (coded_terms table model coding))
-    (option_or (empty_fault model)
-    (columns_fault (length (columns_of table model coding)))))))
+    (option_or (widths_fault table (used_names model)) (option_or (rows_fault (kept table model)) (late_fault table model coding)))
 
 -- the design is that of the table and the formula: nothing is wrong with these, and every product fits
 pub record IsDesign (table : Table) (model : Formula) (coding : Coding) (design : Design) : Type 0 where

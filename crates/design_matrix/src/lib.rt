@@ -1,7 +1,9 @@
 //! Designs: the rows of a regression from a table and a formula.
 #![tactic(auto)]
 
+mod build;
 mod cells;
+mod checks;
 mod coded;
 mod design;
 mod fault;
@@ -9,6 +11,7 @@ mod levels;
 mod part;
 mod parts;
 mod rows;
+mod used;
 
 pub use design::{Design, DesignRow};
 pub use fault::DesignFault;

@@ -57,7 +57,10 @@ fn product_of(
             term: term as u32,
             kind: OpKind::Mul,
         };
-        product = next_product(site, product, part.entry(place))?;
+        match next_product(site, product, part.entry(place)) {
+            Ok(next) => product = next,
+            Err(spill) => return Err(spill),
+        }
     }
     Ok(product)
 }
@@ -80,7 +83,10 @@ fn entries_of(
 {
     let mut entries = Vec::with_capacity(alloc, columns.len())?;
     for (column, parts) in columns.iter().enumerate() {
-        entries.push(product_of(rec, column as u32, parts, place)?)?;
+        match product_of(rec, column as u32, parts, place) {
+            Ok(entry) => entries.push(entry)?,
+            Err(spill) => return Err(DesignFault::Overflow(spill)),
+        }
     }
     Ok(entries)
 }
@@ -88,7 +94,7 @@ fn entries_of(
 /// The rows of these records.
 pub(crate) fn design_rows(
     alloc: Global,
-    response: Column<'_>,
+    response: &Column<'_>,
     columns: &[Vec<Part<'_>>],
     records: &[u32],
 ) -> Result<Vec<DesignRow>, DesignFault>
@@ -96,7 +102,7 @@ pub(crate) fn design_rows(
     requires few { length columns.now < 2 ^ 32 }
     requires short { All (λ parts. length parts.items < 2 ^ 32) columns.now }
     ensures exact { IfOk result (λ rows. map exact_row rows.items
-        ≡ each (row_of (lent_column response.entry) (columns_seen columns.now)) 0 records.now) }
+        ≡ each (row_of (lent_column response.now) (columns_seen columns.now)) 0 records.now) }
     ensures fits { OnOk result (AllFit (columns_seen columns.now) records.now) }
     ensures fault { IfErr result (λ e. (e ≡ DesignFault.OutOfMemory)
         ⊎ ((s : Spilt Fraction128) × (e ≡ DesignFault.Overflow s)
@@ -109,7 +115,7 @@ pub(crate) fn design_rows(
         rows.push(DesignRow {
             rec,
             x: List::from(entries),
-            y: number_of(&response, *index),
+            y: number_of(response, *index),
             weight: Frac128::one(),
         })?;
     }

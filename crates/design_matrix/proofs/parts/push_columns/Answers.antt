@@ -1,5 +1,6 @@
-use Rattle.std.proofs.Common.{map}
-use Rattle.design_matrix.specs.Parts.{chosen}
+use Rattle.std.proofs.Common.{◌≡◌, ◌++◌, ap, arith, map, ◌∙◌}
+use Rattle.std.specs.List.{range_with_len}
+use Rattle.design_matrix.specs.Parts.{chosen, count}
 use Rattle.design_matrix.specs.Views.{coded_seen, columns_seen, part_seen}
 use Rattle.design_matrix.proofs.Steps.{range_told}
 use Rattle.design_matrix.proofs.parts.push_columns.Goals as goal
@@ -10,4 +11,7 @@ loop-number-preserved c =
     c.loop-number.invariant c.in_ok-push.ensures.items c.in_ok-chosen_parts.ensures
 
 pub returns : goal.returns
-returns c = ?
+returns c =
+    let all : c.loop-number.number ≡ count (map coded_seen c.args.term.now) = omega (arith, c.requires.few) in
+    c.loop-number.invariant
+    ∙ ap (λ n. columns_seen c.args.columns.now.items ++ map (chosen (map coded_seen c.args.term.now)) (range_with_len 0 n)) all
