@@ -6,3 +6,5 @@ pub mod Counts
 pub mod Products
 pub mod Firsts
 pub mod Overflows
+pub mod Usable
+pub mod Lengths

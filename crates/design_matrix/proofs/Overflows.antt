@@ -1,5 +1,5 @@
 -- The first product of a row, and of rows, that overflows.
-use Rattle.std.proofs.Common.{◌≡◌, ◌<◌, ◌≤◌, ℕ, ◌+◌, List, [], ◌∷◌, All, length, map, take, get_or, sym, ap, ◌∙◌, arith, subst}
+use Rattle.std.proofs.Common.{◌≡◌, ◌<◌, ℕ, zero, suc, ◌+◌, List, [], ◌∷◌, All, length, map, take, get_or, refl, sym, ap, ◌∙◌, arith, subst}
 use Rattle.std.proofs.lemmas.List.{get_or-map, length-map, take-map}
 use Rattle.frac_core.specs.declared.frac128.Frac128.{Frac128}
 use Rattle.loss_model.specs.declared.spill.Spill.{Spill}
@@ -26,3 +26,8 @@ pub first_row : (columns : List (List Part)) (records : List ℕ) (place index :
 first_row columns records place index s h e fits o =
     let P : ℕ → Type 0 = λ r. OverflowsInRow columns place (r + 1) s in
     record { place = place; there = h; row = subst P e o; before = fits }
+
+pub any_default : (xs : List ℕ) (i d e : ℕ) → i < length xs → get_or xs i d ≡ get_or xs i e
+any_default [] i d e h = absurd (omega arith)
+any_default (x ∷ xs) zero d e h = refl
+any_default (x ∷ xs) (suc i) d e h = any_default xs i d e (omega arith)

@@ -66,20 +66,30 @@ fault_of table model coding =
     option_or (response_fault (column_of table model.response))
     (option_or (widths_fault table (used_names model)) (option_or (rows_fault (kept table model)) (late_fault table model coding)))
 
--- the design is that of the table and the formula: nothing is wrong with these, and every product fits
-pub record IsDesign (table : Table) (model : Formula) (coding : Coding) (design : Design) : Type 0 where
-  pub sound : fault_of table model coding ≡ None
-  pub exact : exact_design design ≡ design_of table model coding
-  pub fits : AllFit (columns_of table model coding) (kept table model)
-
--- a product overflows, and nothing is wrong before that
+-- a product overflows: the first by record, by column and by the number of its factors
 pub record IsOverflow (table : Table) (model : Formula) (coding : Coding) (fault : DesignFault) : Type 0 where
   pub spill : Spill Frac128
   pub is : fault ≡ Overflow spill
-  pub sound : fault_of table model coding ≡ None
   pub first : OverflowsFirst (columns_of table model coding) (kept table model) spill
 
--- Why there is no design. Want of memory has no cause here.
+-- the design is that of the table and the formula, and no product overflows
+pub record HasDesign (table : Table) (model : Formula) (coding : Coding) (design : Design) : Type 0 where
+  pub exact : exact_design design ≡ design_of table model coding
+  pub fits : AllFit (columns_of table model coding) (kept table model)
+
+-- and nothing is wrong with these
+pub record IsDesign (table : Table) (model : Formula) (coding : Coding) (design : Design) : Type 0 where
+  pub sound : fault_of table model coding ≡ None
+  pub design_is : HasDesign table model coding design
+
+-- Why there is no design. Want of memory has no cause here; an overflow is looked for last.
 abbrev pub HasCause : Table → Formula → Coding → DesignFault → Type 0
 HasCause table model coding fault =
-    (fault ≡ OutOfMemory) ⊎ ((fault_of table model coding ≡ Some fault) ⊎ IsOverflow table model coding fault)
+    (fault ≡ OutOfMemory)
+    ⊎ ((fault_of table model coding ≡ Some fault) ⊎ ((fault_of table model coding ≡ None) × IsOverflow table model coding fault))
+
+-- the same where the faults before those of the columns are ruled out
+abbrev pub HasLateCause : Table → Formula → Coding → DesignFault → Type 0
+HasLateCause table model coding fault =
+    (fault ≡ OutOfMemory)
+    ⊎ ((late_fault table model coding ≡ Some fault) ⊎ ((late_fault table model coding ≡ None) × IsOverflow table model coding fault))

@@ -1,12 +1,9 @@
-ghost use Rattle.std.specs.Prelude.{◌≡◌, ◌≤◌, ◌<◌, ◌+◌, ◌^◌, ◌⊎◌, All, IfErr, IfOk, OnOk, length, map};
+ghost use Rattle.std.specs.Prelude.{◌≡◌, ◌≤◌, ◌<◌, ◌+◌, ◌^◌, ◌⊎◌, All, IfErr, IfOk, length, map};
 ghost use Rattle.data_frame.specs.Views.{lent_column};
-ghost use Rattle.frac_core.specs.declared.frac128.Frac128.{Frac128 as Fraction128};
-ghost use Rattle.loss_model.specs.declared.spill.Spill.{Spill as Spilt};
 ghost use Rattle.design_matrix.specs.Cells.{column_of, kept};
 ghost use Rattle.design_matrix.specs.Coded.{coded_terms};
-ghost use Rattle.design_matrix.specs.Designs.{AllFit, OverflowsFirst, design_of, exact_design};
-ghost use Rattle.design_matrix.specs.Faults.{lacks_columns};
-ghost use Rattle.design_matrix.specs.Parts.{column_name, columns_of};
+ghost use Rattle.design_matrix.specs.Faults.{HasDesign, IsOverflow, lacks_columns};
+ghost use Rattle.design_matrix.specs.Parts.{column_name, columns_in};
 ghost use Rattle.design_matrix.specs.Views.{columns_seen, terms_seen};
 ghost use Rattle.design_matrix.specs.Widths.{IsUsable};
 
@@ -21,7 +18,7 @@ use frac_core::{List, Text};
 use std::alloc::{AllocError, Global};
 
 // What the columns are called.
-fn names_of(alloc: Global, columns: &[Vec<Part<'_>>]) -> Result<Vec<Text>, AllocError>
+fn names_of(alloc: Global, columns: &[Vec<Part<'_, '_>>]) -> Result<Vec<Text>, AllocError>
     ensures { IfOk result (λ names. names.items ≡ map column_name (columns_seen columns.now)) }
 {
     let mut names = Vec::with_capacity(alloc, columns.len())?;
@@ -54,19 +51,15 @@ fn design_from(
     requires kept { coder.now.records.now ≡ kept coder.now.frame.now coder.now.model.now }
     requires numbered { All (λ i. i + 1 < 2 ^ 32) coder.now.records.now }
     requires fewer { length coder.now.records.now ≤ coder.now.frame.now.records }
+    requires counted { coder.now.frame.now.records < 2 ^ 32 }
     requires response { lent_column response.now ≡ column_of coder.now.frame.now coder.now.model.now.response }
     requires coded { terms_seen terms.now ≡ coded_terms coder.now.frame.now coder.now.model.now coder.now.contrasts }
     requires usable { All (λ vs. All IsUsable vs.items) terms.now }
-    requires few { length (columns_of coder.now.frame.now coder.now.model.now coder.now.contrasts) ≤ 128 }
+    requires few { length (columns_in coder.now.model.now.intercept (terms_seen terms.now)) ≤ 128 }
     requires short { All (λ vs. length vs.items < 2 ^ 32) terms.now }
-    ensures exact { IfOk result (λ d. exact_design d
-        ≡ design_of coder.now.frame.now coder.now.model.now coder.now.contrasts) }
-    ensures fits { OnOk result (AllFit (columns_of coder.now.frame.now coder.now.model.now coder.now.contrasts)
-        (kept coder.now.frame.now coder.now.model.now)) }
+    ensures design { IfOk result (HasDesign coder.now.frame.now coder.now.model.now coder.now.contrasts) }
     ensures fault { IfErr result (λ e. (e ≡ DesignFault.OutOfMemory)
-        ⊎ ((s : Spilt Fraction128) × (e ≡ DesignFault.Overflow s)
-        × OverflowsFirst (columns_of coder.now.frame.now coder.now.model.now coder.now.contrasts)
-            (kept coder.now.frame.now coder.now.model.now) s)) }
+        ⊎ IsOverflow coder.now.frame.now coder.now.model.now coder.now.contrasts e) }
 {
     let columns = design_columns(alloc, coder.model.intercept, terms)?;
     let names = names_of(alloc, &columns)?;

@@ -1,6 +1,6 @@
 //! The variables of terms with their values and codings.
 
-ghost use Rattle.std.specs.Prelude.{◌≡◌, ◌<◌, ◌^◌, IfOk, length, map};
+ghost use Rattle.std.specs.Prelude.{◌≡◌, ◌<◌, ◌^◌, All, IfOk, length, map};
 ghost use Rattle.std.specs.List.{list_all, list_any};
 ghost use Rattle.data_frame.specs.Views.{lent_column};
 ghost use Rattle.design_matrix.specs.Cells.{column_of};
@@ -236,8 +236,9 @@ impl<'a> Coder<'a> {
     fn term(&self, alloc: Global, number: usize, term: &Term) -> Result<Vec<Coded<'a>>, AllocError>
         requires counted { length self.now.records.now < 2 ^ 32 }
         requires inside { number < length self.now.model.now.terms }
-        ensures { IfOk result (λ vs. map coded_seen vs.items ≡ coded_term self.now.frame.now
+        ensures coded { IfOk result (λ vs. map coded_seen vs.items ≡ coded_term self.now.frame.now
             self.now.model.now self.now.contrasts self.now.records.now number term.now) }
+        ensures counted { IfOk result (λ vs. length vs.items ≡ length term.now.variables) }
     {
         let variables = term.variables.as_slice();
         let mut coded = Vec::with_capacity(alloc, variables.len())?;
@@ -249,10 +250,12 @@ impl<'a> Coder<'a> {
 
     /// The terms of the model, variable by variable.
     pub(crate) fn terms(&self, alloc: Global) -> Result<Vec<Vec<Coded<'a>>>, AllocError>
-        requires { length self.now.records.now < 2 ^ 32 }
-        ensures { IfOk result (λ ts. map (λ vs. map coded_seen vs.items) ts.items
+        requires counted { length self.now.records.now < 2 ^ 32 }
+        requires short { All (λ t. length t.variables < 2 ^ 32) self.now.model.now.terms }
+        ensures coded { IfOk result (λ ts. map (λ vs. map coded_seen vs.items) ts.items
             ≡ each (coded_term self.now.frame.now self.now.model.now self.now.contrasts self.now.records.now)
                 0 self.now.model.now.terms) }
+        ensures short { IfOk result (λ ts. All (λ vs. length vs.items < 2 ^ 32) ts.items) }
     {
         let terms = self.model.terms.as_slice();
         let mut coded = Vec::with_capacity(alloc, terms.len())?;

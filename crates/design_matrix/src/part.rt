@@ -5,8 +5,8 @@ use crate::coded::Coded;
 
 /// One of a variable's columns.
 #[derive(Clone, Copy)]
-pub(crate) struct Part<'a> {
-    pub(crate) variable: &'a Coded<'a>,
+pub(crate) struct Part<'b, 'a> {
+    pub(crate) variable: &'b Coded<'a>,
     pub(crate) column: u32,
     ghost there: { column < width_held variable.now.coding variable.now.values },
     ghost few: { levels_held variable.now.values ≤ 16384 },

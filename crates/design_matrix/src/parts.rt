@@ -1,6 +1,6 @@
 //! The columns of a design, each as the parts that it is the product of.
 
-ghost use Rattle.std.specs.Prelude.{◌≡◌, ◌≤◌, ◌++◌, [], false, All, IfOk, OnOk, length, map, min, pos, slice_index_or, unsigned_abs};
+ghost use Rattle.std.specs.Prelude.{◌≡◌, ◌≤◌, ◌<◌, ◌^◌, ◌++◌, [], false, All, IfOk, OnOk, length, map, min, pos, slice_index_or, unsigned_abs};
 ghost use Rattle.exact_algebra.specs.Rational.{whole};
 ghost use Rattle.data_frame.specs.Views.{exact};
 ghost use Rattle.design_matrix.specs.Parts.{chosen, column_name, columns_in, count, term_columns};
@@ -24,7 +24,7 @@ fn whole_number(number: i64) -> Frac128
     }
 }
 
-impl Part<'_> {
+impl Part<'_, '_> {
     /// The entry at a place among the kept records.
     pub(crate) fn entry(&self, place: usize) -> Frac128
         ensures { exact result ≡ slice_index_or (part_seen self.now).entries place (whole (pos 0)) }
@@ -104,13 +104,14 @@ pub(crate) fn column_count(intercept: bool, terms: &[Vec<Coded<'_>>]) -> u64
 }
 
 // One column of each variable of a term, by the digits of a number.
-fn chosen_parts<'a>(
+fn chosen_parts<'b, 'a>(
     alloc: Global,
-    term: &'a [Coded<'a>],
+    term: &'b [Coded<'a>],
     number: u32,
-) -> Result<Vec<Part<'a>>, AllocError>
+) -> Result<Vec<Part<'b, 'a>>, AllocError>
     requires { All IsUsable term.now }
-    ensures { IfOk result (λ parts. map part_seen parts.items ≡ chosen (map coded_seen term.now) number) }
+    ensures parts { IfOk result (λ parts. map part_seen parts.items ≡ chosen (map coded_seen term.now) number) }
+    ensures counted { IfOk result (λ parts. length parts.items ≡ length term.now) }
 {
     let mut parts = Vec::with_capacity(alloc, term.len())?;
     let mut rest = number;
@@ -126,15 +127,18 @@ fn chosen_parts<'a>(
 }
 
 // Adds the columns of a term.
-fn push_columns<'a>(
+fn push_columns<'b, 'a>(
     alloc: Global,
-    columns: &mut Vec<Vec<Part<'a>>>,
-    term: &'a [Coded<'a>],
+    columns: &mut Vec<Vec<Part<'b, 'a>>>,
+    term: &'b [Coded<'a>],
 ) -> Result<(), AllocError>
     requires usable { All IsUsable term.now }
     requires few { count (map coded_seen term.now) ≤ 128 }
-    ensures { OnOk result (columns_seen columns.new.items
+    requires counted { length term.now < 2 ^ 32 }
+    requires short { All (λ parts. length parts.items < 2 ^ 32) columns.old.items }
+    ensures columns { OnOk result (columns_seen columns.new.items
         ≡ columns_seen columns.old.items ++ term_columns (map coded_seen term.now)) }
+    ensures short { OnOk result (All (λ parts. length parts.items < 2 ^ 32) columns.new.items) }
 {
     let count = count_of(term) as u32;
     for number in 0..count {
@@ -144,8 +148,12 @@ fn push_columns<'a>(
 }
 
 // The column of the intercept, where there is one.
-fn first_columns<'a>(alloc: Global, intercept: bool) -> Result<Vec<Vec<Part<'a>>>, AllocError>
-    ensures { IfOk result (λ columns. columns_seen columns.items ≡ columns_in intercept []) }
+fn first_columns<'b, 'a>(
+    alloc: Global,
+    intercept: bool,
+) -> Result<Vec<Vec<Part<'b, 'a>>>, AllocError>
+    ensures columns { IfOk result (λ columns. columns_seen columns.items ≡ columns_in intercept []) }
+    ensures short { IfOk result (λ columns. All (λ parts. length parts.items < 2 ^ 32) columns.items) }
 {
     let mut columns = Vec::new(alloc);
     if intercept {
@@ -156,14 +164,16 @@ fn first_columns<'a>(alloc: Global, intercept: bool) -> Result<Vec<Vec<Part<'a>>
 }
 
 /// The columns of a design.
-pub(crate) fn design_columns<'a>(
+pub(crate) fn design_columns<'b, 'a>(
     alloc: Global,
     intercept: bool,
-    terms: &'a [Vec<Coded<'a>>],
-) -> Result<Vec<Vec<Part<'a>>>, AllocError>
+    terms: &'b [Vec<Coded<'a>>],
+) -> Result<Vec<Vec<Part<'b, 'a>>>, AllocError>
     requires usable { All (λ vs. All IsUsable vs.items) terms.now }
     requires few { All (λ vs. count (map coded_seen vs.items) ≤ 128) terms.now }
-    ensures { IfOk result (λ columns. columns_seen columns.items ≡ columns_in intercept (terms_seen terms.now)) }
+    requires short { All (λ vs. length vs.items < 2 ^ 32) terms.now }
+    ensures columns { IfOk result (λ columns. columns_seen columns.items ≡ columns_in intercept (terms_seen terms.now)) }
+    ensures short { IfOk result (λ columns. All (λ parts. length parts.items < 2 ^ 32) columns.items) }
 {
     let mut columns = first_columns(alloc, intercept)?;
     for term in terms {
@@ -173,7 +183,7 @@ pub(crate) fn design_columns<'a>(
 }
 
 /// What a column is called.
-pub(crate) fn name_of(alloc: Global, column: &[Part<'_>]) -> Result<Text, AllocError>
+pub(crate) fn name_of(alloc: Global, column: &[Part<'_, '_>]) -> Result<Text, AllocError>
     ensures { IfOk result (λ t. t ≡ column_name (map part_seen column.now)) }
 {
     let Some((first, rest)) = column.split_first() else {

@@ -39,7 +39,7 @@ fn next_product(
 fn product_of(
     rec: u32,
     column: u32,
-    parts: &[Part<'_>],
+    parts: &[Part<'_, '_>],
     place: usize,
 ) -> Result<Frac128, Spill<Frac128>>
     requires { length parts.now < 2 ^ 32 }
@@ -69,7 +69,7 @@ fn product_of(
 fn entries_of(
     alloc: Global,
     rec: u32,
-    columns: &[Vec<Part<'_>>],
+    columns: &[Vec<Part<'_, '_>>],
     place: usize,
 ) -> Result<Vec<Frac128>, DesignFault>
     requires few { length columns.now < 2 ^ 32 }
@@ -95,7 +95,7 @@ fn entries_of(
 pub(crate) fn design_rows(
     alloc: Global,
     response: &Column<'_>,
-    columns: &[Vec<Part<'_>>],
+    columns: &[Vec<Part<'_, '_>>],
     records: &[u32],
 ) -> Result<Vec<DesignRow>, DesignFault>
     requires numbered { All (λ i. i + 1 < 2 ^ 32) records.now }
