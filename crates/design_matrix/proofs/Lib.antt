@@ -8,3 +8,4 @@ pub mod Firsts
 pub mod Overflows
 pub mod Usable
 pub mod Lengths
+pub mod Building

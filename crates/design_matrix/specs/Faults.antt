@@ -11,15 +11,13 @@ use Rattle.design_matrix.specs.declared.design.Design.{Design}
 use Rattle.design_matrix.specs.declared.fault.DesignFault.{DesignFault}
 use Rattle.design_matrix.specs.declared.fault.DesignFault.TheVariants.{OutOfMemory, ResponseNotNumeric, NumberTooWide, NoRows, OneLevel, NoColumns, TooManyColumns, Overflow}
 use Rattle.design_matrix.specs.Cells.{Column, Table, column_of, kept, used_names}
-use Rattle.design_matrix.specs.Coded.{Coded, coded_terms, width}
+use Rattle.design_matrix.specs.Coded.{Coded, coded_terms, is_text, width}
 use Rattle.design_matrix.specs.Designs.{AllFit, DesignOf, OverflowsFirst, design_of, exact_design}
 use Rattle.design_matrix.specs.Lists.{first_some}
 use Rattle.design_matrix.specs.Parts.{columns_of}
 
 abbrev pub response_fault : Column → Option DesignFault
-response_fault (numbers cells) = None
-response_fault (factor cells) = Some ResponseNotNumeric
-response_fault (too_wide rec) = None
+response_fault column = if is_text column then Some ResponseNotNumeric else None
 
 abbrev pub wide_fault : Text → Column → Option DesignFault
 wide_fault name (numbers cells) = None

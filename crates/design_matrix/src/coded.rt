@@ -81,10 +81,11 @@ fn print_name(alloc: Global, as_factor: bool, name: &str) -> Result<Text, AllocE
     }
 }
 
-fn is_text(column: Column<'_>) -> bool
-    ensures { result ≡ is_text (lent_column column.entry) }
+/// Whether a column is a factor.
+pub(crate) fn is_text(column: &Column<'_>) -> bool
+    ensures { result ≡ is_text (lent_column column.now) }
 {
-    match column {
+    match *column {
         Column::Factor(_) => true,
         Column::Numbers(_) => false,
         Column::TooWide { .. } => false,
@@ -95,7 +96,7 @@ fn is_text(column: Column<'_>) -> bool
 fn is_factor(frame: &Frame, variable: &Variable) -> bool
     ensures { result ≡ is_factor frame.now variable.now }
 {
-    variable.as_factor || is_text(column(frame, variable.name.as_str()))
+    variable.as_factor || is_text(&column(frame, variable.name.as_str()))
 }
 
 fn are_factors(frame: &Frame, variables: &[Variable]) -> bool

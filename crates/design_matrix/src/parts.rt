@@ -148,7 +148,7 @@ fn push_columns<'b, 'a>(
 }
 
 // The column of the intercept, where there is one.
-fn first_columns<'b, 'a>(
+fn first_columns<'b, 'a: 'b>(
     alloc: Global,
     intercept: bool,
 ) -> Result<Vec<Vec<Part<'b, 'a>>>, AllocError>

@@ -10,7 +10,7 @@ use Rattle.design_matrix.proofs.used.used_columns.Goals as goal
 pub returns-in_err-narrow_column-clause-fault : goal.returns-in_err-narrow_column-clause-fault
 unfolding widths_fault
 returns-in_err-narrow_column-clause-fault c =
-    let p = err_from_is_err_and c.from_residual.result c.from_residual.ensures.1 in
+    let p = err_from_is_err_and c.from_residual-in_err-narrow_column.result c.from_residual-in_err-narrow_column.ensures.1 in
     rw (p.1, p.2) (elim c.in_err-narrow_column.ensures.fault [
       | inl memory ↦ inl memory
       | inr fault ↦ inr (first_found (λ n. wide_fault n (column_of c.args.frame.now n)) (λ n. n.now) _ _ _ _ c.loop-name-test.true c.name-item.is c.loop-name.invariant.sound
