@@ -85,7 +85,7 @@ late_none table model coding terms e f h k =
     let n : length (columns_in model.intercept terms) ≡ length (columns_of table model coding) = ap length (seen_columns table model coding _ terms refl e) in
     or_second _ _ _ (ap terms_fault (sym e) ∙ f)
     (or_second _ _ _ (ap (λ b. cond b (Some NoColumns) None) h)
-    (ap (λ b. cond b (Some TooManyColumns) None) (le-ltb (length (columns_of table model coding)) 128 (omega arith))))
+    (ap (λ b. cond b (Some TooManyColumns) None) (le-ltb 128 (length (columns_of table model coding)) (omega arith))))
 
 -- the faults of the columns come last
 

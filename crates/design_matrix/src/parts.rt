@@ -147,20 +147,20 @@ fn push_columns<'b, 'a>(
     Ok(())
 }
 
-// The column of the intercept, where there is one.
-fn first_columns<'b, 'a: 'b>(
+// Puts the column of the intercept first, where there is one.
+fn push_intercept<'b, 'a>(
     alloc: Global,
+    columns: &mut Vec<Vec<Part<'b, 'a>>>,
     intercept: bool,
-) -> Result<Vec<Vec<Part<'b, 'a>>>, AllocError>
-    ensures columns { IfOk result (λ columns. columns_seen columns.items ≡ columns_in intercept []) }
-    ensures short { IfOk result (λ columns. All (λ parts. length parts.items < 2 ^ 32) columns.items) }
+) -> Result<(), AllocError>
+    requires { columns.old.items ≡ [] }
+    ensures columns { OnOk result (columns_seen columns.new.items ≡ columns_in intercept []) }
+    ensures short { OnOk result (All (λ parts. length parts.items < 2 ^ 32) columns.new.items) }
 {
-    let mut columns = Vec::new(alloc);
     if intercept {
         columns.push(Vec::new(alloc))?;
-        return Ok(columns);
     }
-    Ok(columns)
+    Ok(())
 }
 
 /// The columns of a design.
@@ -175,7 +175,8 @@ pub(crate) fn design_columns<'b, 'a>(
     ensures columns { IfOk result (λ columns. columns_seen columns.items ≡ columns_in intercept (terms_seen terms.now)) }
     ensures short { IfOk result (λ columns. All (λ parts. length parts.items < 2 ^ 32) columns.items) }
 {
-    let mut columns = first_columns(alloc, intercept)?;
+    let mut columns = Vec::new(alloc);
+    push_intercept(alloc, &mut columns, intercept)?;
     for term in terms {
         push_columns(alloc, &mut columns, term)?;
     }
