@@ -1,6 +1,9 @@
 -- A design from its parts, and the first fault from those that are looked for before.
-use Rattle.std.proofs.Common.{◌≡◌, ◌<◌, ◌≤◌, ◌⊎◌, ◌==◌, ◌-◌, ℕ, Bool, true, false, List, [], ◌∷◌, Option, Some, None, cond, length, map, min, nat_eq, lt-ltb, le-ltb, eq-eqb, inl, inr, refl, sym, ap, subst, ◌∙◌, arith}
-use Rattle.std.proofs.lemmas.Bool.{eqb-false, eqb-true}
+use Rattle.std.proofs.Common.{◌≡◌, ◌<◌, ◌≤◌, ◌-◌, ℕ, Bool, true, false, List, [], ◌∷◌, Option, Some, None, cond, length, map, min, nat_eq, lt-ltb, le-ltb, eq-eqb, refl, sym, ap, subst, ◌∙◌, arith, All, Vec, filter, ◌+◌, ◌^◌}
+use Rattle.std.proofs.lemmas.Bool.{eqb-true}
+use Rattle.std.proofs.lemmas.List.Elements.{All-weaker}
+use Rattle.std.specs.List.{flat_map, range_with_len}
+use Rattle.std.specs.declared.alloc.Global.{Global}
 use Rattle.contrasts.specs.declared.Coding.{Coding}
 use Rattle.data_frame.specs.Records.{Text}
 use Rattle.formula_parser.specs.declared.formula.Formula.{Formula}
@@ -10,13 +13,18 @@ use Rattle.design_matrix.specs.declared.design.Design.{Design}
 use Rattle.design_matrix.specs.declared.design.DesignRow.{DesignRow}
 use Rattle.design_matrix.specs.declared.fault.DesignFault.{DesignFault}
 use Rattle.design_matrix.specs.declared.fault.DesignFault.TheVariants.{OutOfMemory, ResponseNotNumeric, NoRows, NoColumns, TooManyColumns, Overflow}
-use Rattle.design_matrix.specs.Cells.{Column, Table, column_of, kept, used_names}
-use Rattle.design_matrix.specs.Coded.{Coded, coded_terms, is_text}
+use Rattle.design_matrix.specs.Cells.{Column, Table, column_of, is_complete, kept, used_names}
+use Rattle.design_matrix.specs.Coded.{Coded, coded_term, coded_terms, is_text}
+use Rattle.design_matrix.specs.declared.coded.Coded.{Coded as Held}
+use Rattle.design_matrix.specs.Views.{terms_seen}
+use Rattle.design_matrix.specs.Widths.{IsUsable}
 use Rattle.design_matrix.specs.Designs.{AllFit, DesignOf, OverflowsFirst, design_of, exact_design, exact_row, row_of}
 use Rattle.design_matrix.specs.Faults.{HasCause, HasDesign, HasLateCause, IsDesign, IsOverflow, columns_fault, empty_fault, fault_of, lacks_columns, late_fault, response_fault, rows_fault, terms_fault, widths_fault}
 use Rattle.design_matrix.specs.Lists.{each}
-use Rattle.design_matrix.specs.Parts.{Part, column_name, columns_in, columns_of}
+use Rattle.design_matrix.specs.Parts.{Part, column_name, columns_in, columns_of, term_columns}
 use Rattle.design_matrix.proofs.Firsts.{or_first, or_second}
+use Rattle.design_matrix.proofs.Lengths.{filtered_below, filtered_fewer, terms_part}
+use Rattle.design_matrix.proofs.Usable.{terms_usable}
 
 made_is : (table : Table) (model : Formula) (coding : Coding) (columns : List (List Part)) (records : List ℕ) (response : Column) (d : Design)
     → columns ≡ columns_of table model coding → records ≡ kept table model → response ≡ column_of table model.response
@@ -130,3 +138,38 @@ fault_late table model coding response names records late e f g h p q l =
     or_second _ _ _ (sound_response table model response e f)
     (or_second _ _ _ (ap (widths_fault table) (sym g) ∙ h)
     (or_second _ _ _ (ap rows_fault (sym p) ∙ ap (λ b. cond b (Some NoRows) None) (not_zero (length records) q)) l))
+
+-- what the steps before know
+
+pub coded_from : (table : Table) (model : Formula) (coding : Coding) (terms : List (List Coded)) (records : List ℕ)
+    → terms ≡ each (coded_term table model coding records) 0 model.terms → records ≡ kept table model → terms ≡ coded_terms table model coding
+unfolding coded_terms
+coded_from table model coding terms records e f = e ∙ ap (λ r. each (coded_term table model coding r) 0 model.terms) f
+
+pub usable_from : (terms : List (Vec Held Global)) (intercept : Bool) → terms_fault (terms_seen terms) ≡ None
+    → length (columns_in intercept (terms_seen terms)) ≤ 128 → All (λ vs. All IsUsable vs.items) terms
+unfolding terms_fault
+usable_from terms intercept e h =
+    let part : length (flat_map term_columns (terms_seen terms)) ≤ length (columns_in intercept (terms_seen terms)) = terms_part intercept (terms_seen terms) in
+    terms_usable terms e (omega arith)
+
+pub kept_from : (table : Table) (model : Formula) (columns : List Column) (names : List Text) (records : List ℕ) (n : ℕ)
+    → columns ≡ map (column_of table) names → names ≡ used_names model → n ≡ table.records
+    → records ≡ filter (is_complete columns) (range_with_len 0 n) → records ≡ kept table model
+unfolding kept
+kept_from table model columns names records n e f g h =
+    h
+    ∙ ap (λ c. filter (is_complete c) (range_with_len 0 n)) (e ∙ ap (map (column_of table)) f)
+    ∙ ap (λ m. filter (is_complete (map (column_of table) (used_names model))) (range_with_len 0 m)) g
+
+pub numbered_from : (test : ℕ → Bool) (n : ℕ) (records : List ℕ) → records ≡ filter test (range_with_len 0 n) → n < 2 ^ 32
+    → All (λ i. i + 1 < 2 ^ 32) records
+numbered_from test n records e h =
+    let P : List ℕ → Type 0 = λ l. All (λ i. i + 1 < 2 ^ 32) l in
+    subst P (sym e) (All-weaker (λ i. i < n) (λ i. i + 1 < 2 ^ 32) (λ i k. omega arith) (filter test (range_with_len 0 n)) (filtered_below test n))
+
+pub fewer_from : (test : ℕ → Bool) (n : ℕ) (records : List ℕ) → records ≡ filter test (range_with_len 0 n) → length records ≤ n
+fewer_from test n records e =
+    let few : length (filter test (range_with_len 0 n)) ≤ n = filtered_fewer test n in
+    let same : length records ≡ length (filter test (range_with_len 0 n)) = ap length e in
+    omega arith

@@ -135,14 +135,15 @@ pub fn build(
     let names = names_used(alloc, model)?;
     let columns = used_columns(alloc, frame, &names)?;
     let records = kept_records(alloc, &columns, frame.records())?;
-    if records.is_empty() {
+    let kept = records.as_slice();
+    if kept.is_empty() {
         return Err(DesignFault::NoRows);
     }
     let coder = Coder {
         frame,
         model,
         contrasts: coding,
-        records: &records,
+        records: kept,
     };
     match build_kept(alloc, &coder, &response) {
         Ok(design) => Ok(design),
