@@ -1,0 +1,5 @@
+pub mod Terms
+pub mod Known
+pub mod Meaning
+pub mod Stack
+pub mod Scope
