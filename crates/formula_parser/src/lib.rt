@@ -11,6 +11,7 @@ mod crossing;
 mod evaluation;
 mod fault;
 mod formula;
+mod naming;
 mod scope;
 mod term_set;
 
