@@ -1,0 +1,6 @@
+pub mod Unions
+pub mod Limited
+pub mod Mentions
+pub mod Runs
+pub mod Speaking
+pub mod Lambdas
