@@ -1,3 +1,0 @@
-pub mod Slopes
-pub mod Steps
-pub mod Laws
