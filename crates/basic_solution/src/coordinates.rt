@@ -25,8 +25,8 @@ fn coordinate<F: Exact>(
     requires position { position < problem.now.columns }
     ensures exact { let p = sample F.value problem.now in
         IfOk result (λ c. rational (F.value c) ≡ coord p (inverse_entry F.value inverse.now) row position) }
-    ensures spilled { let p = sample F.value problem.now in
-        IfErr result (IsCoordinateSpill F.value F.range p.columns (inverse_entry F.value inverse.now) (p.x row) row position) }
+    ensures spilled { let p = sample F.value problem.now in let a = inverse_entry F.value inverse.now in
+        IfErr result (IsCoordinateSpill F.value F.range p.columns a (p.x row) row position) }
 {
     let x = problem.rows.as_slice()[row as usize].x.as_slice();
     inverse.coordinate(x, position, row)
@@ -73,8 +73,8 @@ pub fn row_coordinates<F: Exact>(
     ensures each { let p = sample F.value problem.now in
         IfOk result (λ made. (j : ℕ) → j < problem.now.columns
         → value_at F.value made j ≡ coord p (inverse_entry F.value inverse.now) row j) }
-    ensures spill { let p = sample F.value problem.now in
-        IfErr result (IsShortOf (IsCoordinatesSpill F.value F.range p.columns (inverse_entry F.value inverse.now) (p.x row) row)) }
+    ensures spill { let p = sample F.value problem.now in let a = inverse_entry F.value inverse.now in
+        IfErr result (IsShortOf (IsCoordinatesSpill F.value F.range p.columns a (p.x row) row)) }
 {
     let mut made = List::new(alloc);
     for position in 0..problem.columns {

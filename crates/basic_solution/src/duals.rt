@@ -29,10 +29,10 @@ fn balancing_value<F: Exact>(
     requires inverse { IsInverse F.value inverse.now }
     requires size { length totals.now ≡ length inverse.now.columns }
     requires position { position < length totals.now }
-    ensures exact { let a = inverse_entry F.value inverse.now in
-        IfOk result (λ e. rational (F.value e) ≡ balancing (length totals.now) a (value_at F.value totals.now) position) }
-    ensures spilled { let a = inverse_entry F.value inverse.now in
-        IfErr result (IsBalancingSpill F.value F.range (length totals.now) a (value_at F.value totals.now) part position) }
+    ensures exact { let n = length totals.now in let a = inverse_entry F.value inverse.now in
+        IfOk result (λ e. rational (F.value e) ≡ balancing n a (value_at F.value totals.now) position) }
+    ensures spilled { let n = length totals.now in let a = inverse_entry F.value inverse.now in
+        IfErr result (IsBalancingSpill F.value F.range n a (value_at F.value totals.now) part position) }
 {
     let site = Site::new(Quantity::BasicDual, position, part.number(), 0);
     sum_of_products(
@@ -58,8 +58,8 @@ pub fn balancing_values<F: Exact>(
     ensures each { let a = inverse_entry F.value inverse.now in
         IfOk result (λ made. (j : ℕ) → j < length totals.now
         → value_at F.value made j ≡ balancing (length totals.now) a (value_at F.value totals.now) j) }
-    ensures spill { let a = inverse_entry F.value inverse.now in
-        IfErr result (IsShortOf (IsBalancingsSpill F.value F.range (length totals.now) a (value_at F.value totals.now) part)) }
+    ensures spill { let n = length totals.now in let a = inverse_entry F.value inverse.now in
+        IfErr result (IsShortOf (IsBalancingsSpill F.value F.range n a (value_at F.value totals.now) part)) }
 {
     let mut made = List::new(alloc);
     for position in 0..totals.len() {
@@ -74,8 +74,10 @@ pub fn balancing_values<F: Exact>(
 /// The dual value of the row at a position at theta: its constant part, and then its linear part
 /// times theta.
 pub fn dual_value<F: Exact>(position: u32, constant: F, linear: F, theta: F) -> Result<F, Spill<F>>
-    ensures exact { IfOk result (λ e. rational (F.value e) ≡ rational (F.value constant) +ℚ (rational (F.value linear) *ℚ rational (F.value theta))) }
-    ensures spilled { IfErr result (IsDualValueSpill F.value F.range (rational (F.value constant)) (rational (F.value linear)) (rational (F.value theta)) position) }
+    ensures exact { IfOk result (λ e. rational (F.value e)
+        ≡ rational (F.value constant) +ℚ (rational (F.value linear) *ℚ rational (F.value theta))) }
+    ensures spilled { let constant = rational (F.value constant) in let linear = rational (F.value linear) in
+        IfErr result (IsDualValueSpill F.value F.range constant linear (rational (F.value theta)) position) }
 {
     let site = Site::new(Quantity::DualValue, position, 0, 1);
     plus_product(site, constant, linear, theta)
@@ -84,16 +86,20 @@ pub fn dual_value<F: Exact>(position: u32, constant: F, linear: F, theta: F) -> 
 /// The slope of the loss as the residual of the row at a position rises: its up cost minus its dual
 /// value.
 pub fn slope_up<F: Exact>(position: u32, cost: F, dual: F) -> Result<F, Spill<F>>
-    ensures exact { IfOk result (λ s. rational (F.value s) ≡ rational (F.value cost) -ℚ rational (F.value dual)) }
-    ensures spilled { IfErr result (IsSlopeSpill F.value F.range position Up (rational (F.value cost)) (rational (F.value dual))) }
+    ensures exact { IfOk result (λ s. rational (F.value s)
+        ≡ rational (F.value cost) -ℚ rational (F.value dual)) }
+    ensures spilled { let cost = rational (F.value cost) in let dual = rational (F.value dual) in
+        IfErr result (IsSlopeSpill F.value F.range position Up cost dual) }
 {
     minus_at(Site::new(Quantity::Slope, position, 0, 1), cost, dual)
 }
 
 /// The slope as it falls: its down cost plus its dual value.
 pub fn slope_down<F: Exact>(position: u32, cost: F, dual: F) -> Result<F, Spill<F>>
-    ensures exact { IfOk result (λ s. rational (F.value s) ≡ rational (F.value cost) +ℚ rational (F.value dual)) }
-    ensures spilled { IfErr result (IsSlopeSpill F.value F.range position Down (rational (F.value cost)) (rational (F.value dual))) }
+    ensures exact { IfOk result (λ s. rational (F.value s)
+        ≡ rational (F.value cost) +ℚ rational (F.value dual)) }
+    ensures spilled { let cost = rational (F.value cost) in let dual = rational (F.value dual) in
+        IfErr result (IsSlopeSpill F.value F.range position Down cost dual) }
 {
     plus_at(Site::new(Quantity::Slope, position, 1, 1), cost, dual)
 }
@@ -101,7 +107,8 @@ pub fn slope_down<F: Exact>(position: u32, cost: F, dual: F) -> Result<F, Spill<
 /// The up cost of a row plus its down cost.
 pub fn cost_sum<F: Exact>(row: u32, up: F, down: F) -> Result<F, Spill<F>>
     ensures exact { IfOk result (λ s. rational (F.value s) ≡ rational (F.value up) +ℚ rational (F.value down)) }
-    ensures spilled { IfErr result (IsCostSumSpill F.value F.range row (rational (F.value up)) (rational (F.value down))) }
+    ensures spilled { let up = rational (F.value up) in let down = rational (F.value down) in
+        IfErr result (IsCostSumSpill F.value F.range row up down) }
 {
     plus_at(Site::new(Quantity::CostSum, row, 0, 1), up, down)
 }

@@ -30,12 +30,14 @@ fn perturbed_side<F: Exact>(
     requires basis { HasBasis problem.now inverse.now basis.now.rows }
     requires row { row < length problem.now.rows }
     requires outside { (j : ℕ) → j < length basis.now.rows → slice_index basis.now.rows j ≢ row }
-    requires residual { let p = sample F.value problem.now in
-        rational (F.value residual) ≡ residual_of p (coefficient p (slice_index basis.now.rows) (inverse_entry F.value inverse.now)) row }
-    ensures side { let p = sample F.value problem.now in
-        IfOk result (λ s. s ≡ side_by_order p.rows p.columns (slice_index basis.now.rows) (outside_row p (slice_index basis.now.rows) (inverse_entry F.value inverse.now) row)) }
-    ensures spill { let p = sample F.value problem.now in
-        IfErr result (IsShortOf (IsCoordinatesSpill F.value F.range p.columns (inverse_entry F.value inverse.now) (p.x row) row)) }
+    requires residual { let p = sample F.value problem.now in let at = slice_index basis.now.rows in
+        let b = coefficient p at (inverse_entry F.value inverse.now) in
+        rational (F.value residual) ≡ residual_of p b row }
+    ensures side { let p = sample F.value problem.now in let at = slice_index basis.now.rows in
+        let u = outside_row p at (inverse_entry F.value inverse.now) row in
+        IfOk result (λ s. s ≡ side_by_order p.rows p.columns at u) }
+    ensures spill { let p = sample F.value problem.now in let a = inverse_entry F.value inverse.now in
+        IfErr result (IsShortOf (IsCoordinatesSpill F.value F.range p.columns a (p.x row) row)) }
 {
     match residual.compare(F::zero()) {
         Ordering::Greater => Ok(Side::Up),
@@ -59,12 +61,13 @@ fn side_of_row<F: Exact>(
     requires shaped { IsWellShaped problem.now }
     requires basis { HasBasis problem.now inverse.now basis.now.rows }
     requires row { row < length problem.now.rows }
-    requires residual { let p = sample F.value problem.now in
-        rational (F.value residual) ≡ residual_of p (coefficient p (slice_index basis.now.rows) (inverse_entry F.value inverse.now)) row }
+    requires residual { let p = sample F.value problem.now in let at = slice_index basis.now.rows in
+        let b = coefficient p at (inverse_entry F.value inverse.now) in
+        rational (F.value residual) ≡ residual_of p b row }
     ensures side { let p = sample F.value problem.now in
         IfOk result (λ s. s ≡ side_at p (slice_index basis.now.rows) (inverse_entry F.value inverse.now) row) }
-    ensures spill { let p = sample F.value problem.now in
-        IfErr result (IsShortOf (IsCoordinatesSpill F.value F.range p.columns (inverse_entry F.value inverse.now) (p.x row) row)) }
+    ensures spill { let p = sample F.value problem.now in let a = inverse_entry F.value inverse.now in
+        IfErr result (IsShortOf (IsCoordinatesSpill F.value F.range p.columns a (p.x row) row)) }
 {
     if basis.rows.as_slice().contains(&row) {
         return Ok(Side::Basic);
@@ -83,8 +86,9 @@ pub fn sides<F: Exact>(
     requires shaped { IsWellShaped problem.now }
     requires basis { HasBasis problem.now inverse.now basis.now.rows }
     requires size { length residuals.now ≡ length problem.now.rows }
-    requires residuals { let p = sample F.value problem.now in (i : ℕ) → i < length problem.now.rows
-        → value_at F.value residuals.now i ≡ residual_of p (coefficient p (slice_index basis.now.rows) (inverse_entry F.value inverse.now)) i }
+    requires residuals { let p = sample F.value problem.now in let at = slice_index basis.now.rows in
+        let b = coefficient p at (inverse_entry F.value inverse.now) in
+        (i : ℕ) → i < length problem.now.rows → value_at F.value residuals.now i ≡ residual_of p b i }
     ensures size { IfOk result (λ made. length made ≡ length problem.now.rows) }
     ensures each { let p = sample F.value problem.now in
         IfOk result (λ made. (i : ℕ) → i < length problem.now.rows

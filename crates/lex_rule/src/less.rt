@@ -37,7 +37,8 @@ fn is_below(side: Side) -> bool
 fn divisor<F: Exact>(ratio: &Ratio<F>, basis: &Basis, position: u32) -> Divisor<F>
     requires { IsRatioAt F.value basis.now.rows position ratio.now }
     ensures divides { IsDivisorOf F.value position (of_ratio F.value ratio.now) result }
-    ensures side { (rows : ℕ) → ratio.now.row < rows → result.side ≡ perturbed_side rows (length basis.now.rows) (slice_index basis.now.rows) (of_ratio F.value ratio.now) }
+    ensures side { let n = length basis.now.rows in let at = slice_index basis.now.rows in
+        (rows : ℕ) → ratio.now.row < rows → result.side ≡ perturbed_side rows n at (of_ratio F.value ratio.now) }
 {
     let coord = ratio.coords[position as usize];
     Divisor {
@@ -63,9 +64,11 @@ fn compare_before<F: Exact>(
     requires before_left { end ≤ left.now.row }
     requires before_right { end ≤ right.now.row }
     ensures exact { let n = length basis.now.rows in let at = slice_index basis.now.rows in let j = by.0.position in
-        IfOk result (λ o. o ≡ lex_cmp (suc end) (ratio_on by.0.side n at j (of_ratio F.value left.now)) (ratio_on by.1.side n at j (of_ratio F.value right.now))) }
+        let u = of_ratio F.value left.now in let v = of_ratio F.value right.now in
+        IfOk result (λ o. o ≡ lex_cmp (suc end) (ratio_on by.0.side n at j u) (ratio_on by.1.side n at j v)) }
     ensures spilled { let n = length basis.now.rows in let at = slice_index basis.now.rows in let j = by.0.position in
-        IfErr result (IsSpillOn F.value F.range end n at j by.0.side by.1.side (of_ratio F.value left.now) (of_ratio F.value right.now)) }
+        let u = of_ratio F.value left.now in let v = of_ratio F.value right.now in
+        IfErr result (IsSpillOn F.value F.range end n at j by.0.side by.1.side u v) }
 {
     let (by_left, by_right) = by;
     let rows = basis.rows.as_slice();
@@ -108,7 +111,8 @@ pub fn lex_less<F: Exact>(
         → (IsTrue less ↔ (lex_cmp (suc rows) (ratio rows n at position u) (ratio rows n at position v) ≡ Less))) }
     ensures spill { let n = length basis.now.rows in let at = slice_index basis.now.rows in
         let u = of_ratio F.value left.now in let v = of_ratio F.value right.now in
-        IfErr result (λ s. (rows : ℕ) → u.row < rows → v.row < rows → IsRatioSpill F.value F.range rows n at position u v s) }
+        IfErr result (λ s. (rows : ℕ) → u.row < rows → v.row < rows
+        → IsRatioSpill F.value F.range rows n at position u v s) }
 {
     let by_left = divisor(left, basis, position);
     let by_right = divisor(right, basis, position);

@@ -60,8 +60,10 @@ pub fn compare_entries<F: Exact>(
 ) -> Result<Ordering, Spill<F>>
     requires left_some { rational (F.value left.size) ≢ whole (pos 0) }
     requires right_some { rational (F.value right.size) ≢ whole (pos 0) }
-    ensures exact { IfOk result (λ o. o ≡ cmp_ℚ (entry_over F.value left left_perturbed) (entry_over F.value right right_perturbed)) }
-    ensures spilled { IfErr result (λ s. IsDivisorSpill F.value F.range left entry left_perturbed s ⊎ IsDivisorSpill F.value F.range right entry right_perturbed s) }
+    ensures exact { IfOk result (λ o.
+        o ≡ cmp_ℚ (entry_over F.value left left_perturbed) (entry_over F.value right right_perturbed)) }
+    ensures spilled { IfErr result (λ s. IsDivisorSpill F.value F.range left entry left_perturbed s
+        ⊎ IsDivisorSpill F.value F.range right entry right_perturbed s) }
 {
     let first = divided(left, entry, left_perturbed)?;
     let second = divided(right, entry, right_perturbed)?;

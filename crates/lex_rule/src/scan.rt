@@ -25,7 +25,8 @@ pub fn next_position<F: Exact>(
 ) -> Option<usize>
     requires left { length left.now ≡ length basis.now }
     requires right { length right.now ≡ length basis.now }
-    ensures { IsNextPosition (length basis.now) (slice_index basis.now) (value_at F.value left.now) (value_at F.value right.now) from to result }
+    ensures { let u = value_at F.value left.now in let v = value_at F.value right.now in
+        IsNextPosition (length basis.now) (slice_index basis.now) u v from to result }
 {
     let mut next = None;
     let mut end = to;

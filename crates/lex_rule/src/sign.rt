@@ -25,7 +25,8 @@ fn side_of_value<F: Exact>(value: F) -> Side
 pub fn lex_sign<F: Exact>(residual: F, coords: &[F], basis: &Basis, row: u32) -> Side
     requires same { length coords.now ≡ length basis.now.rows }
     requires outside { IsOutside (length basis.now.rows) (slice_index basis.now.rows) row }
-    ensures { (rows : ℕ) → row < rows → result ≡ perturbed_side rows (length basis.now.rows) (slice_index basis.now.rows) (nonbasic F.value row residual coords.now) }
+    ensures { let n = length basis.now.rows in let at = slice_index basis.now.rows in
+        (rows : ℕ) → row < rows → result ≡ perturbed_side rows n at (nonbasic F.value row residual coords.now) }
 {
     if !residual.is_zero() {
         return side_of_value(residual);
