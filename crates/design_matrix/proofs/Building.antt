@@ -1,5 +1,5 @@
 -- A design from its parts, and the first fault from those that are looked for before.
-use Rattle.std.proofs.Common.{◌≡◌, ◌<◌, ◌≤◌, ◌-◌, ℕ, Bool, true, false, List, [], ◌∷◌, Option, Some, None, cond, length, map, min, nat_eq, lt-ltb, le-ltb, eq-eqb, refl, sym, ap, subst, ◌∙◌, arith, All, Vec, filter, ◌+◌, ◌^◌}
+use Rattle.std.proofs.Common.{◌≡◌, ◌<◌, ◌≤◌, ◌-◌, ℕ, Bool, true, false, List, Option, Some, None, cond, length, map, nat_eq, lt-ltb, le-ltb, eq-eqb, refl, sym, ap, subst, ◌∙◌, arith, All, Vec, filter, ◌+◌, ◌^◌}
 use Rattle.std.proofs.lemmas.Bool.{eqb-true}
 use Rattle.std.proofs.lemmas.List.Elements.{All-weaker}
 use Rattle.std.specs.List.{flat_map, range_with_len}
@@ -10,16 +10,15 @@ use Rattle.formula_parser.specs.declared.formula.Formula.{Formula}
 use Rattle.frac_core.specs.declared.frac128.Frac128.{Frac128}
 use Rattle.loss_model.specs.declared.spill.Spill.{Spill}
 use Rattle.design_matrix.specs.declared.design.Design.{Design}
-use Rattle.design_matrix.specs.declared.design.DesignRow.{DesignRow}
 use Rattle.design_matrix.specs.declared.fault.DesignFault.{DesignFault}
-use Rattle.design_matrix.specs.declared.fault.DesignFault.TheVariants.{OutOfMemory, ResponseNotNumeric, NoRows, NoColumns, TooManyColumns, Overflow}
+use Rattle.design_matrix.specs.declared.fault.DesignFault.TheVariants.{ResponseNotNumeric, NoRows, NoColumns, TooManyColumns, Overflow}
 use Rattle.design_matrix.specs.Cells.{Column, Table, column_of, is_complete, kept, used_names}
 use Rattle.design_matrix.specs.Coded.{Coded, coded_term, coded_terms, is_text}
 use Rattle.design_matrix.specs.declared.coded.Coded.{Coded as Held}
 use Rattle.design_matrix.specs.Views.{terms_seen}
 use Rattle.design_matrix.specs.Widths.{IsUsable}
-use Rattle.design_matrix.specs.Designs.{AllFit, DesignOf, OverflowsFirst, design_of, exact_design, exact_row, row_of}
-use Rattle.design_matrix.specs.Faults.{HasCause, HasDesign, HasLateCause, IsDesign, IsOverflow, columns_fault, empty_fault, fault_of, lacks_columns, late_fault, response_fault, rows_fault, terms_fault, widths_fault}
+use Rattle.design_matrix.specs.Designs.{AllFit, OverflowsFirst, design_of, exact_design, exact_row, row_of}
+use Rattle.design_matrix.specs.Faults.{HasDesign, IsOverflow, fault_of, lacks_columns, late_fault, response_fault, rows_fault, terms_fault, widths_fault}
 use Rattle.design_matrix.specs.Lists.{each}
 use Rattle.design_matrix.specs.Parts.{Part, column_name, columns_in, columns_of, term_columns}
 use Rattle.design_matrix.proofs.Firsts.{or_first, or_second}

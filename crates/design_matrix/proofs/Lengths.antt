@@ -1,11 +1,11 @@
 -- How long lists are that are told of others.
-use Rattle.std.proofs.Common.{◌≡◌, ◌<◌, ◌^◌, ◌≤◌, ℕ, suc, ◌+◌, List, [], ◌∷◌, ◌++◌, All, Vec, Bool, true, false, cond, length, map, filter, get_or, refl, sym, ap, ◌∙◌, arith, subst}
+use Rattle.std.proofs.Common.{◌≡◌, ◌<◌, ◌^◌, ◌≤◌, ℕ, suc, ◌+◌, List, [], ◌∷◌, ◌++◌, All, Vec, Bool, true, false, cond, length, map, filter, refl, sym, ap, ◌∙◌, arith, subst}
 use Rattle.std.specs.List.{flat_map, range_with_len}
 use Rattle.std.specs.declared.alloc.Global.{Global}
 use Rattle.std.proofs.lemmas.List.{length-map}
 use Rattle.std.proofs.lemmas.List.Elements.{All-filter, All-push}
 use Rattle.std.proofs.lemmas.List.FromFn.{get_or-range_with_len, length-range_with_len}
-use Rattle.design_matrix.specs.Coded.{Coded, width}
+use Rattle.design_matrix.specs.Coded.{Coded}
 use Rattle.design_matrix.specs.Lists.{each}
 use Rattle.design_matrix.specs.Parts.{Part, chosen, columns_in, term_columns}
 

@@ -1,10 +1,10 @@
 -- Products with one more factor.
-use Rattle.std.proofs.Common.{◌≡◌, ◌<◌, ◌≤◌, ℕ, zero, suc, ◌+◌, List, [], ◌∷◌, ◌++◌, length, map, take, pos, refl, sym, ap, ap₂, ◌∙◌, arith, subst, get_or, Bool, true, false, leb, leb-true, leb-false, ◌^◌, ◌-◌}
+use Rattle.std.proofs.Common.{◌≡◌, ◌<◌, ◌≤◌, ℕ, ◌+◌, List, [], ◌∷◌, ◌++◌, length, map, take, pos, refl, sym, ap, ◌∙◌, arith, subst, get_or, Bool, true, false, leb, leb-true, leb-false, ◌^◌, ◌-◌}
 use Rattle.std.proofs.lemmas.List.{get_or-map, length-map, take_more}
 use Rattle.exact_algebra.specs.Rational.{ℚ, ◌*ℚ◌, whole}
 use Rattle.frac_core.specs.declared.frac128.Frac128.{Frac128}
 use Rattle.data_frame.specs.Views.{exact}
-use Rattle.design_matrix.specs.Products.{Fits, IsValue, OverflowsAt, SpillsAt, product, product_onto}
+use Rattle.design_matrix.specs.Products.{IsValue, OverflowsAt, SpillsAt, product, product_onto}
 use Rattle.frac_core.specs.Overflow.{Overflows}
 use Rattle.frac_core.specs.declared.exact.OpKind.TheVariants.{Mul}
 use Rattle.loss_model.specs.declared.spill.Site.{Site}

@@ -1,14 +1,14 @@
 -- One item more.
-use Rattle.std.proofs.Common.{◌≡◌, ◌<◌, ◌&&◌, ◌||◌, ℕ, suc, ◌+◌, Bool, true, false, cond, List, [], ◌∷◌, ◌++◌, Option, take, length, map, filter, get_or, refl, sym, ap, ◌∙◌, append_assoc, arith, nat_eq, eq-eqb, drop, take_all, length-drop, ◌-◌, ◌≤◌, All, subst}
+use Rattle.std.proofs.Common.{◌≡◌, ◌<◌, ◌&&◌, ◌||◌, ℕ, ◌+◌, Bool, true, false, cond, List, [], ◌∷◌, ◌++◌, Option, take, length, map, filter, get_or, refl, sym, ap, ◌∙◌, append_assoc, arith, nat_eq, eq-eqb, drop, take_all, length-drop, ◌-◌, ◌≤◌, All, subst}
 use Rattle.std.proofs.lemmas.Bool.{eqb-true}
 use Rattle.std.specs.declared.cmp.Ordering.{Ordering}
-use Rattle.std.specs.List.{filter_map, flat_map, list_all, range_with_len}
+use Rattle.std.specs.List.{flat_map, list_all, range_with_len}
 use Rattle.std.proofs.lemmas.List.{length-take-le, map-append, take_more}
 use Rattle.std.proofs.lemmas.Grind.{flat_map-append}
 use Rattle.std.proofs.lemmas.List.Elements.{All-push, filter-append, filter_map-append}
 use Rattle.std.proofs.lemmas.List.FromFn.{map-range_with_len_more}
 use Rattle.design_matrix.specs.Cells.{cell_of, present}
-use Rattle.design_matrix.specs.Levels.{level_of, put, put_all}
+use Rattle.design_matrix.specs.Levels.{put, put_all}
 use Rattle.design_matrix.specs.Lists.{each}
 use Rattle.design_matrix.proofs.Puts.{first_item}
 

@@ -7,7 +7,7 @@ use Rattle.exact_algebra.specs.Rational.{ℚ}
 use Rattle.contrasts.specs.declared.Coding.{Coding}
 use Rattle.contrasts.specs.declared.Coding.TheVariants.{Indicator}
 use Rattle.contrasts.specs.Coding.{width_of}
-use Rattle.data_frame.specs.Cells.{ColumnOf, numbers, factor, too_wide}
+use Rattle.data_frame.specs.Cells.{numbers, factor, too_wide}
 use Rattle.data_frame.specs.Records.{Text}
 use Rattle.formula_parser.specs.declared.formula.Variable.{Variable}
 use Rattle.formula_parser.specs.declared.formula.Term.{Term}

@@ -1,5 +1,5 @@
 -- Why a table and a formula have no design: the faults in the order in which they are looked for.
-use Rattle.std.specs.Prelude.{◌≡◌, ◌⊎◌, ◌==◌, ◌&&◌, ℕ, not, Bool, List, [], ◌∷◌, Option, Some, None, length, nat_lt, if◌then◌else◌}
+use Rattle.std.specs.Prelude.{◌≡◌, ◌⊎◌, ◌==◌, ◌&&◌, ℕ, not, Bool, List, Option, Some, None, length, nat_lt, if◌then◌else◌}
 use Rattle.std.specs.Option.{option_or}
 use Rattle.contrasts.specs.declared.Coding.{Coding}
 use Rattle.frac_core.specs.declared.frac128.Frac128.{Frac128}
@@ -12,7 +12,7 @@ use Rattle.design_matrix.specs.declared.fault.DesignFault.{DesignFault}
 use Rattle.design_matrix.specs.declared.fault.DesignFault.TheVariants.{OutOfMemory, ResponseNotNumeric, NumberTooWide, NoRows, OneLevel, NoColumns, TooManyColumns, Overflow}
 use Rattle.design_matrix.specs.Cells.{Column, Table, column_of, kept, used_names}
 use Rattle.design_matrix.specs.Coded.{Coded, coded_terms, is_text, width}
-use Rattle.design_matrix.specs.Designs.{AllFit, DesignOf, OverflowsFirst, design_of, exact_design}
+use Rattle.design_matrix.specs.Designs.{AllFit, OverflowsFirst, design_of, exact_design}
 use Rattle.design_matrix.specs.Lists.{first_some}
 use Rattle.design_matrix.specs.Parts.{columns_of}
 

@@ -1,4 +1,4 @@
-use Rattle.std.proofs.Common.{◌≡◌, length, map, min, take}
+use Rattle.std.proofs.Common.{◌≡◌, length, min, take}
 use Rattle.std.specs.List.{flat_map}
 use Rattle.design_matrix.specs.Parts.{term_columns}
 use Rattle.design_matrix.specs.Views.{terms_seen}

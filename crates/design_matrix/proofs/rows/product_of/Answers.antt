@@ -1,4 +1,4 @@
-use Rattle.std.proofs.Common.{◌≡◌, ◌≤◌, ap, arith, length, map, pos, refl, slice_index_or}
+use Rattle.std.proofs.Common.{◌≡◌, ap, arith, length, map, pos, refl, slice_index_or}
 use Rattle.exact_algebra.specs.Rational.{whole}
 use Rattle.design_matrix.specs.Parts.{factors}
 use Rattle.design_matrix.specs.Views.{part_seen}
