@@ -507,4 +507,3 @@ number_is_ascii text h e = go (part_behind Empty text) refl (sym (number_text te
 
 pub unsigned_front : (text : List ℕ) (n : ℕ) → is_signed text ≡ false → is_signed (take n text) ≡ false
 unsigned_front text n h = signed_take text n h
-
