@@ -1,6 +1,6 @@
 -- The lambdas of a formula that was read are numbers.
-use Rattle.std.proofs.Common.{◌≡◌, ◌<◌, ◌≤◌, ◌+◌, ◌-◌, ◌^◌, ◌==◌, ◌++◌, ◌∷◌, [], ℕ, zero, suc, Bool, true, false, cond, List, All, Option, Some, None, Ok, Err, is_some, bytes_eq, codes, length, take, drop, drop-cons, get_or, position, nat_le, refl, sym, ◌∙◌, ap, subst, append_assoc, arith, add-one, length-append, if◌then◌else◌, unsigned_abs, ◌&&◌, nat_eq}
-use Rattle.std.proofs.Math.Seq.{take-append_seam, take-append-add, get_or-append_seam}
+use Rattle.std.proofs.Common.{◌≡◌, ◌<◌, ◌+◌, ◌-◌, ◌^◌, ◌==◌, ◌++◌, ◌∷◌, [], ℕ, zero, suc, Bool, true, false, List, All, Option, Some, None, Ok, Err, is_some, bytes_eq, codes, length, take, drop, get_or, position, nat_le, refl, sym, ◌∙◌, ap, subst, append_assoc, arith, length-append, if◌then◌else◌, unsigned_abs, ◌&&◌, nat_eq}
+use Rattle.std.proofs.Math.Seq.{take-append_seam, get_or-append_seam}
 use Rattle.std.proofs.lemmas.List.{drop-drop, length-take-le, take-append-drop}
 use Rattle.std.proofs.lemmas.Bool.Decides.{nat_tests}
 use Rattle.std.specs.Result.{is_ok}
@@ -11,27 +11,24 @@ use Rattle.std.proofs.lemmas.Str.{IsUtf8-from_ascii}
 use Rattle.exact_algebra.specs.Fraction.{Fraction, rational}
 use Rattle.frac_core.specs.NumberText.{decimal_of, in_range, is_number_text, number_of, significand, written, written_body}
 use Rattle.frac_core.specs.declared.number_reader.NumberFault.TheVariants.{TooWide}
-use Rattle.formula_grammar.specs.declared.token.Span.{Span}
-use Rattle.formula_grammar.specs.declared.token.Sign.TheVariants.{Plus, Minus}
-use Rattle.formula_grammar.specs.declared.token.Whole.{Whole}
+use Rattle.formula_grammar.specs.declared.token.Sign.TheVariants.{Plus}
 use Rattle.formula_grammar.specs.declared.token.Whole.TheVariants.{Zero, Unity, Longer}
 use Rattle.formula_grammar.specs.declared.token.Numeral.{Numeral}
 use Rattle.formula_grammar.specs.declared.token.Numeral.TheVariants.{Digits, Written}
 use Rattle.formula_grammar.specs.declared.token.Kind.{Kind}
-use Rattle.formula_grammar.specs.declared.token.Kind.TheVariants.{Name, FactorWord, QssWord, Number, Signed, Comma, Open, Close, End, Stray}
+use Rattle.formula_grammar.specs.declared.token.Kind.TheVariants.{Name, QssWord, Number, Signed, Comma, Open, Close, End}
 use Rattle.formula_grammar.specs.declared.token.Token.{Token}
 use Rattle.formula_grammar.specs.declared.reading.SmoothPart.{SmoothPart}
 use Rattle.formula_grammar.specs.declared.reading.Reading.{Reading}
-use Rattle.formula_grammar.specs.declared.fault.ReadFault.{ReadFault}
 use Rattle.formula_grammar.specs.declared.fault.ReadFault.TheVariants.{NumberTooWide}
 use Rattle.formula_grammar.specs.Numerals.{is_wide, len_of}
-use Rattle.formula_grammar.specs.Numbers.{is_signed, is_too_wide, is_wide_answer, capped_value, number_len, numeral_of, whole_of}
-use Rattle.formula_grammar.specs.Grammar.{token, Smooth, Item, Items, Start, StartSmooth, StartPlus, Then, ThenSmooth, Formula, items_tokens, item_tokens, smooth_tokens, head_tokens, formula_tokens, Begins}
+use Rattle.formula_grammar.specs.Numbers.{is_too_wide, is_wide_answer, capped_value, number_len, numeral_of, whole_of}
+use Rattle.formula_grammar.specs.Grammar.{token, Smooth, Items, Start, StartSmooth, StartPlus, Then, ThenSmooth, Formula, items_tokens, item_tokens, smooth_tokens, head_tokens, formula_tokens, Begins}
 use Rattle.formula_grammar.specs.Codes.{smooth_part, smooths_of}
-use Rattle.formula_grammar.specs.Faults.{token_at, last_from, last_kind, depth, limit_at, IsCleanBelow, IsFormula, IsReading}
+use Rattle.formula_grammar.specs.Faults.{token_at, last_from, last_kind, limit_at, IsFormula, IsReading}
 use Rattle.formula_grammar.specs.Tokens.{begins_name, begins_number, goes_on, is_backtick, is_blank, lexeme, name_lexeme, number_lexeme, opens, mark_of, name_or_word, quoted_to, tokens, tokens_from}
 use Rattle.formula_grammar.proofs.NumberTexts.{number_found, number_is_ascii, number_within, some_number, unsigned_front, unsigned_number}
-use Rattle.formula_parser.specs.Scope.{Text, piece}
+use Rattle.formula_parser.specs.Scope.{Text}
 use Rattle.formula_parser.specs.Parsed.{lambda_text}
 use Rattle.formula_parser.specs.Spoken.{HasLambda}
 
