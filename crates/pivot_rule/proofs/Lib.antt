@@ -1,0 +1,6 @@
+pub mod Among
+pub mod Sides
+pub mod Optimal
+pub mod Entering
+pub mod Passing
+pub mod Unique

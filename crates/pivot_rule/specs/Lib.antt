@@ -1,0 +1,5 @@
+pub mod AtBasis
+pub mod Steps
+pub mod Trails
+pub mod Results
+pub mod Laws

@@ -1,0 +1,24 @@
+//! The laws of the pivot rule. Each function does nothing: its contract is the law.
+
+ghost use Rattle.pivot_rule.specs.Laws.{StopIsOptimal, SomeRowEnters, RowsPassInOrder, StepIsUnique, StopHasNoStep, TrailIsUnique};
+
+use frac_core::Exact;
+
+/// A basis without a negative slope is optimal: its dual values are feasible and of equal cost with
+/// its coefficients.
+pub fn stop_is_optimal()
+    ensures { StopIsOptimal }
+{}
+
+/// The rows that move towards 0 suffice to turn the slope, and they are passed in order.
+pub fn line_search()
+    ensures enters { SomeRowEnters }
+    ensures order { RowsPassInOrder }
+{}
+
+/// A problem has one lawful trail.
+pub fn one_trail<F: Exact>(theta: F)
+    ensures step { StepIsUnique }
+    ensures stop { StopHasNoStep }
+    ensures trail { TrailIsUnique F.value }
+{}
