@@ -4,3 +4,4 @@ pub mod Optimal
 pub mod Entering
 pub mod Passing
 pub mod Unique
+pub mod Exchanged

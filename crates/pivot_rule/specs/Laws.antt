@@ -1,14 +1,17 @@
 -- What the laws of the pivot rule say; each is a clause of a function.
-use Rattle.std.specs.Prelude.{◌≡◌, ℕ, ◌<◌, ◌≤◌, true, List, length, if◌then◌else◌, pos}
+use Rattle.std.specs.Prelude.{◌≡◌, ◌≢◌, ℕ, ◌<◌, ◌≤◌, true, List, length, if◌then◌else◌, pos}
 use Rattle.exact_algebra.specs.Fraction.{Fraction}
-use Rattle.exact_algebra.specs.Rational.{ℚ, ◌+ℚ◌, whole, ◌≤ℚ◌}
+use Rattle.exact_algebra.specs.Rational.{ℚ, ◌+ℚ◌, ◌-ℚ◌, ◌*ℚ◌, inverse, whole, ◌≤ℚ◌}
 use Rattle.exact_algebra.specs.RationalSums.{sum_ℚ}
+use Rattle.exact_matrices.specs.Exchange.{exchanged}
 use Rattle.exact_matrices.specs.Selections.{is_among, AreDistinct}
 use Rattle.loss_model.specs.declared.process.Trail.{Trail}
 use Rattle.loss_model.specs.Sample.{Sample}
 use Rattle.loss_model.specs.Dual.{IsDual}
+use Rattle.perturbation.specs.Perturbed.{IsOutside, perturbed}
 use Rattle.pivot_rule.specs.declared.direction.Direction.{Direction}
-use Rattle.pivot_rule.specs.AtBasis.{IsBasis, HasCosts, coefficient, dual}
+use Rattle.pivot_rule.specs.AtBasis.{IsBasis, HasCosts, coord, coefficient, nonbasic_row, dual}
+use Rattle.pivot_rule.specs.Responses.{residual_for, response, exchanged_rows}
 use Rattle.pivot_rule.specs.Steps.{slope, HasNoNegativeSlope, moves, is_before, passing, slope_before, IsSolvingStep}
 use Rattle.pivot_rule.specs.Trails.{IsSolvingTrail, IsOptimalBasis, ReachesLimit}
 
@@ -54,3 +57,17 @@ TrailIsUnique {F} value =
     (p : Sample) (theta : ℚ) (trail other : Trail F) (basis : List ℕ) (limit : ℕ) → HasCosts p theta
     → IsSolvingTrail value p theta trail basis → IsOptimalBasis p theta basis → length trail.steps ≤ limit
     → ¬ ReachesLimit value p theta limit other
+
+-- in an exchange every residual, for any responses, changes by a multiple of that of the row that enters
+abbrev pub ExchangeChangesResiduals : Type 0
+ExchangeChangesResiduals =
+    (p : Sample) (at : ℕ → ℕ) (a : ℕ → ℕ → ℚ) (j r : ℕ) (v : ℕ → ℚ) (i : ℕ) → j < p.columns
+    → coord p at a r j ≢ whole (pos 0)
+    → residual_for p (exchanged_rows at j r) (exchanged p.columns a j (p.x r)) v i
+    ≡ residual_for p at a v i -ℚ ((coord p at a i j *ℚ inverse (coord p at a r j)) *ℚ residual_for p at a v r)
+
+-- and the entries of a perturbed residual are such residuals
+abbrev pub PerturbedIsResiduals : Type 0
+PerturbedIsResiduals =
+    (p : Sample) (at : ℕ → ℕ) (a : ℕ → ℕ → ℚ) (i m : ℕ) → IsOutside p.columns at i
+    → perturbed p.columns at (nonbasic_row p at a i) m ≡ residual_for p at a (response p m) i

@@ -2,4 +2,5 @@ pub mod AtBasis
 pub mod Steps
 pub mod Trails
 pub mod Results
+pub mod Responses
 pub mod Laws

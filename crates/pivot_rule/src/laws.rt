@@ -1,6 +1,6 @@
 //! The laws of the pivot rule. Each function does nothing: its contract is the law.
 
-ghost use Rattle.pivot_rule.specs.Laws.{StopIsOptimal, SomeRowEnters, RowsPassInOrder, StepIsUnique, StopHasNoStep, TrailIsUnique};
+ghost use Rattle.pivot_rule.specs.Laws.{StopIsOptimal, SomeRowEnters, RowsPassInOrder, StepIsUnique, StopHasNoStep, TrailIsUnique, ExchangeChangesResiduals, PerturbedIsResiduals};
 
 use frac_core::Exact;
 
@@ -21,4 +21,10 @@ pub fn one_trail<F: Exact>(theta: F)
     ensures step { StepIsUnique }
     ensures stop { StopHasNoStep }
     ensures trail { TrailIsUnique F.value }
+{}
+
+/// What an exchange does to the residuals, and so to every entry of the perturbed ones.
+pub fn exchanged_residuals()
+    ensures residuals { ExchangeChangesResiduals }
+    ensures entries { PerturbedIsResiduals }
 {}
