@@ -5,3 +5,4 @@ pub mod Entering
 pub mod Passing
 pub mod Unique
 pub mod Exchanged
+pub mod Solved

@@ -1,18 +1,24 @@
 -- What the laws of the pivot rule say; each is a clause of a function.
-use Rattle.std.specs.Prelude.{◌≡◌, ◌≢◌, ℕ, ◌<◌, ◌≤◌, true, List, length, if◌then◌else◌, pos}
+use Rattle.std.specs.Prelude.{◌≡◌, ◌≢◌, ℕ, ◌<◌, ◌≤◌, true, List, length, slice_index, if◌then◌else◌, pos}
 use Rattle.exact_algebra.specs.Fraction.{Fraction}
 use Rattle.exact_algebra.specs.Rational.{ℚ, ◌+ℚ◌, ◌-ℚ◌, ◌*ℚ◌, inverse, whole, ◌≤ℚ◌}
 use Rattle.exact_algebra.specs.RationalSums.{sum_ℚ}
 use Rattle.exact_matrices.specs.Exchange.{exchanged}
 use Rattle.exact_matrices.specs.Selections.{is_among, AreDistinct}
+use Rattle.loss_model.specs.declared.problem.Problem.{Problem}
 use Rattle.loss_model.specs.declared.process.Trail.{Trail}
+use Rattle.loss_model.specs.declared.vertex.Vertex.{Vertex}
 use Rattle.loss_model.specs.Sample.{Sample}
 use Rattle.loss_model.specs.Dual.{IsDual}
+use Rattle.loss_model.specs.FullRank.{HasFullRank}
+use Rattle.loss_model.specs.Problem.{value_at, sample}
+use Rattle.loss_model.specs.Vertex.{dual_value}
 use Rattle.perturbation.specs.Perturbed.{IsOutside, perturbed}
 use Rattle.pivot_rule.specs.declared.direction.Direction.{Direction}
 use Rattle.pivot_rule.specs.AtBasis.{IsBasis, HasCosts, coord, coefficient, nonbasic_row, dual}
 use Rattle.pivot_rule.specs.Responses.{residual_for, response, exchanged_rows}
 use Rattle.pivot_rule.specs.Steps.{slope, HasNoNegativeSlope, moves, is_before, passing, slope_before, IsSolvingStep}
+use Rattle.pivot_rule.specs.Results.{IsVertexAt, AreBasicDuals}
 use Rattle.pivot_rule.specs.Trails.{IsSolvingTrail, IsOptimalBasis, ReachesLimit}
 
 -- the dual values of a basis without a negative slope are feasible and of equal cost
@@ -71,3 +77,16 @@ abbrev pub PerturbedIsResiduals : Type 0
 PerturbedIsResiduals =
     (p : Sample) (at : ℕ → ℕ) (a : ℕ → ℕ → ℚ) (i m : ℕ) → IsOutside p.columns at i
     → perturbed p.columns at (nonbasic_row p at a i) m ≡ residual_for p at a (response p m) i
+
+-- a basis shows full rank
+abbrev pub BasisHasFullRank : Type 0
+BasisHasFullRank = (p : Sample) (at : ℕ → ℕ) (a : ℕ → ℕ → ℚ) → IsBasis p at a → HasFullRank p
+
+-- the vertex of a basis without a negative slope, with the dual values of its basic rows, is optimal
+abbrev pub VertexIsOptimal : {F : Type 0} → (F → Fraction) → Problem F → Type 0
+VertexIsOptimal {F} value p =
+    (theta : ℚ) (basis : List ℕ) (a : ℕ → ℕ → ℚ) (v : Vertex F) (basic : List F) → length basis ≡ p.columns
+    → IsBasis (sample value p) (slice_index basis) a → IsVertexAt value p basis a v
+    → AreBasicDuals value p theta basis a v basic → HasCosts (sample value p) theta
+    → HasNoNegativeSlope (sample value p) (slice_index basis) a theta
+    → IsDual (sample value p) theta (value_at value v.coef) (dual_value value p v basic theta)

@@ -1,8 +1,9 @@
 //! The laws of the pivot rule. Each function does nothing: its contract is the law.
 
-ghost use Rattle.pivot_rule.specs.Laws.{StopIsOptimal, SomeRowEnters, RowsPassInOrder, StepIsUnique, StopHasNoStep, TrailIsUnique, ExchangeChangesResiduals, PerturbedIsResiduals};
+ghost use Rattle.pivot_rule.specs.Laws.{StopIsOptimal, SomeRowEnters, RowsPassInOrder, StepIsUnique, StopHasNoStep, TrailIsUnique, ExchangeChangesResiduals, PerturbedIsResiduals, BasisHasFullRank, VertexIsOptimal};
 
 use frac_core::Exact;
+use loss_model::Problem;
 
 /// A basis without a negative slope is optimal: its dual values are feasible and of equal cost with
 /// its coefficients.
@@ -27,4 +28,10 @@ pub fn one_trail<F: Exact>(theta: F)
 pub fn exchanged_residuals()
     ensures residuals { ExchangeChangesResiduals }
     ensures entries { PerturbedIsResiduals }
+{}
+
+/// A basis shows full rank, and its vertex is optimal where no slope is negative.
+pub fn vertex_is_optimal<F: Exact>(problem: &Problem<F>)
+    ensures rank { BasisHasFullRank }
+    ensures optimal { VertexIsOptimal F.value problem.now }
 {}
