@@ -6,7 +6,7 @@ use Rattle.std.proofs.Common.{arith, refl, sym, ap, ◌∙◌}
 use Rattle.exact_algebra.specs.Rational.{ℚ, whole}
 use Rattle.exact_algebra.specs.Inverses.{one-zero}
 use Rattle.perturbation.specs.Lexicographic.{lex_cmp, lex_cmp_swap, same_from-lex_cmp, less-total}
-use Rattle.perturbation.specs.Perturbed.{Nonbasic, IsOutside, perturbed, zeros, ratio, perturbed-own}
+use Rattle.perturbation.specs.Perturbed.{Nonbasic, IsOutside, perturbed, zeros, perturbed_side, ratio, perturbed-own}
 use Rattle.perturbation.specs.Ratios.{ratio-own, ratio-none}
 
 pub one_way : (n : ℕ) (u v : ℕ → ℚ) → lex_cmp n u v ≡ Less → lex_cmp n v u ≢ Less
@@ -20,4 +20,4 @@ pub ordered : (rows n : ℕ) (at : ℕ → ℕ) (j : ℕ) (u v : Nonbasic) → I
     → (lex_cmp (suc rows) (ratio rows n at j u) (ratio rows n at j v) ≡ Less) ⊎ (lex_cmp (suc rows) (ratio rows n at j v) (ratio rows n at j u) ≡ Less)
 ordered rows n at j u v out differ l some =
     less-total (suc rows) (suc u.row) (ratio rows n at j u) (ratio rows n at j v) (omega arith)
-    (λ e. ratio-own rows n at j u some (e ∙ ratio-none rows n at j v u.row differ (λ k lk s. absurd (out.outside k lk s))))
+    (λ e. ratio-own (perturbed_side rows n at u) n at j u some (e ∙ ratio-none (perturbed_side rows n at v) n at j v u.row differ (λ k lk s. absurd (out.outside k lk s))))

@@ -4,6 +4,7 @@
 --     lex_cmp n u v ≡ Equal, Less           lex_cmp-Equal and same_from-lex_cmp; less_at and first_less
 --     the other way round                   lex_cmp_swap
 --     where the first difference is known   lex_cmp-first
+--     with further entries                  lex_cmp-longer
 --     an order                              less-trans, less-total
 use Rattle.std.specs.Prelude.{◌≡◌, ◌≢◌, ◌⊎◌, ℕ, zero, suc, ◌<◌, ◌≤◌, Bool, true, false, ◌==◌}
 use Rattle.std.specs.Ordering.{ordering_then, ordering_reverse}
@@ -39,16 +40,16 @@ lex_cmp_swap zero u v = refl
 lex_cmp_swap (suc n) u v =
     ap₂ ordering_then (lex_cmp_swap n u v) (cmp_ℚ_swap (u n) (v n)) ∙ then_flip (lex_cmp n u v) (cmp_ℚ (u n) (v n))
 
+kept : (o p : Ordering) → o ≢ Equal → ordering_then o p ≡ o
+kept Less p h = refl
+kept Equal p h = absurd (h refl)
+kept Greater p h = refl
+
 -- the first place at which lists differ decides
 pub lex_cmp-first : (n m : ℕ) (u v : ℕ → ℚ) → m < n → ((i : ℕ) → i < m → u i ≡ v i) → u m ≢ v m → lex_cmp n u v ≡ cmp_ℚ (u m) (v m)
 lex_cmp-first zero m u v l same differ = absurd (omega arith)
 lex_cmp-first (suc n) m u v l same differ = by (m == n) refl (λ below. lex_cmp-first n m u v below same differ)
   where
-    kept : (o p : Ordering) → o ≢ Equal → ordering_then o p ≡ o
-    kept Less p h = refl
-    kept Equal p h = absurd (h refl)
-    kept Greater p h = refl
-
     by : (t : Bool) → (m == n) ≡ t → (m < n → lex_cmp n u v ≡ cmp_ℚ (u m) (v m)) → ordering_then (lex_cmp n u v) (cmp_ℚ (u n) (v n)) ≡ cmp_ℚ (u m) (v m)
     by true e ih =
         let here : m ≡ n = eqb-true m n e in
@@ -58,6 +59,20 @@ lex_cmp-first (suc n) m u v l same differ = by (m == n) refl (λ below. lex_cmp-
         let other : m ≢ n = eqb-false m n e in
         ap (λ o. ordering_then o (cmp_ℚ (u n) (v n))) (ih (omega arith))
         ∙ kept (cmp_ℚ (u m) (v m)) (cmp_ℚ (u n) (v n)) (λ s. differ ((cmp_ℚ-Equal (u m) (v m)).0 s))
+
+-- further entries change nothing where the first ones differ
+pub lex_cmp-longer : (n m : ℕ) (u v : ℕ → ℚ) → n ≤ m → lex_cmp n u v ≢ Equal → lex_cmp m u v ≡ lex_cmp n u v
+lex_cmp-longer n zero u v l h = ap (λ k. lex_cmp k u v) (none n l)
+  where
+    none : (n : ℕ) → n ≤ 0 → zero ≡ n
+    none n l = omega arith
+lex_cmp-longer n (suc m) u v l h = by (n == suc m) refl (λ below. lex_cmp-longer n m u v below h)
+  where
+    by : (t : Bool) → (n == suc m) ≡ t → (n ≤ m → lex_cmp m u v ≡ lex_cmp n u v) → ordering_then (lex_cmp m u v) (cmp_ℚ (u m) (v m)) ≡ lex_cmp n u v
+    by true e ih = sym (ap (λ k. lex_cmp k u v) (eqb-true n (suc m) e))
+    by false e ih =
+        let other : n ≢ suc m = eqb-false n (suc m) e in
+        ap (λ o. ordering_then o (cmp_ℚ (u m) (v m))) (ih (omega arith)) ∙ kept (lex_cmp n u v) (cmp_ℚ (u m) (v m)) h
 
 pub same_from-lex_cmp : (n : ℕ) (u v : ℕ → ℚ) → lex_cmp n u v ≡ Equal → (i : ℕ) → i < n → u i ≡ v i
 same_from-lex_cmp zero u v h i l = absurd (omega arith)

@@ -56,10 +56,13 @@ abbrev pub turned : Side → ℚ → ℚ
 turned Down x = neg_ℚ x
 turned _ x = x
 
--- the perturbed ratio at position j: each entry of the perturbed residual over the absolute
--- coordinate there, negated where the perturbed residual is negative
+-- the entries of the perturbed residual over the absolute coordinate at position j, on a side
+abbrev pub ratio_on : Side → ℕ → (ℕ → ℕ) → ℕ → Nonbasic → ℕ → ℚ
+ratio_on side n at j u m = turned side (perturbed n at u m *ℚ inverse (abs_ℚ (u.coord j)))
+
+-- the perturbed ratio at position j: the same, negated where the perturbed residual is negative
 abbrev pub ratio : ℕ → ℕ → (ℕ → ℕ) → ℕ → Nonbasic → ℕ → ℚ
-ratio rows n at j u m = turned (perturbed_side rows n at u) (perturbed n at u m *ℚ inverse (abs_ℚ (u.coord j)))
+ratio rows n at j u = ratio_on (perturbed_side rows n at u) n at j u
 
 -- the row, its residual and its coordinates as values of a type of fractions
 abbrev pub nonbasic : {F : Type 0} → (F → Fraction) → ℕ → F → List F → Nonbasic

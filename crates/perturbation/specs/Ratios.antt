@@ -13,7 +13,7 @@ use Rattle.exact_algebra.specs.Order.{cmp_ℚ, cmp_ℚ-Less, cmp_ℚ-Greater, in
 use Rattle.loss_model.specs.declared.vertex.Side.{Side}
 use Rattle.loss_model.specs.declared.vertex.Side.TheVariants.{Up, Down, Basic}
 use Rattle.loss_model.specs.Spill.{abs_ℚ}
-use Rattle.perturbation.specs.Perturbed.{Nonbasic, perturbed_side, turned, ratio, held_coordinate-none, perturbed-own, perturbed-other}
+use Rattle.perturbation.specs.Perturbed.{Nonbasic, turned, ratio_on, held_coordinate-none, perturbed-own, perturbed-other}
 
 zero_neg : neg_ℚ (whole (pos 0)) ≡ whole (pos 0)
 zero_neg = ring_ℚ [] (negated (number (pos 0))) (number (pos 0)) refl
@@ -57,29 +57,24 @@ inverse_below x h =
     (λ le. (cmp_ℚ-Greater (inverse (abs_ℚ x)) (whole (pos 0))).0 (inverse_above x h)
     (subst (λ z. z ≤ℚ whole (pos 0)) (sym (neg_twice (inverse (abs_ℚ x)))) (subst (λ z. neg_ℚ (neg_ℚ (inverse (abs_ℚ x))) ≤ℚ z) zero_neg (≤ℚ_neg (whole (pos 0)) (neg_ℚ (inverse (abs_ℚ x))) le))))
 
-module _ (rows n : ℕ) (at : ℕ → ℕ) (j : ℕ) (u : Nonbasic) where
-  pub ratio-none : (m : ℕ) → m ≢ u.row → ((k : ℕ) → k < n → at k ≡ m → u.coord k ≡ whole (pos 0)) → ratio rows n at j u (suc m) ≡ whole (pos 0)
+module _ (s : Side) (n : ℕ) (at : ℕ → ℕ) (j : ℕ) (u : Nonbasic) where
+  pub ratio-none : (m : ℕ) → m ≢ u.row → ((k : ℕ) → k < n → at k ≡ m → u.coord k ≡ whole (pos 0)) → ratio_on s n at j u (suc m) ≡ whole (pos 0)
   ratio-none m other none =
-      ap (λ z. turned (perturbed_side rows n at u) (z *ℚ inverse (abs_ℚ (u.coord j))))
-      (perturbed-other n at u m other ∙ ap neg_ℚ (held_coordinate-none n at u.coord m none) ∙ zero_neg)
-      ∙ ap (turned (perturbed_side rows n at u)) (ring_ℚ (inverse (abs_ℚ (u.coord j)) ∷ []) (number (pos 0) ⊠ v0) (number (pos 0)) refl)
-      ∙ turned-zero (perturbed_side rows n at u)
+      ap (λ z. turned s (z *ℚ inverse (abs_ℚ (u.coord j)))) (perturbed-other n at u m other ∙ ap neg_ℚ (held_coordinate-none n at u.coord m none) ∙ zero_neg)
+      ∙ ap (turned s) (ring_ℚ (inverse (abs_ℚ (u.coord j)) ∷ []) (number (pos 0) ⊠ v0) (number (pos 0)) refl)
+      ∙ turned-zero s
 
-  own_is : ratio rows n at j u (suc u.row) ≡ turned (perturbed_side rows n at u) (inverse (abs_ℚ (u.coord j)))
+  own_is : ratio_on s n at j u (suc u.row) ≡ turned s (inverse (abs_ℚ (u.coord j)))
   own_is =
-      ap (λ z. turned (perturbed_side rows n at u) (z *ℚ inverse (abs_ℚ (u.coord j)))) (perturbed-own n at u u.row refl)
-      ∙ ap (turned (perturbed_side rows n at u)) (one-*ℚ (inverse (abs_ℚ (u.coord j))))
+      ap (λ z. turned s (z *ℚ inverse (abs_ℚ (u.coord j)))) (perturbed-own n at u u.row refl)
+      ∙ ap (turned s) (one-*ℚ (inverse (abs_ℚ (u.coord j))))
 
   module _ (some : u.coord j ≢ whole (pos 0)) where
-    pub ratio-own : ratio rows n at j u (suc u.row) ≢ whole (pos 0)
-    ratio-own e = turned-nonzero (perturbed_side rows n at u) (inverse (abs_ℚ (u.coord j))) (inverse_nonzero (abs_ℚ (u.coord j)) (abs_nonzero (u.coord j) some)) (sym own_is ∙ e)
+    pub ratio-own : ratio_on s n at j u (suc u.row) ≢ whole (pos 0)
+    ratio-own e = turned-nonzero s (inverse (abs_ℚ (u.coord j))) (inverse_nonzero (abs_ℚ (u.coord j)) (abs_nonzero (u.coord j) some)) (sym own_is ∙ e)
 
-    pub own-up : perturbed_side rows n at u ≡ Up → cmp_ℚ (ratio rows n at j u (suc u.row)) (whole (pos 0)) ≡ Greater
-    own-up e =
-        ap (λ z. cmp_ℚ z (whole (pos 0))) (own_is ∙ ap (λ s. turned s (inverse (abs_ℚ (u.coord j)))) e)
-        ∙ inverse_above (u.coord j) some
+    pub own-up : s ≡ Up → cmp_ℚ (ratio_on s n at j u (suc u.row)) (whole (pos 0)) ≡ Greater
+    own-up e = ap (λ z. cmp_ℚ z (whole (pos 0))) (own_is ∙ ap (λ s. turned s (inverse (abs_ℚ (u.coord j)))) e) ∙ inverse_above (u.coord j) some
 
-    pub own-down : perturbed_side rows n at u ≡ Down → cmp_ℚ (ratio rows n at j u (suc u.row)) (whole (pos 0)) ≡ Less
-    own-down e =
-        ap (λ z. cmp_ℚ z (whole (pos 0))) (own_is ∙ ap (λ s. turned s (inverse (abs_ℚ (u.coord j)))) e)
-        ∙ inverse_below (u.coord j) some
+    pub own-down : s ≡ Down → cmp_ℚ (ratio_on s n at j u (suc u.row)) (whole (pos 0)) ≡ Less
+    own-down e = ap (λ z. cmp_ℚ z (whole (pos 0))) (own_is ∙ ap (λ s. turned s (inverse (abs_ℚ (u.coord j)))) e) ∙ inverse_below (u.coord j) some

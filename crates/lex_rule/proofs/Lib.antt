@@ -1,0 +1,4 @@
+pub mod Scanned
+pub mod Values
+pub mod Signs
+pub mod Comparisons

@@ -1,0 +1,19 @@
+-- Values that were read.
+use Rattle.std.specs.Prelude.{◌≡◌, ℕ, ◌<◌, cond, List, length, Option, pos, ◌≤ℤ◌}
+use Rattle.std.specs.Option.{option_map_or}
+use Rattle.std.proofs.Common.{refl, sym, ap, get_or}
+use Rattle.std.proofs.lemmas.Option.{slice_get_read}
+use Rattle.exact_algebra.specs.Fraction.{Fraction, rational}
+use Rattle.exact_algebra.specs.Rational.{ℚ, neg_ℚ, whole}
+use Rattle.exact_algebra.specs.Order.{sign_ℚ, sign_ℚ-not_below}
+use Rattle.loss_model.specs.Problem.{value_at}
+use Rattle.loss_model.specs.Spill.{abs_ℚ}
+
+-- the value of an item of a list
+pub value_read : {F : Type 0} (value : F → Fraction) (xs : List F) (i : ℕ) (x : F) → i < length xs → x ≡ get_or xs i x → rational (value x) ≡ value_at value xs i
+value_read {F} value xs i x within is =
+    sym (ap (λ (o : Option F). option_map_or (λ x. rational (value x)) o (whole (pos 0))) (slice_get_read xs (length xs) i x refl within is))
+
+-- a value that isn't negative is its own absolute value
+pub own_size : (x : ℚ) → pos 0 ≤ℤ sign_ℚ x → x ≡ abs_ℚ x
+own_size x h = sym (ap (λ t. cond t x (neg_ℚ x)) ((sign_ℚ-not_below x).0 h).le)
