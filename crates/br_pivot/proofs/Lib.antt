@@ -1,0 +1,4 @@
+pub mod Lists
+pub mod Inverses
+pub mod Trails
+pub mod Ascending

@@ -1,0 +1,5 @@
+pub mod Inverses
+pub mod Standing
+pub mod Next
+pub mod Underway
+pub mod Solves

@@ -1,0 +1,37 @@
+-- What a solve at one quantile gives, and why it stops.
+use Rattle.std.specs.Prelude.{◌≡◌, ◌⊎◌, ℕ, ◌<◌, ◌≤◌, List, length, slice_index, Result}
+use Rattle.std.specs.declared.result.Result.TheVariants.{Ok, Err}
+use Rattle.exact_algebra.specs.Fraction.{Fraction}
+use Rattle.exact_algebra.specs.Rational.{ℚ}
+use Rattle.loss_model.specs.declared.problem.Problem.{Problem}
+use Rattle.loss_model.specs.declared.process.Trail.{Trail}
+use Rattle.loss_model.specs.declared.spill.Spill.{Spill}
+use Rattle.loss_model.specs.declared.stop.Stop.{Stop}
+use Rattle.loss_model.specs.declared.stop.Stop.TheVariants.{OutOfMemory, PivotLimit, Overflow, Dependent}
+use Rattle.loss_model.specs.Problem.{sample}
+use Rattle.loss_model.specs.StartStop.{IsStartSpill, IsDependent}
+use Rattle.pivot_rule.specs.Trails.{AtBasis, IsSolvingTrail, ReachesLimit}
+
+-- an operation at the last basis of the trail overflows
+pub record IsSolveSpill {F : Type 0} (value : F → Fraction) (range : ℕ) (p : Problem F) (theta : ℚ) (limit : ℕ) (trail : Trail F) (spill : Spill F) : Type 0 where
+  pub basis : List ℕ
+  pub lawful : IsSolvingTrail value (sample value p) theta trail basis
+  pub short : length trail.steps ≤ limit
+
+-- why a solve stops: a limit that is reached, an operation in the start or at the last basis that
+-- overflows, or columns that are dependent
+abbrev pub IsSolveStop : {F : Type 0} → (F → Fraction) → ℕ → Problem F → ℚ → ℕ → Stop F → Type 0
+IsSolveStop value range p theta limit OutOfMemory = Unit {0}
+IsSolveStop value range p theta limit (PivotLimit shown trail) =
+    (shown ≡ limit) × ReachesLimit value (sample value p) theta limit trail
+IsSolveStop value range p theta limit (Overflow trail spill) =
+    IsStartSpill value range p trail spill ⊎ IsSolveSpill value range p theta limit trail spill
+IsSolveStop value range p theta limit (Dependent combination) = IsDependent value p combination
+
+-- the answer where a trail reaches the limit: PivotLimit, or an overflow or want of memory
+abbrev pub IsLimitAnswer : {A F : Type 0} → Result A (Stop F) → Type 0
+IsLimitAnswer (Ok solved) = ⊥
+IsLimitAnswer (Err OutOfMemory) = Unit {0}
+IsLimitAnswer (Err (PivotLimit shown trail)) = Unit {0}
+IsLimitAnswer (Err (Overflow trail spill)) = Unit {0}
+IsLimitAnswer (Err (Dependent combination)) = ⊥
