@@ -5,7 +5,7 @@ use Rattle.std.specs.declared.cmp.Ordering.{Ordering}
 use Rattle.std.specs.declared.cmp.Ordering.TheVariants.{Less, Equal, Greater}
 use Rattle.std.proofs.Common.{refl, sym, ap, subst, ◌∙◌}
 use Rattle.exact_algebra.specs.Solver.{number, negated, ◌⊞◌, ◌⊟◌, ◌⊠◌, v0, v1, v2}
-use Rattle.exact_algebra.specs.Rational.{ℚ, ◌+ℚ◌, ◌*ℚ◌, neg_ℚ, whole, le_ℚ, ◌≤ℚ◌, ring_ℚ, ≤ℚ_refl, ≤ℚ_antisym, ≤ℚ_mul, zero-+ℚ}
+use Rattle.exact_algebra.specs.Rational.{ℚ, ◌+ℚ◌, ◌-ℚ◌, ◌*ℚ◌, neg_ℚ, whole, le_ℚ, ◌≤ℚ◌, ring_ℚ, ≤ℚ_refl, ≤ℚ_antisym, ≤ℚ_mul, zero-+ℚ}
 use Rattle.exact_algebra.specs.RationalSums.{sum_ℚ, sum_ℚ-same, sum_ℚ-zero, sum_ℚ-add, sum_ℚ-scale, sum_ℚ-le, ≤ℚ_add2}
 use Rattle.exact_algebra.specs.Order.{by_cmp, le_from_not, ≤ℚ_neg}
 use Rattle.loss_model.specs.declared.vertex.Side.{Side}
@@ -16,7 +16,9 @@ use Rattle.loss_model.specs.Vertex.{value_of_side}
 use Rattle.perturbation.specs.Perturbed.{side_of}
 use Rattle.pivot_rule.specs.declared.direction.Direction.{Direction}
 use Rattle.pivot_rule.specs.declared.direction.Direction.TheVariants.{Upward, Downward}
-use Rattle.pivot_rule.specs.AtBasis.{HasCosts, coord, is_basic, bound}
+use Rattle.basis_model.specs.Basis.{coord}
+use Rattle.pivot_rule.specs.Duals.{HasCosts}
+use Rattle.pivot_rule.proofs.Bounds.{dual_is, is_basic, bound}
 use Rattle.pivot_rule.specs.Steps.{is_towards, slope, change, moves, passing}
 use Rattle.pivot_rule.proofs.Sides.{sign}
 
@@ -100,9 +102,9 @@ module _ (c u d : ℚ) (hu : whole (pos 0) ≤ℚ u) (hd : whole (pos 0) ≤ℚ 
 -- ---- all rows
 
 module _ (p : Sample) (at : ℕ → ℕ) (a : ℕ → ℕ → ℚ) (theta : ℚ) (costs : HasCosts p theta) (j : ℕ) (d : Direction) where
-  abs_change : (d : Direction) (i : ℕ) → abs_ℚ (change p at a j d i) ≡ abs_ℚ (coord p at a i j)
+  abs_change : (d : Direction) (i : ℕ) → abs_ℚ (change p at a j d i) ≡ abs_ℚ (coord p a i j)
   abs_change Upward i = refl
-  abs_change Downward i = abs_neg (coord p at a i j)
+  abs_change Downward i = abs_neg (coord p a i j)
 
   given : ℕ → ℚ
   given i = bound p at a theta i *ℚ change p at a j d i
@@ -140,12 +142,12 @@ module _ (p : Sample) (at : ℕ → ℕ) (a : ℕ → ℕ → ℚ) (theta : ℚ)
   -- the slope by what the rows give
   slope_is : (d : Direction) → slope p at a theta j d ≡ cost d +ℚ sum_ℚ p.rows (λ i. bound p at a theta i *ℚ change p at a j d i)
   unfolding cost
-  slope_is Upward = ring_ℚ (up_cost p theta (at j) ∷ sum_ℚ p.rows (λ i. bound p at a theta i *ℚ coord p at a i j) ∷ []) (v0 ⊟ negated v1) (v0 ⊞ v1) refl
+  slope_is Upward = ap (λ z. up_cost p theta (at j) -ℚ z) (dual_is p at a theta j) ∙ ring_ℚ (up_cost p theta (at j) ∷ sum_ℚ p.rows (λ i. bound p at a theta i *ℚ coord p a i j) ∷ []) (v0 ⊟ negated v1) (v0 ⊞ v1) refl
   slope_is Downward =
-      ap (λ z. down_cost p theta (at j) +ℚ z) (
-      ring_ℚ (sum_ℚ p.rows (λ i. bound p at a theta i *ℚ coord p at a i j) ∷ []) (negated v0) (number (negsuc 0) ⊠ v0) refl
-      ∙ sym (sum_ℚ-scale p.rows (whole (negsuc 0)) (λ i. bound p at a theta i *ℚ coord p at a i j))
-      ∙ sum_ℚ-same p.rows (λ i. whole (negsuc 0) *ℚ (bound p at a theta i *ℚ coord p at a i j)) (λ i. bound p at a theta i *ℚ neg_ℚ (coord p at a i j)) (λ i li. ring_ℚ (bound p at a theta i ∷ coord p at a i j ∷ []) (number (negsuc 0) ⊠ (v0 ⊠ v1)) (v0 ⊠ negated v1) refl))
+      ap (λ z. down_cost p theta (at j) +ℚ z) (dual_is p at a theta j
+      ∙ ring_ℚ (sum_ℚ p.rows (λ i. bound p at a theta i *ℚ coord p a i j) ∷ []) (negated v0) (number (negsuc 0) ⊠ v0) refl
+      ∙ sym (sum_ℚ-scale p.rows (whole (negsuc 0)) (λ i. bound p at a theta i *ℚ coord p a i j))
+      ∙ sum_ℚ-same p.rows (λ i. whole (negsuc 0) *ℚ (bound p at a theta i *ℚ coord p a i j)) (λ i. bound p at a theta i *ℚ neg_ℚ (coord p a i j)) (λ i li. ring_ℚ (bound p at a theta i ∷ coord p a i j ∷ []) (number (negsuc 0) ⊠ (v0 ⊠ v1)) (v0 ⊠ negated v1) refl))
 
   cost_not_negative : (d : Direction) → at j < p.rows → whole (pos 0) ≤ℚ cost d
   unfolding cost

@@ -1,4 +1,5 @@
 pub mod Among
+pub mod Bounds
 pub mod Sides
 pub mod Optimal
 pub mod Entering

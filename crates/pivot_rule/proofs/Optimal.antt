@@ -16,7 +16,9 @@ use Rattle.loss_model.specs.Vertex.{value_of_side}
 use Rattle.loss_model.proofs.Duality.{sides}
 use Rattle.perturbation.specs.Perturbed.{side_of, held_coordinate}
 use Rattle.pivot_rule.specs.declared.direction.Direction.TheVariants.{Upward, Downward}
-use Rattle.pivot_rule.specs.AtBasis.{IsBasis, HasCosts, coord, coefficient, is_basic, side, bound, basic_dual, dual}
+use Rattle.basis_model.specs.Basis.{IsBasis, coord, coefficient, side_at, dual_value}
+use Rattle.pivot_rule.specs.Duals.{HasCosts, dual}
+use Rattle.pivot_rule.proofs.Bounds.{dual_is, is_basic, bound}
 use Rattle.pivot_rule.specs.Steps.{HasNoNegativeSlope}
 use Rattle.pivot_rule.proofs.Among.{among_place}
 use Rattle.pivot_rule.proofs.Sides.{sign, side_outside, on_side, dual_basic, held_dual}
@@ -30,10 +32,10 @@ wide u d hu hd =
 module _ (p : Sample) (at : ℕ → ℕ) (a : ℕ → ℕ → ℚ) (basis : IsBasis p at a) (theta : ℚ) where
   -- the dual values of the basis by row
   abbrev held : ℕ → ℚ
-  held = held_coordinate p.columns at (basic_dual p at a theta)
+  held = held_coordinate p.columns at (dual_value p at a theta)
 
   -- a dual value is the value of its side
-  own : (i : ℕ) (s : Side) → side p at a i ≡ s → value_of_side p theta held i s ≡ value_of_side p theta (dual p at a theta) i s
+  own : (i : ℕ) (s : Side) → side_at p at a i ≡ s → value_of_side p theta held i s ≡ value_of_side p theta (dual p at a theta) i s
   own i Up e = refl
   own i Down e = refl
   own i Basic e = sym (ap (value_of_side p theta held i) e)
@@ -70,25 +72,25 @@ module _ (p : Sample) (at : ℕ → ℕ) (a : ℕ → ℕ → ℚ) (basis : IsBa
       -- each product of three factors may be summed over the positions first
       moved : sum_ℚ p.columns (λ j. held (at j) *ℚ p.x (at j) l) ≡ sum_ℚ p.rows (λ i. neg_ℚ (bound p at a theta i) *ℚ p.x i l)
       moved =
-          sum_ℚ-same p.columns (λ j. held (at j) *ℚ p.x (at j) l) (λ j. sum_ℚ p.rows (λ i. neg_ℚ (p.x (at j) l) *ℚ (bound p at a theta i *ℚ coord p at a i j)))
-          (λ j lj. ap (λ z. z *ℚ p.x (at j) l) (held_dual p at a basis theta j lj)
-          ∙ ring_ℚ (sum_ℚ p.rows (λ i. bound p at a theta i *ℚ coord p at a i j) ∷ p.x (at j) l ∷ []) (negated v0 ⊠ v1) (negated v1 ⊠ v0) refl
-          ∙ sym (sum_ℚ-scale p.rows (neg_ℚ (p.x (at j) l)) (λ i. bound p at a theta i *ℚ coord p at a i j)))
-          ∙ sum_ℚ-swap p.columns p.rows (λ j i. neg_ℚ (p.x (at j) l) *ℚ (bound p at a theta i *ℚ coord p at a i j))
-          ∙ sum_ℚ-same p.rows (λ i. sum_ℚ p.columns (λ j. neg_ℚ (p.x (at j) l) *ℚ (bound p at a theta i *ℚ coord p at a i j))) (λ i. neg_ℚ (bound p at a theta i) *ℚ p.x i l)
-          (λ i li. sum_ℚ-same p.columns (λ j. neg_ℚ (p.x (at j) l) *ℚ (bound p at a theta i *ℚ coord p at a i j)) (λ j. neg_ℚ (bound p at a theta i) *ℚ (coord p at a i j *ℚ p.x (at j) l))
-          (λ j lj. ring_ℚ (p.x (at j) l ∷ bound p at a theta i ∷ coord p at a i j ∷ []) (negated v0 ⊠ (v1 ⊠ v2)) (negated v1 ⊠ (v2 ⊠ v0)) refl)
-          ∙ sum_ℚ-scale p.columns (neg_ℚ (bound p at a theta i)) (λ j. coord p at a i j *ℚ p.x (at j) l)
+          sum_ℚ-same p.columns (λ j. held (at j) *ℚ p.x (at j) l) (λ j. sum_ℚ p.rows (λ i. neg_ℚ (p.x (at j) l) *ℚ (bound p at a theta i *ℚ coord p a i j)))
+          (λ j lj. ap (λ z. z *ℚ p.x (at j) l) (held_dual p at a basis theta j lj ∙ dual_is p at a theta j)
+          ∙ ring_ℚ (sum_ℚ p.rows (λ i. bound p at a theta i *ℚ coord p a i j) ∷ p.x (at j) l ∷ []) (negated v0 ⊠ v1) (negated v1 ⊠ v0) refl
+          ∙ sym (sum_ℚ-scale p.rows (neg_ℚ (p.x (at j) l)) (λ i. bound p at a theta i *ℚ coord p a i j)))
+          ∙ sum_ℚ-swap p.columns p.rows (λ j i. neg_ℚ (p.x (at j) l) *ℚ (bound p at a theta i *ℚ coord p a i j))
+          ∙ sum_ℚ-same p.rows (λ i. sum_ℚ p.columns (λ j. neg_ℚ (p.x (at j) l) *ℚ (bound p at a theta i *ℚ coord p a i j))) (λ i. neg_ℚ (bound p at a theta i) *ℚ p.x i l)
+          (λ i li. sum_ℚ-same p.columns (λ j. neg_ℚ (p.x (at j) l) *ℚ (bound p at a theta i *ℚ coord p a i j)) (λ j. neg_ℚ (bound p at a theta i) *ℚ (coord p a i j *ℚ p.x (at j) l))
+          (λ j lj. ring_ℚ (p.x (at j) l ∷ bound p at a theta i ∷ coord p a i j ∷ []) (negated v0 ⊠ (v1 ⊠ v2)) (negated v1 ⊠ (v2 ⊠ v0)) refl)
+          ∙ sum_ℚ-scale p.columns (neg_ℚ (bound p at a theta i)) (λ j. coord p a i j *ℚ p.x (at j) l)
           ∙ ap (λ z. neg_ℚ (bound p at a theta i) *ℚ z) (sum_ℚ-coordinate p.columns (λ j k. p.x (at j) k) a basis.inverse (p.x i) l ll))
 
   module _ (costs : HasCosts p theta) (stop : HasNoNegativeSlope p at a theta) where
     abbrev IsWithin : ℕ → ℚ → Type 0
     IsWithin i e = (neg_ℚ (down_cost p theta i) ≤ℚ e) × (e ≤ℚ up_cost p theta i)
 
-    at_position : (j : ℕ) → j < p.columns → IsWithin (at j) (basic_dual p at a theta j)
+    at_position : (j : ℕ) → j < p.columns → IsWithin (at j) (dual_value p at a theta j)
     at_position j lj = (
-      ≤ℚ_from (neg_ℚ (down_cost p theta (at j))) (basic_dual p at a theta j) (subst (λ z. whole (pos 0) ≤ℚ z) (ring_ℚ (down_cost p theta (at j) ∷ basic_dual p at a theta j ∷ []) (v0 ⊞ v1) (v1 ⊟ negated v0) refl) (stop j Downward lj)),
-      ≤ℚ_from (basic_dual p at a theta j) (up_cost p theta (at j)) (stop j Upward lj),
+      ≤ℚ_from (neg_ℚ (down_cost p theta (at j))) (dual_value p at a theta j) (subst (λ z. whole (pos 0) ≤ℚ z) (ring_ℚ (down_cost p theta (at j) ∷ dual_value p at a theta j ∷ []) (v0 ⊞ v1) (v1 ⊟ negated v0) refl) (stop j Downward lj)),
+      ≤ℚ_from (dual_value p at a theta j) (up_cost p theta (at j)) (stop j Upward lj),
     )
 
     within : (i : ℕ) → i < p.rows → IsWithin i (dual p at a theta i)
@@ -113,6 +115,6 @@ module _ (p : Sample) (at : ℕ → ℕ) (a : ℕ → ℕ → ℚ) (basis : IsBa
 
     pub optimal : IsDual p theta (coefficient p at a) (dual p at a theta)
     optimal =
-        sides p theta (coefficient p at a) (dual p at a theta) (side p at a)
+        sides p theta (coefficient p at a) (dual p at a theta) (side_at p at a)
         (record { lower = λ i li. (within i li).0; upper = λ i li. (within i li).1; balanced = balanced })
-        (λ i li. (on_side p at a basis i, own i (side p at a i) refl))
+        (λ i li. (on_side p at a basis i, own i (side_at p at a i) refl))

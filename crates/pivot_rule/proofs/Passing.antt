@@ -21,7 +21,9 @@ use Rattle.perturbation.specs.Ratios.{abs_not_negative}
 use Rattle.perturbation.proofs.Ordered.{ordered}
 use Rattle.pivot_rule.specs.declared.direction.Direction.{Direction}
 use Rattle.pivot_rule.specs.declared.direction.Direction.TheVariants.{Upward, Downward}
-use Rattle.pivot_rule.specs.AtBasis.{IsBasis, HasCosts, coord, is_basic, nonbasic_row, side}
+use Rattle.basis_model.specs.Basis.{IsBasis, coord, outside_row, side_at}
+use Rattle.pivot_rule.specs.Duals.{HasCosts}
+use Rattle.pivot_rule.proofs.Bounds.{is_basic}
 use Rattle.pivot_rule.specs.Steps.{is_towards, slope, change, moves, is_before, passing, slope_before}
 use Rattle.pivot_rule.proofs.Among.{among_at, among_place}
 use Rattle.pivot_rule.proofs.Sides.{side_basic}
@@ -45,10 +47,10 @@ some_change Basic c h none = no (sym h)
 
 module _ (p : Sample) (at : ℕ → ℕ) (a : ℕ → ℕ → ℚ) (j : ℕ) where
   -- a row that moves has a coordinate at the position
-  pub mover_some : (d : Direction) (i : ℕ) → moves p at a j d i ≡ true → coord p at a i j ≢ whole (pos 0)
-  mover_some Upward i h none = some_change (side p at a i) (coord p at a i j) h none
+  pub mover_some : (d : Direction) (i : ℕ) → moves p at a j d i ≡ true → coord p a i j ≢ whole (pos 0)
+  mover_some Upward i h none = some_change (side_at p at a i) (coord p a i j) h none
   mover_some Downward i h none =
-      some_change (side p at a i) (neg_ℚ (coord p at a i j)) h
+      some_change (side_at p at a i) (neg_ℚ (coord p a i j)) h
       (ap neg_ℚ none ∙ ring_ℚ [] (negated (number (pos 0))) (number (pos 0)) refl)
 
   -- and is not in the basis
@@ -70,10 +72,10 @@ module _ (p : Sample) (at : ℕ → ℕ) (a : ℕ → ℕ → ℚ) (j : ℕ) whe
   pub mover_order : IsBasis p at a → (d : Direction) (i r : ℕ) → i < p.rows → moves p at a j d i ≡ true → i ≢ r
       → (is_before p at a j i r ≡ true) ⊎ (is_before p at a j r i ≡ true)
   mover_order basis d i r li h differ =
-      by (ordered p.rows p.columns at j (nonbasic_row p at a i) (nonbasic_row p at a r) (is_outside basis d i h) differ li (mover_some d i h))
+      by (ordered p.rows p.columns at j (outside_row p at a i) (outside_row p at a r) (is_outside basis d i h) differ li (mover_some d i h))
     where
-      by : (lex_cmp (suc p.rows) (ratio p.rows p.columns at j (nonbasic_row p at a i)) (ratio p.rows p.columns at j (nonbasic_row p at a r)) ≡ Less)
-          ⊎ (lex_cmp (suc p.rows) (ratio p.rows p.columns at j (nonbasic_row p at a r)) (ratio p.rows p.columns at j (nonbasic_row p at a i)) ≡ Less)
+      by : (lex_cmp (suc p.rows) (ratio p.rows p.columns at j (outside_row p at a i)) (ratio p.rows p.columns at j (outside_row p at a r)) ≡ Less)
+          ⊎ (lex_cmp (suc p.rows) (ratio p.rows p.columns at j (outside_row p at a r)) (ratio p.rows p.columns at j (outside_row p at a i)) ≡ Less)
           → (is_before p at a j i r ≡ true) ⊎ (is_before p at a j r i ≡ true)
       by (inl e) = inl (ap is_lt e)
       by (inr e) = inr (ap is_lt e)
@@ -82,10 +84,10 @@ module _ (p : Sample) (at : ℕ → ℕ) (a : ℕ → ℕ → ℚ) (j : ℕ) whe
 
   pub before_trans : (i r s : ℕ) → is_before p at a j i r ≡ true → is_before p at a j r s ≡ true → is_before p at a j i s ≡ true
   before_trans i r s h k =
-      ap is_lt (less-trans (suc p.rows) (ratio p.rows p.columns at j (nonbasic_row p at a i)) (ratio p.rows p.columns at j (nonbasic_row p at a r)) (ratio p.rows p.columns at j (nonbasic_row p at a s)) (less_from _ h) (less_from _ k))
+      ap is_lt (less-trans (suc p.rows) (ratio p.rows p.columns at j (outside_row p at a i)) (ratio p.rows p.columns at j (outside_row p at a r)) (ratio p.rows p.columns at j (outside_row p at a s)) (less_from _ h) (less_from _ k))
 
   pub not_before_itself : (i : ℕ) → is_before p at a j i i ≡ false
-  not_before_itself i = ap is_lt (lex_cmp-Equal (suc p.rows) (ratio p.rows p.columns at j (nonbasic_row p at a i)) (ratio p.rows p.columns at j (nonbasic_row p at a i)) (λ m lm. refl))
+  not_before_itself i = ap is_lt (lex_cmp-Equal (suc p.rows) (ratio p.rows p.columns at j (outside_row p at a i)) (ratio p.rows p.columns at j (outside_row p at a i)) (λ m lm. refl))
 
   module _ (theta : ℚ) (d : Direction) where
     -- the terms of the rows before row r
@@ -119,7 +121,7 @@ module _ (p : Sample) (at : ℕ → ℕ) (a : ℕ → ℕ → ℚ) (j : ℕ) whe
     -- what passing a row adds is not negative
     passing_not_negative : HasCosts p theta → (i : ℕ) → i < p.rows → whole (pos 0) ≤ℚ passing p at a theta j i
     passing_not_negative costs i li =
-        product_not_negative (abs_ℚ (coord p at a i j)) (up_cost p theta i +ℚ down_cost p theta i) (abs_not_negative (coord p at a i j))
+        product_not_negative (abs_ℚ (coord p a i j)) (up_cost p theta i +ℚ down_cost p theta i) (abs_not_negative (coord p a i j))
         (sum_not_negative (up_cost p theta i) (down_cost p theta i) (costs.up i li) (costs.down i li))
 
     -- the slope before a later row has the term of the earlier one

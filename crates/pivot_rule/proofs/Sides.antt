@@ -14,7 +14,9 @@ use Rattle.loss_model.specs.Sample.{Sample, fitted, residual}
 use Rattle.loss_model.specs.Vertex.{value_of_side, IsOn}
 use Rattle.perturbation.specs.Lexicographic.{lex_cmp, lex_cmp-first}
 use Rattle.perturbation.specs.Perturbed.{perturbed, zeros, side_of, held_coordinate, held_coordinate-at}
-use Rattle.pivot_rule.specs.AtBasis.{IsBasis, coefficient, is_basic, nonbasic_row, side, basic_dual, dual}
+use Rattle.basis_model.specs.Basis.{IsBasis, coefficient, outside_row, side_at, dual_value}
+use Rattle.pivot_rule.specs.Duals.{dual}
+use Rattle.pivot_rule.proofs.Bounds.{is_basic}
 use Rattle.pivot_rule.proofs.Among.{among_at, among_place}
 
 -- the first entry of a list greater than zeros is not negative
@@ -41,12 +43,12 @@ first_below n u h = by (zero_or_not (u 0))
 module _ (p : Sample) (at : ℕ → ℕ) (a : ℕ → ℕ → ℚ) where
   -- how the perturbed residual of row i compares with zeros
   abbrev pub sign : ℕ → Ordering
-  sign i = lex_cmp (suc p.rows) (perturbed p.columns at (nonbasic_row p at a i)) zeros
+  sign i = lex_cmp (suc p.rows) (perturbed p.columns at (outside_row p at a i)) zeros
 
-  pub side_basic : (i : ℕ) → is_basic p at a i ≡ true → side p at a i ≡ Basic
+  pub side_basic : (i : ℕ) → is_basic p at a i ≡ true → side_at p at a i ≡ Basic
   side_basic i e = ap (λ t. if t then Basic else side_of (sign i)) e
 
-  pub side_outside : (i : ℕ) → is_basic p at a i ≡ false → side p at a i ≡ side_of (sign i)
+  pub side_outside : (i : ℕ) → is_basic p at a i ≡ false → side_at p at a i ≡ side_of (sign i)
   side_outside i e = ap (λ t. if t then Basic else side_of (sign i)) e
 
   -- a row outside the basis has its residual on its side
@@ -54,9 +56,9 @@ module _ (p : Sample) (at : ℕ → ℕ) (a : ℕ → ℕ → ℚ) where
   on_outside i = by (sign i) refl
     where
       by : (o : Ordering) → sign i ≡ o → IsOn (side_of o) (residual p (coefficient p at a) i)
-      by Greater e = first_above p.rows (perturbed p.columns at (nonbasic_row p at a i)) e
-      by Less e = first_below p.rows (perturbed p.columns at (nonbasic_row p at a i)) (λ g. absurd (cc (sym g ∙ e)))
-      by Equal e = first_below p.rows (perturbed p.columns at (nonbasic_row p at a i)) (λ g. absurd (cc (sym g ∙ e)))
+      by Greater e = first_above p.rows (perturbed p.columns at (outside_row p at a i)) e
+      by Less e = first_below p.rows (perturbed p.columns at (outside_row p at a i)) (λ g. absurd (cc (sym g ∙ e)))
+      by Equal e = first_below p.rows (perturbed p.columns at (outside_row p at a i)) (λ g. absurd (cc (sym g ∙ e)))
 
   module _ (basis : IsBasis p at a) where
     -- the rows of the basis are fitted exactly
@@ -73,10 +75,10 @@ module _ (p : Sample) (at : ℕ → ℕ) (a : ℕ → ℕ → ℚ) where
             ∙ sum_ℚ-delta p.columns (λ i. p.y (at i)) j lj
 
     -- every residual lies on the side of its row
-    pub on_side : (i : ℕ) → IsOn (side p at a i) (residual p (coefficient p at a) i)
+    pub on_side : (i : ℕ) → IsOn (side_at p at a i) (residual p (coefficient p at a) i)
     on_side i = by (is_basic p at a i) refl
       where
-        by : (t : Bool) → is_basic p at a i ≡ t → IsOn (side p at a i) (residual p (coefficient p at a) i)
+        by : (t : Bool) → is_basic p at a i ≡ t → IsOn (side_at p at a i) (residual p (coefficient p at a) i)
         by true e =
             let place : (j : ℕ) × (j < p.columns) × (at j ≡ i) = among_place at p.columns i e in
             subst (λ s. IsOn s (residual p (coefficient p at a) i)) (sym (side_basic i e))
@@ -84,11 +86,11 @@ module _ (p : Sample) (at : ℕ → ℕ) (a : ℕ → ℕ → ℚ) where
         by false e = subst (λ s. IsOn s (residual p (coefficient p at a) i)) (sym (side_outside i e)) (on_outside i)
 
     -- the dual value of a row of the basis is that of its position
-    pub dual_basic : (theta : ℚ) (i : ℕ) → is_basic p at a i ≡ true → dual p at a theta i ≡ held_coordinate p.columns at (basic_dual p at a theta) i
-    dual_basic theta i e = ap (value_of_side p theta (held_coordinate p.columns at (basic_dual p at a theta)) i) (side_basic i e)
+    pub dual_basic : (theta : ℚ) (i : ℕ) → is_basic p at a i ≡ true → dual p at a theta i ≡ held_coordinate p.columns at (dual_value p at a theta) i
+    dual_basic theta i e = ap (value_of_side p theta (held_coordinate p.columns at (dual_value p at a theta)) i) (side_basic i e)
 
-    pub held_dual : (theta : ℚ) (j : ℕ) → j < p.columns → held_coordinate p.columns at (basic_dual p at a theta) (at j) ≡ basic_dual p at a theta j
-    held_dual theta j lj = held_coordinate-at p.columns at (basic_dual p at a theta) j basis.distinct.apart lj
+    pub held_dual : (theta : ℚ) (j : ℕ) → j < p.columns → held_coordinate p.columns at (dual_value p at a theta) (at j) ≡ dual_value p at a theta j
+    held_dual theta j lj = held_coordinate-at p.columns at (dual_value p at a theta) j basis.distinct.apart lj
 
-    pub dual_at : (theta : ℚ) (j : ℕ) → j < p.columns → dual p at a theta (at j) ≡ basic_dual p at a theta j
+    pub dual_at : (theta : ℚ) (j : ℕ) → j < p.columns → dual p at a theta (at j) ≡ dual_value p at a theta j
     dual_at theta j lj = dual_basic theta (at j) (among_at at p.columns j lj) ∙ held_dual theta j lj

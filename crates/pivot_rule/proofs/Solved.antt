@@ -18,7 +18,9 @@ use Rattle.loss_model.specs.Problem.{value_at, sample}
 use Rattle.loss_model.specs.Vertex.{value_of_side, basic_value, dual_value}
 use Rattle.loss_model.proofs.Vertices.{basic_value-at}
 use Rattle.perturbation.specs.Perturbed.{side_of, held_coordinate}
-use Rattle.pivot_rule.specs.AtBasis.{IsBasis, HasCosts, coefficient, is_basic, side, basic_dual, dual}
+use Rattle.basis_model.specs.Basis.{IsBasis, coefficient, side_at, dual_value as position_dual}
+use Rattle.pivot_rule.specs.Duals.{HasCosts, dual}
+use Rattle.pivot_rule.proofs.Bounds.{is_basic}
 use Rattle.pivot_rule.specs.Steps.{HasNoNegativeSlope}
 use Rattle.pivot_rule.specs.Results.{IsVertexAt, AreBasicDuals}
 use Rattle.pivot_rule.proofs.Among.{among_place}
@@ -61,7 +63,7 @@ module _ {F : Type 0} (value : F → Fraction) (p : Problem F) (theta : ℚ) (ba
   q = sample value p
 
   abbrev held : ℕ → ℚ
-  held = held_coordinate p.columns (slice_index basis) (basic_dual q (slice_index basis) a theta)
+  held = held_coordinate p.columns (slice_index basis) (position_dual q (slice_index basis) a theta)
 
   -- a row of the basis has the value of its place in the list
   basic_row : (i : ℕ) → is_basic q (slice_index basis) a i ≡ true → basic_value value v basic i ≡ held i
@@ -77,7 +79,7 @@ module _ {F : Type 0} (value : F → Fraction) (p : Problem F) (theta : ℚ) (ba
       ∙ ap (dual q (slice_index basis) a theta) at
       ∙ dual_basic q (slice_index basis) a b theta i e
 
-  same_value : (i : ℕ) → value_of_side q theta (basic_value value v basic) i (side q (slice_index basis) a i) ≡ dual q (slice_index basis) a theta i
+  same_value : (i : ℕ) → value_of_side q theta (basic_value value v basic) i (side_at q (slice_index basis) a i) ≡ dual q (slice_index basis) a theta i
   same_value i = by (is_basic q (slice_index basis) a i) refl
     where
       outside : (o : Ordering) → value_of_side q theta (basic_value value v basic) i (side_of o) ≡ value_of_side q theta held i (side_of o)
@@ -85,7 +87,7 @@ module _ {F : Type 0} (value : F → Fraction) (p : Problem F) (theta : ℚ) (ba
       outside Less = refl
       outside Equal = refl
 
-      by : (t : Bool) → is_basic q (slice_index basis) a i ≡ t → value_of_side q theta (basic_value value v basic) i (side q (slice_index basis) a i) ≡ dual q (slice_index basis) a theta i
+      by : (t : Bool) → is_basic q (slice_index basis) a i ≡ t → value_of_side q theta (basic_value value v basic) i (side_at q (slice_index basis) a i) ≡ dual q (slice_index basis) a theta i
       by true e =
           ap (value_of_side q theta (basic_value value v basic) i) (side_basic q (slice_index basis) a i e)
           ∙ basic_row i e ∙ sym (dual_basic q (slice_index basis) a b theta i e)

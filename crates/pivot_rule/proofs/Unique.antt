@@ -15,17 +15,18 @@ use Rattle.loss_model.specs.Sample.{Sample, up_cost, down_cost}
 use Rattle.loss_model.proofs.Starts.{one_start}
 use Rattle.pivot_rule.specs.declared.direction.Direction.{Direction}
 use Rattle.pivot_rule.specs.declared.direction.Direction.TheVariants.{Upward, Downward}
-use Rattle.pivot_rule.specs.AtBasis.{IsBasis, HasCosts, basic_dual}
+use Rattle.basis_model.specs.Basis.{IsBasis, dual_value}
+use Rattle.pivot_rule.specs.Duals.{HasCosts}
 use Rattle.pivot_rule.specs.Steps.{slope, HasNoNegativeSlope, is_before, passing, slope_before, IsLeaving, IsEntering, IsSolvingStep}
-use Rattle.pivot_rule.specs.Trails.{basis_after, AreSolvingSteps, IsSolvingTrail, IsOptimalBasis, HasSolvingStep, ReachesLimit}
+use Rattle.pivot_rule.specs.Trails.{EndsAt, basis_after, AreSolvingSteps, IsSolvingTrail, IsOptimalBasis, HasSolvingStep, ReachesLimit}
 use Rattle.pivot_rule.proofs.Passing.{mover_order, before_later}
 
 -- a basis has one inverse
-pub same_inverse : (p : Sample) (at : ℕ → ℕ) (a b : ℕ → ℕ → ℚ) → IsBasis p at a → IsBasis p at b → a ≡ b
-same_inverse p at a b u v = λ t. λ k j. entry k j t
+pub same_inverse : (p : Sample) (at : ℕ → ℕ) (a b : ℕ → ℕ → ℚ) → IsBasis p at a → IsBasis p at b → EndsAt p.columns a → EndsAt p.columns b → a ≡ b
+same_inverse p at a b u v e f = λ t. λ k j. entry k j t
   where
     outside : (k j : ℕ) → ¬ ((k < p.columns) × (j < p.columns)) → a k j ≡ b k j
-    outside k j h = u.outside k j h ∙ sym (v.outside k j h)
+    outside k j h = e k j h ∙ sym (f k j h)
 
     entry : (k j : ℕ) → a k j ≡ b k j
     entry k j = by (cases_lt k p.columns) (cases_lt j p.columns)
@@ -52,7 +53,7 @@ module _ (p : Sample) (at : ℕ → ℕ) (a : ℕ → ℕ → ℚ) (theta : ℚ)
     one_negative : (j : ℕ) → j < p.columns → ¬ (whole (pos 0) ≤ℚ slope p at a theta j Upward) → ¬ (whole (pos 0) ≤ℚ slope p at a theta j Downward) → ⊥
     one_negative j lj up down =
         costs.some (at j) (basis.distinct.within j lj)
-        (subst (λ z. z ≤ℚ whole (pos 0)) (ring_ℚ (up_cost p theta (at j) ∷ down_cost p theta (at j) ∷ basic_dual p at a theta j ∷ []) ((v0 ⊟ v2) ⊞ (v1 ⊞ v2)) (v0 ⊞ v1) refl)
+        (subst (λ z. z ≤ℚ whole (pos 0)) (ring_ℚ (up_cost p theta (at j) ∷ down_cost p theta (at j) ∷ dual_value p at a theta j ∷ []) ((v0 ⊟ v2) ⊞ (v1 ⊞ v2)) (v0 ⊞ v1) refl)
         (subst (λ z. (slope p at a theta j Upward +ℚ slope p at a theta j Downward) ≤ℚ z) (ring_ℚ [] (number (pos 0) ⊞ number (pos 0)) (number (pos 0)) refl)
         (≤ℚ_add2 (slope p at a theta j Upward) (whole (pos 0)) (slope p at a theta j Downward) (whole (pos 0))
         (le_from_not (slope p at a theta j Upward) (whole (pos 0)) up) (le_from_not (slope p at a theta j Downward) (whole (pos 0)) down))))
@@ -87,13 +88,13 @@ module _ (p : Sample) (at : ℕ → ℕ) (a : ℕ → ℕ → ℚ) (theta : ℚ)
         let entering : IsEntering p at a theta j v.direction s = subst (λ k. IsEntering p at a theta k v.direction s) (sym e) v.entering in
         (e, same_row j r s u.direction u.entering (subst (λ d. IsEntering p at a theta j d s) (sym (same_direction j u.direction v.direction u.leaving leaving)) entering))
 
-pub one_step : (p : Sample) (at : ℕ → ℕ) (a b : ℕ → ℕ → ℚ) (theta : ℚ) (j r k s : ℕ) → IsBasis p at a → IsBasis p at b → HasCosts p theta → IsSolvingStep p at a theta j r → IsSolvingStep p at b theta k s → (j ≡ k) × (r ≡ s)
-one_step p at a b theta j r k s u v costs step other =
-    same_step p at a theta costs u j r k s step (subst (λ a. IsSolvingStep p at a theta k s) (sym (same_inverse p at a b u v)) other)
+pub one_step : (p : Sample) (at : ℕ → ℕ) (a b : ℕ → ℕ → ℚ) (theta : ℚ) (j r k s : ℕ) → IsBasis p at a → IsBasis p at b → EndsAt p.columns a → EndsAt p.columns b → HasCosts p theta → IsSolvingStep p at a theta j r → IsSolvingStep p at b theta k s → (j ≡ k) × (r ≡ s)
+one_step p at a b theta j r k s u v e f costs step other =
+    same_step p at a theta costs u j r k s step (subst (λ a. IsSolvingStep p at a theta k s) (sym (same_inverse p at a b u v e f)) other)
 
-pub no_step : (p : Sample) (at : ℕ → ℕ) (a b : ℕ → ℕ → ℚ) (theta : ℚ) (j r : ℕ) → IsBasis p at a → IsBasis p at b → HasNoNegativeSlope p at a theta → ¬ IsSolvingStep p at b theta j r
-no_step p at a b theta j r u v stop step =
-    stop_has_no_step p at a theta j r stop (subst (λ a. IsSolvingStep p at a theta j r) (sym (same_inverse p at a b u v)) step)
+pub no_step : (p : Sample) (at : ℕ → ℕ) (a b : ℕ → ℕ → ℚ) (theta : ℚ) (j r : ℕ) → IsBasis p at a → IsBasis p at b → EndsAt p.columns a → EndsAt p.columns b → HasNoNegativeSlope p at a theta → ¬ IsSolvingStep p at b theta j r
+no_step p at a b theta j r u v e f stop step =
+    stop_has_no_step p at a theta j r stop (subst (λ a. IsSolvingStep p at a theta j r) (sym (same_inverse p at a b u v e f)) step)
 
 -- ---- trails
 
@@ -102,12 +103,12 @@ module _ {F : Type 0} (value : F → Fraction) (p : Sample) (theta : ℚ) (costs
   ended : (basis : List ℕ) (steps other : List (Exchange F)) → AreSolvingSteps value p theta basis steps → AreSolvingSteps value p theta basis other
       → length steps ≤ length other → IsOptimalBasis p theta (basis_after basis steps) → HasSolvingStep p theta (basis_after basis other) → ⊥
   ended basis [] [] u v l stop more =
-      no_step p (slice_index basis) stop.a more.a theta more.holds.0 more.holds.1 stop.is_basis more.is_basis stop.holds more.holds.2
+      no_step p (slice_index basis) stop.a more.a theta more.holds.0 more.holds.1 stop.is_basis more.is_basis stop.ends more.ends stop.holds more.holds.2
   ended basis [] (t ∷ other) u v l stop more =
-      no_step p (slice_index basis) stop.a v.1.a theta t.position t.row stop.is_basis v.1.is_basis stop.holds v.1.holds
+      no_step p (slice_index basis) stop.a v.1.a theta t.position t.row stop.is_basis v.1.is_basis stop.ends v.1.ends stop.holds v.1.holds
   ended basis (s ∷ steps) [] u v l stop more = absurd (omega arith)
   ended basis (s ∷ steps) (t ∷ other) u v l stop more =
-      let same : (s.position ≡ t.position) × (s.row ≡ t.row) = one_step p (slice_index basis) u.1.a v.1.a theta s.position s.row t.position t.row u.1.is_basis v.1.is_basis costs u.1.holds v.1.holds in
+      let same : (s.position ≡ t.position) × (s.row ≡ t.row) = one_step p (slice_index basis) u.1.a v.1.a theta s.position s.row t.position t.row u.1.is_basis v.1.is_basis u.1.ends v.1.ends costs u.1.holds v.1.holds in
       let next : slice_set basis s.position s.row ≡ slice_set basis t.position t.row = ap₂ (λ j r. slice_set basis j r) same.0 same.1 in
       let rest : length steps ≤ length other = omega arith in
       ended (slice_set basis s.position s.row) steps other u.2

@@ -15,11 +15,12 @@ use Rattle.loss_model.specs.Problem.{value_at, sample}
 use Rattle.loss_model.specs.Vertex.{dual_value}
 use Rattle.perturbation.specs.Perturbed.{IsOutside, perturbed}
 use Rattle.pivot_rule.specs.declared.direction.Direction.{Direction}
-use Rattle.pivot_rule.specs.AtBasis.{IsBasis, HasCosts, coord, coefficient, nonbasic_row, dual}
+use Rattle.basis_model.specs.Basis.{IsBasis, coord, coefficient, outside_row}
+use Rattle.pivot_rule.specs.Duals.{HasCosts, dual}
 use Rattle.pivot_rule.specs.Responses.{residual_for, response, exchanged_rows}
 use Rattle.pivot_rule.specs.Steps.{slope, HasNoNegativeSlope, moves, is_before, passing, slope_before, IsSolvingStep}
 use Rattle.pivot_rule.specs.Results.{IsVertexAt, AreBasicDuals}
-use Rattle.pivot_rule.specs.Trails.{IsSolvingTrail, IsOptimalBasis, ReachesLimit}
+use Rattle.pivot_rule.specs.Trails.{EndsAt, IsSolvingTrail, IsOptimalBasis, ReachesLimit}
 
 -- the dual values of a basis without a negative slope are feasible and of equal cost
 abbrev pub StopIsOptimal : Type 0
@@ -49,13 +50,13 @@ RowsPassInOrder =
 abbrev pub StepIsUnique : Type 0
 StepIsUnique =
     (p : Sample) (at : ℕ → ℕ) (a b : ℕ → ℕ → ℚ) (theta : ℚ) (j r k s : ℕ) → IsBasis p at a → IsBasis p at b
-    → HasCosts p theta → IsSolvingStep p at a theta j r → IsSolvingStep p at b theta k s → (j ≡ k) × (r ≡ s)
+    → EndsAt p.columns a → EndsAt p.columns b → HasCosts p theta → IsSolvingStep p at a theta j r → IsSolvingStep p at b theta k s → (j ≡ k) × (r ≡ s)
 
 -- and none where no slope is negative
 abbrev pub StopHasNoStep : Type 0
 StopHasNoStep =
     (p : Sample) (at : ℕ → ℕ) (a b : ℕ → ℕ → ℚ) (theta : ℚ) (j r : ℕ) → IsBasis p at a → IsBasis p at b
-    → HasNoNegativeSlope p at a theta → ¬ IsSolvingStep p at b theta j r
+    → EndsAt p.columns a → EndsAt p.columns b → HasNoNegativeSlope p at a theta → ¬ IsSolvingStep p at b theta j r
 
 -- so a lawful trail that has come to an optimal basis within a limit excludes one that goes on
 abbrev pub TrailIsUnique : {F : Type 0} → (F → Fraction) → Type 0
@@ -68,15 +69,15 @@ TrailIsUnique {F} value =
 abbrev pub ExchangeChangesResiduals : Type 0
 ExchangeChangesResiduals =
     (p : Sample) (at : ℕ → ℕ) (a : ℕ → ℕ → ℚ) (j r : ℕ) (v : ℕ → ℚ) (i : ℕ) → j < p.columns
-    → coord p at a r j ≢ whole (pos 0)
+    → coord p a r j ≢ whole (pos 0)
     → residual_for p (exchanged_rows at j r) (exchanged p.columns a j (p.x r)) v i
-    ≡ residual_for p at a v i -ℚ ((coord p at a i j *ℚ inverse (coord p at a r j)) *ℚ residual_for p at a v r)
+    ≡ residual_for p at a v i -ℚ ((coord p a i j *ℚ inverse (coord p a r j)) *ℚ residual_for p at a v r)
 
 -- and the entries of a perturbed residual are such residuals
 abbrev pub PerturbedIsResiduals : Type 0
 PerturbedIsResiduals =
     (p : Sample) (at : ℕ → ℕ) (a : ℕ → ℕ → ℚ) (i m : ℕ) → IsOutside p.columns at i
-    → perturbed p.columns at (nonbasic_row p at a i) m ≡ residual_for p at a (response p m) i
+    → perturbed p.columns at (outside_row p at a i) m ≡ residual_for p at a (response p m) i
 
 -- a basis shows full rank
 abbrev pub BasisHasFullRank : Type 0

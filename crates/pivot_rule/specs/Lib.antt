@@ -1,4 +1,4 @@
-pub mod AtBasis
+pub mod Duals
 pub mod Steps
 pub mod Trails
 pub mod Results

@@ -5,11 +5,11 @@ use Rattle.exact_algebra.specs.Rational.{ℚ, ◌-ℚ◌, ◌*ℚ◌}
 use Rattle.exact_algebra.specs.RationalSums.{sum_ℚ}
 use Rattle.exact_matrices.specs.Terms.{delta}
 use Rattle.loss_model.specs.Sample.{Sample}
-use Rattle.pivot_rule.specs.AtBasis.{coord}
+use Rattle.basis_model.specs.Basis.{coord}
 
 -- the residual of row i where the basis fits the responses v
 abbrev pub residual_for : Sample → (ℕ → ℕ) → (ℕ → ℕ → ℚ) → (ℕ → ℚ) → ℕ → ℚ
-residual_for p at a v i = v i -ℚ sum_ℚ p.columns (λ j. coord p at a i j *ℚ v (at j))
+residual_for p at a v i = v i -ℚ sum_ℚ p.columns (λ j. coord p a i j *ℚ v (at j))
 
 abbrev pub response : Sample → ℕ → ℕ → ℚ
 response p zero = p.y

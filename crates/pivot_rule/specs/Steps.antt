@@ -13,7 +13,8 @@ use Rattle.perturbation.specs.Lexicographic.{lex_cmp}
 use Rattle.perturbation.specs.Perturbed.{ratio}
 use Rattle.pivot_rule.specs.declared.direction.Direction.{Direction}
 use Rattle.pivot_rule.specs.declared.direction.Direction.TheVariants.{Upward, Downward}
-use Rattle.pivot_rule.specs.AtBasis.{◌<ℚ◌, coord, nonbasic_row, side, basic_dual}
+use Rattle.basis_model.specs.Basis.{coord, outside_row, side_at, dual_value}
+use Rattle.pivot_rule.specs.Duals.{◌<ℚ◌}
 
 -- a change takes a residual on this side towards 0
 abbrev pub is_towards : Side → ℚ → Bool
@@ -24,8 +25,8 @@ is_towards Basic change = false
 module _ (p : Sample) (at : ℕ → ℕ) (a : ℕ → ℕ → ℚ) where
   -- how the loss changes as the residual of the row at position j moves away from 0
   abbrev pub slope : ℚ → ℕ → Direction → ℚ
-  slope theta j Upward = up_cost p theta (at j) -ℚ basic_dual p at a theta j
-  slope theta j Downward = down_cost p theta (at j) +ℚ basic_dual p at a theta j
+  slope theta j Upward = up_cost p theta (at j) -ℚ dual_value p at a theta j
+  slope theta j Downward = down_cost p theta (at j) +ℚ dual_value p at a theta j
 
   abbrev pub HasNoNegativeSlope : ℚ → Type 0
   HasNoNegativeSlope theta =
@@ -33,22 +34,22 @@ module _ (p : Sample) (at : ℕ → ℕ) (a : ℕ → ℕ → ℚ) where
 
   -- how the residual of row i changes as that of the row at position j moves by 1
   abbrev pub change : ℕ → Direction → ℕ → ℚ
-  change j Upward i = coord p at a i j
-  change j Downward i = neg_ℚ (coord p at a i j)
+  change j Upward i = coord p a i j
+  change j Downward i = neg_ℚ (coord p a i j)
 
   -- the residual of row i moves towards 0
   abbrev pub moves : ℕ → Direction → ℕ → Bool
-  moves j d i = is_towards (side p at a i) (change j d i)
+  moves j d i = is_towards (side_at p at a i) (change j d i)
 
   -- the perturbed ratio of row i at position j is less than that of row r
   abbrev pub is_before : ℕ → ℕ → ℕ → Bool
   is_before j i r =
-      is_lt (lex_cmp (suc p.rows) (ratio p.rows p.columns at j (nonbasic_row p at a i))
-      (ratio p.rows p.columns at j (nonbasic_row p at a r)))
+      is_lt (lex_cmp (suc p.rows) (ratio p.rows p.columns at j (outside_row p at a i))
+      (ratio p.rows p.columns at j (outside_row p at a r)))
 
   -- what passing row i adds to the slope at position j
   abbrev pub passing : ℚ → ℕ → ℕ → ℚ
-  passing theta j i = abs_ℚ (coord p at a i j) *ℚ (up_cost p theta i +ℚ down_cost p theta i)
+  passing theta j i = abs_ℚ (coord p a i j) *ℚ (up_cost p theta i +ℚ down_cost p theta i)
 
   -- the slope at position j after all rows of lesser perturbed ratio than row r are passed
   abbrev pub slope_before : ℚ → ℕ → Direction → ℕ → ℚ

@@ -1,19 +1,24 @@
 -- Lawful trails of solving steps.
-use Rattle.std.specs.Prelude.{◌≡◌, ℕ, List, [], ◌∷◌, length, map, slice_index, slice_set, Some}
+use Rattle.std.specs.Prelude.{◌≡◌, ℕ, ◌<◌, List, [], ◌∷◌, length, map, slice_index, slice_set, Some, pos}
 use Rattle.exact_algebra.specs.Fraction.{Fraction, rational}
-use Rattle.exact_algebra.specs.Rational.{ℚ}
+use Rattle.exact_algebra.specs.Rational.{ℚ, whole}
 use Rattle.loss_model.specs.declared.process.Exchange.{Exchange}
 use Rattle.loss_model.specs.declared.process.Trail.{Trail}
 use Rattle.loss_model.specs.Sample.{Sample}
 use Rattle.loss_model.specs.Greedy.{IsGreedyBasis}
-use Rattle.pivot_rule.specs.AtBasis.{IsBasis}
+use Rattle.basis_model.specs.Basis.{IsBasis}
 use Rattle.pivot_rule.specs.Steps.{HasNoNegativeSlope, IsSolvingStep}
+
+-- a is 0 outside its columns and positions
+abbrev pub EndsAt : ℕ → (ℕ → ℕ → ℚ) → Type 0
+EndsAt n a = (k j : ℕ) → ¬ ((k < n) × (j < n)) → a k j ≡ whole (pos 0)
 
 -- the rows, by position, are a basis, and Q holds of its inverse
 pub record AtBasis (p : Sample) (basis : List ℕ) (Q : (ℕ → ℕ → ℚ) → Type 0) : Type 0 where
   pub size : length basis ≡ p.columns
   pub a : ℕ → ℕ → ℚ
   pub is_basis : IsBasis p (slice_index basis) a
+  pub ends : EndsAt p.columns a
   pub holds : Q a
 
 -- the basis to which steps lead
