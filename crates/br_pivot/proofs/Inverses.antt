@@ -19,7 +19,8 @@ use Rattle.loss_model.specs.Problem.{value_at, sample}
 use Rattle.loss_model.specs.Greedy.{basis_rows}
 use Rattle.basis_inverse.specs.Square.{Square, entries, inverse_entry, IsInverse}
 use Rattle.basis_inverse.proofs.Underway.{IsRead, at_row}
-use Rattle.pivot_rule.specs.AtBasis.{IsBasis}
+use Rattle.basis_model.specs.Basis.{IsBasis}
+use Rattle.pivot_rule.specs.Trails.{EndsAt}
 use Rattle.br_pivot.specs.Inverses.{IsInverseOf}
 
 -- the matrix of a basis has the entries of its rows
@@ -35,7 +36,7 @@ basis_entries {F} value p basis j k l =
     by (Some r) = refl
 
 pub basis_of : {F : Type 0} (value : F → Fraction) (p : Problem F) (basis : List ℕ) (s : Square F) → IsInverseOf value p basis s → IsBasis (sample value p) (slice_index basis) (inverse_entry value s)
-basis_of {F} value p basis s h = record { distinct = record { within = within; apart = apart }; inverse = inv; outside = outside }
+basis_of {F} value p basis s h = record { distinct = record { within = within; apart = apart }; inverse = inv }
   where
     inv : AreInverse p.columns (λ j k. (sample value p).x (slice_index basis j) k) (inverse_entry value s)
     inv =
@@ -65,20 +66,21 @@ basis_of {F} value p basis s h = record { distinct = record { within = within; a
         ∙ ap (λ i. sum_ℚ p.columns (λ m. (sample value p).x i m *ℚ inverse_entry value s m j)) same
         ∙ inv.left k j lk lj ∙ if-other k j (whole (pos 1)) (whole (pos 0)) other)
 
-    outside : (k j : ℕ) → ¬ ((k < p.columns) × (j < p.columns)) → inverse_entry value s k j ≡ whole (pos 0)
-    outside k j h' = by (cases_lt j (length s.columns))
+-- the inverse is 0 outside
+pub ends_of : {F : Type 0} (value : F → Fraction) (p : Problem F) (basis : List ℕ) (s : Square F) → IsInverseOf value p basis s → EndsAt p.columns (inverse_entry value s)
+ends_of {F} value p basis s h k j h' = by (cases_lt j (length s.columns))
+  where
+    by : (j < length s.columns) ⊎ (length s.columns ≤ j) → inverse_entry value s k j ≡ whole (pos 0)
+    by (inr past) = ap (λ (o : Option (List F)). option_map_or (λ xs. value_at value xs k) o (whole (pos 0))) (slice_get_past s.columns j past)
+    by (inl lj) =
+        let long : length (get_or s.columns j []) ≡ length s.columns = h.inverse.square j [] lj in
+        let past : length (get_or s.columns j []) ≤ k = at (cases_lt k p.columns) long in
+        ap (λ (o : Option (List F)). option_map_or (λ xs. value_at value xs k) o (whole (pos 0))) (slice_get-get_or s.columns j [] lj)
+        ∙ ap (λ (o : Option F). option_map_or (λ v. rational (value v)) o (whole (pos 0))) (slice_get_past (get_or s.columns j []) k past)
       where
-        by : (j < length s.columns) ⊎ (length s.columns ≤ j) → inverse_entry value s k j ≡ whole (pos 0)
-        by (inr past) = ap (λ (o : Option (List F)). option_map_or (λ xs. value_at value xs k) o (whole (pos 0))) (slice_get_past s.columns j past)
-        by (inl lj) =
-            let long : length (get_or s.columns j []) ≡ length s.columns = h.inverse.square j [] lj in
-            let past : length (get_or s.columns j []) ≤ k = at (cases_lt k p.columns) long in
-            ap (λ (o : Option (List F)). option_map_or (λ xs. value_at value xs k) o (whole (pos 0))) (slice_get-get_or s.columns j [] lj)
-            ∙ ap (λ (o : Option F). option_map_or (λ v. rational (value v)) o (whole (pos 0))) (slice_get_past (get_or s.columns j []) k past)
-          where
-            at : (k < p.columns) ⊎ (p.columns ≤ k) → length (get_or s.columns j []) ≡ length s.columns → length (get_or s.columns j []) ≤ k
-            at (inl lk) e = absurd (h' (lk, omega (arith, h.square)))
-            at (inr past) e = omega (arith, h.square)
+        at : (k < p.columns) ⊎ (p.columns ≤ k) → length (get_or s.columns j []) ≡ length s.columns → length (get_or s.columns j []) ≤ k
+        at (inl lk) e = absurd (h' (lk, omega (arith, h.square)))
+        at (inr past) e = omega (arith, h.square)
 
 -- what holds of a row that was read holds of the row of its number
 pub at_read : {F : Type 0} (value : F → Fraction) (p : Problem F) (i : ℕ) (r : Row F) (xs : List F) → IsRead p i r xs → (P : ℕ → (ℕ → ℚ) → Type 0) → P (length xs) (value_at value xs) → P p.columns ((sample value p).x i)

@@ -4,9 +4,8 @@ use Rattle.exact_algebra.specs.Fraction.{Fraction}
 use Rattle.exact_algebra.specs.Rational.{ℚ}
 use Rattle.loss_model.specs.declared.problem.Problem.{Problem}
 use Rattle.loss_model.specs.declared.vertex.Side.{Side}
-use Rattle.loss_model.specs.Sample.{residual}
 use Rattle.loss_model.specs.Problem.{value_at, sample}
-use Rattle.pivot_rule.specs.AtBasis.{coefficient, side, basic_dual}
+use Rattle.basis_model.specs.Basis.{coefficient, side_at, dual_value}
 
 -- the coefficients by column
 pub record AreCoefficients {F : Type 0} (value : F → Fraction) (p : Problem F) (basis : List ℕ) (a : ℕ → ℕ → ℚ) (coef : List F) : Type 0 where
@@ -16,9 +15,9 @@ pub record AreCoefficients {F : Type 0} (value : F → Fraction) (p : Problem F)
 -- the sides by row
 pub record AreSides {F : Type 0} (value : F → Fraction) (p : Problem F) (basis : List ℕ) (a : ℕ → ℕ → ℚ) (sides : List Side) : Type 0 where
   pub size : length sides ≡ length p.rows
-  pub each : (i : ℕ) → i < length p.rows → slice_get sides i ≡ Some (side (sample value p) (slice_index basis) a i)
+  pub each : (i : ℕ) → i < length p.rows → slice_get sides i ≡ Some (side_at (sample value p) (slice_index basis) a i)
 
 -- the dual values of the basis at theta, by position
 pub record AreDuals {F : Type 0} (value : F → Fraction) (p : Problem F) (theta : ℚ) (basis : List ℕ) (a : ℕ → ℕ → ℚ) (duals : List F) : Type 0 where
   pub size : length duals ≡ p.columns
-  pub each : (j : ℕ) → j < p.columns → value_at value duals j ≡ basic_dual (sample value p) (slice_index basis) a theta j
+  pub each : (j : ℕ) → j < p.columns → value_at value duals j ≡ dual_value (sample value p) (slice_index basis) a theta j

@@ -6,7 +6,7 @@ ghost use Rattle.loss_model.specs.Dual.{IsDual};
 ghost use Rattle.loss_model.specs.Problem.{sample, value_at, IsWellShaped};
 ghost use Rattle.loss_model.specs.Vertex.{dual_value};
 ghost use Rattle.basis_inverse.specs.Square.{inverse_entry};
-ghost use Rattle.pivot_rule.specs.AtBasis.{HasCosts};
+ghost use Rattle.pivot_rule.specs.Duals.{HasCosts};
 ghost use Rattle.pivot_rule.specs.Steps.{HasNoNegativeSlope};
 ghost use Rattle.pivot_rule.specs.Trails.{IsSolvingTrail, ReachesLimit};
 ghost use Rattle.pivot_rule.specs.Results.{IsVertexAt, AreBasicDuals};

@@ -3,7 +3,7 @@ ghost use Rattle.std.specs.Prelude.{◌≡◌, ℕ, length, slice_index, IfOk, I
 ghost use Rattle.exact_algebra.specs.Fraction.{rational};
 ghost use Rattle.loss_model.specs.Problem.{sample, IsWellShaped};
 ghost use Rattle.basis_inverse.specs.Square.{inverse_entry};
-ghost use Rattle.pivot_rule.specs.AtBasis.{HasCosts};
+ghost use Rattle.pivot_rule.specs.Duals.{HasCosts};
 ghost use Rattle.br_pivot.specs.Inverses.{IsInverseOf};
 ghost use Rattle.br_pivot.specs.Next.{IsNext};
 

@@ -5,7 +5,7 @@ ghost use Rattle.loss_model.specs.Problem.{sample, IsWellShaped};
 ghost use Rattle.loss_model.specs.Quantities.{IsShortOf};
 ghost use Rattle.loss_model.specs.FullRank.{HasFullRank};
 ghost use Rattle.basis_inverse.specs.Square.{inverse_entry};
-ghost use Rattle.pivot_rule.specs.AtBasis.{HasCosts};
+ghost use Rattle.pivot_rule.specs.Duals.{HasCosts};
 ghost use Rattle.pivot_rule.specs.Steps.{IsSolvingStep};
 ghost use Rattle.br_pivot.specs.Underway.{IsUnderway, IsRefusedStep};
 ghost use Rattle.loss_model.specs.StartStop.{IsStartStop};

@@ -8,7 +8,7 @@ use Rattle.basis_inverse.specs.Square.{inverse_entry}
 use Rattle.basis_inverse.proofs.Underway.{is_read}
 use Rattle.pivot_rule.proofs.Passing.{mover_some}
 use Rattle.br_pivot.specs.Underway.{IsRefusedStep}
-use Rattle.br_pivot.proofs.Inverses.{at_read, coordinate_read, basis_of, inverse_after}
+use Rattle.br_pivot.proofs.Inverses.{at_read, coordinate_read, basis_of, ends_of, inverse_after}
 use Rattle.br_pivot.proofs.Trails.{short_weaker, trail_more}
 use Rattle.br_pivot.proofs.step.Underway.make_step.Goals as goal
 
@@ -48,6 +48,6 @@ returns-in-Ok-clause-underway g c =
       inverse = rw c.replace.ensures.new (inverse_after value p before.basis.rows before.inverse c.exchange.new.self c.args.position c.args.row c.index-as_slice-row.result c.as_slice-x.result.now read c.requires.underway.inverse exchanged.rows exchanged.inverse exchanged.size);
       lawful = trail_more value (sample value p) (rational (value c.args.theta)) before.trail (record before.trail { steps = c.push.new.self }) before.basis.rows c.replace.new.self
           (record { theta = c.args.theta; position = c.args.position; row = c.args.row }) c.requires.underway.lawful refl
-          (record { size = c.requires.underway.inverse.size; a = inverse_entry value before.inverse; is_basis = basis_of value p before.basis.rows before.inverse c.requires.underway.inverse; holds = step })
+          (record { size = c.requires.underway.inverse.size; a = inverse_entry value before.inverse; is_basis = basis_of value p before.basis.rows before.inverse c.requires.underway.inverse; ends = ends_of value p before.basis.rows before.inverse c.requires.underway.inverse; holds = step })
           refl (c.in-Ok.ensures {u = tt}).pushed refl refl c.replace.ensures.new;
     }
