@@ -1,6 +1,6 @@
 -- How a trail goes on.
 use Rattle.std.specs.Prelude.{◌≡◌, ℕ, List, [], ◌∷◌, ◌++◌, length, map, slice_index, slice_set, Some}
-use Rattle.std.proofs.Common.{refl, sym, ap, subst, ◌∙◌}
+use Rattle.std.proofs.Common.{refl, sym, ap, subst, ◌∙◌, inl, inr}
 use Rattle.exact_algebra.specs.Fraction.{Fraction, rational}
 use Rattle.exact_algebra.specs.Rational.{ℚ}
 use Rattle.loss_model.specs.declared.process.Exchange.{Exchange}
@@ -8,10 +8,11 @@ use Rattle.loss_model.specs.declared.process.Trail.{Trail}
 use Rattle.loss_model.specs.declared.spill.Spill.{Spill}
 use Rattle.loss_model.specs.declared.spill.Short.{Short}
 use Rattle.loss_model.specs.declared.spill.Short.TheVariants.{OutOfMemory, Overflow}
-use Rattle.loss_model.specs.Quantities.{IsShortOf}
+use Rattle.loss_model.specs.Quantities.{IsShortOf, IsExchangeSpill}
 use Rattle.loss_model.specs.Sample.{Sample}
 use Rattle.loss_model.specs.Greedy.{IsGreedyBasis}
 use Rattle.pivot_rule.specs.Steps.{IsSolvingStep}
+use Rattle.pivot_rule.specs.Spills.{IsStepSpill, of_basis, of_exchange}
 use Rattle.pivot_rule.specs.Trails.{AtBasis, basis_after, AreSolvingSteps, IsSolvingTrail}
 
 -- what follows from what a spill says follows from what a refusal says
@@ -58,3 +59,8 @@ trail_of_start {F} value p theta trail basis start steps rise fall greedy =
       rise = rise;
       fall = fall;
     }
+
+-- an overflow of the rule's exchange is one in the step
+pub exchange_spill : {F : Type 0} (value : F → Fraction) (range : ℕ) (p : Sample) (at : ℕ → ℕ) (a : ℕ → ℕ → ℚ) (theta : ℚ) (j r : ℕ) (s : Spill F) → IsSolvingStep p at a theta j r → IsExchangeSpill value range p.columns a (p.x r) r j s → IsStepSpill value range p at a theta s
+exchange_spill value range p at a theta j r s step (inl h) = of_basis (inr (inr (inl (r, step.entering.row, h))))
+exchange_spill value range p at a theta j r s step (inr h) = of_exchange j r step h

@@ -12,4 +12,4 @@ mod standing;
 mod step;
 mod vertex;
 
-pub use solve::Solved;
+pub use solve::{Solved, solve_at};

@@ -2,8 +2,10 @@
 ghost use Rattle.std.specs.Prelude.{◌≡◌, ℕ, length, slice_index, IfOk, IfErr};
 ghost use Rattle.exact_algebra.specs.Fraction.{rational};
 ghost use Rattle.loss_model.specs.Problem.{sample, IsWellShaped};
+ghost use Rattle.loss_model.specs.Quantities.{IsShortOf};
 ghost use Rattle.basis_inverse.specs.Square.{inverse_entry};
 ghost use Rattle.pivot_rule.specs.Duals.{HasCosts};
+ghost use Rattle.pivot_rule.specs.Spills.{IsStepSpill};
 ghost use Rattle.br_pivot.specs.Inverses.{IsInverseOf};
 ghost use Rattle.br_pivot.specs.Next.{IsNext};
 
@@ -40,6 +42,8 @@ pub fn next_step<F: Exact>(
     requires costs { HasCosts (sample F.value problem.now) (rational (F.value theta)) }
     requires inverse { IsInverseOf F.value problem.now basis.now.rows inverse.now }
     ensures next { IfOk result (IsNext F.value problem.now (rational (F.value theta)) basis.now.rows (inverse_entry F.value inverse.now)) }
+    ensures spilled { let p = sample F.value problem.now in
+        IfErr result (IsShortOf (IsStepSpill F.value F.range p (slice_index basis.now.rows) (inverse_entry F.value inverse.now) (rational (F.value theta)))) }
 {
     Err(Short::OutOfMemory)
 }

@@ -1,15 +1,16 @@
 //! A solve under way, and its pivots.
 ghost use Rattle.std.specs.Prelude.{◌≡◌, ℕ, ◌+◌, List as list, length, map, slice_index, Option, Some, IfOk, IfErr, OnOk};
 ghost use Rattle.exact_algebra.specs.Fraction.{rational};
+ghost use Rattle.exact_algebra.specs.Rational.{ℚ};
 ghost use Rattle.loss_model.specs.Problem.{sample, IsWellShaped};
 ghost use Rattle.loss_model.specs.Quantities.{IsShortOf};
-ghost use Rattle.loss_model.specs.FullRank.{HasFullRank};
 ghost use Rattle.basis_inverse.specs.Square.{inverse_entry};
 ghost use Rattle.pivot_rule.specs.Duals.{HasCosts};
 ghost use Rattle.pivot_rule.specs.Steps.{IsSolvingStep};
-ghost use Rattle.br_pivot.specs.Underway.{IsUnderway, IsRefusedStep};
+ghost use Rattle.br_pivot.specs.Underway.{IsUnderway, IsStepMade, IsRefused, IsAdvance};
 ghost use Rattle.loss_model.specs.StartStop.{IsStartStop};
 
+use crate::standing::{Next, Standing, next_step};
 use basis_inverse::{Inverse, start};
 use frac_core::{Exact, List, OutOfMemory};
 use loss_model::{Basis, Exchange, Problem, Short, Stop, Trail};
@@ -37,17 +38,12 @@ fn full_start(alloc: Global, rows: &[u32]) -> Result<List<Option<u32>>, OutOfMem
 }
 
 /// A solve at its greedy start.
-pub fn begin<F: Exact>(
-    alloc: Global,
-    problem: &Problem<F>,
-    theta: F,
-) -> Result<Underway<F>, Stop<F>>
+pub fn begin<F: Exact>(alloc: Global, problem: &Problem<F>) -> Result<Underway<F>, Stop<F>>
     requires shaped { IsWellShaped problem.now }
-    ensures underway { IfOk result (IsUnderway F.value problem.now (rational (F.value theta))) }
+    ensures underway { IfOk result (λ u. (theta : ℚ) → IsUnderway F.value problem.now theta u) }
     ensures none { IfOk result (λ u. length u.trail.steps ≡ 0) }
     ensures stopped { IfErr result (IsStartStop F.value F.range problem.now) }
 {
-    let _at = theta;
     let started = start(alloc, problem)?;
     let held = full_start(alloc, started.basis.rows.as_slice())?;
     let trail = Trail {
@@ -64,8 +60,8 @@ pub fn begin<F: Exact>(
 }
 
 impl<F: Exact> Underway<F> {
-    /// Makes the pivot by which the row takes the position. After an overflow all is as before.
-    pub fn make_step(
+    /// Makes the pivot by which the row takes the position. After an overflow the trail is as before.
+    fn make_step(
         &mut self,
         problem: &Problem<F>,
         theta: F,
@@ -75,9 +71,8 @@ impl<F: Exact> Underway<F> {
         requires shaped { IsWellShaped problem.now }
         requires underway { IsUnderway F.value problem.now (rational (F.value theta)) self.old }
         requires step { IsSolvingStep (sample F.value problem.now) (slice_index self.old.basis.rows) (inverse_entry F.value self.old.inverse) (rational (F.value theta)) position row }
-        ensures underway { OnOk result (IsUnderway F.value problem.now (rational (F.value theta)) self.new) }
-        ensures one_more { OnOk result (length self.new.trail.steps ≡ length self.old.trail.steps + 1) }
-        ensures refused { IfErr result (IsShortOf (IsRefusedStep F.value F.range problem.now self.old self.new position row)) }
+        ensures made { OnOk result (IsStepMade F.value problem.now (rational (F.value theta)) self.old self.new) }
+        ensures refused { IfErr result (IsShortOf (IsRefused F.value F.range problem.now (rational (F.value theta)) self.old self.new)) }
     {
         let x = problem.rows.as_slice()[row as usize].x.as_slice();
         self.inverse.exchange(position, x, row)?;
@@ -90,6 +85,32 @@ impl<F: Exact> Underway<F> {
         match self.trail.steps.push(step) {
             Ok(()) => Ok(()),
             Err(_) => Err(Short::OutOfMemory),
+        }
+    }
+
+    /// Makes the pivot that is left, or gives what stands at the basis where none is. After an
+    /// overflow the trail is as before.
+    pub fn advance(
+        &mut self,
+        alloc: Global,
+        problem: &Problem<F>,
+        theta: F,
+    ) -> Result<Option<Standing<F>>, Short<F>>
+        requires shaped { IsWellShaped problem.now }
+        requires costs { HasCosts (sample F.value problem.now) (rational (F.value theta)) }
+        requires underway { IsUnderway F.value problem.now (rational (F.value theta)) self.old }
+        ensures next { IfOk result (IsAdvance F.value problem.now (rational (F.value theta)) self.old self.new) }
+        ensures refused { IfErr result (IsShortOf (IsRefused F.value F.range problem.now (rational (F.value theta)) self.old self.new)) }
+    {
+        match next_step(alloc, problem, &self.inverse, &self.basis, theta) {
+            Ok(Next::Optimal(standing)) => Ok(Some(standing)),
+            Ok(Next::Pivot { position, row }) => {
+                match self.make_step(problem, theta, position, row) {
+                    Ok(()) => Ok(None),
+                    Err(short) => Err(short),
+                }
+            }
+            Err(short) => Err(short),
         }
     }
 }
