@@ -10,6 +10,8 @@ mod less;
 mod quotient;
 mod scan;
 mod sign;
+#[cfg(test)]
+mod tests;
 
 pub use less::{Ratio, lex_less};
 pub use sign::lex_sign;

@@ -5,8 +5,9 @@ use Rattle.exact_algebra.specs.Order.{cmp_ℚ}
 use Rattle.loss_model.specs.Problem.{value_at}
 use Rattle.perturbation.specs.Perturbed.{nonbasic, side_of}
 use Rattle.lex_rule.specs.Scan.{IsNextAt, AreZeroBetween}
+use Rattle.perturbation.specs.Signs.{side-residual}
 use Rattle.lex_rule.proofs.Values.{value_read}
-use Rattle.lex_rule.proofs.Signs.{at_residual, at_held, at_own}
+use Rattle.lex_rule.proofs.Signs.{at_held, at_own}
 use Rattle.lex_rule.proofs.sign.lex_sign.Goals as goal
 
 pub returns-then-not-is_zero : goal.returns-then-not-is_zero
@@ -14,7 +15,7 @@ returns-then-not-is_zero g c =
     let value = g.F.Exact.value in
     let basis = c.args.basis.now.rows in
     let some : rational (value c.args.residual) ≢ whole (pos 0) = λ e. cc (sym c.if-not-is_zero.true ∙ c.is_zero.ensures.1 e) in
-    λ rows l. c.side_of_value.ensures ∙ at_residual (length basis) (slice_index basis) (nonbasic value c.args.row c.args.residual c.args.coords.now) some rows
+    λ rows l. c.side_of_value.ensures ∙ sym (side-residual (length basis) (slice_index basis) (nonbasic value c.args.row c.args.residual c.args.coords.now) some rows)
 
 pub returns-in-Some : goal.returns-in-Some
 returns-in-Some g c =

@@ -1,0 +1,20 @@
+//! The basic solution: what a pivot needs to know of a basis, computed from the inverse of its rows.
+//!
+//! The one contract for the layers above: the coefficients, the residuals, the sides and the parts of
+//! the basic dual values are those of `basis_model`, and a spill names an operation of one of them
+//! that overflows. All sums of products go through `loss_model`'s one function for them. It stands on
+//! `basis_inverse` and `lex_rule`.
+//!
+//! Everything together costs O(rows * columns) operations on fractions and O(columns^2) more; all
+//! coordinates of a row are looked at only where its residual is 0.
+#![tactic(auto)]
+
+mod columns;
+mod coordinates;
+mod duals;
+mod primal;
+
+pub use columns::totals;
+pub use coordinates::{coordinates_at, row_coordinates};
+pub use duals::{balancing_values, cost_sum, dual_value, slope_down, slope_up};
+pub use primal::{coefficients, residuals};

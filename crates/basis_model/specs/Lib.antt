@@ -1,0 +1,4 @@
+pub mod Parts
+pub mod Basis
+pub mod Sums
+pub mod BasisSpills
