@@ -2,6 +2,7 @@ use Rattle.std.proofs.Common.{◌≡◌, ◌≤◌, ℕ, length, refl, ap, sym, 
 use Rattle.std.proofs.lemmas.Result.{err_from_is_err_and}
 use Rattle.exact_algebra.specs.Fraction.{rational}
 use Rattle.loss_model.specs.declared.process.Trail.{Trail}
+use Rattle.br_pivot.specs.declared.step.Underway.{Underway}
 use Rattle.br_pivot.proofs.Limits.{solution_limited, start_limited}
 use Rattle.br_pivot.proofs.Stops.{refused_stop, looked_stop, limit_reached}
 use Rattle.br_pivot.proofs.solve.solve_at.Goals as goal
@@ -21,7 +22,8 @@ pub returns-in-Ok-Some-clause-limited : goal.returns-in-Ok-Some-clause-limited
 returns-in-Ok-Some-clause-limited g c = λ reached.
     let made = c.in_ok-finish-in-Ok-Some.ensures {u = tt} in
     let next = rw c.in-Ok-Some.field-0-is at (c.in-Ok-Some.ensures {u = tt}).next in
-    ?
+    let short : length c.in_ok-finish-in-Ok-Some.field-0.trail.steps ≤ c.args.limit = omega (arith, ap (λ (t : Trail _). length t.steps) made.trail, ap (λ (u : Underway _). length u.trail.steps) next.0, c.loop.invariant.counted, c.loop-test.true) in
+    solution_limited g.F.Exact.value c.args.problem.now (rational (g.F.Exact.value c.args.theta)) c.args.limit c.in_ok-finish-in-Ok-Some.field-0 c.requires.costs made.solution short reached
 
 pub returns-in-Err-clause-stopped : goal.returns-in-Err-clause-stopped
 returns-in-Err-clause-stopped g c =
