@@ -5,3 +5,4 @@ pub mod Ascending
 pub mod Solutions
 pub mod Limits
 pub mod Stops
+pub mod HeapLaws

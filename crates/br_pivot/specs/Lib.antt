@@ -2,4 +2,6 @@ pub mod Inverses
 pub mod Standing
 pub mod Next
 pub mod Underway
+pub mod Lines
+pub mod Heaps
 pub mod Solves

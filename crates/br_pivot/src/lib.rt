@@ -7,6 +7,9 @@
 //! `basis_inverse` for the start and the inverse, and on `lex_rule` for the order of ties.
 #![tactic(auto)]
 
+mod heap;
+mod line;
+mod order;
 mod solve;
 mod standing;
 mod step;

@@ -1,0 +1,68 @@
+-- The line along which a position leaves, and the rows that move on it.
+use Rattle.std.specs.Prelude.{◌≡◌, ◌≢◌, ℕ, ◌<◌, Bool, true, List, length, slice_get, slice_index, Some}
+use Rattle.std.specs.Option.{option_map_or}
+use Rattle.exact_algebra.specs.Fraction.{Fraction, rational}
+use Rattle.exact_algebra.specs.Rational.{ℚ}
+use Rattle.loss_model.specs.declared.spill.Spill.{Spill}
+use Rattle.loss_model.specs.Sample.{Sample, residual}
+use Rattle.loss_model.specs.Problem.{value_at, sample, IsWellShaped}
+use Rattle.loss_model.specs.Spill.{abs_ℚ}
+use Rattle.perturbation.specs.Perturbed.{ratio}
+use Rattle.basis_inverse.specs.Square.{inverse_entry}
+use Rattle.basis_model.specs.Basis.{coord, coefficient, outside_row}
+use Rattle.pivot_rule.specs.Duals.{HasCosts}
+use Rattle.pivot_rule.specs.Steps.{slope, moves, is_before, passing, slope_before, IsLeaving, IsEntering}
+use Rattle.pivot_rule.specs.Spills.{IsStepSpill}
+use Rattle.br_pivot.specs.declared.line.Line.{Line}
+use Rattle.br_pivot.specs.declared.line.Mover.{Mover}
+use Rattle.br_pivot.specs.Inverses.{IsInverseOf}
+
+-- the row of item k of a list
+abbrev pub row_at : {F : Type 0} → List (Mover F) → ℕ → ℕ
+row_at xs k = option_map_or (λ m. m.row) (slice_get xs k) 0
+
+module _ {F : Type 0} (value : F → Fraction) where
+  abbrev pub model : Line F → Sample
+  model l = sample value l.problem.now
+
+  abbrev pub at_of : Line F → ℕ → ℕ
+  at_of l = slice_index l.basis.now.rows
+
+  abbrev pub inverse_of : Line F → ℕ → ℕ → ℚ
+  inverse_of l = inverse_entry value l.inverse.now
+
+  -- the residuals are those of the basis, of which this position leaves in this direction
+  pub record IsLine (l : Line F) : Type 0 where
+    pub shaped : IsWellShaped l.problem.now
+    pub costs : HasCosts (model l) (rational (value l.theta))
+    pub inverse : IsInverseOf value l.problem.now l.basis.now.rows l.inverse.now
+    pub size : length l.residuals.now ≡ length l.problem.now.rows
+    pub residuals : (i : ℕ) → i < length l.problem.now.rows → value_at value l.residuals.now i ≡ residual (model l) (coefficient (model l) (at_of l) (inverse_of l)) i
+    pub leaving : IsLeaving (model l) (at_of l) (inverse_of l) (rational (value l.theta)) l.position l.direction
+
+  abbrev pub is_moving : Line F → ℕ → Bool
+  is_moving l i = moves (model l) (at_of l) (inverse_of l) l.position l.direction i
+
+  abbrev pub comes_before : Line F → ℕ → ℕ → Bool
+  comes_before l i r = is_before (model l) (at_of l) (inverse_of l) l.position i r
+
+  -- an operation in the line search overflows
+  abbrev pub IsLineSpill : ℕ → Line F → Spill F → Type 0
+  IsLineSpill range l s = IsStepSpill value range (model l) (at_of l) (inverse_of l) (rational (value l.theta)) s
+
+  -- a row that moves, with the first entry of its ratio and the size of its coordinate
+  pub record IsMover (l : Line F) (m : Mover F) : Type 0 where
+    pub row : m.row < length l.problem.now.rows
+    pub moves : is_moving l m.row ≡ true
+    pub ratio_is : rational (value m.ratio) ≡ ratio (model l).rows (model l).columns (at_of l) l.position (outside_row (model l) (at_of l) (inverse_of l) m.row) 0
+    pub size_is : rational (value m.size) ≡ abs_ℚ (coord (model l) (inverse_of l) m.row l.position)
+
+  -- the list has the rows that move, and no other, each once
+  pub record AreMovers (l : Line F) (xs : List (Mover F)) : Type 0 where
+    pub each : (k : ℕ) (m : Mover F) → slice_get xs k ≡ Some m → IsMover l m
+    pub all : (i : ℕ) → i < length l.problem.now.rows → is_moving l i ≡ true → (k : ℕ) × (k < length xs) × (row_at xs k ≡ i)
+    pub apart : (j k : ℕ) → j < k → k < length xs → row_at xs j ≢ row_at xs k
+
+  -- row r enters
+  abbrev pub Enters : Line F → ℕ → Type 0
+  Enters l r = IsEntering (model l) (at_of l) (inverse_of l) (rational (value l.theta)) l.position l.direction r
