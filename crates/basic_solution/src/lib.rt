@@ -13,8 +13,10 @@ mod columns;
 mod coordinates;
 mod duals;
 mod primal;
+mod signs;
 
 pub use columns::totals;
 pub use coordinates::{coordinates_at, row_coordinates};
 pub use duals::{balancing_values, cost_sum, dual_value, slope_down, slope_up};
 pub use primal::{coefficients, residuals};
+pub use signs::sides;

@@ -1,0 +1,92 @@
+-- The side of a row, by its place in the basis and by its residual.
+use Rattle.std.specs.Prelude.{◌≡◌, ◌≢◌, ℕ, zero, suc, ◌<◌, Bool, true, false, if◌then◌else◌, ◌==◌, ◌||◌, ◌+◌, ◌++◌, Result, Ok, Err, OnOk, List, [], ◌∷◌, length, slice_index, pos}
+use Rattle.std.specs.List.{list_any}
+use Rattle.std.specs.declared.cmp.Ordering.TheVariants.{Less, Greater}
+use Rattle.std.specs.Result.{is_err}
+use Rattle.std.proofs.Common.{arith, refl, sym, ap, ap₂, ◌∙◌, below_more}
+use Rattle.basic_solution.specs.Bases.{side_in}
+use borrow.Author.Tests.{eqb-true, eqb-false, eq-eqb, ne_eqb}
+use Rattle.exact_algebra.specs.Rational.{whole}
+use Rattle.exact_algebra.specs.Order.{cmp_ℚ, cmp_ℚ-Equal}
+use Rattle.exact_matrices.specs.Selections.{is_among}
+use Rattle.loss_model.specs.declared.vertex.Side.{Side}
+use Rattle.loss_model.specs.declared.vertex.Side.TheVariants.{Up, Down}
+use Rattle.perturbation.specs.Perturbed.{Nonbasic, side_of, perturbed_side}
+use Rattle.perturbation.specs.Signs.{side-residual}
+
+-- ---- membership
+
+swapped : (a b z : Bool) → (if a then true else (if b then true else z)) ≡ (if b then true else (if a then true else z))
+swapped true true z = refl
+swapped true false z = refl
+swapped false true z = refl
+swapped false false z = refl
+
+is_among-front : (at : ℕ → ℕ) (n i : ℕ) → is_among at (suc n) i ≡ (if i == at 0 then true else is_among (λ j. at (suc j)) n i)
+is_among-front at zero i = refl
+is_among-front at (suc n) i =
+    ap (λ z. if i == at (suc n) then true else z) (is_among-front at n i)
+    ∙ swapped (i == at (suc n)) (i == at 0) (is_among (λ j. at (suc j)) n i)
+
+turned_test : (i y : ℕ) → (y == i) ≡ (i == y)
+turned_test i y = by (i == y) refl
+  where
+    by : (t : Bool) → (i == y) ≡ t → (y == i) ≡ (i == y)
+    by true e = eq-eqb y i (sym (eqb-true i y e)) ∙ sym e
+    by false e = ne_eqb y i (λ s. eqb-false i y e (sym s)) ∙ sym e
+
+pub any_among : (xs : List ℕ) (i : ℕ) → list_any (λ y. y == i) xs ≡ is_among (slice_index xs) (length xs) i
+any_among [] i = refl
+any_among (y ∷ xs) i =
+    by (y == i) (list_any (λ y. y == i) xs)
+    ∙ ap₂ (λ t z. if t then true else z) (turned_test i y) (any_among xs i)
+    ∙ sym (is_among-front (slice_index (y ∷ xs)) (length xs) i)
+  where
+    by : (t z : Bool) → (t || z) ≡ (if t then true else z)
+    by true z = refl
+    by false z = refl
+
+-- a row that isn't among the listed ones is none of them
+pub apart_from : (at : ℕ → ℕ) (n i : ℕ) → is_among at n i ≡ false → (j : ℕ) → j < n → at j ≢ i
+apart_from at zero i h j l = absurd (omega arith)
+apart_from at (suc n) i h j l = by (i == at n) refl (λ e. apart_from at n i e j)
+  where
+    by : (t : Bool) → (i == at n) ≡ t → (is_among at n i ≡ false → j < n → at j ≢ i) → at j ≢ i
+    by true e ih = absurd (cc (sym (ap (λ t. if t then true else is_among at n i) e) ∙ h))
+    by false e ih = last (j == n) refl
+      where
+        last : (t : Bool) → (j == n) ≡ t → at j ≢ i
+        last true f s = eqb-false i (at n) e (sym s ∙ ap at (eqb-true j n f))
+        last false f s = let other : j ≢ n = eqb-false j n f in ih (sym (ap (λ t. if t then true else is_among at n i) e) ∙ h) (omega arith) s
+
+-- ---- the side by the residual
+
+module _ (rows n : ℕ) (at : ℕ → ℕ) (u : Nonbasic) where
+  pub side_above : cmp_ℚ u.residual (whole (pos 0)) ≡ Greater → Up ≡ perturbed_side rows n at u
+  side_above e =
+      sym (side-residual n at u (λ z. cc (sym e ∙ (cmp_ℚ-Equal u.residual (whole (pos 0))).1 z)) rows ∙ ap side_of e)
+
+  pub side_below : cmp_ℚ u.residual (whole (pos 0)) ≡ Less → Down ≡ perturbed_side rows n at u
+  side_below e =
+      sym (side-residual n at u (λ z. cc (sym e ∙ (cmp_ℚ-Equal u.residual (whole (pos 0))).1 z)) rows ∙ ap side_of e)
+
+-- ---- a list of sides that grows
+
+pub on_ok : {T E : Type 0} (r : Result T E) (P : Type 0) → OnOk r P → is_err r ≡ false → P
+on_ok (Ok v) P h e = h
+on_ok (Err x) P h e = absurd (cc e)
+
+side_kept : (made : List Side) (s : Side) (i : ℕ) → i < length made → side_in (made ++ s ∷ []) i ≡ side_in made i
+side_kept [] s i l = absurd (omega arith)
+side_kept (x ∷ xs) s zero l = refl
+side_kept (x ∷ xs) s (suc i) l = side_kept xs s i (omega arith)
+
+side_last : (made : List Side) (s : Side) → side_in (made ++ s ∷ []) (length made) ≡ s
+side_last [] s = refl
+side_last (x ∷ xs) s = side_last xs s
+
+pub side_more : (made next : List Side) (s : Side) (row : ℕ) (want : ℕ → Side) → next ≡ made ++ s ∷ [] → length made ≡ row → ((i : ℕ) → i < row → side_in made i ≡ want i) → s ≡ want row → (i : ℕ) → i < row + 1 → side_in next i ≡ want i
+side_more made next s row want is size before here =
+    below_more (λ i. side_in next i ≡ want i) row
+    (λ i l. ap (λ (xs : List Side). side_in xs i) is ∙ side_kept made s i (omega arith) ∙ before i l)
+    (ap (λ (xs : List Side). side_in xs row) is ∙ ap (side_in (made ++ s ∷ [])) (sym size) ∙ side_last made s ∙ here)

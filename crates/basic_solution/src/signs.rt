@@ -1,0 +1,103 @@
+//! The sides of all rows at a basis.
+ghost use Rattle.std.specs.Prelude.{◌≡◌, ◌≢◌, ℕ, ◌<◌, length, slice_index, IfOk, IfErr};
+ghost use Rattle.exact_algebra.specs.Fraction.{rational};
+ghost use Rattle.loss_model.specs.Sample.{residual as residual_of};
+ghost use Rattle.loss_model.specs.Problem.{value_at, sample, IsWellShaped};
+ghost use Rattle.loss_model.specs.Quantities.{IsShortOf, IsCoordinatesSpill};
+ghost use Rattle.basis_inverse.specs.Square.{inverse_entry};
+ghost use Rattle.perturbation.specs.Perturbed.{perturbed_side as side_by_order};
+ghost use Rattle.basis_model.specs.Basis.{coefficient, outside_row, side_at};
+ghost use Rattle.basic_solution.specs.Bases.{HasBasis, side_in, IsRowsSpill};
+
+use crate::coordinates::row_coordinates;
+use basis_inverse::Inverse;
+use frac_core::{Exact, List};
+use lex_rule::lex_sign;
+use loss_model::{Basis, Problem, Short, Side};
+use std::alloc::Global;
+use std::cmp::Ordering;
+
+/// The side of a row outside the basis. Where its residual is 0, all its coordinates are looked at.
+fn perturbed_side<F: Exact>(
+    alloc: Global,
+    problem: &Problem<F>,
+    inverse: &Inverse<F>,
+    basis: &Basis,
+    row: u32,
+    residual: F,
+) -> Result<Side, Short<F>>
+    requires shaped { IsWellShaped problem.now }
+    requires basis { HasBasis problem.now inverse.now basis.now.rows }
+    requires row { row < length problem.now.rows }
+    requires outside { (j : ℕ) → j < length basis.now.rows → slice_index basis.now.rows j ≢ row }
+    requires residual { let p = sample F.value problem.now in
+        rational (F.value residual) ≡ residual_of p (coefficient p (slice_index basis.now.rows) (inverse_entry F.value inverse.now)) row }
+    ensures side { let p = sample F.value problem.now in
+        IfOk result (λ s. s ≡ side_by_order p.rows p.columns (slice_index basis.now.rows) (outside_row p (slice_index basis.now.rows) (inverse_entry F.value inverse.now) row)) }
+    ensures spill { let p = sample F.value problem.now in
+        IfErr result (IsShortOf (IsCoordinatesSpill F.value F.range p.columns (inverse_entry F.value inverse.now) (p.x row) row)) }
+{
+    match residual.compare(F::zero()) {
+        Ordering::Greater => Ok(Side::Up),
+        Ordering::Less => Ok(Side::Down),
+        Ordering::Equal => {
+            let coords = row_coordinates(alloc, problem, inverse, row)?;
+            Ok(lex_sign(residual, coords.as_slice(), basis, row))
+        }
+    }
+}
+
+/// The side of a row.
+fn side_of_row<F: Exact>(
+    alloc: Global,
+    problem: &Problem<F>,
+    inverse: &Inverse<F>,
+    basis: &Basis,
+    row: u32,
+    residual: F,
+) -> Result<Side, Short<F>>
+    requires shaped { IsWellShaped problem.now }
+    requires basis { HasBasis problem.now inverse.now basis.now.rows }
+    requires row { row < length problem.now.rows }
+    requires residual { let p = sample F.value problem.now in
+        rational (F.value residual) ≡ residual_of p (coefficient p (slice_index basis.now.rows) (inverse_entry F.value inverse.now)) row }
+    ensures side { let p = sample F.value problem.now in
+        IfOk result (λ s. s ≡ side_at p (slice_index basis.now.rows) (inverse_entry F.value inverse.now) row) }
+    ensures spill { let p = sample F.value problem.now in
+        IfErr result (IsShortOf (IsCoordinatesSpill F.value F.range p.columns (inverse_entry F.value inverse.now) (p.x row) row)) }
+{
+    if basis.rows.as_slice().contains(&row) {
+        return Ok(Side::Basic);
+    }
+    perturbed_side(alloc, problem, inverse, basis, row, residual)
+}
+
+/// The sides of all rows, which have these residuals.
+pub fn sides<F: Exact>(
+    alloc: Global,
+    problem: &Problem<F>,
+    inverse: &Inverse<F>,
+    basis: &Basis,
+    residuals: &[F],
+) -> Result<List<Side>, Short<F>>
+    requires shaped { IsWellShaped problem.now }
+    requires basis { HasBasis problem.now inverse.now basis.now.rows }
+    requires size { length residuals.now ≡ length problem.now.rows }
+    requires residuals { let p = sample F.value problem.now in (i : ℕ) → i < length problem.now.rows
+        → value_at F.value residuals.now i ≡ residual_of p (coefficient p (slice_index basis.now.rows) (inverse_entry F.value inverse.now)) i }
+    ensures size { IfOk result (λ made. length made ≡ length problem.now.rows) }
+    ensures each { let p = sample F.value problem.now in
+        IfOk result (λ made. (i : ℕ) → i < length problem.now.rows
+        → side_in made i ≡ side_at p (slice_index basis.now.rows) (inverse_entry F.value inverse.now) i) }
+    ensures spill { let p = sample F.value problem.now in
+        IfErr result (IsShortOf (IsRowsSpill F.value F.range p (inverse_entry F.value inverse.now))) }
+{
+    let mut made = List::new(alloc);
+    for row in 0..residuals.len() {
+        let side = side_of_row(alloc, problem, inverse, basis, row as u32, residuals[row])?;
+        if made.push(side).is_err() {
+            return Err(Short::OutOfMemory);
+        }
+    }
+    Ok(made)
+}
