@@ -6,3 +6,4 @@ pub mod Solutions
 pub mod Limits
 pub mod Stops
 pub mod HeapLaws
+pub mod Movers

@@ -40,14 +40,14 @@ module _ {F : Type 0} (value : F → Fraction) where
     pub residuals : (i : ℕ) → i < length l.problem.now.rows → value_at value l.residuals.now i ≡ residual (model l) (coefficient (model l) (at_of l) (inverse_of l)) i
     pub leaving : IsLeaving (model l) (at_of l) (inverse_of l) (rational (value l.theta)) l.position l.direction
 
-  abbrev pub is_moving : Line F → ℕ → Bool
+  unfoldable pub is_moving : Line F → ℕ → Bool
   is_moving l i = moves (model l) (at_of l) (inverse_of l) l.position l.direction i
 
-  abbrev pub comes_before : Line F → ℕ → ℕ → Bool
+  unfoldable pub comes_before : Line F → ℕ → ℕ → Bool
   comes_before l i r = is_before (model l) (at_of l) (inverse_of l) l.position i r
 
   -- an operation in the line search overflows
-  abbrev pub IsLineSpill : ℕ → Line F → Spill F → Type 0
+  unfoldable pub IsLineSpill : ℕ → Line F → Spill F → Type 0
   IsLineSpill range l s = IsStepSpill value range (model l) (at_of l) (inverse_of l) (rational (value l.theta)) s
 
   -- a row that moves, with the first entry of its ratio and the size of its coordinate
@@ -64,5 +64,5 @@ module _ {F : Type 0} (value : F → Fraction) where
     pub apart : (j k : ℕ) → j < k → k < length xs → row_at xs j ≢ row_at xs k
 
   -- row r enters
-  abbrev pub Enters : Line F → ℕ → Type 0
+  unfoldable pub Enters : Line F → ℕ → Type 0
   Enters l r = IsEntering (model l) (at_of l) (inverse_of l) (rational (value l.theta)) l.position l.direction r
