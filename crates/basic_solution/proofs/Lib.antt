@@ -1,3 +1,4 @@
 pub mod Rows
 pub mod RowTotals
 pub mod RowSides
+pub mod Agreeing

@@ -14,9 +14,11 @@ mod coordinates;
 mod duals;
 mod primal;
 mod signs;
+mod solution;
 
 pub use columns::totals;
 pub use coordinates::{coordinates_at, row_coordinates};
 pub use duals::{balancing_values, cost_sum, dual_value, slope_down, slope_up};
 pub use primal::{coefficients, residuals};
 pub use signs::sides;
+pub use solution::{BasicSolution, basic_solution};
