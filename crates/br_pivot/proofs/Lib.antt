@@ -7,3 +7,4 @@ pub mod Limits
 pub mod Stops
 pub mod HeapLaws
 pub mod Movers
+pub mod SlopeLaws

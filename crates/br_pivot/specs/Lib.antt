@@ -4,4 +4,5 @@ pub mod Next
 pub mod Underway
 pub mod Lines
 pub mod Heaps
+pub mod Slopes
 pub mod Solves

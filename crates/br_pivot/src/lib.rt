@@ -10,6 +10,7 @@
 mod heap;
 mod line;
 mod order;
+mod slopes;
 mod solve;
 mod standing;
 mod step;
