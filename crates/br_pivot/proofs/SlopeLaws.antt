@@ -1,5 +1,5 @@
 -- The least slope.
-use Rattle.std.specs.Prelude.{◌≡◌, ◌≢◌, ◌⊎◌, ℕ, ◌+◌, ◌<◌, ◌≤◌, Bool, true, false, ◌==◌, Option, Some, None, pos}
+use Rattle.std.specs.Prelude.{◌≡◌, ◌≢◌, ◌⊎◌, ℕ, ◌+◌, ◌<◌, ◌≤◌, Bool, true, false, ◌==◌, ℤ, pos, ◌≤ℤ◌, ◌<ℤ◌}
 use Rattle.std.specs.Ordering.{is_lt}
 use Rattle.std.specs.declared.cmp.Ordering.{Ordering}
 use Rattle.std.specs.declared.cmp.Ordering.TheVariants.{Less, Equal, Greater}
@@ -7,7 +7,7 @@ use Rattle.std.proofs.Common.{arith, refl, sym, ap, subst, ◌∙◌, inl, inr}
 use borrow.Author.Tests.{eqb-true, eqb-false}
 use Rattle.exact_algebra.specs.Fraction.{Fraction, rational}
 use Rattle.exact_algebra.specs.Rational.{ℚ, whole, ◌≤ℚ◌, ≤ℚ_refl, ≤ℚ_trans}
-use Rattle.exact_algebra.specs.Order.{cmp_ℚ, cmp_ℚ-Less, cmp_ℚ-not_Less, le_from_not}
+use Rattle.exact_algebra.specs.Order.{cmp_ℚ, sign_ℚ, cmp_ℚ-Less, cmp_ℚ-not_Less, sign_ℚ-below, sign_ℚ-not_below, le_from_not}
 use Rattle.loss_model.specs.Sample.{Sample}
 use Rattle.pivot_rule.specs.declared.direction.Direction.{Direction}
 use Rattle.pivot_rule.specs.declared.direction.Direction.TheVariants.{Upward, Downward}
@@ -88,3 +88,32 @@ module _ {F : Type 0} (value : F → Fraction) (p : Sample) (theta : ℚ) (at : 
   pub none_negative : (l : Leaving F) (n : ℕ) → IsLeastSlope p theta at e value n l → whole (pos 0) ≤ℚ rational (value l.slope) → (j : ℕ) (d : Direction) → j < n → whole (pos 0) ≤ℚ slope_at p theta at e j d
   none_negative l n h up j d lj =
       ≤ℚ_trans (whole (pos 0)) (slope_at p theta at e l.position l.direction) (slope_at p theta at e j d) (subst (λ z. whole (pos 0) ≤ℚ z) h.is up) (h.least j d lj)
+
+  pub down_lesser : (j : ℕ) (up down : F) → rational (value up) ≡ slope_at p theta at e j Upward → rational (value down) ≡ slope_at p theta at e j Downward
+      → is_lt (cmp_ℚ (rational (value down)) (rational (value up))) ≡ true → IsLesserSlope p theta at e value j (record { position = j; direction = Downward; slope = down })
+  down_lesser j up down u d h = record { position = refl; is = d; least = least }
+    where
+      less : rational (value down) ≤ℚ rational (value up)
+      less = le_from_not (rational (value down)) (rational (value up)) (less_from_test (rational (value down)) (rational (value up)) h)
+
+      least : (b : Direction) → slope_at p theta at e j Downward ≤ℚ slope_at p theta at e j b
+      least Downward = ≤ℚ_refl (slope_at p theta at e j Downward)
+      least Upward = subst (λ z. slope_at p theta at e j Downward ≤ℚ z) u (subst (λ z. z ≤ℚ rational (value up)) d less)
+
+  pub up_lesser : (j : ℕ) (up down : F) → rational (value up) ≡ slope_at p theta at e j Upward → rational (value down) ≡ slope_at p theta at e j Downward
+      → is_lt (cmp_ℚ (rational (value down)) (rational (value up))) ≡ false → IsLesserSlope p theta at e value j (record { position = j; direction = Upward; slope = up })
+  up_lesser j up down u d h = record { position = refl; is = u; least = least }
+    where
+      less : rational (value up) ≤ℚ rational (value down)
+      less = at_least_from_test (rational (value down)) (rational (value up)) h
+
+      least : (b : Direction) → slope_at p theta at e j Upward ≤ℚ slope_at p theta at e j b
+      least Upward = ≤ℚ_refl (slope_at p theta at e j Upward)
+      least Downward = subst (λ z. slope_at p theta at e j Upward ≤ℚ z) d (subst (λ z. z ≤ℚ rational (value down)) u less)
+
+-- a sign that is not below 0
+pub from_sign : (x : ℚ) (s : ℤ) → s ≡ sign_ℚ x → pos 0 ≤ℤ s → whole (pos 0) ≤ℚ x
+from_sign x s is h = (sign_ℚ-not_below x).0 (subst (λ s. pos 0 ≤ℤ s) is h)
+
+pub from_negative_sign : (x : ℚ) (s : ℤ) → s ≡ sign_ℚ x → s <ℤ pos 0 → x <ℚ whole (pos 0)
+from_negative_sign x s is h = (sign_ℚ-below x).0 (subst (λ s. s <ℤ pos 0) is h)

@@ -90,7 +90,7 @@ fn steeper<F: Exact>(first: Leaving<F>, second: Leaving<F>) -> Leaving<F>
 
 /// The position that leaves, in the direction of its slope: the least slope of all, and the least
 /// position of equal ones; none where no slope is negative.
-pub fn leaving<F: Exact>(
+pub fn steepest<F: Exact>(
     problem: &Problem<F>,
     basis: &Basis,
     duals: &[F],

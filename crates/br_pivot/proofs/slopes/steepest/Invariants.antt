@@ -2,7 +2,7 @@ use Rattle.std.proofs.Common.{slice_index}
 use Rattle.exact_algebra.specs.Fraction.{rational}
 use Rattle.loss_model.specs.Problem.{value_at, sample}
 use Rattle.br_pivot.specs.Slopes.{IsLeastSlope}
-use Rattle.br_pivot.proofs.slopes.leaving.Given as goal
+use Rattle.br_pivot.proofs.slopes.steepest.Given as goal
 
 abbrev pub invariant-loop-position : goal.invariant-loop-position
 invariant-loop-position g l =
