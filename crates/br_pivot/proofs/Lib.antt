@@ -8,3 +8,4 @@ pub mod Stops
 pub mod HeapLaws
 pub mod Movers
 pub mod SlopeLaws
+pub mod Moving

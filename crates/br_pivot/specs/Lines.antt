@@ -2,20 +2,29 @@
 use Rattle.std.specs.Prelude.{◌≡◌, ◌≢◌, ℕ, ◌<◌, Bool, true, List, length, slice_get, slice_index, Some}
 use Rattle.std.specs.Option.{option_map_or}
 use Rattle.exact_algebra.specs.Fraction.{Fraction, rational}
-use Rattle.exact_algebra.specs.Rational.{ℚ}
+use Rattle.exact_algebra.specs.Rational.{ℚ, neg_ℚ}
 use Rattle.loss_model.specs.declared.spill.Spill.{Spill}
 use Rattle.loss_model.specs.Sample.{Sample, residual}
 use Rattle.loss_model.specs.Problem.{value_at, sample, IsWellShaped}
 use Rattle.loss_model.specs.Spill.{abs_ℚ}
 use Rattle.perturbation.specs.Perturbed.{ratio}
 use Rattle.basis_inverse.specs.Square.{inverse_entry}
-use Rattle.basis_model.specs.Basis.{coord, coefficient, outside_row}
+use Rattle.basis_model.specs.Basis.{coord, coefficient, outside_row, side_at}
+use Rattle.basic_solution.specs.Bases.{side_in}
+use Rattle.loss_model.specs.declared.vertex.Side.{Side}
+use Rattle.pivot_rule.specs.declared.direction.Direction.{Direction}
+use Rattle.pivot_rule.specs.declared.direction.Direction.TheVariants.{Upward, Downward}
 use Rattle.pivot_rule.specs.Duals.{HasCosts}
 use Rattle.pivot_rule.specs.Steps.{slope, moves, is_before, passing, slope_before, IsLeaving, IsEntering}
 use Rattle.pivot_rule.specs.Spills.{IsStepSpill}
 use Rattle.br_pivot.specs.declared.line.Line.{Line}
 use Rattle.br_pivot.specs.declared.line.Mover.{Mover}
 use Rattle.br_pivot.specs.Inverses.{IsInverseOf}
+
+-- a change in a direction
+abbrev pub turned_by : Direction → ℚ → ℚ
+turned_by Upward x = x
+turned_by Downward x = neg_ℚ x
 
 -- the row of item k of a list
 abbrev pub row_at : {F : Type 0} → List (Mover F) → ℕ → ℕ
@@ -56,6 +65,29 @@ module _ {F : Type 0} (value : F → Fraction) where
     pub moves : is_moving l m.row ≡ true
     pub ratio_is : rational (value m.ratio) ≡ ratio (model l).rows (model l).columns (at_of l) l.position (outside_row (model l) (at_of l) (inverse_of l) m.row) 0
     pub size_is : rational (value m.size) ≡ abs_ℚ (coord (model l) (inverse_of l) m.row l.position)
+
+  -- side i is that of row i
+  abbrev pub side_is : Line F → ℕ → Side → Type 0
+  side_is l i s = s ≡ side_at (model l) (at_of l) (inverse_of l) i
+
+  -- c is the coordinate of row i at the position
+  abbrev pub coord_is : Line F → ℕ → F → Type 0
+  coord_is l i c = rational (value c) ≡ coord (model l) (inverse_of l) i l.position
+
+  pub record HasSides (l : Line F) (sides : List Side) : Type 0 where
+    pub size : length sides ≡ length l.problem.now.rows
+    pub each : (i : ℕ) → i < length l.problem.now.rows → side_in sides i ≡ side_at (model l) (at_of l) (inverse_of l) i
+
+  pub record HasCoordinates (l : Line F) (coords : List F) : Type 0 where
+    pub size : length coords ≡ length l.problem.now.rows
+    pub each : (i : ℕ) → i < length l.problem.now.rows → value_at value coords i ≡ coord (model l) (inverse_of l) i l.position
+
+  -- the list has those of the first n rows that move, ascending
+  pub record AreMoversBelow (l : Line F) (n : ℕ) (xs : List (Mover F)) : Type 0 where
+    pub each : (k : ℕ) (m : Mover F) → slice_get xs k ≡ Some m → IsMover l m
+    pub all : (i : ℕ) → i < n → is_moving l i ≡ true → (k : ℕ) × (k < length xs) × (row_at xs k ≡ i)
+    pub below : (k : ℕ) → k < length xs → row_at xs k < n
+    pub apart : (j k : ℕ) → j < k → k < length xs → row_at xs j ≢ row_at xs k
 
   -- the list has the rows that move, and no other, each once
   pub record AreMovers (l : Line F) (xs : List (Mover F)) : Type 0 where

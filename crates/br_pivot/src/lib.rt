@@ -9,6 +9,7 @@
 
 mod heap;
 mod line;
+mod movers;
 mod order;
 mod slopes;
 mod solve;
