@@ -6,6 +6,7 @@ pub mod Solutions
 pub mod Limits
 pub mod Stops
 pub mod HeapLaws
-pub mod Movers
+pub mod Items
 pub mod SlopeLaws
 pub mod Moving
+pub mod Ties

@@ -31,7 +31,7 @@ use Rattle.br_pivot.specs.declared.line.Line.{Line}
 use Rattle.br_pivot.specs.declared.line.Mover.{Mover}
 use Rattle.br_pivot.specs.Lines.{model, at_of, inverse_of, IsLine, IsLineSpill, IsMover, AreMovers, AreMoversBelow, row_at, is_moving, side_is, coord_is, turned_by}
 use Rattle.br_pivot.proofs.Lists.{get_front, get_end}
-use Rattle.br_pivot.proofs.Movers.{row_read}
+use Rattle.br_pivot.proofs.Items.{row_read}
 
 no : true ≡ false → ⊥
 no h = cc

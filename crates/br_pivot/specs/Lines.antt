@@ -66,6 +66,13 @@ module _ {F : Type 0} (value : F → Fraction) where
     pub ratio_is : rational (value m.ratio) ≡ ratio (model l).rows (model l).columns (at_of l) l.position (outside_row (model l) (at_of l) (inverse_of l) m.row) 0
     pub size_is : rational (value m.size) ≡ abs_ℚ (coord (model l) (inverse_of l) m.row l.position)
 
+  -- row i moves, and has these coordinates
+  pub record IsMovingRow (l : Line F) (i : ℕ) (coords : List F) : Type 0 where
+    pub row : i < length l.problem.now.rows
+    pub moves : is_moving l i ≡ true
+    pub size : length coords ≡ l.problem.now.columns
+    pub each : (j : ℕ) → j < l.problem.now.columns → value_at value coords j ≡ coord (model l) (inverse_of l) i j
+
   -- side i is that of row i
   abbrev pub side_is : Line F → ℕ → Side → Type 0
   side_is l i s = s ≡ side_at (model l) (at_of l) (inverse_of l) i

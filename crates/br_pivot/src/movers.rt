@@ -98,13 +98,14 @@ fn offer<F: Exact>(
     ensures found { OnOk result (AreMoversBelow F.value line.now (row + 1) found.new.items) }
     ensures spill { IfErr result (IsShortOf (IsLineSpill F.value F.range line.now)) }
 {
-    if !goes_towards(side, change(line.direction, coord)) {
-        return Ok(());
-    }
-    let mover = mover_of(line, row, side, coord)?;
-    match found.push(mover) {
-        Ok(()) => Ok(()),
-        Err(_) => Err(Short::OutOfMemory),
+    if goes_towards(side, change(line.direction, coord)) {
+        let mover = mover_of(line, row, side, coord)?;
+        match found.push(mover) {
+            Ok(()) => Ok(()),
+            Err(_) => Err(Short::OutOfMemory),
+        }
+    } else {
+        Ok(())
     }
 }
 

@@ -61,7 +61,7 @@ module _ (p : Sample) (at : ℕ → ℕ) (a : ℕ → ℕ → ℚ) (j : ℕ) whe
       by true e = absurd (no (sym h ∙ ap (λ s. is_towards s (change p at a j d i)) (side_basic p at a i e)))
       by false e = e
 
-  is_outside : IsBasis p at a → (d : Direction) (i : ℕ) → moves p at a j d i ≡ true → IsOutside p.columns at i
+  pub is_outside : IsBasis p at a → (d : Direction) (i : ℕ) → moves p at a j d i ≡ true → IsOutside p.columns at i
   is_outside basis d i h =
       record {
         apart = basis.distinct.apart;
