@@ -13,6 +13,8 @@ use Rattle.exact_algebra.specs.Rational.{ℚ, ◌*ℚ◌, whole, ring_ℚ}
 use Rattle.exact_algebra.specs.RationalSums.{sum_ℚ, sum_ℚ-same, sum_ℚ-zero}
 use Rattle.exact_algebra.specs.Order.{cmp_ℚ, cmp_ℚ-Equal}
 use Rattle.loss_model.specs.declared.spill.Spill.{Spill}
+use Rattle.loss_model.specs.declared.spill.Short.{Short}
+use Rattle.loss_model.specs.Quantities.{IsShortOf, IsCoordinatesSpill}
 use Rattle.loss_model.specs.Problem.{value_at}
 use Rattle.loss_model.specs.Sample.{residual}
 use Rattle.perturbation.specs.Lexicographic.{lex_cmp, lex_cmp-first}
@@ -21,12 +23,13 @@ use Rattle.perturbation.specs.RatioSpill.{IsRatioSpill}
 use Rattle.lex_rule.specs.declared.less.Ratio.{Ratio}
 use Rattle.lex_rule.specs.Compared.{of_ratio, IsRatioAt}
 use Rattle.basis_model.specs.Basis.{coord, coefficient, outside_row}
-use Rattle.pivot_rule.specs.Spills.{of_tie, of_search}
+use Rattle.pivot_rule.specs.Spills.{IsStepSpill, of_basis, of_tie, of_search}
 use Rattle.pivot_rule.proofs.Passing.{is_outside}
 use Rattle.br_pivot.specs.declared.line.Line.{Line}
 use Rattle.br_pivot.specs.declared.line.Mover.{Mover}
 use Rattle.br_pivot.specs.Lines.{model, at_of, inverse_of, IsLine, IsLineSpill, IsMover, is_moving, comes_before, IsMovingRow}
 use Rattle.br_pivot.proofs.Inverses.{ends_of}
+use Rattle.br_pivot.proofs.Trails.{short_weaker}
 use Rattle.br_pivot.proofs.Items.{line_basis}
 use Rattle.br_pivot.proofs.Moving.{moving_some}
 
@@ -120,3 +123,10 @@ module _ {F : Type 0} (value : F → Fraction) (l : Line F) (line : IsLine value
       (ratio (model value l).rows (model value l).columns (at_of value l) l.position (outside_row (model value l) (at_of value l) (inverse_of value l) n.row))
       (omega arith) (λ i li. absurd (omega (arith, li)))
       (λ e. not_equal (cmp_ℚ (rational (value m.ratio)) (rational (value n.ratio))) differ ((cmp_ℚ-Equal (rational (value m.ratio)) (rational (value n.ratio))).1 (h.ratio_is ∙ e ∙ sym g.ratio_is)))))
+
+  -- a coordinate of a row overflows
+  pub coordinates_spill : (range i : ℕ) (e : Short F) → i < length l.problem.now.rows → IsShortOf (IsCoordinatesSpill value range (model value l).columns (inverse_of value l) ((model value l).x i) i) e → IsShortOf (IsLineSpill value range l) e
+  unfolding IsLineSpill
+  coordinates_spill range i e li h =
+      short_weaker (IsCoordinatesSpill value range (model value l).columns (inverse_of value l) ((model value l).x i) i) (IsStepSpill value range (model value l) (at_of value l) (inverse_of value l) (rational (value l.theta)))
+      (λ s k. of_basis (inr (inr (inl (i, li, k))))) e h

@@ -1,5 +1,5 @@
 -- The line along which a position leaves, and the rows that move on it.
-use Rattle.std.specs.Prelude.{◌≡◌, ◌≢◌, ℕ, ◌<◌, Bool, true, List, length, slice_get, slice_index, Some}
+use Rattle.std.specs.Prelude.{◌≡◌, ◌≢◌, ℕ, ◌<◌, Bool, true, ◌&&◌, List, length, slice_get, slice_index, Some}
 use Rattle.std.specs.Option.{option_map_or}
 use Rattle.exact_algebra.specs.Fraction.{Fraction, rational}
 use Rattle.exact_algebra.specs.Rational.{ℚ, neg_ℚ}
@@ -16,7 +16,7 @@ use Rattle.pivot_rule.specs.declared.direction.Direction.{Direction}
 use Rattle.pivot_rule.specs.declared.direction.Direction.TheVariants.{Upward, Downward}
 use Rattle.pivot_rule.specs.Duals.{HasCosts}
 use Rattle.pivot_rule.specs.Steps.{slope, moves, is_before, passing, slope_before, IsLeaving, IsEntering}
-use Rattle.pivot_rule.specs.Spills.{IsStepSpill}
+use Rattle.pivot_rule.specs.Spills.{IsStepSpill, count}
 use Rattle.br_pivot.specs.declared.line.Line.{Line}
 use Rattle.br_pivot.specs.declared.line.Mover.{Mover}
 use Rattle.br_pivot.specs.Inverses.{IsInverseOf}
@@ -105,3 +105,19 @@ module _ {F : Type 0} (value : F → Fraction) where
   -- row r enters
   unfoldable pub Enters : Line F → ℕ → Type 0
   Enters l r = IsEntering (model l) (at_of l) (inverse_of l) (rational (value l.theta)) l.position l.direction r
+
+  -- the slope where the line begins
+  unfoldable pub first_slope : Line F → ℚ
+  first_slope l = slope (model l) (at_of l) (inverse_of l) (rational (value l.theta)) l.position l.direction
+
+  -- the slope after all rows before row r
+  unfoldable pub slope_until : Line F → ℕ → ℚ
+  slope_until l r = slope_before (model l) (at_of l) (inverse_of l) (rational (value l.theta)) l.position l.direction r
+
+  -- what passing row i adds
+  unfoldable pub passing_of : Line F → ℕ → ℚ
+  passing_of l i = passing (model l) (at_of l) (inverse_of l) (rational (value l.theta)) l.position i
+
+  -- how many rows are passed before row r
+  unfoldable pub passed_until : Line F → ℕ → ℕ
+  passed_until l r = count (length l.problem.now.rows) (λ i. is_moving l i && comes_before l i r)
