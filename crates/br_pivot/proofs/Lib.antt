@@ -10,3 +10,4 @@ pub mod Items
 pub mod SlopeLaws
 pub mod Moving
 pub mod Ties
+pub mod Passed

@@ -11,6 +11,7 @@ mod heap;
 mod line;
 mod movers;
 mod order;
+mod search;
 mod slopes;
 mod solve;
 mod standing;

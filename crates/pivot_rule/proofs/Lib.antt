@@ -7,3 +7,4 @@ pub mod Passing
 pub mod Unique
 pub mod Exchanged
 pub mod Solved
+pub mod Counting

@@ -94,29 +94,33 @@ module _ (p : Sample) (at : ℕ → ℕ) (a : ℕ → ℕ → ℚ) (j : ℕ) whe
     abbrev terms : ℕ → ℕ → ℚ
     terms r i = if moves p at a j d i && is_before p at a j i r then passing p at a theta j i else whole (pos 0)
 
+    -- the rows that move and come before row r are the first ones of the order
+    pub passed_test : (order : ℕ → ℕ) (k r : ℕ)
+        → ((t : ℕ) → t < k → (moves p at a j d (order t) ≡ true) × (is_before p at a j (order t) r ≡ true))
+        → ((i : ℕ) → i < p.rows → moves p at a j d i ≡ true → is_before p at a j i r ≡ true → is_among order k i ≡ true)
+        → (i : ℕ) → i < p.rows → (moves p at a j d i && is_before p at a j i r) ≡ is_among order k i
+    passed_test order k r known all i li = by (is_among order k i) refl (moves p at a j d i) refl (is_before p at a j i r) refl
+      where
+        both : (s t : Bool) → s ≡ true → t ≡ true → (s && t) ≡ true
+        both s t h k = ap₂ (λ s t. s && t) h k
+
+        by : (g : Bool) → is_among order k i ≡ g → (m : Bool) → moves p at a j d i ≡ m → (b : Bool) → is_before p at a j i r ≡ b → (m && b) ≡ g
+        by true g m f b h =
+            let place : (t : ℕ) × (t < k) × (order t ≡ i) = among_place order k i g in
+            let own : (moves p at a j d (order place.0) ≡ true) × (is_before p at a j (order place.0) r ≡ true) = known place.0 place.1 in
+            both m b (sym f ∙ ap (moves p at a j d) (sym place.2) ∙ own.0) (sym h ∙ ap (λ i. is_before p at a j i r) (sym place.2) ∙ own.1)
+        by false g true f true h = absurd (no (sym (all i li f h) ∙ g))
+        by false g true f false h = refl
+        by false g false f b h = refl
+
     pub passed : (order : ℕ → ℕ) (k r : ℕ) → AreDistinct order k p.rows
         → ((t : ℕ) → t < k → (moves p at a j d (order t) ≡ true) × (is_before p at a j (order t) r ≡ true))
         → ((i : ℕ) → i < p.rows → moves p at a j d i ≡ true → is_before p at a j i r ≡ true → is_among order k i ≡ true)
         → slope_before p at a theta j d r ≡ slope p at a theta j d +ℚ sum_ℚ k (λ t. passing p at a theta j (order t))
     passed order k r distinct known all =
         ap (λ z. slope p at a theta j d +ℚ z)
-        (sum_ℚ-same p.rows (terms r) (among order k (passing p at a theta j)) (λ i li. ap (λ t. if t then passing p at a theta j i else whole (pos 0)) (same i li))
+        (sum_ℚ-same p.rows (terms r) (among order k (passing p at a theta j)) (λ i li. ap (λ t. if t then passing p at a theta j i else whole (pos 0)) (passed_test order k r known all i li))
         ∙ sum_ℚ-among order k p.rows (passing p at a theta j) distinct)
-      where
-        same : (i : ℕ) → i < p.rows → (moves p at a j d i && is_before p at a j i r) ≡ is_among order k i
-        same i li = by (is_among order k i) refl (moves p at a j d i) refl (is_before p at a j i r) refl
-          where
-            both : (s t : Bool) → s ≡ true → t ≡ true → (s && t) ≡ true
-            both s t h k = ap₂ (λ s t. s && t) h k
-
-            by : (g : Bool) → is_among order k i ≡ g → (m : Bool) → moves p at a j d i ≡ m → (b : Bool) → is_before p at a j i r ≡ b → (m && b) ≡ g
-            by true g m f b h =
-                let place : (t : ℕ) × (t < k) × (order t ≡ i) = among_place order k i g in
-                let own : (moves p at a j d (order place.0) ≡ true) × (is_before p at a j (order place.0) r ≡ true) = known place.0 place.1 in
-                both m b (sym f ∙ ap (moves p at a j d) (sym place.2) ∙ own.0) (sym h ∙ ap (λ i. is_before p at a j i r) (sym place.2) ∙ own.1)
-            by false g true f true h = absurd (no (sym (all i li f h) ∙ g))
-            by false g true f false h = refl
-            by false g false f b h = refl
 
     -- what passing a row adds is not negative
     passing_not_negative : HasCosts p theta → (i : ℕ) → i < p.rows → whole (pos 0) ≤ℚ passing p at a theta j i
