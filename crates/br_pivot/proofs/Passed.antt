@@ -1,5 +1,5 @@
 -- The rows that are passed, and those that are left in the heap.
-use Rattle.std.specs.Prelude.{◌≡◌, ◌≢◌, ◌⊎◌, ℕ, zero, suc, ◌+◌, ◌-◌, ◌<◌, ◌≤◌, Bool, true, false, ◌==◌, ◌&&◌, if◌then◌else◌, List, length, [], ◌∷◌, pos}
+use Rattle.std.specs.Prelude.{◌≡◌, ◌≢◌, ◌⊎◌, ℕ, zero, suc, ◌+◌, ◌-◌, ◌<◌, ◌≤◌, Bool, true, false, ◌==◌, ◌&&◌, if◌then◌else◌, List, length, get_or, [], ◌∷◌, pos}
 use Rattle.std.proofs.Common.{arith, refl, sym, ap, ap₂, subst, ◌∙◌, inl, inr}
 use Rattle.std.proofs.lemmas.Bool.{cases_lt}
 use borrow.Author.Tests.{eqb-true, eqb-false}
@@ -17,7 +17,7 @@ use Rattle.basis_model.specs.Basis.{coord}
 use Rattle.pivot_rule.specs.Steps.{slope, slope_before, passing}
 use Rattle.pivot_rule.specs.Spills.{direction_number, IsStepSpill, of_cost, of_search, of_cost_sum, of_passing}
 use Rattle.pivot_rule.proofs.Among.{among_at, among_place}
-use Rattle.pivot_rule.proofs.Counting.{count-same, count-among}
+use Rattle.pivot_rule.proofs.Counting.{count-same, count-among, count-at_most}
 use Rattle.pivot_rule.proofs.Entering.{enough}
 use Rattle.pivot_rule.proofs.Passing.{passed, passed_test}
 use Rattle.br_pivot.specs.declared.line.Line.{Line}
@@ -25,7 +25,7 @@ use Rattle.br_pivot.specs.declared.line.Mover.{Mover}
 use Rattle.br_pivot.specs.Heaps.{IsHeapFrom, IsPopped}
 use Rattle.br_pivot.specs.Lines.{model, at_of, inverse_of, IsLine, IsLineSpill, IsMover, AreMovers, Enters, row_at, is_moving, comes_before, first_slope, slope_until, passing_of, passed_until}
 use Rattle.br_pivot.proofs.HeapLaws.{IsOrderOn, root_first, asym}
-use Rattle.br_pivot.proofs.Items.{line_basis, row_moves, rows_differ, order_of}
+use Rattle.br_pivot.proofs.Items.{line_basis, row_moves, rows_differ, order_of, item_read}
 
 no : true ≡ false → ⊥
 no h = cc
@@ -220,3 +220,37 @@ module _ {F : Type 0} (value : F → Fraction) (l : Line F) where
       (subst (λ y. IsSpillOf value range (site_of Slope l.position (direction_number l.direction) (n + 1)) (one_product y (abs_ℚ (coord (model value l) (inverse_of value l) m.row l.position)) (up_cost (model value l) (rational (value l.theta)) m.row +ℚ down_cost (model value l) (rational (value l.theta)) m.row)) s) is
       (subst (λ y. IsSpillOf value range (site_of Slope l.position (direction_number l.direction) (n + 1)) (one_product (rational (value slope)) y (up_cost (model value l) (rational (value l.theta)) m.row +ℚ down_cost (model value l) (rational (value l.theta)) m.row)) s) h.size_is
       (subst (λ y. IsSpillOf value range (site_of Slope l.position (direction_number l.direction) (n + 1)) (one_product (rational (value slope)) (rational (value m.size)) y) s) (c ∙ ap₂ (λ y z. y +ℚ z) u d) k)))))
+
+  -- ---- the first item as it was read
+
+  module _ (line : IsLine value l) (xs : List (Mover F)) (end : ℕ) (h : IsPassing xs end) (some : 0 < end) (m : Mover F) (is : m ≡ get_or xs 0 m) where
+    first_read : IsMover value l m × (row_at xs 0 ≡ m.row)
+    first_read = item_read value l xs h.movers 0 m (omega (arith, some, h.within)) is
+
+    pub first_mover : IsMover value l m
+    first_mover = first_read.0
+
+    pub first_until : (s : ℚ) → s ≡ slope_after xs end → s ≡ slope_until value l m.row
+    first_until s e = e ∙ sym (slope_here line xs end h some) ∙ ap (slope_until value l) first_read.1
+
+    pub first_passed : length xs - end ≡ passed_until value l m.row
+    first_passed = passed_here line xs end h some ∙ ap (passed_until value l) first_read.1
+
+    pub first_enters : (s next : ℚ) → s ≡ slope_after xs end → ¬ (whole (pos 0) ≤ℚ s) → next ≡ s +ℚ passing_of value l m.row → whole (pos 0) ≤ℚ next → Enters value l m.row
+    first_enters s next e negative sum above =
+        subst (Enters value l) first_read.1 (enters_here line xs end h some s next e negative (sum ∙ ap (λ r. s +ℚ passing_of value l r) (sym first_read.1)) above)
+
+    pub first_next : (ys : List (Mover F)) (last : ℕ) → length ys ≡ length xs → suc last ≡ end → IsPopped (row_at xs) (row_at ys) last → (s next : ℚ) → s ≡ slope_after xs end → next ≡ s +ℚ passing_of value l m.row → next ≡ slope_after ys last
+    first_next ys last size before popped s next e sum =
+        slope_next line xs end h some ys last size before popped s next e (sum ∙ ap (λ r. s +ℚ passing_of value l r) (sym first_read.1))
+
+  -- no more rows move than there are
+  pub few : (xs : List (Mover F)) → IsLine value l → AreMovers value l xs → length xs ≤ 16384
+  few xs line h =
+      let all = count-among (order_in xs) (length xs) (length l.problem.now.rows) (distinct xs (length xs) (omega arith) h) in
+      let most = count-at_most (length l.problem.now.rows) (is_among (order_in xs) (length xs)) in
+      omega (arith, all, most, line.shaped.rows)
+
+  pub negative_begun : (s : ℚ) → IsLine value l → s ≡ first_slope value l → ¬ (whole (pos 0) ≤ℚ s)
+  unfolding first_slope
+  negative_begun s line e up = line.leaving.negative (subst (λ z. whole (pos 0) ≤ℚ z) e up)
