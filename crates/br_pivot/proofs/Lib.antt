@@ -11,3 +11,4 @@ pub mod SlopeLaws
 pub mod Moving
 pub mod Ties
 pub mod Passed
+pub mod NextSteps

@@ -6,6 +6,7 @@ use pivot_rule::Direction;
 
 /// The line along which the row at a position leaves the basis: the residuals of all rows where it
 /// begins, and the direction.
+#[derive(Drop)]
 pub struct Line<'a, F: Exact> {
     pub problem: &'a Problem<F>,
     pub inverse: &'a Inverse<F>,
