@@ -82,21 +82,21 @@ module _ {F : Type 0} (value : F → Fraction) (p : Problem F) (theta : ℚ) (ba
 
   -- ---- what overflows
 
-  pub dual_fault : (range : ℕ) (e : Short F) → IsShortOf (IsDualFault value range (length sol.constant) (value_at value sol.constant) (value_at value sol.linear) theta) e → IsShortOf (IsStepSpill value range (sample value p) (slice_index basis) a theta) e
-  dual_fault range e k =
-      short_weaker (IsDualFault value range (length sol.constant) (value_at value sol.constant) (value_at value sol.linear) theta) (IsStepSpill value range (sample value p) (slice_index basis) a theta) by e k
-    where
-      by : (s : Spill F) → IsDualFault value range (length sol.constant) (value_at value sol.constant) (value_at value sol.linear) theta s → IsStepSpill value range (sample value p) (slice_index basis) a theta s
-      by s (j, lj, k) =
-          let within : j < p.columns = omega (arith, lj, h.constants) in
-          of_dual j within
-          (subst (λ y. IsDualValueSpill value range y (basic_dual (sample value p) (slice_index basis) a Linear j) theta j s) (h.constant j within)
-          (subst (λ z. IsDualValueSpill value range (value_at value sol.constant j) z theta j s) (h.linear j within) k))
-
   pub slope_fault : (b : IsBasis (sample value p) (slice_index basis) a) (range : ℕ) (s : Spill F) → IsSomeSlopeFault value range (sample value p) theta (slice_index basis) (value_at value duals) p.columns s → IsStepSpill value range (sample value p) (slice_index basis) a theta s
   slope_fault b range s (j, lj, inl k) = of_cost (slice_index basis j) (b.distinct.within j lj) k
   slope_fault b range s (j, lj, inr (inl k)) = of_slope j Upward lj (subst (λ e. IsSlopeSpill value range j Up (up_cost (sample value p) theta (slice_index basis j)) e s) (dual_here j lj) k)
   slope_fault b range s (j, lj, inr (inr k)) = of_slope j Downward lj (subst (λ e. IsSlopeSpill value range j Down (down_cost (sample value p) theta (slice_index basis j)) e s) (dual_here j lj) k)
+
+pub dual_fault : {F : Type 0} (value : F → Fraction) (p : Problem F) (theta : ℚ) (basis : List ℕ) (a : ℕ → ℕ → ℚ) (sol : BasicSolution F) → IsSolution value (sample value p) (slice_index basis) a sol → (range : ℕ) (e : Short F) → IsShortOf (IsDualFault value range (length sol.constant) (value_at value sol.constant) (value_at value sol.linear) theta) e → IsShortOf (IsStepSpill value range (sample value p) (slice_index basis) a theta) e
+dual_fault {F} value p theta basis a sol h range e k =
+    short_weaker (IsDualFault value range (length sol.constant) (value_at value sol.constant) (value_at value sol.linear) theta) (IsStepSpill value range (sample value p) (slice_index basis) a theta) by e k
+  where
+    by : (s : Spill F) → IsDualFault value range (length sol.constant) (value_at value sol.constant) (value_at value sol.linear) theta s → IsStepSpill value range (sample value p) (slice_index basis) a theta s
+    by s (j, lj, k) =
+        let within : j < p.columns = omega (arith, lj, h.constants) in
+        of_dual j within
+        (subst (λ y. IsDualValueSpill value range y (basic_dual (sample value p) (slice_index basis) a Linear j) theta j s) (h.constant j within)
+        (subst (λ z. IsDualValueSpill value range (value_at value sol.constant j) z theta j s) (h.linear j within) k))
 
 pub basis_fault : {F : Type 0} (value : F → Fraction) (range : ℕ) (p : Sample) (at : ℕ → ℕ) (a : ℕ → ℕ → ℚ) (theta : ℚ) (e : Short F) → IsShortOf (IsBasisSpill value range p at a) e → IsShortOf (IsStepSpill value range p at a theta) e
 basis_fault value range p at a theta e k = short_weaker (IsBasisSpill value range p at a) (IsStepSpill value range p at a theta) (λ s h. of_basis h) e k
