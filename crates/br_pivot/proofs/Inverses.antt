@@ -1,5 +1,5 @@
 -- The inverse of a solve is that of a basis, and stays so.
-use Rattle.std.specs.Prelude.{◌≡◌, ◌≢◌, ◌⊎◌, ℕ, ◌<◌, ◌≤◌, List, [], ◌∷◌, length, map, slice_get, slice_index, slice_set, option_map, get_or, Option, Some, None, pos}
+use Rattle.std.specs.Prelude.{◌≡◌, ◌≢◌, ◌⊎◌, ℕ, ◌<◌, ◌≤◌, List, [], ◌∷◌, length, slice_get, slice_index, slice_set, option_map, get_or, Option, Some, None, pos}
 use Rattle.std.specs.Option.{option_map_or}
 use Rattle.std.proofs.Common.{arith, refl, sym, ap, subst, ◌∙◌, inl, inr, length-set}
 use Rattle.std.proofs.lemmas.Bool.{cases_lt}
@@ -10,11 +10,10 @@ use Rattle.exact_algebra.specs.Solver.{number, ◌⊠◌, v0}
 use Rattle.exact_algebra.specs.Rational.{ℚ, ◌*ℚ◌, whole, ring_ℚ}
 use Rattle.exact_algebra.specs.RationalSums.{sum_ℚ, sum_ℚ-same, sum_ℚ-zero}
 use Rattle.exact_algebra.specs.Inverses.{one-zero}
-use Rattle.exact_matrices.specs.Terms.{delta, if-same, if-other}
+use Rattle.exact_matrices.specs.Terms.{if-same, if-other}
 use Rattle.exact_matrices.specs.Matrices.{AreInverse, AreInverse-same, coordinate}
 use Rattle.loss_model.specs.declared.problem.Row.{Row}
 use Rattle.loss_model.specs.declared.problem.Problem.{Problem}
-use Rattle.loss_model.specs.Sample.{Sample}
 use Rattle.loss_model.specs.Problem.{value_at, sample}
 use Rattle.loss_model.specs.Greedy.{basis_rows}
 use Rattle.basis_inverse.specs.Square.{Square, entries, inverse_entry, IsInverse}

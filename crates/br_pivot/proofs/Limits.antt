@@ -1,6 +1,6 @@
 -- Where a trail reaches the limit, the answer is neither a solution nor a dependence.
-use Rattle.std.specs.Prelude.{◌≡◌, ℕ, ◌≤◌, List, length, slice_index}
-use Rattle.std.proofs.Common.{Result, Ok, Err, sym, ap, subst}
+use Rattle.std.specs.Prelude.{◌≡◌, ℕ, ◌≤◌, length, slice_index}
+use Rattle.std.proofs.Common.{Result, Err, sym, subst}
 use Rattle.exact_algebra.specs.Fraction.{Fraction}
 use Rattle.exact_algebra.specs.Rational.{ℚ}
 use Rattle.loss_model.specs.declared.problem.Problem.{Problem}

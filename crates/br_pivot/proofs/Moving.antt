@@ -7,24 +7,24 @@ use Rattle.std.proofs.lemmas.List.{length_push}
 use Rattle.std.proofs.lemmas.Option.{slice_get_past, slice_get_read}
 use borrow.Author.Tests.{eqb-true, eqb-false}
 use Rattle.exact_algebra.specs.Fraction.{Fraction, rational}
-use Rattle.exact_algebra.specs.Rational.{ℚ, ◌*ℚ◌, neg_ℚ, inverse, whole}
+use Rattle.exact_algebra.specs.Rational.{ℚ, ◌*ℚ◌, inverse, whole}
 use Rattle.frac_core.specs.Overflow.{Overflows}
 use Rattle.frac_core.specs.declared.exact.OpKind.TheVariants.{Div}
 use Rattle.loss_model.specs.declared.spill.Quantity.TheVariants.{PerturbedRatio}
 use Rattle.loss_model.specs.declared.spill.Spill.{Spill}
 use Rattle.loss_model.specs.declared.vertex.Side.{Side}
 use Rattle.loss_model.specs.declared.vertex.Side.TheVariants.{Basic}
-use Rattle.loss_model.specs.Sample.{Sample, residual}
+use Rattle.loss_model.specs.Sample.{Sample}
 use Rattle.loss_model.specs.Problem.{value_at}
 use Rattle.loss_model.specs.Spill.{abs_ℚ, site_of}
 use Rattle.perturbation.specs.Perturbed.{turned, perturbed_side}
 use Rattle.perturbation.specs.Ratios.{abs_nonzero}
-use Rattle.basis_model.specs.Basis.{coord, coefficient, outside_row, side_at}
+use Rattle.basis_model.specs.Basis.{coord, outside_row, side_at}
 use Rattle.basic_solution.specs.Bases.{side_in}
 use Rattle.pivot_rule.specs.declared.direction.Direction.{Direction}
 use Rattle.pivot_rule.specs.declared.direction.Direction.TheVariants.{Upward, Downward}
 use Rattle.pivot_rule.specs.Steps.{is_towards, change, moves}
-use Rattle.pivot_rule.specs.Spills.{IsSearchSpill, IsStepSpill, of_ratio, of_search}
+use Rattle.pivot_rule.specs.Spills.{IsStepSpill, of_ratio, of_search}
 use Rattle.pivot_rule.proofs.Passing.{mover_some, mover_outside}
 use Rattle.pivot_rule.proofs.Sides.{side_outside}
 use Rattle.br_pivot.specs.declared.line.Line.{Line}

@@ -1,6 +1,6 @@
 -- The step that is left at a basis, from what is computed there.
-use Rattle.std.specs.Prelude.{◌≡◌, ◌⊎◌, ℕ, ◌<◌, ◌≤◌, List, length, slice_get, slice_index, unwrap_or, Option, Some, None, pos}
-use Rattle.std.proofs.Common.{arith, refl, sym, ap, ap₂, subst, ◌∙◌, inl, inr}
+use Rattle.std.specs.Prelude.{◌≡◌, ℕ, ◌<◌, List, length, slice_get, slice_index, unwrap_or, Option, Some, pos}
+use Rattle.std.proofs.Common.{arith, sym, ap, ap₂, subst, ◌∙◌, inl, inr}
 use Rattle.exact_algebra.specs.Fraction.{Fraction, rational}
 use Rattle.exact_algebra.specs.Rational.{ℚ, ◌+ℚ◌, ◌-ℚ◌, ◌*ℚ◌, whole, ◌≤ℚ◌}
 use Rattle.loss_model.specs.declared.problem.Problem.{Problem}
@@ -10,9 +10,9 @@ use Rattle.loss_model.specs.declared.vertex.Side.{Side}
 use Rattle.loss_model.specs.declared.vertex.Side.TheVariants.{Up, Down, Basic}
 use Rattle.loss_model.specs.Sample.{Sample, up_cost, down_cost}
 use Rattle.loss_model.specs.Problem.{value_at, sample, IsWellShaped}
-use Rattle.loss_model.specs.Quantities.{IsShortOf, IsCoordinateSpill}
-use Rattle.basis_inverse.specs.Square.{Square, inverse_entry}
-use Rattle.basis_model.specs.declared.part.Part.TheVariants.{Constant, Linear}
+use Rattle.loss_model.specs.Quantities.{IsShortOf}
+use Rattle.basis_inverse.specs.Square.{Square}
+use Rattle.basis_model.specs.declared.part.Part.TheVariants.{Linear}
 use Rattle.basis_model.specs.Basis.{IsBasis, coord, side_at, basic_dual, dual_value}
 use Rattle.basis_model.specs.BasisSpills.{IsBasisSpill, IsDualValueSpill, IsSlopeSpill}
 use Rattle.basic_solution.specs.declared.solution.BasicSolution.{BasicSolution}
@@ -21,16 +21,14 @@ use Rattle.basic_solution.specs.Solutions.{IsSolution}
 use Rattle.pivot_rule.specs.declared.direction.Direction.{Direction}
 use Rattle.pivot_rule.specs.declared.direction.Direction.TheVariants.{Upward, Downward}
 use Rattle.pivot_rule.specs.Duals.{◌<ℚ◌, HasCosts}
-use Rattle.pivot_rule.specs.Steps.{slope, HasNoNegativeSlope, IsLeaving, IsEntering, IsSolvingStep}
+use Rattle.pivot_rule.specs.Steps.{slope, HasNoNegativeSlope, IsLeaving, IsEntering}
 use Rattle.pivot_rule.specs.Spills.{IsStepSpill, of_basis, of_dual, of_cost, of_slope}
 use Rattle.br_pivot.specs.declared.slopes.Leaving.{Leaving}
 use Rattle.br_pivot.specs.declared.line.Line.{Line}
 use Rattle.br_pivot.specs.Lines.{model, at_of, inverse_of, IsLine, IsLineSpill, HasSides, HasCoordinates, Enters, first_slope}
-use Rattle.br_pivot.specs.declared.standing.Standing.{Standing}
 use Rattle.br_pivot.specs.Inverses.{IsInverseOf}
-use Rattle.br_pivot.specs.Standing.{AreCoefficients, AreSides, AreDuals}
 use Rattle.br_pivot.specs.Next.{Stands, IsDualFault}
-use Rattle.br_pivot.specs.Slopes.{slope_at, IsLeastSlope, IsLeavingOf, IsSlopeFault, IsSomeSlopeFault}
+use Rattle.br_pivot.specs.Slopes.{slope_at, IsLeastSlope, IsSomeSlopeFault}
 use Rattle.br_pivot.proofs.Inverses.{basis_of}
 use Rattle.br_pivot.proofs.Items.{get_some}
 use Rattle.br_pivot.proofs.Trails.{short_weaker}

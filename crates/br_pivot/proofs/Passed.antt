@@ -1,5 +1,5 @@
 -- The rows that are passed, and those that are left in the heap.
-use Rattle.std.specs.Prelude.{◌≡◌, ◌≢◌, ◌⊎◌, ℕ, zero, suc, ◌+◌, ◌-◌, ◌<◌, ◌≤◌, Bool, true, false, ◌==◌, ◌&&◌, if◌then◌else◌, List, length, get_or, [], ◌∷◌, pos}
+use Rattle.std.specs.Prelude.{◌≡◌, ◌≢◌, ◌⊎◌, ℕ, suc, ◌+◌, ◌-◌, ◌<◌, ◌≤◌, Bool, true, false, ◌==◌, if◌then◌else◌, List, length, get_or, [], ◌∷◌, pos}
 use Rattle.std.proofs.Common.{arith, refl, sym, ap, ap₂, subst, ◌∙◌, inl, inr}
 use Rattle.std.proofs.lemmas.Bool.{cases_lt}
 use borrow.Author.Tests.{eqb-true, eqb-false}
@@ -14,8 +14,8 @@ use Rattle.loss_model.specs.Sample.{up_cost, down_cost}
 use Rattle.loss_model.specs.Spill.{IsUpCostSpill, IsDownCostSpill, IsSpillOf, one_product, site_of, abs_ℚ}
 use Rattle.basis_model.specs.BasisSpills.{IsCostSumSpill}
 use Rattle.basis_model.specs.Basis.{coord}
-use Rattle.pivot_rule.specs.Steps.{slope, slope_before, passing}
-use Rattle.pivot_rule.specs.Spills.{direction_number, IsStepSpill, of_cost, of_search, of_cost_sum, of_passing}
+use Rattle.pivot_rule.specs.Steps.{slope}
+use Rattle.pivot_rule.specs.Spills.{direction_number, of_cost, of_search, of_cost_sum, of_passing}
 use Rattle.pivot_rule.proofs.Among.{among_at, among_place}
 use Rattle.pivot_rule.proofs.Counting.{count-same, count-among, count-at_most}
 use Rattle.pivot_rule.proofs.Entering.{enough}

@@ -1,21 +1,21 @@
 -- The solution at an optimal basis.
-use Rattle.std.specs.Prelude.{◌≡◌, ◌≢◌, ◌↔◌, ℕ, ◌<◌, Bool, true, false, List, length, slice_get, slice_index, Contains, Some, get_or}
+use Rattle.std.specs.Prelude.{◌≡◌, ◌≢◌, ◌↔◌, ℕ, ◌<◌, Bool, true, false, List, length, slice_get, slice_index, Contains, Some}
 use Rattle.std.specs.List.Sorted.{IsStrictlyIncreasing}
 use Rattle.std.specs.declared.cmp.Ordering.{Ordering}
 use Rattle.std.specs.declared.cmp.Ordering.TheVariants.{Less, Equal, Greater}
-use Rattle.std.proofs.Common.{arith, refl, sym, ap, subst, ◌∙◌}
+use Rattle.std.proofs.Common.{arith, refl, sym, ap, ◌∙◌}
 use Rattle.exact_algebra.specs.Fraction.{Fraction}
 use Rattle.exact_algebra.specs.Rational.{ℚ}
 use Rattle.exact_matrices.specs.Selections.{is_among}
 use Rattle.loss_model.specs.declared.problem.Problem.{Problem}
 use Rattle.loss_model.specs.declared.vertex.Side.{Side}
-use Rattle.loss_model.specs.declared.vertex.Side.TheVariants.{Up, Down, Basic}
+use Rattle.loss_model.specs.declared.vertex.Side.TheVariants.{Basic}
 use Rattle.loss_model.specs.declared.vertex.Vertex.{Vertex}
 use Rattle.loss_model.specs.Problem.{value_at, sample}
 use Rattle.loss_model.proofs.Duality.{minimum}
 use Rattle.perturbation.specs.Perturbed.{side_of}
 use Rattle.basis_inverse.specs.Square.{Square, inverse_entry}
-use Rattle.basis_model.specs.Basis.{IsBasis, side_at, dual_value}
+use Rattle.basis_model.specs.Basis.{IsBasis, side_at}
 use Rattle.pivot_rule.specs.Duals.{HasCosts, dual}
 use Rattle.pivot_rule.specs.Results.{IsVertexAt, AreBasicDuals}
 use Rattle.pivot_rule.proofs.Among.{among_at, among_place}

@@ -1,17 +1,15 @@
 -- What a refused step and a limit say of the solve.
-use Rattle.std.specs.Prelude.{◌≡◌, ℕ, ◌≤◌, List, length, slice_index}
-use Rattle.std.proofs.Common.{refl, sym, ap, subst, inr}
+use Rattle.std.specs.Prelude.{◌≡◌, ℕ, ◌≤◌, length, slice_index}
+use Rattle.std.proofs.Common.{refl, sym, subst, inr}
 use Rattle.exact_algebra.specs.Fraction.{Fraction}
 use Rattle.exact_algebra.specs.Rational.{ℚ}
 use Rattle.loss_model.specs.declared.problem.Problem.{Problem}
 use Rattle.loss_model.specs.declared.process.Trail.{Trail}
-use Rattle.loss_model.specs.declared.spill.Spill.{Spill}
 use Rattle.loss_model.specs.declared.spill.Short.{Short}
 use Rattle.loss_model.specs.declared.spill.Short.TheVariants.{OutOfMemory, Overflow}
 use Rattle.loss_model.specs.declared.stop.Stop.{Stop}
 use Rattle.loss_model.specs.Problem.{sample}
 use Rattle.loss_model.specs.Quantities.{IsShortOf}
-use Rattle.loss_model.specs.StartStop.{IsStartStop}
 use Rattle.basis_inverse.specs.Square.{inverse_entry}
 use Rattle.pivot_rule.specs.Steps.{IsSolvingStep}
 use Rattle.pivot_rule.specs.Spills.{IsStepSpill}

@@ -1,5 +1,5 @@
 -- How a trail goes on.
-use Rattle.std.specs.Prelude.{◌≡◌, ℕ, List, [], ◌∷◌, ◌++◌, length, map, slice_index, slice_set, Some}
+use Rattle.std.specs.Prelude.{◌≡◌, ℕ, List, [], ◌∷◌, ◌++◌, map, slice_index, slice_set, Some}
 use Rattle.std.proofs.Common.{refl, sym, ap, subst, ◌∙◌, inl, inr}
 use Rattle.exact_algebra.specs.Fraction.{Fraction, rational}
 use Rattle.exact_algebra.specs.Rational.{ℚ}

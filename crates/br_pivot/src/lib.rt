@@ -4,7 +4,8 @@
 //! The one contract for the layers above: `solve_at` gives coefficients that minimise, with dual
 //! values that show it, and the lawful trail that led there; where it stops without them, it says
 //! what it had to stop for. It stands on `pivot_rule` for the definitions and their laws, on
-//! `basis_inverse` for the start and the inverse, and on `lex_rule` for the order of ties.
+//! `basis_inverse` for the start and the inverse, on `basic_solution` for the quantities at a
+//! basis, and on `lex_rule` for the order of ties.
 #![tactic(auto)]
 
 mod heap;

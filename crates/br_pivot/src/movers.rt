@@ -17,11 +17,7 @@ use std::alloc::Global;
 fn absolute<F: Exact>(value: F) -> F
     ensures { rational (F.value result) ≡ abs_ℚ (rational (F.value value)) }
 {
-    if value.sign() < 0 {
-        value.neg()
-    } else {
-        value
-    }
+    if value.sign() < 0 { value.neg() } else { value }
 }
 
 /// The value, negated on the side below the fit.
@@ -56,12 +52,7 @@ fn goes_towards<F: Exact>(side: Side, change: F) -> bool
 }
 
 /// A row that moves, as an item of the order.
-fn mover_of<F: Exact>(
-    line: &Line<F>,
-    row: u32,
-    side: Side,
-    coord: F,
-) -> Result<Mover<F>, Spill<F>>
+fn mover_of<F: Exact>(line: &Line<F>, row: u32, side: Side, coord: F) -> Result<Mover<F>, Spill<F>>
     requires line { IsLine F.value line.now }
     requires row { row < length line.now.problem.now.rows }
     requires side { side_is F.value line.now row side }

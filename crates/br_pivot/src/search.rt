@@ -25,12 +25,7 @@ fn number_of(direction: Direction) -> u32
 }
 
 /// The slope after a row is passed, where as many were passed before.
-fn pass<F: Exact>(
-    line: &Line<F>,
-    mover: Mover<F>,
-    slope: F,
-    passed: u32,
-) -> Result<F, Spill<F>>
+fn pass<F: Exact>(line: &Line<F>, mover: Mover<F>, slope: F, passed: u32) -> Result<F, Spill<F>>
     requires line { IsLine F.value line.now }
     requires mover { IsMover F.value line.now mover }
     requires slope { rational (F.value slope) ≡ slope_until F.value line.now mover.row }

@@ -1,10 +1,10 @@
 -- How many numbers pass a test.
-use Rattle.std.specs.Prelude.{◌≡◌, ℕ, zero, suc, ◌<◌, ◌≤◌, Bool, true, false, if◌then◌else◌, [], ◌∷◌, ℤ, pos, ◌+ℤ◌}
+use Rattle.std.specs.Prelude.{◌≡◌, ℕ, zero, suc, ◌<◌, ◌≤◌, Bool, true, false, if◌then◌else◌, [], ◌∷◌, pos, ◌+ℤ◌}
 use Rattle.std.proofs.Common.{arith, refl, sym, ap, ap₂, ◌∙◌}
 use Rattle.std.proofs.lemmas.Int.{ints}
 use Rattle.exact_algebra.specs.Solver.{number, ◌⊞◌, v0}
-use Rattle.exact_algebra.specs.Rational.{ℚ, ◌+ℚ◌, whole, whole-add, ring_ℚ}
-use Rattle.exact_algebra.specs.RationalSums.{sum_ℚ, sum_ℚ-same}
+use Rattle.exact_algebra.specs.Rational.{◌+ℚ◌, whole, whole-add, ring_ℚ}
+use Rattle.exact_algebra.specs.RationalSums.{sum_ℚ}
 use Rattle.exact_algebra.specs.WholeNumbers.{same_from_whole}
 use Rattle.exact_matrices.specs.Selections.{is_among, AreDistinct, sum_ℚ-among}
 use Rattle.pivot_rule.specs.Spills.{count}

@@ -1,5 +1,5 @@
 use Rattle.std.specs.Ordering.{is_lt, is_eq}
-use Rattle.std.proofs.Common.{◌≡◌, sym, ap, ap₂, ◌∙◌}
+use Rattle.std.proofs.Common.{sym, ap, ap₂, ◌∙◌}
 use Rattle.std.proofs.lemmas.Result.{IfOk-weaker}
 use Rattle.br_pivot.specs.Lines.{comes_before}
 use Rattle.br_pivot.proofs.Items.{item_read, items_differ}

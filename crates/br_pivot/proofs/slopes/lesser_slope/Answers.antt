@@ -1,9 +1,7 @@
 use Rattle.std.specs.Ordering.{is_lt}
-use Rattle.std.proofs.Common.{◌≡◌, ◌<◌, slice_index, length, refl, sym, ap, ◌∙◌, arith}
+use Rattle.std.proofs.Common.{slice_index, sym, ap, ◌∙◌}
 use Rattle.exact_algebra.specs.Fraction.{rational}
 use Rattle.loss_model.specs.Problem.{value_at, sample}
-use Rattle.pivot_rule.specs.declared.direction.Direction.TheVariants.{Upward, Downward}
-use Rattle.br_pivot.specs.Slopes.{slope_from}
 use Rattle.br_pivot.proofs.Lists.{value_read}
 use Rattle.br_pivot.proofs.SlopeLaws.{down_lesser, up_lesser}
 use Rattle.br_pivot.proofs.slopes.lesser_slope.Goals as goal

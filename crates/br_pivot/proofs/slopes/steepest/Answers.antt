@@ -1,4 +1,4 @@
-use Rattle.std.proofs.Common.{◌≡◌, ◌≤◌, slice_index, subst, arith, pos, ◌≤ℤ◌}
+use Rattle.std.proofs.Common.{◌≡◌, slice_index, subst, arith, pos, ◌≤ℤ◌}
 use Rattle.std.proofs.lemmas.Int.{ints}
 use Rattle.exact_algebra.specs.Fraction.{rational}
 use Rattle.loss_model.specs.Problem.{value_at, sample}

@@ -1,4 +1,4 @@
-use Rattle.std.proofs.Common.{ℕ, length, slice_index, Contains, sym, ap, ◌∙◌}
+use Rattle.std.proofs.Common.{slice_index}
 use Rattle.exact_algebra.specs.Fraction.{rational}
 use Rattle.br_pivot.proofs.Solutions.{distinct_rows, itself, solution}
 use Rattle.br_pivot.proofs.solve.finish.Goals as goal

@@ -1,4 +1,4 @@
-use Rattle.std.proofs.Common.{◌≡◌, ◌≤◌, length, slice_index, sym, ap, ◌∙◌, arith}
+use Rattle.std.proofs.Common.{◌≡◌, length, slice_index, sym, ap, ◌∙◌, arith}
 use Rattle.std.proofs.lemmas.Result.{err_from_is_err_and}
 use Rattle.exact_algebra.specs.Fraction.{rational}
 use Rattle.loss_model.specs.Problem.{sample}
@@ -64,8 +64,7 @@ returns-in-Ok-None-clause-next g c =
     let value = g.F.Exact.value in
     let h = (c.in_ok-solution.ensures {u = tt}).solution in
     let made = rw (c.as_slice.ensures, c.as_slice-2.ensures) at (c.in_ok-duals.ensures {u = tt}) in
-    let k = rw (c.as_slice-3.ensures, c.in-Ok-None.field-0-is) at (c.in-Ok-None.ensures {u = tt}).leaving in
-    (
+    let k = rw (c.as_slice-3.ensures, c.in-Ok-None.field-0-is) at (c.in-Ok-None.ensures {u = tt}).leaving in (
       none_negative_here value c.args.problem.now (rational (value c.args.theta)) c.args.basis.now.rows (inverse_entry value c.args.inverse.now) c.in_ok-solution.solution h c.in_ok-duals.duals made.size made.each k,
       stands_here value c.args.problem.now (rational (value c.args.theta)) c.args.basis.now.rows (inverse_entry value c.args.inverse.now) c.in_ok-solution.solution h c.in_ok-duals.duals made.size made.each,
     )

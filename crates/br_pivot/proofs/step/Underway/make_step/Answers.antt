@@ -1,7 +1,6 @@
-use Rattle.std.proofs.Common.{◌≡◌, ◌≢◌, ◌<◌, ℕ, length, slice_index, refl, ap, sym, subst, ◌∙◌, arith, pos}
+use Rattle.std.proofs.Common.{◌<◌, ℕ, length, slice_index, refl, ap, sym, subst, ◌∙◌}
 use Rattle.std.proofs.lemmas.Result.{err_from_is_err_and}
 use Rattle.exact_algebra.specs.Fraction.{rational}
-use Rattle.exact_algebra.specs.Rational.{ℚ, whole}
 use Rattle.loss_model.specs.Problem.{sample, value_at}
 use Rattle.loss_model.specs.Quantities.{IsExchangeSpill}
 use Rattle.basis_inverse.specs.Square.{inverse_entry}
