@@ -1,0 +1,66 @@
+-- How a trail goes on.
+use Rattle.std.specs.Prelude.{◌≡◌, ℕ, List, [], ◌∷◌, ◌++◌, map, slice_index, slice_set, Some}
+use Rattle.std.proofs.Common.{refl, sym, ap, subst, ◌∙◌, inl, inr}
+use Rattle.exact_algebra.specs.Fraction.{Fraction, rational}
+use Rattle.exact_algebra.specs.Rational.{ℚ}
+use Rattle.loss_model.specs.declared.process.Exchange.{Exchange}
+use Rattle.loss_model.specs.declared.process.Trail.{Trail}
+use Rattle.loss_model.specs.declared.spill.Spill.{Spill}
+use Rattle.loss_model.specs.declared.spill.Short.{Short}
+use Rattle.loss_model.specs.declared.spill.Short.TheVariants.{OutOfMemory, Overflow}
+use Rattle.loss_model.specs.Quantities.{IsShortOf, IsExchangeSpill}
+use Rattle.loss_model.specs.Sample.{Sample}
+use Rattle.loss_model.specs.Greedy.{IsGreedyBasis}
+use Rattle.pivot_rule.specs.Steps.{IsSolvingStep}
+use Rattle.pivot_rule.specs.Spills.{IsStepSpill, of_basis, of_exchange}
+use Rattle.pivot_rule.specs.Trails.{AtBasis, basis_after, AreSolvingSteps, IsSolvingTrail}
+
+-- what follows from what a spill says follows from what a refusal says
+pub short_weaker : {F : Type 0} (P Q : Spill F → Type 0) → ((s : Spill F) → P s → Q s) → (e : Short F) → IsShortOf P e → IsShortOf Q e
+short_weaker P Q h OutOfMemory k = tt
+short_weaker P Q h (Overflow s) k = h s k
+
+after_more : {F : Type 0} (basis : List ℕ) (steps : List (Exchange F)) (s : Exchange F) → basis_after basis (steps ++ s ∷ []) ≡ slice_set (basis_after basis steps) s.position s.row
+after_more basis [] s = refl
+after_more basis (t ∷ steps) s = after_more (slice_set basis t.position t.row) steps s
+
+steps_more : {F : Type 0} (value : F → Fraction) (p : Sample) (theta : ℚ) (basis : List ℕ) (steps : List (Exchange F)) (s : Exchange F) → AreSolvingSteps value p theta basis steps → rational (value s.theta) ≡ theta
+    → AtBasis p (basis_after basis steps) (λ a. IsSolvingStep p (slice_index (basis_after basis steps)) a theta s.position s.row) → AreSolvingSteps value p theta basis (steps ++ s ∷ [])
+steps_more value p theta basis [] s h e step = (e, step, tt)
+steps_more value p theta basis (t ∷ steps) s h e step = (h.0, h.1, steps_more value p theta (slice_set basis t.position t.row) steps s h.2 e step)
+
+-- the trail with one more step
+pub trail_more : {F : Type 0} (value : F → Fraction) (p : Sample) (theta : ℚ) (before after : Trail F) (basis next : List ℕ) (s : Exchange F) → IsSolvingTrail value p theta before basis
+    → rational (value s.theta) ≡ theta → AtBasis p basis (λ a. IsSolvingStep p (slice_index basis) a theta s.position s.row)
+    → after.start ≡ before.start → after.steps ≡ before.steps ++ s ∷ [] → after.rise ≡ before.rise → after.fall ≡ before.fall
+    → next ≡ slice_set basis s.position s.row → IsSolvingTrail value p theta after next
+trail_more {F} value p theta before after basis next s h e step start steps rise fall put =
+    record {
+      first = h.first;
+      begins = start ∙ h.begins;
+      greedy = h.greedy;
+      lawful = subst (AreSolvingSteps value p theta h.first) (sym steps)
+          (steps_more value p theta h.first before.steps s h.lawful e
+          (subst (λ b. AtBasis p b (λ a. IsSolvingStep p (slice_index b) a theta s.position s.row)) (sym h.leads) step));
+      leads = ap (basis_after h.first) steps ∙ after_more h.first before.steps s ∙ ap (λ b. slice_set b s.position s.row) h.leads ∙ sym put;
+      rise = rise ∙ h.rise;
+      fall = fall ∙ h.fall;
+    }
+
+-- the trail of a start
+pub trail_of_start : {F : Type 0} (value : F → Fraction) (p : Sample) (theta : ℚ) (trail : Trail F) (basis : List ℕ) → trail.start ≡ map Some basis → trail.steps ≡ [] → trail.rise ≡ [] → trail.fall ≡ [] → IsGreedyBasis p basis → IsSolvingTrail value p theta trail basis
+trail_of_start {F} value p theta trail basis start steps rise fall greedy =
+    record {
+      first = basis;
+      begins = start;
+      greedy = greedy;
+      lawful = subst (AreSolvingSteps value p theta basis) (sym steps) tt;
+      leads = ap (basis_after basis) steps;
+      rise = rise;
+      fall = fall;
+    }
+
+-- an overflow of the rule's exchange is one in the step
+pub exchange_spill : {F : Type 0} (value : F → Fraction) (range : ℕ) (p : Sample) (at : ℕ → ℕ) (a : ℕ → ℕ → ℚ) (theta : ℚ) (j r : ℕ) (s : Spill F) → IsSolvingStep p at a theta j r → IsExchangeSpill value range p.columns a (p.x r) r j s → IsStepSpill value range p at a theta s
+exchange_spill value range p at a theta j r s step (inl h) = of_basis (inr (inr (inl (r, step.entering.row, h))))
+exchange_spill value range p at a theta j r s step (inr h) = of_exchange j r step h

@@ -1,0 +1,27 @@
+//! The line along which a position leaves, and the rows that move on it.
+use basis_inverse::Inverse;
+use frac_core::Exact;
+use loss_model::{Basis, Problem};
+use pivot_rule::Direction;
+
+/// The line along which the row at a position leaves the basis: the residuals of all rows where it
+/// begins, and the direction.
+#[derive(Drop)]
+pub struct Line<'a, F: Exact> {
+    pub problem: &'a Problem<F>,
+    pub inverse: &'a Inverse<F>,
+    pub basis: &'a Basis,
+    pub residuals: &'a [F],
+    pub theta: F,
+    pub position: u32,
+    pub direction: Direction,
+}
+
+/// A row whose residual moves towards 0: the first entry of its perturbed ratio, and the size of its
+/// coordinate at the position.
+#[derive(Clone, Copy)]
+pub struct Mover<F> {
+    pub row: u32,
+    pub ratio: F,
+    pub size: F,
+}

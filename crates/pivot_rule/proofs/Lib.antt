@@ -1,0 +1,10 @@
+pub mod Among
+pub mod Bounds
+pub mod Sides
+pub mod Optimal
+pub mod Entering
+pub mod Passing
+pub mod Unique
+pub mod Exchanged
+pub mod Solved
+pub mod Counting
