@@ -7,8 +7,13 @@
 //! It stands on `frac_core` for texts, lists and fractions.
 #![tactic(auto)]
 
+mod crossing;
+mod evaluation;
 mod fault;
 mod formula;
+mod naming;
+mod scope;
+mod term_set;
 
 pub use fault::FormulaFault;
 pub use formula::{Formula, Smooth, Term, Variable};

@@ -1,0 +1,135 @@
+-- The formula of a text over the columns of a table, or its first fault.
+use Rattle.std.specs.Prelude.{◌≡◌, ◌<◌, ◌^◌, ◌-◌, ℕ, Bool, false, List, [], ◌∷◌, map, zip, length, Option, Some, None, is_none, Result, Ok, Err, if◌then◌else◌}
+use Rattle.std.specs.List.{filter}
+use Rattle.std.specs.List.Sorted.{IsPermutation, IsSortedByKey, IsStableByKey}
+use Rattle.std.specs.Ordering.{nat_cmp}
+use Rattle.exact_algebra.specs.Fraction.{rational}
+use Rattle.exact_algebra.specs.Rational.{ℚ}
+use Rattle.frac_core.specs.declared.frac128.Frac128.{Frac128}
+use Rattle.frac_core.specs.NumberText.{number_of}
+use Rattle.frac_core.specs.declared.number_reader.NumberFault.{NumberFault}
+use Rattle.formula_grammar.specs.declared.token.Span.{Span}
+use Rattle.formula_grammar.specs.declared.token.Kind.{Kind}
+use Rattle.formula_grammar.specs.declared.token.Kind.TheVariants.{Name}
+use Rattle.formula_grammar.specs.declared.token.Token.{Token}
+use Rattle.formula_grammar.specs.declared.reading.SmoothPart.{SmoothPart}
+use Rattle.formula_grammar.specs.declared.reading.Reading.{Reading}
+use Rattle.formula_grammar.specs.declared.fault.ReadFault.TheVariants as read_fault
+use Rattle.formula_grammar.specs.Numerals.{len_of}
+use Rattle.formula_grammar.specs.Grammar.{Formula as Tree}
+use Rattle.formula_grammar.specs.Codes.{items_code, has_intercept, smooths_of}
+use Rattle.formula_grammar.specs.Faults.{IsFormula, IsFirstFault}
+use Rattle.formula_grammar.specs.Tokens.{tokens}
+use Rattle.formula_parser.specs.declared.scope.Mention.{Mention}
+use Rattle.formula_parser.specs.declared.formula.Variable.{Variable}
+use Rattle.formula_parser.specs.declared.formula.Term.{Term}
+use Rattle.formula_parser.specs.declared.formula.Smooth.{Smooth}
+use Rattle.formula_parser.specs.declared.formula.Formula.{Formula}
+use Rattle.formula_parser.specs.declared.fault.FormulaFault.{FormulaFault}
+use Rattle.formula_parser.specs.declared.fault.FormulaFault.TheVariants.{OutOfMemory, Syntax, UnknownName, TooDeep, TooManyTerms, PowerRange, NumberTooWide}
+use Rattle.formula_parser.specs.Terms.{Terms, size}
+use Rattle.formula_parser.specs.Terms.{Term as Bools}
+use Rattle.formula_parser.specs.Meaning.{items_meaning}
+use Rattle.formula_parser.specs.Stack.{run_steps}
+use Rattle.formula_parser.specs.Scope.{Text, column_at, column_of, dot_terms, name_at, named_term, other_columns, piece, variables_of}
+
+-- ---- names
+
+-- the token is a name that is no column's
+abbrev pub is_unknown : Text → List Text → Kind → Bool
+is_unknown text names (Name x) = is_none (column_of names (piece text x))
+is_unknown text names k = false
+
+-- where the first such name stands
+abbrev pub unknown_name : Text → List Text → List Token → Option ℕ
+unknown_name text names [] = None
+unknown_name text names (t ∷ ts) = if is_unknown text names t.kind then Some t.at else unknown_name text names ts
+
+-- ---- terms and smooths
+
+-- terms by number of variables; ties keep their order
+pub record IsBySize (old new : Terms) : Type 0 where
+  pub moved : IsPermutation old new
+  pub sorted : IsSortedByKey size nat_cmp new
+  pub stable : IsStableByKey size nat_cmp old new
+
+abbrev pub spoken_variable : List Text → Mention → Variable
+spoken_variable names v = record { name = name_at names v.column; as_factor = v.as_factor }
+
+-- the variables of a term, in their order
+abbrev pub members : List Mention → Bools → List Mention
+members vs t = map (λ p. p.0) (filter (λ p. p.1) (zip vs t))
+
+abbrev pub spoken_term : List Text → List Mention → Bools → Term
+spoken_term names vs t = record { variables = map (spoken_variable names) (members vs t) }
+
+-- a smooth, as its name and its number or the fault of that
+pub record NamedNumber : Type 0 where
+  pub name : Text
+  pub lambda : Result ℚ NumberFault
+
+abbrev pub exact : Frac128 → ℚ
+exact x = rational (record { num = x.num; den = x.den })
+
+abbrev pub told_smooth : Smooth → NamedNumber
+told_smooth s = record { name = s.name; lambda = Ok (exact s.lambda) }
+
+abbrev pub lambda_text : Text → SmoothPart → Text
+lambda_text text s = piece text (record { start = s.at; len = len_of s.lambda })
+
+abbrev pub meant_smooth : Text → List Text → SmoothPart → NamedNumber
+meant_smooth text names s = record {
+  name = name_at names (column_at text names s.name);
+  lambda = number_of (2 ^ 127 - 1) (lambda_text text s);
+}
+
+-- ---- the formula
+
+abbrev pub others_of : Text → List Text → Span → List ℕ
+others_of text names response = other_columns (length names) (column_at text names response)
+
+-- the variables of a formula, in the order in which they first stand in its text
+abbrev pub variables_in : Text → List Text → Tree → List Mention
+variables_in text names f = variables_of text names (others_of text names f.head.response) (items_code f.items)
+
+-- the terms of a formula, or the offset of the first operator that has too many
+abbrev pub meaning_of : Text → List Text → Tree → Result Terms ℕ
+meaning_of text names f =
+    items_meaning (named_term text names (variables_in text names f)) (dot_terms (variables_in text names f) (others_of text names f.head.response)) f.items
+
+-- the text is a formula over the columns, and this is what it says
+pub record IsParsed (text : Text) (names : List Text) (f : Formula) : Type 0 where
+  pub formula : Tree
+  pub is : IsFormula (tokens text) formula
+  pub known : unknown_name text names (tokens text) ≡ None
+  pub meaning : Terms
+  pub means : meaning_of text names formula ≡ Ok meaning
+  pub ordered : Terms
+  pub by_size : IsBySize meaning ordered
+  pub response : f.response ≡ name_at names (column_at text names formula.head.response)
+  pub intercept : f.intercept ≡ has_intercept formula.items
+  pub terms : f.terms ≡ map (spoken_term names (variables_in text names formula)) ordered
+  pub smooths : map told_smooth f.smooths ≡ map (meant_smooth text names) (smooths_of formula.items)
+
+-- the text is a formula, and this is the first name that is no column
+pub record HasUnknownName (text : Text) (names : List Text) (n : ℕ) : Type 0 where
+  pub formula : Tree
+  pub is : IsFormula (tokens text) formula
+  pub unknown : unknown_name text names (tokens text) ≡ Some n
+
+-- the text is a formula over the columns, and this is the first operator with too many terms
+pub record HasTooManyTerms (text : Text) (names : List Text) (n : ℕ) : Type 0 where
+  pub formula : Tree
+  pub is : IsFormula (tokens text) formula
+  pub known : unknown_name text names (tokens text) ≡ None
+  pub many : meaning_of text names formula ≡ Err n
+
+-- why a text is no formula: the first fault from left to right, then an unknown name, then too many terms
+abbrev pub IsFault : Text → List Text → FormulaFault → Type 0
+IsFault text names OutOfMemory = Unit {0}
+IsFault text names (Syntax n) = IsFirstFault (tokens text) (read_fault.Syntax n)
+IsFault text names (TooDeep n) = IsFirstFault (tokens text) (read_fault.TooDeep n)
+IsFault text names (PowerRange n) = IsFirstFault (tokens text) (read_fault.PowerRange n)
+IsFault text names (NumberTooWide n) = IsFirstFault (tokens text) (read_fault.NumberTooWide n)
+IsFault text names (UnknownName n) = HasUnknownName text names n
+IsFault text names (TooManyTerms n) = HasTooManyTerms text names n

@@ -1,0 +1,42 @@
+-- What the code of a formula says over the columns of a table.
+use Rattle.std.specs.Prelude.{◌≡◌, ◌^◌, ◌-◌, ℕ, List, map, length, Result, Ok, Err}
+use Rattle.std.specs.Str.{IsUtf8}
+use Rattle.std.specs.Result.{is_ok}
+use Rattle.std.specs.Prelude.{true}
+use Rattle.frac_core.specs.NumberText.{number_of}
+use Rattle.formula_grammar.specs.declared.reading.SmoothPart.{SmoothPart}
+use Rattle.formula_grammar.specs.declared.reading.Reading.{Reading}
+use Rattle.formula_parser.specs.declared.scope.Mention.{Mention}
+use Rattle.formula_parser.specs.declared.formula.Formula.{Formula}
+use Rattle.formula_parser.specs.declared.fault.FormulaFault.{FormulaFault}
+use Rattle.formula_parser.specs.declared.fault.FormulaFault.TheVariants.{OutOfMemory, TooManyTerms}
+use Rattle.formula_parser.specs.Terms.{Terms}
+use Rattle.formula_parser.specs.Stack.{run_steps}
+use Rattle.formula_parser.specs.Scope.{Text, column_at, dot_terms, name_at, named_term, variables_of}
+use Rattle.formula_parser.specs.Parsed.{IsBySize, lambda_text, meant_smooth, others_of, spoken_term, told_smooth}
+
+-- the lambda is a number that fractions of 128 bits hold
+pub record HasLambda (text : Text) (s : SmoothPart) : Type 0 where
+  pub is_text : IsUtf8 (lambda_text text s)
+  pub is_number : is_ok (number_of (2 ^ 127 - 1) (lambda_text text s)) ≡ true
+
+abbrev pub loaded_variables : Text → List Text → Reading → List Mention
+loaded_variables text names r = variables_of text names (others_of text names r.response) r.steps
+
+abbrev pub code_meaning : Text → List Text → Reading → Result Terms ℕ
+code_meaning text names r = run_steps (named_term text names (loaded_variables text names r)) (dot_terms (loaded_variables text names r) (others_of text names r.response)) r.steps
+
+pub record IsSpoken (text : Text) (names : List Text) (r : Reading) (f : Formula) : Type 0 where
+  pub meaning : Terms
+  pub means : code_meaning text names r ≡ Ok meaning
+  pub ordered : Terms
+  pub by_size : IsBySize meaning ordered
+  pub response : f.response ≡ name_at names (column_at text names r.response)
+  pub intercept : f.intercept ≡ r.intercept
+  pub terms : f.terms ≡ map (spoken_term names (loaded_variables text names r)) ordered
+  pub smooths : map told_smooth f.smooths ≡ map (meant_smooth text names) r.smooths
+
+abbrev pub IsHalted : Text → List Text → Reading → FormulaFault → Type 0
+IsHalted text names r OutOfMemory = Unit {0}
+IsHalted text names r (TooManyTerms n) = code_meaning text names r ≡ Err n
+IsHalted text names r fault = ⊥

@@ -1,0 +1,148 @@
+ghost use Rattle.std.specs.Prelude.{◌≡◌, ◌^◌, ◌-◌, All, Ok, map, IfOk};
+ghost use Rattle.frac_core.specs.NumberText.{number_of};
+ghost use Rattle.formula_parser.specs.Scope.{name_at};
+ghost use Rattle.formula_parser.specs.Parsed.{exact, is_unknown, lambda_text, meant_smooth, members, spoken_term, spoken_variable, told_smooth, unknown_name};
+ghost use Rattle.formula_parser.specs.Spoken.{HasLambda};
+
+use crate::formula::{Smooth, Term, Variable};
+use crate::scope::{Mention, column_at, column_of, piece};
+use formula_grammar::{Kind, SmoothPart, Span, Token};
+use frac_core::{Frac128, List, OutOfMemory, Text, read_number};
+use std::alloc::{AllocError, Global};
+
+fn is_unknown(text: &[u8], names: &[Text], kind: Kind) -> bool
+    ensures { result ≡ is_unknown text.now names.now kind }
+{
+    match kind {
+        Kind::Name(span) => column_of(names, piece(text, span)).is_none(),
+        _ => false,
+    }
+}
+
+/// Where the first name stands that is no column's.
+pub(crate) fn unknown_name(text: &[u8], names: &[Text], tokens: &[Token]) -> Option<u32>
+    ensures { result ≡ unknown_name text.now names.now tokens.now }
+{
+    for token in tokens {
+        if is_unknown(text, names, token.kind) {
+            return Some(token.at);
+        }
+    }
+    None
+}
+
+/// The name of a column.
+pub(crate) fn named(alloc: Global, names: &[Text], column: usize) -> Result<Text, OutOfMemory>
+    ensures { IfOk result (λ t. t ≡ name_at names.now column) }
+{
+    match names.get(column) {
+        Some(name) => Text::new(alloc, name.as_str()),
+        None => Text::new(alloc, ""),
+    }
+}
+
+// The variables of a term, in their order.
+fn members(alloc: Global, variables: &[Mention], term: &[bool]) -> Result<Vec<Mention>, AllocError>
+    ensures { IfOk result (λ v. v.items ≡ members variables.now term.now) }
+{
+    variables
+        .iter()
+        .zip(term)
+        .filter(|(_, is_in)| **is_in)
+        .map(|(one, _)| *one)
+        .collect(alloc)
+}
+
+fn spoken_variables(
+    alloc: Global,
+    names: &[Text],
+    variables: &[Mention],
+) -> Result<List<Variable>, OutOfMemory>
+    ensures { IfOk result (λ vs. vs ≡ map (spoken_variable names.now) variables.now) }
+{
+    let mut all = List::new(alloc);
+    for one in variables {
+        let variable = Variable {
+            name: named(alloc, names, one.column)?,
+            as_factor: one.as_factor,
+        };
+        match all.push(variable) {
+            Ok(()) => {}
+            Err(_) => return Err(OutOfMemory),
+        }
+    }
+    Ok(all)
+}
+
+fn spoken_term(
+    alloc: Global,
+    names: &[Text],
+    variables: &[Mention],
+    term: &[bool],
+) -> Result<Term, OutOfMemory>
+    ensures { IfOk result (λ t. t ≡ spoken_term names.now variables.now term.now) }
+{
+    match members(alloc, variables, term) {
+        Err(_) => Err(OutOfMemory),
+        Ok(members) => Ok(Term {
+            variables: spoken_variables(alloc, names, members.as_slice())?,
+        }),
+    }
+}
+
+/// Terms by the names of their variables.
+pub(crate) fn spoken_terms(
+    alloc: Global,
+    names: &[Text],
+    variables: &[Mention],
+    terms: &[List<bool>],
+) -> Result<List<Term>, OutOfMemory>
+    ensures { IfOk result (λ ts. ts ≡ map (spoken_term names.now variables.now) terms.now) }
+{
+    let mut all = List::new(alloc);
+    for term in terms {
+        match all.push(spoken_term(alloc, names, variables, term.as_slice())?) {
+            Ok(()) => {}
+            Err(_) => return Err(OutOfMemory),
+        }
+    }
+    Ok(all)
+}
+
+fn lambda_of(text: &[u8], part: SmoothPart) -> Frac128
+    requires { HasLambda text.now part }
+    ensures { number_of (2 ^ 127 - 1) (lambda_text text.now part) ≡ Ok (exact result) }
+{
+    let span = Span {
+        start: part.at,
+        len: part.lambda.len(),
+    };
+    match std::str::from_utf8(piece(text, span)) {
+        Ok(number) => read_number(number).unwrap(),
+        Err(_) => unreachable!(),
+    }
+}
+
+/// Smooths by the names of their columns, with the values of their lambdas.
+pub(crate) fn spoken_smooths(
+    alloc: Global,
+    text: &[u8],
+    names: &[Text],
+    parts: &[SmoothPart],
+) -> Result<List<Smooth>, OutOfMemory>
+    requires { All (HasLambda text.now) parts.now }
+    ensures { IfOk result (λ ss. map told_smooth ss ≡ map (meant_smooth text.now names.now) parts.now) }
+{
+    let mut all = List::new(alloc);
+    for part in parts {
+        let smooth = Smooth {
+            name: named(alloc, names, column_at(text, names, part.name))?,
+            lambda: lambda_of(text, *part),
+        };
+        match all.push(smooth) {
+            Ok(()) => {}
+            Err(_) => return Err(OutOfMemory),
+        }
+    }
+    Ok(all)
+}
