@@ -1,0 +1,40 @@
+-- The first answer that a function gives along a list.
+use Rattle.std.proofs.Common.{◌≡◌, ◌<◌, ◌≤◌, ℕ, suc, ◌+◌, List, [], ◌∷◌, ◌++◌, Option, Some, None, length, map, take, drop, get_or, refl, sym, ap, ◌∙◌, take_all}
+use Rattle.std.specs.Option.{option_or}
+use Rattle.design_matrix.specs.Lists.{first_some}
+use Rattle.design_matrix.proofs.Puts.{around, first_item}
+
+or_assoc : {B : Type 0} (a b c : Option B) → option_or a (option_or b c) ≡ option_or (option_or a b) c
+or_assoc None b c = refl
+or_assoc (Some x) b c = refl
+
+first-append : {A B : Type 0} (f : A → Option B) (xs ys : List A) → first_some f (xs ++ ys) ≡ option_or (first_some f xs) (first_some f ys)
+first-append f [] ys = refl
+first-append f (x ∷ xs) ys = ap (λ o. option_or (f x) o) (first-append f xs ys) ∙ or_assoc (f x) (first_some f xs) (first_some f ys)
+
+pub first_more : {X A B : Type 0} (f : A → Option B) (told : X → A) (xs : List X) (i : ℕ) (x : X) → i < length xs → x ≡ get_or xs i x
+    → first_some f (map told (take i xs)) ≡ None → f (told x) ≡ None → first_some f (map told (take (i + 1) xs)) ≡ None
+first_more f told xs i x h e p q =
+    ap (λ l. first_some f l) (first_item told xs i x h e)
+    ∙ first-append f (map told (take i xs)) (told x ∷ [])
+    ∙ ap (λ o. option_or o (option_or (f (told x)) None)) p
+    ∙ ap (λ o. option_or o None) q
+
+pub first_found : {X A B : Type 0} (f : A → Option B) (told : X → A) (xs : List X) (i : ℕ) (x : X) (found : B) → i < length xs → x ≡ get_or xs i x
+    → first_some f (map told (take i xs)) ≡ None → f (told x) ≡ Some found → first_some f (map told xs) ≡ Some found
+first_found f told xs i x found h e p q =
+    ap (λ l. first_some f l) (around told xs i x h e)
+    ∙ first-append f (map told (take i xs)) (told x ∷ map told (drop (suc i) xs))
+    ∙ ap (λ o. option_or o (option_or (f (told x)) (first_some f (map told (drop (suc i) xs))))) p
+    ∙ ap (λ o. option_or o (first_some f (map told (drop (suc i) xs)))) q
+
+pub first_all : {X A B : Type 0} (f : A → Option B) (told : X → A) (xs : List X) (i : ℕ) → length xs ≤ i
+    → first_some f (map told (take i xs)) ≡ None → first_some f (map told xs) ≡ None
+first_all f told xs i h p = ap (λ l. first_some f (map told l)) (sym (take_all i xs h)) ∙ p
+
+-- of two answers the first that there is
+pub or_first : {B : Type 0} (a b : Option B) (x : B) → a ≡ Some x → option_or a b ≡ Some x
+or_first a b x e = ap (λ o. option_or o b) e
+
+pub or_second : {B : Type 0} (a b c : Option B) → a ≡ None → b ≡ c → option_or a b ≡ c
+or_second a b c e f = ap (λ o. option_or o b) e ∙ f

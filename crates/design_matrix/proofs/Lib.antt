@@ -1,0 +1,11 @@
+pub mod Puts
+pub mod Steps
+pub mod Bounds
+pub mod Same
+pub mod Counts
+pub mod Products
+pub mod Firsts
+pub mod Overflows
+pub mod Usable
+pub mod Lengths
+pub mod Building

@@ -1,0 +1,66 @@
+-- Products with one more factor.
+use Rattle.std.proofs.Common.{◌≡◌, ◌<◌, ◌≤◌, ℕ, zero, suc, ◌+◌, List, [], ◌∷◌, ◌++◌, length, map, take, pos, refl, sym, ap, ap₂, ◌∙◌, arith, subst, get_or, Bool, true, false, leb, leb-true, leb-false, ◌^◌, ◌-◌}
+use Rattle.std.proofs.lemmas.List.{get_or-map, length-map, take_more}
+use Rattle.exact_algebra.specs.Rational.{ℚ, ◌*ℚ◌, whole}
+use Rattle.frac_core.specs.declared.frac128.Frac128.{Frac128}
+use Rattle.data_frame.specs.Views.{exact}
+use Rattle.design_matrix.specs.Products.{Fits, IsValue, OverflowsAt, SpillsAt, product, product_onto}
+use Rattle.frac_core.specs.Overflow.{Overflows}
+use Rattle.frac_core.specs.declared.exact.OpKind.TheVariants.{Mul}
+use Rattle.loss_model.specs.declared.spill.Site.{Site}
+use Rattle.loss_model.specs.declared.spill.Spill.{Spill}
+use Rattle.design_matrix.proofs.Steps.{map_map}
+
+onto_push : (x : ℚ) (ys : List ℚ) (y : ℚ) → product_onto x (ys ++ (y ∷ [])) ≡ product_onto x ys *ℚ y
+onto_push x [] y = refl
+onto_push x (z ∷ zs) y = onto_push (x *ℚ z) zs y
+
+pub product_more : (xs : List ℚ) (i : ℕ) (d : ℚ) → i < length xs → product (take (i + 1) xs) ≡ product (take i xs) *ℚ get_or xs i d
+product_more xs i d h = ap product (take_more xs i d h) ∙ onto_push (whole (pos 1)) (take i xs) (get_or xs i d)
+
+-- the products of at most i factors are values
+abbrev pub FitsUpTo : List ℚ → ℕ → Type 0
+FitsUpTo xs i = (t : ℕ) → t ≤ i → IsValue (product (take t xs))
+
+pub fits_none : (xs : List ℚ) (one : Frac128) → exact one ≡ whole (pos 1) → FitsUpTo xs 0
+fits_none xs one e t h = (one, e ∙ ap (λ n. product (take n xs)) (let z : 0 ≡ t = omega arith in z))
+
+pub fits_more : (xs : List ℚ) (i : ℕ) (v : Frac128) → exact v ≡ product (take (i + 1) xs) → FitsUpTo xs i → FitsUpTo xs (i + 1)
+fits_more xs i v e f t h = at (leb t i) refl
+  where
+    at : (b : Bool) → leb t i ≡ b → IsValue (product (take t xs))
+    at true q = f t (leb-true t i q)
+    at false q = let k : i < t = leb-false t i q in (v, e ∙ ap (λ n. product (take n xs)) (let z : i + 1 ≡ t = omega arith in z))
+
+factor_at : {X Y : Type 0} (told : X → Y) (h : Y → ℚ) (ps : List X) (i : ℕ) (p : X) (d : ℚ) → i < length ps → p ≡ get_or ps i p
+    → get_or (map h (map told ps)) i d ≡ h (told p)
+factor_at told h ps i p d k e =
+    ap (λ l. get_or l i d) (map_map h told ps)
+    ∙ get_or-map (λ x. h (told x)) ps i p d k
+    ∙ ap (λ x. h (told x)) (sym e)
+
+pub length_maps : {X Y : Type 0} (told : X → Y) (h : Y → ℚ) (ps : List X) → length (map h (map told ps)) ≡ length ps
+length_maps told h ps = length-map (map told ps) h ∙ length-map ps told
+
+pub product_step : {X Y : Type 0} (told : X → Y) (h : Y → ℚ) (ps : List X) (i : ℕ) (p : X) (old new factor : ℚ) → i < length ps → p ≡ get_or ps i p
+    → old ≡ product (take i (map h (map told ps))) → factor ≡ h (told p) → new ≡ old *ℚ factor → new ≡ product (take (i + 1) (map h (map told ps)))
+product_step told h ps i p old new factor k e f g q =
+    q
+    ∙ ap (λ x. x *ℚ factor) f
+    ∙ ap (λ x. product (take i (map h (map told ps))) *ℚ x) (g ∙ sym (factor_at told h ps i p factor k e))
+    ∙ sym (product_more (map h (map told ps)) i factor (let n : length (map h (map told ps)) ≡ length ps = length_maps told h ps in omega arith))
+
+pub spilt : {X Y : Type 0} (told : X → Y) (h : Y → ℚ) (ps : List X) (i : ℕ) (p : X) (site : Site) (left right : Frac128) (s : Spill Frac128)
+    → site.term ≡ i → i < length ps → p ≡ get_or ps i p → exact left ≡ product (take i (map h (map told ps))) → exact right ≡ h (told p)
+    → SpillsAt site left right s → OverflowsAt (map h (map told ps)) i s.left s.right
+spilt told h ps i p site left right s n k e f g o =
+    let P : Spill Frac128 → Type 0 = λ z. Overflows (2 ^ 127 - 1) Mul (record { num = z.left.num; den = z.left.den }) (record { num = z.right.num; den = z.right.den }) in
+    let m : length (map h (map told ps)) ≡ length ps = length_maps told h ps in
+    let one : 1 ≤ site.term = o.some in
+    record {
+      some = omega arith;
+      more = omega arith;
+      left_is = ap (λ z. exact z.left) o.is ∙ f;
+      right_is = ap (λ z. exact z.right) o.is ∙ g ∙ sym (factor_at told h ps i p (whole (pos 0)) k e);
+      overflows = subst P (sym o.is) o.overflows;
+    }

@@ -1,0 +1,35 @@
+use Rattle.std.proofs.Common.{◌≡◌, ◌≤◌, ap, arith, length, map, pos, refl, slice_index_or}
+use Rattle.exact_algebra.specs.Rational.{whole}
+use Rattle.design_matrix.specs.Parts.{factors}
+use Rattle.design_matrix.specs.Views.{part_seen}
+use Rattle.design_matrix.proofs.Products.{fits_more, fits_none, length_maps, product_step, spilt}
+use Rattle.design_matrix.proofs.rows.product_of.Goals as goal
+
+pub loop-term-init : goal.loop-term-init
+loop-term-init c = record {
+  value = c.one-product.ensures;
+  fits = fits_none (factors (map part_seen c.args.parts.now) c.args.place) c.one-product.result c.one-product.ensures;
+}
+
+pub loop-term-preserved : goal.loop-term-preserved
+loop-term-preserved c =
+    let value = product_step part_seen (λ p. slice_index_or p.entries c.args.place (whole (pos 0))) c.args.parts.now _ _ _ _ _
+      c.loop-term-test.true c.index-parts-term.is c.loop-term.invariant.value c.entry.ensures c.in-Ok.ensures.exact in
+    record {
+      value = value;
+      fits = fits_more (factors (map part_seen c.args.parts.now) c.args.place) _ c.in-Ok.next value c.loop-term.invariant.fits;
+    }
+
+pub returns-in-Err-clause-spill : goal.returns-in-Err-clause-spill
+returns-in-Err-clause-spill c = record {
+  term = c.loop-term.term;
+  site = ap (λ z. z.site) c.in-Err.ensures.spill.is;
+  overflows = spilt part_seen (λ p. slice_index_or p.entries c.args.place (whole (pos 0))) c.args.parts.now _ _ _ _ _ _
+    refl c.loop-term-test.true c.index-parts-term.is c.loop-term.invariant.value c.entry.ensures c.in-Err.ensures.spill;
+}
+
+pub returns-clause-fits : goal.returns-clause-fits
+returns-clause-fits c t h =
+    let n : length (factors (map part_seen c.args.parts.now) c.args.place) ≡ length c.args.parts.now =
+    length_maps part_seen (λ p. slice_index_or p.entries c.args.place (whole (pos 0))) c.args.parts.now in
+    c.loop-term.invariant.fits t (omega arith)

@@ -1,0 +1,93 @@
+-- Why a table and a formula have no design: the faults in the order in which they are looked for.
+use Rattle.std.specs.Prelude.{◌≡◌, ◌⊎◌, ◌==◌, ◌&&◌, ℕ, not, Bool, List, [], ◌∷◌, Option, Some, None, length, nat_lt, if◌then◌else◌}
+use Rattle.std.specs.Option.{option_or}
+use Rattle.contrasts.specs.declared.Coding.{Coding}
+use Rattle.frac_core.specs.declared.frac128.Frac128.{Frac128}
+use Rattle.loss_model.specs.declared.spill.Spill.{Spill}
+use Rattle.data_frame.specs.Cells.{numbers, factor, too_wide}
+use Rattle.data_frame.specs.Records.{Text}
+use Rattle.formula_parser.specs.declared.formula.Formula.{Formula}
+use Rattle.design_matrix.specs.declared.design.Design.{Design}
+use Rattle.design_matrix.specs.declared.fault.DesignFault.{DesignFault}
+use Rattle.design_matrix.specs.declared.fault.DesignFault.TheVariants.{OutOfMemory, ResponseNotNumeric, NumberTooWide, NoRows, OneLevel, NoColumns, TooManyColumns, Overflow}
+use Rattle.design_matrix.specs.Cells.{Column, Table, column_of, kept, used_names}
+use Rattle.design_matrix.specs.Coded.{Coded, coded_terms, is_text, width}
+use Rattle.design_matrix.specs.Designs.{AllFit, DesignOf, OverflowsFirst, design_of, exact_design}
+use Rattle.design_matrix.specs.Lists.{first_some}
+use Rattle.design_matrix.specs.Parts.{columns_of}
+
+abbrev pub response_fault : Column → Option DesignFault
+response_fault column = if is_text column then Some ResponseNotNumeric else None
+
+abbrev pub wide_fault : Text → Column → Option DesignFault
+wide_fault name (numbers cells) = None
+wide_fault name (factor cells) = None
+wide_fault name (too_wide rec) = Some (NumberTooWide rec name)
+
+-- the first of these columns with a number that is too wide
+unfoldable pub widths_fault : Table → List Text → Option DesignFault
+widths_fault table names = first_some (λ name. wide_fault name (column_of table name)) names
+
+abbrev pub rows_fault : List ℕ → Option DesignFault
+rows_fault records = if length records == 0 then Some NoRows else None
+
+-- a variable without a column: a factor of one level that is coded by contrasts
+abbrev pub level_fault : Coded → Option DesignFault
+level_fault v = if width v == 0 then Some (OneLevel v.name) else None
+
+-- the first such variable, by terms and then by variables
+unfoldable pub levels_fault : List Coded → Option DesignFault
+levels_fault vs = first_some level_fault vs
+
+unfoldable pub terms_fault : List (List Coded) → Option DesignFault
+terms_fault terms = first_some levels_fault terms
+
+-- there is neither intercept nor terms nor smooths
+abbrev pub lacks_columns : Formula → Bool
+lacks_columns model = not model.intercept && ((length model.terms == 0) && (length model.smooths == 0))
+
+abbrev pub empty_fault : Formula → Option DesignFault
+empty_fault model = if lacks_columns model then Some NoColumns else None
+
+abbrev pub columns_fault : ℕ → Option DesignFault
+columns_fault columns = if nat_lt 128 columns then Some TooManyColumns else None
+
+-- the first fault of the columns
+unfoldable pub late_fault : Table → Formula → Coding → Option DesignFault
+late_fault table model coding =
+    option_or (terms_fault (coded_terms table model coding))
+    (option_or (empty_fault model) (columns_fault (length (columns_of table model coding))))
+
+-- the first fault but for products that overflow
+unfoldable pub fault_of : Table → Formula → Coding → Option DesignFault
+fault_of table model coding =
+    option_or (response_fault (column_of table model.response))
+    (option_or (widths_fault table (used_names model)) (option_or (rows_fault (kept table model)) (late_fault table model coding)))
+
+-- a product overflows: the first by record, by column and by the number of its factors
+pub record IsOverflow (table : Table) (model : Formula) (coding : Coding) (fault : DesignFault) : Type 0 where
+  pub spill : Spill Frac128
+  pub is : fault ≡ Overflow spill
+  pub first : OverflowsFirst (columns_of table model coding) (kept table model) spill
+
+-- the design is that of the table and the formula, and no product overflows
+pub record HasDesign (table : Table) (model : Formula) (coding : Coding) (design : Design) : Type 0 where
+  pub exact : exact_design design ≡ design_of table model coding
+  pub fits : AllFit (columns_of table model coding) (kept table model)
+
+-- and nothing is wrong with these
+pub record IsDesign (table : Table) (model : Formula) (coding : Coding) (design : Design) : Type 0 where
+  pub sound : fault_of table model coding ≡ None
+  pub design_is : HasDesign table model coding design
+
+-- Why there is no design. Want of memory has no cause here; an overflow is looked for last.
+abbrev pub HasCause : Table → Formula → Coding → DesignFault → Type 0
+HasCause table model coding fault =
+    (fault ≡ OutOfMemory)
+    ⊎ ((fault_of table model coding ≡ Some fault) ⊎ ((fault_of table model coding ≡ None) × IsOverflow table model coding fault))
+
+-- the same where the faults before those of the columns are ruled out
+abbrev pub HasLateCause : Table → Formula → Coding → DesignFault → Type 0
+HasLateCause table model coding fault =
+    (fault ≡ OutOfMemory)
+    ⊎ ((late_fault table model coding ≡ Some fault) ⊎ ((late_fault table model coding ≡ None) × IsOverflow table model coding fault))

@@ -1,0 +1,10 @@
+pub mod Lists
+pub mod Cells
+pub mod Levels
+pub mod Coded
+pub mod Parts
+pub mod Products
+pub mod Designs
+pub mod Faults
+pub mod Views
+pub mod Widths

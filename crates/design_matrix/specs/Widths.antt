@@ -1,0 +1,20 @@
+-- How many columns and levels a variable has that the code holds.
+use Rattle.std.specs.Prelude.{◌≤◌, ℕ, length}
+use Rattle.contrasts.specs.declared.Coding.{Coding}
+use Rattle.contrasts.specs.Coding.{width_of}
+use Rattle.design_matrix.specs.declared.coded.Coded.{Coded}
+use Rattle.design_matrix.specs.declared.coded.Values.{Values}
+use Rattle.design_matrix.specs.declared.coded.Values.TheVariants.{Numbers, Levels}
+
+abbrev pub levels_held : Values → ℕ
+levels_held (Numbers cells records) = 0
+levels_held (Levels levels) = length levels.texts.items
+
+abbrev pub width_held : Coding → Values → ℕ
+width_held coding (Numbers cells records) = 1
+width_held coding (Levels levels) = width_of coding (length levels.texts.items)
+
+-- a variable has a column, and not too many levels for a coding's table
+pub record IsUsable (v : Coded) : Type 0 where
+  pub some : 1 ≤ width_held v.coding v.values
+  pub few : levels_held v.values ≤ 16384

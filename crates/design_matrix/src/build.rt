@@ -1,0 +1,152 @@
+ghost use Rattle.std.specs.Prelude.{◌≡◌, ◌≤◌, ◌<◌, ◌+◌, ◌^◌, ◌⊎◌, None, All, IfErr, IfOk, IsNone, OnOk, length, map};
+ghost use Rattle.data_frame.specs.Views.{lent_column};
+ghost use Rattle.design_matrix.specs.Cells.{column_of, kept};
+ghost use Rattle.design_matrix.specs.Coded.{coded_terms};
+ghost use Rattle.design_matrix.specs.Faults.{HasCause, HasDesign, HasLateCause, IsDesign, IsOverflow, lacks_columns, late_fault};
+ghost use Rattle.design_matrix.specs.Parts.{column_name, columns_in};
+ghost use Rattle.design_matrix.specs.Views.{columns_seen, terms_seen};
+ghost use Rattle.design_matrix.specs.Widths.{IsUsable};
+
+use crate::cells::{column, kept_records};
+use crate::checks::check_terms;
+use crate::coded::{Coded, Coder, is_text};
+use crate::part::Part;
+use crate::parts::{column_count, design_columns, name_of};
+use crate::rows::design_rows;
+use crate::used::{names_used, used_columns};
+use crate::{Design, DesignFault};
+use contrasts::Coding;
+use data_frame::{Column, Frame};
+use formula_parser::Formula;
+use frac_core::{List, Text};
+use std::alloc::{AllocError, Global};
+
+// What the columns are called.
+fn names_of(alloc: Global, columns: &[Vec<Part<'_, '_>>]) -> Result<Vec<Text>, AllocError>
+    ensures { IfOk result (λ names. names.items ≡ map column_name (columns_seen columns.now)) }
+{
+    let mut names = Vec::with_capacity(alloc, columns.len())?;
+    for parts in columns {
+        names.push(name_of(alloc, parts)?)?;
+    }
+    Ok(names)
+}
+
+// Whether a formula has neither intercept nor terms nor smooths.
+fn has_no_columns(model: &Formula) -> bool
+    ensures { result ≡ lacks_columns model.now }
+{
+    if model.intercept {
+        return false;
+    }
+    if !model.terms.as_slice().is_empty() {
+        return false;
+    }
+    model.smooths.as_slice().is_empty()
+}
+
+// The design of coded terms.
+fn design_from(
+    alloc: Global,
+    coder: &Coder<'_>,
+    response: &Column<'_>,
+    terms: &[Vec<Coded<'_>>],
+) -> Result<Design, DesignFault>
+    requires kept { coder.now.records.now ≡ kept coder.now.frame.now coder.now.model.now }
+    requires numbered { All (λ i. i + 1 < 2 ^ 32) coder.now.records.now }
+    requires fewer { length coder.now.records.now ≤ coder.now.frame.now.records }
+    requires counted { coder.now.frame.now.records < 2 ^ 32 }
+    requires response { lent_column response.now ≡ column_of coder.now.frame.now coder.now.model.now.response }
+    requires coded { terms_seen terms.now ≡ coded_terms coder.now.frame.now coder.now.model.now coder.now.contrasts }
+    requires usable { All (λ vs. All IsUsable vs.items) terms.now }
+    requires few { length (columns_in coder.now.model.now.intercept (terms_seen terms.now)) ≤ 128 }
+    requires short { All (λ vs. length vs.items < 2 ^ 32) terms.now }
+    ensures design { IfOk result (HasDesign coder.now.frame.now coder.now.model.now coder.now.contrasts) }
+    ensures fault { IfErr result (λ e. (e ≡ DesignFault.OutOfMemory)
+        ⊎ IsOverflow coder.now.frame.now coder.now.model.now coder.now.contrasts e) }
+{
+    let columns = design_columns(alloc, coder.model.intercept, terms)?;
+    let names = names_of(alloc, &columns)?;
+    let rows = design_rows(alloc, response, &columns, coder.records)?;
+    let dropped = coder.frame.records() - coder.records.len() as u32;
+    Ok(Design {
+        names: List::from(names),
+        rows: List::from(rows),
+        dropped,
+    })
+}
+
+// The design of the records that a coder keeps.
+fn build_kept(
+    alloc: Global,
+    coder: &Coder<'_>,
+    response: &Column<'_>,
+) -> Result<Design, DesignFault>
+    requires kept { coder.now.records.now ≡ kept coder.now.frame.now coder.now.model.now }
+    requires numbered { All (λ i. i + 1 < 2 ^ 32) coder.now.records.now }
+    requires fewer { length coder.now.records.now ≤ coder.now.frame.now.records }
+    requires counted { coder.now.frame.now.records < 2 ^ 32 }
+    requires response { lent_column response.now ≡ column_of coder.now.frame.now coder.now.model.now.response }
+    requires short { All (λ t. length t.variables < 2 ^ 32) coder.now.model.now.terms }
+    ensures sound { OnOk result (late_fault coder.now.frame.now coder.now.model.now coder.now.contrasts ≡ None) }
+    ensures design { IfOk result (HasDesign coder.now.frame.now coder.now.model.now coder.now.contrasts) }
+    ensures fault { IfErr result (HasLateCause coder.now.frame.now coder.now.model.now coder.now.contrasts) }
+{
+    let terms = coder.terms(alloc)?;
+    check_terms(alloc, &terms)?;
+    if has_no_columns(coder.model) {
+        return Err(DesignFault::NoColumns);
+    }
+    let count = column_count(coder.model.intercept, &terms);
+    if count > 128 {
+        return Err(DesignFault::TooManyColumns);
+    }
+    match design_from(alloc, coder, response, &terms) {
+        Ok(design) => Ok(design),
+        Err(fault) => Err(fault),
+    }
+}
+
+/// Makes the design of a table by a formula.
+///
+/// Want of memory may come at any step. Each other fault comes exactly where it is the first, in the
+/// order of `DesignFault`; an overflow is that of the first product by record, then by column, and
+/// then by the number of its factors. The table and the formula have a design exactly where none
+/// comes.
+///
+/// There are no weights: each is 1. A name in the formula that is no column of the table counts as a
+/// factor whose cells are all missing.
+pub fn build(
+    alloc: Global,
+    frame: &Frame,
+    model: &Formula,
+    coding: Coding,
+    weights: Option<&str>,
+) -> Result<Design, DesignFault>
+    requires unweighted { IsNone weights }
+    requires short { All (λ t. length t.variables < 2 ^ 32) model.now.terms }
+    ensures design { IfOk result (IsDesign frame.now model.now coding) }
+    ensures fault { IfErr result (HasCause frame.now model.now coding) }
+{
+    let response = column(frame, model.response.as_str());
+    if is_text(&response) {
+        return Err(DesignFault::ResponseNotNumeric);
+    }
+    let names = names_used(alloc, model)?;
+    let columns = used_columns(alloc, frame, &names)?;
+    let records = kept_records(alloc, &columns, frame.records())?;
+    let kept = records.as_slice();
+    if kept.is_empty() {
+        return Err(DesignFault::NoRows);
+    }
+    let coder = Coder {
+        frame,
+        model,
+        contrasts: coding,
+        records: kept,
+    };
+    match build_kept(alloc, &coder, &response) {
+        Ok(design) => Ok(design),
+        Err(fault) => Err(fault),
+    }
+}

@@ -1,0 +1,13 @@
+ghost use Rattle.std.specs.Prelude.{◌<◌, ◌≤◌};
+ghost use Rattle.design_matrix.specs.Widths.{levels_held, width_held};
+
+use crate::coded::Coded;
+
+/// One of a variable's columns.
+#[derive(Clone, Copy)]
+pub(crate) struct Part<'b, 'a> {
+    pub(crate) variable: &'b Coded<'a>,
+    pub(crate) column: u32,
+    ghost there: { column < width_held variable.now.coding variable.now.values },
+    ghost few: { levels_held variable.now.values ≤ 16384 },
+}
