@@ -1,0 +1,24 @@
+use frac_core::{Frac128, List, Text};
+
+/// A kept record as a row of a regression.
+#[derive(Drop)]
+pub struct DesignRow {
+    /// The record's number in the table, from 1.
+    pub rec: u32,
+    /// An entry for each column of the design.
+    pub x: List<Frac128>,
+    /// The response.
+    pub y: Frac128,
+    /// The weight, which is above 0.
+    pub weight: Frac128,
+}
+
+/// The design of a formula: what its columns are called, and a row for each record that is kept.
+#[derive(Drop)]
+pub struct Design {
+    pub names: List<Text>,
+    /// The rows, in the order of their records.
+    pub rows: List<DesignRow>,
+    /// How many records aren't kept.
+    pub dropped: u32,
+}
