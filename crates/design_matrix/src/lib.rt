@@ -1,4 +1,26 @@
 //! Designs: the rows of a regression from a table and a formula.
+//!
+//! The columns that a formula uses are its response, those of its variables and those of its
+//! smooths. A record is kept where none of their cells is missing, and gives a row. A variable is a
+//! factor where its column is, or where `factor` was written; its levels are the distinct cells of
+//! the kept records, by bytes, or by value in a column of numbers.
+//!
+//! A factor is coded by contrasts where the model has the columns that those of its levels add up
+//! to, and else by an indicator for each level. These are: for a factor that is a whole term the
+//! intercept, or the columns of an earlier term that is a factor; in a longer term the columns of
+//! the term without it. So a model without an intercept has indicators for its first factor. R asks
+//! of a longer term whether it contains an earlier one instead.
+//!
+//! The columns are `(Intercept)` where it is there, and then those of each term: one for each choice
+//! of a column of each of its variables, those of the first variable varying fastest. Their entries
+//! are products from the left, and their names are joined by `:`.
+//!
+//! The crate's one contract: `build` gives the design that `specs/Designs.antt` defines, with the
+//! coding rule of `specs/Coded.antt` and the columns of `specs/Parts.antt`, or the first fault by
+//! `specs/Faults.antt`.
+//!
+//! It stands on `data_frame` for tables, on `formula_parser` for formulas, on `contrasts` for
+//! codings, and on `loss_model` for the place of an operation that overflows.
 #![tactic(auto)]
 
 mod build;
@@ -13,5 +35,9 @@ mod parts;
 mod rows;
 mod used;
 
+pub use build::build;
 pub use design::{Design, DesignRow};
 pub use fault::DesignFault;
+
+#[cfg(test)]
+mod tests;
