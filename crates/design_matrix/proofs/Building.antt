@@ -34,9 +34,9 @@ unfolding design_of
 made_is table model coding columns records response d p q r e f g =
     let names = e ∙ ap (map column_name) p in
     let rows = f
-      ∙ ap (λ x. each (row_of x columns) 0 records) r
-      ∙ ap (λ x. each (row_of (column_of table model.response) x) 0 records) p
-      ∙ ap (λ x. each (row_of (column_of table model.response) (columns_of table model coding)) 0 x) q in
+    ∙ ap (λ x. each (row_of x columns) 0 records) r
+    ∙ ap (λ x. each (row_of (column_of table model.response) x) 0 records) p
+    ∙ ap (λ x. each (row_of (column_of table model.response) (columns_of table model coding)) 0 x) q in
     let dropped = g ∙ ap (λ x. table.records - length x) q in
     λ i. record { names = names i; rows = rows i; dropped = dropped i }
 

@@ -160,9 +160,7 @@ fn is_in_model(terms: &[Term], whole: &[Variable], place: usize) -> bool
     requires { place < length whole.now }
     ensures { result ≡ is_in_model terms.now (without place whole.now) }
 {
-    terms
-        .iter()
-        .any(|term| are_without(whole, place, term.variables.as_slice()))
+    terms.iter().any(|term| are_without(whole, place, term.variables.as_slice()))
 }
 
 /// What the coding of a term depends on.
@@ -255,7 +253,7 @@ impl<'a> Coder<'a> {
         requires short { All (λ t. length t.variables < 2 ^ 32) self.now.model.now.terms }
         ensures coded { IfOk result (λ ts. map (λ vs. map coded_seen vs.items) ts.items
             ≡ each (coded_term self.now.frame.now self.now.model.now self.now.contrasts self.now.records.now)
-                0 self.now.model.now.terms) }
+            0 self.now.model.now.terms) }
         ensures short { IfOk result (λ ts. All (λ vs. length vs.items < 2 ^ 32) ts.items) }
     {
         let terms = self.model.terms.as_slice();

@@ -23,7 +23,7 @@
 //! codings, and on `loss_model` for the place of an operation that overflows.
 #![tactic(auto)]
 
-mod build;
+mod builder;
 mod cells;
 mod checks;
 mod coded;
@@ -35,7 +35,7 @@ mod parts;
 mod rows;
 mod used;
 
-pub use build::build;
+pub use builder::build;
 pub use design::{Design, DesignRow};
 pub use fault::DesignFault;
 

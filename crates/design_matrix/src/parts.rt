@@ -52,7 +52,13 @@ impl Part<'_, '_> {
         let labelled = match &self.variable.values {
             Values::Numbers(..) => Text::new(alloc, name),
             Values::Levels(levels) => {
-                contrasts::label(alloc, self.variable.coding, &levels.texts, name, self.column)
+                contrasts::label(
+                    alloc,
+                    self.variable.coding,
+                    &levels.texts,
+                    name,
+                    self.column,
+                )
             }
         };
         match labelled {

@@ -20,11 +20,7 @@ use loss_model::{Quantity, Site, Spill, times_at};
 use std::alloc::Global;
 
 // A product with one more factor; a single factor takes no operation.
-fn next_product(
-    site: Site,
-    product: Frac128,
-    factor: Frac128,
-) -> Result<Frac128, Spill<Frac128>>
+fn next_product(site: Site, product: Frac128, factor: Frac128) -> Result<Frac128, Spill<Frac128>>
     requires { site.term ≡ 0 → exact product ≡ whole (pos 1) }
     ensures exact { IfOk result (λ v. exact v ≡ exact product *ℚ exact factor) }
     ensures spill { IfErr result (λ s. SpillsAt site product factor s) }

@@ -9,8 +9,8 @@ pub loop-index-preserved : goal.loop-index-preserved
 loop-index-preserved c =
     let complete = list_all-map lent_column (λ column. is_present column c.loop-index.index) c.args.columns.now ∙ sym c.is_whole.ensures in
     elim c.if-is_whole.branch [
-      then-is_whole+in_ok-push w ↦ keeps (is_complete (map lent_column c.args.columns.now)) _ _ _ c.loop-index.invariant
-        (ap (λ v. v.items) w.kept-is ∙ w.in_ok-push.ensures.items) (complete ∙ w.if-is_whole.true)
+      | then-is_whole+in_ok-push w ↦ keeps (is_complete (map lent_column c.args.columns.now)) _ _ _ c.loop-index.invariant
+          (ap (λ v. v.items) w.kept-is ∙ w.in_ok-push.ensures.items) (complete ∙ w.if-is_whole.true)
       | else-is_whole w ↦ passes_over (is_complete (map lent_column c.args.columns.now)) _ _ _ c.loop-index.invariant
-        (ap (λ v. v.items) w.kept-is) (complete ∙ w.if-is_whole.false)
+          (ap (λ v. v.items) w.kept-is) (complete ∙ w.if-is_whole.false)
     ]

@@ -12,7 +12,7 @@ returns-in_err-check_variables-clause-fault c =
     rw (p.1, p.2) (elim c.in_err-check_variables.ensures.fault [
       | inl memory ↦ inl memory
       | inr fault ↦ inr (first_found levels_fault (λ vs. map coded_seen vs.items) _ _ _ _ c.loop-term-test.true c.term-item.is c.loop-term.invariant
-        (ap (λ l. levels_fault (map coded_seen l)) (sym c.deref.ensures.value) ∙ fault))
+          (ap (λ l. levels_fault (map coded_seen l)) (sym c.deref.ensures.value) ∙ fault))
     ])
 
 pub loop-term-preserved : goal.loop-term-preserved

@@ -9,7 +9,7 @@ use Rattle.design_matrix.proofs.parts.design_columns.Goals as goal
 pub loop-term-preserved : goal.loop-term-preserved
 loop-term-preserved c = record {
   made = flat_told (λ vs. map coded_seen vs.items) term_columns (columns_in c.args.intercept []) _ _ _ _ _ c.loop-term-test.true c.term-item.is c.loop-term.invariant.made
-    (c.in_ok-push_columns.ensures.columns ∙ ap (λ l. columns_seen c.loop-term.columns.items ++ term_columns (map coded_seen l)) c.deref.ensures.value);
+      (c.in_ok-push_columns.ensures.columns ∙ ap (λ l. columns_seen c.loop-term.columns.items ++ term_columns (map coded_seen l)) c.deref.ensures.value);
   short = c.in_ok-push_columns.ensures.short;
 }
 

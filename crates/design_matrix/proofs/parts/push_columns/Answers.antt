@@ -9,7 +9,7 @@ use Rattle.design_matrix.proofs.parts.push_columns.Goals as goal
 pub loop-number-preserved : goal.loop-number-preserved
 loop-number-preserved c = record {
   made = range_told (λ parts. map part_seen parts.items) (chosen (map coded_seen c.args.term.now)) (columns_seen c.args.columns.now.items) _ _ _ _
-    c.loop-number.invariant.made c.in_ok-push.ensures.items c.in_ok-chosen_parts.ensures.parts;
+      c.loop-number.invariant.made c.in_ok-push.ensures.items c.in_ok-chosen_parts.ensures.parts;
   short = short_push _ _ _ c.loop-number.invariant.short c.in_ok-push.ensures.items (omega (arith, c.in_ok-chosen_parts.ensures.counted, c.requires.counted));
 }
 

@@ -22,7 +22,7 @@ loop-place-preserved c =
     let entries = ap (map exact) c.from.ensures ∙ c.in_ok-entries.ensures.exact in
     record {
       made = each_told exact_row (row_of (lent_column c.args.response.now) (columns_seen c.args.columns.now)) c.args.records.now _ index _ _ _ c.loop-place-test.true
-        (any_default c.args.records.now c.loop-place.place 0 index c.loop-place-test.true) c.loop-place.invariant.made c.in_ok-push.ensures.items
-        (λ i. record { rec = index + 1; x = entries i; y = c.number_of.ensures i; weight = c.one.ensures i });
+          (any_default c.args.records.now c.loop-place.place 0 index c.loop-place-test.true) c.loop-place.invariant.made c.in_ok-push.ensures.items
+          (λ i. record { rec = index + 1; x = entries i; y = c.number_of.ensures i; weight = c.one.ensures i });
       fits = below_more P _ c.loop-place.invariant.fits c.in_ok-entries.ensures.fits;
     }

@@ -13,18 +13,22 @@ use Rattle.design_matrix.proofs.rows.entries_of.Goals as goal
 pub returns-in-Err-clause-fault : goal.returns-in-Err-clause-fault
 returns-in-Err-clause-fault c =
     let P : List Held → Type 0 = λ l. OverflowsInColumn (map part_seen l) c.args.place c.args.rec c.loop-column.column c.in-Err.spill in
-    inr (c.in-Err.spill, refl, in_row (λ parts. map part_seen parts.items) c.args.columns.now _ _ c.args.place c.args.rec _ c.loop-column-test.true
-    c.index-columns-column.is c.loop-column.invariant.fits (subst P c.deref.ensures.value c.in-Err.ensures.spill))
+    inr (
+      c.in-Err.spill,
+      refl,
+      in_row (λ parts. map part_seen parts.items) c.args.columns.now _ _ c.args.place c.args.rec _ c.loop-column-test.true
+          c.index-columns-column.is c.loop-column.invariant.fits (subst P c.deref.ensures.value c.in-Err.ensures.spill),
+    )
 
 pub loop-column-preserved : goal.loop-column-preserved
 loop-column-preserved c =
     let P : List Held → Type 0 = λ l. Fits (factors (map part_seen l) c.args.place) in
     record {
       made = told_more exact (λ x. product (factors x c.args.place)) (λ parts. map part_seen parts.items) c.args.columns.now _ _ _ _ _ c.loop-column-test.true
-        c.index-columns-column.is c.loop-column.invariant.made c.in_ok-push-in-Ok.ensures.items
-        (c.in-Ok.ensures.exact ∙ ap (λ l. product (factors (map part_seen l) c.args.place)) c.deref.ensures.value);
+          c.index-columns-column.is c.loop-column.invariant.made c.in_ok-push-in-Ok.ensures.items
+          (c.in-Ok.ensures.exact ∙ ap (λ l. product (factors (map part_seen l) c.args.place)) c.deref.ensures.value);
       fits = all_told (λ x. Fits (factors x c.args.place)) (λ parts. map part_seen parts.items) c.args.columns.now _ _ c.loop-column-test.true
-        c.index-columns-column.is c.loop-column.invariant.fits (subst P c.deref.ensures.value c.in-Ok.ensures.fits);
+          c.index-columns-column.is c.loop-column.invariant.fits (subst P c.deref.ensures.value c.in-Ok.ensures.fits);
     }
 
 pub returns-clause-fits : goal.returns-clause-fits

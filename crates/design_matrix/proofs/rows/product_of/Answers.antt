@@ -14,7 +14,7 @@ loop-term-init c = record {
 pub loop-term-preserved : goal.loop-term-preserved
 loop-term-preserved c =
     let value = product_step part_seen (λ p. slice_index_or p.entries c.args.place (whole (pos 0))) c.args.parts.now _ _ _ _ _
-      c.loop-term-test.true c.index-parts-term.is c.loop-term.invariant.value c.entry.ensures c.in-Ok.ensures.exact in
+    c.loop-term-test.true c.index-parts-term.is c.loop-term.invariant.value c.entry.ensures c.in-Ok.ensures.exact in
     record {
       value = value;
       fits = fits_more (factors (map part_seen c.args.parts.now) c.args.place) _ c.in-Ok.next value c.loop-term.invariant.fits;
@@ -25,7 +25,7 @@ returns-in-Err-clause-spill c = record {
   term = c.loop-term.term;
   site = ap (λ z. z.site) c.in-Err.ensures.spill.is;
   overflows = spilt part_seen (λ p. slice_index_or p.entries c.args.place (whole (pos 0))) c.args.parts.now _ _ _ _ _ _
-    refl c.loop-term-test.true c.index-parts-term.is c.loop-term.invariant.value c.entry.ensures c.in-Err.ensures.spill;
+      refl c.loop-term-test.true c.index-parts-term.is c.loop-term.invariant.value c.entry.ensures c.in-Err.ensures.spill;
 }
 
 pub returns-clause-fits : goal.returns-clause-fits

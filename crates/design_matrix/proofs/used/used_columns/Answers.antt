@@ -14,15 +14,15 @@ returns-in_err-narrow_column-clause-fault c =
     rw (p.1, p.2) (elim c.in_err-narrow_column.ensures.fault [
       | inl memory ↦ inl memory
       | inr fault ↦ inr (first_found (λ n. wide_fault n (column_of c.args.frame.now n)) (λ n. n.now) _ _ _ _ c.loop-name-test.true c.name-item.is c.loop-name.invariant.sound
-        (ap (λ n. wide_fault n (column_of c.args.frame.now n)) (sym c.as_str.ensures) ∙ fault))
+          (ap (λ n. wide_fault n (column_of c.args.frame.now n)) (sym c.as_str.ensures) ∙ fault))
     ])
 
 pub loop-name-preserved : goal.loop-name-preserved
 loop-name-preserved c = record {
   found = told_more lent_column (column_of c.args.frame.now) (λ n. n.now) _ _ _ _ _ _ c.loop-name-test.true c.name-item.is c.loop-name.invariant.found
-    c.in_ok-push.ensures.items (c.in_ok-narrow_column.ensures.column ∙ ap (column_of c.args.frame.now) c.as_str.ensures);
+      c.in_ok-push.ensures.items (c.in_ok-narrow_column.ensures.column ∙ ap (column_of c.args.frame.now) c.as_str.ensures);
   sound = first_more (λ n. wide_fault n (column_of c.args.frame.now n)) (λ n. n.now) _ _ _ c.loop-name-test.true c.name-item.is c.loop-name.invariant.sound
-    (ap (λ n. wide_fault n (column_of c.args.frame.now n)) (sym c.as_str.ensures) ∙ c.in_ok-narrow_column.ensures.sound);
+      (ap (λ n. wide_fault n (column_of c.args.frame.now n)) (sym c.as_str.ensures) ∙ c.in_ok-narrow_column.ensures.sound);
 }
 
 pub returns-clause-sound : goal.returns-clause-sound

@@ -17,8 +17,8 @@ loop-number-preserved c =
     (c.requires.short c.loop-number.number c.index-terms-number.result inside) in
     record {
       made = each_told (λ vs. map coded_seen vs.items)
-        (coded_term c.args.self.now.frame.now c.args.self.now.model.now c.args.self.now.contrasts c.args.self.now.records.now)
-        _ _ _ _ _ _ c.loop-number-test.true c.index-terms-number.is c.loop-number.invariant.made c.in_ok-push.ensures.items c.in_ok-term.ensures.coded;
+          (coded_term c.args.self.now.frame.now c.args.self.now.model.now c.args.self.now.contrasts c.args.self.now.records.now)
+          _ _ _ _ _ _ c.loop-number-test.true c.index-terms-number.is c.loop-number.invariant.made c.in_ok-push.ensures.items c.in_ok-term.ensures.coded;
       short = short_push _ _ _ c.loop-number.invariant.short c.in_ok-push.ensures.items (omega (arith, c.in_ok-term.ensures.counted));
     }
 

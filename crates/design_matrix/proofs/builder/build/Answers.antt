@@ -4,7 +4,7 @@ use Rattle.std.proofs.lemmas.Result.{err_from_is_err_and}
 use Rattle.data_frame.specs.Views.{lent_column}
 use Rattle.design_matrix.specs.Cells.{column_of, is_complete}
 use Rattle.design_matrix.proofs.Building.{fault_late, fault_response, fault_rows, fault_width, fewer_from, kept_from, numbered_from}
-use Rattle.design_matrix.proofs.build.build.Goals as goal
+use Rattle.design_matrix.proofs.builder.build.Goals as goal
 
 pub returns-then-is_text-clause-fault : goal.returns-then-is_text-clause-fault
 returns-then-is_text-clause-fault c =
@@ -45,7 +45,7 @@ build_kept-requires-clause-numbered c =
 pub build_kept-requires-clause-fewer : goal.build_kept-requires-clause-fewer
 build_kept-requires-clause-fewer c =
     let few = fewer_from (is_complete (map lent_column c.deref-2.result.now)) c.records.result c.as_slice-kept.result.now
-      (c.as_slice-kept.ensures.value ∙ c.in_ok-records.ensures) in
+    (c.as_slice-kept.ensures.value ∙ c.in_ok-records.ensures) in
     omega (arith, few, c.records.ensures)
 
 pub returns-in-Ok-clause-design : goal.returns-in-Ok-clause-design

@@ -1,3 +1,5 @@
+//! From a table and a formula to their design.
+
 ghost use Rattle.std.specs.Prelude.{◌≡◌, ◌≤◌, ◌<◌, ◌+◌, ◌^◌, ◌⊎◌, None, All, IfErr, IfOk, IsNone, OnOk, length, map};
 ghost use Rattle.data_frame.specs.Views.{lent_column};
 ghost use Rattle.design_matrix.specs.Cells.{column_of, kept};

@@ -9,7 +9,7 @@ use Rattle.design_matrix.specs.Views.{columns_seen, part_seen, terms_seen}
 use Rattle.design_matrix.proofs.Building.{made, overflowed, seen_columns}
 use Rattle.design_matrix.proofs.Lengths.{AreShort, terms_part}
 use Rattle.design_matrix.proofs.Usable.{terms_few}
-use Rattle.design_matrix.proofs.build.design_from.Goals as goal
+use Rattle.design_matrix.proofs.builder.design_from.Goals as goal
 
 pub design_columns-requires : goal.design_columns-requires
 design_columns-requires c =
@@ -50,6 +50,6 @@ returns-in_err-rows-clause-fault c =
     rw (p.1, p.2) (elim c.in_err-rows.ensures.fault [
       | inl memory ↦ inl memory
       | inr spilt ↦ inr (overflowed _ _ _ (columns_seen c.deref-2.result.now) c.args.coder.now.records.now _ spilt.0
-        (ap columns_seen c.deref-2.ensures.value ∙ seen_columns _ _ _ _ _ c.in_ok-columns.ensures.columns c.requires.coded)
-        c.requires.kept spilt.1 spilt.2)
+          (ap columns_seen c.deref-2.ensures.value ∙ seen_columns _ _ _ _ _ c.in_ok-columns.ensures.columns c.requires.coded)
+          c.requires.kept spilt.1 spilt.2)
     ])
