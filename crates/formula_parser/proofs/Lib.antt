@@ -1,3 +1,4 @@
 pub mod Unions
 pub mod Limited
 pub mod Mentions
+pub mod Runs

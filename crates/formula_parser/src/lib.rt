@@ -12,8 +12,10 @@ mod evaluation;
 mod fault;
 mod formula;
 mod naming;
+mod parsing;
 mod scope;
 mod term_set;
 
 pub use fault::FormulaFault;
 pub use formula::{Formula, Smooth, Term, Variable};
+pub use parsing::parse;
