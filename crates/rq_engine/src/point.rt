@@ -16,10 +16,11 @@ fn is_plain(fit: &FitJob) -> bool
 fn is_point(fit: &FitJob) -> bool
     ensures { IsTrue result ↔ IsPoint fit.now }
 {
-    if !is_plain(fit) || fit.lo != fit.hi {
+    let tau = fit.lo;
+    if !is_plain(fit) || tau != fit.hi || tau.denominator() > 1000 {
         return false;
     }
-    fit.lo.denominator() <= 1000
+    true
 }
 
 /// The fit that a job is, where it is one that is done.
