@@ -76,6 +76,8 @@ wide v h = by (width v) (if_none (width v == 0) (OneLevel v.name) h)
     by (suc n) e = omega arith
 
 product_some : (a b : ℕ) → 1 ≤ a → 1 ≤ b → 1 ≤ a * b
+product_some zero b h k = absurd (omega arith)
+product_some (suc a) zero h k = absurd (omega arith)
 product_some (suc a) (suc b) h k = omega arith
 
 count_some : (vs : List Coded) → levels_fault vs ≡ None → 1 ≤ count vs

@@ -1,4 +1,5 @@
 pub mod Appends
+pub mod Countable
 pub mod Counts
 pub mod Designs
 pub mod Fitting

@@ -170,50 +170,58 @@ impl Page {
             DesignFault::UnknownWeights => self.put(b"quantreg: design: UnknownWeights\n"),
             DesignFault::ResponseNotNumeric => self.put(b"quantreg: design: ResponseNotNumeric\n"),
             DesignFault::WeightNotNumeric => self.put(b"quantreg: design: WeightNotNumeric\n"),
-            DesignFault::NumberTooWide { rec, column } => self.too_wide_line(*rec, column),
-            DesignFault::NegativeWeight { rec } => self.negative_line(*rec),
+            DesignFault::NumberTooWide { rec, column } => {
+                self.cell_line(b"quantreg: design: NumberTooWide", *rec, column)
+            }
+            DesignFault::NegativeWeight { rec } => {
+                self.record_line(b"quantreg: design: NegativeWeight", *rec)
+            }
             DesignFault::NoRows => self.put(b"quantreg: design: NoRows\n"),
-            DesignFault::OneLevel { factor } => self.one_level_line(factor),
+            DesignFault::OneLevel { factor } => {
+                self.factor_line(b"quantreg: design: OneLevel", factor)
+            }
             DesignFault::NoColumns => self.put(b"quantreg: design: NoColumns\n"),
             DesignFault::TooManyColumns => self.put(b"quantreg: design: TooManyColumns\n"),
-            DesignFault::Overflow(spill) => self.overflow_line(spill),
+            DesignFault::Overflow(spill) => {
+                self.product_line(b"quantreg: design: Overflow quantity=design-entry", spill)
+            }
             DesignFault::OutOfMemory => self.put(MEMORY_LINE),
         }
     }
 
-    #[tactic(auto, unfolding(crate::specs::FaultText::design_line))]
-    fn too_wide_line(&mut self, rec: u32, column: &Text) -> Result<(), OutOfMemory>
-        ensures { OnOk result (self.new ≡ self.old ++ design_line (DesignFault.NumberTooWide rec column.now)) }
+    // The line of a cell's fault.
+    fn cell_line(&mut self, fault: &[u8], rec: u32, column: &Text) -> Result<(), OutOfMemory>
+        ensures { OnOk result (self.new ≡ self.old ++ (fault.now ++ field (codes " record=") rec ++ named (codes " column=") column.now ++ codes "\n")) }
     {
-        self.put(b"quantreg: design: NumberTooWide")?;
+        self.put(fault)?;
         self.put_field(b" record=", rec as u64)?;
         self.put_named(b" column=", column)?;
         self.put(b"\n")
     }
 
-    #[tactic(auto, unfolding(crate::specs::FaultText::design_line))]
-    fn negative_line(&mut self, rec: u32) -> Result<(), OutOfMemory>
-        ensures { OnOk result (self.new ≡ self.old ++ design_line (DesignFault.NegativeWeight rec)) }
+    // The line of a record's fault.
+    fn record_line(&mut self, fault: &[u8], rec: u32) -> Result<(), OutOfMemory>
+        ensures { OnOk result (self.new ≡ self.old ++ (fault.now ++ field (codes " record=") rec ++ codes "\n")) }
     {
-        self.put(b"quantreg: design: NegativeWeight")?;
+        self.put(fault)?;
         self.put_field(b" record=", rec as u64)?;
         self.put(b"\n")
     }
 
-    #[tactic(auto, unfolding(crate::specs::FaultText::design_line))]
-    fn one_level_line(&mut self, factor: &Text) -> Result<(), OutOfMemory>
-        ensures { OnOk result (self.new ≡ self.old ++ design_line (DesignFault.OneLevel factor.now)) }
+    // The line of a factor's fault.
+    fn factor_line(&mut self, fault: &[u8], factor: &Text) -> Result<(), OutOfMemory>
+        ensures { OnOk result (self.new ≡ self.old ++ (fault.now ++ named (codes " factor=") factor.now ++ codes "\n")) }
     {
-        self.put(b"quantreg: design: OneLevel")?;
+        self.put(fault)?;
         self.put_named(b" factor=", factor)?;
         self.put(b"\n")
     }
 
-    #[tactic(auto, unfolding(crate::specs::FaultText::design_line))]
-    fn overflow_line(&mut self, spill: &Spill<Frac128>) -> Result<(), OutOfMemory>
-        ensures { OnOk result (self.new ≡ self.old ++ design_line (DesignFault.Overflow spill.now)) }
+    // The line of a product that overflows.
+    fn product_line(&mut self, fault: &[u8], spill: &Spill<Frac128>) -> Result<(), OutOfMemory>
+        ensures { OnOk result (self.new ≡ self.old ++ (fault.now ++ product_site spill.now.site ++ codes " op=mul" ++ operands spill.now.left spill.now.right ++ codes "\n")) }
     {
-        self.put(b"quantreg: design: Overflow quantity=design-entry")?;
+        self.put(fault)?;
         self.put_site(&spill.site)?;
         self.put(b" op=mul")?;
         self.put_operands(spill.left, spill.right)?;
