@@ -1,7 +1,7 @@
 -- A number text byte by byte, and the longest one at the front of a text.
-use Rattle.std.proofs.Common.{◌≡◌, ◌<◌, ◌≤◌, ◌+◌, ◌-◌, ◌*◌, ◌==◌, ◌&&◌, ◌||◌, ◌++◌, ◌∷◌, [], ℕ, zero, suc, Bool, true, false, List, Option, Some, None, option_map, option_and_then, is_some, cond, codes, length, take, drop, get_or, nat_le, nat_lt, refl, sym, ◌∙◌, ap, append_assoc, append-nil, arith, add-one, drop-cons, if◌then◌else◌}
+use Rattle.std.proofs.Common.{◌≡◌, ◌<◌, ◌≤◌, ◌+◌, ◌-◌, ◌*◌, ◌==◌, ◌&&◌, ◌||◌, ◌++◌, ◌∷◌, [], ℕ, zero, suc, Bool, true, false, List, Option, Some, None, option_map, option_and_then, is_some, cond, codes, length, take, drop, get_or, nat_le, nat_lt, refl, sym, ◌∙◌, ap, append_assoc, append-nil, arith, lit<, add-one, drop-cons, if◌then◌else◌}
 use Rattle.std.specs.Char.{digit_value, is_ascii_digit}
-use Rattle.std.specs.Str.{all_ascii_digits}
+use Rattle.std.specs.Str.{all_ascii_digits, IsAscii}
 use Rattle.std.specs.Str.Parse.{digits_value, digits_value_after, starts_with_minus, without_leading_sign}
 use Rattle.std.specs.List.{list_all, prefix_len}
 use Rattle.std.proofs.lemmas.Bool.Decides.{nat_tests}
@@ -461,3 +461,49 @@ some_number b bs h = go (is_ascii_digit b) (b == 46) refl refl h
         let c = point_is b f in
         greatest_least (λ k. is_number_text (take k (b ∷ bs))) (length (b ∷ bs)) 2 (two bs h) (omega arith) (rw c (point_number bs h))
     go false false e f h = absurd (cc h)
+
+-- ---- the number that is found
+
+greatest_true : (p : ℕ → Bool) (n : ℕ) → 1 ≤ greatest p n → p (greatest p n) ≡ true
+greatest_true p zero h = absurd (omega arith)
+greatest_true p (suc n) h = go (p (suc n)) refl (λ k. greatest_true p n k) h
+  where
+    go : (t : Bool) → p (suc n) ≡ t → (1 ≤ greatest p n → p (greatest p n) ≡ true) → 1 ≤ (if t then suc n else greatest p n) → p (if t then suc n else greatest p n) ≡ true
+    go true e more h = e
+    go false e more h = more h
+
+greatest_within : (p : ℕ → Bool) (n : ℕ) → greatest p n ≤ n
+greatest_within p zero = omega arith
+greatest_within p (suc n) = go (p (suc n)) (greatest_within p n)
+  where
+    go : (t : Bool) → greatest p n ≤ n → (if t then suc n else greatest p n) ≤ suc n
+    go true le = omega arith
+    go false le = omega arith
+
+pub number_found : (text : List ℕ) → 1 ≤ number_len text → is_number_text (take (number_len text) text) ≡ true
+unfolding number_len
+number_found text some = greatest_true (λ k. is_number_text (take k text)) (length text) some
+
+pub number_within : (text : List ℕ) → number_len text ≤ length text
+unfolding number_len
+number_within text = greatest_within (λ k. is_number_text (take k text)) (length text)
+
+parts_ascii : (text : List ℕ) (p q : NumberPart) → part_behind p text ≡ Some q → IsAscii text
+parts_ascii [] p q e i = lit< tt
+parts_ascii (b ∷ bs) p q e i = go (next_part p b) refl (λ r d. parts_ascii bs r q d) e i
+  where
+    go : (o : Option NumberPart) → next_part p b ≡ o → ((r : NumberPart) → part_behind r bs ≡ Some q → IsAscii bs)
+        → option_and_then (λ r. part_behind r bs) o ≡ Some q → (i : ℕ) → get_or (b ∷ bs) i 0 < 128
+    go None d more e i = absurd (cc)
+    go (Some r) d more e zero = part_is_ascii p r b (sym d)
+    go (Some r) d more e (suc i) = more r e i
+
+pub number_is_ascii : (text : List ℕ) → is_signed text ≡ false → is_number_text text ≡ true → IsAscii text
+number_is_ascii text h e = go (part_behind Empty text) refl (sym (number_text text h) ∙ e)
+  where
+    go : (o : Option NumberPart) → part_behind Empty text ≡ o → ends o ≡ true → IsAscii text
+    go None d k = absurd (cc)
+    go (Some q) d k = parts_ascii text Empty q d
+
+pub unsigned_front : (text : List ℕ) (n : ℕ) → is_signed text ≡ false → is_signed (take n text) ≡ false
+unsigned_front text n h = signed_take text n h

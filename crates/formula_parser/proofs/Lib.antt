@@ -2,3 +2,5 @@ pub mod Unions
 pub mod Limited
 pub mod Mentions
 pub mod Runs
+pub mod Speaking
+pub mod Lambdas

@@ -1,5 +1,5 @@
 -- Operators with too many terms.
-use Rattle.std.proofs.Common.{◌≡◌, ◌<◌, ◌≤◌, ◌-◌, ◌+◌, ℕ, Bool, true, Err, length, nat_lt, arith, refl, sym, ◌∙◌, ap, subst}
+use Rattle.std.proofs.Common.{◌≡◌, ◌<◌, ◌≤◌, ◌-◌, ℕ, true, Err, length, nat_lt, arith, refl, sym, ◌∙◌, ap, subst}
 use Rattle.std.proofs.lemmas.Bool.Decides.{nat_tests}
 use Rattle.formula_parser.specs.Terms.{Terms, plus, times, unions, raised, raised_by}
 use Rattle.formula_parser.specs.Meaning.{limited}

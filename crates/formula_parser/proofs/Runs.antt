@@ -4,9 +4,9 @@ use Rattle.formula_grammar.specs.declared.token.Span.{Span}
 use Rattle.formula_grammar.specs.declared.token.Sign.{Sign}
 use Rattle.formula_grammar.specs.declared.token.Sign.TheVariants.{Plus, Minus}
 use Rattle.formula_grammar.specs.declared.reading.Step.{Step}
-use Rattle.formula_grammar.specs.declared.reading.Step.TheVariants.{Load, LoadAll, Nothing, Add, Remove, Multiply, Interact, Raise}
+use Rattle.formula_grammar.specs.declared.reading.Step.TheVariants.{Multiply, Interact, Raise}
 use Rattle.formula_grammar.specs.Numerals.{power_of}
-use Rattle.formula_grammar.specs.Grammar.{Bare, Led, Sum, First, More, Product, One, Times, Inter, Lone, Cross, Power, Plain, Raised, Atom, Leaf, Factor, Dot, Group, Item, Nil, Intercept, Items, Start, StartSmooth, StartPlus, Then, ThenSmooth}
+use Rattle.formula_grammar.specs.Grammar.{Bare, Led, Sum, First, More, Product, One, Times, Inter, Lone, Cross, Power, Plain, Raised, Atom, Leaf, Factor, Dot, Group, Nil, Intercept, Items, Start, StartSmooth, StartPlus, Then, ThenSmooth}
 use Rattle.formula_grammar.specs.Grammar.{Term as TermItem}
 use Rattle.formula_grammar.specs.Codes.{signed_step, sum_code, product_code, inter_code, power_code, atom_code, items_code}
 use Rattle.formula_parser.specs.Terms.{Term, Terms, cross, raised, times}

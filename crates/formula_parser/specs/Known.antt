@@ -1,5 +1,5 @@
 -- The terms of a list, as a set beside it.
-use Rattle.std.specs.Prelude.{◌≡◌, map, Bool, List}
+use Rattle.std.specs.Prelude.{◌≡◌}
 use Rattle.std.specs.HashSet.{HashSet, contains}
 use Rattle.std.specs.Cmp.Lexicographic.{pointwise}
 use mathlib.Core.Bool.{beq}

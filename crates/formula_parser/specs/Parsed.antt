@@ -1,5 +1,5 @@
 -- The formula of a text over the columns of a table, or its first fault.
-use Rattle.std.specs.Prelude.{◌≡◌, ◌<◌, ◌^◌, ◌-◌, ℕ, Bool, false, List, [], ◌∷◌, map, zip, length, Option, Some, None, is_none, Result, Ok, Err, if◌then◌else◌}
+use Rattle.std.specs.Prelude.{◌≡◌, ◌^◌, ◌-◌, ℕ, Bool, false, List, [], ◌∷◌, map, zip, length, Option, Some, None, is_none, Result, Ok, Err, if◌then◌else◌}
 use Rattle.std.specs.List.{filter}
 use Rattle.std.specs.List.Sorted.{IsPermutation, IsSortedByKey, IsStableByKey}
 use Rattle.std.specs.Ordering.{nat_cmp}
@@ -13,7 +13,6 @@ use Rattle.formula_grammar.specs.declared.token.Kind.{Kind}
 use Rattle.formula_grammar.specs.declared.token.Kind.TheVariants.{Name}
 use Rattle.formula_grammar.specs.declared.token.Token.{Token}
 use Rattle.formula_grammar.specs.declared.reading.SmoothPart.{SmoothPart}
-use Rattle.formula_grammar.specs.declared.reading.Reading.{Reading}
 use Rattle.formula_grammar.specs.declared.fault.ReadFault.TheVariants as read_fault
 use Rattle.formula_grammar.specs.Numerals.{len_of}
 use Rattle.formula_grammar.specs.Grammar.{Formula as Tree}
@@ -30,7 +29,6 @@ use Rattle.formula_parser.specs.declared.fault.FormulaFault.TheVariants.{OutOfMe
 use Rattle.formula_parser.specs.Terms.{Terms, size}
 use Rattle.formula_parser.specs.Terms.{Term as Bools}
 use Rattle.formula_parser.specs.Meaning.{items_meaning}
-use Rattle.formula_parser.specs.Stack.{run_steps}
 use Rattle.formula_parser.specs.Scope.{Text, column_at, column_of, dot_terms, name_at, named_term, other_columns, piece, variables_of}
 
 -- ---- names

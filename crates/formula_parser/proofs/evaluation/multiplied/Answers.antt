@@ -1,5 +1,5 @@
-use Rattle.std.proofs.Common.{◌∙◌, ◌≡◌, ◌<◌, ap, length, subst, sym}
-use Rattle.formula_parser.specs.Terms.{Terms, times}
+use Rattle.std.proofs.Common.{◌∙◌, ◌≡◌}
+use Rattle.formula_parser.specs.Terms.{times}
 use Rattle.formula_parser.proofs.Limited.{times_from, times_over}
 use Rattle.formula_parser.proofs.evaluation.multiplied.Goals as goal
 

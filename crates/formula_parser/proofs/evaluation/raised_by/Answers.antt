@@ -1,4 +1,4 @@
-use Rattle.std.proofs.Common.{◌∙◌, ◌≡◌, ◌≤◌, ◌+◌, ◌-◌, ap, arith}
+use Rattle.std.proofs.Common.{◌∙◌, ◌≡◌, ap, arith}
 use Rattle.formula_parser.specs.Terms.{Terms, plus, unions}
 use Rattle.formula_parser.proofs.Limited.{raised_over}
 use Rattle.formula_parser.proofs.Unions.{raised_more}
