@@ -30,13 +30,7 @@ pub(crate) fn point_of(job: &Job) -> Option<&FitJob>
     ensures missing { IfNone result (¬ IsBuilt job.now) }
 {
     match job {
-        Job::Process(fit) => {
-            if is_point(fit) {
-                Some(fit)
-            } else {
-                None
-            }
-        }
+        Job::Process(fit) => { if is_point(fit) { Some(fit) } else { None } }
         _ => None,
     }
 }
