@@ -8,7 +8,7 @@ use Rattle.port_io.specs.Told.{AppendsPart}
 use Rattle.rq_engine.specs.Answers as engine
 use Rattle.rq_engine.specs.ReportText.{report_text}
 use Rattle.rq_engine.specs.declared.report.Report.{Report}
-use Rattle.rq_engine.specs.declared.report.Refusal.TheVariants.{TooLong, Table}
+use Rattle.rq_engine.specs.declared.report.Refusal.TheVariants.{TooLong, Table, Formula, Design, Program}
 use Rattle.rq_engine.specs.declared.report.Halt.{Halt}
 use Rattle.rq_engine.specs.declared.report.Halt.TheVariants as halts
 use Rattle.rq_cli.specs.Outcomes.{Stream, OnDone, OnFault, is_fault, outcome_line, WereRead, HasCause, IsAnswered, WasTried, IsRun}
@@ -25,6 +25,9 @@ tried (Err e) before now line ok err counted = inr (counted.rose, err)
 pub halt_cause : (words : List (List ℕ)) (source source' : Stream) (job : Job) (bytes : List ℕ) → WereRead words source source' job bytes → (halt : Halt) → engine.HasCause job bytes halt → HasCause words source source' (outcome_of halt)
 halt_cause words source source' job bytes read (halts.Refused TooLong) cause = absurd cause
 halt_cause words source source' job bytes read (halts.Refused (Table fault)) cause = record { job = job; bytes = bytes; read = read; cause = cause }
+halt_cause words source source' job bytes read (halts.Refused (Formula fault)) cause = record { job = job; bytes = bytes; read = read; cause = cause }
+halt_cause words source source' job bytes read (halts.Refused (Design fault)) cause = record { job = job; bytes = bytes; read = read; cause = cause }
+halt_cause words source source' job bytes read (halts.Refused (Program fault)) cause = record { job = job; bytes = bytes; read = read; cause = cause }
 halt_cause words source source' job bytes read halts.OutOfMemory cause = tt
 halt_cause words source source' job bytes read (halts.NotBuilt part) cause = inr (record { job = job; bytes = bytes; read = read; cause = cause })
 

@@ -13,7 +13,7 @@ use Rattle.rq_engine.specs.declared.report.Refusal.TheVariants.{TooLong}
 use Rattle.rq_engine.specs.declared.report.Report.{Report}
 use Rattle.rq_engine.specs.declared.report.Halt.{Halt}
 use Rattle.rq_engine.specs.declared.report.Halt.TheVariants as halts
-use Rattle.rq_engine.specs.Level.{IsBuilt, IsJobOf}
+use Rattle.rq_engine.specs.Point.{IsBuilt, IsJobOf}
 use Rattle.rq_cli.specs.declared.outcome.Outcome.{Outcome}
 use Rattle.rq_cli.specs.declared.outcome.Outcome.TheVariants.{Done, Refused, Usage, SourceFault, SinkFault, OutOfMemory, NotBuilt}
 

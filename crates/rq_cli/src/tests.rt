@@ -155,13 +155,41 @@ fn columns_are_fitted_at_one_quantile(rt: HostRuntime) -> Result<(), Fail> {
 }
 
 // Each case: formula, quantile, exit status and line.
-static FAULTS: [(&str, &str, u8, &str); 14] = [
-    ("y ~ x", "1/2", 9, "quantreg: build: NotBuilt part=1\n"),
-    ("y ~ 1 ", "1/2", 9, "quantreg: build: NotBuilt part=1\n"),
-    ("y~1", "1/2", 9, "quantreg: build: NotBuilt part=1\n"),
-    ("1y ~ 1", "1/2", 9, "quantreg: build: NotBuilt part=1\n"),
-    (" ~ 1", "1/2", 9, "quantreg: build: NotBuilt part=1\n"),
-    ("y_z ~ 1", "1/2", 9, "quantreg: build: NotBuilt part=1\n"),
+static FAULTS: [(&str, &str, u8, &str); 17] = [
+    (
+        "y ~ x",
+        "1/2",
+        1,
+        "quantreg: formula: UnknownName offset=4\n",
+    ),
+    ("1y ~ 1", "1/2", 1, "quantreg: formula: Syntax offset=0\n"),
+    (
+        "y_z ~ 1",
+        "1/2",
+        1,
+        "quantreg: formula: UnknownName offset=0\n",
+    ),
+    ("y ~ a +", "1/2", 1, "quantreg: formula: Syntax offset=7\n"),
+    (
+        "y ~ a^9",
+        "1/2",
+        1,
+        "quantreg: formula: PowerRange offset=6\n",
+    ),
+    (
+        "y ~ qss(y, 2e38)",
+        "1/2",
+        1,
+        "quantreg: formula: NumberTooWide offset=11\n",
+    ),
+    (
+        "y ~ qss(y, 1)",
+        "1/2",
+        9,
+        "quantreg: build: NotBuilt part=3\n",
+    ),
+    ("y ~ 0", "1/2", 1, "quantreg: design: NoColumns\n"),
+    ("y ~ 0 + y", "1/2", 9, "quantreg: build: NotBuilt part=4\n"),
     ("y ~ 1", "1/1001", 9, "quantreg: build: NotBuilt part=1\n"),
     ("y ~ 1", "0.0001", 9, "quantreg: build: NotBuilt part=1\n"),
     ("y ~ 1", "2/1", 2, "quantreg: usage: BadRange\n"),
@@ -196,7 +224,7 @@ fn other_formulas_and_quantiles_are_told(rt: HostRuntime) -> Result<(), Fail> {
 }
 
 // Each case: words that are refused, or that ask for what this version doesn't do.
-static COMMANDS: [(&str, u8, &str); 20] = [
+static COMMANDS: [(&str, u8, &str); 19] = [
     ("", 2, "quantreg: usage: NoJob\n"),
     ("fit", 2, "quantreg: usage: UnknownJob\n"),
     ("--help", 2, "quantreg: usage: UnknownJob\n"),
@@ -253,11 +281,6 @@ static COMMANDS: [(&str, u8, &str); 20] = [
         "quantreg: build: NotBuilt part=1\n",
     ),
     (
-        "process|--formula|y ~ 1|--lo|1/2|--hi|1/2|--contrasts|sas",
-        9,
-        "quantreg: build: NotBuilt part=1\n",
-    ),
-    (
         "process|--formula|y ~ 1|--lo|1/2|--hi|1/2|--weights|w",
         9,
         "quantreg: build: NotBuilt part=1\n",
@@ -284,9 +307,11 @@ fn words_have_their_first_fault(rt: HostRuntime) -> Result<(), Fail> {
     Ok(())
 }
 
-// Other words of the job that TABLE and REPORT belong to.
-static SAME_JOB: [&str; 3] = [
+// Other words of the job that TABLE and REPORT belong to, or of one that has the same design.
+static SAME_JOB: [&str; 5] = [
     "process|--formula|y ~ 1|--lo|1/2|--hi|1/2",
+    "process|--formula|y~1|--lo|1/2|--hi|1/2|--contrasts|sas",
+    "process|--formula|y ~ (y) - y|--lo|1/2|--hi|1/2",
     "process|--hi=0.5|--lo=2/4|--formula=y ~ 1",
     "process|--pivots|100000|--contrasts|treatment|--hi|5e-1|--lo|00001/2|--formula|y ~ 1",
 ];

@@ -1,6 +1,6 @@
 //! The top call.
 ghost use Rattle.std.specs.Prelude.{◌≡◌, ◌≢◌, ◌⊎◌, ◌<◌, ◌≤◌, map, true, string_bytes, IfOk, IfErr, OnOk};
-ghost use Rattle.rq_engine.specs.Level.{IsBuilt, IsJobOf};
+ghost use Rattle.rq_engine.specs.Point.{IsBuilt, IsJobOf};
 ghost use Rattle.rq_engine.specs.ReportText.{report_text};
 ghost use Rattle.rq_cli.specs.Outcomes.{is_fault, outcome_line, stream, AskBuilt, HasCause, IsAnswered, IsRun};
 ghost use Rattle.rq_cli.specs.Steps.{outcome_of, IsWordOutcome, WasTold, WasPrinted};
@@ -21,9 +21,10 @@ use std::thread::Threads;
 /// The whole text is made before the first byte of it is written. `Usage` comes exactly where the
 /// words are refused by that fault, and `NotBuilt` with part 1 exactly where they ask for a job that
 /// this version doesn't do; both leave the source untouched. `Refused` comes exactly where more than
-/// 2^26 bytes come, or where the bytes have this first fault as a table. `NotBuilt` with part 2 comes
-/// exactly where they are a table without a column of the job's name, or whose column of that name
-/// holds anything else than 1 to 1,000 whole numbers below 10^9 in size beside its missing cells.
+/// 2^26 bytes come, or where this is the first fault: of the bytes as a table, of the formula over its
+/// names, of their design, or of its problem. `NotBuilt` comes with part 3 exactly where the formula
+/// has a smooth, and with part 4 exactly where the problem has another column than the intercept, or
+/// more than 1,000 rows, or a response that isn't a whole number below 10^9 in size.
 /// `SourceFault` and `SinkFault` come only where the count of faults of the source or of a sink rose
 /// in this call, and where it grew there is no other outcome but `SinkFault`. `OutOfMemory` may come
 /// in place of what would follow, and never after a write to `out`.

@@ -1,43 +1,111 @@
 -- What the engine is asked and answers.
-use Rattle.std.specs.Prelude.{◌≡◌, ℕ, List, ℤ, Ok, Err, ⊤}
-use Rattle.exact_algebra.specs.Rational.{ℚ}
+use Rattle.std.specs.Prelude.{◌≡◌, ◌≢◌, ◌≤◌, ◌⊎◌, ℕ, List, ℤ, Ok, Err, length, ⊤}
 use Rattle.frac_core.specs.declared.frac128.Frac128.{Frac128}
-use Rattle.data_frame.specs.Tables.{TableOf, table_of}
+use Rattle.data_frame.specs.Tables.{table_of}
+use Rattle.data_frame.specs.Views.{exact_table}
+use Rattle.formula_parser.specs.Parsed.{IsFault, IsParsed}
+use Rattle.formula_parser.specs.declared.formula.Formula.{Formula}
+use Rattle.formula_parser.specs.declared.fault.FormulaFault.{FormulaFault}
+use Rattle.formula_parser.specs.declared.fault.FormulaFault.TheVariants as formulas
+use Rattle.design_matrix.specs.Cells.{Table}
+use Rattle.design_matrix.specs.Faults.{HasCause as HasDesignCause}
+use Rattle.design_matrix.specs.declared.design.Design.{Design}
+use Rattle.design_matrix.specs.declared.fault.DesignFault.{DesignFault}
+use Rattle.design_matrix.specs.declared.fault.DesignFault.TheVariants as designs
+use Rattle.rq_program.specs.Faults.{HasCause as HasProgramCause}
+use Rattle.rq_program.specs.declared.fault.ProgramFault.{ProgramFault}
+use Rattle.rq_program.specs.declared.fault.ProgramFault.TheVariants as programs
+use Rattle.loss_model.specs.declared.problem.Problem.{Problem}
+use Rattle.rq_words.specs.declared.job.FitJob.{FitJob}
 use Rattle.rq_words.specs.declared.job.Job.{Job}
+use Rattle.rq_words.specs.declared.job.Job.TheVariants as jobs
 use Rattle.rq_engine.specs.declared.report.Fit.{Fit}
 use Rattle.rq_engine.specs.declared.report.Report.{Report}
-use Rattle.rq_engine.specs.declared.report.Report.TheVariants.{Process}
-use Rattle.rq_engine.specs.declared.report.Refusal.TheVariants.{TooLong, Table}
+use Rattle.rq_engine.specs.declared.report.Report.TheVariants as reports
+use Rattle.rq_engine.specs.declared.report.Refusal.TheVariants as refusals
 use Rattle.rq_engine.specs.declared.report.Halt.{Halt}
 use Rattle.rq_engine.specs.declared.report.Halt.TheVariants.{Refused, OutOfMemory, NotBuilt}
 use Rattle.rq_engine.specs.Fit.{IsRightFit}
-use Rattle.rq_engine.specs.Level.{IsLevelJob}
+use Rattle.rq_engine.specs.Models.{IsColumn, IsDesigned, IsModel, IsProblemOf, no_smoothing}
 use Rattle.rq_engine.specs.ReportText.{value}
-use Rattle.rq_engine.specs.Responses.{HasResponses, HoldResponses}
 
--- the right fit for the job, of the responses in the table of the bytes
-pub record IsFitOf (job : Job) (bytes : List ℕ) (fit : Fit) : Type 0 where
-  pub name : List ℕ
-  pub tau : Frac128
-  pub asked : IsLevelJob job name tau
+-- ---- the report
+
+-- the right fit for the job, of the problem of the table: what it is told of is the design's, and it is right for the responses
+pub record IsFitOf (job : FitJob) (table : Table) (fit : Fit) : Type 0 where
+  pub model : Formula
+  pub design : Design
+  pub designed : IsDesigned job table model design
+  pub problem : IsProblemOf design fit.problem
+  pub kept : fit.kept ≡ length design.rows
+  pub dropped : fit.dropped ≡ design.dropped
+  pub names : fit.names ≡ design.names
+  pub data_rows : fit.data_rows ≡ length design.rows
   pub values : List ℤ
-  pub missing : ℕ
-  pub input : HoldResponses name bytes values missing
-  pub right : IsRightFit value values missing tau fit
+  pub column : IsColumn model fit.problem values
+  pub right : IsRightFit value values job.lo fit
+
+-- the bytes are this table
+abbrev pub AreTable : List ℕ → Table → Type 0
+AreTable bytes table = table_of bytes ≡ Ok (exact_table table)
+
+abbrev pub IsFitOfBytes : FitJob → List ℕ → Fit → Type 0
+IsFitOfBytes job bytes fit = (table : Table) × AreTable bytes table × IsFitOf job table fit
 
 -- the report is right for the job and for the bytes
 abbrev pub IsRight : Job → List ℕ → Report → Type 0
-IsRight job bytes (Process fit) = IsFitOf job bytes fit
+IsRight (jobs.Process job) bytes (reports.Process fit) = IsFitOfBytes job bytes fit
+IsRight _ bytes report = ⊥
 
--- the bytes are a table, which has no responses that the job could be done on
-pub record IsOtherTable (job : Job) (bytes : List ℕ) : Type 0 where
-  pub table : TableOf ℚ
-  pub read : table_of bytes ≡ Ok table
-  pub none : (name : List ℕ) (tau : Frac128) (values : List ℤ) (missing : ℕ) → IsLevelJob job name tau → ¬ HasResponses name table values missing
+-- ---- why there is none
 
--- why there is no report: for a table's fault, that it is the first of the bytes
+-- the formula of the job has a smooth
+pub record HasSmooth (job : FitJob) (table : Table) : Type 0 where
+  pub model : Formula
+  pub parsed : IsParsed job.formula table.names model
+  pub smooth : 1 ≤ length model.smooths
+
+-- the table has no design by the formula, for this fault
+pub record LacksDesign (job : FitJob) (table : Table) (fault : DesignFault) : Type 0 where
+  pub model : Formula
+  pub stated : IsModel job table model
+  pub named : fault ≢ designs.OutOfMemory
+  pub cause : HasDesignCause table model job.coding fault
+
+-- the design has no problem, for this fault
+pub record LacksProblem (job : FitJob) (table : Table) (fault : ProgramFault) : Type 0 where
+  pub model : Formula
+  pub design : Design
+  pub designed : IsDesigned job table model design
+  pub named : fault ≢ programs.OutOfMemory
+  pub cause : HasProgramCause design (no_smoothing (length design.rows)) fault
+
+-- the problem is another than that of an intercept alone under a few small whole responses
+pub record IsOtherProblem (job : FitJob) (table : Table) : Type 0 where
+  pub model : Formula
+  pub design : Design
+  pub designed : IsDesigned job table model design
+  pub problem : Problem Frac128
+  pub is : IsProblemOf design problem
+  pub other : (values : List ℤ) → ¬ IsColumn model problem values
+
+-- why a table has no report. Want of memory is free of a cause
+abbrev pub HasTableCause : FitJob → Table → Halt → Type 0
+HasTableCause job table (Refused (refusals.Formula fault)) = (fault ≢ formulas.OutOfMemory) × IsFault job.formula table.names fault
+HasTableCause job table (Refused (refusals.Design fault)) = LacksDesign job table fault
+HasTableCause job table (Refused (refusals.Program fault)) = LacksProblem job table fault
+HasTableCause job table (Refused _) = ⊥
+HasTableCause job table OutOfMemory = ⊤
+HasTableCause job table (NotBuilt part) = ((part ≡ 3) × HasSmooth job table) ⊎ ((part ≡ 4) × IsOtherProblem job table)
+
+-- why bytes have no report: the first fault of a table, or they are a table that has none
+abbrev pub HasFitCause : FitJob → List ℕ → Halt → Type 0
+HasFitCause job bytes (Refused refusals.TooLong) = ⊥
+HasFitCause job bytes (Refused (refusals.Table fault)) = table_of bytes ≡ Err fault
+HasFitCause job bytes OutOfMemory = ⊤
+HasFitCause job bytes halt = (table : Table) × AreTable bytes table × HasTableCause job table halt
+
+-- why there is no report for the job
 abbrev pub HasCause : Job → List ℕ → Halt → Type 0
-HasCause job bytes (Refused TooLong) = ⊥
-HasCause job bytes (Refused (Table fault)) = table_of bytes ≡ Err fault
-HasCause job bytes OutOfMemory = ⊤
-HasCause job bytes (NotBuilt part) = (part ≡ 2) × IsOtherTable job bytes
+HasCause (jobs.Process job) bytes halt = HasFitCause job bytes halt
+HasCause _ bytes halt = ⊥

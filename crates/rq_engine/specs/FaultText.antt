@@ -3,11 +3,22 @@ use Rattle.std.specs.Prelude.{ℕ, ◌+◌, List, ◌++◌, codes, decimal}
 use Rattle.data_frame.specs.declared.fault.TableFault.{TableFault}
 use Rattle.data_frame.specs.declared.fault.TableFault.TheVariants.{NoHeader, NotUtf8, Ragged, DoubleName, EmptyName, TooManyColumns, TooManyRows}
 use Rattle.data_frame.specs.declared.fault.TableFault.TheVariants as tables
+use Rattle.frac_core.specs.NumberText.{number_text_of}
+use Rattle.frac_core.specs.declared.frac128.Frac128.{Frac128}
+use Rattle.loss_model.specs.declared.spill.Site.{Site}
+use Rattle.loss_model.specs.declared.spill.Spill.{Spill}
+use Rattle.formula_parser.specs.declared.fault.FormulaFault.{FormulaFault}
+use Rattle.formula_parser.specs.declared.fault.FormulaFault.TheVariants as formulas
+use Rattle.design_matrix.specs.declared.fault.DesignFault.{DesignFault}
+use Rattle.design_matrix.specs.declared.fault.DesignFault.TheVariants as designs
+use Rattle.rq_program.specs.declared.fault.ProgramFault.{ProgramFault}
+use Rattle.rq_program.specs.declared.fault.ProgramFault.TheVariants as programs
 use Rattle.rq_words.specs.declared.job.WordFault.{WordFault}
 use Rattle.rq_words.specs.declared.job.WordFault.TheVariants.{NoJob, UnknownJob, BadOption, BadNumber, BadRange, BadTauForRank, NegativeLimit, BadContrasts, RankHalf}
 use Rattle.rq_words.specs.declared.job.WordFault.TheVariants as words
 use Rattle.rq_engine.specs.Names.{name_bytes}
-use Rattle.rq_engine.specs.declared.report.Refusal.TheVariants.{TooLong, Table}
+use Rattle.rq_engine.specs.ReportText.{value}
+use Rattle.rq_engine.specs.declared.report.Refusal.TheVariants.{TooLong, Table, Formula, Design, Program}
 use Rattle.rq_engine.specs.declared.report.Halt.{Halt}
 use Rattle.rq_engine.specs.declared.report.Halt.TheVariants.{Refused, OutOfMemory, NotBuilt}
 use Rattle.rq_engine.specs.declared.report.Fault.{Fault}
@@ -41,9 +52,54 @@ table_line TooManyColumns = codes "quantreg: table: TooManyColumns\n"
 table_line TooManyRows = codes "quantreg: table: TooManyRows\n"
 table_line tables.OutOfMemory = memory_line
 
+-- the line of a faulty formula: an offset stands as it is
+unfoldable pub formula_line : FormulaFault → List ℕ
+formula_line (formulas.Syntax offset) = codes "quantreg: formula: Syntax" ++ field (codes " offset=") offset ++ codes "\n"
+formula_line (formulas.UnknownName offset) = codes "quantreg: formula: UnknownName" ++ field (codes " offset=") offset ++ codes "\n"
+formula_line (formulas.TooDeep offset) = codes "quantreg: formula: TooDeep" ++ field (codes " offset=") offset ++ codes "\n"
+formula_line (formulas.TooManyTerms offset) = codes "quantreg: formula: TooManyTerms" ++ field (codes " offset=") offset ++ codes "\n"
+formula_line (formulas.PowerRange offset) = codes "quantreg: formula: PowerRange" ++ field (codes " offset=") offset ++ codes "\n"
+formula_line (formulas.NumberTooWide offset) = codes "quantreg: formula: NumberTooWide" ++ field (codes " offset=") offset ++ codes "\n"
+formula_line formulas.OutOfMemory = memory_line
+
+-- what names a field, and the name in it
+abbrev pub named : List ℕ → List ℕ → List ℕ
+named field name = field ++ name_bytes name
+
+-- where a product of a design overflows: the record as it stands, the column from 1, and the number of factors before
+unfoldable pub product_site : Site → List ℕ
+product_site site = field (codes " at=") site.first ++ field (codes ",") (site.second + 1) ++ field (codes " term=") site.term
+
+unfoldable pub operands : Frac128 → Frac128 → List ℕ
+operands left right = codes " left=" ++ number_text_of (value left) ++ codes " right=" ++ number_text_of (value right)
+
+-- the line of a table that has no design by the formula; the operations of a design are the products of its entries
+unfoldable pub design_line : DesignFault → List ℕ
+design_line designs.UnknownWeights = codes "quantreg: design: UnknownWeights\n"
+design_line designs.ResponseNotNumeric = codes "quantreg: design: ResponseNotNumeric\n"
+design_line designs.WeightNotNumeric = codes "quantreg: design: WeightNotNumeric\n"
+design_line (designs.NumberTooWide rec column) = codes "quantreg: design: NumberTooWide" ++ field (codes " record=") rec ++ named (codes " column=") column ++ codes "\n"
+design_line (designs.NegativeWeight rec) = codes "quantreg: design: NegativeWeight" ++ field (codes " record=") rec ++ codes "\n"
+design_line designs.NoRows = codes "quantreg: design: NoRows\n"
+design_line (designs.OneLevel factor) = codes "quantreg: design: OneLevel" ++ named (codes " factor=") factor ++ codes "\n"
+design_line designs.NoColumns = codes "quantreg: design: NoColumns\n"
+design_line designs.TooManyColumns = codes "quantreg: design: TooManyColumns\n"
+design_line (designs.Overflow spill) =
+    codes "quantreg: design: Overflow quantity=design-entry" ++ product_site spill.site ++ codes " op=mul" ++ operands spill.left spill.right ++ codes "\n"
+design_line designs.OutOfMemory = memory_line
+
+-- the line of a design that is too large
+unfoldable pub program_line : ProgramFault → List ℕ
+program_line programs.TooManyRows = codes "quantreg: program: TooManyRows\n"
+program_line programs.TooManyColumns = codes "quantreg: program: TooManyColumns\n"
+program_line programs.OutOfMemory = memory_line
+
 abbrev pub halt_line : Halt → List ℕ
 halt_line (Refused TooLong) = codes "quantreg: input: TooLong\n"
 halt_line (Refused (Table fault)) = table_line fault
+halt_line (Refused (Formula fault)) = formula_line fault
+halt_line (Refused (Design fault)) = design_line fault
+halt_line (Refused (Program fault)) = program_line fault
 halt_line OutOfMemory = memory_line
 halt_line (NotBuilt part) = not_built_line part
 

@@ -1,6 +1,6 @@
 -- The fit of a column of whole numbers at one quantile, which is the regression on an intercept
 -- alone (Koenker 2005, section 1.3). A type F of fractions is seen by a function into pairs.
-use Rattle.std.specs.Prelude.{◌≡◌, ℕ, zero, suc, ◌<◌, List, [], ◌∷◌, codes, length, map, All, ℤ, pos, ◌-ℤ◌, Some, ◌==◌, if◌then◌else◌}
+use Rattle.std.specs.Prelude.{◌≡◌, ℕ, zero, suc, ◌<◌, List, [], ◌∷◌, length, map, All, ℤ, pos, ◌-ℤ◌, Some, ◌==◌, if◌then◌else◌}
 use Rattle.std.specs.List.{range_with_len, AllZip}
 use Rattle.exact_algebra.specs.Rational.{ℚ, ◌+ℚ◌, ◌-ℚ◌, ◌*ℚ◌, neg_ℚ, whole}
 use Rattle.exact_algebra.specs.IntegerSums.{sum_to, positive_part, negative_part}
@@ -19,6 +19,7 @@ use Rattle.loss_model.specs.Dual.{IsDual, IsDataRow, rankscore}
 use Rattle.loss_model.specs.Problem.{value_at, sample, IsWellShaped}
 use Rattle.loss_model.specs.Segment.{Covers, segments_of}
 use Rattle.loss_model.specs.Vertex.{dual_value, IsVertexOf}
+use Rattle.design_matrix.specs.declared.design.Design.{Design}
 use Rattle.rq_engine.specs.Ranking.{response, comes_before, place, IsFitted}
 use Rattle.rq_engine.specs.declared.report.Fit.{Fit}
 use Rattle.rq_engine.specs.declared.report.ScorePair.{ScorePair}
@@ -107,13 +108,10 @@ module _ {F : Type 0} (value : F → Fraction) where
       pub at_lo : All (λ q. rational (value q.at_lo) ≡ rankscore (sample value p) (rational (value s.lo)) (dual_value value p s.vertex s.basic_lo (rational (value s.lo))) q.row) pairs
       pub at_hi : All (λ q. rational (value q.at_hi) ≡ rankscore (sample value p) (rational (value s.hi)) (dual_value value p s.vertex s.basic_hi (rational (value s.hi))) q.row) pairs
 
--- the fit of the responses at tau, beside so many records that miss theirs, is that of the rule: its one
--- point covers tau, its vertex is that of the fitted row and optimal, its scores are the rankscores, and its
--- trail leads to the fitted row
-pub record IsRightFit (value : Frac128 → Fraction) (ys : List ℤ) (missing : ℕ) (tau : Frac128) (fit : Fit) : Type 0 where
+-- the fit of the responses at tau is that of the rule: its one point covers tau, its vertex is that of the fitted
+-- row and optimal, its scores are the rankscores, and its trail leads to the fitted row
+pub record IsRightFit (value : Frac128 → Fraction) (ys : List ℤ) (tau : Frac128) (fit : Fit) : Type 0 where
   pub kept : fit.kept ≡ length ys
-  pub dropped : fit.dropped ≡ missing
-  pub names : fit.names ≡ codes "(Intercept)" ∷ []
   pub data_rows : fit.data_rows ≡ length ys
   pub shaped : IsWellShaped fit.problem
   pub model : IsLocationModel (response ys) (length ys) (sample value fit.problem)
@@ -124,3 +122,9 @@ pub record IsRightFit (value : Frac128 → Fraction) (ys : List ℤ) (missing : 
   pub fitted : IsFitted (response ys) (length ys) (rational (value tau)) row
   pub vertices : All (λ s. IsLocationVertex value (response ys) (length ys) row s.vertex) fit.process.segments
   pub trail : fit.process.trail ≡ trail_to tau row
+
+-- the fit is of this problem, and tells the names of the design and how many records it has dropped
+pub record IsFitUnder (problem : Problem Frac128) (design : Design) (fit : Fit) : Type 0 where
+  pub problem_is : fit.problem ≡ problem
+  pub names : fit.names ≡ design.names
+  pub dropped : fit.dropped ≡ design.dropped

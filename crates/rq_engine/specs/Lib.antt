@@ -1,8 +1,10 @@
 pub mod Answers
 pub mod FaultText
 pub mod Fit
-pub mod Level
+pub mod Halts
+pub mod Models
 pub mod Names
+pub mod Point
 pub mod Ranking
 pub mod ReportText
 pub mod Responses

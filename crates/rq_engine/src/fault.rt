@@ -1,11 +1,15 @@
 //! The line of a fault.
 ghost use Rattle.std.specs.Prelude.{◌≡◌, ◌+◌, ◌++◌, IfOk, OnOk, codes};
-ghost use Rattle.rq_engine.specs.FaultText.{source_line, sink_line, memory_line, not_built_line, field, table_line, halt_line, usage_line, fault_line as line_of};
+ghost use Rattle.rq_engine.specs.FaultText.{source_line, sink_line, memory_line, not_built_line, field, named, table_line, formula_line, design_line, product_site, operands, program_line, halt_line, usage_line, fault_line as line_of};
 
 use crate::page::Page;
 use crate::report::{Fault, Halt, Refusal};
 use data_frame::TableFault;
-use frac_core::{OutOfMemory, Text};
+use design_matrix::DesignFault;
+use formula_parser::FormulaFault;
+use frac_core::{Frac128, OutOfMemory, Text};
+use loss_model::{Site, Spill};
+use rq_program::ProgramFault;
 use rq_words::WordFault;
 use std::alloc::Global;
 
@@ -66,6 +70,9 @@ impl Page {
         match halt {
             Halt::Refused(Refusal::TooLong) => self.put(b"quantreg: input: TooLong\n"),
             Halt::Refused(Refusal::Table(fault)) => self.table_line(fault),
+            Halt::Refused(Refusal::Formula(fault)) => self.formula_line(fault),
+            Halt::Refused(Refusal::Design(fault)) => self.design_line(fault),
+            Halt::Refused(Refusal::Program(fault)) => self.program_line(fault),
             Halt::OutOfMemory => self.put(MEMORY_LINE),
             Halt::NotBuilt { part } => self.not_built_line(*part),
         }
@@ -117,6 +124,146 @@ impl Page {
         self.put(fault)?;
         self.put_field(b" column=", column as u64 + 1)?;
         self.put(b"\n")
+    }
+
+    #[tactic(auto, unfolding(crate::specs::FaultText::formula_line))]
+    fn formula_line(&mut self, fault: &FormulaFault) -> Result<(), OutOfMemory>
+        ensures { OnOk result (self.new ≡ self.old ++ formula_line fault.now) }
+    {
+        match fault {
+            FormulaFault::Syntax { offset } => {
+                self.offset_line(b"quantreg: formula: Syntax", *offset)
+            }
+            FormulaFault::UnknownName { offset } => {
+                self.offset_line(b"quantreg: formula: UnknownName", *offset)
+            }
+            FormulaFault::TooDeep { offset } => {
+                self.offset_line(b"quantreg: formula: TooDeep", *offset)
+            }
+            FormulaFault::TooManyTerms { offset } => {
+                self.offset_line(b"quantreg: formula: TooManyTerms", *offset)
+            }
+            FormulaFault::PowerRange { offset } => {
+                self.offset_line(b"quantreg: formula: PowerRange", *offset)
+            }
+            FormulaFault::NumberTooWide { offset } => {
+                self.offset_line(b"quantreg: formula: NumberTooWide", *offset)
+            }
+            FormulaFault::OutOfMemory => self.put(MEMORY_LINE),
+        }
+    }
+
+    // The line of a formula's fault.
+    fn offset_line(&mut self, fault: &[u8], offset: u32) -> Result<(), OutOfMemory>
+        ensures { OnOk result (self.new ≡ self.old ++ (fault.now ++ field (codes " offset=") offset ++ codes "\n")) }
+    {
+        self.put(fault)?;
+        self.put_field(b" offset=", offset as u64)?;
+        self.put(b"\n")
+    }
+
+    #[tactic(auto, unfolding(crate::specs::FaultText::design_line))]
+    fn design_line(&mut self, fault: &DesignFault) -> Result<(), OutOfMemory>
+        ensures { OnOk result (self.new ≡ self.old ++ design_line fault.now) }
+    {
+        match fault {
+            DesignFault::UnknownWeights => self.put(b"quantreg: design: UnknownWeights\n"),
+            DesignFault::ResponseNotNumeric => self.put(b"quantreg: design: ResponseNotNumeric\n"),
+            DesignFault::WeightNotNumeric => self.put(b"quantreg: design: WeightNotNumeric\n"),
+            DesignFault::NumberTooWide { rec, column } => {
+                self.cell_line(b"quantreg: design: NumberTooWide", *rec, column)
+            }
+            DesignFault::NegativeWeight { rec } => {
+                self.record_line(b"quantreg: design: NegativeWeight", *rec)
+            }
+            DesignFault::NoRows => self.put(b"quantreg: design: NoRows\n"),
+            DesignFault::OneLevel { factor } => {
+                self.factor_line(b"quantreg: design: OneLevel", factor)
+            }
+            DesignFault::NoColumns => self.put(b"quantreg: design: NoColumns\n"),
+            DesignFault::TooManyColumns => self.put(b"quantreg: design: TooManyColumns\n"),
+            DesignFault::Overflow(spill) => {
+                self.product_line(b"quantreg: design: Overflow quantity=design-entry", spill)
+            }
+            DesignFault::OutOfMemory => self.put(MEMORY_LINE),
+        }
+    }
+
+    // The line of a cell's fault.
+    fn cell_line(&mut self, fault: &[u8], rec: u32, column: &Text) -> Result<(), OutOfMemory>
+        ensures { OnOk result (self.new ≡ self.old ++ (fault.now ++ field (codes " record=") rec ++ named (codes " column=") column.now ++ codes "\n")) }
+    {
+        self.put(fault)?;
+        self.put_field(b" record=", rec as u64)?;
+        self.put_named(b" column=", column)?;
+        self.put(b"\n")
+    }
+
+    // The line of a record's fault.
+    fn record_line(&mut self, fault: &[u8], rec: u32) -> Result<(), OutOfMemory>
+        ensures { OnOk result (self.new ≡ self.old ++ (fault.now ++ field (codes " record=") rec ++ codes "\n")) }
+    {
+        self.put(fault)?;
+        self.put_field(b" record=", rec as u64)?;
+        self.put(b"\n")
+    }
+
+    // The line of a factor's fault.
+    fn factor_line(&mut self, fault: &[u8], factor: &Text) -> Result<(), OutOfMemory>
+        ensures { OnOk result (self.new ≡ self.old ++ (fault.now ++ named (codes " factor=") factor.now ++ codes "\n")) }
+    {
+        self.put(fault)?;
+        self.put_named(b" factor=", factor)?;
+        self.put(b"\n")
+    }
+
+    // The line of a product that overflows.
+    fn product_line(&mut self, fault: &[u8], spill: &Spill<Frac128>) -> Result<(), OutOfMemory>
+        ensures { OnOk result (self.new ≡ self.old ++ (fault.now ++ product_site spill.now.site ++ codes " op=mul" ++ operands spill.now.left spill.now.right ++ codes "\n")) }
+    {
+        self.put(fault)?;
+        self.put_site(&spill.site)?;
+        self.put(b" op=mul")?;
+        self.put_operands(spill.left, spill.right)?;
+        self.put(b"\n")
+    }
+
+    #[tactic(auto, unfolding(crate::specs::FaultText::product_site))]
+    fn put_site(&mut self, site: &Site) -> Result<(), OutOfMemory>
+        ensures { OnOk result (self.new ≡ self.old ++ product_site site.now) }
+    {
+        self.put_field(b" at=", site.first as u64)?;
+        self.put_field(b",", site.second as u64 + 1)?;
+        self.put_field(b" term=", site.term as u64)
+    }
+
+    #[tactic(auto, unfolding(crate::specs::FaultText::operands))]
+    fn put_operands(&mut self, left: Frac128, right: Frac128) -> Result<(), OutOfMemory>
+        ensures { OnOk result (self.new ≡ self.old ++ operands left right) }
+    {
+        self.put(b" left=")?;
+        self.put_number(left)?;
+        self.put(b" right=")?;
+        self.put_number(right)
+    }
+
+    #[tactic(auto, unfolding(crate::specs::FaultText::program_line))]
+    fn program_line(&mut self, fault: &ProgramFault) -> Result<(), OutOfMemory>
+        ensures { OnOk result (self.new ≡ self.old ++ program_line fault.now) }
+    {
+        match fault {
+            ProgramFault::TooManyRows => self.put(b"quantreg: program: TooManyRows\n"),
+            ProgramFault::TooManyColumns => self.put(b"quantreg: program: TooManyColumns\n"),
+            ProgramFault::OutOfMemory => self.put(MEMORY_LINE),
+        }
+    }
+
+    // What names a field, and the name in it.
+    fn put_named(&mut self, field: &[u8], name: &Text) -> Result<(), OutOfMemory>
+        ensures { OnOk result (self.new ≡ self.old ++ named field.now name.now) }
+    {
+        self.put(field)?;
+        self.put_name(name)
     }
 
     // What names a field, and its number.

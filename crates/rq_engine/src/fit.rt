@@ -5,12 +5,13 @@ ghost use Rattle.exact_algebra.specs.Rational.{◌≤ℚ◌, whole, quotient};
 ghost use Rattle.exact_algebra.specs.IntegerSums.{sum_to, positive_part, negative_part};
 ghost use Rattle.loss_model.specs.Problem.{sample, IsWellShaped};
 ghost use Rattle.rq_engine.specs.Ranking.{response, place};
-ghost use Rattle.rq_engine.specs.Fit.{IsUnitRow, IsLocationModel, IsLocationVertex, IsLocationSegment, IsRightFit, score_at, loss_around, trail_to};
+ghost use Rattle.rq_engine.specs.Fit.{IsFitUnder, IsLocationModel, IsLocationVertex, IsLocationSegment, IsRightFit, score_at, loss_around, trail_to};
 
 use crate::ranking::{Fitted, Quantile, fitted_row, sides};
 use crate::report::{Fit, ScorePair};
-use frac_core::{Exact, Frac128, List, OutOfMemory, Text};
-use loss_model::{Basis, Exchange, Problem, Process, Row, Segment, Trail, Vertex};
+use design_matrix::Design;
+use frac_core::{Exact, Frac128, List, OutOfMemory};
+use loss_model::{Basis, Exchange, Problem, Process, Segment, Trail, Vertex};
 use std::alloc::{AllocError, Global};
 
 // `n / d`, which is within the range of every type of fractions.
@@ -42,38 +43,6 @@ fn list_of<T: Drop>(alloc: Global, item: T) -> Result<List<T>, AllocError>
     let mut items = Vec::with_capacity(alloc, 1)?;
     items.push(item)?;
     Ok(List::from(items))
-}
-
-// A row of the location model.
-fn unit_row<F: Exact>(alloc: Global, response: i64) -> Result<Row<F>, AllocError>
-    requires { unsigned_abs response < 10 ^ 9 }
-    ensures { IfOk result (IsUnitRow F.value response) }
-{
-    Ok(Row {
-        x: list_of(alloc, F::one())?,
-        y: ratio(i128::from(response), 1),
-        up0: F::zero(),
-        up1: F::one(),
-        down0: F::one(),
-        down1: F::one().neg(),
-    })
-}
-
-// The location model of the responses.
-fn location_problem<F: Exact>(alloc: Global, responses: &[i64]) -> Result<Problem<F>, AllocError>
-    requires few { length responses.now ≤ 1000 }
-    requires small { All (λ y. unsigned_abs y < 10 ^ 9) responses.now }
-    ensures shaped { IfOk result IsWellShaped }
-    ensures model { IfOk result (λ p. IsLocationModel (response responses.now) (length responses.now) (sample F.value p)) }
-{
-    let mut rows = Vec::with_capacity(alloc, responses.len())?;
-    for response in responses {
-        rows.push(unit_row(alloc, *response)?)?;
-    }
-    Ok(Problem {
-        columns: 1,
-        rows: List::from(rows),
-    })
 }
 
 // The rankscore of the row at a place.
@@ -223,8 +192,9 @@ fn trail_to<F: Exact>(alloc: Global, tau: F, row: u32) -> Result<Trail<F>, Alloc
 fn location_fit(
     alloc: Global,
     responses: &[i64],
-    missing: u32,
     tau: Frac128,
+    problem: Problem<Frac128>,
+    design: Design,
 ) -> Result<Fit, AllocError>
     requires some { 1 ≤ length responses.now }
     requires few { length responses.now ≤ 1000 }
@@ -232,7 +202,10 @@ fn location_fit(
     requires low { whole (pos 0) ≤ℚ rational (⟦<Frac128 as Exact>⟧.value tau) }
     requires high { rational (⟦<Frac128 as Exact>⟧.value tau) ≤ℚ whole (pos 1) }
     requires fine { (⟦<Frac128 as Exact>⟧.value tau).den ≤ 1000 }
-    ensures { IfOk result (IsRightFit ⟦<Frac128 as Exact>⟧.value responses.now missing tau) }
+    requires shaped { IsWellShaped problem }
+    requires model { IsLocationModel (response responses.now) (length responses.now) (sample ⟦<Frac128 as Exact>⟧.value problem) }
+    ensures right { IfOk result (IsRightFit ⟦<Frac128 as Exact>⟧.value responses.now tau) }
+    ensures of { IfOk result (IsFitUnder problem design) }
 {
     let rows = responses.len() as u32;
     let level = quantile_of(tau);
@@ -244,13 +217,12 @@ fn location_fit(
         at_lo: score,
         at_hi: score,
     };
-    let intercept = Text::from(String::from_str(alloc, "(Intercept)")?);
     Ok(Fit {
         kept: rows,
-        dropped: missing,
-        names: list_of(alloc, intercept)?,
+        dropped: design.dropped,
+        names: design.names,
         data_rows: rows,
-        problem: location_problem(alloc, responses)?,
+        problem,
         process: Process {
             segments: list_of(alloc, segment)?,
             trail: trail_to(alloc, tau, fitted.row)?,
@@ -259,13 +231,14 @@ fn location_fit(
     })
 }
 
-/// The fit of an intercept alone to the responses at a quantile, which is a sample quantile, beside
-/// so many records that miss theirs. It refuses only for memory.
+/// The fit of a problem that is the location model of responses, which is a sample quantile, under
+/// what a design tells. It refuses only for memory.
 pub(crate) fn fit_column(
     alloc: Global,
     responses: &[i64],
-    missing: u32,
     tau: Frac128,
+    problem: Problem<Frac128>,
+    design: Design,
 ) -> Result<Fit, OutOfMemory>
     requires some { 1 ≤ length responses.now }
     requires few { length responses.now ≤ 1000 }
@@ -273,9 +246,12 @@ pub(crate) fn fit_column(
     requires low { whole (pos 0) ≤ℚ rational (⟦<Frac128 as Exact>⟧.value tau) }
     requires high { rational (⟦<Frac128 as Exact>⟧.value tau) ≤ℚ whole (pos 1) }
     requires fine { (⟦<Frac128 as Exact>⟧.value tau).den ≤ 1000 }
-    ensures { IfOk result (IsRightFit ⟦<Frac128 as Exact>⟧.value responses.now missing tau) }
+    requires shaped { IsWellShaped problem }
+    requires model { IsLocationModel (response responses.now) (length responses.now) (sample ⟦<Frac128 as Exact>⟧.value problem) }
+    ensures right { IfOk result (IsRightFit ⟦<Frac128 as Exact>⟧.value responses.now tau) }
+    ensures of { IfOk result (IsFitUnder problem design) }
 {
-    match location_fit(alloc, responses, missing, tau) {
+    match location_fit(alloc, responses, tau, problem, design) {
         Ok(fit) => Ok(fit),
         Err(_) => Err(OutOfMemory),
     }

@@ -1,22 +1,35 @@
-ghost use Rattle.std.specs.Prelude.{◌≤◌, ◌^◌, ℕ, List, length, IfOk, IfErr};
-ghost use Rattle.rq_engine.specs.Answers.{IsRight, HasCause};
-ghost use Rattle.rq_engine.specs.Level.{IsBuilt, IsJobOf};
-ghost use Rattle.rq_engine.specs.ReportText.{IsPrintable};
+//! A job, step by step: the table, its model, the design, the problem, and the fit.
+ghost use Rattle.std.specs.Prelude.{◌≡◌, ◌≤◌, ◌^◌, ℕ, List, true, nat_lt, length, pos, IfOk, IfErr};
+ghost use Rattle.std.specs.List.{list_all};
+ghost use Rattle.exact_algebra.specs.Fraction.{rational};
+ghost use Rattle.exact_algebra.specs.Rational.{◌≤ℚ◌, whole};
+ghost use Rattle.rq_engine.specs.Answers.{HasCause, HasFitCause, HasTableCause, IsFitOf, IsFitOfBytes, IsRight};
+ghost use Rattle.rq_engine.specs.Models.{IsModel};
+ghost use Rattle.rq_engine.specs.Point.{IsBuilt, IsJobOf};
+ghost use Rattle.rq_engine.specs.ReportText.{IsPrintable, value};
 
 use crate::fit::fit_column;
-use crate::level::level_of;
-use crate::report::{Halt, Report};
+use crate::halt::{design_halt, formula_halt, program_halt, table_halt};
+use crate::point::point_of;
+use crate::problem::plain_problem;
+use crate::report::{Fit, Halt, Report};
 use crate::responses::read_responses;
-use rq_words::Job;
+use data_frame::{Frame, read_table};
+use design_matrix::build;
+use formula_parser::{Formula, Term, parse};
+use rq_words::{FitJob, Job};
 use std::alloc::Global;
 use std::thread::Threads;
 
+// The length of a word that is too long.
+const LONG: usize = 1 << 31;
+
 /// The report of a job that this version does, from the bytes of its input.
 ///
-/// `Refused` is the first fault of the bytes as a table. `NotBuilt` with part 2 comes exactly where
-/// they are a table without a column of the job's name, or whose column of that name holds anything
-/// else than 1 to 1,000 whole numbers below 10^9 in size beside its missing cells. A record that
-/// misses its response is dropped and counted. `OutOfMemory` may come at any step.
+/// `Refused` is the first fault: of the bytes as a table, of the formula over the table's names, of
+/// the design, or of its problem. `NotBuilt` has part 3 exactly where the formula has a smooth, and
+/// part 4 exactly where the problem has another column than the intercept, or more than 1,000 rows,
+/// or a response that isn't a whole number below 10^9 in size. `OutOfMemory` may come at any step.
 pub fn answer<R: Threads + Sync>(
     _rt: &R,
     alloc: Global,
@@ -30,10 +43,90 @@ pub fn answer<R: Threads + Sync>(
     ensures printable { IfOk result IsPrintable }
     ensures cause { IfErr result (HasCause job.now bytes.now) }
 {
-    let level = level_of(job).unwrap();
-    let responses = read_responses(alloc, level.name, bytes)?;
-    match fit_column(alloc, &responses.values, responses.missing, level.tau) {
+    let fit_job = point_of(job).unwrap();
+    match fit_bytes(alloc, fit_job, bytes) {
         Ok(fit) => Ok(Report::Process(fit)),
+        Err(halt) => Err(halt),
+    }
+}
+
+// The fit of the table of bytes.
+fn fit_bytes(alloc: Global, job: &FitJob, bytes: &[u8]) -> Result<Fit, Halt>
+    requires low { whole (pos 0) ≤ℚ rational (value job.now.lo) }
+    requires high { rational (value job.now.lo) ≤ℚ whole (pos 1) }
+    requires fine { job.now.lo.den ≤ 1000 }
+    requires short { length bytes.now ≤ 2 ^ 26 }
+    ensures right { IfOk result (IsFitOfBytes job.now bytes.now) }
+    ensures cause { IfErr result (HasFitCause job.now bytes.now) }
+{
+    match read_table(alloc, bytes) {
+        Ok(frame) => fit_table(alloc, job, &frame),
+        Err(fault) => Err(table_halt(fault)),
+    }
+}
+
+// The fit of a table.
+fn fit_table(alloc: Global, job: &FitJob, frame: &Frame) -> Result<Fit, Halt>
+    requires low { whole (pos 0) ≤ℚ rational (value job.now.lo) }
+    requires high { rational (value job.now.lo) ≤ℚ whole (pos 1) }
+    requires fine { job.now.lo.den ≤ 1000 }
+    ensures right { IfOk result (IsFitOf job.now frame.now) }
+    ensures cause { IfErr result (HasTableCause job.now frame.now) }
+{
+    let formula = job.formula.as_str();
+    // No word is so long, and memory isn't spent on one.
+    if formula.len() >= LONG {
+        return Err(Halt::OutOfMemory);
+    }
+    let model = match parse(alloc, formula, frame.names()) {
+        Ok(model) => model,
+        Err(fault) => return Err(formula_halt(fault)),
+    };
+    if !model.smooths.as_slice().is_empty() {
+        return Err(Halt::NotBuilt { part: 3 });
+    }
+    if !are_countable(model.terms.as_slice()) {
+        return Err(Halt::OutOfMemory);
+    }
+    fit_model(alloc, job, frame, &model)
+}
+
+// Whether the variables of each term are counted in 32 bits, as those of a table's columns are.
+fn are_countable(terms: &[Term]) -> bool
+    ensures { result ≡ list_all (λ t. nat_lt (length t.variables) (2 ^ 32)) terms.now }
+{
+    terms
+        .iter()
+        .all(|term| term.variables.as_slice().len() < 1 << 32)
+}
+
+// The fit of a table by a model without smooths.
+fn fit_model(alloc: Global, job: &FitJob, frame: &Frame, model: &Formula) -> Result<Fit, Halt>
+    requires low { whole (pos 0) ≤ℚ rational (value job.now.lo) }
+    requires high { rational (value job.now.lo) ≤ℚ whole (pos 1) }
+    requires fine { job.now.lo.den ≤ 1000 }
+    requires stated { IsModel job.now frame.now model.now }
+    requires countable { list_all (λ t. nat_lt (length t.variables) (2 ^ 32)) model.now.terms ≡ true }
+    ensures right { IfOk result (IsFitOf job.now frame.now) }
+    ensures cause { IfErr result (HasTableCause job.now frame.now) }
+{
+    let design = match build(alloc, frame, model, job.coding, None) {
+        Ok(design) => design,
+        Err(fault) => return Err(design_halt(fault)),
+    };
+    let problem = match plain_problem(alloc, &design) {
+        Ok(problem) => problem,
+        Err(fault) => return Err(program_halt(fault)),
+    };
+    if !model.intercept || problem.columns != 1 {
+        return Err(Halt::NotBuilt { part: 4 });
+    }
+    let responses = match read_responses(alloc, problem.rows.as_slice()) {
+        Ok(responses) => responses,
+        Err(halt) => return Err(halt),
+    };
+    match fit_column(alloc, &responses, job.lo, problem, design) {
+        Ok(fit) => Ok(fit),
         Err(_) => Err(Halt::OutOfMemory),
     }
 }

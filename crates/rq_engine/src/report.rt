@@ -1,7 +1,10 @@
 //! What a job answers.
 use data_frame::TableFault;
+use design_matrix::DesignFault;
+use formula_parser::FormulaFault;
 use frac_core::{Frac128, List, Text};
 use loss_model::{Problem, Process};
+use rq_program::ProgramFault;
 use rq_words::WordFault;
 
 /// The rankscores of a basic row at the two ends of a segment. Of a penalty row they are its dual
@@ -33,21 +36,28 @@ pub enum Report {
     Process(Fit),
 }
 
-/// Why an input has no report.
-#[derive(Clone, Copy, Debug, PartialEq, Eq)]
+/// Why an input has no report. No fault in it is want of memory.
+#[derive(Drop)]
 pub enum Refusal {
     /// It is longer than 2^26 bytes.
     TooLong,
-    /// It is no table, for this fault, which is never want of memory.
+    /// It is no table.
     Table(TableFault),
+    /// The formula is none over the names of the table.
+    Formula(FormulaFault),
+    /// The table has no design by the formula.
+    Design(DesignFault),
+    /// The design has no problem.
+    Program(ProgramFault),
 }
 
 /// Why a job ended without a report.
-#[derive(Clone, Copy, Debug, PartialEq, Eq)]
+#[derive(Drop)]
 pub enum Halt {
     Refused(Refusal),
     OutOfMemory,
-    /// It asks for what this version does not do: part 1 is the job, part 2 the table.
+    /// It asks for what this version does not do: part 1 is the job, part 3 a smooth in its formula,
+    /// part 4 the problem.
     NotBuilt { part: u8 },
 }
 

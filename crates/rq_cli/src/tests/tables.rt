@@ -76,22 +76,26 @@ static FAULTS: [(&[u8], u8, &str); 22] = [
         "quantreg: table: Ragged record=2 found=2 wanted=1\n",
     ),
     // No column of the name.
-    (b"x\n1\n", 9, "quantreg: build: NotBuilt part=2\n"),
-    (b"Y\n1\n", 9, "quantreg: build: NotBuilt part=2\n"),
+    (b"x\n1\n", 1, "quantreg: formula: UnknownName offset=0\n"),
+    (b"Y\n1\n", 1, "quantreg: formula: UnknownName offset=0\n"),
     // A factor, and a number that is too wide.
-    (b"y\n1\na\n", 9, "quantreg: build: NotBuilt part=2\n"),
-    (b"y\n--1\n", 9, "quantreg: build: NotBuilt part=2\n"),
-    (b"y\n2e38\n", 9, "quantreg: build: NotBuilt part=2\n"),
+    (b"y\n1\na\n", 1, "quantreg: design: ResponseNotNumeric\n"),
+    (b"y\n--1\n", 1, "quantreg: design: ResponseNotNumeric\n"),
+    (
+        b"y\n2e38\n",
+        1,
+        "quantreg: design: NumberTooWide record=1 column=y\n",
+    ),
     // No response.
-    (b"y\n", 9, "quantreg: build: NotBuilt part=2\n"),
-    (b"y,x\nNA,1\n,2\n", 9, "quantreg: build: NotBuilt part=2\n"),
+    (b"y\n", 1, "quantreg: design: NoRows\n"),
+    (b"y,x\nNA,1\n,2\n", 1, "quantreg: design: NoRows\n"),
     // A response that isn't a whole number below 10^9 in size.
-    (b"y\n1.5\n", 9, "quantreg: build: NotBuilt part=2\n"),
-    (b"y\n1\n1.5\n", 9, "quantreg: build: NotBuilt part=2\n"),
-    (b"y\n2/4\n", 9, "quantreg: build: NotBuilt part=2\n"),
-    (b"y\n1000000000\n", 9, "quantreg: build: NotBuilt part=2\n"),
-    (b"y\n-1000000000\n", 9, "quantreg: build: NotBuilt part=2\n"),
-    (b"y\n1e37\n", 9, "quantreg: build: NotBuilt part=2\n"),
+    (b"y\n1.5\n", 9, "quantreg: build: NotBuilt part=4\n"),
+    (b"y\n1\n1.5\n", 9, "quantreg: build: NotBuilt part=4\n"),
+    (b"y\n2/4\n", 9, "quantreg: build: NotBuilt part=4\n"),
+    (b"y\n1000000000\n", 9, "quantreg: build: NotBuilt part=4\n"),
+    (b"y\n-1000000000\n", 9, "quantreg: build: NotBuilt part=4\n"),
+    (b"y\n1e37\n", 9, "quantreg: build: NotBuilt part=4\n"),
 ];
 
 #[test]
@@ -103,12 +107,57 @@ fn other_tables_are_told(rt: HostRuntime) -> Result<(), Fail> {
     Ok(())
 }
 
+// Each case: the formula, the table, the exit status, and the line.
+static MODELS: [(&str, &[u8], u8, &str); 5] = [
+    (
+        "y ~ x",
+        b"y,x\n3,0.1e-40\n",
+        1,
+        "quantreg: design: NumberTooWide record=1 column=x\n",
+    ),
+    (
+        "y ~ f",
+        b"y,f\n1,a\n2,a\n",
+        1,
+        "quantreg: design: OneLevel factor=f\n",
+    ),
+    // The second record's product is 10^40, which is above 2^127.
+    (
+        "y ~ x:z",
+        b"y,x,z\n1,2,3\n1,1e20,1e20\n",
+        1,
+        "quantreg: design: Overflow quantity=design-entry at=2,2 term=1 op=mul left=100000000000000000000 right=100000000000000000000\n",
+    ),
+    (
+        "y ~ x",
+        b"y,x\n1,NA\n2,5\n,3\n4,4\n",
+        9,
+        "quantreg: build: NotBuilt part=4\n",
+    ),
+    (
+        "y ~ 0 + .",
+        b"y,(Intercept)\n1,2\n",
+        9,
+        "quantreg: build: NotBuilt part=4\n",
+    ),
+];
+
+#[test]
+fn models_of_tables_are_told(rt: HostRuntime) -> Result<(), Fail> {
+    for (formula, table, status, told) in &MODELS {
+        let line = format!(in rt.alloc(); "process|--formula|{formula}|--lo|1/2|--hi|1/2")?;
+        let left = ran_on(&rt, rt.alloc(), &line, table)?;
+        assert_refused(&rt, &left, *status, told, &line);
+    }
+    Ok(())
+}
+
 // Each case: what stands first, a piece and how often it follows, the exit status, and the line.
 static LARGE: [(&str, &str, usize, u8, &str); 6] = [
     ("", ",", 1024, 1, "quantreg: table: TooManyColumns\n"),
     ("", ",", 1023, 1, "quantreg: table: EmptyName column=2\n"),
     ("y\n", "1\n", 16_385, 1, "quantreg: table: TooManyRows\n"),
-    ("y\n", "1\n", 1001, 9, "quantreg: build: NotBuilt part=2\n"),
+    ("y\n", "1\n", 1001, 9, "quantreg: build: NotBuilt part=4\n"),
     ("y\n", "1\n", 1000, 0, ""),
     ("y\n1\n", "NA\n", 16_383, 0, ""),
 ];

@@ -1,7 +1,15 @@
-use super::{fit_column, ratio};
+ghost use Rattle.std.specs.Prelude.{◌<◌, ◌≤◌, ◌^◌, All, IfOk, length, unsigned_abs};
+ghost use Rattle.loss_model.specs.Problem.{sample, IsWellShaped};
+ghost use Rattle.rq_engine.specs.Ranking.{response};
+ghost use Rattle.rq_engine.specs.Fit.{IsUnitRow, IsLocationModel};
+
+use super::{fit_column, list_of, ratio};
 use crate::report::Fit;
-use frac_core::{Exact, Frac128};
+use design_matrix::Design;
+use frac_core::{Exact, Frac128, List};
 use loss_model::Side::{self, Basic, Down, Up};
+use loss_model::{Problem, Row};
+use std::alloc::{AllocError, Global};
 use std::process::Abort;
 use std::test::Fail;
 
@@ -19,6 +27,38 @@ struct Case {
     score: (i128, i128),
 }
 
+// A row of the location model.
+fn unit_row<F: Exact>(alloc: Global, response: i64) -> Result<Row<F>, AllocError>
+    requires { unsigned_abs response < 10 ^ 9 }
+    ensures { IfOk result (IsUnitRow F.value response) }
+{
+    Ok(Row {
+        x: list_of(alloc, F::one())?,
+        y: ratio(i128::from(response), 1),
+        up0: F::zero(),
+        up1: F::one(),
+        down0: F::one(),
+        down1: F::one().neg(),
+    })
+}
+
+// The location model of the responses.
+fn location_problem<F: Exact>(alloc: Global, responses: &[i64]) -> Result<Problem<F>, AllocError>
+    requires few { length responses.now ≤ 1000 }
+    requires small { All (λ y. unsigned_abs y < 10 ^ 9) responses.now }
+    ensures shaped { IfOk result IsWellShaped }
+    ensures model { IfOk result (λ p. IsLocationModel (response responses.now) (length responses.now) (sample F.value p)) }
+{
+    let mut rows = Vec::with_capacity(alloc, responses.len())?;
+    for response in responses {
+        rows.push(unit_row(alloc, *response)?)?;
+    }
+    Ok(Problem {
+        columns: 1,
+        rows: List::from(rows),
+    })
+}
+
 // Makes sure of what `fit_column` requires.
 fn fit_at(
     rt: &(impl Abort + AllocGlobal),
@@ -34,7 +74,13 @@ fn fit_at(
     assert!(rt; responses.len() >= 1);
     assert!(rt; responses.len() <= 1000);
     assert!(rt; responses.iter().all(|y| y.unsigned_abs() < 1_000_000_000));
-    Ok(fit_column(rt.alloc(), responses, 0, tau)?)
+    let problem = location_problem(rt.alloc(), responses)?;
+    let design = Design {
+        names: List::new(rt.alloc()),
+        rows: List::new(rt.alloc()),
+        dropped: 0,
+    };
+    Ok(fit_column(rt.alloc(), responses, tau, problem, design)?)
 }
 
 // The check loss around a center, times the denominator of the quantile: the plain sum over rows.

@@ -19,40 +19,37 @@ score_at-score-requires-clause-small c =
     let fitted = c.in_ok-fitted.ensures in
     omega (arith, fitted.placed, c.requires.few, (place_within (response ys) (length ys) c.in_ok-fitted.fitted.row fitted.fitted.within).1)
 
-pub returns : goal.returns
-returns c =
+pub returns-clause-right : goal.returns-clause-right
+returns-clause-right c =
     let ys = c.args.responses.now in
     let y = response ys in
     let n = length ys in
     let f = c.in_ok-fitted.fitted.row in
     let tau = c.args.tau in
-    let problem = c.in_ok-location_problem.field-0 in
-    let model = c.in_ok-location_problem.ensures.model in
+    let problem = c.args.problem in
+    let model = c.requires.model in
     let segment = c.in_ok-segment.segment in
     let right : IsLocationSegment value y n f tau segment = c.in_ok-segment.ensures in
     let fitted : IsFitted y n (rational (value tau)) f = subst (λ t. IsFitted y n t f) c.quantile_of-level.ensures c.in_ok-fitted.ensures.fitted in
-    let name : c.in_ok-list_of.field-0 ≡ c.from-intercept.result ∷ [] = c.in_ok-list_of.ensures in
-    let segments : c.in_ok-list_of-2.field-0 ≡ segment ∷ [] = c.in_ok-list_of-2.ensures in
+    let segments : c.in_ok-list_of.field-0 ≡ segment ∷ [] = c.in_ok-list_of.ensures in
     let pair : ScorePair Frac128 = record { row = f; at_lo = c.score_at-score.result; at_hi = c.score_at-score.result } in
-    let pairs : c.in_ok-list_of-3.field-0 ≡ pair ∷ [] = c.in_ok-list_of-3.ensures in
-    let lists : c.in_ok-list_of-4.field-0 ≡ c.in_ok-list_of-3.field-0 ∷ [] = c.in_ok-list_of-4.ensures in
+    let pairs : c.in_ok-list_of-2.field-0 ≡ pair ∷ [] = c.in_ok-list_of-2.ensures in
+    let lists : c.in_ok-list_of-3.field-0 ≡ c.in_ok-list_of-2.field-0 ∷ [] = c.in_ok-list_of-3.ensures in
     let score : rational (value c.score_at-score.result) ≡ score_at n (rational (value tau)) (place y n f) =
     c.score_at-score.ensures ∙ ap (λ t. score_at n t c.in_ok-fitted.fitted.place) c.quantile_of-level.ensures ∙ ap (score_at n (rational (value tau))) c.in_ok-fitted.ensures.placed in
     record {
       kept = refl;
-      dropped = refl;
-      names = name ∙ ap (λ t. t ∷ []) (c.from-intercept.ensures ∙ c.in_ok-from_str.ensures.ok);
       data_rows = refl;
-      shaped = c.in_ok-location_problem.ensures.shaped;
+      shaped = c.requires.shaped;
       model = model;
       covers = subst (λ l. Covers n (rational (value tau)) (rational (value tau)) (segments_of value problem l)) (sym segments) (covers_point value problem y n f tau segment model right fitted);
-      segments = all_one (IsRightSegment value problem) segment c.in_ok-list_of-2.field-0 segments (right_segment value problem y n f tau segment model right fitted);
+      segments = all_one (IsRightSegment value problem) segment c.in_ok-list_of.field-0 segments (right_segment value problem y n f tau segment model right fitted);
       scores =
-          subst (λ l. AllZip (IsScored value problem) l c.in_ok-list_of-4.field-0) (sym segments)
+          subst (λ l. AllZip (IsScored value problem) l c.in_ok-list_of-3.field-0) (sym segments)
           (subst (λ l. AllZip (IsScored value problem) (segment ∷ []) l) (sym (lists ∙ ap (λ l. l ∷ []) pairs))
           (right_scores value problem y n f tau segment model right fitted pair refl score score, tt));
       row = f;
       fitted = fitted;
-      vertices = all_one (λ s. IsLocationVertex value y n f s.vertex) segment c.in_ok-list_of-2.field-0 segments right.vertex;
+      vertices = all_one (λ s. IsLocationVertex value y n f s.vertex) segment c.in_ok-list_of.field-0 segments right.vertex;
       trail = c.in_ok-trail_to.ensures;
     }

@@ -1,24 +1,23 @@
-use Rattle.std.proofs.lemmas.Result.{IfErr-weaker, IfOk-weaker}
-use Rattle.data_frame.specs.Views.{exact_table}
-use Rattle.rq_engine.specs.Responses.{HasResponses, HoldResponses, IsOther, IsUnread}
-use Rattle.rq_engine.proofs.TableColumns.{few_cells}
-use Rattle.rq_engine.proofs.Unread.{other_column}
+use Rattle.std.proofs.Common.{◌≡◌, ◌∷◌, ◌++◌, [], All, SFits, arith, ap, refl, subst, sym, to_z-of_z, w64, ◌∙◌}
+use Rattle.std.proofs.lemmas.Int.{ints}
+use Rattle.std.proofs.lemmas.List.Elements.{All-push}
+use Rattle.data_frame.specs.Views.{exact}
+use Rattle.rq_engine.specs.Responses.{IsSmall}
+use Rattle.rq_engine.proofs.SmallResponses.{all_read, not_whole, one_more, too_many}
 use Rattle.rq_engine.proofs.responses.read_responses.Goals as goal
 
-pub responses_of-requires : goal.responses_of-requires
-responses_of-requires c =
-    few_cells c.args.bytes.now (exact_table c.in_ok-frame.frame) c.args.name.now c.in_ok-frame.ensures.formed c.in_ok-frame.ensures.read
+pub returns-in_default-clause-cause : goal.returns-in_default-clause-cause
+returns-in_default-clause-cause c =
+    (refl, not_whole (λ r. exact r.y) c.args.rows.now c.loop-row.row-index c.row-item.result c.loop-row.values.items (omega arith) c.row-item.is c.loop-row.invariant.so_far c.in_default.ensures.other)
 
-pub returns-clause-read : goal.returns-clause-read
-returns-clause-read c =
-    let name = c.args.name.now in
-    let table = exact_table c.in_ok-frame.frame in
-    IfOk-weaker c.responses_of.result (λ r. HasResponses name table r.values.items r.missing) (λ r. HoldResponses name c.args.bytes.now r.values.items r.missing)
-    (λ r has. record { table = table; read = c.in_ok-frame.ensures.read; column = has }) c.responses_of.ensures.read
-
-pub returns-clause-cause : goal.returns-clause-cause
-returns-clause-cause c =
-    let name = c.args.name.now in
-    let table = exact_table c.in_ok-frame.frame in
-    IfErr-weaker c.responses_of.result (IsOther (HasResponses name table)) (IsUnread name c.args.bytes.now)
-    (other_column name c.args.bytes.now table c.in_ok-frame.ensures.read) c.responses_of.ensures.cause
+pub loop-row-preserved : goal.loop-row-preserved
+loop-row-preserved c =
+    let values = c.loop-row.values.items in
+    let value = c.in-Some.value in
+    let small : IsSmall value = c.in-Some.ensures.small in
+    let fits : SFits w64 value = omega (arith, ints, small) in
+    let pushed : c.push_whole.new.values.items ≡ values ++ value ∷ [] = simp to_z-of_z at c.in_ok-push_whole.ensures.pushed in
+    record {
+      small = subst (All IsSmall) (sym pushed) (All-push IsSmall values value c.loop-row.invariant.small small);
+      so_far = one_more (λ r. exact r.y) c.args.rows.now c.loop-row.row-index c.row-item.result values c.push_whole.new.values.items value (omega arith) c.row-item.is c.loop-row.invariant.so_far c.in-Some.ensures.whole pushed;
+    }

@@ -1,7 +1,7 @@
 use Rattle.std.proofs.Common.{◌≡◌, ℕ, ◌<◌, length, get_or}
 use Rattle.rq_engine.specs.Ranking.{response}
 use Rattle.rq_engine.specs.Fit.{IsUnitRow}
-use Rattle.rq_engine.proofs.fit.location_problem.Given as goal
+use Rattle.rq_engine.proofs.fit.tests.location_problem.Given as goal
 
 abbrev pub invariant-loop-response : goal.invariant-loop-response
 invariant-loop-response g l =

@@ -6,7 +6,7 @@ use Rattle.loss_model.specs.Problem.{sample}
 use Rattle.rq_engine.specs.Ranking.{response}
 use Rattle.rq_engine.specs.Fit.{IsUnitRow, IsLocationModel}
 use Rattle.rq_engine.proofs.UnitRows.{each_more, unit_rows_model}
-use Rattle.rq_engine.proofs.fit.location_problem.Goals as goal
+use Rattle.rq_engine.proofs.fit.tests.location_problem.Goals as goal
 
 pub loop-response-preserved : goal.loop-response-preserved
 loop-response-preserved g c =

@@ -4,7 +4,7 @@ use Rattle.std.specs.Int.{w128}
 use Rattle.exact_algebra.specs.Quotients.{quotient-one}
 use Rattle.exact_algebra.specs.Rational.{neg_ℚ, quotient}
 use Rattle.loss_model.specs.Problem.{value_at}
-use Rattle.rq_engine.proofs.fit.unit_row.Goals as goal
+use Rattle.rq_engine.proofs.fit.tests.unit_row.Goals as goal
 
 pub returns : goal.returns
 returns g c =

@@ -1,0 +1,47 @@
+//! The job that is done today: a fit at one quantile.
+ghost use Rattle.std.specs.Prelude.{◌≡◌, IfSome, IfNone, IsTrue, ◌↔◌};
+ghost use Rattle.rq_words.specs.declared.job.Job.TheVariants.{Process};
+ghost use Rattle.rq_engine.specs.Point.{is_plain as is_plain_of, IsPoint, IsBuilt};
+
+use frac_core::Exact;
+use rq_words::{FitJob, Job};
+
+// Whether no option was given but the formula, the range and the coding.
+fn is_plain(fit: &FitJob) -> bool
+    ensures { result ≡ is_plain_of fit.now }
+{
+    (fit.limit == 100_000) & fit.weights.is_none() & fit.rank.is_none()
+}
+
+fn is_point(fit: &FitJob) -> bool
+    ensures { IsTrue result ↔ IsPoint fit.now }
+{
+    let tau = fit.lo;
+    if !is_plain(fit) || tau != fit.hi || tau.denominator() > 1000 {
+        return false;
+    }
+    true
+}
+
+/// The fit that a job is, where it is one that is done.
+pub(crate) fn point_of(job: &Job) -> Option<&FitJob>
+    ensures found { IfSome result (λ fit. job.now ≡ Process fit.now) }
+    ensures point { IfSome result (λ fit. IsPoint fit.now) }
+    ensures missing { IfNone result (¬ IsBuilt job.now) }
+{
+    match job {
+        Job::Process(fit) => { if is_point(fit) { Some(fit) } else { None } }
+        _ => None,
+    }
+}
+
+/// Whether this version does the job: it is a process at one quantile, of a denominator of at most
+/// 1,000, with no other option than the contrasts. It takes no memory.
+pub fn is_built(job: &Job) -> bool
+    ensures { IsTrue result ↔ IsBuilt job.now }
+{
+    match job {
+        Job::Process(fit) => is_point(fit),
+        _ => false,
+    }
+}
