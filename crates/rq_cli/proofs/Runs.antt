@@ -3,6 +3,7 @@ use Rattle.std.proofs.Common.{◌≡◌, ℕ, ◌<◌, List, Option, None, Some,
 use Rattle.std.proofs.lemmas.Bool.{false≢true}
 use Rattle.std.specs.Io.KnownBytes.{Appends, Keeps}
 use Rattle.rq_words.specs.declared.job.Job.{Job}
+use Rattle.rq_words.specs.declared.job.Job.TheVariants as jobs
 use Rattle.port_io.specs.Counts.{CountsFaults}
 use Rattle.port_io.specs.Told.{AppendsPart}
 use Rattle.rq_engine.specs.Answers as engine
@@ -21,9 +22,17 @@ pub tried : {T E : Type 0} (r : Result T E) (before now : Stream) (line : List �
 tried (Ok x) before now line ok err counted = inl ok
 tried (Err e) before now line ok err counted = inr (counted.rose, err)
 
+-- the engine never finds an input too long
+never_long : (job : Job) (bytes : List ℕ) → engine.HasCause job bytes (halts.Refused TooLong) → ⊥
+never_long (jobs.Process fit) bytes cause = cause
+never_long (jobs.Ranks fit) bytes cause = cause
+never_long (jobs.Certify fit) bytes cause = cause
+never_long jobs.Check bytes cause = cause
+never_long (jobs.Sample sample) bytes cause = cause
+
 -- the cause of a halt is that of its outcome
 pub halt_cause : (words : List (List ℕ)) (source source' : Stream) (job : Job) (bytes : List ℕ) → WereRead words source source' job bytes → (halt : Halt) → engine.HasCause job bytes halt → HasCause words source source' (outcome_of halt)
-halt_cause words source source' job bytes read (halts.Refused TooLong) cause = absurd cause
+halt_cause words source source' job bytes read (halts.Refused TooLong) cause = absurd (never_long job bytes cause)
 halt_cause words source source' job bytes read (halts.Refused (Table fault)) cause = record { job = job; bytes = bytes; read = read; cause = cause }
 halt_cause words source source' job bytes read (halts.Refused (Formula fault)) cause = record { job = job; bytes = bytes; read = read; cause = cause }
 halt_cause words source source' job bytes read (halts.Refused (Design fault)) cause = record { job = job; bytes = bytes; read = read; cause = cause }
