@@ -17,6 +17,8 @@ mod slopes;
 mod solve;
 mod standing;
 mod step;
+#[cfg(test)]
+mod tests;
 mod vertex;
 
 pub use solve::{Solved, solve_at};
