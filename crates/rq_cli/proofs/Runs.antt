@@ -9,13 +9,13 @@ use Rattle.port_io.specs.Told.{AppendsPart}
 use Rattle.rq_engine.specs.Answers as engine
 use Rattle.rq_engine.specs.ReportText.{report_text}
 use Rattle.rq_engine.specs.declared.report.Report.{Report}
-use Rattle.rq_engine.specs.declared.report.Refusal.TheVariants.{TooLong, Table, Formula, Design, Program}
+use Rattle.rq_engine.specs.declared.report.Refusal.TheVariants.{TooLong, Table, Formula, Design, Program, Dependent}
 use Rattle.rq_engine.specs.declared.report.Halt.{Halt}
 use Rattle.rq_engine.specs.declared.report.Halt.TheVariants as halts
 use Rattle.rq_cli.specs.Outcomes.{Stream, OnDone, OnFault, is_fault, outcome_line, WereRead, HasCause, IsAnswered, WasTried, IsRun}
 use Rattle.rq_cli.specs.Steps.{outcome_of, IsWordOutcome, WasTold, WasPrinted}
 use Rattle.rq_cli.specs.declared.outcome.Outcome.{Outcome}
-use Rattle.rq_cli.specs.declared.outcome.Outcome.TheVariants.{Done, Refused, Usage, SourceFault, SinkFault, OutOfMemory, NotBuilt}
+use Rattle.rq_cli.specs.declared.outcome.Outcome.TheVariants.{Done, Refused, Usage, SourceFault, SinkFault, OutOfMemory, PivotLimit, Overflow, NotBuilt}
 
 -- a write whose answer isn't looked at
 pub tried : {T E : Type 0} (r : Result T E) (before now : Stream) (line : List ℕ) → OnOk r (Appends before.bytes now.bytes line) → OnErr r (AppendsPart before.bytes now.bytes line) → CountsFaults before.faults now.faults r → WasTried before now line
@@ -37,7 +37,10 @@ halt_cause words source source' job bytes read (halts.Refused (Table fault)) cau
 halt_cause words source source' job bytes read (halts.Refused (Formula fault)) cause = record { job = job; bytes = bytes; read = read; cause = cause }
 halt_cause words source source' job bytes read (halts.Refused (Design fault)) cause = record { job = job; bytes = bytes; read = read; cause = cause }
 halt_cause words source source' job bytes read (halts.Refused (Program fault)) cause = record { job = job; bytes = bytes; read = read; cause = cause }
+halt_cause words source source' job bytes read (halts.Refused (Dependent combination)) cause = record { job = job; bytes = bytes; read = read; cause = cause }
 halt_cause words source source' job bytes read halts.OutOfMemory cause = tt
+halt_cause words source source' job bytes read (halts.PivotLimit place limit trail) cause = record { job = job; bytes = bytes; read = read; cause = cause }
+halt_cause words source source' job bytes read (halts.Overflow place trail spill) cause = record { job = job; bytes = bytes; read = read; cause = cause }
 halt_cause words source source' job bytes read (halts.NotBuilt part) cause = inr (record { job = job; bytes = bytes; read = read; cause = cause })
 
 -- what is wrong with the words is a fault with its cause
@@ -48,6 +51,8 @@ word_cause words source source' (Usage fault) h = (refl, h)
 word_cause words source source' SourceFault h = absurd h
 word_cause words source source' SinkFault h = absurd h
 word_cause words source source' OutOfMemory h = (refl, tt)
+word_cause words source source' (PivotLimit place limit trail) h = absurd h
+word_cause words source source' (Overflow place trail spill) h = absurd h
 word_cause words source source' (NotBuilt part) h = (refl, inl h)
 
 keeps : (bytes : Option (List ℕ)) → Keeps bytes bytes
@@ -90,6 +95,8 @@ module _ (words : List (List ℕ)) (source source' out out' err err' : Stream) w
   on_fault (Usage _) P h = h
   on_fault SourceFault P h = h
   on_fault OutOfMemory P h = h
+  on_fault (PivotLimit _ _ _) P h = h
+  on_fault (Overflow _ _ _) P h = h
   on_fault (NotBuilt _) P h = h
 
   not_done : (fault : Outcome) (P : Report → Type 0) → is_fault fault ≡ true → OnDone fault P
@@ -99,6 +106,8 @@ module _ (words : List (List ℕ)) (source source' out out' err err' : Stream) w
   not_done (Usage _) P h = tt
   not_done SourceFault P h = tt
   not_done OutOfMemory P h = tt
+  not_done (PivotLimit _ _ _) P h = tt
+  not_done (Overflow _ _ _) P h = tt
   not_done (NotBuilt _) P h = tt
 
   not_sink : (fault : Outcome) → is_fault fault ≡ true → fault ≡ SinkFault → ⊥

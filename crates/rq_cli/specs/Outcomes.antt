@@ -15,7 +15,7 @@ use Rattle.rq_engine.specs.declared.report.Halt.{Halt}
 use Rattle.rq_engine.specs.declared.report.Halt.TheVariants as halts
 use Rattle.rq_engine.specs.Point.{IsBuilt, IsJobOf}
 use Rattle.rq_cli.specs.declared.outcome.Outcome.{Outcome}
-use Rattle.rq_cli.specs.declared.outcome.Outcome.TheVariants.{Done, Refused, Usage, SourceFault, SinkFault, OutOfMemory, NotBuilt}
+use Rattle.rq_cli.specs.declared.outcome.Outcome.TheVariants.{Done, Refused, Usage, SourceFault, SinkFault, OutOfMemory, PivotLimit, Overflow, NotBuilt}
 
 -- a fact of the report
 abbrev pub OnDone : Outcome → (Report → Type 0) → Type 0
@@ -42,6 +42,8 @@ outcome_line (Usage fault) = usage_line fault
 outcome_line SourceFault = source_line
 outcome_line SinkFault = sink_line
 outcome_line OutOfMemory = memory_line
+outcome_line (PivotLimit place limit trail) = halt_line (halts.PivotLimit place limit trail)
+outcome_line (Overflow place trail spill) = halt_line (halts.Overflow place trail spill)
 outcome_line (NotBuilt part) = halt_line (halts.NotBuilt part)
 
 -- the bytes of a source or a sink, where it tells them, and its count of faults
@@ -93,6 +95,8 @@ HasCause words before now (Refused TooLong) = IsTooLong words before now
 HasCause words before now (Refused refusal) = IsHalted words before now (halts.Refused refusal)
 HasCause words before now (Usage fault) = words_of words ≡ Err fault
 HasCause words before now SourceFault = Rose before.faults now.faults
+HasCause words before now (PivotLimit place limit trail) = IsHalted words before now (halts.PivotLimit place limit trail)
+HasCause words before now (Overflow place trail spill) = IsHalted words before now (halts.Overflow place trail spill)
 HasCause words before now (NotBuilt part) = ((part ≡ 1) × IsNotBuilt words) ⊎ IsHalted words before now (halts.NotBuilt part)
 HasCause words before now _ = ⊤
 

@@ -18,6 +18,8 @@ use Rattle.rq_cli.specs.declared.outcome.Outcome.TheVariants.{Done, Usage, SinkF
 abbrev pub outcome_of : Halt → Outcome
 outcome_of (halts.Refused refusal) = outcomes.Refused refusal
 outcome_of halts.OutOfMemory = outcomes.OutOfMemory
+outcome_of (halts.PivotLimit place limit trail) = outcomes.PivotLimit place limit trail
+outcome_of (halts.Overflow place trail spill) = outcomes.Overflow place trail spill
 outcome_of (halts.NotBuilt part) = outcomes.NotBuilt part
 
 -- what is wrong with the words, or that no memory was found

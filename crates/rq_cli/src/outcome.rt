@@ -1,7 +1,9 @@
 ghost use Rattle.std.specs.Prelude.{◌≡◌};
 ghost use Rattle.rq_cli.specs.Codes.{code_of};
 
-use rq_engine::{Refusal, Report};
+use frac_core::Frac128;
+use loss_model::{Spill, Trail};
+use rq_engine::{Place, Refusal, Report};
 use rq_words::WordFault;
 
 /// What came of a run.
@@ -19,6 +21,18 @@ pub enum Outcome {
     SinkFault,
     /// No memory was found.
     OutOfMemory,
+    /// The solver made as many pivots as the limit says, and one more is left.
+    PivotLimit {
+        place: Place,
+        limit: u32,
+        trail: Trail<Frac128>,
+    },
+    /// An operation of the solver overflows.
+    Overflow {
+        place: Place,
+        trail: Trail<Frac128>,
+        spill: Spill<Frac128>,
+    },
     /// The words or the input ask for what this version does not do.
     NotBuilt { part: u8 },
 }
@@ -35,6 +49,8 @@ impl Outcome {
             Outcome::SourceFault => 3,
             Outcome::SinkFault => 4,
             Outcome::OutOfMemory => 5,
+            Outcome::PivotLimit { .. } => 6,
+            Outcome::Overflow { .. } => 7,
             Outcome::NotBuilt { .. } => 9,
         }
     }

@@ -22,9 +22,10 @@ use std::thread::Threads;
 /// words are refused by that fault, and `NotBuilt` with part 1 exactly where they ask for a job that
 /// this version doesn't do; both leave the source untouched. `Refused` comes exactly where more than
 /// 2^26 bytes come, or where this is the first fault: of the bytes as a table, of the formula over its
-/// names, of their design, or of its problem. `NotBuilt` comes with part 3 exactly where the formula
-/// has a smooth, and with part 4 exactly where the problem has another column than the intercept, or
-/// more than 1,000 rows, or a response that isn't a whole number below 10^9 in size.
+/// names, of their design, or of its problem; and as `Dependent` only where the columns of the problem
+/// are dependent. `NotBuilt` comes with part 3 exactly where the formula has a smooth. `PivotLimit`
+/// comes only where the lawful trail of the problem has as many pivots as the words' limit says and one
+/// more is left, and `Overflow` only where an operation that the solve names overflows.
 /// `SourceFault` and `SinkFault` come only where the count of faults of the source or of a sink rose
 /// in this call, and where it grew there is no other outcome but `SinkFault`. `OutOfMemory` may come
 /// in place of what would follow, and never after a write to `out`.
@@ -110,6 +111,24 @@ fn outcome_of(halt: Halt) -> Outcome
     match halt {
         Halt::Refused(refusal) => Outcome::Refused(refusal),
         Halt::OutOfMemory => Outcome::OutOfMemory,
+        Halt::PivotLimit {
+            place,
+            limit,
+            trail,
+        } => Outcome::PivotLimit {
+            place,
+            limit,
+            trail,
+        },
+        Halt::Overflow {
+            place,
+            trail,
+            spill,
+        } => Outcome::Overflow {
+            place,
+            trail,
+            spill,
+        },
         Halt::NotBuilt { part } => Outcome::NotBuilt { part },
     }
 }
@@ -141,6 +160,30 @@ fn tell<E: Sink>(alloc: Global, fault: Outcome, err: &mut E) -> Outcome
         Outcome::Usage(fault) => tell_usage(alloc, fault, err),
         Outcome::SourceFault => write_line(err, SOURCE_LINE, Outcome::SourceFault),
         Outcome::Refused(refusal) => tell_halt(alloc, Halt::Refused(refusal), err),
+        Outcome::PivotLimit {
+            place,
+            limit,
+            trail,
+        } => {
+            let halt = Halt::PivotLimit {
+                place,
+                limit,
+                trail,
+            };
+            tell_halt(alloc, halt, err)
+        }
+        Outcome::Overflow {
+            place,
+            trail,
+            spill,
+        } => {
+            let halt = Halt::Overflow {
+                place,
+                trail,
+                spill,
+            };
+            tell_halt(alloc, halt, err)
+        }
         Outcome::NotBuilt { part } => tell_halt(alloc, Halt::NotBuilt { part }, err),
         _ => write_line(err, MEMORY_LINE, Outcome::OutOfMemory),
     }

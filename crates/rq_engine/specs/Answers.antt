@@ -1,5 +1,5 @@
 -- What the engine is asked and answers.
-use Rattle.std.specs.Prelude.{◌≡◌, ◌≢◌, ◌≤◌, ◌⊎◌, ℕ, List, ℤ, Ok, Err, length, ⊤}
+use Rattle.std.specs.Prelude.{◌≡◌, ◌≢◌, ◌≤◌, ℕ, List, Ok, Err, length, ⊤}
 use Rattle.frac_core.specs.declared.frac128.Frac128.{Frac128}
 use Rattle.data_frame.specs.Tables.{table_of}
 use Rattle.data_frame.specs.Views.{exact_table}
@@ -26,12 +26,13 @@ use Rattle.rq_engine.specs.declared.report.Refusal.TheVariants as refusals
 use Rattle.rq_engine.specs.declared.report.Halt.{Halt}
 use Rattle.rq_engine.specs.declared.report.Halt.TheVariants.{Refused, OutOfMemory, NotBuilt}
 use Rattle.rq_engine.specs.Fit.{IsRightFit}
-use Rattle.rq_engine.specs.Models.{IsColumn, IsDesigned, IsModel, IsProblemOf, no_smoothing}
+use Rattle.rq_engine.specs.Models.{IsDesigned, IsModel, IsProblemOf, no_smoothing}
 use Rattle.rq_engine.specs.ReportText.{value}
+use Rattle.rq_engine.specs.Stops.{HasProblemCause}
 
 -- ---- the report
 
--- the right fit for the job, of the problem of the table: what it is told of is the design's, and it is right for the responses
+-- the right fit for the job, of the problem of the table; what is told of it is the design's
 pub record IsFitOf (job : FitJob) (table : Table) (fit : Fit) : Type 0 where
   pub model : Formula
   pub design : Design
@@ -41,9 +42,7 @@ pub record IsFitOf (job : FitJob) (table : Table) (fit : Fit) : Type 0 where
   pub dropped : fit.dropped ≡ design.dropped
   pub names : fit.names ≡ design.names
   pub data_rows : fit.data_rows ≡ length design.rows
-  pub values : List ℤ
-  pub column : IsColumn model fit.problem values
-  pub right : IsRightFit value values job.lo fit
+  pub right : IsRightFit value job fit
 
 -- the bytes are this table
 abbrev pub AreTable : List ℕ → Table → Type 0
@@ -80,23 +79,25 @@ pub record LacksProblem (job : FitJob) (table : Table) (fault : ProgramFault) : 
   pub named : fault ≢ programs.OutOfMemory
   pub cause : HasProgramCause design (no_smoothing (length design.rows)) fault
 
--- the problem is another than that of an intercept alone under a few small whole responses
-pub record IsOtherProblem (job : FitJob) (table : Table) : Type 0 where
+-- the problem of the table has no fit, for this halt
+pub record LacksFit (job : FitJob) (table : Table) (halt : Halt) : Type 0 where
   pub model : Formula
   pub design : Design
   pub designed : IsDesigned job table model design
   pub problem : Problem Frac128
   pub is : IsProblemOf design problem
-  pub other : (values : List ℤ) → ¬ IsColumn model problem values
+  pub cause : HasProblemCause job problem halt
 
 -- why a table has no report. Want of memory is free of a cause
 abbrev pub HasTableCause : FitJob → Table → Halt → Type 0
 HasTableCause job table (Refused (refusals.Formula fault)) = (fault ≢ formulas.OutOfMemory) × IsFault job.formula table.names fault
 HasTableCause job table (Refused (refusals.Design fault)) = LacksDesign job table fault
 HasTableCause job table (Refused (refusals.Program fault)) = LacksProblem job table fault
+HasTableCause job table (Refused (refusals.Dependent combination)) = LacksFit job table (Refused (refusals.Dependent combination))
 HasTableCause job table (Refused _) = ⊥
 HasTableCause job table OutOfMemory = ⊤
-HasTableCause job table (NotBuilt part) = ((part ≡ 3) × HasSmooth job table) ⊎ ((part ≡ 4) × IsOtherProblem job table)
+HasTableCause job table (NotBuilt part) = (part ≡ 3) × HasSmooth job table
+HasTableCause job table halt = LacksFit job table halt
 
 -- why bytes have no report: the first fault of a table, or they are a table that has none
 abbrev pub HasFitCause : FitJob → List ℕ → Halt → Type 0

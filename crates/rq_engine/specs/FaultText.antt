@@ -1,5 +1,5 @@
 -- The line of a fault: what failed, and by which fault with which fields.
-use Rattle.std.specs.Prelude.{ℕ, ◌+◌, List, ◌++◌, codes, decimal}
+use Rattle.std.specs.Prelude.{ℕ, ◌+◌, List, [], ◌++◌, codes, decimal, ◌==◌, if◌then◌else◌}
 use Rattle.data_frame.specs.declared.fault.TableFault.{TableFault}
 use Rattle.data_frame.specs.declared.fault.TableFault.TheVariants.{NoHeader, NotUtf8, Ragged, DoubleName, EmptyName, TooManyColumns, TooManyRows}
 use Rattle.data_frame.specs.declared.fault.TableFault.TheVariants as tables
@@ -17,10 +17,15 @@ use Rattle.rq_words.specs.declared.job.WordFault.{WordFault}
 use Rattle.rq_words.specs.declared.job.WordFault.TheVariants.{NoJob, UnknownJob, BadOption, BadNumber, BadRange, BadTauForRank, NegativeLimit, BadContrasts, RankHalf}
 use Rattle.rq_words.specs.declared.job.WordFault.TheVariants as words
 use Rattle.rq_engine.specs.Names.{name_bytes}
-use Rattle.rq_engine.specs.ReportText.{value}
-use Rattle.rq_engine.specs.declared.report.Refusal.TheVariants.{TooLong, Table, Formula, Design, Program}
+use Rattle.rq_engine.specs.Quantities.{indices, op_name, quantity_name}
+use Rattle.rq_engine.specs.ReportText.{numbered, value}
+use Rattle.rq_engine.specs.declared.quantity.Indices.{Indices}
+use Rattle.rq_engine.specs.declared.quantity.Indices.TheVariants.{One, Two, Three}
+use Rattle.rq_engine.specs.declared.report.Place.{Place}
+use Rattle.rq_engine.specs.declared.report.Place.TheVariants.{Process}
+use Rattle.rq_engine.specs.declared.report.Refusal.TheVariants.{TooLong, Table, Formula, Design, Program, Dependent}
 use Rattle.rq_engine.specs.declared.report.Halt.{Halt}
-use Rattle.rq_engine.specs.declared.report.Halt.TheVariants.{Refused, OutOfMemory, NotBuilt}
+use Rattle.rq_engine.specs.declared.report.Halt.TheVariants.{Refused, OutOfMemory, PivotLimit, Overflow, NotBuilt}
 use Rattle.rq_engine.specs.declared.report.Fault.{Fault}
 use Rattle.rq_engine.specs.declared.report.Fault.TheVariants as faults
 
@@ -66,14 +71,25 @@ formula_line formulas.OutOfMemory = memory_line
 abbrev pub named : List ℕ → List ℕ → List ℕ
 named field name = field ++ name_bytes name
 
--- where a product of a design overflows: the record as it stands, the column from 1, and the number of factors before
-unfoldable pub product_site : Site → List ℕ
-product_site site = field (codes " at=") site.first ++ field (codes ",") (site.second + 1) ++ field (codes " term=") site.term
+-- numbers with a comma between them
+unfoldable pub indices_text : Indices → List ℕ
+indices_text (One i) = decimal i
+indices_text (Two i j) = decimal i ++ codes "," ++ decimal j
+indices_text (Three i j k) = decimal i ++ codes "," ++ decimal j ++ codes "," ++ decimal k
+
+-- where an operation stands: its quantity, the indices of that, and the term
+unfoldable pub site_text : Site → List ℕ
+site_text site =
+    codes " quantity=" ++ quantity_name site.quantity ++ codes " at=" ++ indices_text (indices site) ++ field (codes " term=") site.term
 
 unfoldable pub operands : Frac128 → Frac128 → List ℕ
 operands left right = codes " left=" ++ number_text_of (value left) ++ codes " right=" ++ number_text_of (value right)
 
--- the line of a table that has no design by the formula; the operations of a design are the products of its entries
+-- an operation that overflows
+unfoldable pub spill_text : Spill Frac128 → List ℕ
+spill_text spill = site_text spill.site ++ codes " op=" ++ op_name spill.site.kind ++ operands spill.left spill.right
+
+-- the line of a table that has no design by the formula
 unfoldable pub design_line : DesignFault → List ℕ
 design_line designs.UnknownWeights = codes "quantreg: design: UnknownWeights\n"
 design_line designs.ResponseNotNumeric = codes "quantreg: design: ResponseNotNumeric\n"
@@ -84,8 +100,7 @@ design_line designs.NoRows = codes "quantreg: design: NoRows\n"
 design_line (designs.OneLevel factor) = codes "quantreg: design: OneLevel" ++ named (codes " factor=") factor ++ codes "\n"
 design_line designs.NoColumns = codes "quantreg: design: NoColumns\n"
 design_line designs.TooManyColumns = codes "quantreg: design: TooManyColumns\n"
-design_line (designs.Overflow spill) =
-    codes "quantreg: design: Overflow quantity=design-entry" ++ product_site spill.site ++ codes " op=mul" ++ operands spill.left spill.right ++ codes "\n"
+design_line (designs.Overflow spill) = codes "quantreg: design: Overflow" ++ spill_text spill ++ codes "\n"
 design_line designs.OutOfMemory = memory_line
 
 -- the line of a design that is too large
@@ -94,13 +109,37 @@ program_line programs.TooManyRows = codes "quantreg: program: TooManyRows\n"
 program_line programs.TooManyColumns = codes "quantreg: program: TooManyColumns\n"
 program_line programs.OutOfMemory = memory_line
 
+-- an item of a list: a comma stands before all but the first
+abbrev pub listed : ℕ → Frac128 → List ℕ
+listed place x = (if place == 0 then [] else codes ",") ++ number_text_of (value x)
+
+-- the line of dependent columns, with a combination of them that is 0 in every row
+unfoldable pub dependent_line : List Frac128 → List ℕ
+dependent_line combination = codes "quantreg: solver: Dependent combination=" ++ numbered listed 0 combination ++ codes "\n"
+
+-- what names the place where the solver stopped
+abbrev pub place_text : Place → List ℕ
+place_text Process = codes " place=process"
+
+-- the line of a pivot limit that is reached
+unfoldable pub limit_line : Place → ℕ → List ℕ
+limit_line place limit = codes "quantreg: solver: PivotLimit" ++ place_text place ++ field (codes " limit=") limit ++ codes "\n"
+
+-- the line of an operation of the solver that overflows
+unfoldable pub overflow_line : Place → Spill Frac128 → List ℕ
+overflow_line place spill = codes "quantreg: solver: Overflow" ++ place_text place ++ spill_text spill ++ codes "\n"
+
+-- the line of a halt; trails aren't printed
 abbrev pub halt_line : Halt → List ℕ
 halt_line (Refused TooLong) = codes "quantreg: input: TooLong\n"
 halt_line (Refused (Table fault)) = table_line fault
 halt_line (Refused (Formula fault)) = formula_line fault
 halt_line (Refused (Design fault)) = design_line fault
 halt_line (Refused (Program fault)) = program_line fault
+halt_line (Refused (Dependent combination)) = dependent_line combination
 halt_line OutOfMemory = memory_line
+halt_line (PivotLimit place limit trail) = limit_line place limit
+halt_line (Overflow place trail spill) = overflow_line place spill
 halt_line (NotBuilt part) = not_built_line part
 
 -- the line of words that are refused

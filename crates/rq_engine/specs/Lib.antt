@@ -5,6 +5,8 @@ pub mod Halts
 pub mod Models
 pub mod Names
 pub mod Point
-pub mod Ranking
+pub mod Quantities
 pub mod ReportText
-pub mod Responses
+pub mod Scores
+pub mod Stops
+pub mod Told

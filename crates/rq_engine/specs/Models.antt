@@ -1,7 +1,6 @@
 -- What a table and a formula say: the model, its design and its problem.
-use Rattle.std.specs.Prelude.{◌≡◌, ℕ, List, [], Bool, true, length, map, replicate, ℤ}
+use Rattle.std.specs.Prelude.{◌≡◌, ℕ, [], length, map, replicate}
 use Rattle.frac_core.specs.declared.frac128.Frac128.{Frac128}
-use Rattle.data_frame.specs.Views.{exact}
 use Rattle.formula_parser.specs.Parsed.{IsParsed}
 use Rattle.formula_parser.specs.declared.formula.Formula.{Formula}
 use Rattle.design_matrix.specs.Cells.{Table}
@@ -11,7 +10,6 @@ use Rattle.tv_penalty.specs.declared.Smoothing.{Smoothing}
 use Rattle.rq_program.specs.Programs.{columns_of, exact_row, rows_of}
 use Rattle.loss_model.specs.declared.problem.Problem.{Problem}
 use Rattle.rq_words.specs.declared.job.FitJob.{FitJob}
-use Rattle.rq_engine.specs.Responses.{AreResponses}
 
 -- what no smooths add to a design of so many rows
 abbrev pub no_smoothing : ℕ → Smoothing
@@ -31,9 +29,3 @@ pub record IsDesigned (job : FitJob) (table : Table) (model : Formula) (design :
 pub record IsProblemOf (design : Design) (problem : Problem Frac128) : Type 0 where
   pub columns : problem.columns ≡ columns_of design (no_smoothing (length design.rows))
   pub rows : map exact_row problem.rows ≡ rows_of design (no_smoothing (length design.rows))
-
--- the intercept is the one column, and the responses are these at most 1,000 whole numbers of at most 9 digits
-pub record IsColumn (model : Formula) (problem : Problem Frac128) (values : List ℤ) : Type 0 where
-  pub intercept : model.intercept ≡ true
-  pub alone : problem.columns ≡ 1
-  pub responses : AreResponses (map (λ r. exact r.y) problem.rows) values

@@ -1,19 +1,18 @@
 -- The job that is done today: a fit at one quantile.
-use Rattle.std.specs.Prelude.{◌≡◌, ℕ, ◌≤◌, Bool, true, ◌==◌, ◌&&◌, List, is_none, Ok}
+use Rattle.std.specs.Prelude.{◌≡◌, ℕ, Bool, true, ◌&&◌, List, is_none, Ok}
 use Rattle.rq_words.specs.Requests.{request_of}
 use Rattle.rq_words.specs.Words.{words_of}
 use Rattle.rq_words.specs.declared.job.FitJob.{FitJob}
 use Rattle.rq_words.specs.declared.job.Job.{Job}
 use Rattle.rq_words.specs.declared.job.Job.TheVariants.{Process}
 
--- no option was given but the formula, the range and the coding
+-- neither weights nor rank intervals are asked for
 abbrev pub is_plain : FitJob → Bool
-is_plain fit = fit.limit == 100000 && is_none fit.weights && is_none fit.rank
+is_plain fit = is_none fit.weights && is_none fit.rank
 
--- the range is one quantile, of a short denominator
+-- the range is one quantile
 pub record IsPoint (fit : FitJob) : Type 0 where
   pub same : fit.hi ≡ fit.lo
-  pub short : fit.lo.den ≤ 1000
   pub plain : is_plain fit ≡ true
 
 -- the job is one that this version does

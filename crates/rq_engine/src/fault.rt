@@ -1,9 +1,11 @@
 //! The line of a fault.
 ghost use Rattle.std.specs.Prelude.{◌≡◌, ◌+◌, ◌++◌, IfOk, OnOk, codes};
-ghost use Rattle.rq_engine.specs.FaultText.{source_line, sink_line, memory_line, not_built_line, field, named, table_line, formula_line, design_line, product_site, operands, program_line, halt_line, usage_line, fault_line as line_of};
+ghost use Rattle.rq_engine.specs.ReportText.{numbered};
+ghost use Rattle.rq_engine.specs.FaultText.{source_line, sink_line, memory_line, not_built_line, field, named, table_line, formula_line, design_line, site_text, indices_text, operands, spill_text, program_line, place_text, dependent_line, limit_line, overflow_line, listed, halt_line, usage_line, fault_line as line_of};
 
 use crate::page::Page;
-use crate::report::{Fault, Halt, Refusal};
+use crate::quantity::{Indices, indices, op_name, quantity_name};
+use crate::report::{Fault, Halt, Place, Refusal};
 use data_frame::TableFault;
 use design_matrix::DesignFault;
 use formula_parser::FormulaFault;
@@ -73,7 +75,12 @@ impl Page {
             Halt::Refused(Refusal::Formula(fault)) => self.formula_line(fault),
             Halt::Refused(Refusal::Design(fault)) => self.design_line(fault),
             Halt::Refused(Refusal::Program(fault)) => self.program_line(fault),
+            Halt::Refused(Refusal::Dependent { combination }) => {
+                self.dependent_line(combination.as_slice())
+            }
             Halt::OutOfMemory => self.put(MEMORY_LINE),
+            Halt::PivotLimit { place, limit, .. } => self.limit_line(*place, *limit),
+            Halt::Overflow { place, spill, .. } => self.overflow_line(*place, spill),
             Halt::NotBuilt { part } => self.not_built_line(*part),
         }
     }
@@ -183,7 +190,7 @@ impl Page {
             DesignFault::NoColumns => self.put(b"quantreg: design: NoColumns\n"),
             DesignFault::TooManyColumns => self.put(b"quantreg: design: TooManyColumns\n"),
             DesignFault::Overflow(spill) => {
-                self.product_line(b"quantreg: design: Overflow quantity=design-entry", spill)
+                self.product_line(b"quantreg: design: Overflow", spill)
             }
             DesignFault::OutOfMemory => self.put(MEMORY_LINE),
         }
@@ -219,22 +226,52 @@ impl Page {
 
     // The line of a product that overflows.
     fn product_line(&mut self, fault: &[u8], spill: &Spill<Frac128>) -> Result<(), OutOfMemory>
-        ensures { OnOk result (self.new ≡ self.old ++ (fault.now ++ product_site spill.now.site ++ codes " op=mul" ++ operands spill.now.left spill.now.right ++ codes "\n")) }
+        ensures { OnOk result (self.new ≡ self.old ++ (fault.now ++ spill_text spill.now ++ codes "\n")) }
     {
         self.put(fault)?;
-        self.put_site(&spill.site)?;
-        self.put(b" op=mul")?;
-        self.put_operands(spill.left, spill.right)?;
+        self.put_spill(spill)?;
         self.put(b"\n")
     }
 
-    #[tactic(auto, unfolding(crate::specs::FaultText::product_site))]
-    fn put_site(&mut self, site: &Site) -> Result<(), OutOfMemory>
-        ensures { OnOk result (self.new ≡ self.old ++ product_site site.now) }
+    // An operation that overflows.
+    #[tactic(auto, unfolding(crate::specs::FaultText::spill_text))]
+    fn put_spill(&mut self, spill: &Spill<Frac128>) -> Result<(), OutOfMemory>
+        ensures { OnOk result (self.new ≡ self.old ++ spill_text spill.now) }
     {
-        self.put_field(b" at=", site.first as u64)?;
-        self.put_field(b",", site.second as u64 + 1)?;
+        self.put_site(&spill.site)?;
+        self.put(b" op=")?;
+        self.put(op_name(spill.site.kind))?;
+        self.put_operands(spill.left, spill.right)
+    }
+
+    #[tactic(auto, unfolding(crate::specs::FaultText::site_text))]
+    fn put_site(&mut self, site: &Site) -> Result<(), OutOfMemory>
+        ensures { OnOk result (self.new ≡ self.old ++ site_text site.now) }
+    {
+        self.put(b" quantity=")?;
+        self.put(quantity_name(site.quantity))?;
+        self.put(b" at=")?;
+        self.put_indices(indices(site))?;
         self.put_field(b" term=", site.term as u64)
+    }
+
+    // Numbers with a comma between them.
+    #[tactic(auto, unfolding(crate::specs::FaultText::indices_text))]
+    fn put_indices(&mut self, indices: Indices) -> Result<(), OutOfMemory>
+        ensures { OnOk result (self.new ≡ self.old ++ indices_text indices) }
+    {
+        match indices {
+            Indices::One(first) => self.put_count(first),
+            Indices::Two(first, second) => {
+                self.put_count(first)?;
+                self.put_field(b",", second)
+            }
+            Indices::Three(first, second, third) => {
+                self.put_count(first)?;
+                self.put_field(b",", second)?;
+                self.put_field(b",", third)
+            }
+        }
     }
 
     #[tactic(auto, unfolding(crate::specs::FaultText::operands))]
@@ -256,6 +293,67 @@ impl Page {
             ProgramFault::TooManyColumns => self.put(b"quantreg: program: TooManyColumns\n"),
             ProgramFault::OutOfMemory => self.put(MEMORY_LINE),
         }
+    }
+
+    // The line of dependent columns.
+    #[tactic(auto, unfolding(crate::specs::FaultText::dependent_line))]
+    fn dependent_line(&mut self, combination: &[Frac128]) -> Result<(), OutOfMemory>
+        ensures { OnOk result (self.new ≡ self.old ++ dependent_line combination.now) }
+    {
+        self.put(b"quantreg: solver: Dependent combination=")?;
+        self.put_numbers(combination)?;
+        self.put(b"\n")
+    }
+
+    // Fractions with commas between them.
+    fn put_numbers(&mut self, numbers: &[Frac128]) -> Result<(), OutOfMemory>
+        ensures { OnOk result (self.new ≡ self.old ++ numbered listed 0 numbers.now) }
+    {
+        for (place, number) in numbers.iter().enumerate() {
+            self.put_listed(place, *number)?;
+        }
+        Ok(())
+    }
+
+    // An item of a list, with a comma before all but the first.
+    fn put_listed(&mut self, place: usize, number: Frac128) -> Result<(), OutOfMemory>
+        ensures { OnOk result (self.new ≡ self.old ++ listed place number) }
+    {
+        if place > 0 {
+            self.put(b",")?;
+        }
+        self.put_number(number)
+    }
+
+    // What names the place where the solver stopped.
+    fn put_place(&mut self, place: Place) -> Result<(), OutOfMemory>
+        ensures { OnOk result (self.new ≡ self.old ++ place_text place) }
+    {
+        match place {
+            Place::Process => self.put(b" place=process"),
+        }
+    }
+
+    // The line of a pivot limit that is reached.
+    #[tactic(auto, unfolding(crate::specs::FaultText::limit_line))]
+    fn limit_line(&mut self, place: Place, limit: u32) -> Result<(), OutOfMemory>
+        ensures { OnOk result (self.new ≡ self.old ++ limit_line place limit) }
+    {
+        self.put(b"quantreg: solver: PivotLimit")?;
+        self.put_place(place)?;
+        self.put_field(b" limit=", limit as u64)?;
+        self.put(b"\n")
+    }
+
+    // The line of an operation of the solver that overflows.
+    #[tactic(auto, unfolding(crate::specs::FaultText::overflow_line))]
+    fn overflow_line(&mut self, place: Place, spill: &Spill<Frac128>) -> Result<(), OutOfMemory>
+        ensures { OnOk result (self.new ≡ self.old ++ overflow_line place spill.now) }
+    {
+        self.put(b"quantreg: solver: Overflow")?;
+        self.put_place(place)?;
+        self.put_spill(spill)?;
+        self.put(b"\n")
     }
 
     // What names a field, and the name in it.

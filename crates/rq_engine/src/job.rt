@@ -5,15 +5,14 @@ ghost use Rattle.exact_algebra.specs.Fraction.{rational};
 ghost use Rattle.exact_algebra.specs.Rational.{◌≤ℚ◌, whole};
 ghost use Rattle.rq_engine.specs.Answers.{HasCause, HasFitCause, HasTableCause, IsFitOf, IsFitOfBytes, IsRight};
 ghost use Rattle.rq_engine.specs.Models.{IsModel};
-ghost use Rattle.rq_engine.specs.Point.{IsBuilt, IsJobOf};
+ghost use Rattle.rq_engine.specs.Point.{IsBuilt, IsJobOf, IsPoint};
 ghost use Rattle.rq_engine.specs.ReportText.{IsPrintable, value};
 
-use crate::fit::fit_column;
+use crate::fit::fit_problem;
 use crate::halt::{design_halt, formula_halt, program_halt, table_halt};
 use crate::point::point_of;
 use crate::problem::plain_problem;
 use crate::report::{Fit, Halt, Report};
-use crate::responses::read_responses;
 use data_frame::{Frame, read_table};
 use design_matrix::build;
 use formula_parser::{Formula, Term, parse};
@@ -27,9 +26,11 @@ const LONG: usize = 1 << 31;
 /// The report of a job that this version does, from the bytes of its input.
 ///
 /// `Refused` is the first fault: of the bytes as a table, of the formula over the table's names, of
-/// the design, or of its problem. `NotBuilt` has part 3 exactly where the formula has a smooth, and
-/// part 4 exactly where the problem has another column than the intercept, or more than 1,000 rows,
-/// or a response that isn't a whole number below 10^9 in size. `OutOfMemory` may come at any step.
+/// the design, or of its problem; or `Dependent`, only where the columns of the problem are
+/// dependent. `NotBuilt` has part 3, exactly where the formula has a smooth. `PivotLimit` comes only
+/// where the lawful trail of the problem has as many pivots as the job's limit says and one more is
+/// left, and `Overflow` only where an operation of the solve, of the loss or of a rankscore
+/// overflows. `OutOfMemory` may come at any step.
 pub fn answer<R: Threads + Sync>(
     _rt: &R,
     alloc: Global,
@@ -52,9 +53,9 @@ pub fn answer<R: Threads + Sync>(
 
 // The fit of the table of bytes.
 fn fit_bytes(alloc: Global, job: &FitJob, bytes: &[u8]) -> Result<Fit, Halt>
+    requires point { IsPoint job.now }
     requires low { whole (pos 0) ≤ℚ rational (value job.now.lo) }
     requires high { rational (value job.now.lo) ≤ℚ whole (pos 1) }
-    requires fine { job.now.lo.den ≤ 1000 }
     requires short { length bytes.now ≤ 2 ^ 26 }
     ensures right { IfOk result (IsFitOfBytes job.now bytes.now) }
     ensures cause { IfErr result (HasFitCause job.now bytes.now) }
@@ -67,9 +68,9 @@ fn fit_bytes(alloc: Global, job: &FitJob, bytes: &[u8]) -> Result<Fit, Halt>
 
 // The fit of a table.
 fn fit_table(alloc: Global, job: &FitJob, frame: &Frame) -> Result<Fit, Halt>
+    requires point { IsPoint job.now }
     requires low { whole (pos 0) ≤ℚ rational (value job.now.lo) }
     requires high { rational (value job.now.lo) ≤ℚ whole (pos 1) }
-    requires fine { job.now.lo.den ≤ 1000 }
     ensures right { IfOk result (IsFitOf job.now frame.now) }
     ensures cause { IfErr result (HasTableCause job.now frame.now) }
 {
@@ -102,9 +103,9 @@ fn are_countable(terms: &[Term]) -> bool
 
 // The fit of a table by a model without smooths.
 fn fit_model(alloc: Global, job: &FitJob, frame: &Frame, model: &Formula) -> Result<Fit, Halt>
+    requires point { IsPoint job.now }
     requires low { whole (pos 0) ≤ℚ rational (value job.now.lo) }
     requires high { rational (value job.now.lo) ≤ℚ whole (pos 1) }
-    requires fine { job.now.lo.den ≤ 1000 }
     requires stated { IsModel job.now frame.now model.now }
     requires countable { list_all (λ t. nat_lt (length t.variables) (2 ^ 32)) model.now.terms ≡ true }
     ensures right { IfOk result (IsFitOf job.now frame.now) }
@@ -118,15 +119,5 @@ fn fit_model(alloc: Global, job: &FitJob, frame: &Frame, model: &Formula) -> Res
         Ok(problem) => problem,
         Err(fault) => return Err(program_halt(fault)),
     };
-    if !model.intercept || problem.columns != 1 {
-        return Err(Halt::NotBuilt { part: 4 });
-    }
-    let responses = match read_responses(alloc, problem.rows.as_slice()) {
-        Ok(responses) => responses,
-        Err(halt) => return Err(halt),
-    };
-    match fit_column(alloc, &responses, job.lo, problem, design) {
-        Ok(fit) => Ok(fit),
-        Err(_) => Err(Halt::OutOfMemory),
-    }
+    fit_problem(alloc, job, problem, design)
 }

@@ -5,9 +5,9 @@
 //! of a fault. The crate's one contract: a report is right for the job and the bytes, and every halt
 //! has its cause, as `specs/Answers.antt` defines both.
 //!
-//! It stands on `loss_model` for problems and their optimality, on `rq_words` for jobs, on
-//! `data_frame` for tables, on `formula_parser`, `design_matrix` and `rq_program` for what a table and
-//! a formula say, and on `itoa`.
+//! It stands on `loss_model` for problems and their optimality, on `br_pivot` for the solve, on
+//! `rq_words` for jobs, on `data_frame` for tables, on `formula_parser`, `design_matrix` and
+//! `rq_program` for what a table and a formula say, and on `itoa`.
 #![tactic(auto)]
 
 mod fault;
@@ -18,13 +18,15 @@ mod lines;
 mod page;
 mod point;
 mod problem;
-mod ranking;
+mod quantity;
 mod report;
-mod responses;
+mod scores;
+#[cfg(test)]
+mod tests;
 
 pub use fault::{MEMORY_LINE, SINK_LINE, SOURCE_LINE, fault_line};
 pub use job::answer;
 pub use lines::report_bytes;
 pub use page::Page;
 pub use point::is_built;
-pub use report::{Fault, Fit, Halt, Refusal, Report, ScorePair};
+pub use report::{Fault, Fit, Halt, Place, Refusal, Report, ScorePair};

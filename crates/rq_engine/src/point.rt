@@ -3,21 +3,19 @@ ghost use Rattle.std.specs.Prelude.{◌≡◌, IfSome, IfNone, IsTrue, ◌↔◌
 ghost use Rattle.rq_words.specs.declared.job.Job.TheVariants.{Process};
 ghost use Rattle.rq_engine.specs.Point.{is_plain as is_plain_of, IsPoint, IsBuilt};
 
-use frac_core::Exact;
 use rq_words::{FitJob, Job};
 
-// Whether no option was given but the formula, the range and the coding.
+// Whether neither weights nor rank intervals are asked for.
 fn is_plain(fit: &FitJob) -> bool
     ensures { result ≡ is_plain_of fit.now }
 {
-    (fit.limit == 100_000) & fit.weights.is_none() & fit.rank.is_none()
+    fit.weights.is_none() & fit.rank.is_none()
 }
 
 fn is_point(fit: &FitJob) -> bool
     ensures { IsTrue result ↔ IsPoint fit.now }
 {
-    let tau = fit.lo;
-    if !is_plain(fit) || tau != fit.hi || tau.denominator() > 1000 {
+    if !is_plain(fit) || fit.lo != fit.hi {
         return false;
     }
     true
@@ -35,8 +33,8 @@ pub(crate) fn point_of(job: &Job) -> Option<&FitJob>
     }
 }
 
-/// Whether this version does the job: it is a process at one quantile, of a denominator of at most
-/// 1,000, with no other option than the contrasts. It takes no memory.
+/// Whether this version does the job: it is a process at one quantile, without weights and without
+/// rank intervals. It takes no memory.
 pub fn is_built(job: &Job) -> bool
     ensures { IsTrue result ↔ IsBuilt job.now }
 {

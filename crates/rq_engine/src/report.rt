@@ -3,7 +3,7 @@ use data_frame::TableFault;
 use design_matrix::DesignFault;
 use formula_parser::FormulaFault;
 use frac_core::{Frac128, List, Text};
-use loss_model::{Problem, Process};
+use loss_model::{Problem, Process, Spill, Trail};
 use rq_program::ProgramFault;
 use rq_words::WordFault;
 
@@ -49,6 +49,15 @@ pub enum Refusal {
     Design(DesignFault),
     /// The design has no problem.
     Program(ProgramFault),
+    /// The columns are dependent: this combination of them, which isn't all 0, is 0 in every row.
+    Dependent { combination: List<Frac128> },
+}
+
+/// Where the solver stopped.
+#[derive(Clone, Copy, Debug, PartialEq, Eq)]
+pub enum Place {
+    /// In the fit itself.
+    Process,
 }
 
 /// Why a job ended without a report.
@@ -56,8 +65,20 @@ pub enum Refusal {
 pub enum Halt {
     Refused(Refusal),
     OutOfMemory,
-    /// It asks for what this version does not do: part 1 is the job, part 3 a smooth in its formula,
-    /// part 4 the problem.
+    /// The trail has as many pivots as the limit says, and one more is left.
+    PivotLimit {
+        place: Place,
+        limit: u32,
+        trail: Trail<Frac128>,
+    },
+    /// An operation overflows at the last basis of the trail, or after the solve, when the trail is
+    /// whole.
+    Overflow {
+        place: Place,
+        trail: Trail<Frac128>,
+        spill: Spill<Frac128>,
+    },
+    /// It asks for what this version does not do: part 1 is the job, part 3 a smooth in its formula.
     NotBuilt { part: u8 },
 }
 

@@ -1,0 +1,97 @@
+//! The rankscores of a segment's basic rows.
+ghost use Rattle.std.specs.Prelude.{◌≡◌, ◌≢◌, ℕ, ◌<◌, All, length, slice_index, IfOk, IfErr, pos};
+ghost use Rattle.exact_algebra.specs.Fraction.{rational};
+ghost use Rattle.exact_algebra.specs.Rational.{◌+ℚ◌, ◌-ℚ◌, ◌*ℚ◌, inverse, whole};
+ghost use Rattle.loss_model.specs.Problem.{sample};
+ghost use Rattle.loss_model.specs.Quantities.{IsShortOf};
+ghost use Rattle.loss_model.specs.Vertex.{IsVertexOf};
+ghost use Rattle.rq_engine.specs.Fit.{IsScored, score};
+ghost use Rattle.rq_engine.specs.Scores.{score_site as score_site_of, IsScoreSpill, IsScoresSpill};
+
+use crate::report::ScorePair;
+use frac_core::{Exact, List, OpKind};
+use loss_model::{Problem, Quantity, Segment, Short, Site, Spill, minus_at, over_at, plus_at};
+use std::alloc::Global;
+
+// The site of a score.
+fn score_site(row: u32, end: u32, number: u32) -> Site
+    ensures { result ≡ score_site_of row end number }
+{
+    Site {
+        quantity: Quantity::Score,
+        first: row,
+        second: end,
+        third: number,
+        term: 1,
+        kind: OpKind::Div,
+    }
+}
+
+// The rankscore of a row at theta, from its dual value and its weight.
+fn score_at<F: Exact>(site: Site, dual: F, weight: F, theta: F) -> Result<F, Spill<F>>
+    requires { rational (F.value weight) ≢ whole (pos 0) }
+    ensures exact { IfOk result (λ r. rational (F.value r)
+        ≡ ((rational (F.value dual) *ℚ inverse (rational (F.value weight))) +ℚ whole (pos 1)) -ℚ rational (F.value theta)) }
+    ensures spilled { IfErr result (IsScoreSpill F.value F.range site (rational (F.value dual)) (rational (F.value weight)) (rational (F.value theta))) }
+{
+    let share = over_at(Site { term: 1, ..site }, dual, weight)?;
+    let raised = plus_at(Site { term: 2, ..site }, share, F::one())?;
+    minus_at(Site { term: 3, ..site }, raised, theta)
+}
+
+// The rankscores of the basic row at a place.
+fn score_pair<F: Exact>(
+    problem: &Problem<F>,
+    segment: &Segment<F>,
+    place: usize,
+    number: u32,
+) -> Result<ScorePair<F>, Spill<F>>
+    requires vertex { IsVertexOf problem.now segment.now.vertex }
+    requires inside { All (λ i. i < length problem.now.rows) segment.now.vertex.basis.rows }
+    requires lo { length segment.now.basic_lo ≡ length segment.now.vertex.basis.rows }
+    requires hi { length segment.now.basic_hi ≡ length segment.now.vertex.basis.rows }
+    requires weighted { (i : ℕ) → i < length problem.now.rows → (sample F.value problem.now).up1 i ≢ whole (pos 0) }
+    requires within { place < length segment.now.vertex.basis.rows }
+    ensures row { IfOk result (λ q. q.row ≡ slice_index segment.now.vertex.basis.rows place) }
+    ensures at_lo { let s = segment.now in IfOk result (λ q. rational (F.value q.at_lo) ≡ score F.value problem.now s.vertex s.basic_lo s.lo q.row) }
+    ensures at_hi { let s = segment.now in IfOk result (λ q. rational (F.value q.at_hi) ≡ score F.value problem.now s.vertex s.basic_hi s.hi q.row) }
+    ensures spilled { IfErr result (IsScoresSpill F.value F.range problem.now number segment.now) }
+{
+    let row = segment.vertex.basis.rows.as_slice()[place];
+    let weight = problem.rows.as_slice()[row as usize].up1;
+    let dual_lo = segment.basic_lo.as_slice()[place];
+    let at_lo = score_at(score_site(row, 0, number), dual_lo, weight, segment.lo)?;
+    let dual_hi = segment.basic_hi.as_slice()[place];
+    let at_hi = score_at(score_site(row, 1, number), dual_hi, weight, segment.hi)?;
+    Ok(ScorePair { row, at_lo, at_hi })
+}
+
+/// The rankscores of the basic rows of a segment, ascending, at both of its ends: the dual value over
+/// the weight, plus 1, minus the quantile (Gutenbrunner and Jurečková 1992).
+///
+/// Every row is a data row of positive weight. The number names the segment in the site of an
+/// overflow, which comes only where that operation overflows.
+pub(crate) fn scores<F: Exact>(
+    alloc: Global,
+    problem: &Problem<F>,
+    segment: &Segment<F>,
+    number: u32,
+) -> Result<List<ScorePair<F>>, Short<F>>
+    requires vertex { IsVertexOf problem.now segment.now.vertex }
+    requires inside { All (λ i. i < length problem.now.rows) segment.now.vertex.basis.rows }
+    requires lo { length segment.now.basic_lo ≡ length segment.now.vertex.basis.rows }
+    requires hi { length segment.now.basic_hi ≡ length segment.now.vertex.basis.rows }
+    requires weighted { (i : ℕ) → i < length problem.now.rows → (sample F.value problem.now).up1 i ≢ whole (pos 0) }
+    ensures scored { IfOk result (IsScored F.value problem.now segment.now) }
+    ensures spilled { IfErr result (IsShortOf (IsScoresSpill F.value F.range problem.now number segment.now)) }
+{
+    let mut pairs = List::new(alloc);
+    for place in 0..segment.vertex.basis.rows.as_slice().len() {
+        let pair = score_pair(problem, segment, place, number)?;
+        match pairs.push(pair) {
+            Ok(()) => {}
+            Err(_) => return Err(Short::OutOfMemory),
+        }
+    }
+    Ok(pairs)
+}
