@@ -34,7 +34,9 @@ pub enum Outcome {
         spill: Spill<Frac128>,
     },
     /// The words or the input ask for what this version does not do.
-    NotBuilt { part: u8 },
+    NotBuilt {
+        part: u8,
+    },
 }
 
 impl Outcome {

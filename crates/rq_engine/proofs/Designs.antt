@@ -1,23 +1,21 @@
 -- What a design has whose table and formula have no fault: rows, a column, and an entry for each column in each row.
-use Rattle.std.proofs.Common.{◌≡◌, ◌≢◌, ◌==◌, ◌&&◌, ◌≤◌, ◌<◌, ℕ, zero, suc, ◌+◌, ◌*◌, not, Bool, true, false, cond, List, [], ◌∷◌, ◌++◌, Option, Some, None, All, length, map, get_or, pos, arith, refl, sym, ap, subst, ◌∙◌, length-append}
+use Rattle.std.proofs.Common.{◌≡◌, ◌==◌, ◌&&◌, ◌≤◌, ℕ, zero, suc, ◌+◌, ◌*◌, not, Bool, true, false, cond, List, [], ◌∷◌, Option, Some, None, All, length, map, get_or, pos, arith, refl, sym, ap, subst, ◌∙◌, length-append}
 use Rattle.std.specs.List.{flat_map}
 use Rattle.std.specs.Option.{option_or}
 use Rattle.std.proofs.lemmas.List.{get_or-map, length-map}
 use Rattle.std.proofs.lemmas.List.Elements.{All-cons, All-nil}
-use Rattle.exact_algebra.specs.Rational.{ℚ, whole}
+use Rattle.exact_algebra.specs.Rational.{whole}
 use Rattle.contrasts.specs.declared.Coding.{Coding}
 use Rattle.data_frame.specs.Views.{exact}
 use Rattle.formula_parser.specs.declared.formula.Formula.{Formula}
 use Rattle.design_matrix.specs.declared.design.Design.{Design}
-use Rattle.design_matrix.specs.declared.design.DesignRow.{DesignRow}
-use Rattle.design_matrix.specs.declared.fault.DesignFault.{DesignFault}
-use Rattle.design_matrix.specs.declared.fault.DesignFault.TheVariants.{NoRows, NoColumns, OneLevel}
-use Rattle.design_matrix.specs.Cells.{Column, Table, column_of, kept, used_names}
+use Rattle.design_matrix.specs.declared.fault.DesignFault.TheVariants.{NoColumns, OneLevel}
+use Rattle.design_matrix.specs.Cells.{Table, column_of, kept, used_names}
 use Rattle.design_matrix.specs.Coded.{Coded, coded_term, coded_terms, width}
-use Rattle.design_matrix.specs.Designs.{RowOf, design_of, exact_design, exact_row, row_of}
+use Rattle.design_matrix.specs.Designs.{design_of, exact_row, row_of}
 use Rattle.design_matrix.specs.Faults.{IsDesign, columns_fault, empty_fault, fault_of, lacks_columns, late_fault, level_fault, levels_fault, response_fault, rows_fault, terms_fault, widths_fault}
 use Rattle.design_matrix.specs.Lists.{each, first_some}
-use Rattle.design_matrix.specs.Parts.{Part, column_name, columns_in, columns_of, count, factors, term_columns}
+use Rattle.design_matrix.specs.Parts.{column_name, columns_in, columns_of, count, factors, term_columns}
 use Rattle.design_matrix.specs.Products.{product}
 use Rattle.design_matrix.proofs.Counts.{length-term_columns}
 use Rattle.design_matrix.proofs.Lengths.{each_length}
@@ -29,7 +27,7 @@ each_all P f k [] h = All-nil P
 each_all P f k (x ∷ xs) h = All-cons P (f k x) (each f (k + 1) xs) (h k x) (each_all P f (k + 1) xs h)
 
 -- what holds of the images holds of what they are images of
-unmapped : {A B : Type 0} (P : B → Type 0) (f : A → B) (xs : List A) (ys : List B) → map f xs ≡ ys → All P ys → All (λ x. P (f x)) xs
+pub unmapped : {A B : Type 0} (P : B → Type 0) (f : A → B) (xs : List A) (ys : List B) → map f xs ≡ ys → All P ys → All (λ x. P (f x)) xs
 unmapped P f xs ys e h k d l =
     subst P (ap (λ zs. get_or zs k (f d)) (sym e) ∙ get_or-map f xs k d (f d) l)
     (h k (f d) (omega (arith, ap length e, length-map xs f)))
@@ -142,21 +140,9 @@ module _ (table : Table) (model : Formula) (coding : Coding) (design : Design) (
       (λ j x. length-map columns (λ column. product (factors column j)))) in
       sym (length-map (get_or design.rows k d).x exact) ∙ entries k d l ∙ sym (ap length names_are ∙ length-map columns column_name)
 
-  -- the intercept is alone where there is one column
-  alone : model.intercept ≡ true → length design.names ≡ 1 → columns_of table model coding ≡ [] ∷ []
-  unfolding columns_of
-  alone on one =
-      let size : length (columns_in model.intercept (coded_terms table model coding)) ≡ 1 = sym (length-map (columns_of table model coding) column_name) ∙ sym (ap length names_are) ∙ one in
-      by model.intercept on size
-    where
-      by : (b : Bool) → b ≡ true → length (columns_in b (coded_terms table model coding)) ≡ 1 → columns_in b (coded_terms table model coding) ≡ [] ∷ []
-      by true on e = none (flat_map term_columns (coded_terms table model coding)) (cc e)
-        where
-          none : (cs : List (List Part)) → length cs ≡ 0 → [] ∷ cs ≡ [] ∷ []
-          none [] e = refl
-          none (c ∷ cs) e = absurd (cc e)
-      by false on e = absurd (cc on)
-
-  -- then each row has the one entry 1
-  pub intercept_rows : model.intercept ≡ true → length design.names ≡ 1 → map exact_row design.rows ≡ each (row_of (column_of table model.response) ([] ∷ [])) 0 (kept table model)
-  intercept_rows on one = rows_are ∙ ap (λ columns. each (row_of (column_of table model.response) columns) 0 (kept table model)) (alone on one)
+  -- every row has the weight 1
+  pub has_weights : All (λ r. exact r.weight ≡ whole (pos 1)) design.rows
+  has_weights =
+      let columns = columns_of table model coding in
+      unmapped (λ q. q.weight ≡ whole (pos 1)) exact_row design.rows _ rows_are
+      (each_all (λ q. q.weight ≡ whole (pos 1)) (row_of (column_of table model.response) columns) 0 (kept table model) (λ j x. refl))

@@ -1,5 +1,8 @@
 pub mod Appends
 pub mod Countable
+pub mod DataRows
 pub mod Designs
+pub mod Fits
 pub mod Numbered
 pub mod Points
+pub mod Rankscores

@@ -5,7 +5,6 @@ use Rattle.data_frame.specs.Tables.{table_of}
 use Rattle.data_frame.specs.Views.{exact_table}
 use Rattle.formula_parser.specs.Parsed.{IsFault, IsParsed}
 use Rattle.formula_parser.specs.declared.formula.Formula.{Formula}
-use Rattle.formula_parser.specs.declared.fault.FormulaFault.{FormulaFault}
 use Rattle.formula_parser.specs.declared.fault.FormulaFault.TheVariants as formulas
 use Rattle.design_matrix.specs.Cells.{Table}
 use Rattle.design_matrix.specs.Faults.{HasCause as HasDesignCause}

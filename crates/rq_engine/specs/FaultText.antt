@@ -19,8 +19,8 @@ use Rattle.rq_words.specs.declared.job.WordFault.TheVariants as words
 use Rattle.rq_engine.specs.Names.{name_bytes}
 use Rattle.rq_engine.specs.Quantities.{indices, op_name, quantity_name}
 use Rattle.rq_engine.specs.ReportText.{numbered, value}
-use Rattle.rq_engine.specs.declared.quantity.Indices.{Indices}
-use Rattle.rq_engine.specs.declared.quantity.Indices.TheVariants.{One, Two, Three}
+use Rattle.rq_engine.specs.declared.quantity.PrintedIndices.{PrintedIndices}
+use Rattle.rq_engine.specs.declared.quantity.PrintedIndices.TheVariants.{One, Two, Three}
 use Rattle.rq_engine.specs.declared.report.Place.{Place}
 use Rattle.rq_engine.specs.declared.report.Place.TheVariants.{Process}
 use Rattle.rq_engine.specs.declared.report.Refusal.TheVariants.{TooLong, Table, Formula, Design, Program, Dependent}
@@ -72,7 +72,7 @@ abbrev pub named : List ℕ → List ℕ → List ℕ
 named field name = field ++ name_bytes name
 
 -- numbers with a comma between them
-unfoldable pub indices_text : Indices → List ℕ
+unfoldable pub indices_text : PrintedIndices → List ℕ
 indices_text (One i) = decimal i
 indices_text (Two i j) = decimal i ++ codes "," ++ decimal j
 indices_text (Three i j k) = decimal i ++ codes "," ++ decimal j ++ codes "," ++ decimal k

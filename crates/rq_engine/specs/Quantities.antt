@@ -5,8 +5,8 @@ use Rattle.frac_core.specs.declared.exact.OpKind.TheVariants.{Add, Sub, Mul, Div
 use Rattle.loss_model.specs.declared.spill.Quantity.{Quantity}
 use Rattle.loss_model.specs.declared.spill.Quantity.TheVariants as quantities
 use Rattle.loss_model.specs.declared.spill.Site.{Site}
-use Rattle.rq_engine.specs.declared.quantity.Indices.{Indices}
-use Rattle.rq_engine.specs.declared.quantity.Indices.TheVariants.{One, Two, Three}
+use Rattle.rq_engine.specs.declared.quantity.PrintedIndices.{PrintedIndices}
+use Rattle.rq_engine.specs.declared.quantity.PrintedIndices.TheVariants.{One, Two, Three}
 
 abbrev pub op_name : OpKind → List ℕ
 op_name Add = codes "add"
@@ -42,7 +42,7 @@ quantity_name quantities.CheckSum = codes "check-sum"
 
 -- the indices i, j and k of a quantity as they are printed. Records, parts and ends, the entries of
 -- perturbed ratios and the indices of a check-sum stand as they are; all others are counted from 1
-abbrev pub printed : Quantity → ℕ → ℕ → ℕ → Indices
+abbrev pub printed : Quantity → ℕ → ℕ → ℕ → PrintedIndices
 printed quantities.Coordinate i j k = Two (i + 1) (j + 1)
 printed quantities.Coefficient i j k = One (i + 1)
 printed quantities.Residual i j k = One (i + 1)
@@ -68,5 +68,5 @@ printed quantities.DesignEntry i j k = Two i (j + 1)
 printed quantities.PenaltyEntry i j k = Two (i + 1) (j + 1)
 printed quantities.CheckSum i j k = Three i j k
 
-abbrev pub indices : Site → Indices
+abbrev pub indices : Site → PrintedIndices
 indices s = printed s.quantity s.first s.second s.third

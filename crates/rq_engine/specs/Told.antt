@@ -1,7 +1,6 @@
 -- What is told of the vertex that a solve gives.
 use Rattle.std.specs.Prelude.{◌≡◌, ◌⊎◌, ℕ, List, [], ◌∷◌, length}
 use Rattle.exact_algebra.specs.Fraction.{Fraction, rational}
-use Rattle.exact_algebra.specs.Rational.{ℚ}
 use Rattle.frac_core.specs.declared.frac128.Frac128.{Frac128}
 use Rattle.loss_model.specs.declared.problem.Problem.{Problem}
 use Rattle.loss_model.specs.declared.process.Segment.{Segment}
@@ -49,7 +48,7 @@ pub record IsFitUnder (problem : Problem Frac128) (design : Design) (fit : Fit) 
   pub data_rows : fit.data_rows ≡ length problem.rows
 
 -- the fit has what is told, and this trail
-pub record HasTold (told : Told Frac128) (trail : Trail Frac128) (fit : Fit) : Type 0 where
+pub record HasTold (told : Told Frac128) (reached : Trail Frac128) (fit : Fit) : Type 0 where
   pub segments : fit.process.segments ≡ told.segment ∷ []
   pub scores : fit.scores ≡ told.scores ∷ []
-  pub trail : fit.process.trail ≡ trail
+  pub trail : fit.process.trail ≡ reached

@@ -4,7 +4,7 @@ ghost use Rattle.rq_engine.specs.ReportText.{numbered};
 ghost use Rattle.rq_engine.specs.FaultText.{source_line, sink_line, memory_line, not_built_line, field, named, table_line, formula_line, design_line, site_text, indices_text, operands, spill_text, program_line, place_text, dependent_line, limit_line, overflow_line, listed, halt_line, usage_line, fault_line as line_of};
 
 use crate::page::Page;
-use crate::quantity::{Indices, indices, op_name, quantity_name};
+use crate::quantity::{PrintedIndices, indices, op_name, quantity_name};
 use crate::report::{Fault, Halt, Place, Refusal};
 use data_frame::TableFault;
 use design_matrix::DesignFault;
@@ -257,16 +257,16 @@ impl Page {
 
     // Numbers with a comma between them.
     #[tactic(auto, unfolding(crate::specs::FaultText::indices_text))]
-    fn put_indices(&mut self, indices: Indices) -> Result<(), OutOfMemory>
+    fn put_indices(&mut self, indices: PrintedIndices) -> Result<(), OutOfMemory>
         ensures { OnOk result (self.new ≡ self.old ++ indices_text indices) }
     {
         match indices {
-            Indices::One(first) => self.put_count(first),
-            Indices::Two(first, second) => {
+            PrintedIndices::One(first) => self.put_count(first),
+            PrintedIndices::Two(first, second) => {
                 self.put_count(first)?;
                 self.put_field(b",", second)
             }
-            Indices::Three(first, second, third) => {
+            PrintedIndices::Three(first, second, third) => {
                 self.put_count(first)?;
                 self.put_field(b",", second)?;
                 self.put_field(b",", third)
@@ -302,7 +302,8 @@ impl Page {
     {
         self.put(b"quantreg: solver: Dependent combination=")?;
         self.put_numbers(combination)?;
-        self.put(b"\n")
+        self.put(b"\n")?;
+        Ok(())
     }
 
     // Fractions with commas between them.
@@ -342,7 +343,8 @@ impl Page {
         self.put(b"quantreg: solver: PivotLimit")?;
         self.put_place(place)?;
         self.put_field(b" limit=", limit as u64)?;
-        self.put(b"\n")
+        self.put(b"\n")?;
+        Ok(())
     }
 
     // The line of an operation of the solver that overflows.
@@ -353,7 +355,8 @@ impl Page {
         self.put(b"quantreg: solver: Overflow")?;
         self.put_place(place)?;
         self.put_spill(spill)?;
-        self.put(b"\n")
+        self.put(b"\n")?;
+        Ok(())
     }
 
     // What names a field, and the name in it.

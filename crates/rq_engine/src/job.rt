@@ -119,5 +119,8 @@ fn fit_model(alloc: Global, job: &FitJob, frame: &Frame, model: &Formula) -> Res
         Ok(problem) => problem,
         Err(fault) => return Err(program_halt(fault)),
     };
-    fit_problem(alloc, job, problem, design)
+    match fit_problem(alloc, job, problem, design) {
+        Ok(fit) => Ok(fit),
+        Err(halt) => Err(halt),
+    }
 }

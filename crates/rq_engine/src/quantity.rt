@@ -7,7 +7,7 @@ use loss_model::{Quantity, Site};
 
 /// The indices of a quantity as they are printed.
 #[derive(Clone, Copy, Debug, PartialEq, Eq)]
-pub(crate) enum Indices {
+pub(crate) enum PrintedIndices {
     One(u64),
     Two(u64, u64),
     Three(u64, u64, u64),
@@ -57,34 +57,34 @@ pub(crate) fn quantity_name(quantity: Quantity) -> &'static [u8]
 
 /// The indices of a site. Records, parts and ends, the entries of perturbed ratios and the indices of
 /// a check-sum stand as they are; all others are counted from 1.
-pub(crate) fn indices(site: &Site) -> Indices
+pub(crate) fn indices(site: &Site) -> PrintedIndices
     ensures { result ≡ indices_of site.now }
 {
     let (first, second, third) = (site.first as u64, site.second as u64, site.third as u64);
     match site.quantity {
-        Quantity::Coordinate => Indices::Two(first + 1, second + 1),
-        Quantity::Coefficient => Indices::One(first + 1),
-        Quantity::Residual => Indices::One(first + 1),
-        Quantity::NonbasicTotal => Indices::Two(first + 1, second),
-        Quantity::BasicDual => Indices::Two(first + 1, second),
-        Quantity::DualValue => Indices::Two(first + 1, second),
-        Quantity::CostValue => Indices::Two(first + 1, second),
-        Quantity::Slope => Indices::Two(first + 1, second),
-        Quantity::CostSum => Indices::One(first + 1),
-        Quantity::Crossing => Indices::Two(first + 1, second),
-        Quantity::PerturbedRatio => Indices::Three(first + 1, second + 1, third),
-        Quantity::ExchangedEntry => Indices::Two(first + 1, second + 1),
-        Quantity::Loss => Indices::One(first),
-        Quantity::Score => Indices::Three(first + 1, second, third + 1),
-        Quantity::Wilcoxon => Indices::Two(first + 1, second + 1),
-        Quantity::ScaledEntry => Indices::Two(first + 1, second + 1),
-        Quantity::Gram => Indices::Two(first + 1, second + 1),
-        Quantity::Projection => Indices::One(first + 1),
-        Quantity::SquaredLength => Indices::One(first + 1),
-        Quantity::Ray => Indices::Two(first + 1, second + 1),
-        Quantity::Statistic => Indices::One(first),
-        Quantity::DesignEntry => Indices::Two(first, second + 1),
-        Quantity::PenaltyEntry => Indices::Two(first + 1, second + 1),
-        Quantity::CheckSum => Indices::Three(first, second, third),
+        Quantity::Coordinate => PrintedIndices::Two(first + 1, second + 1),
+        Quantity::Coefficient => PrintedIndices::One(first + 1),
+        Quantity::Residual => PrintedIndices::One(first + 1),
+        Quantity::NonbasicTotal => PrintedIndices::Two(first + 1, second),
+        Quantity::BasicDual => PrintedIndices::Two(first + 1, second),
+        Quantity::DualValue => PrintedIndices::Two(first + 1, second),
+        Quantity::CostValue => PrintedIndices::Two(first + 1, second),
+        Quantity::Slope => PrintedIndices::Two(first + 1, second),
+        Quantity::CostSum => PrintedIndices::One(first + 1),
+        Quantity::Crossing => PrintedIndices::Two(first + 1, second),
+        Quantity::PerturbedRatio => PrintedIndices::Three(first + 1, second + 1, third),
+        Quantity::ExchangedEntry => PrintedIndices::Two(first + 1, second + 1),
+        Quantity::Loss => PrintedIndices::One(first),
+        Quantity::Score => PrintedIndices::Three(first + 1, second, third + 1),
+        Quantity::Wilcoxon => PrintedIndices::Two(first + 1, second + 1),
+        Quantity::ScaledEntry => PrintedIndices::Two(first + 1, second + 1),
+        Quantity::Gram => PrintedIndices::Two(first + 1, second + 1),
+        Quantity::Projection => PrintedIndices::One(first + 1),
+        Quantity::SquaredLength => PrintedIndices::One(first + 1),
+        Quantity::Ray => PrintedIndices::Two(first + 1, second + 1),
+        Quantity::Statistic => PrintedIndices::One(first),
+        Quantity::DesignEntry => PrintedIndices::Two(first, second + 1),
+        Quantity::PenaltyEntry => PrintedIndices::Two(first + 1, second + 1),
+        Quantity::CheckSum => PrintedIndices::Three(first, second, third),
     }
 }

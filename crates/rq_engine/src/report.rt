@@ -79,7 +79,9 @@ pub enum Halt {
         spill: Spill<Frac128>,
     },
     /// It asks for what this version does not do: part 1 is the job, part 3 a smooth in its formula.
-    NotBuilt { part: u8 },
+    NotBuilt {
+        part: u8,
+    },
 }
 
 /// What is told on standard error.

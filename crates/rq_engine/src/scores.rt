@@ -57,12 +57,13 @@ fn score_pair<F: Exact>(
     ensures at_hi { let s = segment.now in IfOk result (λ q. rational (F.value q.at_hi) ≡ score F.value problem.now s.vertex s.basic_hi s.hi q.row) }
     ensures spilled { IfErr result (IsScoresSpill F.value F.range problem.now number segment.now) }
 {
-    let row = segment.vertex.basis.rows.as_slice()[place];
+    let rows = segment.vertex.basis.rows.as_slice();
+    let low = segment.basic_lo.as_slice();
+    let high = segment.basic_hi.as_slice();
+    let row = rows[place];
     let weight = problem.rows.as_slice()[row as usize].up1;
-    let dual_lo = segment.basic_lo.as_slice()[place];
-    let at_lo = score_at(score_site(row, 0, number), dual_lo, weight, segment.lo)?;
-    let dual_hi = segment.basic_hi.as_slice()[place];
-    let at_hi = score_at(score_site(row, 1, number), dual_hi, weight, segment.hi)?;
+    let at_lo = score_at(score_site(row, 0, number), low[place], weight, segment.lo)?;
+    let at_hi = score_at(score_site(row, 1, number), high[place], weight, segment.hi)?;
     Ok(ScorePair { row, at_lo, at_hi })
 }
 

@@ -1,6 +1,6 @@
 //! The lines of stops of the solver, byte for byte.
-use crate::report::{Fault, Halt, Place, Refusal};
 use crate::fault_line;
+use crate::report::{Fault, Halt, Place, Refusal};
 use frac_core::OpKind::{self, Add, Div, Mul, Sub};
 use frac_core::{Exact, Frac128, List};
 use loss_model::{Quantity, Site, Spill, Trail};
@@ -20,26 +20,54 @@ static CASES: [Case; 24] = [
     case(Quantity::Coordinate, Mul, "coordinate at=5,2 term=9 op=mul"),
     case(Quantity::Coefficient, Add, "coefficient at=5 term=9 op=add"),
     case(Quantity::Residual, Sub, "residual at=5 term=9 op=sub"),
-    case(Quantity::NonbasicTotal, Add, "nonbasic-total at=5,1 term=9 op=add"),
+    case(
+        Quantity::NonbasicTotal,
+        Add,
+        "nonbasic-total at=5,1 term=9 op=add",
+    ),
     case(Quantity::BasicDual, Mul, "basic-dual at=5,1 term=9 op=mul"),
     case(Quantity::DualValue, Mul, "dual-value at=5,1 term=9 op=mul"),
     case(Quantity::CostValue, Add, "cost-value at=5,1 term=9 op=add"),
     case(Quantity::Slope, Sub, "slope at=5,1 term=9 op=sub"),
     case(Quantity::CostSum, Add, "cost-sum at=5 term=9 op=add"),
     case(Quantity::Crossing, Div, "crossing at=5,1 term=9 op=div"),
-    case(Quantity::PerturbedRatio, Div, "perturbed-ratio at=5,2,2 term=9 op=div"),
-    case(Quantity::ExchangedEntry, Div, "exchanged-entry at=5,2 term=9 op=div"),
+    case(
+        Quantity::PerturbedRatio,
+        Div,
+        "perturbed-ratio at=5,2,2 term=9 op=div",
+    ),
+    case(
+        Quantity::ExchangedEntry,
+        Div,
+        "exchanged-entry at=5,2 term=9 op=div",
+    ),
     case(Quantity::Loss, Mul, "loss at=4 term=9 op=mul"),
     case(Quantity::Score, Sub, "score at=5,1,3 term=9 op=sub"),
     case(Quantity::Wilcoxon, Add, "wilcoxon at=5,2 term=9 op=add"),
-    case(Quantity::ScaledEntry, Mul, "scaled-entry at=5,2 term=9 op=mul"),
+    case(
+        Quantity::ScaledEntry,
+        Mul,
+        "scaled-entry at=5,2 term=9 op=mul",
+    ),
     case(Quantity::Gram, Add, "gram at=5,2 term=9 op=add"),
     case(Quantity::Projection, Div, "projection at=5 term=9 op=div"),
-    case(Quantity::SquaredLength, Div, "squared-length at=5 term=9 op=div"),
+    case(
+        Quantity::SquaredLength,
+        Div,
+        "squared-length at=5 term=9 op=div",
+    ),
     case(Quantity::Ray, Div, "ray at=5,2 term=9 op=div"),
     case(Quantity::Statistic, Mul, "statistic at=4 term=9 op=mul"),
-    case(Quantity::DesignEntry, Mul, "design-entry at=4,2 term=9 op=mul"),
-    case(Quantity::PenaltyEntry, Sub, "penalty-entry at=5,2 term=9 op=sub"),
+    case(
+        Quantity::DesignEntry,
+        Mul,
+        "design-entry at=4,2 term=9 op=mul",
+    ),
+    case(
+        Quantity::PenaltyEntry,
+        Sub,
+        "penalty-entry at=5,2 term=9 op=sub",
+    ),
     case(Quantity::CheckSum, Add, "check-sum at=4,1,2 term=9 op=add"),
 ];
 
@@ -123,7 +151,11 @@ fn dependent(alloc: Global, numbers: &[(i128, i128)]) -> Result<Halt, Fail> {
 #[test]
 fn dependent_columns_are_listed(rt: HostRuntime) -> Result<(), Fail> {
     let one = dependent(rt.alloc(), &[(1, 1)])?;
-    let told = is_line(rt.alloc(), &one, b"quantreg: solver: Dependent combination=1\n")?;
+    let told = is_line(
+        rt.alloc(),
+        &one,
+        b"quantreg: solver: Dependent combination=1\n",
+    )?;
     assert!(rt; told);
     let three = dependent(rt.alloc(), &[(0, 1), (-2, 3), (1, 1)])?;
     let told = is_line(

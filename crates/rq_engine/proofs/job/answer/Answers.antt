@@ -4,6 +4,7 @@ use Rattle.rq_words.specs.declared.job.Job.TheVariants.{Process}
 use Rattle.rq_engine.specs.ReportText.{value}
 use Rattle.rq_engine.specs.Fit.{IsScored}
 use Rattle.rq_engine.specs.Point.{IsJobOf, IsPoint}
+use Rattle.rq_engine.proofs.DataRows.{same_rows}
 use Rattle.rq_engine.proofs.Points.{point_range}
 use Rattle.rq_engine.proofs.job.answer.Goals as goal
 
@@ -30,5 +31,5 @@ fit_bytes-requires-clause-high g c =
 pub returns-in-Ok-clause-printable : goal.returns-in-Ok-clause-printable
 returns-in-Ok-clause-printable g c =
     let fit = c.in-Ok.fit in
-    let right = c.in-Ok.ensures.right.2.right in
-    (same_length (IsScored value fit.problem) fit.process.segments fit.scores right.scores, omega (arith, right.data_rows, right.model.rows))
+    let of = c.in-Ok.ensures.right.2 in
+    (same_length (IsScored value fit.problem) fit.process.segments fit.scores of.right.scores, omega (arith, of.data_rows, same_rows of.design fit.problem of.problem))
