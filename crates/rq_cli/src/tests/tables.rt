@@ -154,7 +154,7 @@ static LARGE: [(&str, &str, usize, u8, &str); 6] = [
     ("", ",", 1023, 1, "quantreg: table: EmptyName column=2\n"),
     ("y\n", "1\n", 16_385, 1, "quantreg: table: TooManyRows\n"),
     ("y\n", "1\n", 1001, 0, ""),
-    ("y\n", "1\n", 16_384, 0, ""),
+    ("y\n", "1\n2\n", 8192, 0, ""),
     ("y\n1\n", "NA\n", 16_383, 0, ""),
 ];
 
