@@ -4,8 +4,8 @@
 # install: puts the proved program into PREFIX/bin
 
 PREFIX ?= /usr/local
-JOB = process --formula "rain ~ 1" --lo 9/10 --hi 9/10
-TABLE = $(CURDIR)/examples/rain.csv
+JOB = process --formula "stack.loss ~ ." --lo 1/2 --hi 1/2
+TABLE = $(CURDIR)/examples/stackloss.csv
 PROGRAM = crates/quantreg/out/quantreg
 
 .PHONY: demo check try install toolchain

@@ -1,4 +1,7 @@
 //! Whole runs, from words and the bytes of a table to what is written.
+mod formulas;
+mod rows;
+mod stops;
 mod tables;
 
 use super::run;
@@ -70,10 +73,10 @@ fn ran_on<R: Threads + Sync>(
     ran(rt, alloc, line, &mut source, &SOUND)
 }
 
-// Each case: the quantile, the table, and the report, worked by hand: the
-// place of the first record among the responses, of which equal ones stand in the order of the
-// later record first, is moved to the nearest of the places k with k - 1 <= n*tau <= k.
-static REPORTS: [(&str, &str, &str); 12] = [
+// Each case: the quantile, the table, and the report, worked by hand. The greedy start is the first
+// record. Of the responses, equal ones in the order of the later record first, the one at place k is
+// optimal where k - 1 <= n*tau <= k; one pivot leads to the nearest such place, if any is needed.
+static REPORTS: [(&str, &str, &str); 17] = [
     (
         "1/2",
         "y\n1\n2\n3\n",
@@ -134,6 +137,31 @@ static REPORTS: [(&str, &str, &str); 12] = [
         "y\n3\n1\n2\n2\n5\n-4\n2\n",
         "quantreg 1\nrecords 7 dropped 0\ncolumn 1 (Intercept)\ndata 7 penalty 0\npivots 0\nsegment 1 6/7 6/7\ncoef 1 3\nloss 24/7 24/7\nscores *000100\nbasic 1 0 0\nend\n",
     ),
+    (
+        "1/1001",
+        "y\n1\n2\n3\n",
+        "quantreg 1\nrecords 3 dropped 0\ncolumn 1 (Intercept)\ndata 3 penalty 0\npivots 0\nsegment 1 1/1001 1/1001\ncoef 1 1\nloss 3/1001 3/1001\nscores *11\nbasic 1 998/1001 998/1001\nend\n",
+    ),
+    (
+        "0.0001",
+        "y\n1\n2\n3\n",
+        "quantreg 1\nrecords 3 dropped 0\ncolumn 1 (Intercept)\ndata 3 penalty 0\npivots 0\nsegment 1 1/10000 1/10000\ncoef 1 1\nloss 3/10000 3/10000\nscores *11\nbasic 1 9997/10000 9997/10000\nend\n",
+    ),
+    (
+        "0",
+        "y\n3\n2\n1\n",
+        "quantreg 1\nrecords 3 dropped 0\ncolumn 1 (Intercept)\ndata 3 penalty 0\npivots 1\nsegment 1 0 0\ncoef 1 1\nloss 0 0\nscores 11*\nbasic 3 1 1\nend\n",
+    ),
+    (
+        "1/2",
+        "y\n5\n5\n5\n",
+        "quantreg 1\nrecords 3 dropped 0\ncolumn 1 (Intercept)\ndata 3 penalty 0\npivots 1\nsegment 1 1/2 1/2\ncoef 1 5\nloss 0 0\nscores 1*0\nbasic 2 1/2 1/2\nend\n",
+    ),
+    (
+        "1/2",
+        "y\n1\n1.5\n",
+        "quantreg 1\nrecords 2 dropped 0\ncolumn 1 (Intercept)\ndata 2 penalty 0\npivots 0\nsegment 1 1/2 1/2\ncoef 1 1\nloss 1/4 1/4\nscores *1\nbasic 1 0 0\nend\n",
+    ),
 ];
 
 fn assert_printed(rt: &impl Abort, left: &Left, report: &str, case: &str) {
@@ -155,7 +183,7 @@ fn columns_are_fitted_at_one_quantile(rt: HostRuntime) -> Result<(), Fail> {
 }
 
 // Each case: formula, quantile, exit status and line.
-static FAULTS: [(&str, &str, u8, &str); 17] = [
+static FAULTS: [(&str, &str, u8, &str); 15] = [
     (
         "y ~ x",
         "1/2",
@@ -189,9 +217,12 @@ static FAULTS: [(&str, &str, u8, &str); 17] = [
         "quantreg: build: NotBuilt part=3\n",
     ),
     ("y ~ 0", "1/2", 1, "quantreg: design: NoColumns\n"),
-    ("y ~ 0 + y", "1/2", 9, "quantreg: build: NotBuilt part=4\n"),
-    ("y ~ 1", "1/1001", 9, "quantreg: build: NotBuilt part=1\n"),
-    ("y ~ 1", "0.0001", 9, "quantreg: build: NotBuilt part=1\n"),
+    (
+        "y ~ 1 - 1 + qss(y, 1)",
+        "1/2",
+        9,
+        "quantreg: build: NotBuilt part=3\n",
+    ),
     ("y ~ 1", "2/1", 2, "quantreg: usage: BadRange\n"),
     ("y ~ 1", "1.0001", 2, "quantreg: usage: BadRange\n"),
     ("y ~ 1", "1/0", 2, "quantreg: usage: BadNumber option=lo\n"),
@@ -224,7 +255,7 @@ fn other_formulas_and_quantiles_are_told(rt: HostRuntime) -> Result<(), Fail> {
 }
 
 // Each case: words that are refused, or that ask for what this version doesn't do.
-static COMMANDS: [(&str, u8, &str); 19] = [
+static COMMANDS: [(&str, u8, &str); 21] = [
     ("", 2, "quantreg: usage: NoJob\n"),
     ("fit", 2, "quantreg: usage: UnknownJob\n"),
     ("--help", 2, "quantreg: usage: UnknownJob\n"),
@@ -276,7 +307,7 @@ static COMMANDS: [(&str, u8, &str); 19] = [
         "quantreg: build: NotBuilt part=1\n",
     ),
     (
-        "process|--formula|y ~ 1|--lo|1/2|--hi|1/2|--pivots|7",
+        "process|--formula|y ~ 1|--lo|1/3|--hi|1/2",
         9,
         "quantreg: build: NotBuilt part=1\n",
     ),
@@ -291,6 +322,16 @@ static COMMANDS: [(&str, u8, &str); 19] = [
         "quantreg: build: NotBuilt part=1\n",
     ),
     ("check", 9, "quantreg: build: NotBuilt part=1\n"),
+    (
+        "certify|--formula|y ~ 1|--lo|1/2|--hi|1/2",
+        9,
+        "quantreg: build: NotBuilt part=1\n",
+    ),
+    (
+        "sample|--number|1|--rows|2|--columns|1|--lo|0|--hi|1",
+        9,
+        "quantreg: build: NotBuilt part=1\n",
+    ),
     (
         "ranks|--formula|y ~ 1",
         9,
@@ -308,11 +349,13 @@ fn words_have_their_first_fault(rt: HostRuntime) -> Result<(), Fail> {
 }
 
 // Other words of the job that TABLE and REPORT belong to, or of one that has the same design.
-static SAME_JOB: [&str; 5] = [
+static SAME_JOB: [&str; 7] = [
     "process|--formula|y ~ 1|--lo|1/2|--hi|1/2",
     "process|--formula|y~1|--lo|1/2|--hi|1/2|--contrasts|sas",
     "process|--formula|y ~ (y) - y|--lo|1/2|--hi|1/2",
     "process|--hi=0.5|--lo=2/4|--formula=y ~ 1",
+    "process|--formula|y ~ 1|--lo|1/2|--hi|1/2|--pivots|1",
+    "process|--formula|y ~ 1|--lo|1/2|--hi|1/2|--pivots|10000000",
     "process|--pivots|100000|--contrasts|treatment|--hi|5e-1|--lo|00001/2|--formula|y ~ 1",
 ];
 
