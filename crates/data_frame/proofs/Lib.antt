@@ -8,3 +8,4 @@ pub mod Extending
 pub mod Numeric
 pub mod Tables
 pub mod Accepting
+pub mod Counting

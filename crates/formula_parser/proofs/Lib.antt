@@ -4,3 +4,4 @@ pub mod Mentions
 pub mod Runs
 pub mod Speaking
 pub mod Lambdas
+pub mod Counting

@@ -1,5 +1,4 @@
 pub mod Appends
-pub mod Countable
 pub mod DataRows
 pub mod Designs
 pub mod Fits

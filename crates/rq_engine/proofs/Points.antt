@@ -1,5 +1,5 @@
 -- The quantile of a job that the words ask for lies in 0 to 1.
-use Rattle.std.proofs.Common.{◌≡◌, ℕ, ◌^◌, ◌-◌, Bool, true, false, not, ◌&&◌, eqb, int_eq, List, pos, refl, subst, sym}
+use Rattle.std.proofs.Common.{◌≡◌, ℕ, ◌^◌, ◌-◌, ◌<◌, Bool, true, false, not, ◌&&◌, eqb, int_eq, length, List, pos, refl, subst, sym}
 use Rattle.std.proofs.lemmas.Bool.{eqb-true}
 use Rattle.std.proofs.lemmas.Bool.Decides.{Decides-int_eq}
 use Rattle.exact_algebra.specs.Fraction.{rational}
@@ -10,6 +10,7 @@ use Rattle.rq_words.specs.Requests.{fit_request, number}
 use Rattle.rq_words.specs.declared.job.FitJob.{FitJob}
 use Rattle.rq_words.specs.declared.job.Job.TheVariants.{Process}
 use Rattle.rq_words.proofs.Orders.{process_range}
+use Rattle.rq_words.proofs.ShortWords.{process_formula}
 use Rattle.rq_engine.specs.Point.{IsJobOf, IsPoint}
 use Rattle.rq_engine.specs.ReportText.{value}
 
@@ -35,3 +36,7 @@ pub point_range : (words : List (List ℕ)) (fit : FitJob) → IsJobOf words (Pr
 point_range words fit asked point =
     let range = process_range words (fit_request fit) asked in
     (range.0, subst (λ t. number t ≤ℚ whole (pos 1)) point.same range.2)
+
+-- its formula is shorter than 2^31 bytes
+pub point_formula : (words : List (List ℕ)) (fit : FitJob) → IsJobOf words (Process fit) → length fit.formula < 2 ^ 31
+point_formula words fit asked = process_formula words (fit_request fit) asked

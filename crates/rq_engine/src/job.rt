@@ -1,6 +1,5 @@
 //! A job, step by step: the table, its model, the design, the problem, and the fit.
-ghost use Rattle.std.specs.Prelude.{◌≡◌, ◌≤◌, ◌^◌, ℕ, List, true, nat_lt, length, pos, IfOk, IfErr};
-ghost use Rattle.std.specs.List.{list_all};
+ghost use Rattle.std.specs.Prelude.{◌≤◌, ◌<◌, ◌^◌, ℕ, List, All, length, pos, IfOk, IfErr};
 ghost use Rattle.exact_algebra.specs.Fraction.{rational};
 ghost use Rattle.exact_algebra.specs.Rational.{◌≤ℚ◌, whole};
 ghost use Rattle.rq_engine.specs.Answers.{HasCause, HasFitCause, HasTableCause, IsFitOf, IsFitOfBytes, IsRight};
@@ -15,13 +14,10 @@ use crate::problem::plain_problem;
 use crate::report::{Fit, Halt, Report};
 use data_frame::{Frame, read_table};
 use design_matrix::build;
-use formula_parser::{Formula, Term, parse};
+use formula_parser::{Formula, parse};
 use rq_words::{FitJob, Job};
 use std::alloc::Global;
 use std::thread::Threads;
-
-// The length of a word that is too long.
-const LONG: usize = 1 << 31;
 
 /// The report of a job that this version does, from the bytes of its input.
 ///
@@ -56,6 +52,7 @@ fn fit_bytes(alloc: Global, job: &FitJob, bytes: &[u8]) -> Result<Fit, Halt>
     requires point { IsPoint job.now }
     requires low { whole (pos 0) ≤ℚ rational (value job.now.lo) }
     requires high { rational (value job.now.lo) ≤ℚ whole (pos 1) }
+    requires long { length job.now.formula < 2 ^ 31 }
     requires short { length bytes.now ≤ 2 ^ 26 }
     ensures right { IfOk result (IsFitOfBytes job.now bytes.now) }
     ensures cause { IfErr result (HasFitCause job.now bytes.now) }
@@ -71,34 +68,19 @@ fn fit_table(alloc: Global, job: &FitJob, frame: &Frame) -> Result<Fit, Halt>
     requires point { IsPoint job.now }
     requires low { whole (pos 0) ≤ℚ rational (value job.now.lo) }
     requires high { rational (value job.now.lo) ≤ℚ whole (pos 1) }
+    requires long { length job.now.formula < 2 ^ 31 }
+    requires few { length frame.now.names ≤ 1024 }
     ensures right { IfOk result (IsFitOf job.now frame.now) }
     ensures cause { IfErr result (HasTableCause job.now frame.now) }
 {
-    let formula = job.formula.as_str();
-    // No word is so long, and memory isn't spent on one.
-    if formula.len() >= LONG {
-        return Err(Halt::OutOfMemory);
-    }
-    let model = match parse(alloc, formula, frame.names()) {
+    let model = match parse(alloc, job.formula.as_str(), frame.names()) {
         Ok(model) => model,
         Err(fault) => return Err(formula_halt(fault)),
     };
     if !model.smooths.as_slice().is_empty() {
         return Err(Halt::NotBuilt { part: 3 });
     }
-    if !are_countable(model.terms.as_slice()) {
-        return Err(Halt::OutOfMemory);
-    }
     fit_model(alloc, job, frame, &model)
-}
-
-// Whether the variables of each term are counted in 32 bits, as those of a table's columns are.
-fn are_countable(terms: &[Term]) -> bool
-    ensures { result ≡ list_all (λ t. nat_lt (length t.variables) (2 ^ 32)) terms.now }
-{
-    terms
-        .iter()
-        .all(|term| term.variables.as_slice().len() < 1 << 32)
 }
 
 // The fit of a table by a model without smooths.
@@ -107,7 +89,7 @@ fn fit_model(alloc: Global, job: &FitJob, frame: &Frame, model: &Formula) -> Res
     requires low { whole (pos 0) ≤ℚ rational (value job.now.lo) }
     requires high { rational (value job.now.lo) ≤ℚ whole (pos 1) }
     requires stated { IsModel job.now frame.now model.now }
-    requires countable { list_all (λ t. nat_lt (length t.variables) (2 ^ 32)) model.now.terms ≡ true }
+    requires countable { All (λ t. length t.variables < 2 ^ 32) model.now.terms }
     ensures right { IfOk result (IsFitOf job.now frame.now) }
     ensures cause { IfErr result (HasTableCause job.now frame.now) }
 {

@@ -8,76 +8,63 @@ use std::alloc::Global;
 use std::process::Abort;
 use std::test::Fail;
 
-// A quantity at the indices 4, 1 and 2, and the fields that are printed of it.
-#[derive(Clone, Copy)]
-struct Case {
-    quantity: Quantity,
-    kind: OpKind,
-    fields: &'static str,
-}
+// An operation of a quantity at the indices 4, 1 and 2, and the fields that are printed of it.
+type Case = (Quantity, OpKind, &'static str);
 
 static CASES: [Case; 24] = [
-    case(Quantity::Coordinate, Mul, "coordinate at=5,2 term=9 op=mul"),
-    case(Quantity::Coefficient, Add, "coefficient at=5 term=9 op=add"),
-    case(Quantity::Residual, Sub, "residual at=5 term=9 op=sub"),
-    case(
+    (Quantity::Coordinate, Mul, "coordinate at=5,2 term=9 op=mul"),
+    (Quantity::Coefficient, Add, "coefficient at=5 term=9 op=add"),
+    (Quantity::Residual, Sub, "residual at=5 term=9 op=sub"),
+    (
         Quantity::NonbasicTotal,
         Add,
         "nonbasic-total at=5,1 term=9 op=add",
     ),
-    case(Quantity::BasicDual, Mul, "basic-dual at=5,1 term=9 op=mul"),
-    case(Quantity::DualValue, Mul, "dual-value at=5,1 term=9 op=mul"),
-    case(Quantity::CostValue, Add, "cost-value at=5,1 term=9 op=add"),
-    case(Quantity::Slope, Sub, "slope at=5,1 term=9 op=sub"),
-    case(Quantity::CostSum, Add, "cost-sum at=5 term=9 op=add"),
-    case(Quantity::Crossing, Div, "crossing at=5,1 term=9 op=div"),
-    case(
+    (Quantity::BasicDual, Mul, "basic-dual at=5,1 term=9 op=mul"),
+    (Quantity::DualValue, Mul, "dual-value at=5,1 term=9 op=mul"),
+    (Quantity::CostValue, Add, "cost-value at=5,1 term=9 op=add"),
+    (Quantity::Slope, Sub, "slope at=5,1 term=9 op=sub"),
+    (Quantity::CostSum, Add, "cost-sum at=5 term=9 op=add"),
+    (Quantity::Crossing, Div, "crossing at=5,1 term=9 op=div"),
+    (
         Quantity::PerturbedRatio,
         Div,
         "perturbed-ratio at=5,2,2 term=9 op=div",
     ),
-    case(
+    (
         Quantity::ExchangedEntry,
         Div,
         "exchanged-entry at=5,2 term=9 op=div",
     ),
-    case(Quantity::Loss, Mul, "loss at=4 term=9 op=mul"),
-    case(Quantity::Score, Sub, "score at=5,1,3 term=9 op=sub"),
-    case(Quantity::Wilcoxon, Add, "wilcoxon at=5,2 term=9 op=add"),
-    case(
+    (Quantity::Loss, Mul, "loss at=4 term=9 op=mul"),
+    (Quantity::Score, Sub, "score at=5,1,3 term=9 op=sub"),
+    (Quantity::Wilcoxon, Add, "wilcoxon at=5,2 term=9 op=add"),
+    (
         Quantity::ScaledEntry,
         Mul,
         "scaled-entry at=5,2 term=9 op=mul",
     ),
-    case(Quantity::Gram, Add, "gram at=5,2 term=9 op=add"),
-    case(Quantity::Projection, Div, "projection at=5 term=9 op=div"),
-    case(
+    (Quantity::Gram, Add, "gram at=5,2 term=9 op=add"),
+    (Quantity::Projection, Div, "projection at=5 term=9 op=div"),
+    (
         Quantity::SquaredLength,
         Div,
         "squared-length at=5 term=9 op=div",
     ),
-    case(Quantity::Ray, Div, "ray at=5,2 term=9 op=div"),
-    case(Quantity::Statistic, Mul, "statistic at=4 term=9 op=mul"),
-    case(
+    (Quantity::Ray, Div, "ray at=5,2 term=9 op=div"),
+    (Quantity::Statistic, Mul, "statistic at=4 term=9 op=mul"),
+    (
         Quantity::DesignEntry,
         Mul,
         "design-entry at=4,2 term=9 op=mul",
     ),
-    case(
+    (
         Quantity::PenaltyEntry,
         Sub,
         "penalty-entry at=5,2 term=9 op=sub",
     ),
-    case(Quantity::CheckSum, Add, "check-sum at=4,1,2 term=9 op=add"),
+    (Quantity::CheckSum, Add, "check-sum at=4,1,2 term=9 op=add"),
 ];
-
-const fn case(quantity: Quantity, kind: OpKind, fields: &'static str) -> Case {
-    Case {
-        quantity,
-        kind,
-        fields,
-    }
-}
 
 fn fraction(n: i128, d: i128) -> Frac128 {
     Frac128::from_parts(n, d).unwrap_or(Frac128::zero())
@@ -95,12 +82,12 @@ fn no_trail(alloc: Global) -> Trail<Frac128> {
 fn spill_of(case: Case) -> Spill<Frac128> {
     Spill {
         site: Site {
-            quantity: case.quantity,
+            quantity: case.0,
             first: 4,
             second: 1,
             third: 2,
             term: 9,
-            kind: case.kind,
+            kind: case.1,
         },
         left: fraction(7, 2),
         right: fraction(-3, 1),
@@ -116,7 +103,7 @@ fn is_line(alloc: Global, halt: &Halt, text: &[u8]) -> Result<bool, Fail> {
 fn overflow_text(alloc: Global, case: Case) -> Result<Vec<u8>, Fail> {
     let mut text = Vec::new(alloc);
     text.extend_from_slice(b"quantreg: solver: Overflow place=process quantity=")?;
-    text.extend_from_slice(case.fields.as_bytes())?;
+    text.extend_from_slice(case.2.as_bytes())?;
     text.extend_from_slice(b" left=7/2 right=-3\n")?;
     Ok(text)
 }

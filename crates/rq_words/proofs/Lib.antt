@@ -3,3 +3,4 @@ pub mod Counts
 pub mod Pieces
 pub mod ItemTests
 pub mod Orders
+pub mod ShortWords

@@ -1,26 +1,26 @@
 -- The range of a job that the words give lies in 0 to 1, and in order.
-use Rattle.std.proofs.Common.{◌≡◌, ℕ, Bool, true, false, not, ◌&&◌, List, [], ◌∷◌, Option, Some, None, Result, Ok, Err, refl, subst, codes, drop, if◌then◌else◌}
+use Rattle.std.proofs.Common.{◌≡◌, Bool, true, false, not, ◌&&◌, List, [], ◌∷◌, Option, Some, None, Result, Ok, Err, refl, subst, codes, drop, if◌then◌else◌}
 use Rattle.std.specs.List.{list_any}
 use Rattle.std.specs.Option.{option_map_or}
 use Rattle.clap.specs.Words.{Row, Text}
-use Rattle.exact_algebra.specs.Rational.{ℚ, le_ℚ, ◌≤ℚ◌, whole}
+use Rattle.exact_algebra.specs.Rational.{le_ℚ, ◌≤ℚ◌}
 use Rattle.contrasts.specs.declared.Coding.{Coding}
 use Rattle.contrasts.specs.declared.Coding.TheVariants.{Treatment}
 use Rattle.rq_words.specs.Commands.{command_of, kind_of, options_of, read_by}
 use Rattle.rq_words.specs.Requests.{FitRequest, OptionNumbers, Request}
 use Rattle.rq_words.specs.Requests as request
-use Rattle.rq_words.specs.Words.{◌>>=◌, zero, one, option, coding, numbers_of, is_in_order, fault_of, fit, request_for, checked, is_long, words_of_job, words_of}
+use Rattle.rq_words.specs.Words.{◌>>=◌, zero, one, option, coding, numbers_of, is_in_order, fault_of, request_for, checked, is_long, words_of_job, words_of}
 use Rattle.rq_words.specs.declared.command.Kind.{Kind}
 use Rattle.rq_words.specs.declared.command.Kind.TheVariants as kind
 use Rattle.rq_words.specs.declared.job.WordFault.{WordFault}
 use Rattle.rq_words.specs.declared.job.WordFault.TheVariants.{BadContrasts, BadOption, BadRange, UnknownJob}
 
 -- the answer of a step is that of the next one
-step_ok : {A B : Type 0} (r : Result A WordFault) (next : A → Result B WordFault) (x : B) → (r >>= next) ≡ Ok x → (a : A) × (next a ≡ Ok x)
+pub step_ok : {A B : Type 0} (r : Result A WordFault) (next : A → Result B WordFault) (x : B) → (r >>= next) ≡ Ok x → (a : A) × (next a ≡ Ok x)
 step_ok (Ok a) next x h = (a, h)
 step_ok (Err fault) next x h = absurd (cc h)
 
-found_ok : {A B : Type 0} (o : Option A) (next : A → Result B WordFault) (fault : WordFault) (x : B) → option_map_or next o (Err fault) ≡ Ok x → (a : A) × (next a ≡ Ok x)
+pub found_ok : {A B : Type 0} (o : Option A) (next : A → Result B WordFault) (fault : WordFault) (x : B) → option_map_or next o (Err fault) ≡ Ok x → (a : A) × (next a ≡ Ok x)
 found_ok (Some a) next fault x h = (a, h)
 found_ok None next fault x h = absurd (cc h)
 
@@ -28,7 +28,7 @@ short_ok : {B : Type 0} (b : Bool) (r : Result B WordFault) (fault : WordFault) 
 short_ok true r fault x h = absurd (cc h)
 short_ok false r fault x h = h
 
-no_fault : {B : Type 0} (o : Option WordFault) (y x : B) → option_map_or (λ fault. Err fault) o (Ok y) ≡ Ok x → (o ≡ None) × (y ≡ x)
+pub no_fault : {B : Type 0} (o : Option WordFault) (y x : B) → option_map_or (λ fault. Err fault) o (Ok y) ≡ Ok x → (o ≡ None) × (y ≡ x)
 no_fault (Some fault) y x h = absurd (cc h)
 no_fault None y x h = (refl, cc h)
 

@@ -5,7 +5,7 @@ use Rattle.rq_engine.specs.ReportText.{value}
 use Rattle.rq_engine.specs.Fit.{IsScored}
 use Rattle.rq_engine.specs.Point.{IsJobOf, IsPoint}
 use Rattle.rq_engine.proofs.DataRows.{same_rows}
-use Rattle.rq_engine.proofs.Points.{point_range}
+use Rattle.rq_engine.proofs.Points.{point_formula, point_range}
 use Rattle.rq_engine.proofs.job.answer.Goals as goal
 
 same_length : {A B : Type 0} (R : A → B → Type 0) (xs : List A) (ys : List B) → AllZip R xs ys → length ys ≡ length xs
@@ -27,6 +27,12 @@ fit_bytes-requires-clause-high g c =
     let found : c.args.job.now ≡ Process fit = subst (λ r. IfSome r (λ fit. c.args.job.now ≡ Process fit.now)) c.unwrap-fit_job.ensures c.point_of.ensures.found in
     let point : IsPoint fit = subst (λ r. IfSome r (λ fit. IsPoint fit.now)) c.unwrap-fit_job.ensures c.point_of.ensures.point in
     (point_range c.requires.asked.0 fit (subst (IsJobOf c.requires.asked.0) found c.requires.asked.1) point).1
+
+pub fit_bytes-requires-clause-long : goal.fit_bytes-requires-clause-long
+fit_bytes-requires-clause-long g c =
+    let fit = c.unwrap-fit_job.result.now in
+    let found : c.args.job.now ≡ Process fit = subst (λ r. IfSome r (λ fit. c.args.job.now ≡ Process fit.now)) c.unwrap-fit_job.ensures c.point_of.ensures.found in
+    point_formula c.requires.asked.0 fit (subst (IsJobOf c.requires.asked.0) found c.requires.asked.1)
 
 pub returns-in-Ok-clause-printable : goal.returns-in-Ok-clause-printable
 returns-in-Ok-clause-printable g c =

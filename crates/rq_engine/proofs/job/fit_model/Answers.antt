@@ -1,13 +1,9 @@
 use Rattle.std.proofs.Common.{sym, subst, ◌∙◌}
 use Rattle.rq_engine.specs.Models.{IsProblemOf}
-use Rattle.rq_engine.proofs.Countable.{countable}
 use Rattle.rq_engine.proofs.DataRows.{data_rows, same_rows}
 use Rattle.rq_engine.proofs.Designs.{has_columns, has_entries}
 use Rattle.rq_engine.proofs.Fits.{table_cause}
 use Rattle.rq_engine.proofs.job.fit_model.Goals as goal
-
-pub build-requires-clause-short : goal.build-requires-clause-short
-build-requires-clause-short c = countable c.args.model.now.terms c.requires.countable
 
 pub plain_problem-requires-clause-entries : goal.plain_problem-requires-clause-entries
 plain_problem-requires-clause-entries c = has_entries c.args.frame.now c.args.model.now c.args.job.now.coding c.in-Ok.design c.in-Ok.ensures.design

@@ -1,0 +1,159 @@
+-- How many variables the terms of a formula have.
+use Rattle.std.proofs.Common.{◌≡◌, ◌∙◌, ◌<◌, ◌≤◌, ◌+◌, ◌*◌, ◌^◌, ◌==◌, ◌&&◌, ℕ, zero, suc, Bool, true, false, List, [], ◌∷◌, ◌++◌, Some, None, All, cond, eqb, filter, flat_map, length, map, nat_lt, position, refl, sym, subst, arith, zip, bytes_eq}
+use Rattle.std.specs.List.{AllByRecursion, IsDistinct, list_any, position_or_len, range_with_len}
+use Rattle.std.specs.Option.{unwrap_or}
+use Rattle.std.proofs.lemmas.Bool.{eqb-true, ltb-true}
+use Rattle.std.proofs.lemmas.Cmp.{nat_eq_equiv}
+use Rattle.std.proofs.lemmas.List.Elements.{All-from_recursion}
+use Rattle.std.proofs.lemmas.Bool.Decides.{nat_tests}
+use Rattle.std.proofs.lemmas.List.{length-map, map-append}
+use Rattle.std.proofs.lemmas.Map.Keys.{IsDistinct-push}
+use Rattle.std.proofs.lemmas.Map.Steps.{length-le_from_distinct_below}
+use mathlib.Core.Bool.{beq}
+use Rattle.formula_grammar.specs.declared.token.Span.{Span}
+use Rattle.formula_grammar.specs.declared.reading.Step.{Step}
+use Rattle.formula_grammar.specs.declared.reading.Step.TheVariants.{Load, LoadAll, Nothing, Add, Remove, Multiply, Interact, Raise}
+use Rattle.formula_grammar.specs.Codes.{items_code}
+use Rattle.formula_parser.specs.declared.scope.Mention.{Mention}
+use Rattle.formula_parser.specs.declared.formula.Formula.{Formula}
+use Rattle.formula_parser.specs.declared.formula.Term.{Term}
+use Rattle.formula_parser.specs.Terms.{Terms}
+use Rattle.formula_parser.specs.Terms.{Term as Bools}
+use Rattle.formula_parser.specs.Parsed.{IsParsed, members, spoken_term, spoken_variable, variables_in}
+use Rattle.formula_parser.specs.Scope.{Text, column_at, each_once, loaded, other_columns, piece, same, variable, variables_of, with_variable}
+
+-- a number of its own for each variable
+abbrev number : Mention → ℕ
+number v = v.column + v.column + cond v.as_factor 1 0
+
+same_number : (v w : Mention) → eqb (number v) (number w) ≡ same w v
+same_number v w = go v.as_factor w.as_factor
+  where
+    go : (a b : Bool) → eqb (v.column + v.column + cond a 1 0) (w.column + w.column + cond b 1 0) ≡ ((w.column == v.column) && beq b a)
+    go true true = grind (arith, nat_tests)
+    go true false = grind (arith, nat_tests)
+    go false true = grind (arith, nat_tests)
+    go false false = grind (arith, nat_tests)
+
+same_any : (v : Mention) (found : List Mention) → list_any (eqb (number v)) (map number found) ≡ list_any (λ w. same w v) found
+same_any v [] = refl
+same_any v (w ∷ found) = rw (same_number v w, same_any v found) refl
+
+module _ (most : ℕ) where
+  abbrev AreBelow : List Mention → Type 0
+  AreBelow vs = AllByRecursion (λ v. v.column < most) vs
+
+  -- no variable stands twice, and each is one of the columns
+  record AreOnce (vs : List Mention) : Type 0 where
+    distinct : IsDistinct eqb (map number vs)
+    below : AreBelow vs
+
+  joined : (a b : List Mention) → AreBelow a → AreBelow b → AreBelow (a ++ b)
+  joined [] b p q = q
+  joined (v ∷ a) b p q = (p.0, joined a b p.1 q)
+
+  once_more : (found : List Mention) (v : Mention) → AreOnce found → v.column < most → AreOnce (with_variable found v)
+  once_more found v h lt = go (list_any (λ w. same w v) found) refl
+    where
+      go : (t : Bool) → list_any (λ w. same w v) found ≡ t → AreOnce (cond t found (found ++ v ∷ []))
+      go true e = h
+      go false e = record {
+        distinct = rw (map-append number found (v ∷ [])) (IsDistinct-push nat_eq_equiv (map number found) (number v) h.distinct (same_any v found ∙ e));
+        below = joined found (v ∷ []) h.below (lt, tt);
+      }
+
+  all_once : (found vs : List Mention) → AreOnce found → AreBelow vs → AreOnce (each_once found vs)
+  all_once found [] h b = h
+  all_once found (v ∷ vs) h b = all_once (with_variable found v) vs (once_more found v h b.0) b.1
+
+  below_two : (vs : List Mention) → AreBelow vs → (q : ℕ) → list_any (eqb q) (map number vs) ≡ true → q < most + most
+  below_two [] b q h = absurd (cc h)
+  below_two (v ∷ vs) b q h = go (eqb q (number v)) refl (below_two vs b.1 q)
+    where
+      bit : (a : Bool) → cond a 1 0 ≤ 1
+      bit true = omega arith
+      bit false = omega arith
+
+      go : (t : Bool) → eqb q (number v) ≡ t → (list_any (eqb q) (map number vs) ≡ true → q < most + most) → q < most + most
+      go true e rest = let same = eqb-true q (number v) e in omega (arith, b.0, bit v.as_factor)
+      go false e rest = rest (rw e at h)
+
+  few_once : (vs : List Mention) → AreOnce vs → length vs ≤ most + most
+  few_once vs h = let few = length-le_from_distinct_below (map number vs) (most + most) h.distinct (below_two vs h.below) in
+      rw length-map at few
+
+  -- ---- the variables that steps load
+
+  below_range : (p : ℕ → Bool) (a n : ℕ) → a + n ≤ most → AreBelow (map (λ c. variable c false) (filter p (range_with_len a n)))
+  below_range p a zero h = tt
+  below_range p a (suc n) h = go (p a) (below_range p (a + 1) n (omega arith))
+    where
+      go : (t : Bool) → AreBelow (map (λ c. variable c false) (filter p (range_with_len (a + 1) n)))
+          → AreBelow (map (λ c. variable c false) (cond t (a ∷ filter p (range_with_len (a + 1) n)) (filter p (range_with_len (a + 1) n))))
+      go true rest = (omega arith, rest)
+      go false rest = rest
+
+  below_found : {X : Type 0} (p : X → Bool) (xs : List X) → length xs < most → unwrap_or (position p xs) 0 < most
+  below_found p xs h = go (nat_lt (position_or_len p xs) (length xs)) refl
+    where
+      go : (t : Bool) → nat_lt (position_or_len p xs) (length xs) ≡ t → unwrap_or (cond t (Some (position_or_len p xs)) None) 0 < most
+      go true e = let found = ltb-true (position_or_len p xs) (length xs) e in omega arith
+      go false e = omega arith
+
+  below_column : (text : Text) (names : List Text) (x : Span) → length names < most → column_at text names x < most
+  below_column text names x h = below_found (λ n. bytes_eq n (piece text x)) names h
+
+  below_loaded : (text : Text) (names : List Text) (response : ℕ) (step : Step) → length names < most
+      → AreBelow (loaded text names (other_columns (length names) response) step)
+  below_loaded text names response (Load x f) h = (below_column text names x h, tt)
+  below_loaded text names response LoadAll h = below_range _ 0 (length names) (omega arith)
+  below_loaded text names response Nothing h = tt
+  below_loaded text names response (Add n) h = tt
+  below_loaded text names response (Remove n) h = tt
+  below_loaded text names response (Multiply n) h = tt
+  below_loaded text names response (Interact n) h = tt
+  below_loaded text names response (Raise k n) h = tt
+
+  below_steps : (text : Text) (names : List Text) (response : ℕ) (steps : List Step) → length names < most
+      → AreBelow (flat_map (loaded text names (other_columns (length names) response)) steps)
+  below_steps text names response [] h = tt
+  below_steps text names response (step ∷ steps) h = joined _ _ (below_loaded text names response step h) (below_steps text names response steps h)
+
+-- a formula has at most two variables for each column and two more
+few_variables : (text : Text) (names : List Text) (response : ℕ) (steps : List Step)
+    → length (variables_of text names (other_columns (length names) response) steps) ≤ 2 * length names + 2
+unfolding IsDistinct
+few_variables text names response steps =
+    let loads = below_steps (length names + 1) text names response steps (omega arith) in
+    let few = few_once (length names + 1) _ (all_once (length names + 1) [] _ (record { distinct = tt; below = tt }) loads) in
+    omega arith
+
+-- ---- the variables of a term
+
+members_few : (vs : List Mention) (t : Bools) → length (members vs t) ≤ length vs
+members_few [] t = omega arith
+members_few (v ∷ vs) [] = omega arith
+members_few (v ∷ vs) (b ∷ t) = go b (members_few vs t)
+  where
+    go : (b : Bool) → length (members vs t) ≤ length vs → length (map (λ (p : Mention × Bool). p.0) (cond b ((v, b) ∷ filter (λ p. p.1) (zip vs t)) (filter (λ p. p.1) (zip vs t)))) ≤ length (v ∷ vs)
+    go true h = omega arith
+    go false h = omega arith
+
+-- so does each of its terms
+term_few : (text : Text) (names : List Text) (f : Formula) → IsParsed text names f → AllByRecursion (λ t. length t.variables ≤ 2 * length names + 2) f.terms
+term_few text names f h =
+    let few = few_variables text names (column_at text names h.formula.head.response) (items_code h.formula.items) in
+    subst (λ (ts : List Term). AllByRecursion (λ t. length t.variables ≤ 2 * length names + 2) ts) (sym h.terms) (spoken h.ordered few)
+  where
+    spoken : (ts : Terms) → length (variables_in text names h.formula) ≤ 2 * length names + 2
+        → AllByRecursion (λ t. length t.variables ≤ 2 * length names + 2) (map (spoken_term names (variables_in text names h.formula)) ts)
+    spoken [] few = tt
+    spoken (t ∷ ts) few = (omega (arith, members_few (variables_in text names h.formula) t, length-map (members (variables_in text names h.formula) t) (spoken_variable names)), spoken ts few)
+
+-- the variables of a term are counted in 32 bits
+pub terms_short : (text : Text) (names : List Text) (f : Formula) → IsParsed text names f → length names ≤ 1024 → All (λ t. length t.variables < 2 ^ 32) f.terms
+terms_short text names f h few = All-from_recursion (λ t. length t.variables < 2 ^ 32) f.terms (all f.terms (term_few text names f h))
+  where
+    all : (ts : List Term) → AllByRecursion (λ t. length t.variables ≤ 2 * length names + 2) ts → AllByRecursion (λ t. length t.variables < 2 ^ 32) ts
+    all [] each = tt
+    all (t ∷ ts) each = (omega (arith, each.0), all ts each.1)
