@@ -22,7 +22,7 @@ wide="y ~ x1$(for j in $(seq 2 99); do printf ' + x%d' "$j"; done)"
 for formula in "y ~ 1" "$wide" "y ~ f*x1 + f:x2" "y ~ 0 + f"; do
   for _ in 1 2 3; do
     status=0
-    /usr/bin/time -q -o "$work/time" -f "%e s, %M KB" "$program" process --formula "$formula" --lo 1/2 --hi 1/2 --pivots 0 \
+    /usr/bin/time -q -o "$work/time" -f "%e s, of a processor %U s, %M KB" "$program" process --formula "$formula" --lo 1/2 --hi 1/2 --pivots 0 \
       < "$table" > "$work/report" 2> "$work/told" || status=$?
     echo "$(cat "$work/time"), status $status: ${formula:0:20}"
   done
