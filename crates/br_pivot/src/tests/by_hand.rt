@@ -349,7 +349,10 @@ fn expect_overflows<F: Exact>(
     alloc: Global,
     case: &Overflow,
 ) -> Result<(), AllocError> {
-    expect_overflow::<F>(rt, alloc, case, case.path.steps.len() as u32)?;
+    let made = u32::try_from(case.path.steps.len())
+        .ok()
+        .expect(rt, "few steps");
+    expect_overflow::<F>(rt, alloc, case, made)?;
     expect_overflow::<F>(rt, alloc, case, 100)
 }
 
