@@ -8,8 +8,8 @@ pub(super) static STACKLOSS: &str =
 
 /// Its median regression on everything else. The fit goes through the records 2, 8, 16 and 18; their
 /// dual values, 131, -385, 503 and 441 over 1380, lie within a half and balance the others in all
-/// columns, so no other basis is optimal. The pivots are those of the rule, made by hand: from the
-/// records 1, 3, 4 and 2 on, 19, 16, 10, 18 and 8 enter.
+/// columns, so no other basis is optimal. The pivots are those of the rule, worked out apart from
+/// the program: from the records 1, 3, 4 and 2 on, 19, 16, 10, 18 and 8 enter.
 pub(super) static STACKLOSS_REPORT: &str =
     "quantreg 1\nrecords 21 dropped 0\ncolumn 1 (Intercept)\ncolumn 2 Air.Flow\ncolumn 3 Water.Temp\ncolumn 4 Acid.Conc.\ndata 21 penalty 0\npivots 5\nsegment 1 1/2 1/2\ncoef 1 -13693/345\ncoef 2 287/345\ncoef 3 66/115\ncoef 4 -7/115\nloss 7259/345 7259/345\nscores 1*11000*0011001*0*110\nbasic 2 821/1380 821/1380\nbasic 8 61/276 61/276\nbasic 16 1193/1380 1193/1380\nbasic 18 377/460 377/460\nend\n";
 
