@@ -22,8 +22,8 @@ LessIsOneWay = (n : ℕ) (u v : ℕ → ℚ) → lex_cmp n u v ≡ Less → lex_
 abbrev pub PerturbedIsNotZero : Type 0
 PerturbedIsNotZero = (rows n : ℕ) (at : ℕ → ℕ) (u : Nonbasic) → u.row < rows → lex_cmp (suc rows) (perturbed n at u) zeros ≢ Equal
 
--- of two rows outside the basis, which both have a coordinate at position j, one has the lesser
--- perturbed ratio there
+-- of two rows, of which one is outside the basis and has a coordinate at position j, one has the
+-- lesser perturbed ratio there
 abbrev pub RatiosAreOrdered : Type 0
 RatiosAreOrdered =
     (rows n : ℕ) (at : ℕ → ℕ) (j : ℕ) (u v : Nonbasic) → IsOutside n at u.row → u.row ≢ v.row → u.row < rows
