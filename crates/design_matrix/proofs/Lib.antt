@@ -9,3 +9,4 @@ pub mod Overflows
 pub mod Usable
 pub mod Lengths
 pub mod Building
+pub mod Ascending

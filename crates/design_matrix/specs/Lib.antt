@@ -1,6 +1,7 @@
 pub mod Lists
 pub mod Cells
 pub mod Levels
+pub mod Laws
 pub mod Coded
 pub mod Parts
 pub mod Products

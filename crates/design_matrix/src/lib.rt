@@ -17,7 +17,7 @@
 //!
 //! The crate's one contract: `build` gives the design that `specs/Designs.antt` defines, with the
 //! coding rule of `specs/Coded.antt` and the columns of `specs/Parts.antt`, or the first fault by
-//! `specs/Faults.antt`.
+//! `specs/Faults.antt`. That levels are the distinct cells in ascending order is a law, in `laws`.
 //!
 //! It stands on `data_frame` for tables, on `formula_parser` for formulas, on `contrasts` for
 //! codings, and on `loss_model` for the place of an operation that overflows.
@@ -29,6 +29,7 @@ mod checks;
 mod coded;
 mod design;
 mod fault;
+pub mod laws;
 mod levels;
 mod part;
 mod parts;
