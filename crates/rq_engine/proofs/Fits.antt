@@ -118,6 +118,7 @@ module _ (job : FitJob) (p : Problem Frac128) (s : Solved Frac128) (told : Told 
         basis = s.basis.rows;
         lawful = h.lawful;
         short = short;
+        one = refl;
         last = at_basis value p job.lo s h _ (h.stop, all_one (IsSegmentAt value p s.basis.rows (inverse_entry value s.inverse)) told.segment (segment_at value p job.lo s h told.segment is.segment));
         unlimited = solution_limited value p (rational (value job.lo)) job.limit s costs h short;
       }

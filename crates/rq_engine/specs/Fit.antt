@@ -59,11 +59,12 @@ module _ {F : Type 0} (value : F → Fraction) (p : Problem F) where
       AtBasis (sample value p) basis
       (λ a. HasNoNegativeSlope (sample value p) (slice_index basis) a theta × All (IsSegmentAt basis a) segments)
 
-  -- a lawful trail at theta leads to the basis of the segments, within the limit; so none reaches it
+  -- a lawful trail at theta leads to the basis of the one segment, within the limit; so none reaches it
   pub record HasResults (theta : ℚ) (limit : ℕ) (process : Process F) : Type 0 where
     pub basis : List ℕ
     pub lawful : IsSolvingTrail value (sample value p) theta process.trail basis
     pub short : length process.trail.steps ≤ limit
+    pub one : length process.segments ≡ 1
     pub last : IsLastBasis theta basis process.segments
     pub unlimited : ¬ IsLimited {F = F} value (sample value p) theta limit
 
