@@ -31,7 +31,7 @@ struct Outputs {
 }
 
 static SOUND: Outputs = Outputs {
-    room: 4096,
+    room: 32_768,
     writes: &[],
     tellings: &[],
 };
