@@ -97,13 +97,13 @@ module _ {F : Type 0} (value : F → Fraction) (l : Line F) (line : IsLine value
       Q : ℕ → Nonbasic → Nonbasic → Type 0
       Q n u v = (less ≡ true) ↔ (lex_cmp (suc (length l.problem.now.rows)) (ratio (length l.problem.now.rows) n (slice_index l.basis.now.rows) l.position u) (ratio (length l.problem.now.rows) n (slice_index l.basis.now.rows) l.position v) ≡ Less)
 
-  pub tie_spill : (range i k : ℕ) (u v : Nonbasic) (s : Spill F) → i < length l.problem.now.rows → k < length l.problem.now.rows → is_moving value l i ≡ true → is_moving value l k ≡ true
+  pub tie_spill : (range i k : ℕ) (u v : Nonbasic) (s : Spill F) → i ≢ k → i < length l.problem.now.rows → k < length l.problem.now.rows → is_moving value l i ≡ true → is_moving value l k ≡ true
       → u ≡ outside_row (model value l) (at_of value l) (inverse_of value l) i → v ≡ outside_row (model value l) (at_of value l) (inverse_of value l) k
       → ((rows : ℕ) → u.row < rows → v.row < rows → IsRatioSpill value range rows (length l.basis.now.rows) (slice_index l.basis.now.rows) l.position u v s) → IsLineSpill value range l s
   unfolding IsLineSpill is_moving
-  tie_spill range i k u v s li lk mi mk eu ev h =
+  tie_spill range i k u v s differ li lk mi mk eu ev h =
       of_search l.position l.direction line.leaving
-      (of_tie i k li lk mi mk
+      (of_tie i k differ li lk mi mk
       (subst (λ n. Q n (outside_row (model value l) (at_of value l) (inverse_of value l) i) (outside_row (model value l) (at_of value l) (inverse_of value l) k)) line.inverse.size
       (subst (λ u. Q (length l.basis.now.rows) u (outside_row (model value l) (at_of value l) (inverse_of value l) k)) eu
       (subst (λ v. Q (length l.basis.now.rows) u v) ev

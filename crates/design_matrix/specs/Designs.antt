@@ -14,7 +14,7 @@ use Rattle.design_matrix.specs.declared.design.DesignRow.{DesignRow}
 use Rattle.design_matrix.specs.Lists.{each}
 use Rattle.design_matrix.specs.Cells.{Column, Table, column_of, kept, number_at}
 use Rattle.design_matrix.specs.Parts.{Part, column_name, columns_of, factors}
-use Rattle.design_matrix.specs.Products.{Fits, OverflowsAt, product}
+use Rattle.design_matrix.specs.Products.{Fits, FitUpTo, OverflowsAt, product}
 
 -- a row of a design: the number of its record, its entries, its response and its weight
 pub record RowOf : Type 0 where
@@ -55,10 +55,11 @@ exact_design design = record { names = design.names; rows = map exact_row design
 abbrev pub RowFits : List (List Part) → ℕ → Type 0
 RowFits columns place = All (λ column. Fits (factors column place)) columns
 
--- a product of a column's parts overflows at a place, at the record and the column of these numbers
+-- the first product of a column's parts that overflows at a place, at the record and the column of these numbers
 pub record OverflowsInColumn (parts : List Part) (place rec column : ℕ) (spill : Spill Frac128) : Type 0 where
   pub term : ℕ
   pub site : spill.site ≡ record { quantity = DesignEntry; first = rec; second = column; third = 0; term = term; kind = Mul }
+  pub first : FitUpTo (factors parts place) term
   pub overflows : OverflowsAt (factors parts place) term spill.left spill.right
 
 -- a product of the row at a place overflows, and it is of the first such column

@@ -24,6 +24,10 @@ IsValue x = (v : Frac128) × (exact v ≡ x)
 abbrev pub Fits : List ℚ → Type 0
 Fits xs = (t : ℕ) → t ≤ length xs → IsValue (product (take t xs))
 
+-- so are the products of at most the first `term` of them
+abbrev pub FitUpTo : List ℚ → ℕ → Type 0
+FitUpTo xs term = (t : ℕ) → t ≤ term → IsValue (product (take t xs))
+
 -- the product of the first `term` numbers and the next number, whose product isn't
 pub record OverflowsAt (xs : List ℚ) (term : ℕ) (left right : Frac128) : Type 0 where
   pub some : 1 ≤ term

@@ -28,3 +28,8 @@ pub record SinkState : Type 0 where
 abbrev pub new_sink : ℕ → ℕ → List ℕ → SinkState
 new_sink room piece fails =
     record { written = []; room = room; piece = piece; fails = fails; calls = 0; faults = 0 }
+
+-- a stream of std, and how many of its calls failed
+pub record Counted (S : Type 0) : Type 0 where
+  pub stream : S
+  pub faults : ℕ

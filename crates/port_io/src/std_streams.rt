@@ -1,11 +1,15 @@
-ghost use Rattle.std.specs.Prelude.{◌≡◌, ◌≤◌, ◌<◌, None, IfSome, length};
+ghost use Rattle.std.specs.Prelude.{◌≡◌, ◌≤◌, ◌<◌, None, IfOk, IfSome, length, take};
+ghost use Rattle.std.specs.Io.{ReadsAtMost, WritesAtMost};
+ghost use Rattle.std.specs.Io.KnownBytes.{Appends, Keeps, ReadConsumes, WriteAppends};
+ghost use Rattle.port_io.specs.Counts.{CountsFaults};
 
 use crate::counts::next_count;
 use crate::{Failed, Sink, Source};
 use std::io::{Read, Write};
 use std::marker::Model;
 
-/// A source over a reader of std. Contracts see the count of its faults; it tells no bytes.
+/// A source over a reader of std. Contracts see the reader and the count of its faults; it tells the
+/// bytes that the reader tells, which is none of standard input.
 #[derive(Drop)]
 pub struct StdSource<R> {
     reader: R,
@@ -13,26 +17,26 @@ pub struct StdSource<R> {
 }
 
 impl<R> Model for StdSource<R> {
-    ghost use Rattle.std.specs.Prelude.{ℕ};
+    ghost use Rattle.port_io.specs.Streams.{Counted};
 
-    ghost Value = { ℕ };
+    ghost Value = { Counted R };
 
-    ghost view = { λ s. s.faults };
+    ghost view = { λ s. record { stream = s.reader; faults = s.faults } };
 }
 
 impl<R: Read> StdSource<R> {
     /// A source of what the reader gives.
     pub fn new(reader: R) -> StdSource<R>
-        ensures { result ≡ 0 }
+        ensures { result ≡ record { stream = reader; faults = 0 } }
     {
         StdSource { reader, faults: 0 }
     }
 }
 
 impl<R: Read> Source for StdSource<R> {
-    ghost left = { λ _. None };
+    ghost left = { λ s. R.remaining s.stream };
 
-    ghost faults = { λ s. s };
+    ghost faults = { λ s. s.faults };
 
     fn read(&mut self, buf: &mut [u8]) -> Result<usize, Failed> {
         match self.reader.read(buf) {
@@ -54,17 +58,17 @@ pub struct StdSink<W> {
 }
 
 impl<W> Model for StdSink<W> {
-    ghost use Rattle.std.specs.Prelude.{ℕ};
+    ghost use Rattle.port_io.specs.Streams.{Counted};
 
-    ghost Value = { ℕ };
+    ghost Value = { Counted W };
 
-    ghost view = { λ s. s.faults };
+    ghost view = { λ s. record { stream = s.writer; faults = s.faults } };
 }
 
 impl<W: Write> StdSink<W> {
     /// A sink that hands on to the writer.
     pub fn new(writer: W) -> StdSink<W>
-        ensures { result ≡ 0 }
+        ensures { result ≡ record { stream = writer; faults = 0 } }
     {
         StdSink { writer, faults: 0 }
     }
@@ -74,6 +78,7 @@ impl<W: Write> StdSink<W> {
 fn write_and_flush<W: Write>(writer: &mut W, buf: &[u8]) -> Option<usize>
     ensures bound { IfSome result (λ n. n ≤ length buf.now) }
     ensures some { IfSome result (λ n. 0 < n) }
+    ensures handed { IfSome result (λ n. Appends (W.contents writer.old) (W.contents writer.new) (take n buf.now)) }
 {
     match writer.write(buf) {
         Ok(0) | Err(_) => None,
@@ -87,10 +92,17 @@ fn write_and_flush<W: Write>(writer: &mut W, buf: &[u8]) -> Option<usize>
 impl<W: Write> Sink for StdSink<W> {
     ghost written = { λ _. None };
 
-    ghost faults = { λ s. s };
+    ghost faults = { λ s. s.faults };
 
     // A write of nothing counts as a fault, and so does a flush that fails.
-    fn write(&mut self, buf: &[u8]) -> Result<usize, Failed> {
+    fn write(&mut self, buf: &[u8]) -> Result<usize, Failed>
+        ensures bound { WritesAtMost result buf.now }
+        ensures some { IfOk result (λ n. 0 < length buf.now → 0 < n) }
+        ensures bytes { WriteAppends None None result buf.now }
+        ensures counted { CountsFaults self.old.faults self.new.faults result }
+
+        ensures handed { IfOk result (λ n. Appends (W.contents self.old.stream) (W.contents self.new.stream) (take n buf.now)) }
+    {
         match write_and_flush(&mut self.writer, buf) {
             Some(count) => Ok(count),
             None => {

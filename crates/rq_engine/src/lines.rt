@@ -42,10 +42,8 @@ impl Page {
     {
         self.put(b"segment ")?;
         self.put_count(number)?;
-        self.put(b" ")?;
-        self.put_number(segment.lo)?;
-        self.put(b" ")?;
-        self.put_number(segment.hi)?;
+        self.put_next(segment.lo)?;
+        self.put_next(segment.hi)?;
         self.put(b"\n")
     }
 
@@ -97,10 +95,8 @@ impl Page {
     {
         self.put(b"basic ")?;
         self.put_count(pair.row as u64 + 1)?;
-        self.put(b" ")?;
-        self.put_number(pair.at_lo)?;
-        self.put(b" ")?;
-        self.put_number(pair.at_hi)?;
+        self.put_next(pair.at_lo)?;
+        self.put_next(pair.at_hi)?;
         self.put(b"\n")
     }
 

@@ -1,4 +1,4 @@
-ghost use Rattle.std.specs.Prelude.{◌≡◌, ◌++◌, ◌<◌, [], OnOk, decimal};
+ghost use Rattle.std.specs.Prelude.{◌≡◌, ◌++◌, ◌<◌, [], ◌∷◌, OnOk, decimal};
 ghost use Rattle.frac_core.specs.NumberText.{number_text_of};
 ghost use Rattle.rq_engine.specs.Names.{name_bytes, name_byte, hexadecimal};
 
@@ -59,6 +59,14 @@ impl Page {
         }
         self.put(b"/")?;
         self.put(Buffer::new().format(value.denominator()).as_bytes())
+    }
+
+    /// Adds a space and a fraction.
+    pub fn put_next<F: Exact>(&mut self, value: F) -> Result<(), OutOfMemory>
+        ensures { OnOk result (self.new ≡ self.old ++ 32 ∷ number_text_of (F.value value)) }
+    {
+        self.put(b" ")?;
+        self.put_number(value)
     }
 
     /// Adds a name, in which a control byte or a backslash is written as `\x` and two digits.

@@ -48,4 +48,4 @@ returns-clause-spill g c =
     let eu = same_row value l c.requires.line c.args.left c.index-line-left.result c.args.left_coords.now c.requires.left (value_read value l.residuals.now c.args.left c.index-line-left.result inside c.index-line-left.is) u refl refl refl in
     let ev = same_row value l c.requires.line c.args.right c.index-line-right.result c.args.right_coords.now c.requires.right (value_read value l.residuals.now c.args.right c.index-line-right.result within c.index-line-right.is) v refl refl refl in
     let clauses = rw (← c.index-line-left.is, ← c.index-line-right.is) at c.lex_less.ensures in
-    IfErr-weaker c.lex_less.result _ _ (λ s h. tie_spill value l c.requires.line g.F.Exact.range c.args.left c.args.right (of_ratio value u) (of_ratio value v) s c.requires.left.row c.requires.right.row c.requires.left.moves c.requires.right.moves eu ev h) clauses.spill
+    IfErr-weaker c.lex_less.result _ _ (λ s h. tie_spill value l c.requires.line g.F.Exact.range c.args.left c.args.right (of_ratio value u) (of_ratio value v) s c.requires.differ c.requires.left.row c.requires.right.row c.requires.left.moves c.requires.right.moves eu ev h) clauses.spill

@@ -1,4 +1,5 @@
 use Rattle.std.specs.Ordering.{is_lt}
+use Rattle.std.proofs.lemmas.Result.{err_from_is_err_and}
 use Rattle.std.proofs.Common.{slice_index, sym, ap, ◌∙◌}
 use Rattle.exact_algebra.specs.Fraction.{rational}
 use Rattle.loss_model.specs.Problem.{value_at, sample}
@@ -27,3 +28,20 @@ returns-else-is_lt-clause-lesser g c =
     let up = rw (c.as_slice.ensures, ← read) at (c.in_ok-up.ensures {u = tt}).exact in
     let down = rw (c.as_slice.ensures, ← read) at (c.in_ok-down.ensures {u = tt}).exact in
     up_lesser value p theta (slice_index c.args.basis.now.rows) (value_at value c.args.duals.now) j c.in_ok-up.up c.in_ok-down.down up down (sym (c.is_lt.ensures ∙ ap is_lt c.compare.ensures) ∙ c.if-is_lt.false)
+
+pub returns-in_err-up-clause-spill : goal.returns-in_err-up-clause-spill
+returns-in_err-up-clause-spill g c =
+    let value = g.F.Exact.value in
+    let j = c.args.position in
+    let read = value_read value c.args.duals.now j c.index-duals-position.result c.requires.position c.index-duals-position.is in
+    let returned = err_from_is_err_and c.from_residual.result c.from_residual.ensures.1 in
+    rw (returned.1, returned.2) (rw (c.as_slice.ensures, ← read) at (c.in_err-up.ensures {u = tt}).spill)
+
+pub returns-in_err-down-clause-spill : goal.returns-in_err-down-clause-spill
+returns-in_err-down-clause-spill g c =
+    let value = g.F.Exact.value in
+    let j = c.args.position in
+    let read = value_read value c.args.duals.now j c.index-duals-position.result c.requires.position c.index-duals-position.is in
+    let returned = err_from_is_err_and c.from_residual-in_err-down.result c.from_residual-in_err-down.ensures.1 in
+    rw (returned.1, returned.2) (rw (c.as_slice.ensures, ← read) at (c.in_err-down.ensures {u = tt}).spill)
+

@@ -24,6 +24,7 @@ pub returns-in-Err-clause-spill : goal.returns-in-Err-clause-spill
 returns-in-Err-clause-spill c = record {
   term = c.loop-term.term;
   site = ap (λ z. z.site) c.in-Err.ensures.spill.is;
+  first = c.loop-term.invariant.fits;
   overflows = spilt part_seen (λ p. slice_index_or p.entries c.args.place (whole (pos 0))) c.args.parts.now _ _ _ _ _ _
       refl c.loop-term-test.true c.index-parts-term.is c.loop-term.invariant.value c.entry.ensures c.in-Err.ensures.spill;
 }
