@@ -44,4 +44,3 @@ returns-in_err-down-clause-spill g c =
     let read = value_read value c.args.duals.now j c.index-duals-position.result c.requires.position c.index-duals-position.is in
     let returned = err_from_is_err_and c.from_residual-in_err-down.result c.from_residual-in_err-down.ensures.1 in
     rw (returned.1, returned.2) (rw (c.as_slice.ensures, ← read) at (c.in_err-down.ensures {u = tt}).spill)
-
