@@ -1,4 +1,4 @@
--- What stands at a basis: the rows `at j` at its positions j, and the inverse a of their entries,
+-- Stated. What stands at a basis: the rows `at j` at its positions j, and the inverse a of their entries,
 -- whose entry `a k j` is that of column k at position j.
 use Rattle.std.specs.Prelude.{ℕ, if◌then◌else◌, pos}
 use Rattle.exact_algebra.specs.Rational.{ℚ, ◌+ℚ◌, ◌*ℚ◌, neg_ℚ, whole}

@@ -1,4 +1,4 @@
--- The operations by which the quantities at a basis are computed, where one overflows.
+-- Stated. The operations by which the quantities at a basis are computed, where one overflows.
 use Rattle.std.specs.Prelude.{◌≡◌, ◌⊎◌, ℕ, zero, suc, ◌+◌, ◌<◌, Bool, true, false, if◌then◌else◌, pos}
 use Rattle.exact_algebra.specs.Fraction.{Fraction, rational}
 use Rattle.exact_algebra.specs.Rational.{ℚ, neg_ℚ, whole}

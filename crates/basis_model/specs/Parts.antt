@@ -1,4 +1,4 @@
--- The parts of a cost by their numbers.
+-- Stated. The parts of a cost by their numbers.
 use Rattle.std.specs.Prelude.{ℕ}
 use Rattle.basis_model.specs.declared.part.Part.{Part}
 use Rattle.basis_model.specs.declared.part.Part.TheVariants.{Constant, Linear}

@@ -1,4 +1,4 @@
--- The first fault of a table's records, in the order in which faults are looked for.
+-- Stated. The first fault of a table's records, in the order in which faults are looked for.
 use Rattle.std.specs.Prelude.{ℕ, ◌+◌, ◌==◌, not, Bool, true, false, List, [], ◌∷◌, ◌++◌, Option, Some, None, length, nat_lt, drop, if◌then◌else◌}
 use Rattle.std.specs.List.{list_any}
 use Rattle.std.specs.Option.{option_or}

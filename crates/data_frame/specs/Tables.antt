@@ -1,4 +1,4 @@
--- The table of bytes.
+-- Stated. The table of bytes.
 use Rattle.std.specs.Prelude.{ℕ, List, [], ◌∷◌, Option, Some, None, Result, Ok, Err, length, map, option_and_then, position, slice_get}
 use Rattle.std.specs.Str.{bytes_eq}
 use Rattle.exact_algebra.specs.Rational.{ℚ}

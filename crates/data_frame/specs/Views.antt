@@ -1,4 +1,4 @@
--- How contracts see columns and tables whose numbers are the program's fractions.
+-- Stated. How contracts see columns and tables whose numbers are the program's fractions.
 use Rattle.std.specs.Prelude.{map, option_map}
 use Rattle.exact_algebra.specs.Fraction.{rational}
 use Rattle.exact_algebra.specs.Rational.{ℚ}

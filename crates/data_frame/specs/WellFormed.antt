@@ -1,4 +1,4 @@
--- Which records are a table.
+-- Law. Which records are a table.
 use Rattle.std.specs.Prelude.{◌≡◌, ◌≢◌, ◌≤◌, true, List, [], ◌∷◌, All, AllPairs, length}
 use Rattle.data_frame.specs.Records.{Row, Text, are_text}
 use Rattle.data_frame.specs.Faults.{names_of}

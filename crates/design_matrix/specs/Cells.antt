@@ -1,4 +1,4 @@
--- The columns that a formula uses, and the records that are kept. Records are counted from 0 here.
+-- Stated. The columns that a formula uses, and the records that are kept. Records are counted from 0 here.
 use Rattle.std.specs.Prelude.{ℕ, ◌++◌, Bool, false, List, [], ◌∷◌, Option, None, is_some, map, pos, filter, slice_index_or, unwrap_or}
 use Rattle.std.specs.List.{filter_map, flat_map, list_all, range_with_len}
 use Rattle.std.specs.Option.{option_map_or}

@@ -1,4 +1,4 @@
--- The variables of terms with their values at the kept records and their codings.
+-- Stated. The variables of terms with their values at the kept records and their codings.
 use Rattle.std.specs.Prelude.{◌==◌, ℕ, ◌+◌, ◌++◌, ◌&&◌, ◌||◌, Bool, true, false, List, [], ◌∷◌, codes, length, map, take, drop, if◌then◌else◌}
 use Rattle.std.specs.List.{list_all, list_any}
 use Rattle.std.specs.Str.{bytes_eq}

@@ -1,4 +1,4 @@
--- Why a table and a formula have no design: the faults in the order in which they are looked for.
+-- Stated. Why a table and a formula have no design: the faults in the order in which they are looked for.
 use Rattle.std.specs.Prelude.{◌≡◌, ◌⊎◌, ◌==◌, ◌&&◌, ℕ, not, Bool, List, Option, Some, None, length, nat_lt, if◌then◌else◌}
 use Rattle.std.specs.Option.{option_or}
 use Rattle.contrasts.specs.declared.Coding.{Coding}

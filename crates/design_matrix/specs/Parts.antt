@@ -1,4 +1,4 @@
--- The columns of a design.
+-- Stated. The columns of a design.
 use Rattle.std.specs.Prelude.{ℕ, ◌*◌, ◌/◌, ◌%◌, ◌++◌, Bool, true, false, List, [], ◌∷◌, codes, length, map, pos, slice_index_or}
 use Rattle.std.specs.List.{flat_map, range_with_len}
 use Rattle.exact_algebra.specs.Rational.{ℚ, whole}

@@ -1,4 +1,4 @@
--- Products from the left, and where they leave the range of fractions.
+-- Stated. Products from the left, and where they leave the range of fractions.
 use Rattle.std.specs.Prelude.{◌≡◌, ◌<◌, ◌≤◌, ◌^◌, ◌-◌, ℕ, List, [], ◌∷◌, length, pos, slice_index_or, take}
 use Rattle.exact_algebra.specs.Rational.{ℚ, ◌*ℚ◌, whole}
 use Rattle.frac_core.specs.Overflow.{Overflows}

@@ -1,4 +1,4 @@
--- The code of a formula: its operands, left first, and then its operator.
+-- Stated. The code of a formula: its operands, left first, and then its operator.
 use Rattle.std.specs.Prelude.{ℕ, Bool, true, false, List, [], ◌∷◌, ◌++◌}
 use Rattle.formula_grammar.specs.declared.token.Sign.{Sign}
 use Rattle.formula_grammar.specs.declared.token.Sign.TheVariants.{Plus, Minus}

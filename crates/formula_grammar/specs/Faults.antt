@@ -1,4 +1,4 @@
--- The formula of some tokens, or their first fault.
+-- Stated. The formula of some tokens, or their first fault.
 use Rattle.std.specs.Prelude.{◌≡◌, ◌⊎◌, ◌++◌, ◌<◌, ◌+◌, ◌-◌, ◌&&◌, ℕ, Bool, nat_le, List, [], ◌∷◌, length, take, slice_index_or, Option, Some, None, if◌then◌else◌}
 use Rattle.formula_grammar.specs.declared.token.Kind.{Kind}
 use Rattle.formula_grammar.specs.declared.token.Kind.TheVariants.{Number, Caret, Open, Close, Comma, End}

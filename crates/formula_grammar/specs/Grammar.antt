@@ -1,4 +1,4 @@
--- The grammar of formulas, one type for each line of it. A tree keeps where its tokens begin.
+-- Stated. The grammar of formulas, one type for each line of it. A tree keeps where its tokens begin.
 --
 --   formula = NAME "~" [ "+" | "-" ] item { ( "+" | "-" ) item }      no qss follows "-"
 --   item    = "0" | "1" | "qss" "(" NAME "," NUMBER ")" | product

@@ -1,4 +1,4 @@
--- The number at the front of a text.
+-- Stated. The number at the front of a text.
 use Rattle.std.specs.Prelude.{ℕ, zero, suc, ◌^◌, ◌-◌, ◌==◌, ◌||◌, nat_le, Bool, true, false, List, [], ◌∷◌, Option, Some, None, option_and_then, Result, Err, bytes_eq, codes, length, take, if◌then◌else◌}
 use Rattle.std.specs.Char.{is_ascii_digit}
 use Rattle.std.specs.List.{list_all}

@@ -1,5 +1,5 @@
--- The meaning of a formula's expressions: a list of distinct terms, or the offset of the first operator whose meaning has
--- more than 4,096. Operators are evaluated operands first and left first.
+-- Stated. The meaning of a formula's expressions: a list of distinct terms, or the offset of the first operator whose
+-- meaning has more than 4,096. Operators are evaluated operands first and left first.
 use Rattle.std.specs.Prelude.{ℕ, Bool, true, false, [], ◌∷◌, length, Result, Ok, Err, nat_lt, if◌then◌else◌}
 use Rattle.formula_grammar.specs.declared.token.Span.{Span}
 use Rattle.formula_grammar.specs.declared.token.Sign.{Sign}

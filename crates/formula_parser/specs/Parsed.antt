@@ -1,4 +1,4 @@
--- The formula of a text over the columns of a table, or its first fault.
+-- Stated. The formula of a text over the columns of a table, or its first fault.
 use Rattle.std.specs.Prelude.{◌≡◌, ◌^◌, ◌-◌, ℕ, Bool, false, List, [], ◌∷◌, map, zip, length, Option, Some, None, is_none, Result, Ok, Err, if◌then◌else◌}
 use Rattle.std.specs.List.{filter}
 use Rattle.std.specs.List.Sorted.{IsPermutation, IsSortedByKey, IsStableByKey}

@@ -1,4 +1,4 @@
--- What the names of a formula stand for.
+-- Stated. What the names of a formula stand for.
 use Rattle.std.specs.Prelude.{ℕ, ◌==◌, ◌&&◌, not, Bool, false, List, [], ◌∷◌, ◌++◌, map, flat_map, cond, bytes_eq, position, take, drop, slice_index_or, unwrap_or, Option}
 use Rattle.std.specs.List.{filter, list_any, range_with_len}
 use mathlib.Core.Bool.{beq}

@@ -1,4 +1,4 @@
--- Dual values of a quantile regression as a linear program (Koenker 2005, chapter 6), and the
+-- Stated. Dual values of a quantile regression as a linear program (Koenker 2005, chapter 6), and the
 -- rankscores that they give (Gutenbrunner and Jurečková 1992).
 use Rattle.std.specs.Prelude.{◌≡◌, ℕ, ◌+◌, ◌<◌, pos}
 use Rattle.std.specs.declared.cmp.Ordering.TheVariants.{Less}

@@ -1,4 +1,4 @@
--- A linear quantile regression in fractions, and its check loss (Koenker 2005, chapter 1).
+-- Stated. A linear quantile regression in fractions, and its check loss (Koenker 2005, chapter 1).
 use Rattle.std.specs.Prelude.{ℕ}
 use Rattle.exact_algebra.specs.Rational.{ℚ, ◌+ℚ◌, ◌-ℚ◌, ◌*ℚ◌, ◌≤ℚ◌}
 use Rattle.exact_algebra.specs.RationalSums.{sum_ℚ, positive_ℚ, negative_ℚ}

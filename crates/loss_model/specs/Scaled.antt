@@ -1,4 +1,4 @@
--- The same regression in whole numbers: every value of a problem times the product Q of all its
+-- Stated. The same regression in whole numbers: every value of a problem times the product Q of all its
 -- denominators. Nothing here is a fraction, so that it can be read with no knowledge of ℚ.
 use Rattle.std.specs.Prelude.{◌≡◌, ℕ, ◌<◌, ◌≤◌, ◌+◌, ◌*◌, List, [], ◌∷◌, ◌++◌, length, map, slice_get, ℤ, pos, ◌+ℤ◌, ◌-ℤ◌, ◌*ℤ◌, ◌≤ℤ◌, neg_ℤ}
 use Rattle.std.specs.Option.{option_map_or}

@@ -1,4 +1,4 @@
--- Quantities as sums of products, and the operands of an operation that overflows.
+-- Stated. Quantities as sums of products, and the operands of an operation that overflows.
 use Rattle.std.specs.Prelude.{◌≡◌, ◌⊎◌, ℕ, ◌+◌, ◌<◌, cond, pos}
 use Rattle.exact_algebra.specs.Rational.{ℚ, ◌+ℚ◌, ◌*ℚ◌, neg_ℚ, whole, le_ℚ}
 use Rattle.exact_algebra.specs.RationalSums.{sum_ℚ}

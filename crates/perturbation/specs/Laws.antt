@@ -1,4 +1,4 @@
--- What the laws of the order say; each is a clause of a function.
+-- Law. What the laws of the order say; each is a clause of a function.
 use Rattle.std.specs.Prelude.{◌≡◌, ◌≢◌, ◌↔◌, ◌⊎◌, ℕ, suc, ◌<◌, pos}
 use Rattle.std.specs.declared.cmp.Ordering.TheVariants.{Less, Equal}
 use Rattle.exact_algebra.specs.Rational.{ℚ, whole}

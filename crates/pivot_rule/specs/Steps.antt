@@ -1,4 +1,4 @@
--- The pivot at one quantile: the row that leaves and the row that enters, by the quantities at a basis
+-- Stated. The pivot at one quantile: the row that leaves and the row that enters, by the quantities at a basis
 -- (Barrodale and Roberts 1973; Koenker and d'Orey 1987).
 use Rattle.std.specs.Prelude.{◌≡◌, ℕ, suc, ◌<◌, Bool, true, false, ◌&&◌, if◌then◌else◌, pos}
 use Rattle.std.specs.Ordering.{is_lt, is_gt}

@@ -1,4 +1,4 @@
--- Exit statuses.
+-- Stated. Exit statuses.
 use Rattle.std.specs.Prelude.{ℕ}
 use Rattle.rq_cli.specs.declared.outcome.Outcome.{Outcome}
 use Rattle.rq_cli.specs.declared.outcome.Outcome.TheVariants.{Done, Refused, Usage, SourceFault, SinkFault, OutOfMemory, PivotLimit, Overflow, NotBuilt}

@@ -1,4 +1,4 @@
--- What the engine is asked and answers.
+-- Stated. What the engine is asked and answers.
 use Rattle.std.specs.Prelude.{◌≡◌, ◌≢◌, ◌≤◌, ℕ, List, Ok, Err, length, ⊤}
 use Rattle.frac_core.specs.declared.frac128.Frac128.{Frac128}
 use Rattle.data_frame.specs.Tables.{table_of}

@@ -1,4 +1,4 @@
--- The line of a fault: what failed, and by which fault with which fields.
+-- Stated. The line of a fault: what failed, and by which fault with which fields.
 use Rattle.std.specs.Prelude.{ℕ, ◌+◌, List, [], ◌++◌, codes, decimal, ◌==◌, if◌then◌else◌}
 use Rattle.data_frame.specs.declared.fault.TableFault.{TableFault}
 use Rattle.data_frame.specs.declared.fault.TableFault.TheVariants.{NoHeader, NotUtf8, Ragged, DoubleName, EmptyName, TooManyColumns, TooManyRows}

@@ -1,4 +1,4 @@
--- How a name is printed.
+-- Stated. How a name is printed.
 use Rattle.std.specs.Prelude.{ℕ, ◌/◌, ◌%◌, Bool, List, [], ◌∷◌, ◌++◌, nat_lt, ◌==◌, ◌||◌, codes, slice_index, if◌then◌else◌}
 use Rattle.std.specs.List.{flat_map}
 

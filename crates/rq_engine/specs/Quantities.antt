@@ -1,4 +1,4 @@
--- The texts of a quantity and of an operation.
+-- Stated. The texts of a quantity and of an operation.
 use Rattle.std.specs.Prelude.{ℕ, ◌+◌, List, codes}
 use Rattle.frac_core.specs.declared.exact.OpKind.{OpKind}
 use Rattle.frac_core.specs.declared.exact.OpKind.TheVariants.{Add, Sub, Mul, Div}

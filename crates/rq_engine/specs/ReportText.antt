@@ -1,4 +1,4 @@
--- The printed text of a report: lines of words with one space between them. A type F of fractions
+-- Stated. The printed text of a report: lines of words with one space between them. A type F of fractions
 -- is seen by a function into pairs.
 use Rattle.std.specs.Prelude.{◌≡◌, ◌≤◌, ℕ, ◌+◌, ◌-◌, Bool, true, false, nat_lt, List, [], ◌∷◌, ◌++◌, length, codes, decimal}
 use Rattle.std.specs.List.{flat_map, zip}

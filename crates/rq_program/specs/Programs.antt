@@ -1,4 +1,4 @@
--- The problem of a design and of what smooths add to it (Koenker 2005, chapter 1; Koenker, Ng and
+-- Stated. The problem of a design and of what smooths add to it (Koenker 2005, chapter 1; Koenker, Ng and
 -- Portnoy 1994).
 use Rattle.std.specs.Prelude.{◌≡◌, ℕ, ◌+◌, ◌<◌, List, ◌++◌, All, length, map, replicate, zip, pos}
 use Rattle.exact_algebra.specs.Rational.{ℚ, neg_ℚ, whole}

@@ -1,4 +1,4 @@
--- The commands, as `clap`'s own definitions read them.
+-- Stated. The commands, as `clap`'s own definitions read them.
 use Rattle.std.specs.Prelude.{Bool, true, false, List, [], ◌∷◌, ◌++◌, Option, Some, None, codes, map, if◌then◌else◌}
 use Rattle.std.specs.Str.{bytes_eq}
 use Rattle.clap.specs.Words.{App, Kinds, Row, Rule, Text, new_rule, fault_of, matches_of}

@@ -1,4 +1,4 @@
--- What a job asks for, with its numbers in ℚ and its texts as bytes.
+-- Stated. What a job asks for, with its numbers in ℚ and its texts as bytes.
 use Rattle.std.specs.Prelude.{ℕ, List, map, Option, option_map, Result}
 use Rattle.std.specs.Result.{result_map_both}
 use Rattle.exact_algebra.specs.Rational.{ℚ}

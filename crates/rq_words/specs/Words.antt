@@ -1,4 +1,4 @@
--- The request of a list of words, or its first fault.
+-- Stated. The request of a list of words, or its first fault.
 use Rattle.std.specs.Prelude.{ℕ, ◌-◌, ◌^◌, ◌==◌, ◌&&◌, ◌||◌, not, Bool, true, false, List, [], ◌∷◌, Option, Some, None, Result, Ok, Err, pos, codes, drop, length, nat_le, is_some, if◌then◌else◌, option_and_then, option_map, ok_or}
 use Rattle.std.specs.List.{slice_split, list_any}
 use Rattle.std.specs.Option.{option_map_or}
