@@ -52,6 +52,7 @@ nonbasic_total p side part k = sum_ℚ p.rows (λ i. p.x i k *ℚ bound_part p p
 abbrev pub balancing : ℕ → (ℕ → ℕ → ℚ) → (ℕ → ℚ) → ℕ → ℚ
 balancing n a totals j = sum_ℚ n (λ k. neg_ℚ (totals k) *ℚ a k j)
 
+-- the same with the totals of the rows outside the basis, on their perturbed sides
 abbrev pub basic_dual : Sample → (ℕ → ℕ) → (ℕ → ℕ → ℚ) → Part → ℕ → ℚ
 basic_dual p at a part j = balancing p.columns a (nonbasic_total p (side_at p at a) part) j
 

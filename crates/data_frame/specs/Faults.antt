@@ -32,6 +32,7 @@ names_fault column seen [] = None
 names_fault column seen (name ∷ rest) =
     option_or (name_fault column seen name) (names_fault (column + 1) (seen ++ name ∷ []) rest)
 
+-- the first fault of the header: a field that is no text, too many fields, or a name
 unfoldable pub header_fault : Row → Option TableFault
 header_fault header =
     if not (are_text header) then Some (NotUtf8 0)

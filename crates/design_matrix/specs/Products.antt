@@ -8,6 +8,7 @@ use Rattle.loss_model.specs.declared.spill.Site.{Site}
 use Rattle.loss_model.specs.declared.spill.Spill.{Spill}
 use Rattle.data_frame.specs.Views.{exact}
 
+-- a number times the numbers of a list, from the left
 abbrev pub product_onto : ℚ → List ℚ → ℚ
 product_onto x [] = x
 product_onto x (y ∷ ys) = product_onto (x *ℚ y) ys

@@ -5,9 +5,11 @@ use Rattle.std.specs.List.{filter, list_any}
 use mathlib.Core.Bool.{beq}
 use Rattle.std.specs.Cmp.Lexicographic.{pointwise}
 
+-- for each variable, whether it is in the term
 abbrev pub Term : Type 0
 Term = List Bool
 
+-- terms in their order
 abbrev pub Terms : Type 0
 Terms = List Term
 
@@ -15,6 +17,7 @@ Terms = List Term
 abbrev pub union : Term → Term → Term
 union a b = map (λ p. p.0 || p.1) (zip a b)
 
+-- the list has the term
 abbrev pub is_in : Term → Terms → Bool
 is_in t ts = list_any (λ u. pointwise beq u t) ts
 

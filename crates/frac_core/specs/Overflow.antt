@@ -29,9 +29,11 @@ pub record ReducesWithin (range : ℕ) (n : ℤ) (d : ℕ) : Type 0 where
 abbrev pub left_part : Fraction → Fraction → ℤ
 left_part x y = x.num *ℤ pos (y.den / gcd x.den y.den)
 
+-- c*(b/g)
 abbrev pub right_part : Fraction → Fraction → ℤ
 right_part x y = y.num *ℤ pos (x.den / gcd x.den y.den)
 
+-- t, their sum
 abbrev pub joined : Fraction → Fraction → ℤ
 joined x y = left_part x y +ℤ right_part x y
 

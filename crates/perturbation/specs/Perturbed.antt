@@ -39,6 +39,7 @@ abbrev pub perturbed : ℕ → (ℕ → ℕ) → Nonbasic → ℕ → ℚ
 perturbed n at u zero = u.residual
 perturbed n at u (suc m) = if m == u.row then whole (pos 1) else neg_ℚ (held_coordinate n at u.coord m)
 
+-- the list of zeros
 abbrev pub zeros : ℕ → ℚ
 zeros m = whole (pos 0)
 

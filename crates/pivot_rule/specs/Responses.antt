@@ -11,6 +11,7 @@ use Rattle.basis_model.specs.Basis.{coord}
 abbrev pub residual_for : Sample → (ℕ → ℕ) → (ℕ → ℕ → ℚ) → (ℕ → ℚ) → ℕ → ℚ
 residual_for p at a v i = v i -ℚ sum_ℚ p.columns (λ j. coord p a i j *ℚ v (at j))
 
+-- the responses of entry m: those of the problem for entry 0, and for entry m + 1 a response of 1 at row m alone
 abbrev pub response : Sample → ℕ → ℕ → ℚ
 response p zero = p.y
 response p (suc m) = delta m

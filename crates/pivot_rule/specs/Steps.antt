@@ -28,6 +28,7 @@ module _ (p : Sample) (at : ℕ → ℕ) (a : ℕ → ℕ → ℚ) where
   slope theta j Upward = up_cost p theta (at j) -ℚ dual_value p at a theta j
   slope theta j Downward = down_cost p theta (at j) +ℚ dual_value p at a theta j
 
+  -- the loss falls in no direction
   abbrev pub HasNoNegativeSlope : ℚ → Type 0
   HasNoNegativeSlope theta =
       (j : ℕ) (d : Direction) → j < p.columns → whole (pos 0) ≤ℚ slope theta j d

@@ -47,6 +47,7 @@ pub record IsFitOf (job : FitJob) (table : Table) (fit : Fit) : Type 0 where
 abbrev pub AreTable : List ℕ → Table → Type 0
 AreTable bytes table = table_of bytes ≡ Ok (exact_table table)
 
+-- the fit is right for the table that the bytes are
 abbrev pub IsFitOfBytes : FitJob → List ℕ → Fit → Type 0
 IsFitOfBytes job bytes fit = (table : Table) × AreTable bytes table × IsFitOf job table fit
 
