@@ -1,5 +1,7 @@
-use super::*;
-use crate::{Frac64, Frac128, number_text};
+//! Texts of numbers: what each reads as in both widths, and what is written.
+
+use crate::helpers::ratio;
+use frac_core::{Exact, Frac64, Frac128, NumberFault, number_text, read_number};
 use std::alloc::{AllocError, Global};
 use std::process::Abort;
 use std::test::Fail;
@@ -603,7 +605,10 @@ static NARROW: [Case; 20] = [
 
 fn reading_of<F: Exact>(text: &str) -> Reading {
     match read_number::<F>(text) {
-        Ok(value) => Reading::Value(value.numerator(), value.denominator()),
+        Ok(value) => {
+            let (n, d) = ratio(value);
+            Reading::Value(n, d)
+        }
         Err(NumberFault::NotANumber) => Reading::NotANumber,
         Err(NumberFault::TooWide) => Reading::TooWide,
     }
@@ -612,7 +617,8 @@ fn reading_of<F: Exact>(text: &str) -> Reading {
 fn expect_readings<F: Exact>(rt: &impl Abort, cases: &[Case]) {
     for case in cases {
         let text = case.text;
-        assert_eq!(rt; reading_of::<F>(text), case.reading, "{text}");
+        let found = reading_of::<F>(text);
+        assert!(rt; found == case.reading, "{text}: {found:?}");
     }
 }
 
@@ -658,17 +664,23 @@ fn a_million_zeros(rt: HostRuntime) -> Result<(), Fail> {
     ];
     for (before, after, reading) in cases {
         let text = with_zeros(rt.alloc(), before, after)?;
-        assert_eq!(rt;
-            reading_of::<Frac128>(text.as_str()),
-            reading,
-            "{before}0..0{after}"
-        );
-        assert_eq!(rt;
-            reading_of::<Frac64>(text.as_str()),
-            reading,
-            "{before}0..0{after}"
-        );
+        let wide = reading_of::<Frac128>(text.as_str());
+        let narrow = reading_of::<Frac64>(text.as_str());
+        assert!(rt; wide == reading, "{before}0..0{after}: {wide:?}");
+        assert!(rt; narrow == reading, "{before}0..0{after}: {narrow:?}");
     }
+    Ok(())
+}
+
+fn expect_text<F: Exact>(
+    rt: &impl Abort,
+    alloc: Global,
+    value: F,
+    written: &str,
+) -> Result<(), Fail> {
+    let text = number_text(alloc, value)?;
+    let text = text.as_str();
+    assert!(rt; text == written, "{text} for {written}");
     Ok(())
 }
 
@@ -686,13 +698,14 @@ fn values_are_written(rt: HostRuntime) -> Result<(), Fail> {
     for ((n, d), written) in cases {
         let wide = Frac128::from_parts(n, d).ok_or("out of range")?;
         let narrow = Frac64::from_parts(n, d).ok_or("out of range")?;
-        assert_eq!(rt; number_text(rt.alloc(), wide)?.as_str(), written);
-        assert_eq!(rt; number_text(rt.alloc(), narrow)?.as_str(), written);
+        expect_text(&rt, rt.alloc(), wide, written)?;
+        expect_text(&rt, rt.alloc(), narrow, written)?;
     }
     let most = Frac128::from_parts(-i128::MAX, i128::MAX - 1).ok_or("out of range")?;
-    assert_eq!(rt;
-        number_text(rt.alloc(), most)?.as_str(),
-        "-170141183460469231731687303715884105727/170141183460469231731687303715884105726"
-    );
-    Ok(())
+    expect_text(
+        &rt,
+        rt.alloc(),
+        most,
+        "-170141183460469231731687303715884105727/170141183460469231731687303715884105726",
+    )
 }

@@ -6,11 +6,12 @@
 
 ghost use Rattle.std.specs.Prelude.{◌<◌, ◌^◌, All, IsTrue, length};
 
-use super::*;
+use crate::helpers::{expect_answer, push_number};
 use contrasts::Coding;
 use data_frame::read_table;
+use design_matrix::{Design, DesignFault, DesignRow, build};
 use formula_parser::{Formula, Term, Variable};
-use frac_core::{List, Text, number_text};
+use frac_core::{List, Text};
 use std::alloc::Global;
 use std::process::Abort;
 use std::test::Fail;
@@ -376,7 +377,7 @@ fn tell_row(alloc: Global, told: &mut String, row: &DesignRow) -> Result<(), Fai
     told.push(':')?;
     for entry in row.x.as_slice() {
         told.push(' ')?;
-        told.push_str(number_text(alloc, *entry)?.as_str())?;
+        push_number(told, alloc, *entry)?;
     }
     Ok(())
 }
@@ -442,10 +443,9 @@ fn answer(alloc: Global, table: &[u8], terms: &str, coding: Coding) -> Result<St
 fn designs_of_all_codings(rt: HostRuntime) -> Result<(), Fail> {
     for case in &CASES {
         let told = answer(rt.alloc(), TABLE, case.terms, case.coding)?;
-        assert_eq!(rt;
-            told.as_str(),
-            case.design,
-            "{} {:?}",
+        assert!(rt;
+            told.as_str() == case.design,
+            "{} {:?}: {told}",
             case.terms,
             case.coding
         );
@@ -457,7 +457,7 @@ fn designs_of_all_codings(rt: HostRuntime) -> Result<(), Fail> {
 fn hostile_tables(rt: HostRuntime) -> Result<(), Fail> {
     for case in &HOSTILE {
         let told = answer(rt.alloc(), case.table, case.terms, Coding::Treatment)?;
-        assert_eq!(rt; told.as_str(), case.answer, "{}", case.terms);
+        expect_answer(&rt, told.as_str(), case.answer, case.terms);
     }
     Ok(())
 }

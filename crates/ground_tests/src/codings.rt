@@ -2,7 +2,9 @@
 
 ghost use Rattle.std.specs.Prelude.{◌<◌};
 
-use super::*;
+use contrasts::{Coding, entry, label, width};
+use frac_core::{OutOfMemory, Text};
+use std::alloc::Global;
 use std::process::Abort;
 use std::test::Fail;
 

@@ -1,4 +1,6 @@
-use super::*;
+//! Streams in memory and over std: reads and writes that fail in their midst, and those that don't.
+
+use port_io::{MemSink, MemSource, ReadFault, StdSink, StdSource, SureSource, read_all, write_all};
 use std::io;
 use std::io::{Read, Write};
 use std::test::Fail;
@@ -27,11 +29,11 @@ fn reads_of_memory_fail_as_told(rt: HostRuntime) -> Result<(), Fail> {
         match read_all(rt.alloc(), &mut source) {
             Ok(read) => {
                 assert!(rt; whole, "{piece} {fails:?}");
-                assert_eq!(rt; read.as_slice(), TABLE);
+                assert!(rt; read.as_slice() == TABLE);
             }
             Err(fault) => {
                 assert!(rt; !whole, "{piece} {fails:?}");
-                assert_eq!(rt; fault, ReadFault::Failed);
+                assert!(rt; fault == ReadFault::Failed);
             }
         }
     }
@@ -55,14 +57,12 @@ fn writes_to_memory_fail_as_told(rt: HostRuntime) -> Result<(), Fail> {
     for (room, piece, fails, held) in cases {
         let mut sink = MemSink::new(rt.alloc(), room, piece, fails.to_vec(rt.alloc())?)?;
         let written = write_all(&mut sink, REPORT);
-        assert_eq!(rt;
-            written.is_ok(),
-            held == REPORT.len(),
+        assert!(rt;
+            written.is_ok() == (held == REPORT.len()),
             "{room} {piece} {fails:?}"
         );
-        assert_eq!(rt;
-            sink.written(),
-            &REPORT[..held.min(31)],
+        assert!(rt;
+            sink.written() == &REPORT[..held.min(31)],
             "{room} {piece} {fails:?}"
         );
     }
@@ -74,7 +74,7 @@ fn writes_to_memory_fail_as_told(rt: HostRuntime) -> Result<(), Fail> {
 fn a_large_source_is_read_whole(rt: HostRuntime) -> Result<(), Fail> {
     let bytes = vec![in rt.alloc(); 7; 300_000]?;
     let read = read_all(rt.alloc(), &mut SureSource::new(bytes))?;
-    assert_eq!(rt; read.len(), 300_000);
+    assert!(rt; read.len() == 300_000);
     assert!(rt; read.iter().all(|byte| *byte == 7));
     Ok(())
 }
@@ -107,7 +107,7 @@ impl<'a> Read for Dripping<'a> {
 #[test]
 fn a_reader_of_std_is_a_source(rt: HostRuntime) -> Result<(), Fail> {
     let read = read_all(rt.alloc(), &mut StdSource::new(TABLE))?;
-    assert_eq!(rt; read.as_slice(), TABLE);
+    assert!(rt; read.as_slice() == TABLE);
     for (fails, whole) in [(1, false), (3, false), (9, false), (10, true)] {
         let reader = Dripping {
             left: TABLE,
@@ -115,7 +115,7 @@ fn a_reader_of_std_is_a_source(rt: HostRuntime) -> Result<(), Fail> {
             fails,
         };
         let read = read_all(rt.alloc(), &mut StdSource::new(reader));
-        assert_eq!(rt; read.is_ok(), whole, "{fails}");
+        assert!(rt; read.is_ok() == whole, "{fails}");
         assert!(rt;
             read.is_ok() || read.err() == Some(ReadFault::Failed),
             "{fails}"
@@ -165,7 +165,7 @@ impl Write for Sluggish {
 fn a_writer_of_std_is_a_sink(rt: HostRuntime) -> Result<(), Fail> {
     let mut held = Vec::new(rt.alloc());
     assert!(rt; write_all(&mut StdSink::new(&mut held), REPORT).is_ok());
-    assert_eq!(rt; held.as_slice(), REPORT);
+    assert!(rt; held.as_slice() == REPORT);
     let cases = [
         (0, 0, 0, true, 8, 4),
         (3, 0, 0, false, 4, 2),
@@ -183,9 +183,9 @@ fn a_writer_of_std_is_a_sink(rt: HostRuntime) -> Result<(), Fail> {
             idle,
         };
         let written = write_all(&mut StdSink::new(&mut writer), TABLE);
-        assert_eq!(rt; written.is_ok(), whole, "{bad_write} {bad_flush} {idle}");
-        assert_eq!(rt; writer.held.len(), len, "{bad_write} {bad_flush} {idle}");
-        assert_eq!(rt; writer.flushes, flushes, "{bad_write} {bad_flush} {idle}");
+        assert!(rt; written.is_ok() == whole, "{bad_write} {bad_flush} {idle}");
+        assert!(rt; writer.held.len() == len, "{bad_write} {bad_flush} {idle}");
+        assert!(rt; writer.flushes == flushes, "{bad_write} {bad_flush} {idle}");
     }
     Ok(())
 }

@@ -1,18 +1,9 @@
-//! Worked cases of the operations, at both types through the trait.
+//! Worked cases of the operations on fractions, at both types through the trait.
 
-use crate::{Exact, Frac64, Frac128, OpKind};
+use crate::helpers::{Ratio, fraction, ratio};
+use frac_core::{Exact, Frac64, Frac128, OpKind};
 use std::cmp::Ordering;
 use std::process::Abort;
-
-type Ratio = (i128, i128);
-
-fn make<F: Exact>(rt: &impl Abort, (n, d): Ratio) -> F {
-    F::from_parts(n, d).expect(rt, "a fraction in range")
-}
-
-fn ratio<F: Exact>(x: F) -> Ratio {
-    (x.numerator(), x.denominator())
-}
 
 fn reduced<F: Exact>(n: i128, d: i128) -> Option<Ratio> {
     Some(ratio(F::from_parts(n, d)?))
@@ -57,8 +48,8 @@ fn operations<F: Exact>(rt: &impl Abort) {
         (OpKind::Div, (0, 1), (-m, m - 1), Some((0, 1))),
     ];
     for (kind, left, right, want) in cases {
-        let x: F = make(rt, left);
-        let y: F = make(rt, right);
+        let x: F = fraction(rt, left);
+        let y: F = fraction(rt, right);
         let outcome = match kind {
             OpKind::Add => x.try_add(y),
             OpKind::Sub => x.try_sub(y),
@@ -75,7 +66,7 @@ fn operations<F: Exact>(rt: &impl Abort) {
                 None
             }
         };
-        assert_eq!(rt; got, want, "{kind:?} of {left:?} and {right:?}");
+        assert!(rt; got == want, "{kind:?} of {left:?} and {right:?}: {got:?}");
     }
 }
 
@@ -117,8 +108,8 @@ fn parts_of_both_types(rt: &impl Abort) {
         (l + 1, 2, Some((quarter, 1)), Some((quarter, 1))),
     ];
     for (n, d, wide, narrow) in cases {
-        assert_eq!(rt; reduced::<Frac128>(n, d), wide, "{n} / {d}");
-        assert_eq!(rt; reduced::<Frac64>(n, d), narrow, "{n} / {d}");
+        assert!(rt; reduced::<Frac128>(n, d) == wide, "{n} / {d}");
+        assert!(rt; reduced::<Frac64>(n, d) == narrow, "{n} / {d}");
     }
 }
 
@@ -140,18 +131,18 @@ fn orders<F: Exact>(rt: &impl Abort) {
         ((1 - m, m), (2 - m, m - 1), Ordering::Less, -1),
     ];
     for (left, right, order, sign) in cases {
-        let x: F = make(rt, left);
-        let y: F = make(rt, right);
+        let x: F = fraction(rt, left);
+        let y: F = fraction(rt, right);
         let (n, d) = left;
-        assert_eq!(rt; x.compare(y), order, "{left:?} and {right:?}");
-        assert_eq!(rt; y.compare(x), order.reverse(), "{right:?} and {left:?}");
-        assert_eq!(rt; x.sign(), sign, "{left:?}");
-        assert_eq!(rt; x.is_zero(), sign == 0, "{left:?}");
-        assert_eq!(rt; x.neg().numerator().checked_add(n), Some(0), "{left:?}");
-        assert_eq!(rt; x.neg().denominator(), d, "{left:?}");
+        assert!(rt; x.compare(y) == order, "{left:?} and {right:?}");
+        assert!(rt; y.compare(x) == order.reverse(), "{right:?} and {left:?}");
+        assert!(rt; x.sign() == sign, "{left:?}");
+        assert!(rt; x.is_zero() == (sign == 0), "{left:?}");
+        assert!(rt; x.neg().numerator().checked_add(n) == Some(0), "{left:?}");
+        assert!(rt; x.neg().denominator() == d, "{left:?}");
     }
-    assert_eq!(rt; ratio(F::zero()), (0, 1));
-    assert_eq!(rt; ratio(F::one()), (1, 1));
+    assert!(rt; ratio(F::zero()) == (0, 1));
+    assert!(rt; ratio(F::one()) == (1, 1));
 }
 
 #[test]

@@ -1,11 +1,12 @@
 //! Formulas over the columns of small tables, and what each says. The answers were worked out by
-//! hand from the rules of the crate's first lines.
+//! hand from the rules of `formula_parser`'s first lines.
 //!
 //! A formula is told as its response, 1 or 0 for the intercept, its terms, and its smooths. A fault
 //! is told as `Debug` writes it.
 
-use super::*;
-use frac_core::{List, Text, number_text};
+use crate::helpers::{expect_answer, push_number};
+use formula_parser::{Formula, FormulaFault, Smooth, Term, parse};
+use frac_core::{List, Text};
 use std::alloc::Global;
 use std::process::Abort;
 use std::test::Fail;
@@ -23,8 +24,7 @@ fn tell_smooth(alloc: Global, told: &mut String, smooth: &Smooth) -> Result<(), 
     told.push_str(" qss ")?;
     told.push_str(smooth.name.as_str())?;
     told.push(',')?;
-    told.push_str(number_text(alloc, smooth.lambda)?.as_str())?;
-    Ok(())
+    push_number(told, alloc, smooth.lambda)
 }
 
 fn tell(alloc: Global, formula: &Formula) -> Result<String, Fail> {
@@ -80,7 +80,7 @@ fn run(rt: &(impl Abort + AllocGlobal), header: &str, cases: &[(&str, &str)]) ->
     let names = columns(rt.alloc(), header)?;
     for (formula, want) in cases {
         let told = answer(rt.alloc(), formula, names.as_slice())?;
-        assert_eq!(rt; told.as_str(), *want, "{formula}");
+        expect_answer(rt, told.as_str(), want, formula);
     }
     Ok(())
 }
@@ -275,7 +275,7 @@ fn powers_of_many_variables(rt: HostRuntime) -> Result<(), Fail> {
         push_sum(rt.alloc(), &mut text, 1, end)?;
         text.push_str(rest)?;
         let told = term_count(rt.alloc(), text.as_str(), names.as_slice())?;
-        assert_eq!(&rt; told.as_str(), *want, "{text}");
+        expect_answer(&rt, told.as_str(), want, text.as_str());
     }
     Ok(())
 }
@@ -298,7 +298,7 @@ fn four_thousand_and_ninety_six_terms(rt: HostRuntime) -> Result<(), Fail> {
         push_sum(rt.alloc(), &mut text, 65, 129)?;
         text.push_str(rest)?;
         let told = term_count(rt.alloc(), text.as_str(), names.as_slice())?;
-        assert_eq!(&rt; told.as_str(), *want, "{text}");
+        expect_answer(&rt, told.as_str(), want, text.as_str());
     }
     Ok(())
 }
@@ -311,6 +311,11 @@ fn a_long_formula(rt: HostRuntime) -> Result<(), Fail> {
         text.push_str("+a:b-b")?;
     }
     let told = answer(rt.alloc(), text.as_str(), names.as_slice())?;
-    assert_eq!(&rt; told.as_str(), "y 1 a a:b");
+    expect_answer(
+        &rt,
+        told.as_str(),
+        "y 1 a a:b",
+        "y ~ a and 20,000 times +a:b-b",
+    );
     Ok(())
 }

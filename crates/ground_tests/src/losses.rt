@@ -1,29 +1,25 @@
 //! Losses and spills worked by hand.
+
 ghost use Rattle.std.specs.Prelude.{◌≡◌, ◌↔◌, IsTrue, length};
 ghost use Rattle.loss_model.specs.Problem.{IsWellShaped};
 
-use crate::{
+use crate::helpers::{Ratio, crosses, fraction, ratio};
+use frac_core::{Exact, Frac128, List, OpKind};
+use loss_model::{
     Problem, Process, Quantity, Row, Short, Site, Spill, loss_at, minus_at, over_at, plus_at,
     times_at,
 };
-use frac_core::{Exact, Frac128, List, OpKind};
 use std::alloc::{AllocError, Global};
 use std::process::Abort;
 use std::test::Fail;
 
-type Ratio = (i128, i128);
-
 // A weight of which two are too wide together.
 const WEIGHT: i128 = 100_000_000_000_000_000_000_000_000_000_000_000_000;
-
-fn make(rt: &impl Abort, (n, d): Ratio) -> Frac128 {
-    Frac128::from_parts(n, d).expect(rt, "a fraction in range")
-}
 
 fn list(rt: &impl Abort, alloc: Global, values: &[Ratio]) -> Result<List<Frac128>, AllocError> {
     let mut made = Vec::new(alloc);
     for value in values {
-        made.push(make(rt, *value))?;
+        made.push(fraction(rt, *value))?;
     }
     Ok(List::from(made))
 }
@@ -38,11 +34,11 @@ fn row(
     let [up0, up1, down0, down1] = costs;
     Ok(Row {
         x: list(rt, alloc, x)?,
-        y: make(rt, y),
-        up0: make(rt, up0),
-        up1: make(rt, up1),
-        down0: make(rt, down0),
-        down1: make(rt, down1),
+        y: fraction(rt, y),
+        up0: fraction(rt, up0),
+        up1: fraction(rt, up1),
+        down0: fraction(rt, down0),
+        down1: fraction(rt, down1),
     })
 }
 
@@ -98,12 +94,26 @@ fn outcome(
 ) -> Result<Result<Ratio, Spill<Frac128>>, AllocError> {
     let coef = list(rt, alloc, coef)?;
     let coef = coef.as_slice();
-    let theta = make(rt, theta);
+    let theta = fraction(rt, theta);
     assert!(rt; is_shaped(problem, coef));
     Ok(match loss_at(problem, coef, theta) {
-        Ok(loss) => Ok((loss.numerator(), loss.denominator())),
+        Ok(loss) => Ok(ratio(loss)),
         Err(spill) => Err(spill),
     })
+}
+
+// The loss of coefficients at theta is this one.
+fn expect_loss(
+    rt: &impl Abort,
+    alloc: Global,
+    problem: &Problem<Frac128>,
+    coef: &[Ratio],
+    theta: Ratio,
+    want: Ratio,
+) -> Result<(), AllocError> {
+    let found = outcome(rt, alloc, problem, coef, theta)?;
+    assert!(rt; found == Ok(want), "{coef:?} at {theta:?}: {found:?}");
+    Ok(())
 }
 
 fn problem(columns: u32, rows: Vec<Row<Frac128>>) -> Problem<Frac128> {
@@ -137,11 +147,7 @@ fn three_responses(rt: HostRuntime) -> Result<(), Fail> {
         (5, (1, 4), (27, 4)),
     ];
     for (coef, theta, want) in cases {
-        assert_eq!(rt;
-            outcome(&rt, alloc, &three, &[(coef, 1)], theta)?,
-            Ok(want),
-            "{coef} at {theta:?}"
-        );
+        expect_loss(&rt, alloc, &three, &[(coef, 1)], theta, want)?;
     }
     Ok(())
 }
@@ -166,11 +172,7 @@ fn line_of_three_points(rt: HostRuntime) -> Result<(), Fail> {
         ((1, 1), (-1, 2), (1, 2), (3, 1)),
     ];
     for (intercept, slope, theta, want) in cases {
-        assert_eq!(rt;
-            outcome(&rt, alloc, &line, &[intercept, slope], theta)?,
-            Ok(want),
-            "{intercept:?} and {slope:?} at {theta:?}"
-        );
+        expect_loss(&rt, alloc, &line, &[intercept, slope], theta, want)?;
     }
     Ok(())
 }
@@ -192,11 +194,7 @@ fn weights_and_penalties(rt: HostRuntime) -> Result<(), Fail> {
         (2, (1, 4), (3, 4)),
         (2, (1, 1), (0, 1)),
     ] {
-        assert_eq!(rt;
-            outcome(&rt, alloc, &weighted, &[(coef, 1)], theta)?,
-            Ok(want),
-            "{coef} at {theta:?}"
-        );
+        expect_loss(&rt, alloc, &weighted, &[(coef, 1)], theta, want)?;
     }
     // A penalty costs lambda for each unit of its size, at every quantile.
     for (lambda, coef, theta, want) in [
@@ -214,11 +212,7 @@ fn weights_and_penalties(rt: HostRuntime) -> Result<(), Fail> {
                 penalty(&rt, alloc, &[(0, 1), (-2, 1), (1, 1)], lambda)?,
             ]?,
         );
-        assert_eq!(rt;
-            outcome(&rt, alloc, &smooth, &coef, theta)?,
-            Ok(want),
-            "{coef:?} at {theta:?}"
-        );
+        expect_loss(&rt, alloc, &smooth, &coef, theta, want)?;
     }
     Ok(())
 }
@@ -330,13 +324,11 @@ fn spills_name_their_operation(rt: HostRuntime) -> Result<(), Fail> {
                 term: case.term,
                 kind: case.kind,
             },
-            left: make(&rt, (case.left, 1)),
-            right: make(&rt, (case.right, 1)),
+            left: fraction(&rt, (case.left, 1)),
+            right: fraction(&rt, (case.right, 1)),
         };
-        assert_eq!(rt;
-            outcome(&rt, alloc, &wide, &[(case.coef, 1)], (1, 1))?,
-            Err(want)
-        );
+        let found = outcome(&rt, alloc, &wide, &[(case.coef, 1)], (1, 1))?;
+        assert!(rt; found == Err(want), "{found:?}");
     }
     Ok(())
 }
@@ -363,14 +355,12 @@ fn sum_of_wide_losses_spills_at_its_row(rt: HostRuntime) -> Result<(), Fail> {
             term: 2,
             kind: OpKind::Add,
         },
-        left: make(&rt, (WEIGHT / 2 * 3, 1)),
-        right: make(&rt, (WEIGHT, 1)),
+        left: fraction(&rt, (WEIGHT / 2 * 3, 1)),
+        right: fraction(&rt, (WEIGHT, 1)),
     };
-    assert_eq!(rt; outcome(&rt, alloc, &wide, &[(4, 1)], (1, 2))?, Err(want));
-    assert_eq!(rt;
-        outcome(&rt, alloc, &wide, &[(2, 1)], (1, 2))?,
-        Ok((WEIGHT, 1))
-    );
+    let found = outcome(&rt, alloc, &wide, &[(4, 1)], (1, 2))?;
+    assert!(rt; found == Err(want), "{found:?}");
+    expect_loss(&rt, alloc, &wide, &[(2, 1)], (1, 2), (WEIGHT, 1))?;
     Ok(())
 }
 
@@ -390,8 +380,8 @@ fn operations_at_a_site(rt: HostRuntime) {
         (OpKind::Div, (1, m), (2, 1), None),
     ];
     for (kind, left, right, want) in cases {
-        let x = make(&rt, left);
-        let y = make(&rt, right);
+        let x: Frac128 = fraction(&rt, left);
+        let y: Frac128 = fraction(&rt, right);
         let got = match kind {
             OpKind::Add => plus_at(site, x, y),
             OpKind::Sub => minus_at(site, x, y),
@@ -407,14 +397,12 @@ fn operations_at_a_site(rt: HostRuntime) {
             right: y,
         };
         let want = match want {
-            Some(value) => Ok(make(&rt, value)),
+            Some(value) => Ok(fraction(&rt, value)),
             None => Err(spill),
         };
-        assert_eq!(rt; got, want, "{kind:?} of {left:?} and {right:?}");
+        assert!(rt; got == want, "{kind:?} of {left:?} and {right:?}: {got:?}");
     }
 }
-
-fn crosses<T: Send + Sync>() {}
 
 // What is made of fractions may be handed to another thread where they may.
 fn all_cross<F: Send + Sync>() {

@@ -1,6 +1,9 @@
-use super::*;
-use frac_core::{Frac128, number_text};
-use std::alloc::AllocError;
+//! Lists of words, and what each asks for or its first fault.
+
+use crate::helpers::{expect_answer, push_number};
+use frac_core::Frac128;
+use rq_words::{FitJob, Job, RankAsk, SampleJob, WordFault, read_words};
+use std::alloc::Global;
 use std::test::Fail;
 
 /// Words with a space after each but the last, and what they ask for or their fault.
@@ -618,14 +621,7 @@ static ADDED: [Case; 59] = [
     },
 ];
 
-fn push_number(text: &mut String, alloc: Global, value: Frac128) -> Result<(), AllocError> {
-    match number_text(alloc, value) {
-        Ok(number) => text.push_str(number.as_str()),
-        Err(_) => Err(AllocError),
-    }
-}
-
-fn push_rank(text: &mut String, alloc: Global, rank: &RankAsk) -> Result<(), AllocError> {
+fn push_rank(text: &mut String, alloc: Global, rank: &RankAsk) -> Result<(), Fail> {
     push_number(text, alloc, rank.crit)?;
     let mut mark = "@";
     for tau in rank.taus.as_slice() {
@@ -636,7 +632,7 @@ fn push_rank(text: &mut String, alloc: Global, rank: &RankAsk) -> Result<(), All
     Ok(())
 }
 
-fn range_text(alloc: Global, lo: Frac128, hi: Frac128) -> Result<String, AllocError> {
+fn range_text(alloc: Global, lo: Frac128, hi: Frac128) -> Result<String, Fail> {
     let mut text = String::new(alloc);
     push_number(&mut text, alloc, lo)?;
     text.push_str("..")?;
@@ -644,7 +640,7 @@ fn range_text(alloc: Global, lo: Frac128, hi: Frac128) -> Result<String, AllocEr
     Ok(text)
 }
 
-fn fit_text(alloc: Global, job: &str, fit: &FitJob) -> Result<String, AllocError> {
+fn fit_text(alloc: Global, job: &str, fit: &FitJob) -> Result<String, Fail> {
     let range = range_text(alloc, fit.lo, fit.hi)?;
     let weights = match &fit.weights {
         Some(name) => format!(in alloc; "w={}", name.as_str())?,
@@ -661,20 +657,20 @@ fn fit_text(alloc: Global, job: &str, fit: &FitJob) -> Result<String, AllocError
     Ok(text)
 }
 
-fn sample_text(alloc: Global, sample: &SampleJob) -> Result<String, AllocError> {
+fn sample_text(alloc: Global, sample: &SampleJob) -> Result<String, Fail> {
     let range = range_text(alloc, sample.lo, sample.hi)?;
     let (number, rows) = (sample.number, sample.rows);
     let (columns, limit) = (sample.columns, sample.limit);
-    format!(in alloc; "sample {number} {rows} {columns} {range} {limit}")
+    Ok(format!(in alloc; "sample {number} {rows} {columns} {range} {limit}")?)
 }
 
-fn fault_text(alloc: Global, fault: &WordFault) -> Result<String, AllocError> {
+fn fault_text(alloc: Global, fault: &WordFault) -> Result<String, Fail> {
     let name = match fault {
         WordFault::NoJob => "NoJob",
         WordFault::UnknownJob => "UnknownJob",
         WordFault::BadOption => "BadOption",
         WordFault::BadNumber { option } => {
-            return format!(in alloc; "BadNumber {}", option.as_str());
+            return Ok(format!(in alloc; "BadNumber {}", option.as_str())?);
         }
         WordFault::BadRange => "BadRange",
         WordFault::BadTauForRank => "BadTauForRank",
@@ -683,21 +679,21 @@ fn fault_text(alloc: Global, fault: &WordFault) -> Result<String, AllocError> {
         WordFault::RankHalf => "RankHalf",
         WordFault::OutOfMemory => "OutOfMemory",
     };
-    String::from_str(alloc, name)
+    Ok(String::from_str(alloc, name)?)
 }
 
-fn answer_to(alloc: Global, words: &[String]) -> Result<String, AllocError> {
+fn answer_to(alloc: Global, words: &[String]) -> Result<String, Fail> {
     match read_words(alloc, words) {
         Ok(Job::Process(fit)) => fit_text(alloc, "process", &fit),
         Ok(Job::Ranks(fit)) => fit_text(alloc, "ranks", &fit),
         Ok(Job::Certify(fit)) => fit_text(alloc, "certify", &fit),
-        Ok(Job::Check) => String::from_str(alloc, "check"),
+        Ok(Job::Check) => Ok(String::from_str(alloc, "check")?),
         Ok(Job::Sample(sample)) => sample_text(alloc, &sample),
         Err(fault) => fault_text(alloc, &fault),
     }
 }
 
-fn push_words(words: &mut Vec<String>, alloc: Global, text: &str) -> Result<(), AllocError> {
+fn push_words(words: &mut Vec<String>, alloc: Global, text: &str) -> Result<(), Fail> {
     for word in text.split(' ') {
         words.push(String::from_str(alloc, word)?)?;
     }
@@ -707,7 +703,8 @@ fn push_words(words: &mut Vec<String>, alloc: Global, text: &str) -> Result<(), 
 #[test]
 fn no_word_is_no_job(rt: HostRuntime) -> Result<(), Fail> {
     let words = Vec::new(rt.alloc());
-    assert_eq!(rt; answer_to(rt.alloc(), words.as_slice())?.as_str(), "NoJob");
+    let answer = answer_to(rt.alloc(), words.as_slice())?;
+    expect_answer(&rt, answer.as_str(), "NoJob", "no word");
     Ok(())
 }
 
@@ -717,8 +714,7 @@ fn whole_lists_of_words(rt: HostRuntime) -> Result<(), Fail> {
         let mut words = Vec::new(rt.alloc());
         push_words(&mut words, rt.alloc(), case.words)?;
         let answer = answer_to(rt.alloc(), words.as_slice())?;
-        let text = case.words;
-        assert_eq!(rt; answer.as_str(), case.answer, "{text}");
+        expect_answer(&rt, answer.as_str(), case.answer, case.words);
     }
     Ok(())
 }
@@ -734,14 +730,13 @@ fn words_added_to_a_process(rt: HostRuntime) -> Result<(), Fail> {
         )?;
         push_words(&mut words, rt.alloc(), case.words)?;
         let answer = answer_to(rt.alloc(), words.as_slice())?;
-        let text = case.words;
-        assert_eq!(rt; answer.as_str(), case.answer, "{text}");
+        expect_answer(&rt, answer.as_str(), case.answer, case.words);
     }
     Ok(())
 }
 
 // The words of rank intervals at so many medians.
-fn words_of_medians(alloc: Global, medians: usize) -> Result<Vec<String>, AllocError> {
+fn words_of_medians(alloc: Global, medians: usize) -> Result<Vec<String>, Fail> {
     let mut taus = String::from_str(alloc, "--rank-at=1/2")?;
     for _ in 1..medians {
         taus.push_str(",1/2")?;
@@ -765,12 +760,10 @@ fn at_most_64_quantiles(rt: HostRuntime) -> Result<(), Fail> {
     let Some(rank) = &fit.rank else {
         return Err(Fail::from("no rank intervals"));
     };
-    assert_eq!(rt; rank.taus.as_slice().len(), 64);
+    assert!(rt; rank.taus.as_slice().len() == 64);
     let words = words_of_medians(rt.alloc(), 65)?;
-    assert_eq!(rt;
-        answer_to(rt.alloc(), words.as_slice())?.as_str(),
-        "BadNumber rank-at"
-    );
+    let answer = answer_to(rt.alloc(), words.as_slice())?;
+    expect_answer(&rt, answer.as_str(), "BadNumber rank-at", "65 medians");
     Ok(())
 }
 

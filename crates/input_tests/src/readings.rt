@@ -3,7 +3,8 @@
 //! A reading is told as the response, 1 or 0 for the intercept, the steps, and the smooths: `()` is
 //! the empty list, and an operator stands with its offset. A fault is told as `Debug` writes it.
 
-use super::*;
+use crate::helpers::{expect_answer, push_many};
+use formula_grammar::{ReadFault, Reading, SmoothPart, Span, Step, read, tokens_of};
 use std::alloc::Global;
 use std::process::Abort;
 use std::test::Fail;
@@ -255,20 +256,13 @@ static CASES: [(&str, &str); 139] = [
 fn reads_by_the_grammar(rt: HostRuntime) -> Result<(), Fail> {
     for (formula, want) in &CASES {
         let told = answer(rt.alloc(), formula)?;
-        assert_eq!(&rt; told.as_str(), *want, "{formula}");
-    }
-    Ok(())
-}
-
-fn push_many(text: &mut String, piece: &str, count: u32) -> Result<(), Fail> {
-    for _ in 0..count {
-        text.push_str(piece)?;
+        expect_answer(&rt, told.as_str(), want, formula);
     }
     Ok(())
 }
 
 // A formula that opens so many parentheses round some tokens, and closes as many.
-fn nested(alloc: Global, count: u32, inner: &str) -> Result<String, Fail> {
+fn nested(alloc: Global, count: usize, inner: &str) -> Result<String, Fail> {
     let mut text = String::from_str(alloc, "y ~ ")?;
     push_many(&mut text, "(", count)?;
     text.push_str(inner)?;
@@ -276,7 +270,7 @@ fn nested(alloc: Global, count: u32, inner: &str) -> Result<String, Fail> {
     Ok(text)
 }
 
-static DEPTHS: [(u32, &str, &str); 10] = [
+static DEPTHS: [(usize, &str, &str); 10] = [
     (64, "a", "y 1 a"),
     (65, "a", "TooDeep { offset: 68 }"),
     (100, "", "TooDeep { offset: 68 }"),
@@ -294,13 +288,13 @@ fn sixty_four_parentheses_may_be_open(rt: HostRuntime) -> Result<(), Fail> {
     for (count, inner, want) in &DEPTHS {
         let text = nested(rt.alloc(), *count, inner)?;
         let told = answer(rt.alloc(), text.as_str())?;
-        assert_eq!(&rt; told.as_str(), *want, "{text}");
+        expect_answer(&rt, told.as_str(), want, text.as_str());
     }
     Ok(())
 }
 
 // A text of a piece, another one many times, and a last one.
-static LONG: [(&str, &str, u32, &str, &str); 6] = [
+static LONG: [(&str, &str, usize, &str, &str); 6] = [
     ("y ~ ", "(", 100000, "", "TooDeep { offset: 68 }"),
     ("y", " ", 100000, "", "Syntax { offset: 100001 }"),
     ("y ~ a^", "0", 100000, "7", "y 1 a ^7@5"),
@@ -316,7 +310,7 @@ fn long_texts(rt: HostRuntime) -> Result<(), Fail> {
         push_many(&mut text, piece, *count)?;
         text.push_str(last)?;
         let told = answer(rt.alloc(), text.as_str())?;
-        assert_eq!(&rt; told.as_str(), *want, "{first}");
+        expect_answer(&rt, told.as_str(), want, first);
     }
     Ok(())
 }
@@ -326,7 +320,7 @@ fn a_million_tokens(rt: HostRuntime) -> Result<(), Fail> {
     let mut text = String::from_str(rt.alloc(), "y ~ a")?;
     push_many(&mut text, "+a", 500000)?;
     match reading_of(rt.alloc(), text.as_str())? {
-        Ok(reading) => assert_eq!(&rt; reading.steps.as_slice().len(), 1000001),
+        Ok(reading) => assert!(&rt; reading.steps.as_slice().len() == 1000001),
         Err(_) => return Err(Fail::from("no formula")),
     }
     Ok(())
