@@ -1,13 +1,19 @@
-// A library with one function.
+//! Tests of the solver: inverses of bases (`basis_inverse`), the order of ties (`lex_rule`), basic
+//! solutions (`basic_solution`), and pivots at one quantile (`br_pivot`).
+//!
+//! Cases worked by hand stand beside drawn ones, which are compared with a plain computation that is
+//! no part of the program.
 #![tactic(auto)]
 
-ghost use Rattle.std.specs.Prelude.{◌≡◌};
-ghost use Rattle.solver_tests.specs.Echo.{echo_of};
-
-// The `ensures` clause is the contract: what `echo` returns is `echo_of` of its argument, a definition
-// in `specs/Echo.antt`, which a caller's clause can cite too.
-pub fn echo(x: usize) -> usize
-    ensures { result ≡ echo_of x }
-{
-    x
-}
+#[cfg(test)]
+mod basic_solutions;
+#[cfg(test)]
+mod helpers;
+#[cfg(test)]
+mod inverses;
+#[cfg(test)]
+mod least_loss;
+#[cfg(test)]
+mod pivots;
+#[cfg(test)]
+mod ties;

@@ -1,49 +1,12 @@
 //! Solves worked by hand: a trail of two pivots under each limit, overflows, and dependent columns.
-use super::{Plain, fraction, make_problem, solve};
-use crate::Solved;
-use frac_core::{Exact, Frac64, Frac128, List, OpKind};
-use loss_model::{Problem, Quantity, Side, Site, Stop, Trail};
+
+use crate::helpers::{Data, Ratio, expect, fraction, problem, ratio, solve};
+use br_pivot::Solved;
+use frac_core::{Exact, Frac64, Frac128, OpKind};
+use loss_model::{Quantity, Side, Site, Stop, Trail};
 use std::alloc::{AllocError, Global};
 use std::process::Abort;
 use std::test::Fail;
-
-type Ratio = (i128, i128);
-
-/// The entries, the response and the weight of a data row.
-type Data = ([i128; 3], i128, i128);
-
-fn problem<F: Exact>(
-    rt: &impl Abort,
-    alloc: Global,
-    columns: u32,
-    over: i128,
-    table: &[Data],
-) -> Result<Problem<F>, AllocError> {
-    let mut rows = Vec::new(alloc);
-    for (x, y, weight) in table {
-        rows.push(Plain::data(*x, *y, *weight))?;
-    }
-    make_problem(rt, alloc, columns, over, rows.as_slice())
-}
-
-fn parts<F: Exact>(alloc: Global, values: &List<F>) -> Result<Vec<Ratio>, AllocError> {
-    let mut all = Vec::new(alloc);
-    for value in values.as_slice() {
-        all.push((value.numerator(), value.denominator()))?;
-    }
-    Ok(all)
-}
-
-fn expect<F: Exact>(
-    rt: &impl Abort,
-    alloc: Global,
-    found: &List<F>,
-    want: &[Ratio],
-) -> Result<(), AllocError> {
-    let found = parts(alloc, found)?;
-    assert_eq!(rt; found.as_slice(), want);
-    Ok(())
-}
 
 /// A trail: its start, and the position and the row of each of its steps.
 #[derive(Drop)]
@@ -60,13 +23,13 @@ fn expect_trail<F: Exact>(
     theta: F,
     want: &Path,
 ) -> Result<(), AllocError> {
-    assert_eq!(rt; trail.start.as_slice(), want.start);
+    assert!(rt; trail.start.as_slice() == want.start);
     let mut steps = Vec::new(alloc);
     for step in trail.steps.as_slice() {
         assert!(rt; step.theta.compare(theta).is_eq());
         steps.push((step.position, step.row))?;
     }
-    assert_eq!(rt; steps.as_slice(), want.steps);
+    assert!(rt; steps.as_slice() == want.steps);
     assert!(rt; trail.rise.as_slice().is_empty() && trail.fall.as_slice().is_empty());
     Ok(())
 }
@@ -99,22 +62,19 @@ fn expect_apart<F: Exact>(
         steps: &[(1, 3), (0, 5)],
     };
     expect_trail(rt, alloc, &solved.trail, theta, &path)?;
-    assert_eq!(rt; solved.basis.rows.as_slice(), [5, 3].as_slice());
-    assert_eq!(rt; solved.vertex.basis.rows.as_slice(), [3, 5].as_slice());
+    assert!(rt; solved.basis.rows.as_slice() == [5, 3].as_slice());
+    assert!(rt; solved.vertex.basis.rows.as_slice() == [3, 5].as_slice());
     expect(rt, alloc, &solved.vertex.coef, &[(1, 1), (10, 1)])?;
     expect(rt, alloc, &solved.basic, &[(-1, 1), (-1, 2)])?;
-    assert_eq!(rt;
-        solved.vertex.sides.as_slice(),
-        [
-            Side::Up,
-            Side::Up,
-            Side::Up,
-            Side::Basic,
-            Side::Up,
-            Side::Basic
-        ]
-        .as_slice()
-    );
+    let sides = [
+        Side::Up,
+        Side::Up,
+        Side::Up,
+        Side::Basic,
+        Side::Up,
+        Side::Basic,
+    ];
+    assert!(rt; solved.vertex.sides.as_slice() == sides.as_slice());
     Ok(())
 }
 
@@ -137,7 +97,7 @@ fn expect_limit<F: Exact>(
     path: &Path,
 ) -> Result<(), AllocError> {
     let apart = problem::<F>(rt, alloc, 2, 1, APART.as_slice())?;
-    let theta = fraction(rt, 1, 4);
+    let theta = fraction(rt, (1, 4));
     match solve(rt, alloc, &apart, theta, limit) {
         Err(
             Stop::PivotLimit {
@@ -145,7 +105,7 @@ fn expect_limit<F: Exact>(
                 trail,
             },
         ) => {
-            assert_eq!(rt; shown, limit);
+            assert!(rt; shown == limit);
             expect_trail(rt, alloc, &trail, theta, path)
         }
         _ => panic!(rt; "a pivot is left"),
@@ -154,7 +114,7 @@ fn expect_limit<F: Exact>(
 
 fn expect_pivots<F: Exact>(rt: &impl Abort, alloc: Global, limit: u32) -> Result<(), AllocError> {
     let apart = problem::<F>(rt, alloc, 2, 1, APART.as_slice())?;
-    let theta = fraction(rt, 1, 4);
+    let theta = fraction(rt, (1, 4));
     match solve(rt, alloc, &apart, theta, limit) {
         Ok(solved) => expect_apart(rt, alloc, &solved, theta),
         Err(_) => panic!(rt; "two pivots suffice"),
@@ -197,18 +157,12 @@ fn expect_overflow<F: Exact>(
     limit: u32,
 ) -> Result<(), AllocError> {
     let wide = problem::<F>(rt, alloc, case.columns, case.over, case.rows)?;
-    let theta = fraction(rt, 1, 2);
+    let theta = fraction(rt, (1, 2));
     match solve(rt, alloc, &wide, theta, limit) {
         Err(Stop::Overflow { trail, spill }) => {
-            assert_eq!(rt; spill.site, case.site);
-            assert_eq!(rt;
-                (spill.left.numerator(), spill.left.denominator()),
-                case.left
-            );
-            assert_eq!(rt;
-                (spill.right.numerator(), spill.right.denominator()),
-                case.right
-            );
+            assert!(rt; spill.site == case.site);
+            assert!(rt; ratio(spill.left) == case.left);
+            assert!(rt; ratio(spill.right) == case.right);
             expect_trail(rt, alloc, &trail, theta, &case.path)
         }
         _ => panic!(rt; "an operation overflows"),
@@ -409,7 +363,7 @@ fn expect_dependence<F: Exact>(
     case: &Dependence,
 ) -> Result<(), AllocError> {
     let rows = problem::<F>(rt, alloc, case.columns, case.over, case.rows)?;
-    match solve(rt, alloc, &rows, fraction(rt, 1, 2), 100) {
+    match solve(rt, alloc, &rows, fraction(rt, (1, 2)), 100) {
         Err(Stop::Dependent { combination }) => expect(rt, alloc, &combination, case.combination),
         _ => panic!(rt; "the columns are dependent"),
     }

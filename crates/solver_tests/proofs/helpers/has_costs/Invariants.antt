@@ -4,7 +4,7 @@ use Rattle.exact_algebra.specs.Rational.{◌+ℚ◌, ◌≤ℚ◌, whole}
 use Rattle.loss_model.specs.Sample.{up_cost, down_cost}
 use Rattle.loss_model.specs.Problem.{sample}
 use Rattle.pivot_rule.specs.Duals.{◌<ℚ◌}
-use Rattle.br_pivot.proofs.tests.has_costs.Given as goal
+use Rattle.solver_tests.proofs.helpers.has_costs.Given as goal
 
 abbrev pub invariant-loop-row : goal.invariant-loop-row
 invariant-loop-row g l = record {
