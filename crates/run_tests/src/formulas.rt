@@ -1,7 +1,8 @@
 //! Reports of designs with factors, interactions, powers, missing cells and ties, under all codings.
 //! Coefficients and losses are those of the least check loss over all bases of the design; where more
 //! than one basis has it, the pivot rule decides, worked out row by row apart from the program.
-use super::{assert_printed, ran_on};
+
+use crate::helpers::{assert_printed, ran_on};
 use std::alloc::Global;
 use std::process::Abort;
 use std::test::Fail;

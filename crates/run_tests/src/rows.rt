@@ -1,16 +1,17 @@
 //! Worked examples: stackloss, a line through three points, and designs of one column.
-use super::{assert_printed, ran_on};
+
+use crate::helpers::{assert_printed, ran_on};
 use std::test::Fail;
 
 /// Stack loss of an ammonia plant (Brownlee 1965), as R's `write.csv` writes it.
-pub(super) static STACKLOSS: &str =
+pub(crate) static STACKLOSS: &str =
     "\"\",\"Air.Flow\",\"Water.Temp\",\"Acid.Conc.\",\"stack.loss\"\n\"1\",80,27,89,42\n\"2\",80,27,88,37\n\"3\",75,25,90,37\n\"4\",62,24,87,28\n\"5\",62,22,87,18\n\"6\",62,23,87,18\n\"7\",62,24,93,19\n\"8\",62,24,93,20\n\"9\",58,23,87,15\n\"10\",58,18,80,14\n\"11\",58,18,89,14\n\"12\",58,17,88,13\n\"13\",58,18,82,11\n\"14\",58,19,93,12\n\"15\",50,18,89,8\n\"16\",50,18,86,7\n\"17\",50,19,72,8\n\"18\",50,19,79,8\n\"19\",50,20,80,9\n\"20\",56,20,82,15\n\"21\",70,20,91,15\n";
 
 /// Its median regression on everything else. The fit goes through the records 2, 8, 16 and 18; their
 /// dual values, 131, -385, 503 and 441 over 1380, lie within a half and balance the others in all
 /// columns, so no other basis is optimal. The pivots are those of the rule, worked out apart from
 /// the program: from the records 1, 3, 4 and 2 on, 19, 16, 10, 18 and 8 enter.
-pub(super) static STACKLOSS_REPORT: &str =
+pub(crate) static STACKLOSS_REPORT: &str =
     "quantreg 1\nrecords 21 dropped 0\ncolumn 1 (Intercept)\ncolumn 2 Air.Flow\ncolumn 3 Water.Temp\ncolumn 4 Acid.Conc.\ndata 21 penalty 0\npivots 5\nsegment 1 1/2 1/2\ncoef 1 -13693/345\ncoef 2 287/345\ncoef 3 66/115\ncoef 4 -7/115\nloss 7259/345 7259/345\nscores 1*11000*0011001*0*110\nbasic 2 821/1380 821/1380\nbasic 8 61/276 61/276\nbasic 16 1193/1380 1193/1380\nbasic 18 377/460 377/460\nend\n";
 
 #[test]

@@ -1,7 +1,8 @@
 //! Runs in which the solver stops: for dependent columns, for the limit of pivots, and for numbers that
 //! outgrow 128 bits. M is 2^127 - 1, the greatest numerator and denominator.
-use super::rows::{STACKLOSS, STACKLOSS_REPORT};
-use super::{assert_printed, assert_refused, ran_on};
+
+use crate::helpers::{assert_printed, assert_refused, ran_on};
+use crate::rows::{STACKLOSS, STACKLOSS_REPORT};
 use std::test::Fail;
 
 // Each case: the formula, the table, and the line. Its combination of the columns is 0 in every row.
