@@ -1,4 +1,5 @@
--- Stated. The variables of terms with their values at the kept records and their codings.
+-- Stated. The variables of terms with their values at the kept records and their codings (Chambers and Hastie 1992,
+-- chapter 2; the rule for terms of two or more variables is this project's own).
 use Rattle.std.specs.Prelude.{◌==◌, ℕ, ◌+◌, ◌++◌, ◌&&◌, ◌||◌, Bool, true, false, List, [], ◌∷◌, codes, length, map, take, drop, if◌then◌else◌}
 use Rattle.std.specs.List.{list_all, list_any}
 use Rattle.std.specs.Str.{bytes_eq}

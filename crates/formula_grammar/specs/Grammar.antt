@@ -1,4 +1,5 @@
--- Stated. The grammar of formulas, one type for each line of it. A tree keeps where its tokens begin.
+-- Stated. The grammar of formulas, one type for each line of it. A tree keeps where its tokens begin. It is a profile
+-- of R's (Chambers and Hastie 1992, Statistical Models in S, chapter 2), with smooths (Koenker, Ng and Portnoy 1994).
 --
 --   formula = NAME "~" [ "+" | "-" ] item { ( "+" | "-" ) item }      no qss follows "-"
 --   item    = "0" | "1" | "qss" "(" NAME "," NUMBER ")" | product

@@ -1,5 +1,6 @@
 -- Stated. Lists of distinct terms. The variables of a formula are counted in the order in which they first stand in its
--- text. A term is a set of them: a list that says of each variable in turn whether it is in the term.
+-- text. A term is a set of them: a list that says of each variable in turn whether it is in the term
+-- (Wilkinson and Rogers 1973; Chambers and Hastie 1992, chapter 2).
 use Rattle.std.specs.Prelude.{ℕ, zero, suc, ◌-◌, Bool, not, ◌||◌, List, [], ◌∷◌, ◌++◌, map, flat_map, zip, cond, count_by}
 use Rattle.std.specs.List.{filter, list_any}
 use mathlib.Core.Bool.{beq}
