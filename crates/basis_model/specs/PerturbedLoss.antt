@@ -1,4 +1,4 @@
--- What a trail improves where every response is perturbed: lists, which are compared at their first
+-- Law. What a trail improves where every response is perturbed: lists, which are compared at their first
 -- entry that differs. A step lowers the perturbed loss, or else how it changes with theta; where one
 -- coefficient is moved, it moves that.
 use Rattle.std.specs.Prelude.{ℕ, zero, suc, pos}
