@@ -72,6 +72,3 @@ impl<T> From<Vec<T>> for List<T> {
         List { contents }
     }
 }
-
-#[cfg(test)]
-mod tests;

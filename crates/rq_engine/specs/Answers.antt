@@ -1,4 +1,4 @@
--- What the engine is asked and answers.
+-- Stated. What the engine is asked and answers.
 use Rattle.std.specs.Prelude.{◌≡◌, ◌≢◌, ◌≤◌, ℕ, List, Ok, Err, length, ⊤}
 use Rattle.frac_core.specs.declared.frac128.Frac128.{Frac128}
 use Rattle.data_frame.specs.Tables.{table_of}
@@ -47,6 +47,7 @@ pub record IsFitOf (job : FitJob) (table : Table) (fit : Fit) : Type 0 where
 abbrev pub AreTable : List ℕ → Table → Type 0
 AreTable bytes table = table_of bytes ≡ Ok (exact_table table)
 
+-- the fit is right for the table that the bytes are
 abbrev pub IsFitOfBytes : FitJob → List ℕ → Fit → Type 0
 IsFitOfBytes job bytes fit = (table : Table) × AreTable bytes table × IsFitOf job table fit
 

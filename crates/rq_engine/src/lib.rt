@@ -8,6 +8,7 @@
 //! It stands on `loss_model` for problems and their optimality, on `br_pivot` for the solve, on
 //! `rq_words` for jobs, on `data_frame` for tables, on `formula_parser`, `design_matrix` and
 //! `rq_program` for what a table and a formula say, and on `itoa`.
+//! Its tests stand in the crate `report_tests`.
 #![tactic(auto)]
 
 mod fault;
@@ -21,8 +22,6 @@ mod problem;
 mod quantity;
 mod report;
 mod scores;
-#[cfg(test)]
-mod tests;
 
 pub use fault::{MEMORY_LINE, SINK_LINE, SOURCE_LINE, fault_line};
 pub use job::answer;
