@@ -7,9 +7,12 @@
 #![tactic(auto)]
 
 mod outcome;
+mod system;
 #[cfg(test)]
 mod tests;
 mod top;
+mod trouble;
 
 pub use outcome::Outcome;
+pub use system::{program, status};
 pub use top::run;
