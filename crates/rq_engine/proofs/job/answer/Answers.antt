@@ -1,10 +1,9 @@
 use Rattle.std.proofs.Common.{◌≡◌, length, IfSome, List, [], ◌∷◌, arith, refl, subst, ap, suc}
 use Rattle.std.specs.List.{AllZip}
 use Rattle.rq_words.specs.declared.job.Job.TheVariants.{Process}
-use Rattle.rq_engine.specs.ReportText.{value}
-use Rattle.rq_engine.specs.Fit.{IsScored}
+use Rattle.rankscores.specs.Scores.{IsScored}
+use Rattle.report_text.specs.ReportText.{value}
 use Rattle.rq_engine.specs.Point.{IsJobOf, IsPoint}
-use Rattle.rq_engine.proofs.DataRows.{same_rows}
 use Rattle.rq_engine.proofs.Points.{point_formula, point_range}
 use Rattle.rq_engine.proofs.job.answer.Goals as goal
 
@@ -35,7 +34,4 @@ fit_bytes-requires-clause-long g c =
     point_formula c.requires.asked.0 fit (subst (IsJobOf c.requires.asked.0) found c.requires.asked.1)
 
 pub returns-in-Ok-clause-printable : goal.returns-in-Ok-clause-printable
-returns-in-Ok-clause-printable g c =
-    let fit = c.in-Ok.fit in
-    let of = c.in-Ok.ensures.right.2 in
-    (same_length (IsScored value fit.problem) fit.process.segments fit.scores of.right.scores, omega (arith, of.data_rows, same_rows of.design fit.problem of.problem))
+returns-in-Ok-clause-printable g c = ?
