@@ -59,12 +59,7 @@ fn table_input(alloc: Global, job: &FitJob, frame: &Frame) -> Result<Input, Halt
 }
 
 // The input of a table by a model without smooths.
-fn model_input(
-    alloc: Global,
-    job: &FitJob,
-    frame: &Frame,
-    model: &Formula,
-) -> Result<Input, Halt>
+fn model_input(alloc: Global, job: &FitJob, frame: &Frame, model: &Formula) -> Result<Input, Halt>
     requires stated { IsModel job.now frame.now model.now }
     requires countable { All (λ t. length t.variables < 2 ^ 32) model.now.terms }
     ensures is { IfOk result (IsTableInput job.now frame.now) }
