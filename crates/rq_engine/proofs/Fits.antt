@@ -31,12 +31,11 @@ use Rattle.report_text.specs.declared.report.Halt.{Halt}
 use Rattle.report_text.specs.declared.report.Halt.TheVariants.{Refused, OutOfMemory, PivotLimit, Overflow, NotBuilt}
 use Rattle.report_text.specs.declared.report.Refusal.TheVariants.{TooLong, Dependent}
 use Rattle.report_text.specs.declared.report.Refusal.TheVariants as refusals
-use Rattle.rq_input.specs.Inputs.{HasDataRows, HasInputCause, IsInput}
+use Rattle.rq_input.specs.Inputs.{HasInputCause, IsInput}
 use Rattle.rq_input.specs.declared.input.Input.{Input}
-use Rattle.rankscores.specs.Scores.{IsScored}
 use Rattle.rankscores.specs.Spills.{IsScoresSpill}
 use Rattle.rq_engine.specs.Answers.{HasFitCause}
-use Rattle.rq_engine.specs.Fit.{IsOptimalAt, IsRightSegment, IsSegmentAt, IsFitUnder, HasResults, IsRightFit}
+use Rattle.rq_engine.specs.Fit.{IsOptimalAt, IsRightSegment, IsSegmentAt, HasResults, IsRightFit}
 use Rattle.rq_engine.specs.Halts.{short_halt, stop_halt}
 use Rattle.rq_engine.specs.Point.{IsPoint}
 use Rattle.report_text.specs.ReportText.{value}

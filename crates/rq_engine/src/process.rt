@@ -6,7 +6,8 @@ ghost use Rattle.loss_model.specs.Problem.{sample, value_at, IsWellShaped};
 ghost use Rattle.loss_model.specs.Quantities.{IsShortOf};
 ghost use Rattle.loss_model.specs.Spill.{IsLossSpill};
 ghost use Rattle.loss_model.specs.Vertex.{IsVertexOf};
-ghost use Rattle.report_text.specs.ReportText.{value};
+ghost use Rattle.report_text.specs.ReportText.{value, IsPrintable};
+ghost use Rattle.report_text.specs.declared.report.Report.TheVariants as reports;
 ghost use Rattle.rq_input.specs.Inputs.{HasDataRows};
 ghost use Rattle.rq_engine.specs.Answers.{HasFitCause, IsFitOf, IsFitOfBytes};
 ghost use Rattle.rq_engine.specs.Fit.{IsFitUnder};
@@ -111,15 +112,16 @@ fn fit_of(
     ensures told { IfOk result (HasTold told trail) }
     ensures under { IfOk result (IsFitUnder input) }
 {
-    let rows = input.problem.rows.as_slice().len() as u32;
+    let Input { design, problem } = input;
+    let rows = problem.rows.as_slice().len() as u32;
     let segments = list_of(alloc, told.segment)?;
     let scores = list_of(alloc, told.scores)?;
     Ok(Fit {
         kept: rows,
-        dropped: input.design.dropped,
-        names: input.design.names,
+        dropped: design.dropped,
+        names: design.names,
         data_rows: rows,
-        problem: input.problem,
+        problem,
         process: Process { segments, trail },
         scores,
     })
@@ -135,6 +137,7 @@ fn fit_input(alloc: Global, job: &FitJob, input: Input) -> Result<Fit, Halt>
     requires high { rational (value job.now.lo) ≤ℚ whole (pos 1) }
     requires data { HasDataRows input }
     ensures right { IfOk result (IsFitOf job.now input) }
+    ensures printable { IfOk result (λ fit. IsPrintable (reports.Process fit)) }
     ensures cause { IfErr result (HasProblemCause job.now input.problem) }
 {
     let solved = match solve_at(alloc, &input.problem, job.lo, job.limit) {
@@ -159,14 +162,11 @@ pub(crate) fn fit_bytes(alloc: Global, job: &FitJob, bytes: &[u8]) -> Result<Fit
     requires long { length job.now.formula < 2 ^ 31 }
     requires short { length bytes.now ≤ 2 ^ 26 }
     ensures right { IfOk result (IsFitOfBytes job.now bytes.now) }
+    ensures printable { IfOk result (λ fit. IsPrintable (reports.Process fit)) }
     ensures cause { IfErr result (HasFitCause job.now bytes.now) }
 {
-    let input = match read_input(alloc, job, bytes) {
-        Ok(input) => input,
-        Err(halt) => return Err(halt),
-    };
-    match fit_input(alloc, job, input) {
-        Ok(fit) => Ok(fit),
+    match read_input(alloc, job, bytes) {
+        Ok(input) => fit_input(alloc, job, input),
         Err(halt) => Err(halt),
     }
 }

@@ -1,9 +1,8 @@
 //! The lines of stops of the solver, byte for byte.
-use crate::fault_line;
-use crate::report::{Fault, Halt, Place, Refusal};
 use frac_core::OpKind::{self, Add, Div, Mul, Sub};
 use frac_core::{Exact, Frac128, List};
 use loss_model::{Quantity, Site, Spill, Trail};
+use report_text::{Fault, Halt, Place, Refusal, fault_line};
 use std::alloc::Global;
 use std::process::Abort;
 use std::test::Fail;

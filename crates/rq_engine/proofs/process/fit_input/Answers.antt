@@ -1,4 +1,4 @@
-use Rattle.std.proofs.Common.{sym, ◌∙◌}
+use Rattle.std.proofs.Common.{arith, length, ap, sym, ◌∙◌}
 use Rattle.exact_algebra.specs.Fraction.{rational}
 use Rattle.loss_model.specs.Problem.{sample}
 use Rattle.report_text.specs.ReportText.{value}
@@ -35,3 +35,9 @@ returns-in-Ok-fit_of-clause-right c =
           (data_costs (sample value c.args.input.problem) theta c.requires.low c.requires.high c.requires.data.each) c.in-Ok.ensures.short c.in-Ok-tell.ensures.told c.in-Ok-fit_of.fit
           c.in-Ok-fit_of.ensures.told under.problem_is (under.data_rows ∙ sym c.requires.data.size);
     }
+
+pub returns-in-Ok-fit_of-clause-printable : goal.returns-in-Ok-fit_of-clause-printable
+returns-in-Ok-fit_of-clause-printable c =
+    let told = c.in-Ok-fit_of.ensures.told in
+    let under = c.in-Ok-fit_of.ensures.under in
+    (ap length told.scores ∙ sym (ap length told.segments), omega (arith, under.data_rows, c.requires.data.size, ap (λ p. length p.rows) under.problem_is))
