@@ -1,16 +1,16 @@
 //! The top call.
 ghost use Rattle.std.specs.Prelude.{◌≡◌, ◌≢◌, ◌⊎◌, ◌<◌, ◌≤◌, map, true, string_bytes, IfOk, IfErr, OnOk};
 ghost use Rattle.rq_engine.specs.Point.{IsBuilt, IsJobOf};
-ghost use Rattle.rq_engine.specs.ReportText.{report_text};
+ghost use Rattle.report_text.specs.ReportText.{report_text};
 ghost use Rattle.rq_cli.specs.Outcomes.{is_fault, outcome_line, stream, AskBuilt, HasCause, IsAnswered, IsRun};
 ghost use Rattle.rq_cli.specs.Steps.{outcome_of, IsWordOutcome, WasTold, WasPrinted};
 
 use crate::outcome::Outcome;
 use port_io::{Failed, ReadFault, Sink, Source, read_all, write_all};
-use rq_engine::{
-    Fault, Halt, MEMORY_LINE, Refusal, Report, SINK_LINE, SOURCE_LINE, answer, fault_line,
-    is_built, report_bytes,
+use report_text::{
+    Fault, Halt, MEMORY_LINE, Refusal, Report, SINK_LINE, SOURCE_LINE, fault_line, report_bytes,
 };
+use rq_engine::{answer, is_built};
 use rq_words::{Job, WordFault, read_words};
 use std::alloc::Global;
 use std::thread::Threads;
