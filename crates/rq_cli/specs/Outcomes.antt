@@ -7,12 +7,12 @@ use Rattle.rq_words.specs.Words.{words_of}
 use Rattle.rq_words.specs.declared.job.Job.{Job}
 use Rattle.rq_engine.specs.Answers as engine
 use Rattle.rq_engine.specs.Answers.{IsRight}
-use Rattle.rq_engine.specs.FaultText.{source_line, sink_line, memory_line, halt_line, usage_line}
-use Rattle.rq_engine.specs.ReportText.{report_text}
-use Rattle.rq_engine.specs.declared.report.Refusal.TheVariants.{TooLong}
-use Rattle.rq_engine.specs.declared.report.Report.{Report}
-use Rattle.rq_engine.specs.declared.report.Halt.{Halt}
-use Rattle.rq_engine.specs.declared.report.Halt.TheVariants as halts
+use Rattle.report_text.specs.FaultText.{source_line, sink_line, memory_line, halt_line, usage_line}
+use Rattle.report_text.specs.ReportText.{report_text}
+use Rattle.report_text.specs.declared.report.Refusal.TheVariants.{TooLong}
+use Rattle.report_text.specs.declared.report.Report.{Report}
+use Rattle.report_text.specs.declared.report.Halt.{Halt}
+use Rattle.report_text.specs.declared.report.Halt.TheVariants as halts
 use Rattle.rq_engine.specs.Point.{IsBuilt, IsJobOf}
 use Rattle.rq_cli.specs.declared.outcome.Outcome.{Outcome}
 use Rattle.rq_cli.specs.declared.outcome.Outcome.TheVariants.{Done, Refused, Usage, SourceFault, SinkFault, OutOfMemory, PivotLimit, Overflow, NotBuilt}

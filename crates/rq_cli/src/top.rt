@@ -1,16 +1,15 @@
 //! The top call.
 ghost use Rattle.std.specs.Prelude.{◌≡◌, ◌≢◌, ◌⊎◌, ◌<◌, ◌≤◌, map, string_bytes, IfOk, IfErr, OnOk};
 ghost use Rattle.rq_engine.specs.Point.{IsBuilt, IsJobOf};
-ghost use Rattle.rq_engine.specs.ReportText.{report_text};
+ghost use Rattle.report_text.specs.ReportText.{report_text};
 ghost use Rattle.rq_cli.specs.Outcomes.{outcome_line, stream, AskBuilt, IsAnswered, IsFault, IsRun};
 ghost use Rattle.rq_cli.specs.Steps.{outcome_of, IsWordTrouble, WasTold, WasPrinted};
 
 use crate::outcome::Outcome;
 use crate::trouble::Trouble;
 use port_io::{Failed, ReadFault, Sink, Source, read_all, write_all};
-use rq_engine::{
-    Halt, MEMORY_LINE, Refusal, Report, SINK_LINE, SOURCE_LINE, answer, is_built, report_bytes,
-};
+use report_text::{Halt, MEMORY_LINE, Refusal, Report, SINK_LINE, SOURCE_LINE, report_bytes};
+use rq_engine::{answer, is_built};
 use rq_words::{Job, WordFault, read_words};
 use std::alloc::Global;
 use std::thread::Threads;

@@ -5,7 +5,7 @@ ghost use Rattle.rq_cli.specs.Steps.{outcome_of};
 
 use crate::outcome::Outcome;
 use frac_core::OutOfMemory;
-use rq_engine::{Fault, Halt, fault_line};
+use report_text::{Fault, Halt, fault_line};
 use rq_words::WordFault;
 use std::alloc::Global;
 
