@@ -1,7 +1,7 @@
 #!/usr/bin/env bash
 # Runs the program that the gate has built, and compares its exit status, standard output and standard
 # error byte for byte. The lines expected were written by hand, from the table of exit statuses in
-# README.md. It prints nothing where all is well.
+# docs/MANUAL.md. It prints nothing where all is well.
 cd "$(dirname "$0")/.." || exit 1
 program=$PWD/crates/quantreg/out/quantreg
 table=$PWD/examples/stackloss.csv
