@@ -4,6 +4,7 @@ use Rattle.exact_algebra.specs.Rational.{ℚ, ◌*ℚ◌, whole, ◌≤ℚ◌, q
 use Rattle.exact_algebra.specs.Fraction.{Fraction, rational, common}
 use Rattle.loss_model.specs.declared.problem.Problem.{Problem}
 use Rattle.loss_model.specs.declared.vertex.Side.{Side}
+use Rattle.loss_model.specs.declared.vertex.Side.TheVariants.{Up, Down}
 use Rattle.loss_model.specs.declared.vertex.Vertex.{Vertex}
 use Rattle.loss_model.specs.Sample.{Sample, residual, loss, Minimises}
 use Rattle.loss_model.specs.Dual.{IsFeasible, dual_objective, IsDual, mix, IsDataRow, rankscore}
@@ -77,6 +78,25 @@ abbrev pub RankscoresAreBounded : Type 0
 RankscoresAreBounded =
     (p : Sample) (theta : ℚ) (e : ℕ → ℚ) (i : ℕ) → IsFeasible p theta e → i < p.rows → IsDataRow p i
     → (whole (pos 0) ≤ℚ rankscore p theta e i) × (rankscore p theta e i ≤ℚ whole (pos 1))
+
+-- a data row with the dual value of the side above the fit has the rankscore 1
+abbrev pub AboveScoresOne : Type 0
+AboveScoresOne =
+    (p : Sample) (theta : ℚ) (e basic : ℕ → ℚ) (i : ℕ) → IsDataRow p i
+    → e i ≡ value_of_side p theta basic i Up → rankscore p theta e i ≡ whole (pos 1)
+
+-- and one with that of the side below it has the rankscore 0
+abbrev pub BelowScoresZero : Type 0
+BelowScoresZero =
+    (p : Sample) (theta : ℚ) (e basic : ℕ → ℚ) (i : ℕ) → IsDataRow p i
+    → e i ≡ value_of_side p theta basic i Down → rankscore p theta e i ≡ whole (pos 0)
+
+-- so the side of a data row that is outside the basis of a vertex is its rankscore at every quantile
+abbrev pub SidesAreScores : {F : Type 0} → (F → Fraction) → Problem F → Vertex F → Type 0
+SidesAreScores {F} value p v =
+    (theta : ℚ) (basic : List F) (i : ℕ) → IsDataRow (sample value p) i
+    → (slice_get v.sides i ≡ Some Up → rankscore (sample value p) theta (dual_value value p v basic theta) i ≡ whole (pos 1))
+    × (slice_get v.sides i ≡ Some Down → rankscore (sample value p) theta (dual_value value p v basic theta) i ≡ whole (pos 0))
 
 -- the loss in whole numbers at c/d and s/t is that in fractions, in units of 1/(Q*t * Q*d)
 abbrev pub LossInIntegers : {F : Type 0} → (F → Fraction) → Problem F → Type 0

@@ -1,6 +1,6 @@
 //! The laws of losses and dual values. No function here does anything: its contract is the law.
 
-ghost use Rattle.loss_model.specs.Laws.{WeakDuality, DualsShowMinimum, DualsAreGreatest, SidesShowDuals, VertexIsDual, MixIsDual, IntervalIsMixes, MinimisesBetween, CoversEveryValue, RankscoresAreBounded, DualsShowMinimumInIntegers, MixIsDualInIntegers, LossInIntegers, MinimisesInIntegers, DualsInIntegers, ListIsOver};
+ghost use Rattle.loss_model.specs.Laws.{WeakDuality, DualsShowMinimum, DualsAreGreatest, SidesShowDuals, VertexIsDual, MixIsDual, IntervalIsMixes, MinimisesBetween, CoversEveryValue, RankscoresAreBounded, AboveScoresOne, BelowScoresZero, SidesAreScores, DualsShowMinimumInIntegers, MixIsDualInIntegers, LossInIntegers, MinimisesInIntegers, DualsInIntegers, ListIsOver};
 
 use crate::problem::Problem;
 use crate::vertex::Vertex;
@@ -41,6 +41,13 @@ pub fn covers_every_value()
 /// The rankscore of a data row is at least 0 and at most 1.
 pub fn rankscore_bounds()
     ensures { RankscoresAreBounded }
+{}
+
+/// The rankscore of a data row outside a basis: 1 on the side above the fit, and 0 on the one below.
+pub fn rankscores_outside<F: Exact>(problem: &Problem<F>, vertex: &Vertex<F>)
+    ensures above { AboveScoresOne }
+    ensures below { BelowScoresZero }
+    ensures vertex { SidesAreScores F.value problem.now vertex.now }
 {}
 
 /// Dual values show a minimum, and mix.
