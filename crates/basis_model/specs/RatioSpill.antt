@@ -8,7 +8,7 @@ use Rattle.loss_model.specs.declared.spill.Quantity.TheVariants.{PerturbedRatio}
 use Rattle.loss_model.specs.declared.spill.Spill.{Spill}
 use Rattle.loss_model.specs.declared.vertex.Side.{Side}
 use Rattle.loss_model.specs.Spill.{abs_ℚ}
-use Rattle.perturbation.specs.Perturbed.{Nonbasic, perturbed, perturbed_side, ratio_on}
+use Rattle.basis_model.specs.Perturbed.{Nonbasic, perturbed, perturbed_side, ratio_on}
 
 -- the division of an entry of a perturbed residual by the size of a coordinate overflows; it makes
 -- entry m of the perturbed ratio of a row at a position

@@ -2,8 +2,8 @@
 use Rattle.std.specs.Prelude.{◌≡◌, ◌≢◌, ◌↔◌, ◌⊎◌, ℕ, suc, ◌<◌, pos}
 use Rattle.std.specs.declared.cmp.Ordering.TheVariants.{Less, Equal}
 use Rattle.exact_algebra.specs.Rational.{ℚ, whole}
-use Rattle.perturbation.specs.Lexicographic.{lex_cmp, IsLessAt}
-use Rattle.perturbation.specs.Perturbed.{Nonbasic, IsOutside, perturbed, zeros, ratio}
+use Rattle.basis_model.specs.Lexicographic.{lex_cmp, IsLessAt}
+use Rattle.basis_model.specs.Perturbed.{Nonbasic, IsOutside, perturbed, zeros, ratio}
 
 -- a list is less than another where it is at the first entry that differs
 abbrev pub LessAtFirstDifference : Type 0

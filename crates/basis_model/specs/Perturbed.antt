@@ -15,7 +15,7 @@ use Rattle.loss_model.specs.declared.vertex.Side.{Side}
 use Rattle.loss_model.specs.declared.vertex.Side.TheVariants.{Up, Down}
 use Rattle.loss_model.specs.Problem.{value_at}
 use Rattle.loss_model.specs.Spill.{abs_ℚ}
-use Rattle.perturbation.specs.Lexicographic.{lex_cmp}
+use Rattle.basis_model.specs.Lexicographic.{lex_cmp}
 
 -- a row outside a basis: its number, its residual, and its coordinates by position
 pub record Nonbasic : Type 0 where

@@ -7,8 +7,8 @@ use Rattle.std.specs.Ordering.{ordering_then}
 use Rattle.std.proofs.Common.{arith, refl, ap, ap₂}
 use Rattle.exact_algebra.specs.Rational.{ℚ, neg_ℚ, whole}
 use Rattle.exact_algebra.specs.Order.{cmp_ℚ}
-use Rattle.perturbation.specs.Lexicographic.{lex_cmp, lex_cmp-first}
-use Rattle.perturbation.specs.Perturbed.{Nonbasic, held_coordinate, perturbed, zeros, side_of, perturbed_side}
+use Rattle.basis_model.specs.Lexicographic.{lex_cmp, lex_cmp-first}
+use Rattle.basis_model.specs.Perturbed.{Nonbasic, held_coordinate, perturbed, zeros, side_of, perturbed_side}
 
 module _ (n : ℕ) (at : ℕ → ℕ) (u : Nonbasic) where
   pub first_sign : (rows m : ℕ) → m < suc rows → ((i : ℕ) → i < m → perturbed n at u i ≡ whole (pos 0)) → perturbed n at u m ≢ whole (pos 0) → perturbed_side rows n at u ≡ side_of (cmp_ℚ (perturbed n at u m) (whole (pos 0)))

@@ -1,6 +1,6 @@
-use Rattle.perturbation.specs.Lexicographic.{less_at, first_less, less-trans}
-use Rattle.perturbation.proofs.Ordered.{one_way}
-use Rattle.perturbation.proofs.laws.lexicographic_order.Goals as goal
+use Rattle.basis_model.specs.Lexicographic.{less_at, first_less, less-trans}
+use Rattle.basis_model.proofs.Ordered.{one_way}
+use Rattle.basis_model.proofs.laws.lexicographic_order.Goals as goal
 
 pub returns : goal.returns
 returns c =

@@ -1,6 +1,6 @@
 //! The laws of the order. Each function does nothing: its contract is the law.
 
-ghost use Rattle.perturbation.specs.Laws.{LessAtFirstDifference, LessIsTransitive, LessIsOneWay, PerturbedIsNotZero, RatiosAreOrdered};
+ghost use Rattle.basis_model.specs.Laws.{LessAtFirstDifference, LessIsTransitive, LessIsOneWay, PerturbedIsNotZero, RatiosAreOrdered};
 
 /// Lists are compared at the first entry that differs, which is a strict order.
 pub fn lexicographic_order()

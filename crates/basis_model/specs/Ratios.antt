@@ -13,7 +13,7 @@ use Rattle.exact_algebra.specs.Order.{cmp_ℚ, cmp_ℚ-Less, cmp_ℚ-Greater, in
 use Rattle.loss_model.specs.declared.vertex.Side.{Side}
 use Rattle.loss_model.specs.declared.vertex.Side.TheVariants.{Up, Down, Basic}
 use Rattle.loss_model.specs.Spill.{abs_ℚ}
-use Rattle.perturbation.specs.Perturbed.{Nonbasic, turned, ratio_on, held_coordinate-none, perturbed-own, perturbed-other}
+use Rattle.basis_model.specs.Perturbed.{Nonbasic, turned, ratio_on, held_coordinate-none, perturbed-own, perturbed-other}
 
 zero_neg : neg_ℚ (whole (pos 0)) ≡ whole (pos 0)
 zero_neg = ring_ℚ [] (negated (number (pos 0))) (number (pos 0)) refl
