@@ -1,7 +1,7 @@
 #!/bin/sh
 # Times solves at the median. It copies the crates that the benchmark stands on into a folder of its own, adds the program
 # beside this script, and runs it: a benchmark is no part of what is proved and handed in. The two proofs that the program
-# needs are those of the same functions in br_pivot's tests.
+# needs are those of the same functions in the solver's tests.
 set -eu
 here=$(cd "$(dirname "$0")" && pwd)
 work=${1:-$(mktemp -d)}
@@ -16,7 +16,7 @@ echo 'solve_bench: exact_algebra frac_core loss_model pivot_rule br_pivot anyhow
 cp "$here/solve_bench.txt" "$work/crates/solve_bench/src/main.rt"
 for proof in has_costs/Invariants is_negative/Answers; do
     mkdir -p "$work/crates/solve_bench/proofs/${proof%/*}"
-    sed 's/Rattle.br_pivot.proofs.tests/Rattle.solve_bench.proofs/' "$here/../../crates/br_pivot/proofs/tests/$proof.antt" \
+    sed 's/Rattle.solver_tests.proofs.helpers/Rattle.solve_bench.proofs/' "$here/../../crates/solver_tests/proofs/helpers/$proof.antt" \
         >"$work/crates/solve_bench/proofs/$proof.antt"
 done
 cd "$work/crates/solve_bench"

@@ -7,6 +7,7 @@
 //!
 //! Everything together costs O(rows * columns) operations on fractions and O(columns^2) more; all
 //! coordinates of a row are looked at only where its residual is 0.
+//! Its tests stand in the crate `solver_tests`.
 #![tactic(auto)]
 
 mod columns;
@@ -15,8 +16,6 @@ mod duals;
 mod primal;
 mod signs;
 mod solution;
-#[cfg(test)]
-mod tests;
 
 pub use columns::totals;
 pub use coordinates::{coordinates_at, row_coordinates};

@@ -1,4 +1,4 @@
--- The line along which a position leaves, and the rows that move on it.
+-- Inner. The line along which a position leaves, and the rows that move on it.
 use Rattle.std.specs.Prelude.{◌≡◌, ◌≢◌, ℕ, ◌<◌, Bool, true, ◌&&◌, List, length, slice_get, slice_index, Some}
 use Rattle.std.specs.Option.{option_map_or}
 use Rattle.exact_algebra.specs.Fraction.{Fraction, rational}

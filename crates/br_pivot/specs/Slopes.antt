@@ -1,4 +1,4 @@
--- The slopes of the loss by the dual values at the positions.
+-- Inner. The slopes of the loss by the dual values at the positions.
 use Rattle.std.specs.Prelude.{◌≡◌, ◌⊎◌, ℕ, ◌<◌, Option, Some, None, pos}
 use Rattle.exact_algebra.specs.Fraction.{Fraction, rational}
 use Rattle.exact_algebra.specs.Rational.{ℚ, ◌+ℚ◌, ◌-ℚ◌, whole, ◌≤ℚ◌}

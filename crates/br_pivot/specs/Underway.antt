@@ -1,4 +1,4 @@
--- A solve under way.
+-- Inner. A solve under way.
 use Rattle.std.specs.Prelude.{◌≡◌, ◌+◌, ℕ, length, slice_index, Option, Some, None}
 use Rattle.exact_algebra.specs.Fraction.{Fraction}
 use Rattle.exact_algebra.specs.Rational.{ℚ}

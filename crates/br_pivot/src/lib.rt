@@ -6,6 +6,7 @@
 //! what it had to stop for. It stands on `pivot_rule` for the definitions and their laws, on
 //! `basis_inverse` for the start and the inverse, on `basic_solution` for the quantities at a
 //! basis, and on `lex_rule` for the order of ties.
+//! Its tests stand in the crate `solver_tests`.
 #![tactic(auto)]
 
 mod heap;
@@ -17,8 +18,6 @@ mod slopes;
 mod solve;
 mod standing;
 mod step;
-#[cfg(test)]
-mod tests;
 mod vertex;
 
 pub use solve::{Solved, solve_at};

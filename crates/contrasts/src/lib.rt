@@ -7,6 +7,7 @@
 //!
 //! The crate's one contract: each entry and each name is that of the table in `specs/Coding.antt`.
 //! It stands on `frac_core` for texts alone.
+//! Its tests stand in the crate `ground_tests`.
 #![tactic(auto)]
 
 ghost use Rattle.std.specs.Prelude.{◌≡◌, ◌<◌, ◌≤◌, ◌^◌, ◌++◌, length, IfOk, decimal, string_bytes};
@@ -111,6 +112,3 @@ fn with_number(alloc: Global, variable: &str, number: u32) -> Result<String, All
 {
     format!(in alloc; "{variable}{number}")
 }
-
-#[cfg(test)]
-mod tests;

@@ -25,6 +25,7 @@
 //!
 //! It stands on `csv` for the records, on `indexmap` for the places of names, and on `frac_core`
 //! for numbers and texts.
+//! Its tests stand in the crate `input_tests`.
 #![tactic(auto)]
 
 mod cell;
@@ -38,6 +39,3 @@ mod rows;
 pub use column::Column;
 pub use fault::TableFault;
 pub use frame::{Frame, read_table};
-
-#[cfg(test)]
-mod tests;

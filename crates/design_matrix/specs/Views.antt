@@ -1,4 +1,4 @@
--- How contracts see what the code holds of variables and columns.
+-- Inner. How contracts see what the code holds of variables and columns.
 use Rattle.std.specs.Prelude.{List, Vec, map}
 use Rattle.std.specs.declared.alloc.Global.{Global}
 use Rattle.design_matrix.specs.declared.coded.Values.{Values as Held}

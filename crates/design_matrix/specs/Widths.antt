@@ -1,4 +1,4 @@
--- How many columns and levels a variable has that the code holds.
+-- Inner. How many columns and levels a variable has that the code holds.
 use Rattle.std.specs.Prelude.{◌≤◌, ℕ, length}
 use Rattle.contrasts.specs.declared.Coding.{Coding}
 use Rattle.contrasts.specs.Coding.{width_of}

@@ -21,6 +21,7 @@
 //!
 //! It stands on `data_frame` for tables, on `formula_parser` for formulas, on `contrasts` for
 //! codings, and on `loss_model` for the place of an operation that overflows.
+//! Its tests stand in the crate `input_tests`.
 #![tactic(auto)]
 
 mod builder;
@@ -39,6 +40,3 @@ mod used;
 pub use builder::build;
 pub use design::{Design, DesignRow};
 pub use fault::DesignFault;
-
-#[cfg(test)]
-mod tests;

@@ -1,4 +1,4 @@
--- What a token does to a half read formula: the formula then, or none where it can't stand there.
+-- Inner. What a token does to a half read formula: the formula then, or none where it can't stand there.
 use Rattle.std.specs.Prelude.{◌≡◌, ℕ, ◌==◌, Bool, true, false, not, List, [], ◌∷◌, ◌++◌, length, Option, Some, None, if◌then◌else◌}
 use Rattle.formula_grammar.specs.declared.token.Span.{Span}
 use Rattle.formula_grammar.specs.declared.token.Sign.{Sign}

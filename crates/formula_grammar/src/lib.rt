@@ -34,6 +34,7 @@
 //! stack of its own: no call is nested more deeply for a deeper or longer formula.
 //!
 //! It stands on `frac_core`, for number texts, lists and `OutOfMemory`.
+//! Its tests stand in the crate `input_tests`.
 #![tactic(auto)]
 
 mod fault;
@@ -52,6 +53,3 @@ pub use lexer::tokens_of;
 pub use reader::read;
 pub use reading::{Reading, SmoothPart, Step};
 pub use token::{Kind, Numeral, Sign, Span, Token, Whole};
-
-#[cfg(test)]
-mod tests;

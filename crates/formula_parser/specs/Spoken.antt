@@ -1,4 +1,4 @@
--- What the code of a formula says over the columns of a table.
+-- Inner. What the code of a formula says over the columns of a table.
 use Rattle.std.specs.Prelude.{◌≡◌, ◌^◌, ◌-◌, ℕ, List, map, Result, Ok, Err}
 use Rattle.std.specs.Str.{IsUtf8}
 use Rattle.std.specs.Result.{is_ok}

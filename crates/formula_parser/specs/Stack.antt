@@ -1,4 +1,4 @@
--- The steps of a formula's code on a stack of meanings, the top first. A missing operand is the empty list.
+-- Inner. The steps of a formula's code on a stack of meanings, the top first. A missing operand is the empty list.
 use Rattle.std.specs.Prelude.{◌≡◌, ℕ, Bool, List, [], ◌∷◌, Result, Ok, Err}
 use Rattle.formula_grammar.specs.declared.token.Span.{Span}
 use Rattle.formula_grammar.specs.declared.reading.Step.{Step}

@@ -1,4 +1,4 @@
--- The faults of the steps of parsing as faults of the whole.
+-- Inner. The faults of the steps of parsing as faults of the whole.
 use Rattle.formula_grammar.specs.declared.fault.ReadFault.{ReadFault}
 use Rattle.formula_grammar.specs.declared.fault.ReadFault.TheVariants as read
 use Rattle.formula_parser.specs.declared.evaluation.Halt.{Halt}

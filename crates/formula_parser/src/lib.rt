@@ -32,6 +32,7 @@
 //!
 //! It stands on `formula_grammar` for the code of a formula, and on `frac_core` for texts, lists and
 //! fractions.
+//! Its tests stand in the crate `input_tests`.
 #![tactic(auto)]
 
 mod crossing;
@@ -46,6 +47,3 @@ mod term_set;
 pub use fault::FormulaFault;
 pub use formula::{Formula, Smooth, Term, Variable};
 pub use parsing::parse;
-
-#[cfg(test)]
-mod tests;

@@ -112,6 +112,3 @@ pub trait Exact: Copy + Send + Sync {
 
     ghost range_is_wide: { 2 ^ 63 - 1 ≤ range };
 }
-
-#[cfg(test)]
-mod tests;

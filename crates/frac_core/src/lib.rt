@@ -5,6 +5,7 @@
 //! implement it. `read_number` and `number_text` read and write their texts, for every type that
 //! implements it. The crate stands on `exact_algebra`, whose field ℚ its clauses speak of, and on
 //! `itoa` for the digits of whole numbers.
+//! Its tests stand in the crate `ground_tests`.
 #![tactic(auto)]
 
 mod bounded;

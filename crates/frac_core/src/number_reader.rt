@@ -215,6 +215,3 @@ fn scaled(number: u128, up: u128, down: u128, limit: u128) -> Result<Written, Nu
         _ => Err(NumberFault::TooWide),
     }
 }
-
-#[cfg(test)]
-mod tests;

@@ -1,4 +1,4 @@
--- The rows whose perturbed ratios are compared.
+-- Inner. The rows whose perturbed ratios are compared.
 use Rattle.std.specs.Prelude.{◌≡◌, ◌≢◌, ℕ, ◌<◌, List, length, slice_index, pos}
 use Rattle.exact_algebra.specs.Fraction.{Fraction, rational}
 use Rattle.exact_algebra.specs.Rational.{whole}

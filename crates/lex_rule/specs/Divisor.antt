@@ -1,4 +1,4 @@
--- An entry of a perturbed ratio by what all its entries share.
+-- Inner. An entry of a perturbed ratio by what all its entries share.
 use Rattle.std.specs.Prelude.{ℕ}
 use Rattle.exact_algebra.specs.Fraction.{Fraction, rational}
 use Rattle.exact_algebra.specs.Rational.{ℚ, ◌*ℚ◌, inverse}

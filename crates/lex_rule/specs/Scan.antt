@@ -1,4 +1,4 @@
--- The least row of a basis in a range that has a coordinate.
+-- Inner. The least row of a basis in a range that has a coordinate.
 use Rattle.std.specs.Prelude.{◌≡◌, ℕ, ◌<◌, ◌≤◌, Option, Some, None, pos}
 use Rattle.exact_algebra.specs.Rational.{ℚ, whole}
 

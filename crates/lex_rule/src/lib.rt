@@ -4,14 +4,13 @@
 //! the lists that `perturbation` defines over all rows of a problem. The code looks only at entries
 //! that can differ: the residual, those of the basis's rows in ascending order, and those of the rows
 //! themselves. It takes no memory. It stands on `perturbation`, and on `loss_model` for the types.
+//! Its tests stand in the crate `solver_tests`.
 #![tactic(auto)]
 
 mod less;
 mod quotient;
 mod scan;
 mod sign;
-#[cfg(test)]
-mod tests;
 
 pub use less::{Ratio, lex_less};
 pub use sign::lex_sign;

@@ -1,4 +1,4 @@
--- Full rank: the columns of a problem are independent.
+-- Stated. Full rank: the columns of a problem are independent.
 use Rattle.std.specs.Prelude.{◌≡◌, ◌≢◌, ◌↔◌, ℕ, ◌<◌, ℤ, pos, ◌*ℤ◌}
 use Rattle.exact_algebra.specs.Rational.{ℚ, whole}
 use Rattle.exact_algebra.specs.Fraction.{Fraction}

@@ -1,4 +1,4 @@
--- What the laws of quantile regression say; each is the contract of a function.
+-- Law. What the laws of quantile regression say; each is the contract of a function (Koenker 2005, chapter 6).
 use Rattle.std.specs.Prelude.{◌≡◌, ◌↔◌, ℕ, ◌+◌, ◌*◌, ◌<◌, ◌≤◌, List, length, map, slice_get, Some, ℤ, pos}
 use Rattle.exact_algebra.specs.Rational.{ℚ, ◌*ℚ◌, whole, ◌≤ℚ◌, quotient}
 use Rattle.exact_algebra.specs.Fraction.{Fraction, rational, common}

@@ -1,4 +1,4 @@
--- The same regression in whole numbers: every value of a problem times the product Q of all its
+-- Stated. The same regression in whole numbers: every value of a problem times the product Q of all its
 -- denominators. Nothing here is a fraction, so that it can be read with no knowledge of ℚ.
 use Rattle.std.specs.Prelude.{◌≡◌, ℕ, ◌<◌, ◌≤◌, ◌+◌, ◌*◌, List, [], ◌∷◌, ◌++◌, length, map, slice_get, ℤ, pos, ◌+ℤ◌, ◌-ℤ◌, ◌*ℤ◌, ◌≤ℤ◌, neg_ℤ}
 use Rattle.std.specs.Option.{option_map_or}
@@ -53,6 +53,7 @@ scaled_by value q p =
       down1 = of_row p.rows (λ r. over q (value r.down1));
     }
 
+-- the problem in units of 1/Q
 abbrev pub scaled : {F : Type 0} → (F → Fraction) → Problem F → Scaled
 scaled value p = scaled_by value (unit value p) p
 
@@ -60,6 +61,7 @@ scaled value p = scaled_by value (unit value p) p
 abbrev pub up_cost : Scaled → Fraction → ℕ → ℤ
 up_cost p theta i = (p.up0 i *ℤ pos theta.den) +ℤ (p.up1 i *ℤ theta.num)
 
+-- and below the fit
 abbrev pub down_cost : Scaled → Fraction → ℕ → ℤ
 down_cost p theta i = (p.down0 i *ℤ pos theta.den) +ℤ (p.down1 i *ℤ theta.num)
 
@@ -67,11 +69,13 @@ down_cost p theta i = (p.down0 i *ℤ pos theta.den) +ℤ (p.down1 i *ℤ theta.
 abbrev pub residual : Scaled → (ℕ → ℤ) → ℕ → ℕ → ℤ
 residual p c d i = (p.y i *ℤ pos d) -ℤ sum_to p.columns (λ k. p.x i k *ℤ c k)
 
+-- the loss of row i, times t and d
 abbrev pub row_loss : Scaled → Fraction → (ℕ → ℤ) → ℕ → ℕ → ℤ
 row_loss p theta c d i =
     let r = residual p c d i in
     (up_cost p theta i *ℤ positive_part r) +ℤ (down_cost p theta i *ℤ negative_part r)
 
+-- the loss of the coefficients, times t and d
 abbrev pub loss : Scaled → Fraction → (ℕ → ℤ) → ℕ → ℤ
 loss p theta c d = sum_to p.rows (row_loss p theta c d)
 

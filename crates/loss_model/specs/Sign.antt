@@ -1,4 +1,4 @@
--- Products of the items of two lists, the left ones taken as they are or negated.
+-- Inner. Products of the items of two lists, the left ones taken as they are or negated.
 use Rattle.std.specs.Prelude.{List, length}
 use Rattle.exact_algebra.specs.Fraction.{Fraction, rational}
 use Rattle.exact_algebra.specs.Rational.{ℚ, neg_ℚ}

@@ -4,6 +4,7 @@
 //! The one contract for the layers above: `loss_at` is the plain sum of the check loss, and dual
 //! values of equal cost show that coefficients minimise it. The crate stands on exact fractions
 //! (`frac_core`) and on the algebra below them (`exact_algebra`).
+//! Its tests stand in the crate `ground_tests`.
 #![tactic(auto)]
 
 pub mod full_rank;
@@ -24,6 +25,3 @@ pub use sites::{Sign, minus_at, over_at, plus_at, plus_product, sum_of_products,
 pub use spill::{Quantity, Short, Site, Spill};
 pub use stop::Stop;
 pub use vertex::{Basis, Side, Vertex};
-
-#[cfg(test)]
-mod tests;

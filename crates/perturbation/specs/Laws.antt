@@ -1,4 +1,4 @@
--- What the laws of the order say; each is a clause of a function.
+-- Law. What the laws of the order say; each is a clause of a function.
 use Rattle.std.specs.Prelude.{◌≡◌, ◌≢◌, ◌↔◌, ◌⊎◌, ℕ, suc, ◌<◌, pos}
 use Rattle.std.specs.declared.cmp.Ordering.TheVariants.{Less, Equal}
 use Rattle.exact_algebra.specs.Rational.{ℚ, whole}
@@ -10,6 +10,7 @@ abbrev pub LessAtFirstDifference : Type 0
 LessAtFirstDifference =
     (n : ℕ) (u v : ℕ → ℚ) → (lex_cmp n u v ≡ Less) ↔ ((place : ℕ) × (place < n) × IsLessAt u v place)
 
+-- a list that is less than one that is less than a third is less than that
 abbrev pub LessIsTransitive : Type 0
 LessIsTransitive =
     (n : ℕ) (u v w : ℕ → ℚ) → lex_cmp n u v ≡ Less → lex_cmp n v w ≡ Less → lex_cmp n u w ≡ Less

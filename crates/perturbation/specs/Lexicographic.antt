@@ -1,4 +1,4 @@
--- Lists of fractions, compared at the first entry that differs. A list is a function of the index,
+-- Stated. Lists of fractions, compared at the first entry that differs. A list is a function of the index,
 -- from 0, and a number of entries.
 --
 --     lex_cmp n u v ≡ Equal, Less           lex_cmp-Equal and same_from-lex_cmp; less_at and first_less

@@ -1,4 +1,4 @@
--- The perturbation by which ties are broken: every response is raised by an infinitely small amount
+-- Stated. The perturbation by which ties are broken: every response is raised by an infinitely small amount
 -- of its own, each infinitely larger than those of all later rows. What was a number becomes a list:
 -- the number, and its factor of each amount, in the order of the rows (Charnes 1952; Dantzig, Orden
 -- and Wolfe 1955, for linear programs).
@@ -39,6 +39,7 @@ abbrev pub perturbed : ℕ → (ℕ → ℕ) → Nonbasic → ℕ → ℚ
 perturbed n at u zero = u.residual
 perturbed n at u (suc m) = if m == u.row then whole (pos 1) else neg_ℚ (held_coordinate n at u.coord m)
 
+-- the list of zeros
 abbrev pub zeros : ℕ → ℚ
 zeros m = whole (pos 0)
 

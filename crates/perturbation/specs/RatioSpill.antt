@@ -1,4 +1,4 @@
--- The operations of perturbed ratios that overflow.
+-- Stated. The operations of perturbed ratios that overflow.
 use Rattle.std.specs.Prelude.{◌≡◌, ◌⊎◌, ℕ, ◌<◌, ◌≤◌}
 use Rattle.exact_algebra.specs.Fraction.{Fraction, rational}
 use Rattle.exact_algebra.specs.Rational.{ℚ}

@@ -1,4 +1,4 @@
--- Entries of perturbed ratios.
+-- Inner. Entries of perturbed ratios.
 --
 --     at row m, which is neither the row itself nor one of the basis with a coordinate    ratio-none
 --     at the row itself                                                                   ratio-own: not 0;

@@ -1,4 +1,4 @@
--- The sign of a perturbed residual, and what it depends on.
+-- Inner. The sign of a perturbed residual, and what it depends on.
 --
 --     the first entry that isn't 0 decides     first_sign; side-residual, where it is the residual
 --     rows that agree                          perturbed-same, perturbed_side-same

@@ -1,4 +1,4 @@
--- The costs at theta, and the dual values that stand at a basis.
+-- Stated. The costs at theta, and the dual values that stand at a basis.
 use Rattle.std.specs.Prelude.{ℕ, ◌<◌, pos}
 use Rattle.exact_algebra.specs.Rational.{ℚ, ◌+ℚ◌, whole, ◌≤ℚ◌}
 use Rattle.loss_model.specs.Sample.{Sample, up_cost, down_cost}

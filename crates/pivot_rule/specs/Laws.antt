@@ -1,4 +1,4 @@
--- What the laws of the pivot rule say; each is a clause of a function.
+-- Law. What the laws of the pivot rule say; each is a clause of a function (Barrodale and Roberts 1973).
 use Rattle.std.specs.Prelude.{◌≡◌, ◌≢◌, ℕ, ◌<◌, ◌≤◌, true, List, length, slice_index, if◌then◌else◌, pos}
 use Rattle.exact_algebra.specs.Fraction.{Fraction}
 use Rattle.exact_algebra.specs.Rational.{ℚ, ◌+ℚ◌, ◌-ℚ◌, ◌*ℚ◌, inverse, whole, ◌≤ℚ◌}

@@ -1,4 +1,4 @@
--- The source and the sink in memory, as contracts see them.
+-- Inner. The source and the sink in memory, as contracts see them.
 use Rattle.std.specs.Prelude.{ℕ, List, []}
 
 -- The bytes that are left, the most that a read gives, the numbers from 1 of the calls that fail,

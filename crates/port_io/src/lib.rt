@@ -8,6 +8,7 @@
 //! `read_all` and `write_all` carry that over to whole runs.
 //!
 //! It stands on `frac_core` for `OutOfMemory` alone.
+//! Its tests stand in the crate `ground_tests`.
 #![tactic(auto)]
 
 mod counts;
@@ -30,6 +31,3 @@ pub use writing::write_all;
 /// A read or a write that failed.
 #[derive(Clone, Copy, Debug, PartialEq, Eq)]
 pub struct Failed;
-
-#[cfg(test)]
-mod tests;

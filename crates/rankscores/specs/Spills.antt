@@ -1,4 +1,5 @@
--- The operations of a rankscore: the dual value over the weight, that plus 1, and that minus theta.
+-- Stated. The operations of a rankscore: the dual value over the weight, that plus 1, and that minus theta
+-- (Gutenbrunner and Jurečková 1992).
 use Rattle.std.specs.Prelude.{◌≡◌, ◌⊎◌, ℕ, ◌<◌, List, Contains, pos}
 use Rattle.exact_algebra.specs.Fraction.{Fraction, rational}
 use Rattle.exact_algebra.specs.Rational.{ℚ, ◌+ℚ◌, ◌*ℚ◌, inverse, whole}

@@ -1,4 +1,4 @@
--- The line of a fault: what failed, and by which fault with which fields.
+-- Stated. The line of a fault: what failed, and by which fault with which fields.
 use Rattle.std.specs.Prelude.{ℕ, ◌+◌, List, [], ◌++◌, codes, decimal, ◌==◌, if◌then◌else◌}
 use Rattle.data_frame.specs.declared.fault.TableFault.{TableFault}
 use Rattle.data_frame.specs.declared.fault.TableFault.TheVariants.{NoHeader, NotUtf8, Ragged, DoubleName, EmptyName, TooManyColumns, TooManyRows}
@@ -29,15 +29,19 @@ use Rattle.report_text.specs.declared.report.Halt.TheVariants.{Refused, OutOfMem
 use Rattle.report_text.specs.declared.report.Fault.{Fault}
 use Rattle.report_text.specs.declared.report.Fault.TheVariants as faults
 
+-- the line of a source that failed
 abbrev pub source_line : List ℕ
 source_line = codes "quantreg: source: SourceFault\n"
 
+-- the line of a sink that failed
 abbrev pub sink_line : List ℕ
 sink_line = codes "quantreg: sink: SinkFault\n"
 
+-- the line of want of memory
 abbrev pub memory_line : List ℕ
 memory_line = codes "quantreg: memory: OutOfMemory\n"
 
+-- the line of what this version doesn't do
 unfoldable pub not_built_line : ℕ → List ℕ
 not_built_line part = codes "quantreg: build: " ++ codes "NotBuilt part=" ++ decimal part ++ codes "\n"
 
@@ -82,6 +86,7 @@ unfoldable pub site_text : Site → List ℕ
 site_text site =
     codes " quantity=" ++ quantity_name site.quantity ++ codes " at=" ++ indices_text (indices site) ++ field (codes " term=") site.term
 
+-- both operands
 unfoldable pub operands : Frac128 → Frac128 → List ℕ
 operands left right = codes " left=" ++ number_text_of (value left) ++ codes " right=" ++ number_text_of (value right)
 
@@ -155,6 +160,7 @@ usage_line BadContrasts = codes "quantreg: usage: BadContrasts\n"
 usage_line RankHalf = codes "quantreg: usage: RankHalf\n"
 usage_line words.OutOfMemory = memory_line
 
+-- the line of each fault
 abbrev pub fault_line : Fault → List ℕ
 fault_line (faults.Usage fault) = usage_line fault.now
 fault_line faults.Source = source_line

@@ -1,4 +1,4 @@
--- How a name is printed.
+-- Stated. How a name is printed.
 use Rattle.std.specs.Prelude.{ℕ, ◌/◌, ◌%◌, Bool, List, [], ◌∷◌, ◌++◌, nat_lt, ◌==◌, ◌||◌, codes, slice_index, if◌then◌else◌}
 use Rattle.std.specs.List.{flat_map}
 
@@ -6,6 +6,7 @@ use Rattle.std.specs.List.{flat_map}
 abbrev pub is_escaped : ℕ → Bool
 is_escaped b = nat_lt b 32 || b == 127 || b == 92
 
+-- the byte of a hexadecimal digit
 abbrev pub hexadecimal : ℕ → ℕ
 hexadecimal d = slice_index (codes "0123456789abcdef") d
 

@@ -1,4 +1,4 @@
--- The texts of a quantity and of an operation.
+-- Stated. The texts of a quantity and of an operation.
 use Rattle.std.specs.Prelude.{ℕ, ◌+◌, List, codes}
 use Rattle.frac_core.specs.declared.exact.OpKind.{OpKind}
 use Rattle.frac_core.specs.declared.exact.OpKind.TheVariants.{Add, Sub, Mul, Div}
@@ -8,12 +8,14 @@ use Rattle.loss_model.specs.declared.spill.Site.{Site}
 use Rattle.report_text.specs.declared.quantity.PrintedIndices.{PrintedIndices}
 use Rattle.report_text.specs.declared.quantity.PrintedIndices.TheVariants.{One, Two, Three}
 
+-- the name of an operation
 abbrev pub op_name : OpKind → List ℕ
 op_name Add = codes "add"
 op_name Sub = codes "sub"
 op_name Mul = codes "mul"
 op_name Div = codes "div"
 
+-- the name of a quantity
 abbrev pub quantity_name : Quantity → List ℕ
 quantity_name quantities.Coordinate = codes "coordinate"
 quantity_name quantities.Coefficient = codes "coefficient"
@@ -68,5 +70,6 @@ printed quantities.DesignEntry i j k = Two i (j + 1)
 printed quantities.PenaltyEntry i j k = Two (i + 1) (j + 1)
 printed quantities.CheckSum i j k = Three i j k
 
+-- the indices of a site as they are printed
 abbrev pub indices : Site → PrintedIndices
 indices s = printed s.quantity s.first s.second s.third

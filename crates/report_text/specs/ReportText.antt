@@ -1,4 +1,4 @@
--- The printed text of a report: lines of words with one space between them. A type F of fractions
+-- Stated. The printed text of a report: lines of words with one space between them. A type F of fractions
 -- is seen by a function into pairs.
 use Rattle.std.specs.Prelude.{◌≡◌, ◌≤◌, ℕ, ◌+◌, ◌-◌, Bool, true, false, nat_lt, List, [], ◌∷◌, ◌++◌, length, codes, decimal}
 use Rattle.std.specs.List.{flat_map, zip}
@@ -19,15 +19,19 @@ abbrev pub numbered : {X : Type 0} → (ℕ → X → List ℕ) → ℕ → List
 numbered text i [] = []
 numbered text i (x ∷ xs) = text i x ++ numbered text (i + 1) xs
 
+-- how many records are kept and how many are not
 unfoldable pub records_line : ℕ → ℕ → List ℕ
 records_line kept dropped = codes "records " ++ decimal kept ++ codes " dropped " ++ decimal dropped ++ codes "\n"
 
+-- the name of column j
 unfoldable pub column_line : ℕ → List ℕ → List ℕ
 column_line j name = codes "column " ++ decimal j ++ codes " " ++ name_bytes name ++ codes "\n"
 
+-- how many rows there are of records and of smooths
 unfoldable pub data_line : ℕ → ℕ → List ℕ
 data_line rows penalty = codes "data " ++ decimal rows ++ codes " penalty " ++ decimal penalty ++ codes "\n"
 
+-- how many pivots were made
 unfoldable pub pivots_line : ℕ → List ℕ
 pivots_line pivots = codes "pivots " ++ decimal pivots ++ codes "\n"
 
@@ -43,19 +47,24 @@ score_mark _ Basic = 42
 abbrev pub row_mark : ℕ → ℕ → Side → List ℕ
 row_mark n i side = score_mark (nat_lt i n) side ∷ []
 
+-- a mark for each row
 unfoldable pub scores_line : ℕ → List Side → List ℕ
 scores_line n sides = codes "scores " ++ numbered (row_mark n) 0 sides ++ codes "\n"
 
 module _ {F : Type 0} (value : F → Fraction) where
+  -- the range of segment i
   unfoldable pub segment_line : ℕ → Segment F → List ℕ
   segment_line i s = codes "segment " ++ decimal i ++ codes " " ++ number_text_of (value s.lo) ++ codes " " ++ number_text_of (value s.hi) ++ codes "\n"
 
+  -- the coefficient of column j
   unfoldable pub coef_line : ℕ → F → List ℕ
   coef_line j b = codes "coef " ++ decimal j ++ codes " " ++ number_text_of (value b) ++ codes "\n"
 
+  -- the loss at both ends
   unfoldable pub loss_line : Segment F → List ℕ
   loss_line s = codes "loss " ++ number_text_of (value s.loss_lo) ++ codes " " ++ number_text_of (value s.loss_hi) ++ codes "\n"
 
+  -- the rankscores of a row of the basis at both ends, rows counted from 1
   unfoldable pub basic_line : ScorePair F → List ℕ
   basic_line p = codes "basic " ++ decimal (p.row + 1) ++ codes " " ++ number_text_of (value p.at_lo) ++ codes " " ++ number_text_of (value p.at_hi) ++ codes "\n"
 
@@ -76,6 +85,7 @@ fit_size fit = data_line fit.data_rows (length fit.problem.rows - fit.data_rows)
 unfoldable pub fit_head : Fit → List ℕ
 fit_head fit = codes "quantreg 1\n" ++ records_line fit.kept fit.dropped ++ numbered column_line 1 fit.names ++ fit_size fit
 
+-- the report of a fit
 unfoldable pub fit_text : Fit → List ℕ
 fit_text fit = fit_head fit ++ numbered (segment_text value fit.data_rows) 1 (zip fit.process.segments fit.scores) ++ codes "end\n"
 

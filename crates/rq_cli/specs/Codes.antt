@@ -1,8 +1,9 @@
--- Exit statuses.
+-- Stated. Exit statuses.
 use Rattle.std.specs.Prelude.{ℕ}
 use Rattle.rq_cli.specs.declared.outcome.Outcome.{Outcome}
 use Rattle.rq_cli.specs.declared.outcome.Outcome.TheVariants.{Done, Refused, Usage, SourceFault, SinkFault, OutOfMemory, PivotLimit, Overflow, NotBuilt}
 
+-- the status of an outcome
 abbrev pub code_of : Outcome → ℕ
 code_of (Done _) = 0
 code_of (Refused _) = 1

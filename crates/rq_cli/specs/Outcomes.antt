@@ -1,4 +1,4 @@
--- What an outcome of a run says of the words, of the bytes that came, and of what was written.
+-- Stated. What an outcome of a run says of the words, of the bytes that came, and of what was written.
 use Rattle.std.specs.Prelude.{◌≡◌, ℕ, ◌^◌, ◌<◌, ◌≤◌, ◌+◌, ◌⊎◌, List, [], Option, Err, length, Bool, true, false, ⊤}
 use Rattle.std.specs.Io.KnownBytes.{Appends, Keeps}
 use Rattle.port_io.specs.Counts.{Rose}

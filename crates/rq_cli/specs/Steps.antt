@@ -1,4 +1,4 @@
--- What the steps of a run write.
+-- Inner. What the steps of a run write.
 use Rattle.std.specs.Prelude.{◌≡◌, ◌⊎◌, ℕ, List, Err, ⊤}
 use Rattle.std.specs.Io.KnownBytes.{Appends, Keeps}
 use Rattle.port_io.specs.Counts.{Rose}

@@ -4,11 +4,10 @@
 //! output, and after every other outcome nothing was, or a part where a write failed, and standard
 //! error has the outcome's line; each outcome has its cause in the words, the bytes and the counts of
 //! faults (`specs/Outcomes.antt`). It stands on `rq_engine` for reports and on `port_io` for streams.
+//! Its tests stand in the crate `run_tests`.
 #![tactic(auto)]
 
 mod outcome;
-#[cfg(test)]
-mod tests;
 mod top;
 
 pub use outcome::Outcome;

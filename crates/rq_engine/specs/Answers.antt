@@ -1,4 +1,4 @@
--- What the engine is asked and answers.
+-- Stated. What the engine is asked and answers.
 use Rattle.std.specs.Prelude.{ℕ, List}
 use Rattle.rq_input.specs.Inputs.{HasInputCause, IsInput}
 use Rattle.rq_input.specs.declared.input.Input.{Input}
@@ -22,6 +22,7 @@ pub record IsFitOf (job : FitJob) (input : Input) (fit : Fit) : Type 0 where
   pub under : IsFitUnder input fit
   pub right : IsRightFit value job fit
 
+-- the fit is right for the input that the bytes are
 abbrev pub IsFitOfBytes : FitJob → List ℕ → Fit → Type 0
 IsFitOfBytes job bytes fit = (input : Input) × IsInput job bytes input × IsFitOf job input fit
 

@@ -1,4 +1,5 @@
--- The right fit of a problem at one quantile. A type F of fractions is seen by a function into pairs.
+-- Stated. The right fit of a problem at one quantile (Koenker 2005). A type F of fractions is seen by a function into
+-- pairs.
 use Rattle.std.specs.Prelude.{◌≡◌, ℕ, ◌≤◌, List, length, All, slice_index}
 use Rattle.std.specs.List.{AllZip}
 use Rattle.exact_algebra.specs.Rational.{ℚ}

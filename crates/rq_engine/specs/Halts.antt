@@ -1,4 +1,4 @@
--- The halts of the solver: want of memory is its own.
+-- Inner. The halts of the solver: want of memory is its own.
 use Rattle.frac_core.specs.declared.frac128.Frac128.{Frac128}
 use Rattle.loss_model.specs.declared.process.Trail.{Trail}
 use Rattle.loss_model.specs.declared.spill.Short.{Short}

@@ -1,4 +1,4 @@
--- What is told of the vertex that a solve gives.
+-- Inner. What is told of the vertex that a solve gives.
 use Rattle.std.specs.Prelude.{◌≡◌, ◌⊎◌, ℕ, List, [], ◌∷◌, length}
 use Rattle.exact_algebra.specs.Fraction.{Fraction, rational}
 use Rattle.frac_core.specs.declared.frac128.Frac128.{Frac128}

@@ -6,14 +6,13 @@
 //!
 //! It stands on `rq_input` for what the bytes say, on `br_pivot` for the solve, on `loss_model` for
 //! losses, on `rankscores`, and on `report_text` for the types that it answers with.
+//! Its tests stand in the crate `run_tests`.
 #![tactic(auto)]
 
 mod halt;
 mod job;
 mod point;
 mod process;
-#[cfg(test)]
-mod tests;
 
 pub use job::answer;
 pub use point::is_built;

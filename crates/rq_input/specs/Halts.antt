@@ -1,4 +1,4 @@
--- The halts of an input's faults: want of memory is its own.
+-- Inner. The halts of an input's faults: want of memory is its own.
 use Rattle.data_frame.specs.declared.fault.TableFault.{TableFault}
 use Rattle.data_frame.specs.declared.fault.TableFault.TheVariants as tables
 use Rattle.formula_parser.specs.declared.fault.FormulaFault.{FormulaFault}

@@ -1,4 +1,4 @@
--- What the bytes of a job say, and why they say nothing that can be fitted.
+-- Stated. What the bytes of a job say, and why they say nothing that can be fitted.
 use Rattle.std.specs.Prelude.{◌≡◌, ◌≢◌, ◌≤◌, ◌<◌, ℕ, List, Ok, Err, length, ⊤}
 use Rattle.data_frame.specs.Tables.{table_of}
 use Rattle.data_frame.specs.Views.{exact_table}

@@ -1,4 +1,4 @@
--- What a table and a formula say: the model, its design and its problem.
+-- Stated. What a table and a formula say: the model, its design and its problem.
 use Rattle.std.specs.Prelude.{◌≡◌, ℕ, [], length, map, replicate}
 use Rattle.frac_core.specs.declared.frac128.Frac128.{Frac128}
 use Rattle.formula_parser.specs.Parsed.{IsParsed}

@@ -5,6 +5,7 @@
 //! each take one value. What the words ask for is defined over `clap`'s own definition of such a
 //! command, and over the number text of `frac_core`; the contract says that each job and each
 //! fault is the one of that definition.
+//! Its tests stand in the crate `input_tests`.
 #![tactic(auto)]
 
 ghost use Rattle.std.specs.Prelude.{◌≡◌, ◌⊎◌, Err, map, string_bytes, drop};
@@ -78,6 +79,3 @@ fn has_long(words: &[String]) -> bool
 {
     words.iter().skip(1).any(|word| word.len() >= LONG_WORD)
 }
-
-#[cfg(test)]
-mod tests;

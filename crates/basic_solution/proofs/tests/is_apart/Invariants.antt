@@ -1,5 +1,0 @@
-use Rattle.std.specs.Prelude.{◌≢◌, ℕ, ◌<◌, slice_index}
-use Rattle.basic_solution.proofs.tests.is_apart.Given as goal
-
-abbrev pub invariant-loop-j : goal.invariant-loop-j
-invariant-loop-j l = (i : ℕ) → i < l.j → slice_index l.basis i ≢ l.row

@@ -1,0 +1,20 @@
+//! Tests of the lowest crates: fractions, their texts and lists (`frac_core`), streams of bytes
+//! (`port_io`), codings of factors (`contrasts`), and losses with their sites (`loss_model`).
+//!
+//! What is tested is what no clause says: values from outside, printed text, and streams that fail.
+#![tactic(auto)]
+
+#[cfg(test)]
+mod codings;
+#[cfg(test)]
+mod fractions;
+#[cfg(test)]
+mod helpers;
+#[cfg(test)]
+mod lists;
+#[cfg(test)]
+mod losses;
+#[cfg(test)]
+mod number_texts;
+#[cfg(test)]
+mod streams;

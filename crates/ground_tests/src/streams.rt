@@ -1,0 +1,191 @@
+//! Streams in memory and over std: reads and writes that fail in their midst, and those that don't.
+
+use port_io::{MemSink, MemSource, ReadFault, StdSink, StdSource, SureSource, read_all, write_all};
+use std::io;
+use std::io::{Read, Write};
+use std::test::Fail;
+
+const TABLE: &[u8] = b"y\n1\n2\n3\n";
+
+const REPORT: &[u8] = b"quantreg 1\nrecords 3 dropped 0\n";
+
+// Each case: the most bytes of a read, the calls that fail, and whether the whole is read.
+#[test]
+fn reads_of_memory_fail_as_told(rt: HostRuntime) -> Result<(), Fail> {
+    let cases: [(usize, &[u32], bool); 9] = [
+        (4, &[], true),
+        (4, &[1], false),
+        (4, &[2], false),
+        (4, &[3], false),
+        (4, &[4], true),
+        (1, &[9], false),
+        (1, &[10], true),
+        (100_000, &[2], false),
+        (100_000, &[3, 0], true),
+    ];
+    for (piece, fails, whole) in cases {
+        let bytes = TABLE.to_vec(rt.alloc())?;
+        let mut source = MemSource::new(bytes, piece, fails.to_vec(rt.alloc())?);
+        match read_all(rt.alloc(), &mut source) {
+            Ok(read) => {
+                assert!(rt; whole, "{piece} {fails:?}");
+                assert!(rt; read.as_slice() == TABLE);
+            }
+            Err(fault) => {
+                assert!(rt; !whole, "{piece} {fails:?}");
+                assert!(rt; fault == ReadFault::Failed);
+            }
+        }
+    }
+    Ok(())
+}
+
+// Each case: the room, the most bytes of a write, the calls that fail, and how many bytes are held
+// in the end.
+#[test]
+fn writes_to_memory_fail_as_told(rt: HostRuntime) -> Result<(), Fail> {
+    let cases: [(usize, usize, &[u32], usize); 8] = [
+        (100, 5, &[3], 10),
+        (100, 5, &[1], 0),
+        (100, 5, &[7], 30),
+        (100, 5, &[8], 31),
+        (100, 5, &[], 31),
+        (31, 100, &[], 31),
+        (30, 100, &[], 30),
+        (0, 1, &[], 0),
+    ];
+    for (room, piece, fails, held) in cases {
+        let mut sink = MemSink::new(rt.alloc(), room, piece, fails.to_vec(rt.alloc())?)?;
+        let written = write_all(&mut sink, REPORT);
+        assert!(rt;
+            written.is_ok() == (held == REPORT.len()),
+            "{room} {piece} {fails:?}"
+        );
+        assert!(rt;
+            sink.written() == &REPORT[..held.min(31)],
+            "{room} {piece} {fails:?}"
+        );
+    }
+    Ok(())
+}
+
+// More than the first room holds.
+#[test]
+fn a_large_source_is_read_whole(rt: HostRuntime) -> Result<(), Fail> {
+    let bytes = vec![in rt.alloc(); 7; 300_000]?;
+    let read = read_all(rt.alloc(), &mut SureSource::new(bytes))?;
+    assert!(rt; read.len() == 300_000);
+    assert!(rt; read.iter().all(|byte| *byte == 7));
+    Ok(())
+}
+
+// Gives one byte a read, and fails in the read of this number.
+#[derive(Drop)]
+struct Dripping<'a> {
+    left: &'a [u8],
+    reads: u32,
+    fails: u32,
+}
+
+impl<'a> Read for Dripping<'a> {
+    fn read(&mut self, buf: &mut [u8]) -> io::Result<usize> {
+        self.reads = self.reads.saturating_add(1);
+        if self.reads == self.fails {
+            return Err(io::Error::from(io::ErrorKind::BrokenPipe));
+        }
+        match (self.left.split_first(), buf.first_mut()) {
+            (Some((byte, left)), Some(place)) => {
+                *place = *byte;
+                self.left = left;
+                Ok(1)
+            }
+            _ => Ok(0),
+        }
+    }
+}
+
+#[test]
+fn a_reader_of_std_is_a_source(rt: HostRuntime) -> Result<(), Fail> {
+    let read = read_all(rt.alloc(), &mut StdSource::new(TABLE))?;
+    assert!(rt; read.as_slice() == TABLE);
+    for (fails, whole) in [(1, false), (3, false), (9, false), (10, true)] {
+        let reader = Dripping {
+            left: TABLE,
+            reads: 0,
+            fails,
+        };
+        let read = read_all(rt.alloc(), &mut StdSource::new(reader));
+        assert!(rt; read.is_ok() == whole, "{fails}");
+        assert!(rt;
+            read.is_ok() || read.err() == Some(ReadFault::Failed),
+            "{fails}"
+        );
+    }
+    Ok(())
+}
+
+// Takes two bytes a write, and counts its writes and flushes. The write and the flush of these
+// numbers fail, and the write numbered `idle` takes nothing.
+#[derive(Drop)]
+struct Sluggish {
+    held: Vec<u8>,
+    writes: u32,
+    flushes: u32,
+    bad_write: u32,
+    bad_flush: u32,
+    idle: u32,
+}
+
+impl Write for Sluggish {
+    fn write(&mut self, buf: &[u8]) -> io::Result<usize> {
+        self.writes = self.writes.saturating_add(1);
+        if self.writes == self.bad_write {
+            return Err(io::Error::from(io::ErrorKind::BrokenPipe));
+        }
+        if self.writes == self.idle {
+            return Ok(0);
+        }
+        let count = buf.len().min(2);
+        self.held.extend_from_slice(&buf[..count])?;
+        Ok(count)
+    }
+
+    fn flush(&mut self) -> io::Result<()> {
+        self.flushes = self.flushes.saturating_add(1);
+        if self.flushes == self.bad_flush {
+            return Err(io::Error::from(io::ErrorKind::BrokenPipe));
+        }
+        Ok(())
+    }
+}
+
+// Each case: the bad write, the bad flush and the idle write; then whether all is written, how
+// many bytes are held and how often the writer was flushed.
+#[test]
+fn a_writer_of_std_is_a_sink(rt: HostRuntime) -> Result<(), Fail> {
+    let mut held = Vec::new(rt.alloc());
+    assert!(rt; write_all(&mut StdSink::new(&mut held), REPORT).is_ok());
+    assert!(rt; held.as_slice() == REPORT);
+    let cases = [
+        (0, 0, 0, true, 8, 4),
+        (3, 0, 0, false, 4, 2),
+        (0, 2, 0, false, 4, 2),
+        (0, 0, 4, false, 6, 3),
+        (5, 5, 5, true, 8, 4),
+    ];
+    for (bad_write, bad_flush, idle, whole, len, flushes) in cases {
+        let mut writer = Sluggish {
+            held: Vec::new(rt.alloc()),
+            writes: 0,
+            flushes: 0,
+            bad_write,
+            bad_flush,
+            idle,
+        };
+        let written = write_all(&mut StdSink::new(&mut writer), TABLE);
+        assert!(rt; written.is_ok() == whole, "{bad_write} {bad_flush} {idle}");
+        assert!(rt; writer.held.len() == len, "{bad_write} {bad_flush} {idle}");
+        assert!(rt; writer.flushes == flushes, "{bad_write} {bad_flush} {idle}");
+    }
+    Ok(())
+}

@@ -1,0 +1,327 @@
+//! Formulas, and what each reads as. The answers were worked out by hand from the grammar.
+//!
+//! A reading is told as the response, 1 or 0 for the intercept, the steps, and the smooths: `()` is
+//! the empty list, and an operator stands with its offset. A fault is told as `Debug` writes it.
+
+use crate::helpers::{expect_answer, push_many};
+use formula_grammar::{ReadFault, Reading, SmoothPart, Span, Step, read, tokens_of};
+use std::alloc::Global;
+use std::process::Abort;
+use std::test::Fail;
+
+fn tell_span(told: &mut String, text: &str, span: Span) -> Result<(), Fail> {
+    let start = span.start as usize;
+    let bytes = text.as_bytes().get(start..start + span.len as usize);
+    let piece = std::str::from_utf8(bytes.ok_or("a span leaves the text")?);
+    told.push_str(piece.ok().ok_or("a span cuts a character")?)?;
+    Ok(())
+}
+
+fn tell_operator(alloc: Global, told: &mut String, mark: char, at: u32) -> Result<(), Fail> {
+    told.push(mark)?;
+    told.push_str(at.to_string(alloc)?.as_str())?;
+    Ok(())
+}
+
+fn tell_step(alloc: Global, told: &mut String, text: &str, step: Step) -> Result<(), Fail> {
+    match step {
+        Step::Load { name, as_factor } => {
+            told.push_str(if as_factor { "factor:" } else { "" })?;
+            tell_span(told, text, name)
+        }
+        Step::LoadAll => Ok(told.push('.')?),
+        Step::Nothing => Ok(told.push_str("()")?),
+        Step::Add { at } => tell_operator(alloc, told, '+', at),
+        Step::Remove { at } => tell_operator(alloc, told, '-', at),
+        Step::Multiply { at } => tell_operator(alloc, told, '*', at),
+        Step::Interact { at } => tell_operator(alloc, told, ':', at),
+        Step::Raise { exponent, at } => {
+            tell_operator(alloc, told, '^', exponent)?;
+            tell_operator(alloc, told, '@', at)
+        }
+    }
+}
+
+fn tell_smooth(told: &mut String, text: &str, smooth: SmoothPart) -> Result<(), Fail> {
+    told.push_str("qss:")?;
+    tell_span(told, text, smooth.name)?;
+    told.push(',')?;
+    let len = smooth.lambda.len();
+    tell_span(
+        told,
+        text,
+        Span {
+            start: smooth.at,
+            len,
+        },
+    )
+}
+
+fn tell(alloc: Global, text: &str, reading: &Reading) -> Result<String, Fail> {
+    let mut told = String::new(alloc);
+    tell_span(&mut told, text, reading.response)?;
+    told.push_str(if reading.intercept { " 1" } else { " 0" })?;
+    for step in reading.steps.as_slice() {
+        told.push(' ')?;
+        tell_step(alloc, &mut told, text, *step)?;
+    }
+    for smooth in reading.smooths.as_slice() {
+        told.push(' ')?;
+        tell_smooth(&mut told, text, *smooth)?;
+    }
+    Ok(told)
+}
+
+fn reading_of(alloc: Global, text: &str) -> Result<Result<Reading, ReadFault>, Fail> {
+    if text.len() > 1 << 30 {
+        return Err(Fail::from("too long"));
+    }
+    match tokens_of(alloc, text) {
+        Err(_) => Err(Fail::from("no memory")),
+        Ok(tokens) => Ok(read(alloc, tokens.as_slice())),
+    }
+}
+
+fn answer(alloc: Global, text: &str) -> Result<String, Fail> {
+    match reading_of(alloc, text)? {
+        Ok(reading) => tell(alloc, text, &reading),
+        Err(fault) => Ok(format!(in alloc; "{fault:?}")?),
+    }
+}
+
+static CASES: [(&str, &str); 139] = [
+    ("y ~ a", "y 1 a"),
+    ("y~a+b", "y 1 a b +3"),
+    ("y ~ a - b", "y 1 a b -6"),
+    ("y ~ a * b", "y 1 a b *6"),
+    ("y ~ a : b", "y 1 a b :6"),
+    ("y ~ a*b:c", "y 1 a b c :7 *5"),
+    ("y ~ a:b*c", "y 1 a b :5 c *7"),
+    ("y ~ a+b*c:d^2", "y 1 a b c d ^2@11 :9 *7 +5"),
+    ("y ~ (a+b)^2", "y 1 a b +6 ^2@9"),
+    (
+        "y ~ (a + b + c)^2 - a:b",
+        "y 1 a b +7 c +11 ^2@15 a b :21 -18",
+    ),
+    ("y ~ a:b:c", "y 1 a b :5 c :7"),
+    ("y ~ a*b*c", "y 1 a b *5 c *7"),
+    ("y ~ a-b-c", "y 1 a b -5 c -7"),
+    ("y ~ (a+b):(c+d)", "y 1 a b +6 c d +12 :9"),
+    ("y ~ ((a))", "y 1 a"),
+    ("y ~ .", "y 1 ."),
+    ("y ~ . - a", "y 1 . a -6"),
+    ("y ~ .+.", "y 1 . . +5"),
+    ("y ~ a\r\n+\tb", "y 1 a b +7"),
+    ("  y ~ a + b \n", "y 1 a b +8"),
+    // the intercept
+    ("y ~ 1", "y 1 ()"),
+    ("y ~ 0", "y 0 ()"),
+    ("y ~ -1", "y 0 ()"),
+    ("y ~ -0", "y 1 ()"),
+    ("y ~ + 0", "y 0 ()"),
+    ("y ~ + 1", "y 1 ()"),
+    ("y ~ a + 0 + 1", "y 1 a"),
+    ("y ~ a + 1 - 1", "y 0 a"),
+    ("y ~ a - 1 - 0", "y 1 a"),
+    ("y ~ a - 0 + 0", "y 0 a"),
+    ("y ~ 0 - 0 + 0", "y 0 ()"),
+    ("y ~ 0 + a", "y 0 () a +6"),
+    ("y ~ -1 + a", "y 0 () a +7"),
+    // leading signs
+    ("y ~ - a", "y 1 () a -4"),
+    ("y ~ + a", "y 1 () a +4"),
+    ("y ~ (- a + b)", "y 1 () a -5 b +9"),
+    ("y ~ (+a)", "y 1 () a +5"),
+    ("y ~ a + (- b)", "y 1 a () b -9 +6"),
+    ("y ~ - - a", "Syntax { offset: 6 }"),
+    ("y ~ (- - a)", "Syntax { offset: 7 }"),
+    // words and names
+    ("y ~ factor(a)", "y 1 factor:a"),
+    ("y ~ factor \n\t(a)", "y 1 factor:a"),
+    ("y ~ factor", "y 1 factor"),
+    ("y ~ qss", "y 1 qss"),
+    ("factor ~ qss + factor", "factor 1 qss factor +13"),
+    ("y ~ qss:factor", "y 1 qss factor :7"),
+    ("y ~ factor(qss)", "y 1 factor:qss"),
+    ("y ~ factor(a, b)", "Syntax { offset: 12 }"),
+    ("y ~ factor()", "Syntax { offset: 11 }"),
+    ("y ~ factor(factor(a))", "Syntax { offset: 11 }"),
+    ("y ~ factor(.)", "Syntax { offset: 11 }"),
+    ("y ~ Factor(a)", "Syntax { offset: 10 }"),
+    ("y ~ factors(a)", "Syntax { offset: 11 }"),
+    ("y ~ log(a)", "Syntax { offset: 7 }"),
+    ("factor(y) ~ a", "Syntax { offset: 0 }"),
+    ("y ~ `a + b`", "y 1 a + b"),
+    ("y ~ ``", "y 1 "),
+    ("y ~ `a`b", "Syntax { offset: 7 }"),
+    ("y ~ `a", "Syntax { offset: 4 }"),
+    ("y ~ a + `b", "Syntax { offset: 8 }"),
+    ("`y` ~ `a`+a", "y 1 a a +9"),
+    ("y ~ `factor`(a)", "Syntax { offset: 12 }"),
+    ("y ~ factor(`factor`)", "y 1 factor:factor"),
+    ("y ~ `\u{e9}`", "y 1 \u{e9}"),
+    ("y ~ \u{e9}", "Syntax { offset: 4 }"),
+    ("y ~ a\u{e9}", "Syntax { offset: 5 }"),
+    ("y ~ a\u{a0}", "Syntax { offset: 5 }"),
+    ("y ~ ..", "y 1 .."),
+    ("y ~ ._a", "y 1 ._a"),
+    ("y ~ .a.1_", "y 1 .a.1_"),
+    ("y ~ a.b_2", "y 1 a.b_2"),
+    ("y ~ a2:A2", "y 1 a2 A2 :6"),
+    ("y ~ _a", "Syntax { offset: 4 }"),
+    ("y ~ .5", "Syntax { offset: 4 }"),
+    ("y ~ . a", "Syntax { offset: 6 }"),
+    ("y ~ a/b", "Syntax { offset: 5 }"),
+    // powers
+    ("y ~ a^1", "y 1 a ^1@5"),
+    ("y ~ a^8", "y 1 a ^8@5"),
+    ("y ~ a^ 008", "y 1 a ^8@5"),
+    ("y ~ factor(a)^2:b^3", "y 1 factor:a ^2@13 b ^3@17 :15"),
+    ("y ~ a^9", "PowerRange { offset: 6 }"),
+    ("y ~ a^0", "PowerRange { offset: 6 }"),
+    ("y ~ a^00", "PowerRange { offset: 6 }"),
+    ("y ~ a^10", "PowerRange { offset: 6 }"),
+    ("y ~ a^4294967298", "PowerRange { offset: 6 }"),
+    (
+        "y ~ a^340282366920938463463374607431768211457",
+        "PowerRange { offset: 6 }",
+    ),
+    ("y ~ a^2.", "Syntax { offset: 6 }"),
+    ("y ~ a^1e0", "Syntax { offset: 6 }"),
+    ("y ~ a^4/2", "Syntax { offset: 6 }"),
+    ("y ~ a^b", "Syntax { offset: 6 }"),
+    ("y ~ a^(2)", "Syntax { offset: 6 }"),
+    ("y ~ a^", "Syntax { offset: 6 }"),
+    ("y ~ a^2^2", "Syntax { offset: 7 }"),
+    ("y ~ a^9 + + b", "PowerRange { offset: 6 }"),
+    ("y ~ + + b^9", "Syntax { offset: 6 }"),
+    // smooths
+    ("y ~ qss(x, 1/2)", "y 1 () qss:x,1/2"),
+    ("y ~ a + qss(x,.5)", "y 1 a qss:x,.5"),
+    ("y ~ + qss(x,5.)", "y 1 () qss:x,5."),
+    ("y ~ qss(x,1) + a", "y 1 () a +13 qss:x,1"),
+    (
+        "y ~ 0 + qss (b ,\n01 ) + qss(a,0)",
+        "y 0 () qss:b,01 qss:a,0",
+    ),
+    ("y ~ qss(factor,1e2)", "y 1 () qss:factor,1e2"),
+    ("y ~ - qss(x,1)", "Syntax { offset: 6 }"),
+    ("y ~ a - qss(x,1)", "Syntax { offset: 8 }"),
+    ("y ~ (a + qss(x,1))", "Syntax { offset: 9 }"),
+    ("y ~ qss(x,1):a", "Syntax { offset: 12 }"),
+    ("y ~ qss(x)", "Syntax { offset: 9 }"),
+    ("y ~ qss(x,-1)", "Syntax { offset: 10 }"),
+    ("y ~ qss(x,+1)", "Syntax { offset: 10 }"),
+    ("y ~ qss(.,1)", "Syntax { offset: 8 }"),
+    ("y ~ qss(x,1e38)", "y 1 () qss:x,1e38"),
+    ("y ~ qss(x,2e38)", "NumberTooWide { offset: 10 }"),
+    ("y ~ qss(x,1e-39)", "NumberTooWide { offset: 10 }"),
+    (
+        "y ~ qss(x,170141183460469231731687303715884105727)",
+        "y 1 () qss:x,170141183460469231731687303715884105727",
+    ),
+    (
+        "y ~ qss(x,170141183460469231731687303715884105728)",
+        "NumberTooWide { offset: 10 }",
+    ),
+    ("y ~ qss(x,1e99) + + b", "NumberTooWide { offset: 10 }"),
+    ("y ~ qss(x,3/0)", "Syntax { offset: 11 }"),
+    ("y ~ qss(x,3/00)", "Syntax { offset: 11 }"),
+    ("y ~ qss(x,3/04)", "y 1 () qss:x,3/04"),
+    ("y ~ qss(x,1e)", "Syntax { offset: 11 }"),
+    ("y ~ qss(x,1e+)", "Syntax { offset: 11 }"),
+    ("y ~ qss(x,1.5.5)", "Syntax { offset: 13 }"),
+    ("y ~ qss(x,1.e-2)", "y 1 () qss:x,1.e-2"),
+    // other tokens that no formula can have there
+    ("", "Syntax { offset: 0 }"),
+    (" ", "Syntax { offset: 1 }"),
+    ("y", "Syntax { offset: 1 }"),
+    ("y ~", "Syntax { offset: 3 }"),
+    ("~ a", "Syntax { offset: 0 }"),
+    ("y ~ a +", "Syntax { offset: 7 }"),
+    ("y ~ a b", "Syntax { offset: 6 }"),
+    ("y ~ a ~ b", "Syntax { offset: 6 }"),
+    ("y ~ ()", "Syntax { offset: 5 }"),
+    ("y ~ (a", "Syntax { offset: 6 }"),
+    ("y ~ a)", "Syntax { offset: 5 }"),
+    ("y ~ (1)", "Syntax { offset: 5 }"),
+    ("y ~ a:1", "Syntax { offset: 6 }"),
+    ("y ~ 2", "Syntax { offset: 4 }"),
+    ("y ~ 01", "Syntax { offset: 4 }"),
+    ("y ~ 1.", "Syntax { offset: 4 }"),
+    ("y ~ 1a", "Syntax { offset: 5 }"),
+];
+
+#[test]
+fn reads_by_the_grammar(rt: HostRuntime) -> Result<(), Fail> {
+    for (formula, want) in &CASES {
+        let told = answer(rt.alloc(), formula)?;
+        expect_answer(&rt, told.as_str(), want, formula);
+    }
+    Ok(())
+}
+
+// A formula that opens so many parentheses round some tokens, and closes as many.
+fn nested(alloc: Global, count: usize, inner: &str) -> Result<String, Fail> {
+    let mut text = String::from_str(alloc, "y ~ ")?;
+    push_many(&mut text, "(", count)?;
+    text.push_str(inner)?;
+    push_many(&mut text, ")", count)?;
+    Ok(text)
+}
+
+static DEPTHS: [(usize, &str, &str); 10] = [
+    (64, "a", "y 1 a"),
+    (65, "a", "TooDeep { offset: 68 }"),
+    (100, "", "TooDeep { offset: 68 }"),
+    (63, "factor(a)", "y 1 factor:a"),
+    (64, "factor(a)", "TooDeep { offset: 74 }"),
+    (64, "", "Syntax { offset: 68 }"),
+    (64, "a(", "Syntax { offset: 69 }"),
+    (64, "a)+(b", "y 1 a b +70"),
+    (64, "a)+((b)", "TooDeep { offset: 72 }"),
+    (64, "a:1", "Syntax { offset: 70 }"),
+];
+
+#[test]
+fn sixty_four_parentheses_may_be_open(rt: HostRuntime) -> Result<(), Fail> {
+    for (count, inner, want) in &DEPTHS {
+        let text = nested(rt.alloc(), *count, inner)?;
+        let told = answer(rt.alloc(), text.as_str())?;
+        expect_answer(&rt, told.as_str(), want, text.as_str());
+    }
+    Ok(())
+}
+
+// A text of a piece, another one many times, and a last one.
+static LONG: [(&str, &str, usize, &str, &str); 6] = [
+    ("y ~ ", "(", 100000, "", "TooDeep { offset: 68 }"),
+    ("y", " ", 100000, "", "Syntax { offset: 100001 }"),
+    ("y ~ a^", "0", 100000, "7", "y 1 a ^7@5"),
+    ("y ~ a^", "0", 100000, "9", "PowerRange { offset: 6 }"),
+    ("y ~ a^", "9", 100000, "", "PowerRange { offset: 6 }"),
+    ("y ~ a", "+a", 50000, "+", "Syntax { offset: 100006 }"),
+];
+
+#[test]
+fn long_texts(rt: HostRuntime) -> Result<(), Fail> {
+    for (first, piece, count, last, want) in &LONG {
+        let mut text = String::from_str(rt.alloc(), first)?;
+        push_many(&mut text, piece, *count)?;
+        text.push_str(last)?;
+        let told = answer(rt.alloc(), text.as_str())?;
+        expect_answer(&rt, told.as_str(), want, first);
+    }
+    Ok(())
+}
+
+#[test]
+fn a_million_tokens(rt: HostRuntime) -> Result<(), Fail> {
+    let mut text = String::from_str(rt.alloc(), "y ~ a")?;
+    push_many(&mut text, "+a", 500000)?;
+    match reading_of(rt.alloc(), text.as_str())? {
+        Ok(reading) => assert!(&rt; reading.steps.as_slice().len() == 1000001),
+        Err(_) => return Err(Fail::from("no formula")),
+    }
+    Ok(())
+}

@@ -1,5 +1,0 @@
-use Rattle.std.specs.Prelude.{◌≢◌, ℕ, ◌<◌, slice_index}
-use Rattle.lex_rule.proofs.tests.is_outside.Given as goal
-
-abbrev pub invariant-loop-k : goal.invariant-loop-k
-invariant-loop-k l = (i k : ℕ) → i < k → k < l.k → slice_index l.basis i ≢ slice_index l.basis k

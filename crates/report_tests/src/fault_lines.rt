@@ -1,0 +1,171 @@
+//! The lines of stops of the solver, byte for byte.
+
+use frac_core::OpKind::{self, Add, Div, Mul, Sub};
+use frac_core::{Exact, Frac128, List};
+use loss_model::{Quantity, Site, Spill, Trail};
+use report_text::{Fault, Halt, Place, Refusal, fault_line};
+use std::alloc::Global;
+use std::process::Abort;
+use std::test::Fail;
+
+// An operation of a quantity at the indices 4, 1 and 2, and the fields that are printed of it.
+type Case = (Quantity, OpKind, &'static str);
+
+static CASES: [Case; 24] = [
+    (Quantity::Coordinate, Mul, "coordinate at=5,2 term=9 op=mul"),
+    (Quantity::Coefficient, Add, "coefficient at=5 term=9 op=add"),
+    (Quantity::Residual, Sub, "residual at=5 term=9 op=sub"),
+    (
+        Quantity::NonbasicTotal,
+        Add,
+        "nonbasic-total at=5,1 term=9 op=add",
+    ),
+    (Quantity::BasicDual, Mul, "basic-dual at=5,1 term=9 op=mul"),
+    (Quantity::DualValue, Mul, "dual-value at=5,1 term=9 op=mul"),
+    (Quantity::CostValue, Add, "cost-value at=5,1 term=9 op=add"),
+    (Quantity::Slope, Sub, "slope at=5,1 term=9 op=sub"),
+    (Quantity::CostSum, Add, "cost-sum at=5 term=9 op=add"),
+    (Quantity::Crossing, Div, "crossing at=5,1 term=9 op=div"),
+    (
+        Quantity::PerturbedRatio,
+        Div,
+        "perturbed-ratio at=5,2,2 term=9 op=div",
+    ),
+    (
+        Quantity::ExchangedEntry,
+        Div,
+        "exchanged-entry at=5,2 term=9 op=div",
+    ),
+    (Quantity::Loss, Mul, "loss at=4 term=9 op=mul"),
+    (Quantity::Score, Sub, "score at=5,1,3 term=9 op=sub"),
+    (Quantity::Wilcoxon, Add, "wilcoxon at=5,2 term=9 op=add"),
+    (
+        Quantity::ScaledEntry,
+        Mul,
+        "scaled-entry at=5,2 term=9 op=mul",
+    ),
+    (Quantity::Gram, Add, "gram at=5,2 term=9 op=add"),
+    (Quantity::Projection, Div, "projection at=5 term=9 op=div"),
+    (
+        Quantity::SquaredLength,
+        Div,
+        "squared-length at=5 term=9 op=div",
+    ),
+    (Quantity::Ray, Div, "ray at=5,2 term=9 op=div"),
+    (Quantity::Statistic, Mul, "statistic at=4 term=9 op=mul"),
+    (
+        Quantity::DesignEntry,
+        Mul,
+        "design-entry at=4,2 term=9 op=mul",
+    ),
+    (
+        Quantity::PenaltyEntry,
+        Sub,
+        "penalty-entry at=5,2 term=9 op=sub",
+    ),
+    (Quantity::CheckSum, Add, "check-sum at=4,1,2 term=9 op=add"),
+];
+
+fn fraction(n: i128, d: i128) -> Frac128 {
+    Frac128::from_parts(n, d).unwrap_or(Frac128::zero())
+}
+
+fn no_trail(alloc: Global) -> Trail<Frac128> {
+    Trail {
+        start: List::new(alloc),
+        steps: List::new(alloc),
+        rise: List::new(alloc),
+        fall: List::new(alloc),
+    }
+}
+
+fn spill_of(case: Case) -> Spill<Frac128> {
+    Spill {
+        site: Site {
+            quantity: case.0,
+            first: 4,
+            second: 1,
+            third: 2,
+            term: 9,
+            kind: case.1,
+        },
+        left: fraction(7, 2),
+        right: fraction(-3, 1),
+    }
+}
+
+// Whether the line of a halt is this text.
+fn is_line(alloc: Global, halt: &Halt, text: &[u8]) -> Result<bool, Fail> {
+    let line = fault_line(alloc, &Fault::Halt(halt))?;
+    Ok(line.as_slice() == text)
+}
+
+fn overflow_text(alloc: Global, case: Case) -> Result<Vec<u8>, Fail> {
+    let mut text = Vec::new(alloc);
+    text.extend_from_slice(b"quantreg: solver: Overflow place=process quantity=")?;
+    text.extend_from_slice(case.2.as_bytes())?;
+    text.extend_from_slice(b" left=7/2 right=-3\n")?;
+    Ok(text)
+}
+
+fn is_told(alloc: Global, case: Case) -> Result<bool, Fail> {
+    let halt = Halt::Overflow {
+        place: Place::Process,
+        trail: no_trail(alloc),
+        spill: spill_of(case),
+    };
+    let text = overflow_text(alloc, case)?;
+    is_line(alloc, &halt, &text)
+}
+
+#[test]
+fn overflows_are_told_by_their_quantity(rt: HostRuntime) -> Result<(), Fail> {
+    for case in &CASES {
+        let told = is_told(rt.alloc(), *case)?;
+        assert!(rt; told);
+    }
+    Ok(())
+}
+
+fn dependent(alloc: Global, numbers: &[(i128, i128)]) -> Result<Halt, Fail> {
+    let mut combination = List::new(alloc);
+    for (n, d) in numbers {
+        let _pushed = combination.push(fraction(*n, *d));
+    }
+    Ok(Halt::Refused(Refusal::Dependent { combination }))
+}
+
+#[test]
+fn dependent_columns_are_listed(rt: HostRuntime) -> Result<(), Fail> {
+    let one = dependent(rt.alloc(), &[(1, 1)])?;
+    let told = is_line(
+        rt.alloc(),
+        &one,
+        b"quantreg: solver: Dependent combination=1\n",
+    )?;
+    assert!(rt; told);
+    let three = dependent(rt.alloc(), &[(0, 1), (-2, 3), (1, 1)])?;
+    let told = is_line(
+        rt.alloc(),
+        &three,
+        b"quantreg: solver: Dependent combination=0,-2/3,1\n",
+    )?;
+    assert!(rt; told);
+    Ok(())
+}
+
+#[test]
+fn a_limit_is_told_with_its_place(rt: HostRuntime) -> Result<(), Fail> {
+    let halt = Halt::PivotLimit {
+        place: Place::Process,
+        limit: 2,
+        trail: no_trail(rt.alloc()),
+    };
+    let told = is_line(
+        rt.alloc(),
+        &halt,
+        b"quantreg: solver: PivotLimit place=process limit=2\n",
+    )?;
+    assert!(rt; told);
+    Ok(())
+}

@@ -1,0 +1,99 @@
+//! Whole runs: words and a table go in, and what is left on the outputs comes out.
+
+use port_io::{MemSink, Source, SureSource};
+use rq_cli::run;
+use std::alloc::Global;
+use std::process::Abort;
+use std::str::from_utf8;
+use std::test::Fail;
+use std::thread::Threads;
+
+/// A table of one column.
+pub(crate) static TABLE: &str = "y\n1\n2\n3\n";
+
+/// Its report at the median.
+pub(crate) static REPORT: &str =
+    "quantreg 1\nrecords 3 dropped 0\ncolumn 1 (Intercept)\ndata 3 penalty 0\npivots 1\nsegment 1 1/2 1/2\ncoef 1 2\nloss 1 1\nscores 0*1\nbasic 2 1/2 1/2\nend\n";
+
+// The words of a run, written with bars between them; no text, no words.
+fn words_of(alloc: Global, line: &str) -> Result<Vec<String>, Fail> {
+    let mut words = Vec::new(alloc);
+    if !line.is_empty() {
+        for word in line.split('|') {
+            words.push(String::from_str(alloc, word)?)?;
+        }
+    }
+    Ok(words)
+}
+
+/// How the outputs behave: the room of standard output, its writes that fail, and those of standard
+/// error. A write takes 5 bytes.
+pub(crate) struct Outputs {
+    pub room: usize,
+    pub writes: &'static [u32],
+    pub tellings: &'static [u32],
+}
+
+static SOUND: Outputs = Outputs {
+    room: 32_768,
+    writes: &[],
+    tellings: &[],
+};
+
+/// What a run leaves: its exit status and what stands on the outputs.
+#[derive(Drop)]
+pub(crate) struct Left {
+    pub status: u8,
+    pub printed: Vec<u8>,
+    pub told: Vec<u8>,
+}
+
+/// A run of the words over a source. It has no clause: a test compares what is left, and needs nothing
+/// of what is proved.
+pub(crate) fn ran<R: Threads + Sync, S: Source>(
+    rt: &R,
+    alloc: Global,
+    line: &str,
+    source: &mut S,
+    outputs: &Outputs,
+) -> Result<Left, Fail> {
+    let words = words_of(alloc, line)?;
+    let mut out = MemSink::new(alloc, outputs.room, 5, outputs.writes.to_vec(alloc)?)?;
+    let mut err = MemSink::new(alloc, 4096, 5, outputs.tellings.to_vec(alloc)?)?;
+    let outcome = run(rt, alloc, &words, source, &mut out, &mut err);
+    Ok(Left {
+        status: outcome.code(),
+        printed: out.written().to_vec(alloc)?,
+        told: err.written().to_vec(alloc)?,
+    })
+}
+
+/// A run of the words on a table, where nothing fails.
+pub(crate) fn ran_on<R: Threads + Sync>(
+    rt: &R,
+    alloc: Global,
+    line: &str,
+    table: &[u8],
+) -> Result<Left, Fail> {
+    let mut source = SureSource::new(table.to_vec(alloc)?);
+    ran(rt, alloc, line, &mut source, &SOUND)
+}
+
+/// The run printed this report and nothing else.
+pub(crate) fn assert_printed(rt: &impl Abort, left: &Left, report: &str, case: &str) {
+    assert!(rt; left.status == 0, "{case}");
+    assert!(rt; left.told.is_empty(), "{case}");
+    let printed = from_utf8(left.printed.as_slice());
+    assert!(rt;
+        left.printed.as_slice() == report.as_bytes(),
+        "{case}: {printed:?}"
+    );
+}
+
+/// The run printed nothing, and told this line.
+pub(crate) fn assert_refused(rt: &impl Abort, left: &Left, status: u8, told: &str, case: &str) {
+    assert!(rt; left.status == status, "{case}");
+    assert!(rt; left.printed.is_empty(), "{case}");
+    let line = from_utf8(left.told.as_slice());
+    assert!(rt; left.told.as_slice() == told.as_bytes(), "{case}: {line:?}");
+}

@@ -1,0 +1,19 @@
+//! Tests of whole runs (`rq_cli`): words and a table go in, and every byte that is written is compared.
+#![tactic(auto)]
+
+#[cfg(test)]
+mod formulas;
+#[cfg(test)]
+mod helpers;
+#[cfg(test)]
+mod medians;
+#[cfg(test)]
+mod rows;
+#[cfg(test)]
+mod stops;
+#[cfg(test)]
+mod streams;
+#[cfg(test)]
+mod tables;
+#[cfg(test)]
+mod words;

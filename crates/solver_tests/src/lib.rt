@@ -1,0 +1,19 @@
+//! Tests of the solver: inverses of bases (`basis_inverse`), the order of ties (`lex_rule`), basic
+//! solutions (`basic_solution`), and pivots at one quantile (`br_pivot`).
+//!
+//! Cases worked by hand stand beside drawn ones, which are compared with a plain computation that is
+//! no part of the program.
+#![tactic(auto)]
+
+#[cfg(test)]
+mod basic_solutions;
+#[cfg(test)]
+mod helpers;
+#[cfg(test)]
+mod inverses;
+#[cfg(test)]
+mod least_loss;
+#[cfg(test)]
+mod pivots;
+#[cfg(test)]
+mod ties;
