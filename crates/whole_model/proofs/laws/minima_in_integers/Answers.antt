@@ -1,5 +1,5 @@
-use Rattle.loss_model.proofs.Denominators as law
-use Rattle.loss_model.proofs.laws.minima_in_integers.Goals as goal
+use Rattle.whole_model.proofs.Denominators as law
+use Rattle.whole_model.proofs.laws.minima_in_integers.Goals as goal
 
 pub returns : goal.returns
 returns g c =

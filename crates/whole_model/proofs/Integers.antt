@@ -13,11 +13,11 @@ use Rattle.loss_model.specs.Sample.{Sample}
 use Rattle.loss_model.specs.Sample as exact
 use Rattle.loss_model.specs.Dual.{mix}
 use Rattle.loss_model.specs.Dual as exact_dual
-use Rattle.loss_model.specs.Scaled.{Scaled, up_cost, down_cost, loss, Minimises, IsFeasible, IsDual, between, mixed}
-use Rattle.loss_model.specs.Laws.{DualsShowMinimumInIntegers, MixIsDualInIntegers}
-use Rattle.loss_model.proofs.Quotients.{IsOver, inverse_of, whole-quotient, cancel_whole, cancel_whole_le, whole_not_negative}
-use Rattle.loss_model.proofs.CommonDenominators.{one_le, whole-times, by_vector}
-use Rattle.loss_model.proofs.Scales.{Scales, up_scaled, down_scaled, loss_scaled}
+use Rattle.whole_model.specs.Scaled.{Scaled, up_cost, down_cost, loss, Minimises, IsFeasible, IsDual, between, mixed}
+use Rattle.whole_model.specs.Laws.{DualsShowMinimumInIntegers, MixIsDualInIntegers}
+use Rattle.loss_model.proofs.Quotients.{inverse_of, whole-quotient, cancel_whole, cancel_whole_le, whole_not_negative}
+use Rattle.whole_model.proofs.CommonDenominators.{IsOver, one_le, whole-times, by_vector}
+use Rattle.whole_model.proofs.Scales.{Scales, up_scaled, down_scaled, loss_scaled}
 use Rattle.loss_model.proofs.Duality.{minimum}
 use Rattle.loss_model.proofs.Mixes as mixes
 

@@ -1,4 +1,4 @@
--- Stated. The same regression in whole numbers: every value of a problem times the product Q of all its
+-- Law. The same regression in whole numbers: every value of a problem times the product Q of all its
 -- denominators. Nothing here is a fraction, so that it can be read with no knowledge of ℚ.
 use Rattle.std.specs.Prelude.{◌≡◌, ℕ, ◌<◌, ◌≤◌, ◌+◌, ◌*◌, List, [], ◌∷◌, ◌++◌, length, map, slice_get, ℤ, pos, ◌+ℤ◌, ◌-ℤ◌, ◌*ℤ◌, ◌≤ℤ◌, neg_ℤ}
 use Rattle.std.specs.Option.{option_map_or}
@@ -83,6 +83,11 @@ loss p theta c d = sum_to p.rows (row_loss p theta c d)
 abbrev pub Minimises : Scaled → Fraction → (ℕ → ℤ) → ℕ → Type 0
 Minimises p theta c d =
     (c' : ℕ → ℤ) (d' : ℕ) → 1 ≤ d' → (loss p theta c d *ℤ pos d') ≤ℤ (loss p theta c' d' *ℤ pos d)
+
+-- full rank: no whole numbers but zeros have the sum 0 with every row
+abbrev pub HasFullRank : Scaled → Type 0
+HasFullRank p =
+    (c : ℕ → ℤ) → ((i : ℕ) → i < p.rows → sum_to p.columns (λ k. p.x i k *ℤ c k) ≡ pos 0) → (k : ℕ) → k < p.columns → c k ≡ pos 0
 
 -- the values e/(Q*g) are within the costs, and orthogonal to every column
 pub record IsFeasible (p : Scaled) (theta : Fraction) (e : ℕ → ℤ) (g : ℕ) : Type 0 where

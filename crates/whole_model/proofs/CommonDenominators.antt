@@ -8,7 +8,11 @@ use mathlib.Core.HLevel.{Π_prop}
 use Rattle.exact_algebra.specs.Quotients.{by_quotient}
 use Rattle.exact_algebra.specs.Solver.{◌⊠◌, v0, v1, v2}
 use Rattle.exact_algebra.specs.Rational.{ℚ, ◌*ℚ◌, whole, whole-mul, ring_ℚ}
-use Rattle.loss_model.proofs.Quotients.{IsOver, whole-quotient}
+use Rattle.loss_model.proofs.Quotients.{whole-quotient}
+
+-- c/d is v in each of the first n places
+pub record IsOver (n : ℕ) (c : ℕ → ℤ) (d : ℕ) (v : ℕ → ℚ) : Type 0 where
+  pub each : (k : ℕ) → k < n → whole (c k) ≡ whole (pos d) *ℚ v k
 
 pub one_le : (a b : ℕ) → 1 ≤ a → 1 ≤ b → 1 ≤ a * b
 one_le a b h k = let p : zero < a * b = mul-pos (omega arith) (omega arith) in omega arith

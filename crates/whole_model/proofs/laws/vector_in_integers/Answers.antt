@@ -1,5 +1,5 @@
-use Rattle.loss_model.proofs.Denominators.{list_is_over}
-use Rattle.loss_model.proofs.laws.vector_in_integers.Goals as goal
+use Rattle.whole_model.proofs.Denominators.{list_is_over}
+use Rattle.whole_model.proofs.laws.vector_in_integers.Goals as goal
 
 pub returns : goal.returns
 returns g c =

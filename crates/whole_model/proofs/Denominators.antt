@@ -10,12 +10,12 @@ use Rattle.exact_algebra.specs.Quotients.{quotient_from}
 use Rattle.loss_model.specs.declared.problem.Row.{Row}
 use Rattle.loss_model.specs.declared.problem.Problem.{Problem}
 use Rattle.loss_model.specs.Problem.{value_at, sample}
-use Rattle.loss_model.specs.Scaled.{row_values, values, unit, over_at, scaled}
-use Rattle.loss_model.specs.Laws.{LossInIntegers, MinimisesInIntegers, DualsInIntegers, ListIsOver}
+use Rattle.whole_model.specs.Scaled.{row_values, values, unit, over_at, scaled}
+use Rattle.whole_model.specs.Laws.{LossInIntegers, MinimisesInIntegers, DualsInIntegers, ListIsOver}
 use Rattle.loss_model.proofs.Quotients.{inverse_of, whole-quotient}
-use Rattle.loss_model.proofs.CommonDenominators.{one_le, whole-times}
-use Rattle.loss_model.proofs.Scales.{Scales, loss_scaled}
-use Rattle.loss_model.proofs.Integers.{minima, duals}
+use Rattle.whole_model.proofs.CommonDenominators.{one_le, whole-times}
+use Rattle.whole_model.proofs.Scales.{Scales, loss_scaled}
+use Rattle.whole_model.proofs.Integers.{minima, duals}
 
 record Divides (d q : ℕ) : Type 0 where
   pub factor : ℕ

@@ -7,11 +7,12 @@ use Rattle.exact_algebra.specs.Rational.{ℚ, ℚ_set, ◌*ℚ◌, whole, whole-
 use Rattle.exact_algebra.specs.RationalSums.{sum_ℚ, sum_ℚ-same, sum_ℚ-scale}
 use Rattle.exact_algebra.specs.WholeNumbers.{same_from_whole, whole-sum}
 use Rattle.loss_model.specs.Sample.{Sample, fitted}
-use Rattle.loss_model.specs.Scaled.{Scaled}
-use Rattle.loss_model.specs.FullRank.{HasFullRank, HasFullRankInIntegers, DependenceRefutes}
-use Rattle.loss_model.proofs.Quotients.{IsOver, cancel_whole}
-use Rattle.loss_model.proofs.CommonDenominators.{by_vector}
-use Rattle.loss_model.proofs.Scales.{Scales}
+use Rattle.whole_model.specs.Scaled.{Scaled}
+use Rattle.whole_model.specs.Scaled as integers
+use Rattle.loss_model.specs.FullRank.{HasFullRank}
+use Rattle.loss_model.proofs.Quotients.{cancel_whole}
+use Rattle.whole_model.proofs.CommonDenominators.{IsOver, by_vector}
+use Rattle.whole_model.proofs.Scales.{Scales}
 
 module _ (q : ℕ) (p : Sample) (w : Scaled) (s : Scales q p w) (some : 1 ≤ q) where
   -- the sum of row i with c/d, in units of 1/(q*d)
@@ -27,7 +28,7 @@ module _ (q : ℕ) (p : Sample) (w : Scaled) (s : Scales q p w) (some : 1 ≤ q)
   times_zero : (n : ℕ) → whole (pos n) *ℚ whole (pos 0) ≡ whole (pos 0)
   times_zero n = ring_ℚ (whole (pos n) ∷ []) (v0 ⊠ number (pos 0)) (number (pos 0)) refl
 
-  pub full_ranks : HasFullRank p ↔ HasFullRankInIntegers w
+  pub full_ranks : HasFullRank p ↔ integers.HasFullRank w
   full_ranks = (
     λ full c gone k l. same_from_whole (c k) (pos 0) (full (λ k. whole (c k)) (λ i li. row c gone i li) k (subst (λ n. k < n) s.columns l)),
     λ full b gone k l. by_vector p.columns (b k ≡ whole (pos 0)) (ℚ_set (b k) (whole (pos 0))) b (λ c d hd over. entry full b gone k l c d hd over),
@@ -43,7 +44,7 @@ module _ (q : ℕ) (p : Sample) (w : Scaled) (s : Scales q p w) (some : 1 ≤ q)
           ∙ sym (fitted_scaled c 1 (λ k. whole (c k)) (ones c) i)
           ∙ ap whole (gone i (subst (λ n. i < n) (sym s.rows) li)) ∙ sym (times_zero q))
 
-      entry : HasFullRankInIntegers w → (b : ℕ → ℚ) → ((i : ℕ) → i < p.rows → fitted p b i ≡ whole (pos 0)) → (k : ℕ) → k < p.columns → (c : ℕ → ℤ) (d : ℕ) → 1 ≤ d → IsOver p.columns c d b → b k ≡ whole (pos 0)
+      entry : integers.HasFullRank w → (b : ℕ → ℚ) → ((i : ℕ) → i < p.rows → fitted p b i ≡ whole (pos 0)) → (k : ℕ) → k < p.columns → (c : ℕ → ℤ) (d : ℕ) → 1 ≤ d → IsOver p.columns c d b → b k ≡ whole (pos 0)
       entry full b gone k l c d hd over =
           cancel_whole d (b k) (whole (pos 0)) hd
           (sym (over.each k l)
@@ -51,6 +52,3 @@ module _ (q : ℕ) (p : Sample) (w : Scaled) (s : Scales q p w) (some : 1 ≤ q)
           (fitted_scaled c d b over i ∙ ap (λ z. whole (pos q) *ℚ (whole (pos d) *ℚ z)) (gone i (subst (λ n. i < n) s.rows li)) ∙ ap (λ z. whole (pos q) *ℚ z) (times_zero d) ∙ times_zero q))
           k (subst (λ n. k < n) (sym s.columns) l))
           ∙ sym (times_zero d))
-
-pub refuted : DependenceRefutes
-refuted p b h full = h.some (full b h.zero h.column h.within)

@@ -9,10 +9,10 @@ use Rattle.exact_algebra.specs.WholeNumbers.{whole-sum, whole-positive, whole-ne
 use Rattle.exact_algebra.specs.Fraction.{Fraction, rational}
 use Rattle.loss_model.specs.Sample.{Sample}
 use Rattle.loss_model.specs.Sample as exact
-use Rattle.loss_model.specs.Scaled.{Scaled, up_cost, down_cost, residual, row_loss, loss}
-use Rattle.loss_model.proofs.Quotients.{IsOver, whole-quotient, product_not_negative, whole_not_negative}
+use Rattle.whole_model.specs.Scaled.{Scaled, up_cost, down_cost, residual, row_loss, loss}
+use Rattle.loss_model.proofs.Quotients.{whole-quotient, whole-sub, product_not_negative, whole_not_negative}
 use Rattle.loss_model.proofs.Duality.{positive_when, negative_when, positive_below, negative_below}
-use Rattle.loss_model.proofs.Intervals.{whole-sub}
+use Rattle.whole_model.proofs.CommonDenominators.{IsOver}
 
 -- w has every value of p times q
 pub record Scales (q : ℕ) (p : Sample) (w : Scaled) : Type 0 where
