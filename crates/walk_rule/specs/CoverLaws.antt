@@ -10,10 +10,10 @@ use Rattle.loss_model.specs.Segment.{Covers, segments_of}
 use Rattle.basis_model.specs.Basis.{IsBasis}
 use Rattle.pivot_rule.specs.Duals.{HasCosts, ◌<ℚ◌}
 use Rattle.pivot_rule.specs.Steps.{HasNoNegativeSlope}
-use Rattle.pivot_rule.specs.Trails.{EndsAt, basis_after, IsOptimalBasis}
+use Rattle.pivot_rule.specs.Trails.{EndsAt, IsOptimalBasis}
 use Rattle.walk_rule.specs.Families.{over_quantiles}
 use Rattle.walk_rule.specs.Walks.{IsWalkingStep}
-use Rattle.walk_rule.specs.WalkTrails.{theta_value, AreWalkingSteps, value_after, IsWalkEnd, is_below}
+use Rattle.walk_rule.specs.WalkTrails.{theta_value, AreWalkingSteps, IsEndAfter, is_below}
 use Rattle.walk_rule.specs.Stays.{stays, is_reported, IsSegmentOf, AreSegmentsOf, AreOptimalSegments}
 use Rattle.walk_rule.specs.Underway.{IsUnderway}
 
@@ -25,8 +25,7 @@ WalkCovers {F} value p =
     → HasCosts (sample value p) lo → HasCosts (sample value p) hi → lo ≤ℚ hi
     → IsOptimalBasis (sample value p) lo basis
     → AreWalkingSteps (theta_value value) (over_quantiles (sample value p)) (is_below hi) lo basis steps
-    → IsWalkEnd (theta_value value) (over_quantiles (sample value p)) (is_below hi)
-    (value_after (theta_value value) (over_quantiles (sample value p)) (is_below hi) lo steps) (basis_after basis steps)
+    → IsEndAfter (theta_value value) (over_quantiles (sample value p)) (is_below hi) lo basis steps
     → AreSegmentsOf value p (filter (is_reported lo hi) (stays (theta_value value) hi lo basis steps)) segments
     → Covers (length p.rows) lo hi (segments_of value p segments) × AreOptimalSegments value p segments
 

@@ -42,15 +42,15 @@ pub record Family : Type 0 where
   pub parameter : Parameter
   pub right : ℕ → ℚ
 
--- every quantile of a sample
+-- over the quantiles of a sample
 abbrev pub over_quantiles : Sample → Family
 over_quantiles p = record { sample = p; parameter = by_quantile; right = λ k. whole (pos 0) }
 
--- the tested value of column c rises
+-- where the tested value of column c rises, at the quantile tau
 abbrev pub rising_value : Sample → ℚ → ℕ → Family
 rising_value p tau c = record { sample = p; parameter = by_weight tau; right = λ k. neg_ℚ (delta c k) }
 
--- and falls
+-- and where it falls
 abbrev pub falling_value : Sample → ℚ → ℕ → Family
 falling_value p tau c = record { sample = p; parameter = by_weight tau; right = delta c }
 
@@ -80,7 +80,7 @@ module _ (f : Family) (at : ℕ → ℕ) (a : ℕ → ℕ → ℚ) where
   slope_in t j Upward = up_cost f.sample (theta_of f t) (at j) -ℚ basic_at t j
   slope_in t j Downward = down_cost f.sample (theta_of f t) (at j) +ℚ basic_at t j
 
-  -- the parts of these in t
+  -- the parts in t of the dual value at position j
   abbrev pub value_part : Part → ℕ → ℚ
   value_part Constant j =
       part_of f.parameter Constant (basic_dual f.sample at a Constant j) (basic_dual f.sample at a Linear j)
@@ -88,6 +88,7 @@ module _ (f : Family) (at : ℕ → ℕ) (a : ℕ → ℕ → ℚ) where
       part_of f.parameter Linear (basic_dual f.sample at a Constant j) (basic_dual f.sample at a Linear j)
       +ℚ coordinate f.sample.columns a f.right j
 
+  -- and those of a slope
   abbrev pub slope_part : Part → ℕ → Direction → ℚ
   slope_part part j Upward = part_of f.parameter part (f.sample.up0 (at j)) (f.sample.up1 (at j)) -ℚ value_part part j
   slope_part part j Downward = part_of f.parameter part (f.sample.down0 (at j)) (f.sample.down1 (at j)) +ℚ value_part part j

@@ -62,6 +62,7 @@ module _ {F : Type 0} (value : F → Fraction) (p : Problem F) where
     pub at_lo : IsDual (sample value p) (rational (value s.lo)) (value_at value s.vertex.coef) (dual_at value p s.vertex s.basic_lo s.lo)
     pub at_hi : IsDual (sample value p) (rational (value s.hi)) (value_at value s.vertex.coef) (dual_at value p s.vertex s.basic_hi s.hi)
 
+  -- the same of all segments
   abbrev pub AreOptimalSegments : List (Segment F) → Type 0
   AreOptimalSegments [] = Unit {0}
   AreOptimalSegments (s ∷ segments) = IsOptimalSegment s × AreOptimalSegments segments

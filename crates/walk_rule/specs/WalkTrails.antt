@@ -44,6 +44,13 @@ module _ {F : Type 0} (when : F → ℚ) (f : Family) (reach : ℚ → Bool) whe
   IsWalkEnd from basis =
       AtBasis f.sample basis (λ a. (t : ℚ) (j r : ℕ) → ¬ IsWalkingStep f (slice_index basis) a reach from t j r)
 
+  -- a walking step is left where steps have led, or none is
+  abbrev pub HasStepAfter : ℚ → List ℕ → List (Exchange F) → Type 0
+  HasStepAfter from basis steps = HasWalkingStep (value_after from steps) (basis_after basis steps)
+
+  abbrev pub IsEndAfter : ℚ → List ℕ → List (Exchange F) → Type 0
+  IsEndAfter from basis steps = IsWalkEnd (value_after from steps) (basis_after basis steps)
+
 -- a walk over quantiles goes on before hi
 abbrev pub is_below : ℚ → ℚ → Bool
 is_below hi t = is_lt (cmp_ℚ t hi)
@@ -86,8 +93,12 @@ ReachesProcessLimit value p lo hi limit trail =
 -- the rising walk is at its end
 abbrev pub HasRisen : {F : Type 0} → (F → Fraction) → Sample → ℚ → ℕ → ℚ → Trail F → List ℕ → Type 0
 HasRisen value p tau c bound trail basis =
-    IsWalkEnd (negated_theta value) (rising_value p tau c) (is_within bound)
-    (value_after (negated_theta value) (rising_value p tau c) (is_within bound) (whole (pos 0)) trail.rise) (basis_after basis trail.rise)
+    IsEndAfter (negated_theta value) (rising_value p tau c) (is_within bound) (whole (pos 0)) basis trail.rise
+
+-- the falling walk is at its end
+abbrev pub HasFallen : {F : Type 0} → (F → Fraction) → Sample → ℚ → ℕ → ℚ → Trail F → List ℕ → Type 0
+HasFallen value p tau c bound trail basis =
+    IsEndAfter (theta_value value) (falling_value p tau c) (is_within bound) (whole (pos 0)) basis trail.fall
 
 -- the trail goes by solving steps at tau to an optimal basis, and from there the tested value of
 -- column c rises, as long as the squared weight of the column is within the bound, and then falls
@@ -102,22 +113,14 @@ pub record IsIntervalTrail {F : Type 0} (value : F → Fraction) (p : Sample) (t
   pub fell : AreWalkingSteps (theta_value value) (falling_value p tau c) (is_within bound) (whole (pos 0)) basis trail.fall
   pub order : (trail.fall ≡ []) ⊎ HasRisen value p tau c bound trail basis
 
--- the falling walk is at its end
-abbrev pub HasFallen : {F : Type 0} → (F → Fraction) → Sample → ℚ → ℕ → ℚ → Trail F → List ℕ → Type 0
-HasFallen value p tau c bound trail basis =
-    IsWalkEnd (theta_value value) (falling_value p tau c) (is_within bound)
-    (value_after (theta_value value) (falling_value p tau c) (is_within bound) (whole (pos 0)) trail.fall) (basis_after basis trail.fall)
-
 -- a step of a walk is left at the last basis of the trail: of the rising one, or of the falling one
 -- where the rising one is at its end
 abbrev pub HasTestedStep : {F : Type 0} → (F → Fraction) → Sample → ℚ → ℕ → ℚ → Trail F → List ℕ → Type 0
 HasTestedStep value p tau c bound trail basis =
     ((trail.fall ≡ [])
-    × HasWalkingStep (negated_theta value) (rising_value p tau c) (is_within bound)
-    (value_after (negated_theta value) (rising_value p tau c) (is_within bound) (whole (pos 0)) trail.rise) (basis_after basis trail.rise))
+    × HasStepAfter (negated_theta value) (rising_value p tau c) (is_within bound) (whole (pos 0)) basis trail.rise)
     ⊎ (HasRisen value p tau c bound trail basis
-    × HasWalkingStep (theta_value value) (falling_value p tau c) (is_within bound)
-    (value_after (theta_value value) (falling_value p tau c) (is_within bound) (whole (pos 0)) trail.fall) (basis_after basis trail.fall))
+    × HasStepAfter (theta_value value) (falling_value p tau c) (is_within bound) (whole (pos 0)) basis trail.fall)
 
 -- the lawful trail of the interval has as many steps as the limit says, and one more is left
 pub record ReachesTestedLimit {F : Type 0} (value : F → Fraction) (p : Sample) (tau : ℚ) (c : ℕ) (bound : ℚ) (limit : ℕ) (trail : Trail F) : Type 0 where
