@@ -7,7 +7,7 @@ use Rattle.exact_algebra.specs.RationalSums.{sum_ℚ}
 use Rattle.loss_model.specs.declared.vertex.Side.{Side}
 use Rattle.loss_model.specs.declared.vertex.Side.TheVariants.{Up, Down, Basic}
 use Rattle.loss_model.specs.Sample.{Sample, up_cost, down_cost}
-use Rattle.perturbation.specs.Perturbed.{perturbed, held_coordinate, turned}
+use Rattle.basis_model.specs.Perturbed.{perturbed, held_coordinate, turned}
 use Rattle.basis_model.specs.Basis.{coefficient, outside_row, side_at}
 
 -- the number of row i for its side, which for a row of the basis is not counted

@@ -7,7 +7,7 @@ use Rattle.loss_model.specs.declared.spill.Spill.{Spill}
 use Rattle.loss_model.specs.Sample.{Sample, residual}
 use Rattle.loss_model.specs.Problem.{value_at, sample, IsWellShaped}
 use Rattle.loss_model.specs.Spill.{abs_ℚ}
-use Rattle.perturbation.specs.Perturbed.{ratio}
+use Rattle.basis_model.specs.Perturbed.{ratio}
 use Rattle.basis_inverse.specs.Square.{inverse_entry}
 use Rattle.basis_model.specs.Basis.{coord, coefficient, outside_row, side_at}
 use Rattle.basic_solution.specs.Bases.{side_in}

@@ -1,4 +1,4 @@
--- What whoever goes on with a design knows of its rows and columns.
+-- Law. What whoever goes on with a design knows of its rows and columns.
 use Rattle.std.specs.Prelude.{◌≡◌, ◌≤◌, All, length, pos}
 use Rattle.std.specs.declared.cmp.Ordering.TheVariants.{Less}
 use Rattle.exact_algebra.specs.Order.{cmp_ℚ}

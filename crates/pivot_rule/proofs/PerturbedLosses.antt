@@ -8,7 +8,7 @@ use Rattle.loss_model.specs.declared.vertex.Side.{Side}
 use Rattle.loss_model.specs.declared.vertex.Side.TheVariants.{Up, Down, Basic}
 use Rattle.loss_model.specs.Sample.{Sample, up_cost, down_cost, residual, row_loss, loss}
 use Rattle.loss_model.specs.Vertex.{IsOn}
-use Rattle.perturbation.specs.Perturbed.{turned, held_coordinate-at}
+use Rattle.basis_model.specs.Perturbed.{turned, held_coordinate-at}
 use Rattle.basis_model.specs.Basis.{IsBasis, coefficient, side_at}
 use Rattle.basis_model.specs.PerturbedLoss.{by_side, perturbed_size, perturbed_loss, change_list, perturbed_coefficient}
 use Rattle.pivot_rule.proofs.Sides.{on_side}

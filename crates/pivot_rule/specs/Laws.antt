@@ -13,7 +13,7 @@ use Rattle.loss_model.specs.Dual.{IsDual}
 use Rattle.loss_model.specs.FullRank.{HasFullRank}
 use Rattle.loss_model.specs.Problem.{value_at, sample}
 use Rattle.loss_model.specs.Vertex.{dual_value}
-use Rattle.perturbation.specs.Perturbed.{IsOutside, perturbed}
+use Rattle.basis_model.specs.Perturbed.{IsOutside, perturbed}
 use Rattle.pivot_rule.specs.declared.direction.Direction.{Direction}
 use Rattle.basis_model.specs.Basis.{IsBasis, coord, coefficient, outside_row}
 use Rattle.basis_model.specs.PerturbedLoss.{perturbed_loss, change_list, perturbed_coefficient}
