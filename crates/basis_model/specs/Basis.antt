@@ -8,7 +8,7 @@ use Rattle.exact_matrices.specs.Selections.{is_among, AreDistinct}
 use Rattle.loss_model.specs.declared.vertex.Side.{Side}
 use Rattle.loss_model.specs.declared.vertex.Side.TheVariants.{Up, Down, Basic}
 use Rattle.loss_model.specs.Sample.{Sample, residual}
-use Rattle.perturbation.specs.Perturbed.{Nonbasic, perturbed_side}
+use Rattle.basis_model.specs.Perturbed.{Nonbasic, perturbed_side}
 use Rattle.basis_model.specs.declared.part.Part.{Part}
 use Rattle.basis_model.specs.declared.part.Part.TheVariants.{Constant, Linear}
 

@@ -13,6 +13,7 @@ use Rattle.data_frame.specs.declared.records.Found.TheVariants as found
 abbrev pub Records : Type 0
 Records = Reader (Bor (List ℕ))
 
+-- the bytes that are left in a slice
 abbrev pub remaining : Bor (List ℕ) → Option (List ℕ)
 remaining s = Some s.now
 

@@ -10,3 +10,5 @@ pub mod Usable
 pub mod Lengths
 pub mod Building
 pub mod Ascending
+pub mod Shapes
+pub mod Chosen

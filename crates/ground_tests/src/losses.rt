@@ -13,8 +13,33 @@ use std::alloc::{AllocError, Global};
 use std::process::Abort;
 use std::test::Fail;
 
-// A weight of which two are too wide together.
+/// A row worked by hand: its entries, its response, and the parts of its costs, upwards and then
+/// downwards, each of them constant and then by the quantile.
+type Plain = (&'static [i128], i128, [Ratio; 4]);
+
+/// Coefficients, a quantile, and the loss.
+type Case = (&'static [Ratio], Ratio, Ratio);
+
+/// The costs of an observation of weight 1.
+const ONCE: [Ratio; 4] = [(0, 1), (1, 1), (1, 1), (-1, 1)];
+
+/// Those of one of weight 3.
+const THRICE: [Ratio; 4] = [(0, 1), (3, 1), (3, 1), (-3, 1)];
+
+/// A weight of which two are too wide together.
 const WEIGHT: i128 = 100_000_000_000_000_000_000_000_000_000_000_000_000;
+
+/// The costs of an observation of that weight.
+const HEAVY: [Ratio; 4] = [(0, 1), (WEIGHT, 1), (WEIGHT, 1), (-WEIGHT, 1)];
+
+/// The costs of a penalty of lambda 1.
+const WHOLE: [Ratio; 4] = [(1, 1), (0, 1), (1, 1), (0, 1)];
+
+/// Those of one of lambda 1/8.
+const EIGHTH: [Ratio; 4] = [(1, 8), (0, 1), (1, 8), (0, 1)];
+
+/// The widest number.
+const M: i128 = Frac128::RANGE;
 
 fn list(rt: &impl Abort, alloc: Global, values: &[Ratio]) -> Result<List<Frac128>, AllocError> {
     let mut made = Vec::new(alloc);
@@ -24,49 +49,35 @@ fn list(rt: &impl Abort, alloc: Global, values: &[Ratio]) -> Result<List<Frac128
     Ok(List::from(made))
 }
 
-fn row(
-    rt: &impl Abort,
-    alloc: Global,
-    x: &[Ratio],
-    y: Ratio,
-    costs: [Ratio; 4],
-) -> Result<Row<Frac128>, AllocError> {
-    let [up0, up1, down0, down1] = costs;
+fn row(rt: &impl Abort, alloc: Global, (x, y, costs): &Plain) -> Result<Row<Frac128>, AllocError> {
+    let mut entries = Vec::new(alloc);
+    for entry in *x {
+        entries.push(fraction(rt, (*entry, 1)))?;
+    }
     Ok(Row {
-        x: list(rt, alloc, x)?,
-        y: fraction(rt, y),
-        up0: fraction(rt, up0),
-        up1: fraction(rt, up1),
-        down0: fraction(rt, down0),
-        down1: fraction(rt, down1),
+        x: List::from(entries),
+        y: fraction(rt, (*y, 1)),
+        up0: fraction(rt, costs[0]),
+        up1: fraction(rt, costs[1]),
+        down0: fraction(rt, costs[2]),
+        down1: fraction(rt, costs[3]),
     })
 }
 
-// An observation of a whole weight.
-fn data(
+fn problem(
     rt: &impl Abort,
     alloc: Global,
-    x: &[Ratio],
-    y: i128,
-    weight: i128,
-) -> Result<Row<Frac128>, AllocError> {
-    assert!(rt; weight > 0);
-    row(
-        rt,
-        alloc,
-        x,
-        (y, 1),
-        [(0, 1), (weight, 1), (weight, 1), (-weight, 1)],
-    )
-}
-
-fn penalty(
-    rt: &impl Abort,
-    alloc: Global,
-    x: &[Ratio],
-    lambda: Ratio,
-) -> Result<Row<Frac128>, AllocError> {
-    row(rt, alloc, x, (0, 1), [lambda, (0, 1), lambda, (0, 1)])
+    columns: u32,
+    rows: &[Plain],
+) -> Result<Problem<Frac128>, AllocError> {
+    let mut made = Vec::new(alloc);
+    for plain in rows {
+        made.push(row(rt, alloc, plain)?)?;
+    }
+    Ok(Problem {
+        columns,
+        rows: List::from(made),
+    })
 }
 
 fn is_shaped(problem: &Problem<Frac128>, coef: &[Frac128]) -> bool
@@ -102,305 +113,287 @@ fn outcome(
     })
 }
 
-// The loss of coefficients at theta is this one.
-fn expect_loss(
+// The losses of rows are these.
+fn expect_losses(
     rt: &impl Abort,
     alloc: Global,
-    problem: &Problem<Frac128>,
-    coef: &[Ratio],
-    theta: Ratio,
-    want: Ratio,
+    columns: u32,
+    rows: &[Plain],
+    cases: &[Case],
 ) -> Result<(), AllocError> {
-    let found = outcome(rt, alloc, problem, coef, theta)?;
-    assert!(rt; found == Ok(want), "{coef:?} at {theta:?}: {found:?}");
+    let problem = problem(rt, alloc, columns, rows)?;
+    for (coef, theta, want) in cases {
+        let found = outcome(rt, alloc, &problem, coef, *theta)?;
+        assert!(rt; found == Ok(*want), "{coef:?} at {theta:?}: {found:?}");
+    }
     Ok(())
 }
 
-fn problem(columns: u32, rows: Vec<Row<Frac128>>) -> Problem<Frac128> {
-    Problem {
-        columns,
-        rows: List::from(rows),
-    }
-}
+static THREE: [Plain; 3] = [(&[1], 1, ONCE), (&[1], 2, ONCE), (&[1], 3, ONCE)];
+
+// The median, and both ends of each segment of the process.
+static MEDIANS: [Case; 8] = [
+    (&[(2, 1)], (1, 2), (1, 1)),
+    (&[(1, 1)], (0, 1), (0, 1)),
+    (&[(1, 1)], (1, 3), (1, 1)),
+    (&[(2, 1)], (1, 3), (1, 1)),
+    (&[(2, 1)], (2, 3), (1, 1)),
+    (&[(3, 1)], (2, 3), (1, 1)),
+    (&[(3, 1)], (1, 1), (0, 1)),
+    (&[(5, 1)], (1, 4), (27, 4)),
+];
 
 #[test]
 fn three_responses(rt: HostRuntime) -> Result<(), Fail> {
-    let alloc = rt.alloc();
-    let one = [(1, 1)];
-    let three = problem(
-        1,
-        vec![in alloc;
-            data(&rt, alloc, &one, 1, 1)?,
-            data(&rt, alloc, &one, 2, 1)?,
-            data(&rt, alloc, &one, 3, 1)?,
-        ]?,
-    );
-    // The median, and both ends of each segment of the process.
-    let cases: [(i128, Ratio, Ratio); 8] = [
-        (2, (1, 2), (1, 1)),
-        (1, (0, 1), (0, 1)),
-        (1, (1, 3), (1, 1)),
-        (2, (1, 3), (1, 1)),
-        (2, (2, 3), (1, 1)),
-        (3, (2, 3), (1, 1)),
-        (3, (1, 1), (0, 1)),
-        (5, (1, 4), (27, 4)),
-    ];
-    for (coef, theta, want) in cases {
-        expect_loss(&rt, alloc, &three, &[(coef, 1)], theta, want)?;
-    }
+    expect_losses(&rt, rt.alloc(), 1, &THREE, &MEDIANS)?;
     Ok(())
 }
+
+static LINE: [Plain; 3] = [(&[1, 0], 0, ONCE), (&[1, 1], 2, ONCE), (&[1, 3], 3, ONCE)];
+
+static LINES: [Case; 6] = [
+    (&[(0, 1), (1, 1)], (0, 1), (0, 1)),
+    (&[(0, 1), (1, 1)], (3, 5), (3, 5)),
+    (&[(3, 2), (1, 2)], (3, 5), (3, 5)),
+    (&[(3, 2), (1, 2)], (1, 1), (0, 1)),
+    (&[(0, 1), (1, 1)], (1, 2), (1, 2)),
+    (&[(1, 1), (-1, 2)], (1, 2), (3, 1)),
+];
 
 #[test]
 fn line_of_three_points(rt: HostRuntime) -> Result<(), Fail> {
-    let alloc = rt.alloc();
-    let line = problem(
-        2,
-        vec![in alloc;
-            data(&rt, alloc, &[(1, 1), (0, 1)], 0, 1)?,
-            data(&rt, alloc, &[(1, 1), (1, 1)], 2, 1)?,
-            data(&rt, alloc, &[(1, 1), (3, 1)], 3, 1)?,
-        ]?,
-    );
-    let cases: [(Ratio, Ratio, Ratio, Ratio); 6] = [
-        ((0, 1), (1, 1), (0, 1), (0, 1)),
-        ((0, 1), (1, 1), (3, 5), (3, 5)),
-        ((3, 2), (1, 2), (3, 5), (3, 5)),
-        ((3, 2), (1, 2), (1, 1), (0, 1)),
-        ((0, 1), (1, 1), (1, 2), (1, 2)),
-        ((1, 1), (-1, 2), (1, 2), (3, 1)),
-    ];
-    for (intercept, slope, theta, want) in cases {
-        expect_loss(&rt, alloc, &line, &[intercept, slope], theta, want)?;
-    }
+    expect_losses(&rt, rt.alloc(), 2, &LINE, &LINES)?;
     Ok(())
 }
+
+static WEIGHTED: [Plain; 2] = [(&[1], 1, ONCE), (&[1], 2, THRICE)];
+
+static WEIGHTS: [Case; 4] = [
+    (&[(1, 1)], (0, 1), (0, 1)),
+    (&[(1, 1)], (1, 4), (3, 4)),
+    (&[(2, 1)], (1, 4), (3, 4)),
+    (&[(2, 1)], (1, 1), (0, 1)),
+];
+
+// A penalty costs lambda for each unit of its size, at every quantile.
+static SMOOTH: [Plain; 4] = [
+    (&[1, 0, 0], 0, ONCE),
+    (&[1, 1, 0], 2, ONCE),
+    (&[1, 0, 1], 0, ONCE),
+    (&[0, -2, 1], 0, WHOLE),
+];
+
+static SMOOTHER: [Case; 1] = [(&[(0, 1), (0, 1), (0, 1)], (1, 2), (1, 1))];
+
+static ROUGH: [Plain; 4] = [
+    (&[1, 0, 0], 0, ONCE),
+    (&[1, 1, 0], 2, ONCE),
+    (&[1, 0, 1], 0, ONCE),
+    (&[0, -2, 1], 0, EIGHTH),
+];
+
+static ROUGHER: [Case; 3] = [
+    (&[(0, 1), (2, 1), (0, 1)], (1, 2), (1, 2)),
+    (&[(0, 1), (2, 1), (0, 1)], (1, 1), (1, 2)),
+    (&[(0, 1), (-2, 1), (0, 1)], (0, 1), (1, 2)),
+];
 
 #[test]
 fn weights_and_penalties(rt: HostRuntime) -> Result<(), Fail> {
-    let alloc = rt.alloc();
-    let one = [(1, 1)];
-    let weighted = problem(
-        1,
-        vec![in alloc;
-            data(&rt, alloc, &one, 1, 1)?,
-            data(&rt, alloc, &one, 2, 3)?,
-        ]?,
-    );
-    for (coef, theta, want) in [
-        (1, (0, 1), (0, 1)),
-        (1, (1, 4), (3, 4)),
-        (2, (1, 4), (3, 4)),
-        (2, (1, 1), (0, 1)),
-    ] {
-        expect_loss(&rt, alloc, &weighted, &[(coef, 1)], theta, want)?;
-    }
-    // A penalty costs lambda for each unit of its size, at every quantile.
-    for (lambda, coef, theta, want) in [
-        ((1, 1), [(0, 1), (0, 1), (0, 1)], (1, 2), (1, 1)),
-        ((1, 8), [(0, 1), (2, 1), (0, 1)], (1, 2), (1, 2)),
-        ((1, 8), [(0, 1), (2, 1), (0, 1)], (1, 1), (1, 2)),
-        ((1, 8), [(0, 1), (-2, 1), (0, 1)], (0, 1), (1, 2)),
-    ] {
-        let smooth = problem(
-            3,
-            vec![in alloc;
-                data(&rt, alloc, &[(1, 1), (0, 1), (0, 1)], 0, 1)?,
-                data(&rt, alloc, &[(1, 1), (1, 1), (0, 1)], 2, 1)?,
-                data(&rt, alloc, &[(1, 1), (0, 1), (1, 1)], 0, 1)?,
-                penalty(&rt, alloc, &[(0, 1), (-2, 1), (1, 1)], lambda)?,
-            ]?,
-        );
-        expect_loss(&rt, alloc, &smooth, &coef, theta, want)?;
-    }
+    expect_losses(&rt, rt.alloc(), 1, &WEIGHTED, &WEIGHTS)?;
+    expect_losses(&rt, rt.alloc(), 3, &SMOOTH, &SMOOTHER)?;
+    expect_losses(&rt, rt.alloc(), 3, &ROUGH, &ROUGHER)?;
     Ok(())
 }
 
-// A row of one entry, what its loss is tried with, and the operation that overflows.
+// Rows of one entry, a coefficient and a quantile at which their loss is tried, and the operation that
+// overflows.
 #[derive(Clone, Copy)]
 struct Wide {
-    x: i128,
-    y: i128,
-    up: [i128; 2],
-    down: [i128; 2],
-    coef: i128,
-    quantity: Quantity,
-    second: u32,
-    term: u32,
-    kind: OpKind,
+    rows: &'static [Plain],
+    coef: Ratio,
+    theta: Ratio,
+    site: Site,
     left: i128,
     right: i128,
 }
 
-#[test]
-fn spills_name_their_operation(rt: HostRuntime) -> Result<(), Fail> {
-    let alloc = rt.alloc();
-    let m = Frac128::RANGE;
-    let cases = [
-        Wide {
-            x: 2,
-            y: 0,
-            up: [1, 0],
-            down: [1, 0],
-            coef: m,
-            quantity: Quantity::Residual,
-            second: 0,
-            term: 2,
-            kind: OpKind::Mul,
-            left: -2,
-            right: m,
-        },
-        Wide {
-            x: 1,
-            y: m,
-            up: [1, 0],
-            down: [1, 0],
-            coef: -1,
-            quantity: Quantity::Residual,
-            second: 0,
-            term: 2,
-            kind: OpKind::Add,
-            left: m,
-            right: 1,
-        },
-        Wide {
-            x: 1,
-            y: 5,
-            up: [m, m],
-            down: [1, 0],
-            coef: 3,
-            quantity: Quantity::CostValue,
-            second: 0,
-            term: 2,
-            kind: OpKind::Add,
-            left: m,
-            right: m,
-        },
-        Wide {
-            x: 1,
-            y: 3,
-            up: [1, 0],
-            down: [m, m],
-            coef: 5,
-            quantity: Quantity::CostValue,
-            second: 1,
-            term: 2,
-            kind: OpKind::Add,
-            left: m,
-            right: m,
-        },
-        Wide {
-            x: 1,
-            y: 3,
-            up: [1, 0],
-            down: [m, 0],
-            coef: 5,
-            quantity: Quantity::Loss,
-            second: 0,
-            term: 1,
-            kind: OpKind::Mul,
-            left: m,
-            right: 2,
-        },
-    ];
-    for case in cases {
-        let costs = [
-            (case.up[0], 1),
-            (case.up[1], 1),
-            (case.down[0], 1),
-            (case.down[1], 1),
-        ];
-        let wide = problem(
-            1,
-            vec![in alloc; row(&rt, alloc, &[(case.x, 1)], (case.y, 1), costs)?]?,
-        );
-        let want = Spill {
-            site: Site {
-                quantity: case.quantity,
-                first: 0,
-                second: case.second,
-                third: 0,
-                term: case.term,
-                kind: case.kind,
-            },
-            left: fraction(&rt, (case.left, 1)),
-            right: fraction(&rt, (case.right, 1)),
-        };
-        let found = outcome(&rt, alloc, &wide, &[(case.coef, 1)], (1, 1))?;
-        assert!(rt; found == Err(want), "{found:?}");
-    }
+fn expect_spill(rt: &impl Abort, alloc: Global, case: &Wide) -> Result<(), AllocError> {
+    let problem = problem(rt, alloc, 1, case.rows)?;
+    let want = Spill {
+        site: case.site,
+        left: fraction(rt, (case.left, 1)),
+        right: fraction(rt, (case.right, 1)),
+    };
+    let found = outcome(rt, alloc, &problem, &[case.coef], case.theta)?;
+    assert!(rt; found == Err(want), "{found:?}");
     Ok(())
 }
 
-#[test]
-fn sum_of_wide_losses_spills_at_its_row(rt: HostRuntime) -> Result<(), Fail> {
-    let alloc = rt.alloc();
-    let one = [(1, 1)];
-    let wide = problem(
-        1,
-        vec![in alloc;
-            data(&rt, alloc, &one, 1, WEIGHT)?,
-            data(&rt, alloc, &one, 2, WEIGHT)?,
-            data(&rt, alloc, &one, 3, WEIGHT)?,
-        ]?,
-    );
-    // The costs are 5e37: 15e37 and 10e37 are too wide together.
-    let want = Spill {
+static SPILLS: [Wide; 5] = [
+    Wide {
+        rows: &[(&[2], 0, [(1, 1), (0, 1), (1, 1), (0, 1)])],
+        coef: (M, 1),
+        theta: (1, 1),
         site: Site {
-            quantity: Quantity::Loss,
+            quantity: Quantity::Residual,
+            first: 0,
+            second: 0,
+            third: 0,
+            term: 2,
+            kind: OpKind::Mul,
+        },
+        left: -2,
+        right: M,
+    },
+    Wide {
+        rows: &[(&[1], M, [(1, 1), (0, 1), (1, 1), (0, 1)])],
+        coef: (-1, 1),
+        theta: (1, 1),
+        site: Site {
+            quantity: Quantity::Residual,
             first: 0,
             second: 0,
             third: 0,
             term: 2,
             kind: OpKind::Add,
         },
-        left: fraction(&rt, (WEIGHT / 2 * 3, 1)),
-        right: fraction(&rt, (WEIGHT, 1)),
-    };
-    let found = outcome(&rt, alloc, &wide, &[(4, 1)], (1, 2))?;
-    assert!(rt; found == Err(want), "{found:?}");
-    expect_loss(&rt, alloc, &wide, &[(2, 1)], (1, 2), (WEIGHT, 1))?;
+        left: M,
+        right: 1,
+    },
+    Wide {
+        rows: &[(&[1], 5, [(M, 1), (M, 1), (1, 1), (0, 1)])],
+        coef: (3, 1),
+        theta: (1, 1),
+        site: Site {
+            quantity: Quantity::CostValue,
+            first: 0,
+            second: 0,
+            third: 0,
+            term: 2,
+            kind: OpKind::Add,
+        },
+        left: M,
+        right: M,
+    },
+    Wide {
+        rows: &[(&[1], 3, [(1, 1), (0, 1), (M, 1), (M, 1)])],
+        coef: (5, 1),
+        theta: (1, 1),
+        site: Site {
+            quantity: Quantity::CostValue,
+            first: 0,
+            second: 1,
+            third: 0,
+            term: 2,
+            kind: OpKind::Add,
+        },
+        left: M,
+        right: M,
+    },
+    Wide {
+        rows: &[(&[1], 3, [(1, 1), (0, 1), (M, 1), (0, 1)])],
+        coef: (5, 1),
+        theta: (1, 1),
+        site: Site {
+            quantity: Quantity::Loss,
+            first: 0,
+            second: 0,
+            third: 0,
+            term: 1,
+            kind: OpKind::Mul,
+        },
+        left: M,
+        right: 2,
+    },
+];
+
+#[test]
+fn spills_name_their_operation(rt: HostRuntime) -> Result<(), Fail> {
+    for case in &SPILLS {
+        expect_spill(&rt, rt.alloc(), case)?;
+    }
     Ok(())
+}
+
+// The costs are 5e37: 15e37 and 10e37 are too wide together.
+static WIDE_SUM: Wide = Wide {
+    rows: &[(&[1], 1, HEAVY), (&[1], 2, HEAVY), (&[1], 3, HEAVY)],
+    coef: (4, 1),
+    theta: (1, 2),
+    site: Site {
+        quantity: Quantity::Loss,
+        first: 0,
+        second: 0,
+        third: 0,
+        term: 2,
+        kind: OpKind::Add,
+    },
+    left: WEIGHT / 2 * 3,
+    right: WEIGHT,
+};
+
+static WIDE_LOSS: [Case; 1] = [(&[(2, 1)], (1, 2), (WEIGHT, 1))];
+
+#[test]
+fn sum_of_wide_losses_spills_at_its_row(rt: HostRuntime) -> Result<(), Fail> {
+    expect_spill(&rt, rt.alloc(), &WIDE_SUM)?;
+    expect_losses(&rt, rt.alloc(), 1, WIDE_SUM.rows, &WIDE_LOSS)?;
+    Ok(())
+}
+
+// An operation, its operands, and its value or `None` for a spill.
+static OPERATIONS: [(OpKind, Ratio, Ratio, Option<Ratio>); 8] = [
+    (OpKind::Add, (3, 4), (1, 2), Some((5, 4))),
+    (OpKind::Sub, (3, 4), (1, 2), Some((1, 4))),
+    (OpKind::Mul, (3, 4), (1, 2), Some((3, 8))),
+    (OpKind::Div, (3, 4), (1, 2), Some((3, 2))),
+    (OpKind::Add, (M, 1), (1, 1), None),
+    (OpKind::Sub, (-M, 1), (1, 1), None),
+    (OpKind::Mul, (M, 1), (2, 1), None),
+    (OpKind::Div, (1, M), (2, 1), None),
+];
+
+fn operation_at(
+    rt: &impl Abort,
+    site: Site,
+    kind: OpKind,
+    x: Frac128,
+    y: Frac128,
+) -> Result<Frac128, Spill<Frac128>> {
+    match kind {
+        OpKind::Add => plus_at(site, x, y),
+        OpKind::Sub => minus_at(site, x, y),
+        OpKind::Mul => times_at(site, x, y),
+        OpKind::Div => {
+            assert!(rt; !y.is_zero());
+            over_at(site, x, y)
+        }
+    }
 }
 
 #[test]
 fn operations_at_a_site(rt: HostRuntime) {
-    let m = Frac128::RANGE;
     let site = Site::new(Quantity::Score, 4, 1, 2);
-    // An operation, its operands, and its value or `None` for a spill.
-    let cases: [(OpKind, Ratio, Ratio, Option<Ratio>); 8] = [
-        (OpKind::Add, (3, 4), (1, 2), Some((5, 4))),
-        (OpKind::Sub, (3, 4), (1, 2), Some((1, 4))),
-        (OpKind::Mul, (3, 4), (1, 2), Some((3, 8))),
-        (OpKind::Div, (3, 4), (1, 2), Some((3, 2))),
-        (OpKind::Add, (m, 1), (1, 1), None),
-        (OpKind::Sub, (-m, 1), (1, 1), None),
-        (OpKind::Mul, (m, 1), (2, 1), None),
-        (OpKind::Div, (1, m), (2, 1), None),
-    ];
-    for (kind, left, right, want) in cases {
-        let x: Frac128 = fraction(&rt, left);
-        let y: Frac128 = fraction(&rt, right);
-        let got = match kind {
-            OpKind::Add => plus_at(site, x, y),
-            OpKind::Sub => minus_at(site, x, y),
-            OpKind::Mul => times_at(site, x, y),
-            OpKind::Div => {
-                assert!(rt; !y.is_zero());
-                over_at(site, x, y)
-            }
-        };
-        let spill = Spill {
-            site: Site { kind, ..site },
-            left: x,
-            right: y,
-        };
+    for (kind, left, right, want) in &OPERATIONS {
+        let x = fraction(&rt, *left);
+        let y = fraction(&rt, *right);
+        let found = operation_at(&rt, site, *kind, x, y);
         let want = match want {
-            Some(value) => Ok(fraction(&rt, value)),
-            None => Err(spill),
+            Some(value) => Ok(fraction(&rt, *value)),
+            None => Err(Spill {
+                site: Site {
+                    kind: *kind,
+                    ..site
+                },
+                left: x,
+                right: y,
+            }),
         };
-        assert!(rt; got == want, "{kind:?} of {left:?} and {right:?}: {got:?}");
+        assert!(rt;
+            found == want,
+            "{kind:?} of {left:?} and {right:?}: {found:?}"
+        );
     }
 }
 

@@ -1,6 +1,6 @@
 //! Texts of numbers: what each reads as in both widths, and what is written.
 
-use crate::helpers::ratio;
+use crate::helpers::{Ratio, fraction, ratio};
 use frac_core::{Exact, Frac64, Frac128, NumberFault, number_text, read_number};
 use std::alloc::{AllocError, Global};
 use std::process::Abort;
@@ -644,30 +644,32 @@ fn with_zeros(alloc: Global, before: &str, after: &str) -> Result<String, AllocE
     Ok(text)
 }
 
+// What stands before and behind the zeros, and what the text reads as.
+static ZEROS: [(&str, &str, Reading); 14] = [
+    ("", "7", Reading::Value(7, 1)),
+    ("-", ".5", Reading::Value(-1, 2)),
+    ("1", "", Reading::TooWide),
+    ("1", "e-1000000", Reading::Value(1, 1)),
+    ("1", "e-1000018", Reading::Value(1, 1000000000000000000)),
+    ("0.", "", Reading::Value(0, 1)),
+    ("0.", "1", Reading::TooWide),
+    ("0.", "1e1000001", Reading::Value(1, 1)),
+    ("0.5", "", Reading::Value(1, 2)),
+    ("", "/3", Reading::Value(0, 1)),
+    ("1/", "4", Reading::Value(1, 4)),
+    ("1/", "", Reading::NotANumber),
+    ("1e", "2", Reading::Value(100, 1)),
+    ("1", "x", Reading::NotANumber),
+];
+
 #[test]
 fn a_million_zeros(rt: HostRuntime) -> Result<(), Fail> {
-    let cases = [
-        ("", "7", Reading::Value(7, 1)),
-        ("-", ".5", Reading::Value(-1, 2)),
-        ("1", "", Reading::TooWide),
-        ("1", "e-1000000", Reading::Value(1, 1)),
-        ("1", "e-1000018", Reading::Value(1, 1000000000000000000)),
-        ("0.", "", Reading::Value(0, 1)),
-        ("0.", "1", Reading::TooWide),
-        ("0.", "1e1000001", Reading::Value(1, 1)),
-        ("0.5", "", Reading::Value(1, 2)),
-        ("", "/3", Reading::Value(0, 1)),
-        ("1/", "4", Reading::Value(1, 4)),
-        ("1/", "", Reading::NotANumber),
-        ("1e", "2", Reading::Value(100, 1)),
-        ("1", "x", Reading::NotANumber),
-    ];
-    for (before, after, reading) in cases {
+    for (before, after, reading) in &ZEROS {
         let text = with_zeros(rt.alloc(), before, after)?;
         let wide = reading_of::<Frac128>(text.as_str());
         let narrow = reading_of::<Frac64>(text.as_str());
-        assert!(rt; wide == reading, "{before}0..0{after}: {wide:?}");
-        assert!(rt; narrow == reading, "{before}0..0{after}: {narrow:?}");
+        assert!(&rt; wide == *reading, "{before}0..0{after}: {wide:?}");
+        assert!(&rt; narrow == *reading, "{before}0..0{after}: {narrow:?}");
     }
     Ok(())
 }
@@ -675,37 +677,36 @@ fn a_million_zeros(rt: HostRuntime) -> Result<(), Fail> {
 fn expect_text<F: Exact>(
     rt: &impl Abort,
     alloc: Global,
-    value: F,
+    value: Ratio,
     written: &str,
 ) -> Result<(), Fail> {
+    let value: F = fraction(rt, value);
     let text = number_text(alloc, value)?;
     let text = text.as_str();
     assert!(rt; text == written, "{text} for {written}");
     Ok(())
 }
 
+static WRITTEN: [(Ratio, &str); 7] = [
+    ((-4, 6), "-2/3"),
+    ((-2, -3), "2/3"),
+    ((6, 3), "2"),
+    ((0, -5), "0"),
+    ((-7, 1), "-7"),
+    ((1, NARROW_MAX), "1/9223372036854775807"),
+    ((-NARROW_MAX, 2), "-9223372036854775807/2"),
+];
+
 #[test]
 fn values_are_written(rt: HostRuntime) -> Result<(), Fail> {
-    let cases = [
-        ((-4, 6), "-2/3"),
-        ((-2, -3), "2/3"),
-        ((6, 3), "2"),
-        ((0, -5), "0"),
-        ((-7, 1), "-7"),
-        ((1, 9223372036854775807), "1/9223372036854775807"),
-        ((-9223372036854775807, 2), "-9223372036854775807/2"),
-    ];
-    for ((n, d), written) in cases {
-        let wide = Frac128::from_parts(n, d).ok_or("out of range")?;
-        let narrow = Frac64::from_parts(n, d).ok_or("out of range")?;
-        expect_text(&rt, rt.alloc(), wide, written)?;
-        expect_text(&rt, rt.alloc(), narrow, written)?;
+    for (value, written) in &WRITTEN {
+        expect_text::<Frac128>(&rt, rt.alloc(), *value, written)?;
+        expect_text::<Frac64>(&rt, rt.alloc(), *value, written)?;
     }
-    let most = Frac128::from_parts(-i128::MAX, i128::MAX - 1).ok_or("out of range")?;
-    expect_text(
+    expect_text::<Frac128>(
         &rt,
         rt.alloc(),
-        most,
+        (-i128::MAX, i128::MAX - 1),
         "-170141183460469231731687303715884105727/170141183460469231731687303715884105726",
     )
 }

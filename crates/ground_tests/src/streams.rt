@@ -10,29 +10,30 @@ const TABLE: &[u8] = b"y\n1\n2\n3\n";
 const REPORT: &[u8] = b"quantreg 1\nrecords 3 dropped 0\n";
 
 // Each case: the most bytes of a read, the calls that fail, and whether the whole is read.
+static READS: [(usize, &[u32], bool); 9] = [
+    (4, &[], true),
+    (4, &[1], false),
+    (4, &[2], false),
+    (4, &[3], false),
+    (4, &[4], true),
+    (1, &[9], false),
+    (1, &[10], true),
+    (100_000, &[2], false),
+    (100_000, &[3, 0], true),
+];
+
 #[test]
 fn reads_of_memory_fail_as_told(rt: HostRuntime) -> Result<(), Fail> {
-    let cases: [(usize, &[u32], bool); 9] = [
-        (4, &[], true),
-        (4, &[1], false),
-        (4, &[2], false),
-        (4, &[3], false),
-        (4, &[4], true),
-        (1, &[9], false),
-        (1, &[10], true),
-        (100_000, &[2], false),
-        (100_000, &[3, 0], true),
-    ];
-    for (piece, fails, whole) in cases {
+    for (piece, fails, whole) in &READS {
         let bytes = TABLE.to_vec(rt.alloc())?;
-        let mut source = MemSource::new(bytes, piece, fails.to_vec(rt.alloc())?);
+        let mut source = MemSource::new(bytes, *piece, fails.to_vec(rt.alloc())?);
         match read_all(rt.alloc(), &mut source) {
             Ok(read) => {
-                assert!(rt; whole, "{piece} {fails:?}");
+                assert!(rt; *whole, "{piece} {fails:?}");
                 assert!(rt; read.as_slice() == TABLE);
             }
             Err(fault) => {
-                assert!(rt; !whole, "{piece} {fails:?}");
+                assert!(rt; !*whole, "{piece} {fails:?}");
                 assert!(rt; fault == ReadFault::Failed);
             }
         }
@@ -42,27 +43,28 @@ fn reads_of_memory_fail_as_told(rt: HostRuntime) -> Result<(), Fail> {
 
 // Each case: the room, the most bytes of a write, the calls that fail, and how many bytes are held
 // in the end.
+static WRITES: [(usize, usize, &[u32], usize); 8] = [
+    (100, 5, &[3], 10),
+    (100, 5, &[1], 0),
+    (100, 5, &[7], 30),
+    (100, 5, &[8], 31),
+    (100, 5, &[], 31),
+    (31, 100, &[], 31),
+    (30, 100, &[], 30),
+    (0, 1, &[], 0),
+];
+
 #[test]
 fn writes_to_memory_fail_as_told(rt: HostRuntime) -> Result<(), Fail> {
-    let cases: [(usize, usize, &[u32], usize); 8] = [
-        (100, 5, &[3], 10),
-        (100, 5, &[1], 0),
-        (100, 5, &[7], 30),
-        (100, 5, &[8], 31),
-        (100, 5, &[], 31),
-        (31, 100, &[], 31),
-        (30, 100, &[], 30),
-        (0, 1, &[], 0),
-    ];
-    for (room, piece, fails, held) in cases {
-        let mut sink = MemSink::new(rt.alloc(), room, piece, fails.to_vec(rt.alloc())?)?;
+    for (room, piece, fails, held) in &WRITES {
+        let mut sink = MemSink::new(rt.alloc(), *room, *piece, fails.to_vec(rt.alloc())?)?;
         let written = write_all(&mut sink, REPORT);
         assert!(rt;
-            written.is_ok() == (held == REPORT.len()),
+            written.is_ok() == (*held == REPORT.len()),
             "{room} {piece} {fails:?}"
         );
         assert!(rt;
-            sink.written() == &REPORT[..held.min(31)],
+            sink.written() == &REPORT[..(*held).min(31)],
             "{room} {piece} {fails:?}"
         );
     }
@@ -187,5 +189,43 @@ fn a_writer_of_std_is_a_sink(rt: HostRuntime) -> Result<(), Fail> {
         assert!(rt; writer.held.len() == len, "{bad_write} {bad_flush} {idle}");
         assert!(rt; writer.flushes == flushes, "{bad_write} {bad_flush} {idle}");
     }
+    Ok(())
+}
+
+// Holds back what it takes until it is flushed, and counts the flushes.
+#[derive(Drop)]
+struct Holding {
+    waiting: Vec<u8>,
+    arrived: Vec<u8>,
+    flushes: u32,
+}
+
+impl Write for Holding {
+    fn write(&mut self, buf: &[u8]) -> io::Result<usize> {
+        let count = buf.len().min(3);
+        self.waiting.extend_from_slice(&buf[..count])?;
+        Ok(count)
+    }
+
+    fn flush(&mut self) -> io::Result<()> {
+        self.flushes = self.flushes.saturating_add(1);
+        self.arrived.extend_from_slice(&self.waiting)?;
+        self.waiting.clear();
+        Ok(())
+    }
+}
+
+// All that a sink says is written has left the writer's own room: 31 bytes in pieces of 3.
+#[test]
+fn each_write_is_flushed(rt: HostRuntime) -> Result<(), Fail> {
+    let mut writer = Holding {
+        waiting: Vec::new(rt.alloc()),
+        arrived: Vec::new(rt.alloc()),
+        flushes: 0,
+    };
+    assert!(rt; write_all(&mut StdSink::new(&mut writer), REPORT).is_ok());
+    assert!(rt; writer.arrived.as_slice() == REPORT);
+    assert!(rt; writer.waiting.is_empty());
+    assert!(rt; writer.flushes == 11);
     Ok(())
 }

@@ -1,6 +1,6 @@
 -- Stated. Quantities as sums of products, and the operands of an operation that overflows.
 use Rattle.std.specs.Prelude.{◌≡◌, ◌⊎◌, ℕ, ◌+◌, ◌<◌, cond, pos}
-use Rattle.exact_algebra.specs.Rational.{ℚ, ◌+ℚ◌, ◌*ℚ◌, neg_ℚ, whole, le_ℚ}
+use Rattle.exact_algebra.specs.Rational.{ℚ, ◌+ℚ◌, ◌*ℚ◌, neg_ℚ, whole, le_ℚ, ◌≤ℚ◌}
 use Rattle.exact_algebra.specs.RationalSums.{sum_ℚ}
 use Rattle.exact_algebra.specs.Fraction.{Fraction, rational}
 use Rattle.frac_core.specs.Overflow.{Overflows}
@@ -101,12 +101,18 @@ IsUpCostSpill value range p theta i s = IsSpillOf value range (site_of CostValue
 abbrev pub IsDownCostSpill : {F : Type 0} → (F → Fraction) → ℕ → Sample → ℚ → ℕ → Spill F → Type 0
 IsDownCostSpill value range p theta i s = IsSpillOf value range (site_of CostValue i 1 1) (down_products p theta i) s
 
--- an operation of the residual of row i or of one of its costs overflows
+-- one of the cost of the side on which its residual lies does
+abbrev pub IsSideCostSpill : {F : Type 0} → (F → Fraction) → ℕ → Sample → ℚ → (ℕ → ℚ) → ℕ → Spill F → Type 0
+IsSideCostSpill value range p theta b i s =
+    ((whole (pos 0) ≤ℚ residual p b i) × IsUpCostSpill value range p theta i s)
+    ⊎ ((¬ (whole (pos 0) ≤ℚ residual p b i)) × IsDownCostSpill value range p theta i s)
+
+-- one of its residual or of that cost does
 abbrev pub IsRowSpill : {F : Type 0} → (F → Fraction) → ℕ → Sample → ℚ → (ℕ → ℚ) → ℕ → Spill F → Type 0
 IsRowSpill value range p theta b i s =
-    IsResidualSpill value range p b i s ⊎ (IsUpCostSpill value range p theta i s ⊎ IsDownCostSpill value range p theta i s)
+    IsResidualSpill value range p b i s ⊎ IsSideCostSpill value range p theta b i s
 
--- an operation of a row's residual or cost, or of the sum of the losses, overflows
+-- one of a row, or one of the sum of the losses does
 abbrev pub IsLossSpill : {F : Type 0} → (F → Fraction) → ℕ → Sample → ℚ → (ℕ → ℚ) → Spill F → Type 0
 IsLossSpill value range p theta b s =
     ((i : ℕ) × (i < p.rows) × IsRowSpill value range p theta b i s)

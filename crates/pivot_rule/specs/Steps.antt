@@ -9,8 +9,8 @@ use Rattle.loss_model.specs.declared.vertex.Side.{Side}
 use Rattle.loss_model.specs.declared.vertex.Side.TheVariants.{Up, Down, Basic}
 use Rattle.loss_model.specs.Sample.{Sample, up_cost, down_cost}
 use Rattle.loss_model.specs.Spill.{abs_ℚ}
-use Rattle.perturbation.specs.Lexicographic.{lex_cmp}
-use Rattle.perturbation.specs.Perturbed.{ratio}
+use Rattle.basis_model.specs.Lexicographic.{lex_cmp}
+use Rattle.basis_model.specs.Perturbed.{ratio}
 use Rattle.pivot_rule.specs.declared.direction.Direction.{Direction}
 use Rattle.pivot_rule.specs.declared.direction.Direction.TheVariants.{Upward, Downward}
 use Rattle.basis_model.specs.Basis.{coord, outside_row, side_at, dual_value}

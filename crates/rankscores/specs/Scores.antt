@@ -1,5 +1,5 @@
--- Stated. The rankscores of a segment's basic rows (Gutenbrunner and Jurečková 1992). A type F of fractions is seen by a
--- function into pairs.
+-- Stated. The rankscores of a segment's basic rows (Gutenbrunner and Jurečková 1992). A type F of fractions is seen by
+-- a function into pairs.
 use Rattle.std.specs.Prelude.{◌≡◌, ℕ, List, map, All, nat_lt, if◌then◌else◌}
 use Rattle.exact_algebra.specs.Rational.{ℚ}
 use Rattle.exact_algebra.specs.Fraction.{Fraction, rational}

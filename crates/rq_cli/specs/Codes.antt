@@ -1,5 +1,6 @@
 -- Stated. Exit statuses.
-use Rattle.std.specs.Prelude.{ℕ}
+use Rattle.std.specs.Prelude.{◌≡◌, ℕ, List, Option, None}
+use Rattle.rq_cli.specs.Outcomes.{Stream, stream, IsRun}
 use Rattle.rq_cli.specs.declared.outcome.Outcome.{Outcome}
 use Rattle.rq_cli.specs.declared.outcome.Outcome.TheVariants.{Done, Refused, Usage, SourceFault, SinkFault, OutOfMemory, PivotLimit, Overflow, NotBuilt}
 
@@ -14,3 +15,12 @@ code_of OutOfMemory = 5
 code_of (PivotLimit _ _ _) = 6
 code_of (Overflow _ _ _) = 7
 code_of (NotBuilt _) = 9
+
+-- a run of the words over this input, and outputs that tell no bytes, ends with the status
+pub record IsStatus (words : List (List ℕ)) (input : Option (List ℕ)) (status : ℕ) : Type 0 where
+  pub outcome : Outcome
+  pub source : Stream
+  pub out : Stream
+  pub err : Stream
+  pub ran : IsRun words (stream input 0) source (stream None 0) out (stream None 0) err outcome
+  pub code : status ≡ code_of outcome

@@ -6,7 +6,7 @@
 //!
 //! It stands on `rq_input` for what the bytes say, on `br_pivot` for the solve, on `loss_model` for
 //! losses, on `rankscores`, and on `report_text` for the types that it answers with.
-//! Its tests stand in the crate `run_tests`.
+//! Its tests are those of whole runs, in the crate `run_tests`.
 #![tactic(auto)]
 
 mod halt;
