@@ -22,9 +22,6 @@ decide x y = by (le_ℚ x y) refl
 pub le_by : (x y z w : ℚ) → x ≤ℚ y → y -ℚ x ≡ w -ℚ z → z ≤ℚ w
 le_by x y z w h e = ≤ℚ_from z w (subst (λ q. whole (pos 0) ≤ℚ q) e ((≤ℚ-minus x y).0 h))
 
-pub lt_trans_le : (x y z : ℚ) → x <ℚ y → y ≤ℚ z → x <ℚ z
-lt_trans_le x y z h k back = h (≤ℚ_trans y z x k back)
-
 pub le_trans_lt : (x y z : ℚ) → x ≤ℚ y → y <ℚ z → x <ℚ z
 le_trans_lt x y z h k back = k (≤ℚ_trans z x y back h)
 

@@ -12,7 +12,7 @@ use Rattle.basis_model.specs.Lexicographic.{lex_cmp, lex_cmp_swap, less-trans}
 use Rattle.basis_model.specs.Perturbed.{zeros}
 use Rattle.basis_model.specs.Signs.{lex_cmp-same}
 use Rattle.pivot_rule.specs.Duals.{◌<ℚ◌}
-use Rattle.walk_rule.proofs.Lines.{le_by}
+use Rattle.walk_rule.proofs.Lines.{le_by, positive_neg}
 
 flipped : (x y z w : ℚ) → y -ℚ x ≡ w -ℚ z → x -ℚ y ≡ z -ℚ w
 flipped x y z w e =
@@ -90,7 +90,7 @@ module _ (n : ℕ) where
     nonzero c h e = h (subst (λ z. z ≤ℚ whole (pos 0)) (sym e) (≤ℚ_refl (whole (pos 0))))
 
     neg_above : ch <ℚ whole (pos 0) → whole (pos 0) <ℚ neg_ℚ ch
-    neg_above h k = h (le_by (neg_ℚ ch) (whole (pos 0)) (whole (pos 0)) ch k (ring_ℚ (ch ∷ []) (number (pos 0) ⊟ negated v0) (v0 ⊟ number (pos 0)) refl))
+    neg_above = positive_neg ch
 
     none : ch ≡ whole (pos 0) → lex_cmp n sum zeros ≡ lex_cmp n u zeros
     none e = lex_cmp-same n sum u zeros (λ m. ap (λ z. u m +ℚ (z *ℚ w m)) e ∙ ring_ℚ (u m ∷ w m ∷ []) (v0 ⊞ number (pos 0) ⊠ v1) v0 refl)

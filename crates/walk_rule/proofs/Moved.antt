@@ -1,5 +1,5 @@
--- The sides of the rows after an exchange by which any row that moves enters: those that move and come
--- before it change their side, and no others do.
+-- The sides of the rows after an exchange by which any row that moves enters: those that don't move, or
+-- come after it, keep theirs.
 use Rattle.std.specs.Prelude.{◌≡◌, ◌≢◌, ◌⊎◌, ℕ, suc, ◌<◌, ◌≤◌, Bool, true, false, ◌==◌, [], ◌∷◌, pos}
 use Rattle.std.specs.Ordering.{is_lt, is_gt, ordering_reverse}
 use Rattle.std.specs.declared.cmp.Ordering.{Ordering}
@@ -8,14 +8,14 @@ use Rattle.std.proofs.Common.{arith, refl, sym, ap, ap₂, subst, ◌∙◌, inl
 use Rattle.std.proofs.lemmas.Bool.{cases_lt}
 use borrow.Author.Tests.{eqb-true, eqb-false}
 use Rattle.exact_algebra.specs.Solver.{number, negated, ◌⊞◌, ◌⊟◌, ◌⊠◌, v0, v1, v2, v3}
-use Rattle.exact_algebra.specs.Rational.{ℚ, ◌+ℚ◌, ◌-ℚ◌, ◌*ℚ◌, neg_ℚ, inverse, whole, ◌≤ℚ◌, ring_ℚ, ring_by_ℚ, ≤ℚ_refl, ≤ℚ_antisym, *ℚ-inverse}
+use Rattle.exact_algebra.specs.Rational.{ℚ, ◌+ℚ◌, ◌-ℚ◌, ◌*ℚ◌, neg_ℚ, inverse, whole, ◌≤ℚ◌, ring_ℚ, ≤ℚ_antisym}
 use Rattle.exact_algebra.specs.Inverses.{inverse-neg}
 use Rattle.exact_algebra.specs.Order.{cmp_ℚ, cmp_ℚ-Less, cmp_ℚ-Greater, le_from_not}
 use Rattle.exact_matrices.specs.Terms.{if-same, if-other}
 use Rattle.loss_model.specs.declared.vertex.Side.TheVariants.{Up, Down}
 use Rattle.loss_model.specs.Sample.{Sample}
 use Rattle.loss_model.specs.Spill.{abs_ℚ}
-use Rattle.basis_model.specs.Lexicographic.{lex_cmp, lex_cmp_swap}
+use Rattle.basis_model.specs.Lexicographic.{lex_cmp}
 use Rattle.basis_model.specs.Perturbed.{IsOutside, perturbed, zeros, side_of, ratio, ratio_on}
 use Rattle.basis_model.specs.Ratios.{abs_not_negative, abs_nonzero}
 use Rattle.basis_model.specs.Signs.{lex_cmp-same}
@@ -34,7 +34,7 @@ use Rattle.pivot_rule.proofs.Passing.{mover_some, mover_outside, less_from}
 use Rattle.pivot_rule.proofs.Sides.{sign, side_basic, side_outside}
 use Rattle.walk_rule.specs.Walks.{side_towards, AreExchanged}
 use Rattle.walk_rule.proofs.Lines.{le_by}
-use Rattle.walk_rule.proofs.Lists.{cmp_by, lex_cmp-by, inverse_above, sign_scaled, sign_negated, sign_kept}
+use Rattle.walk_rule.proofs.Lists.{inverse_above, sign_scaled, sign_negated, sign_kept}
 use Rattle.walk_rule.proofs.Exchanges.{residual_next, coord_own, residual_own, outside_from, outside_test}
 
 is_greater : (o : Ordering) → is_gt o ≡ true → o ≡ Greater
@@ -42,7 +42,6 @@ is_greater Less h = absurd (cc h)
 is_greater Equal h = absurd (cc h)
 is_greater Greater h = refl
 
--- a side that is not Basic, as a row moves towards 0 from it
 module _ (p : Sample) (at : ℕ → ℕ) (a : ℕ → ℕ → ℚ) (basis : IsBasis p at a) (j : ℕ) (d : Direction) where
   -- the perturbed ratio of row i, entry by entry
   abbrev pub ratios : ℕ → ℕ → ℚ
@@ -281,71 +280,3 @@ module _ (p : Sample) (at : ℕ → ℕ) (a : ℕ → ℕ → ℚ) (basis : IsBa
           by : (t : Bool) → is_basic p at a i ≡ t → side_at p next b i ≡ side_at p at a i
           by true e = side_basic p next b i (stays_in i e left) ∙ sym (side_basic p at a i e)
           by false e = side_same i li (outside_from p at a basis i e) other later
-
--- a row that moves, by its ratio
-module _ (p : Sample) (at : ℕ → ℕ) (a : ℕ → ℕ → ℚ) (basis : IsBasis p at a) (j : ℕ) (d : Direction) (i : ℕ) (li : i < p.rows) (mover : moves p at a j d i ≡ true) where
-  abbrev ch : ℚ
-  ch = change p at a j d i
-
-  -- it is above the fit and its change is negative, or below it and its change is positive
-  pub known : ((sign p at a i ≡ Greater) × (ch <ℚ whole (pos 0)) × (abs_ℚ (coord p a i j) ≡ neg_ℚ ch)) ⊎ ((sign p at a i ≡ Less) × (whole (pos 0) <ℚ ch) × (abs_ℚ (coord p a i j) ≡ ch))
-  known = by (signed p at a basis j d i li)
-    where
-      by : (sign p at a i ≡ Greater) ⊎ (sign p at a i ≡ Less) → ((sign p at a i ≡ Greater) × (ch <ℚ whole (pos 0)) × (abs_ℚ (coord p a i j) ≡ neg_ℚ ch)) ⊎ ((sign p at a i ≡ Less) × (whole (pos 0) <ℚ ch) × (abs_ℚ (coord p a i j) ≡ ch))
-      by (inl e) = let falls : ch <ℚ whole (pos 0) = change_above p at a basis j d i mover e in inl (e, falls, abs_falling p at a basis j d d i falls)
-      by (inr e) = let rises : whole (pos 0) <ℚ ch = change_below p at a basis j d i mover e in inr (e, rises, abs_rising p at a basis j d d i rises)
-
-  change_some : ch ≢ whole (pos 0)
-  change_some none = by known
-    where
-      by : ((sign p at a i ≡ Greater) × (ch <ℚ whole (pos 0)) × (abs_ℚ (coord p a i j) ≡ neg_ℚ ch)) ⊎ ((sign p at a i ≡ Less) × (whole (pos 0) <ℚ ch) × (abs_ℚ (coord p a i j) ≡ ch)) → ⊥
-      by (inl h) = h.1 (subst (λ z. whole (pos 0) ≤ℚ z) (sym none) (≤ℚ_refl (whole (pos 0))))
-      by (inr h) = h.1 (subst (λ z. z ≤ℚ whole (pos 0)) (sym none) (≤ℚ_refl (whole (pos 0))))
-
-  pub entries_by : (m : ℕ) → entries p at a basis j d i m ≡ neg_ℚ (ch *ℚ ratios p at a basis j d i m)
-  entries_by m =
-      ring_by_ℚ (entries p at a basis j d i m ∷ ch ∷ inverse ch ∷ []) v0 (negated (v1 ⊠ negated (v0 ⊠ v2))) (negated v0) (v1 ⊠ v2) (number (pos 1)) refl (*ℚ-inverse ch change_some)
-      ∙ ap (λ z. neg_ℚ (ch *ℚ z)) (sym (ratio_is p at a basis j d i li mover m))
-
-  module _ (r : ℕ) (lr : r < p.rows) (entering : moves p at a j d r ≡ true) (next : ℕ → ℕ) (b : ℕ → ℕ → ℚ) (after : IsBasis p next b) (ex : AreExchanged p.columns at next j r) (lj : j < p.columns)
-      (other : i ≢ r) where
-    abbrev ρ : ℕ → ℕ → ℚ
-    ρ = ratios p at a basis j d
-
-    out : IsOutside p.columns at i
-    out = outside_from p at a basis i (mover_outside p at a j d i mover)
-
-    -- what it has after the exchange
-    pub entries_after : (m : ℕ) → entries_next p at a basis j d r lr entering next b after ex lj i m ≡ ch *ℚ (ρ r m -ℚ ρ i m)
-    entries_after m =
-        gained p at a basis j d r lr entering next b after ex lj i out other m
-        ∙ ap (λ z. z +ℚ (ch *ℚ ρ r m)) (entries_by m)
-        ∙ ring_ℚ (ch ∷ ρ i m ∷ ρ r m ∷ []) (negated (v0 ⊠ v1) ⊞ v0 ⊠ v2) (v0 ⊠ (v2 ⊟ v1)) refl
-
-    out_next : is_basic p next b i ≡ false
-    out_next = outside_test p next b after i (stays_out p at a basis j d r lr entering next b after ex lj i out other)
-
-    module _ (earlier : is_before p at a j i r ≡ true) where
-      ahead : lex_cmp (suc p.rows) (λ m. ρ r m -ℚ ρ i m) zeros ≡ Greater
-      ahead =
-          lex_cmp-by (suc p.rows) (λ m. ρ r m -ℚ ρ i m) zeros (ρ r) (ρ i) (λ m. cmp_by (ρ r m -ℚ ρ i m) (whole (pos 0)) (ρ r m) (ρ i m) (ring_ℚ (ρ r m ∷ ρ i m ∷ []) (number (pos 0) ⊟ (v0 ⊟ v1)) (v1 ⊟ v0) refl))
-          ∙ lex_cmp_swap (suc p.rows) (ρ i) (ρ r)
-          ∙ ap ordering_reverse (less_from (lex_cmp (suc p.rows) (ρ i) (ρ r)) earlier)
-
-      -- where it comes before the row that enters it changes its side
-      pub side_down : ch <ℚ whole (pos 0) → side_at p next b i ≡ Down
-      side_down falls =
-          side_outside p next b i out_next
-          ∙ ap side_of (lex_cmp-same (suc p.rows) (entries_next p at a basis j d r lr entering next b after ex lj i) (λ m. neg_ℚ (neg_ℚ ch *ℚ (ρ r m -ℚ ρ i m))) zeros
-          (λ m. entries_after m ∙ ring_ℚ (ch ∷ (ρ r m -ℚ ρ i m) ∷ []) (v0 ⊠ v1) (negated (negated v0 ⊠ v1)) refl)
-          ∙ sign_negated (suc p.rows) (λ m. neg_ℚ ch *ℚ (ρ r m -ℚ ρ i m))
-          ∙ ap ordering_reverse (sign_scaled (suc p.rows) (neg_ℚ ch) (λ m. ρ r m -ℚ ρ i m) above ∙ ahead))
-        where
-          above : whole (pos 0) <ℚ neg_ℚ ch
-          above h = falls (le_by (neg_ℚ ch) (whole (pos 0)) (whole (pos 0)) ch h (ring_ℚ (ch ∷ []) (number (pos 0) ⊟ negated v0) (v0 ⊟ number (pos 0)) refl))
-
-      pub side_up : whole (pos 0) <ℚ ch → side_at p next b i ≡ Up
-      side_up rises =
-          side_outside p next b i out_next
-          ∙ ap side_of (lex_cmp-same (suc p.rows) (entries_next p at a basis j d r lr entering next b after ex lj i) (λ m. ch *ℚ (ρ r m -ℚ ρ i m)) zeros entries_after
-          ∙ sign_scaled (suc p.rows) ch (λ m. ρ r m -ℚ ρ i m) rises ∙ ahead)
