@@ -3,17 +3,18 @@
 use Rattle.std.specs.Prelude.{◌≡◌, ◌⊎◌, ℕ, ◌<◌, Bool, true, pos}
 use Rattle.exact_algebra.specs.Fraction.{Fraction}
 use Rattle.exact_algebra.specs.Rational.{ℚ, ◌-ℚ◌, whole}
+use Rattle.frac_core.specs.declared.exact.OpKind.{OpKind}
 use Rattle.frac_core.specs.declared.exact.OpKind.TheVariants.{Sub, Div}
 use Rattle.loss_model.specs.declared.spill.Quantity.TheVariants.{DualValue, Crossing, Loss}
 use Rattle.loss_model.specs.declared.spill.Spill.{Spill}
 use Rattle.loss_model.specs.Sample.{Sample}
-use Rattle.loss_model.specs.Spill.{one_product, site_of, loss_products, IsSpillOf}
+use Rattle.loss_model.specs.Spill.{AtSome, IsOperation, IsTermSpill, IsSpillOf, site_of, loss_products}
 use Rattle.loss_model.specs.Quantities.{IsEntrySpill}
 use Rattle.loss_model.specs.Vertex.{value_of_side}
 use Rattle.basis_model.specs.RatioSpill.{IsRatioEntrySpill, IsRatioSpill}
 use Rattle.basis_model.specs.declared.part.Part.TheVariants.{Constant, Linear}
 use Rattle.basis_model.specs.Basis.{bound_part, outside_row, coefficient, basic_dual, dual_value}
-use Rattle.basis_model.specs.BasisSpills.{IsOperation, IsDualValueSpill, IsBasisSpill}
+use Rattle.basis_model.specs.BasisSpills.{IsDualValueSpill, IsBasisSpill}
 use Rattle.pivot_rule.specs.declared.direction.Direction.{Direction}
 use Rattle.pivot_rule.specs.Duals.{◌<ℚ◌}
 use Rattle.pivot_rule.specs.Spills.{direction_number, IsCostSpill}
@@ -22,13 +23,18 @@ use Rattle.walk_rule.specs.Families.{Family, over_quantiles, slope_part}
 use Rattle.walk_rule.specs.Walks.{side_towards, HasNoBreak, IsNextBreak, IsWalkingStep}
 use Rattle.walk_rule.specs.WalkTrails.{is_below, is_within}
 
+-- an operation of the crossing of position j in direction d
+abbrev pub IsCrossingOperation : {F : Type 0} → (F → Fraction) → ℕ → ℕ → Direction → ℕ → OpKind → ℚ → ℚ → Spill F → Type 0
+IsCrossingOperation value range j d term kind left right s =
+    IsOperation value range (record (site_of Crossing j (direction_number d) term) { kind = kind }) left right s
+
 -- a bound and a dual value in two parts each: at what is missing to the bound, at the gain on it, or at
 -- their quotient, which is made for a bound alone that the dual value passes beyond
 abbrev pub IsMeetingSpill : {F : Type 0} → (F → Fraction) → ℕ → ℕ → Direction → ℚ → ℚ → ℚ → ℚ → Type 0 → Spill F → Type 0
 IsMeetingSpill value range j d bound0 bound1 dual0 dual1 Passes s =
-    IsOperation value range Crossing j (direction_number d) 1 Sub bound0 dual0 s
-    ⊎ (IsOperation value range Crossing j (direction_number d) 2 Sub dual1 bound1 s
-    ⊎ (Passes × IsOperation value range Crossing j (direction_number d) 3 Div (bound0 -ℚ dual0) (dual1 -ℚ bound1) s))
+    IsCrossingOperation value range j d 1 Sub bound0 dual0 s
+    ⊎ (IsCrossingOperation value range j d 2 Sub dual1 bound1 s
+    ⊎ (Passes × IsCrossingOperation value range j d 3 Div (bound0 -ℚ dual0) (dual1 -ℚ bound1) s))
 
 module _ {F : Type 0} (value : F → Fraction) (range : ℕ) (f : Family) (at : ℕ → ℕ) (a : ℕ → ℕ → ℚ) (reach : ℚ → Bool) (from : ℚ) where
   -- at the next breakpoint: at the first entry of the ratio of a row that moves, where two of them are
@@ -56,8 +62,8 @@ module _ {F : Type 0} (value : F → Fraction) (range : ℕ) (p : Sample) (at : 
   -- at a dual value or at a cost at theta
   abbrev pub IsValueSpill : ℚ → Spill F → Type 0
   IsValueSpill theta s =
-      ((j : ℕ) × (j < p.columns) × IsDualValueSpill value range (basic_dual p at a Constant j) (basic_dual p at a Linear j) theta j s)
-      ⊎ ((i : ℕ) × (i < p.rows) × IsCostSpill value range p at a theta i s)
+      AtSome p.columns (λ j. IsDualValueSpill value range (basic_dual p at a Constant j) (basic_dual p at a Linear j) theta j s)
+      ⊎ AtSome p.rows (λ i. IsCostSpill value range p at a theta i s)
 
   -- at a quantity of the basis, at a crossing, at a dual value, a cost or the loss at an end of the stay,
   -- or at the pivot that ends it
@@ -82,7 +88,7 @@ module _ {F : Type 0} (value : F → Fraction) (range : ℕ) (f : Family) (wante
   -- at the dual value at position j, where column c is to weigh so much
   abbrev pub IsTestedValueSpill : ℚ → ℕ → Spill F → Type 0
   IsTestedValueSpill weight j s =
-      IsSpillOf value range (site_of DualValue j 1 1) (one_product (dual_value f.sample at a tau j) (a c j) weight) s
+      IsTermSpill value range (site_of DualValue j 1 1) (dual_value f.sample at a tau j) (a c j) weight s
 
   -- at a quantity of the basis, at a dual value or a cost at tau, at a crossing, at a dual value where the
   -- basis was entered or at the next breakpoint, or at the pivot there
