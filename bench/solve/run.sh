@@ -5,7 +5,7 @@
 set -eu
 here=$(cd "$(dirname "$0")" && pwd)
 work=${1:-$(mktemp -d)}
-low='exact_algebra exact_matrices frac_core loss_model basis_inverse perturbation lex_rule basis_model basic_solution pivot_rule br_pivot'
+low='exact_algebra exact_matrices frac_core loss_model basis_inverse basis_model lex_rule basic_solution pivot_rule br_pivot'
 mkdir -p "$work/crates/solve_bench/src" "$work/crates/solve_bench/proofs"
 for crate in $low; do
     rm -rf "$work/crates/$crate"

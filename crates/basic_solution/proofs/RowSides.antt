@@ -11,8 +11,8 @@ use Rattle.exact_algebra.specs.Order.{cmp_ℚ, cmp_ℚ-Equal}
 use Rattle.exact_matrices.specs.Selections.{is_among}
 use Rattle.loss_model.specs.declared.vertex.Side.{Side}
 use Rattle.loss_model.specs.declared.vertex.Side.TheVariants.{Up, Down}
-use Rattle.perturbation.specs.Perturbed.{Nonbasic, side_of, perturbed_side}
-use Rattle.perturbation.specs.Signs.{side-residual}
+use Rattle.basis_model.specs.Perturbed.{Nonbasic, side_of, perturbed_side}
+use Rattle.basis_model.specs.Signs.{side-residual}
 
 -- ---- membership
 

@@ -1,4 +1,4 @@
--- What the quantities at a basis are computed from.
+-- Inner. What the quantities at a basis are computed from.
 use Rattle.std.specs.Prelude.{◌≡◌, ℕ, ◌<◌, List, length, slice_get, slice_index, unwrap_or, pos}
 use Rattle.exact_algebra.specs.Fraction.{Fraction, rational}
 use Rattle.exact_algebra.specs.Rational.{ℚ, neg_ℚ, whole}

@@ -1,4 +1,4 @@
--- What stands at a basis, together.
+-- Inner. What stands at a basis, together.
 use Rattle.std.specs.Prelude.{◌≡◌, ◌⊎◌, ℕ, ◌<◌, length}
 use Rattle.exact_algebra.specs.Fraction.{Fraction}
 use Rattle.exact_algebra.specs.Rational.{ℚ}
@@ -12,6 +12,7 @@ use Rattle.basis_model.specs.BasisSpills.{IsTotalSpill, IsBalancingSpill}
 use Rattle.basic_solution.specs.declared.solution.BasicSolution.{BasicSolution}
 use Rattle.basic_solution.specs.Bases.{side_in}
 
+-- the solution has the coefficients, residuals, sides and both parts of the basic dual values that stand at the basis
 pub record IsSolution {F : Type 0} (value : F → Fraction) (p : Sample) (at : ℕ → ℕ) (a : ℕ → ℕ → ℚ) (s : BasicSolution F) : Type 0 where
   pub columns : length s.coef ≡ p.columns
   pub coef : (k : ℕ) → k < p.columns → value_at value s.coef k ≡ coefficient p at a k

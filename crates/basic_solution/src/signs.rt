@@ -5,7 +5,7 @@ ghost use Rattle.loss_model.specs.Sample.{residual as residual_of};
 ghost use Rattle.loss_model.specs.Problem.{value_at, sample, IsWellShaped};
 ghost use Rattle.loss_model.specs.Quantities.{IsShortOf, IsCoordinatesSpill};
 ghost use Rattle.basis_inverse.specs.Square.{inverse_entry};
-ghost use Rattle.perturbation.specs.Perturbed.{perturbed_side as side_by_order};
+ghost use Rattle.basis_model.specs.Perturbed.{perturbed_side as side_by_order};
 ghost use Rattle.basis_model.specs.Basis.{coefficient, outside_row, side_at};
 ghost use Rattle.basic_solution.specs.Bases.{HasBasis, side_in, IsRowsSpill};
 

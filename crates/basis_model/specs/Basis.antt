@@ -1,5 +1,5 @@
--- What stands at a basis: the rows `at j` at its positions j, and the inverse a of their entries,
--- whose entry `a k j` is that of column k at position j.
+-- Stated. What stands at a basis: the rows `at j` at its positions j, and the inverse a of their entries,
+-- whose entry `a k j` is that of column k at position j (Koenker and d'Orey 1987, AS 229).
 use Rattle.std.specs.Prelude.{ℕ, if◌then◌else◌, pos}
 use Rattle.exact_algebra.specs.Rational.{ℚ, ◌+ℚ◌, ◌*ℚ◌, neg_ℚ, whole}
 use Rattle.exact_algebra.specs.RationalSums.{sum_ℚ}
@@ -8,7 +8,7 @@ use Rattle.exact_matrices.specs.Selections.{is_among, AreDistinct}
 use Rattle.loss_model.specs.declared.vertex.Side.{Side}
 use Rattle.loss_model.specs.declared.vertex.Side.TheVariants.{Up, Down, Basic}
 use Rattle.loss_model.specs.Sample.{Sample, residual}
-use Rattle.perturbation.specs.Perturbed.{Nonbasic, perturbed_side}
+use Rattle.basis_model.specs.Perturbed.{Nonbasic, perturbed_side}
 use Rattle.basis_model.specs.declared.part.Part.{Part}
 use Rattle.basis_model.specs.declared.part.Part.TheVariants.{Constant, Linear}
 
@@ -52,6 +52,7 @@ nonbasic_total p side part k = sum_ℚ p.rows (λ i. p.x i k *ℚ bound_part p p
 abbrev pub balancing : ℕ → (ℕ → ℕ → ℚ) → (ℕ → ℚ) → ℕ → ℚ
 balancing n a totals j = sum_ℚ n (λ k. neg_ℚ (totals k) *ℚ a k j)
 
+-- the same with the totals of the rows outside the basis, on their perturbed sides
 abbrev pub basic_dual : Sample → (ℕ → ℕ) → (ℕ → ℕ → ℚ) → Part → ℕ → ℚ
 basic_dual p at a part j = balancing p.columns a (nonbasic_total p (side_at p at a) part) j
 

@@ -1,4 +1,4 @@
--- The operations by which the quantities at a basis are computed, where one overflows.
+-- Stated. The operations by which the quantities at a basis are computed, where one overflows.
 use Rattle.std.specs.Prelude.{◌≡◌, ◌⊎◌, ℕ, zero, suc, ◌+◌, ◌<◌, Bool, true, false, if◌then◌else◌, pos}
 use Rattle.exact_algebra.specs.Fraction.{Fraction, rational}
 use Rattle.exact_algebra.specs.Rational.{ℚ, neg_ℚ, whole}
@@ -21,6 +21,7 @@ use Rattle.basis_model.specs.Basis.{coefficient, side_at, bound_part, nonbasic_t
 abbrev pub coefficient_products : Sample → (ℕ → ℕ) → (ℕ → ℕ → ℚ) → ℕ → Products
 coefficient_products p at a k = record { first = whole (pos 0); count = p.columns; left = a k; right = λ j. p.y (at j) }
 
+-- an operation of the coefficient of column k overflows
 abbrev pub IsCoefficientSpill : {F : Type 0} → (F → Fraction) → ℕ → Sample → (ℕ → ℕ) → (ℕ → ℕ → ℚ) → ℕ → Spill F → Type 0
 IsCoefficientSpill value range p at a k s = IsSpillOf value range (site_of Coefficient k 0 0) (coefficient_products p at a k) s
 
@@ -29,6 +30,7 @@ abbrev pub total_products : Sample → (ℕ → Side) → Part → ℕ → Produ
 total_products p side part k =
     record { first = whole (pos 0); count = p.rows; left = λ i. p.x i k; right = λ i. bound_part p part i (side i) }
 
+-- the row is one of the basis
 abbrev pub is_basic : Side → Bool
 is_basic Basic = true
 is_basic _ = false
@@ -51,6 +53,7 @@ pub record IsTotalSpill {F : Type 0} (value : F → Fraction) (range : ℕ) (p :
 abbrev pub balancing_products : ℕ → (ℕ → ℕ → ℚ) → (ℕ → ℚ) → ℕ → Products
 balancing_products n a totals j = record { first = whole (pos 0); count = n; left = λ k. neg_ℚ (totals k); right = λ k. a k j }
 
+-- an operation of a part of the dual value at position j overflows
 abbrev pub IsBalancingSpill : {F : Type 0} → (F → Fraction) → ℕ → ℕ → (ℕ → ℕ → ℚ) → (ℕ → ℚ) → Part → ℕ → Spill F → Type 0
 IsBalancingSpill value range n a totals part j s =
     IsSpillOf value range (site_of BasicDual j (part_number part) 0) (balancing_products n a totals j) s

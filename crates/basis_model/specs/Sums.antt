@@ -1,4 +1,4 @@
--- Sums of products by their steps.
+-- Inner. Sums of products by their steps.
 --
 --     at the start, after a step, at the end   partial_sum-begun, partial_sum-more, partial_sum-whole
 --     a spill of a step                        step_spill

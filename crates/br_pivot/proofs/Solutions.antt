@@ -13,7 +13,7 @@ use Rattle.loss_model.specs.declared.vertex.Side.TheVariants.{Basic}
 use Rattle.loss_model.specs.declared.vertex.Vertex.{Vertex}
 use Rattle.loss_model.specs.Problem.{value_at, sample}
 use Rattle.loss_model.proofs.Duality.{minimum}
-use Rattle.perturbation.specs.Perturbed.{side_of}
+use Rattle.basis_model.specs.Perturbed.{side_of}
 use Rattle.basis_inverse.specs.Square.{Square, inverse_entry}
 use Rattle.basis_model.specs.Basis.{IsBasis, side_at}
 use Rattle.pivot_rule.specs.Duals.{HasCosts, dual}

@@ -17,9 +17,9 @@ use Rattle.loss_model.specs.declared.spill.Short.{Short}
 use Rattle.loss_model.specs.Quantities.{IsShortOf, IsCoordinatesSpill}
 use Rattle.loss_model.specs.Problem.{value_at}
 use Rattle.loss_model.specs.Sample.{residual}
-use Rattle.perturbation.specs.Lexicographic.{lex_cmp, lex_cmp-first}
-use Rattle.perturbation.specs.Perturbed.{Nonbasic, IsOutside, ratio}
-use Rattle.perturbation.specs.RatioSpill.{IsRatioSpill}
+use Rattle.basis_model.specs.Lexicographic.{lex_cmp, lex_cmp-first}
+use Rattle.basis_model.specs.Perturbed.{Nonbasic, IsOutside, ratio}
+use Rattle.basis_model.specs.RatioSpill.{IsRatioSpill}
 use Rattle.lex_rule.specs.declared.less.Ratio.{Ratio}
 use Rattle.lex_rule.specs.Compared.{of_ratio, IsRatioAt}
 use Rattle.basis_model.specs.Basis.{coord, coefficient, outside_row}

@@ -1,4 +1,4 @@
--- The inverse that a solve keeps, and the order of its basis.
+-- Stated. The inverse that a solve keeps, and the order of its basis.
 use Rattle.std.specs.Prelude.{◌≡◌, ℕ, ◌<◌, List, length, slice_index}
 use Rattle.exact_algebra.specs.Fraction.{Fraction}
 use Rattle.loss_model.specs.declared.problem.Problem.{Problem}

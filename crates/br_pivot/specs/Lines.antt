@@ -1,4 +1,4 @@
--- The line along which a position leaves, and the rows that move on it.
+-- Inner. The line along which a position leaves, and the rows that move on it.
 use Rattle.std.specs.Prelude.{◌≡◌, ◌≢◌, ℕ, ◌<◌, Bool, true, ◌&&◌, List, length, slice_get, slice_index, Some}
 use Rattle.std.specs.Option.{option_map_or}
 use Rattle.exact_algebra.specs.Fraction.{Fraction, rational}
@@ -7,7 +7,7 @@ use Rattle.loss_model.specs.declared.spill.Spill.{Spill}
 use Rattle.loss_model.specs.Sample.{Sample, residual}
 use Rattle.loss_model.specs.Problem.{value_at, sample, IsWellShaped}
 use Rattle.loss_model.specs.Spill.{abs_ℚ}
-use Rattle.perturbation.specs.Perturbed.{ratio}
+use Rattle.basis_model.specs.Perturbed.{ratio}
 use Rattle.basis_inverse.specs.Square.{inverse_entry}
 use Rattle.basis_model.specs.Basis.{coord, coefficient, outside_row, side_at}
 use Rattle.basic_solution.specs.Bases.{side_in}
@@ -31,12 +31,15 @@ abbrev pub row_at : {F : Type 0} → List (Mover F) → ℕ → ℕ
 row_at xs k = option_map_or (λ m. m.row) (slice_get xs k) 0
 
 module _ {F : Type 0} (value : F → Fraction) where
+  -- the problem of a line as a sample
   abbrev pub model : Line F → Sample
   model l = sample value l.problem.now
 
+  -- the rows of its basis
   abbrev pub at_of : Line F → ℕ → ℕ
   at_of l = slice_index l.basis.now.rows
 
+  -- the inverse of these
   abbrev pub inverse_of : Line F → ℕ → ℕ → ℚ
   inverse_of l = inverse_entry value l.inverse.now
 
@@ -49,9 +52,11 @@ module _ {F : Type 0} (value : F → Fraction) where
     pub residuals : (i : ℕ) → i < length l.problem.now.rows → value_at value l.residuals.now i ≡ residual (model l) (coefficient (model l) (at_of l) (inverse_of l)) i
     pub leaving : IsLeaving (model l) (at_of l) (inverse_of l) (rational (value l.theta)) l.position l.direction
 
+  -- row i moves towards 0 on the line
   unfoldable pub is_moving : Line F → ℕ → Bool
   is_moving l i = moves (model l) (at_of l) (inverse_of l) l.position l.direction i
 
+  -- the perturbed ratio of row i is less than that of row r
   unfoldable pub comes_before : Line F → ℕ → ℕ → Bool
   comes_before l i r = is_before (model l) (at_of l) (inverse_of l) l.position i r
 
@@ -81,10 +86,12 @@ module _ {F : Type 0} (value : F → Fraction) where
   abbrev pub coord_is : Line F → ℕ → F → Type 0
   coord_is l i c = rational (value c) ≡ coord (model l) (inverse_of l) i l.position
 
+  -- the list has the side of each row
   pub record HasSides (l : Line F) (sides : List Side) : Type 0 where
     pub size : length sides ≡ length l.problem.now.rows
     pub each : (i : ℕ) → i < length l.problem.now.rows → side_in sides i ≡ side_at (model l) (at_of l) (inverse_of l) i
 
+  -- the list has the coordinate of each row at the position
   pub record HasCoordinates (l : Line F) (coords : List F) : Type 0 where
     pub size : length coords ≡ length l.problem.now.rows
     pub each : (i : ℕ) → i < length l.problem.now.rows → value_at value coords i ≡ coord (model l) (inverse_of l) i l.position

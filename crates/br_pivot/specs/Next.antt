@@ -1,4 +1,4 @@
--- What is left at a basis.
+-- Inner. What is left at a basis.
 use Rattle.std.specs.Prelude.{ℕ, ◌<◌, List, slice_index}
 use Rattle.exact_algebra.specs.Fraction.{Fraction}
 use Rattle.exact_algebra.specs.Rational.{ℚ}

@@ -1,4 +1,4 @@
--- The slopes of the loss by the dual values at the positions.
+-- Inner. The slopes of the loss by the dual values at the positions.
 use Rattle.std.specs.Prelude.{◌≡◌, ◌⊎◌, ℕ, ◌<◌, Option, Some, None, pos}
 use Rattle.exact_algebra.specs.Fraction.{Fraction, rational}
 use Rattle.exact_algebra.specs.Rational.{ℚ, ◌+ℚ◌, ◌-ℚ◌, whole, ◌≤ℚ◌}
@@ -26,6 +26,7 @@ IsSlopeFault value range p theta i dual position s =
 
 -- the slopes at the positions, which hold the rows `at j` and have the dual values `e j`
 module _ (p : Sample) (theta : ℚ) (at : ℕ → ℕ) (e : ℕ → ℚ) where
+  -- the slope at position j in a direction
   abbrev pub slope_at : ℕ → Direction → ℚ
   slope_at j d = slope_from p theta (at j) (e j) d
 

@@ -1,4 +1,4 @@
--- What a solve at one quantile gives, and why it stops.
+-- Stated. What a solve at one quantile gives, and why it stops.
 use Rattle.std.specs.Prelude.{◌≡◌, ◌⊎◌, ℕ, ◌≤◌, List, length, slice_index}
 use Rattle.std.proofs.Common.{Result, Ok, Err}
 use Rattle.exact_algebra.specs.Fraction.{Fraction}

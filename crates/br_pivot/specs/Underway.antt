@@ -1,4 +1,4 @@
--- A solve under way.
+-- Inner. A solve under way.
 use Rattle.std.specs.Prelude.{◌≡◌, ◌+◌, ℕ, length, slice_index, Option, Some, None}
 use Rattle.exact_algebra.specs.Fraction.{Fraction}
 use Rattle.exact_algebra.specs.Rational.{ℚ}
@@ -39,6 +39,7 @@ pub record IsStop {F : Type 0} (value : F → Fraction) (p : Problem F) (theta :
   pub stop : HasNoNegativeSlope (sample value p) (slice_index u.basis.rows) (inverse_entry value u.inverse) theta
   pub stands : Stands value p theta u.basis.rows (inverse_entry value u.inverse) s
 
+-- an answer of None says that a step was made, and any other what stands at the last basis
 abbrev pub IsAdvance : {F : Type 0} → (F → Fraction) → Problem F → ℚ → Underway F → Underway F → Option (Standing F) → Type 0
 IsAdvance value p theta before after None = IsStepMade value p theta before after
 IsAdvance value p theta before after (Some s) = (after ≡ before) × IsStop value p theta before s

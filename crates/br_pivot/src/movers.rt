@@ -3,7 +3,7 @@ ghost use Rattle.std.specs.Prelude.{◌≡◌, ℕ, ◌+◌, ◌<◌, length, If
 ghost use Rattle.exact_algebra.specs.Fraction.{rational};
 ghost use Rattle.loss_model.specs.Quantities.{IsShortOf};
 ghost use Rattle.loss_model.specs.Spill.{abs_ℚ};
-ghost use Rattle.perturbation.specs.Perturbed.{turned as turned_on};
+ghost use Rattle.basis_model.specs.Perturbed.{turned as turned_on};
 ghost use Rattle.pivot_rule.specs.Steps.{is_towards};
 ghost use Rattle.br_pivot.specs.Lines.{IsLine, IsLineSpill, IsMover, AreMovers, AreMoversBelow, HasSides, HasCoordinates, is_moving, side_is, coord_is, turned_by};
 

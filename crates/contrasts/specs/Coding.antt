@@ -1,4 +1,4 @@
--- The tables of the codings, as R's contrasts of these names have them (Chambers and Hastie 1992,
+-- Stated. The tables of the codings, as R's contrasts of these names have them (Chambers and Hastie 1992,
 -- Statistical Models in S, chapter 2). Levels l and columns j are counted from 0.
 use Rattle.std.specs.Prelude.{ℕ, ◌+◌, ◌-◌, ℤ, pos, negsuc, List, [], ◌++◌, nat_eq, nat_le, if◌then◌else◌, slice_index_or, decimal}
 use Rattle.contrasts.specs.declared.Coding.{Coding}

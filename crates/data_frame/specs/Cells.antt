@@ -1,4 +1,4 @@
--- What the cells of a column hold.
+-- Stated. What the cells of a column hold.
 use Rattle.std.specs.Prelude.{ℕ, ◌-◌, ◌^◌, ◌==◌, ◌||◌, Bool, true, false, List, [], ◌∷◌, Option, Some, None, Result, Ok, Err, codes, length, map, reverse, if◌then◌else◌}
 use Rattle.std.specs.List.{list_all, position_from}
 use Rattle.std.specs.Str.{bytes_eq}
@@ -12,10 +12,12 @@ use Rattle.data_frame.specs.Records.{Text}
 abbrev pub is_blank : ℕ → Bool
 is_blank b = (b == 32) || (b == 9)
 
+-- the cell from its first byte that is no blank
 unfoldable pub without_leading_blanks : Text → Text
 without_leading_blanks [] = []
 without_leading_blanks (b ∷ rest) = if is_blank b then without_leading_blanks rest else b ∷ rest
 
+-- the cell to its last byte that is no blank
 unfoldable pub without_trailing_blanks : Text → Text
 without_trailing_blanks cell = reverse (without_leading_blanks (reverse cell))
 
@@ -31,6 +33,7 @@ is_missing cell = (length (bare cell) == 0) || bytes_eq (bare cell) (codes "NA")
 unfoldable pub is_numeric : Text → Bool
 is_numeric cell = is_missing cell || is_number_text (bare cell)
 
+-- a number that is there
 abbrev pub some_number : Result ℚ NumberFault → Result (Option ℚ) NumberFault
 some_number (Ok x) = Ok (Some x)
 some_number (Err fault) = Err fault
@@ -44,6 +47,7 @@ abbrev pub number_or_none : Result (Option ℚ) NumberFault → Option ℚ
 number_or_none (Ok number) = number
 number_or_none (Err fault) = None
 
+-- there was a number, and it is too wide
 abbrev pub is_wide : Result (Option ℚ) NumberFault → Bool
 is_wide (Err TooWide) = true
 is_wide _ = false
@@ -63,6 +67,7 @@ pub data ColumnOf (N : Type 0) : Type 0 where
   factor : List (Option Text) → ColumnOf N
   too_wide : ℕ → ColumnOf N
 
+-- the column, or the first record whose number is too wide, where there is one
 abbrev pub too_wide_or : Option ℕ → ColumnOf ℚ → ColumnOf ℚ
 too_wide_or None column = column
 too_wide_or (Some rec) column = too_wide rec

@@ -1,4 +1,4 @@
--- The cells of records, column by column.
+-- Stated. The cells of records, column by column.
 use Rattle.std.specs.Prelude.{ℕ, ◌+◌, List, [], ◌∷◌, ◌++◌, map, slice_index_or}
 use Rattle.std.specs.List.{range_with_len}
 use Rattle.data_frame.specs.Records.{Row, Text}

@@ -1,4 +1,4 @@
--- The first fault of a table's records, in the order in which faults are looked for.
+-- Stated. The first fault of a table's records, in the order in which faults are looked for.
 use Rattle.std.specs.Prelude.{ℕ, ◌+◌, ◌==◌, not, Bool, true, false, List, [], ◌∷◌, ◌++◌, Option, Some, None, length, nat_lt, drop, if◌then◌else◌}
 use Rattle.std.specs.List.{list_any}
 use Rattle.std.specs.Option.{option_or}
@@ -32,6 +32,7 @@ names_fault column seen [] = None
 names_fault column seen (name ∷ rest) =
     option_or (name_fault column seen name) (names_fault (column + 1) (seen ++ name ∷ []) rest)
 
+-- the first fault of the header: a field that is no text, too many fields, or a name
 unfoldable pub header_fault : Row → Option TableFault
 header_fault header =
     if not (are_text header) then Some (NotUtf8 0)

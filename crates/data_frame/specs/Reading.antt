@@ -1,4 +1,4 @@
--- What a reader of records has yet to give.
+-- Inner. What a reader of records has yet to give.
 use Rattle.std.specs.Prelude.{◌≡◌, ◌≤◌, ℕ, ◌+◌, ◌-◌, true, false, List, [], ◌∷◌, Option, Some, length, unwrap_or}
 use Rattle.std.specs.Borrow.{Bor}
 use Rattle.csv.specs.Reading.{Ready, default_config, is_flexible, reader_config, reader_state, reader_trim, records_from, source_of}
@@ -13,6 +13,7 @@ use Rattle.data_frame.specs.declared.records.Found.TheVariants as found
 abbrev pub Records : Type 0
 Records = Reader (Bor (List ℕ))
 
+-- the bytes that are left in a slice
 abbrev pub remaining : Bor (List ℕ) → Option (List ℕ)
 remaining s = Some s.now
 

@@ -1,4 +1,4 @@
--- The records of a table's bytes.
+-- Stated. The records of a table's bytes.
 use Rattle.std.specs.Prelude.{ℕ, Bool, List}
 use Rattle.std.specs.List.{list_all}
 use Rattle.std.specs.Str.{is_utf8}

@@ -1,4 +1,4 @@
--- The table of bytes.
+-- Stated. The table of bytes.
 use Rattle.std.specs.Prelude.{ℕ, List, [], ◌∷◌, Option, Some, None, Result, Ok, Err, length, map, option_and_then, position, slice_get}
 use Rattle.std.specs.Str.{bytes_eq}
 use Rattle.exact_algebra.specs.Rational.{ℚ}
@@ -27,10 +27,12 @@ table_under header rows = record {
   columns = map column_of (columns_from rows (set_aside header) (length (names_of header)));
 }
 
+-- the table, where there is no fault
 abbrev pub unless : Option TableFault → TableOf ℚ → Result (TableOf ℚ) TableFault
 unless None table = Ok table
 unless (Some fault) table = Err fault
 
+-- the table of records, the first of which is the header, or their first fault
 unfoldable pub table_of_records : List Row → Result (TableOf ℚ) TableFault
 table_of_records [] = Err NoHeader
 table_of_records (header ∷ rows) = unless (first_fault (header ∷ rows)) (table_under header rows)

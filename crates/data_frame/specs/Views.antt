@@ -1,4 +1,4 @@
--- How contracts see columns and tables whose numbers are the program's fractions.
+-- Stated. How contracts see columns and tables whose numbers are the program's fractions.
 use Rattle.std.specs.Prelude.{map, option_map}
 use Rattle.exact_algebra.specs.Fraction.{rational}
 use Rattle.exact_algebra.specs.Rational.{ℚ}
@@ -14,6 +14,7 @@ use Rattle.data_frame.specs.declared.column.Column.TheVariants as lent
 abbrev pub exact : Frac128 → ℚ
 exact x = rational (record { num = x.num; den = x.den })
 
+-- the column with the values of its numbers
 abbrev pub exact_column : ColumnOf Frac128 → ColumnOf ℚ
 exact_column (numbers values) = numbers (map (option_map exact) values)
 exact_column (factor texts) = factor texts

@@ -1,4 +1,4 @@
--- Which records are a table.
+-- Law. Which records are a table.
 use Rattle.std.specs.Prelude.{◌≡◌, ◌≢◌, ◌≤◌, true, List, [], ◌∷◌, All, AllPairs, length}
 use Rattle.data_frame.specs.Records.{Row, Text, are_text}
 use Rattle.data_frame.specs.Faults.{names_of}
@@ -17,6 +17,7 @@ pub record IsWellFormed (header : Row) (rows : List Row) : Type 0 where
   pub short : length rows ≤ 16384
   pub even : All (λ row. length row ≡ length header) rows
 
+-- there is a header, and all is as it should be
 abbrev pub AreTable : List Row → Type 0
 AreTable [] = ⊥
 AreTable (header ∷ rows) = IsWellFormed header rows

@@ -10,3 +10,4 @@ pub mod Usable
 pub mod Lengths
 pub mod Building
 pub mod Ascending
+pub mod Shapes

@@ -4,7 +4,7 @@ use Rattle.std.proofs.lemmas.List.{get_or-map, length-map, take_more}
 use Rattle.exact_algebra.specs.Rational.{ℚ, ◌*ℚ◌, whole}
 use Rattle.frac_core.specs.declared.frac128.Frac128.{Frac128}
 use Rattle.data_frame.specs.Views.{exact}
-use Rattle.design_matrix.specs.Products.{IsValue, OverflowsAt, SpillsAt, product, product_onto}
+use Rattle.design_matrix.specs.Products.{FitUpTo, IsValue, OverflowsAt, SpillsAt, product, product_onto}
 use Rattle.frac_core.specs.Overflow.{Overflows}
 use Rattle.frac_core.specs.declared.exact.OpKind.TheVariants.{Mul}
 use Rattle.loss_model.specs.declared.spill.Site.{Site}
@@ -18,14 +18,10 @@ onto_push x (z ∷ zs) y = onto_push (x *ℚ z) zs y
 pub product_more : (xs : List ℚ) (i : ℕ) (d : ℚ) → i < length xs → product (take (i + 1) xs) ≡ product (take i xs) *ℚ get_or xs i d
 product_more xs i d h = ap product (take_more xs i d h) ∙ onto_push (whole (pos 1)) (take i xs) (get_or xs i d)
 
--- the products of at most i factors are values
-abbrev pub FitsUpTo : List ℚ → ℕ → Type 0
-FitsUpTo xs i = (t : ℕ) → t ≤ i → IsValue (product (take t xs))
-
-pub fits_none : (xs : List ℚ) (one : Frac128) → exact one ≡ whole (pos 1) → FitsUpTo xs 0
+pub fits_none : (xs : List ℚ) (one : Frac128) → exact one ≡ whole (pos 1) → FitUpTo xs 0
 fits_none xs one e t h = (one, e ∙ ap (λ n. product (take n xs)) (let z : 0 ≡ t = omega arith in z))
 
-pub fits_more : (xs : List ℚ) (i : ℕ) (v : Frac128) → exact v ≡ product (take (i + 1) xs) → FitsUpTo xs i → FitsUpTo xs (i + 1)
+pub fits_more : (xs : List ℚ) (i : ℕ) (v : Frac128) → exact v ≡ product (take (i + 1) xs) → FitUpTo xs i → FitUpTo xs (i + 1)
 fits_more xs i v e f t h = at (leb t i) refl
   where
     at : (b : Bool) → leb t i ≡ b → IsValue (product (take t xs))

@@ -1,4 +1,4 @@
--- The columns that a formula uses, and the records that are kept. Records are counted from 0 here.
+-- Stated. The columns that a formula uses, and the records that are kept. Records are counted from 0 here.
 use Rattle.std.specs.Prelude.{ℕ, ◌++◌, Bool, false, List, [], ◌∷◌, Option, None, is_some, map, pos, filter, slice_index_or, unwrap_or}
 use Rattle.std.specs.List.{filter_map, flat_map, list_all, range_with_len}
 use Rattle.std.specs.Option.{option_map_or}
@@ -10,9 +10,11 @@ use Rattle.data_frame.specs.Tables.{TableOf, column_named}
 use Rattle.data_frame.specs.Views.{exact}
 use Rattle.formula_parser.specs.declared.formula.Formula.{Formula}
 
+-- a table as the program holds it
 abbrev pub Table : Type 0
 Table = TableOf Frac128
 
+-- one of its columns
 abbrev pub Column : Type 0
 Column = ColumnOf Frac128
 
@@ -34,6 +36,7 @@ is_present (too_wide rec) i = false
 abbrev pub number_in : List (Option Frac128) → ℕ → ℚ
 number_in cells i = option_map_or exact (cell_of cells i) (whole (pos 0))
 
+-- the same in a column, where a factor has no numbers
 abbrev pub number_at : Column → ℕ → ℚ
 number_at (numbers cells) i = number_in cells i
 number_at (factor cells) i = whole (pos 0)

@@ -1,4 +1,5 @@
--- The variables of terms with their values at the kept records and their codings.
+-- Stated. The variables of terms with their values at the kept records and their codings (Chambers and Hastie 1992,
+-- chapter 2; the rule for terms of two or more variables is this project's own).
 use Rattle.std.specs.Prelude.{◌==◌, ℕ, ◌+◌, ◌++◌, ◌&&◌, ◌||◌, Bool, true, false, List, [], ◌∷◌, codes, length, map, take, drop, if◌then◌else◌}
 use Rattle.std.specs.List.{list_all, list_any}
 use Rattle.std.specs.Str.{bytes_eq}
@@ -27,6 +28,7 @@ pub record Coded : Type 0 where
   pub coding : Coding
   pub values : Values
 
+-- a factor by its cells at the kept records: the texts of its levels, and the level of each cell
 abbrev pub factor_values : {K : Type 0} → (K → K → Ordering) → (K → Text) → List K → Values
 factor_values order spelled cells =
     categorical (map spelled (levels_of order cells)) (map (level_of order (levels_of order cells)) cells)
@@ -38,10 +40,12 @@ values_in true (numbers cells) records = factor_values number_order number_text 
 values_in false (numbers cells) records = numeric (map (number_in cells) records)
 values_in as_factor (too_wide rec) records = numeric []
 
+-- the name of a variable in names of columns: factor(NAME) where `factor` was written
 abbrev pub printed_name : Bool → Text → Text
 printed_name true name = codes "factor(" ++ (name ++ codes ")")
 printed_name false name = name
 
+-- the column is a factor
 abbrev pub is_text : Column → Bool
 is_text (numbers cells) = false
 is_text (factor cells) = true
@@ -51,14 +55,17 @@ is_text (too_wide rec) = false
 unfoldable pub is_factor : Table → Variable → Bool
 is_factor table v = v.as_factor || is_text (column_of table v.name)
 
+-- both are true, or both false
 abbrev pub same_bool : Bool → Bool → Bool
 same_bool true b = b
 same_bool false true = false
 same_bool false false = true
 
+-- of the same column, and both or neither written with `factor`
 abbrev pub same_variable : Variable → Variable → Bool
 same_variable v w = bytes_eq v.name w.name && same_bool v.as_factor w.as_factor
 
+-- the same variables in the same order
 abbrev pub same_variables : List Variable → List Variable → Bool
 same_variables [] [] = true
 same_variables [] (w ∷ ws) = false
@@ -69,6 +76,7 @@ same_variables (v ∷ vs) (w ∷ ws) = same_variable v w && same_variables vs ws
 abbrev pub without : ℕ → List Variable → List Variable
 without place vs = take place vs ++ drop (place + 1) vs
 
+-- one of the terms has just these variables
 unfoldable pub is_in_model : List Term → List Variable → Bool
 is_in_model terms vs = list_any (λ t. same_variables vs t.variables) terms
 
@@ -97,6 +105,7 @@ coded_variable table model contrasts records number vs place v = record {
   values = values_in v.as_factor (column_of table v.name) records;
 }
 
+-- the variables of the term of this number, each at its place
 abbrev pub coded_term : Table → Formula → Coding → List ℕ → ℕ → Term → List Coded
 coded_term table model contrasts records number t =
     each (coded_variable table model contrasts records number t.variables) 0 t.variables
@@ -110,5 +119,6 @@ abbrev pub width_in : Coding → Values → ℕ
 width_in coding (numeric xs) = 1
 width_in coding (categorical texts places) = width_of coding (length texts)
 
+-- the number of columns of a coded variable
 abbrev pub width : Coded → ℕ
 width v = width_in v.coding v.values

@@ -1,4 +1,4 @@
--- The design of a table and a formula.
+-- Stated. The design of a table and a formula.
 use Rattle.std.specs.Prelude.{◌≡◌, ◌<◌, ℕ, ◌+◌, ◌-◌, List, [], length, map, pos, All, slice_index_or, take}
 use Rattle.exact_algebra.specs.Rational.{ℚ, whole}
 use Rattle.contrasts.specs.declared.Coding.{Coding}
@@ -23,6 +23,7 @@ pub record RowOf : Type 0 where
   pub y : ℚ
   pub weight : ℚ
 
+-- a design: the names of its columns, its rows, and the number of the records that are no rows
 pub record DesignOf : Type 0 where
   pub names : List Text
   pub rows : List RowOf
@@ -37,6 +38,7 @@ row_of response columns place i = record {
   weight = whole (pos 1);
 }
 
+-- the design of a table and a formula under a coding
 unfoldable pub design_of : Table → Formula → Coding → DesignOf
 design_of table model coding = record {
   names = map column_name (columns_of table model coding);
@@ -48,6 +50,7 @@ design_of table model coding = record {
 abbrev pub exact_row : DesignRow → RowOf
 exact_row row = record { rec = row.rec; x = map exact row.x; y = exact row.y; weight = exact row.weight }
 
+-- the same of a whole design
 abbrev pub exact_design : Design → DesignOf
 exact_design design = record { names = design.names; rows = map exact_row design.rows; dropped = design.dropped }
 

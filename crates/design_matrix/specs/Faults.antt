@@ -1,4 +1,4 @@
--- Why a table and a formula have no design: the faults in the order in which they are looked for.
+-- Stated. Why a table and a formula have no design: the faults in the order in which they are looked for.
 use Rattle.std.specs.Prelude.{◌≡◌, ◌⊎◌, ◌==◌, ◌&&◌, ℕ, not, Bool, List, Option, Some, None, length, nat_lt, if◌then◌else◌}
 use Rattle.std.specs.Option.{option_or}
 use Rattle.contrasts.specs.declared.Coding.{Coding}
@@ -16,9 +16,11 @@ use Rattle.design_matrix.specs.Designs.{AllFit, OverflowsFirst, design_of, exact
 use Rattle.design_matrix.specs.Lists.{first_some}
 use Rattle.design_matrix.specs.Parts.{columns_of}
 
+-- the response is a factor
 abbrev pub response_fault : Column → Option DesignFault
 response_fault column = if is_text column then Some ResponseNotNumeric else None
 
+-- a column has a number that is too wide
 abbrev pub wide_fault : Text → Column → Option DesignFault
 wide_fault name (numbers cells) = None
 wide_fault name (factor cells) = None
@@ -28,6 +30,7 @@ wide_fault name (too_wide rec) = Some (NumberTooWide rec name)
 unfoldable pub widths_fault : Table → List Text → Option DesignFault
 widths_fault table names = first_some (λ name. wide_fault name (column_of table name)) names
 
+-- no record is kept
 abbrev pub rows_fault : List ℕ → Option DesignFault
 rows_fault records = if length records == 0 then Some NoRows else None
 
@@ -39,6 +42,7 @@ level_fault v = if width v == 0 then Some (OneLevel v.name) else None
 unfoldable pub levels_fault : List Coded → Option DesignFault
 levels_fault vs = first_some level_fault vs
 
+-- the first of all variables without a column
 unfoldable pub terms_fault : List (List Coded) → Option DesignFault
 terms_fault terms = first_some levels_fault terms
 
@@ -46,9 +50,11 @@ terms_fault terms = first_some levels_fault terms
 abbrev pub lacks_columns : Formula → Bool
 lacks_columns model = not model.intercept && ((length model.terms == 0) && (length model.smooths == 0))
 
+-- so there is nothing to fit
 abbrev pub empty_fault : Formula → Option DesignFault
 empty_fault model = if lacks_columns model then Some NoColumns else None
 
+-- there are more than 128 columns
 abbrev pub columns_fault : ℕ → Option DesignFault
 columns_fault columns = if nat_lt 128 columns then Some TooManyColumns else None
 

@@ -1,4 +1,4 @@
--- What the laws of the levels say; each is a clause of a function.
+-- Law. What the laws of the levels say; each is a clause of a function.
 use Rattle.std.specs.Prelude.{◌≡◌, List, All, AllPairs, Any, Contains}
 use Rattle.std.specs.declared.cmp.Ordering.{Ordering}
 use Rattle.std.specs.declared.cmp.Ordering.TheVariants.{Less}

@@ -9,3 +9,4 @@ pub mod Designs
 pub mod Faults
 pub mod Views
 pub mod Widths
+pub mod Shapes

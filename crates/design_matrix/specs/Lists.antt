@@ -1,4 +1,4 @@
--- Lists item by item.
+-- Stated. Lists item by item.
 use Rattle.std.specs.Prelude.{ℕ, ◌+◌, List, [], ◌∷◌, Option, None}
 use Rattle.std.specs.Option.{option_or}
 

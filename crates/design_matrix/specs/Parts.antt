@@ -1,4 +1,4 @@
--- The columns of a design.
+-- Stated. The columns of a design.
 use Rattle.std.specs.Prelude.{ℕ, ◌*◌, ◌/◌, ◌%◌, ◌++◌, Bool, true, false, List, [], ◌∷◌, codes, length, map, pos, slice_index_or}
 use Rattle.std.specs.List.{flat_map, range_with_len}
 use Rattle.exact_algebra.specs.Rational.{ℚ, whole}
@@ -14,6 +14,7 @@ pub record Part : Type 0 where
   pub label : Text
   pub entries : List ℚ
 
+-- column j of a variable: the numbers themselves, or what the coding gives at the level of each record
 abbrev pub part_in : Text → Coding → Values → ℕ → Part
 part_in name coding (numeric xs) j = record { label = name; entries = xs }
 part_in name coding (categorical texts places) j = record {
@@ -45,6 +46,7 @@ abbrev pub columns_in : Bool → List (List Coded) → List (List Part)
 columns_in true terms = [] ∷ flat_map term_columns terms
 columns_in false terms = flat_map term_columns terms
 
+-- the columns of the design of a table and a formula
 unfoldable pub columns_of : Table → Formula → Coding → List (List Part)
 columns_of table model coding = columns_in model.intercept (coded_terms table model coding)
 

@@ -1,4 +1,4 @@
--- Products from the left, and where they leave the range of fractions.
+-- Stated. Products from the left, and where they leave the range of fractions.
 use Rattle.std.specs.Prelude.{◌≡◌, ◌<◌, ◌≤◌, ◌^◌, ◌-◌, ℕ, List, [], ◌∷◌, length, pos, slice_index_or, take}
 use Rattle.exact_algebra.specs.Rational.{ℚ, ◌*ℚ◌, whole}
 use Rattle.frac_core.specs.Overflow.{Overflows}
@@ -8,6 +8,7 @@ use Rattle.loss_model.specs.declared.spill.Site.{Site}
 use Rattle.loss_model.specs.declared.spill.Spill.{Spill}
 use Rattle.data_frame.specs.Views.{exact}
 
+-- a number times the numbers of a list, from the left
 abbrev pub product_onto : ℚ → List ℚ → ℚ
 product_onto x [] = x
 product_onto x (y ∷ ys) = product_onto (x *ℚ y) ys

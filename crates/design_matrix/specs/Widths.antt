@@ -1,4 +1,4 @@
--- How many columns and levels a variable has that the code holds.
+-- Inner. How many columns and levels a variable has that the code holds.
 use Rattle.std.specs.Prelude.{◌≤◌, ℕ, length}
 use Rattle.contrasts.specs.declared.Coding.{Coding}
 use Rattle.contrasts.specs.Coding.{width_of}
@@ -6,10 +6,12 @@ use Rattle.design_matrix.specs.declared.coded.Coded.{Coded}
 use Rattle.design_matrix.specs.declared.coded.Values.{Values}
 use Rattle.design_matrix.specs.declared.coded.Values.TheVariants.{Numbers, Levels}
 
+-- how many levels
 abbrev pub levels_held : Values → ℕ
 levels_held (Numbers cells records) = 0
 levels_held (Levels levels) = length levels.texts.items
 
+-- how many columns
 abbrev pub width_held : Coding → Values → ℕ
 width_held coding (Numbers cells records) = 1
 width_held coding (Levels levels) = width_of coding (length levels.texts.items)

@@ -6,6 +6,7 @@ ghost use Rattle.design_matrix.specs.Cells.{column_of, kept};
 ghost use Rattle.design_matrix.specs.Coded.{coded_terms};
 ghost use Rattle.design_matrix.specs.Faults.{HasCause, HasDesign, HasLateCause, IsDesign, IsOverflow, lacks_columns, late_fault};
 ghost use Rattle.design_matrix.specs.Parts.{column_name, columns_in};
+ghost use Rattle.design_matrix.specs.Shapes.{IsShaped};
 ghost use Rattle.design_matrix.specs.Views.{columns_seen, terms_seen};
 ghost use Rattle.design_matrix.specs.Widths.{IsUsable};
 
@@ -116,6 +117,9 @@ fn build_kept(
 /// then by the number of its factors. The table and the formula have a design exactly where none
 /// comes.
 ///
+/// A design has a row, in each row an entry for each name and a weight above 0, and at most 128
+/// columns; where the formula has no smooths it has a column.
+///
 /// There are no weights: each is 1. A name in the formula that is no column of the table counts as a
 /// factor whose cells are all missing.
 pub fn build(
@@ -128,6 +132,7 @@ pub fn build(
     requires unweighted { IsNone weights }
     requires short { All (λ t. length t.variables < 2 ^ 32) model.now.terms }
     ensures design { IfOk result (IsDesign frame.now model.now coding) }
+    ensures shape { IfOk result (IsShaped model.now) }
     ensures fault { IfErr result (HasCause frame.now model.now coding) }
 {
     let response = column(frame, model.response.as_str());

@@ -1,4 +1,4 @@
--- Fractions as they are written: a numerator over a denominator (Knuth, TAOCP 4.5.1).
+-- Stated. Fractions as they are written: a numerator over a denominator (Knuth, TAOCP 4.5.1).
 --
 -- `Fraction` is what a value of the code's fraction types is seen as, and `rational` leads into ℚ,
 -- where its laws are: an exact operation ensures an equation between the `rational` of its operands

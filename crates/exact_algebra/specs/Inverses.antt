@@ -1,4 +1,4 @@
--- Inverses, and products that are 0.
+-- Stated. Inverses, and products that are 0.
 --
 --     y is 1/x, from x * y = 1              inverse_from x y h
 --     the inverse of a product, of -x, of 1/x, of 0    inverse-mul, inverse-neg, inverse_inverse, inverse-zero

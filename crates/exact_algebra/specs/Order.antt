@@ -1,4 +1,4 @@
--- The order of ℚ as an answer: how two fractions compare, and the sign of one.
+-- Stated. The order of ℚ as an answer: how two fractions compare, and the sign of one.
 --
 -- `cmp_ℚ` and `sign_ℚ` are what the code's `compare` and `sign` give. They compute from the tests
 -- of the order, which are opaque, so a proof goes by these laws:

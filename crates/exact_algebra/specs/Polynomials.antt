@@ -1,4 +1,4 @@
--- Identities of any commutative ring, by computing both sides as polynomials with whole
+-- Stated. Identities of any commutative ring, by computing both sides as polynomials with whole
 -- coefficients.
 --
 -- A ring is given by its operations and an embedding of the whole numbers; `IsRing` says that they

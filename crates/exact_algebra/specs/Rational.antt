@@ -1,4 +1,4 @@
--- ℚ, the field of fractions of whole numbers of any size, with its order.
+-- Stated. ℚ, the field of fractions of whole numbers of any size, with its order.
 --
 -- A fraction is a pair n/d with d at least 1, and two pairs are one fraction where n*d' = n'*d. So ℚ
 -- is the quotient of `Pair` by that relation, each operation is the one of pairs, and no common

@@ -1,4 +1,4 @@
--- Sums of fractions by index, and the parts of a fraction.
+-- Stated. Sums of fractions by index, and the parts of a fraction.
 --
 -- `sum_ℚ n f` is f 0 + .. + f (n - 1). In a loop `for i in 0..n` that adds from the left the
 -- invariant `rational (value total) ≡ sum_ℚ l.i f` is kept by `sum_ℚ-next`.

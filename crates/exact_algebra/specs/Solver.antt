@@ -1,4 +1,4 @@
--- Identities of whole numbers, proved by computing both sides as polynomials.
+-- Stated. Identities of whole numbers, proved by computing both sides as polynomials.
 --
 -- Both sides are written as a `Term`: `v0` to `v9` (or `var k`) are variables by their place in a
 -- list of values, `number z` is a whole number, and `⊞`, `⊟`, `⊠` and `negated` stand for the

@@ -1,4 +1,4 @@
--- Whole numbers among the fractions: an equation or an order of fractions, said of whole numbers,
+-- Stated. Whole numbers among the fractions: an equation or an order of fractions, said of whole numbers,
 -- and the other way.
 --
 --     into ℚ      whole-neg, whole-le, whole-sum, whole-positive, whole-negative

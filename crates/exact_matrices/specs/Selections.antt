@@ -1,4 +1,4 @@
--- Sums over some of the indices: the rows of a basis among all rows.
+-- Stated. Sums over some of the indices: the rows of a basis among all rows.
 --
 -- A basis lists row `at j` for each position j below n. Where the listed rows are distinct and within
 -- the rows of the problem (AreDistinct), a sum over the rows of the basis is a sum over its

@@ -1,4 +1,4 @@
--- The code of a formula: its operands, left first, and then its operator.
+-- Stated. The code of a formula: its operands, left first, and then its operator.
 use Rattle.std.specs.Prelude.{ℕ, Bool, true, false, List, [], ◌∷◌, ◌++◌}
 use Rattle.formula_grammar.specs.declared.token.Sign.{Sign}
 use Rattle.formula_grammar.specs.declared.token.Sign.TheVariants.{Plus, Minus}
@@ -60,6 +60,7 @@ intercept_by (Intercept n) Plus before = true
 intercept_by (Intercept n) Minus before = false
 intercept_by (Term p) x before = before
 
+-- the sign that leads, which is plus where none stands
 abbrev pub sign_of : Lead → Sign
 sign_of Bare = Plus
 sign_of (Led x n) = x
@@ -72,6 +73,7 @@ has_intercept (StartPlus n s) = true
 has_intercept (Then j x n i) = intercept_by i x (has_intercept j)
 has_intercept (ThenSmooth j n s) = has_intercept j
 
+-- where the name of a smooth stands, and its lambda
 abbrev pub smooth_part : Smooth → SmoothPart
 smooth_part s = record { name = s.name; lambda = s.lambda; at = s.at }
 
@@ -83,6 +85,7 @@ smooths_of (StartPlus n s) = smooth_part s ∷ []
 smooths_of (Then j x n i) = smooths_of j
 smooths_of (ThenSmooth j n s) = smooths_of j ++ (smooth_part s ∷ [])
 
+-- all that is read of a formula
 abbrev pub reading_of : Formula → Reading
 reading_of f = record {
   response = f.head.response;

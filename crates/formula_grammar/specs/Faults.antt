@@ -1,4 +1,4 @@
--- The formula of some tokens, or their first fault.
+-- Stated. The formula of some tokens, or their first fault.
 use Rattle.std.specs.Prelude.{◌≡◌, ◌⊎◌, ◌++◌, ◌<◌, ◌+◌, ◌-◌, ◌&&◌, ℕ, Bool, nat_le, List, [], ◌∷◌, length, take, slice_index_or, Option, Some, None, if◌then◌else◌}
 use Rattle.formula_grammar.specs.declared.token.Kind.{Kind}
 use Rattle.formula_grammar.specs.declared.token.Kind.TheVariants.{Number, Caret, Open, Close, Comma, End}
@@ -13,6 +13,7 @@ use Rattle.formula_grammar.specs.Numerals.{is_wide, power_of}
 use Rattle.formula_grammar.specs.Grammar.{Formula, token, formula_tokens, Begins}
 use Rattle.formula_grammar.specs.Codes.{reading_of}
 
+-- the token at an index
 abbrev pub token_at : List Token → ℕ → Token
 token_at ts i = slice_index_or ts i (token End 0)
 
@@ -22,6 +23,7 @@ depth_behind Open n = n + 1
 depth_behind Close n = n - 1
 depth_behind k n = n
 
+-- how many parentheses are open behind some tokens, where so many were before them
 abbrev pub depth_from : ℕ → List Token → ℕ
 depth_from n [] = n
 depth_from n (t ∷ ts) = depth_from (depth_behind t.kind n) ts
@@ -30,6 +32,7 @@ depth_from n (t ∷ ts) = depth_from (depth_behind t.kind n) ts
 abbrev pub depth : List Token → ℕ
 depth ts = depth_from 0 ts
 
+-- the kind of the last of some tokens, or a kind where there are none
 abbrev pub last_from : Kind → List Token → Kind
 last_from k [] = k
 last_from k (t ∷ ts) = last_from t.kind ts
@@ -38,6 +41,7 @@ last_from k (t ∷ ts) = last_from t.kind ts
 abbrev pub last_kind : List Token → Kind
 last_kind ts = last_from End ts
 
+-- an exponent is 1 to 8
 abbrev pub is_power : Whole → Bool
 is_power k = nat_le 1 (power_of k) && nat_le (power_of k) 8
 
@@ -53,6 +57,7 @@ limit_fault Open n opened before = if nat_le 64 opened then Some (TooDeep n) els
 limit_fault (Number x) n opened before = number_fault before x n
 limit_fault k n opened before = None
 
+-- the limit that the token at an index passes
 abbrev pub limit_at : List Token → ℕ → Option ReadFault
 limit_at ts i = limit_fault (token_at ts i).kind (token_at ts i).at (depth (take i ts)) (last_kind (take i ts))
 
@@ -99,6 +104,7 @@ pub record EndText (ts : List Token) : Type 0 where
 abbrev pub OneFault : Type 0
 OneFault = (ts : List Token) (a b : ReadFault) → IsFirstFault ts a → IsFirstFault ts b → a ≡ b
 
+-- and tokens of a formula have none
 abbrev pub NoFormulaHasFaults : Type 0
 NoFormulaHasFaults = (ts : List Token) (f : Formula) (fault : ReadFault) → IsFormula ts f → IsFirstFault ts fault → ⊥
 

@@ -1,4 +1,5 @@
--- The grammar of formulas, one type for each line of it. A tree keeps where its tokens begin.
+-- Stated. The grammar of formulas, one type for each line of it. A tree keeps where its tokens begin. It is a profile
+-- of R's (Chambers and Hastie 1992, Statistical Models in S, chapter 2), with smooths (Koenker, Ng and Portnoy 1994).
 --
 --   formula = NAME "~" [ "+" | "-" ] item { ( "+" | "-" ) item }      no qss follows "-"
 --   item    = "0" | "1" | "qss" "(" NAME "," NUMBER ")" | product
@@ -19,6 +20,7 @@ use Rattle.formula_grammar.specs.declared.token.Kind.{Kind}
 use Rattle.formula_grammar.specs.declared.token.Kind.TheVariants.{Name, FactorWord, QssWord, Number, Signed, Tilde, Star, Colon, Caret, Open, Close, Comma, Point, End}
 use Rattle.formula_grammar.specs.declared.token.Token.{Token}
 
+-- the token of a kind that begins at a place
 abbrev pub token : Kind → ℕ → Token
 token kind place = record { kind = kind; at = place }
 
@@ -28,28 +30,34 @@ pub data Lead : Type 0 where
   Led : (sign : Sign) (place : ℕ) → Lead
 
 mutual
+  -- sum: products with the signs between them
   pub data Sum : Type 0 where
     First : (lead : Lead) (only : Product) → Sum
     More : (left : Sum) (sign : Sign) (place : ℕ) (right : Product) → Sum
 
+  -- product: inters with stars between them
   pub data Product : Type 0 where
     One : (only : Inter) → Product
     Times : (left : Product) (place : ℕ) (right : Inter) → Product
 
+  -- inter: powers with colons between them
   pub data Inter : Type 0 where
     Lone : (only : Power) → Inter
     Cross : (left : Inter) (place : ℕ) (right : Power) → Inter
 
+  -- power: an atom, or one with an exponent
   pub data Power : Type 0 where
     Plain : (only : Atom) → Power
     Raised : (base : Atom) (place : ℕ) (exponent : Whole) (at : ℕ) → Power
 
+  -- atom: a name, a name in `factor( )`, the point, or a sum in parentheses
   pub data Atom : Type 0 where
     Leaf : (name : Span) (place : ℕ) → Atom
     Factor : (word opened : ℕ) (name : Span) (place closed : ℕ) → Atom
     Dot : (place : ℕ) → Atom
     Group : (opened : ℕ) (inner : Sum) (closed : ℕ) → Atom
 
+-- the item of a smooth
 pub record Smooth : Type 0 where
   pub word : ℕ
   pub opened : ℕ
@@ -74,21 +82,25 @@ pub data Items : Type 0 where
   Then : (left : Items) (sign : Sign) (place : ℕ) (item : Item) → Items
   ThenSmooth : (left : Items) (place : ℕ) (smooth : Smooth) → Items
 
+-- the response and the tilde
 pub record Head : Type 0 where
   pub response : Span
   pub place : ℕ
   pub tilde : ℕ
 
+-- a whole formula
 pub record Formula : Type 0 where
   pub head : Head
   pub items : Items
   pub ended : ℕ
 
+-- the tokens of each of these, from left to right
 abbrev pub lead_tokens : Lead → List Token
 lead_tokens Bare = []
 lead_tokens (Led s n) = token (Signed s) n ∷ []
 
 abbrev mutual
+  -- the tokens of a sum and of what is in it
   pub sum_tokens : Sum → List Token
   sum_tokens (First l p) = lead_tokens l ++ product_tokens p
   sum_tokens (More s x n p) = sum_tokens s ++ (token (Signed x) n ∷ product_tokens p)
@@ -111,16 +123,19 @@ abbrev mutual
   atom_tokens (Dot n) = token Point n ∷ []
   atom_tokens (Group o s c) = token Open o ∷ (sum_tokens s ++ (token Close c ∷ []))
 
+-- the tokens of a smooth
 abbrev pub smooth_tokens : Smooth → List Token
 smooth_tokens s =
     token QssWord s.word ∷ token Open s.opened ∷ token (Name s.name) s.place ∷ token Comma s.comma
     ∷ token (Number s.lambda) s.at ∷ token Close s.closed ∷ []
 
+-- the tokens of an item
 abbrev pub item_tokens : Item → List Token
 item_tokens (Nil n) = token (Number (Digits Zero)) n ∷ []
 item_tokens (Intercept n) = token (Number (Digits Unity)) n ∷ []
 item_tokens (Term p) = product_tokens p
 
+-- the tokens of items
 abbrev pub items_tokens : Items → List Token
 items_tokens (Start l i) = lead_tokens l ++ item_tokens i
 items_tokens (StartSmooth s) = smooth_tokens s
@@ -128,6 +143,7 @@ items_tokens (StartPlus n s) = token (Signed Plus) n ∷ smooth_tokens s
 items_tokens (Then i x n j) = items_tokens i ++ (token (Signed x) n ∷ item_tokens j)
 items_tokens (ThenSmooth i n s) = items_tokens i ++ (token (Signed Plus) n ∷ smooth_tokens s)
 
+-- the tokens of the response and the tilde
 abbrev pub head_tokens : Head → List Token
 head_tokens h = token (Name h.response) h.place ∷ token Tilde h.tilde ∷ []
 

@@ -1,4 +1,4 @@
--- The number at the front of a text.
+-- Stated. The number at the front of a text.
 use Rattle.std.specs.Prelude.{ℕ, zero, suc, ◌^◌, ◌-◌, ◌==◌, ◌||◌, nat_le, Bool, true, false, List, [], ◌∷◌, Option, Some, None, option_and_then, Result, Err, bytes_eq, codes, length, take, if◌then◌else◌}
 use Rattle.std.specs.Char.{is_ascii_digit}
 use Rattle.std.specs.List.{list_all}
@@ -28,6 +28,7 @@ greatest p (suc n) = if p (suc n) then suc n else greatest p n
 unfoldable pub number_len : List ℕ → ℕ
 number_len text = greatest (λ n. is_number_text (take n text)) (length text)
 
+-- there was a number, and it is too wide
 abbrev pub is_wide_answer : Result ℚ NumberFault → Bool
 is_wide_answer (Err TooWide) = true
 is_wide_answer _ = false
@@ -40,6 +41,7 @@ is_too_wide number = is_wide_answer (number_of (2 ^ 127 - 1) number)
 unfoldable pub capped_value : List ℕ → ℕ
 capped_value digits = if nat_le (digits_value 10 digits) 8 then digits_value 10 digits else 9
 
+-- what digits are as a token: 0, 1, or others by how many they are, by their value and by whether it is too wide
 unfoldable pub whole_of : List ℕ → Whole
 whole_of digits =
     if bytes_eq digits (codes "0") then Zero
@@ -52,9 +54,11 @@ numeral_of number = if list_all is_ascii_digit number then Digits (whole_of numb
 
 -- ---- a number text byte by byte
 
+-- a digit leads to the next part
 abbrev pub digit_then : ℕ → NumberPart → Option NumberPart
 digit_then b next = if is_ascii_digit b then Some next else None
 
+-- the part of a number text that a byte leads to, or none where it can't stand there
 abbrev pub next_part : NumberPart → ℕ → Option NumberPart
 next_part Empty b = if is_point b then Some LonePoint else digit_then b Integer
 next_part Integer b =
@@ -78,6 +82,7 @@ is_whole Exponent = true
 is_whole Denominator = true
 is_whole _ = false
 
+-- the part behind some bytes
 abbrev pub part_behind : NumberPart → List ℕ → Option NumberPart
 part_behind p [] = Some p
 part_behind p (b ∷ bs) = option_and_then (λ q. part_behind q bs) (next_part p b)

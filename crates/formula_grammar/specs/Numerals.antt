@@ -1,4 +1,4 @@
--- What the number of a token says.
+-- Stated. What the number of a token says.
 use Rattle.std.specs.Prelude.{ℕ, Bool, false}
 use Rattle.formula_grammar.specs.declared.token.Whole.{Whole}
 use Rattle.formula_grammar.specs.declared.token.Whole.TheVariants.{Zero, Unity, Longer}

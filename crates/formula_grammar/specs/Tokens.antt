@@ -1,4 +1,4 @@
--- The tokens of a text.
+-- Stated. The tokens of a text.
 use Rattle.std.specs.Prelude.{ℕ, zero, suc, ◌+◌, ◌-◌, ◌==◌, ◌&&◌, ◌||◌, Bool, false, nat_le, bytes_eq, codes, List, [], ◌∷◌, Option, Some, None, length, take, drop, position, if◌then◌else◌}
 use Rattle.std.specs.List.{prefix_len}
 use Rattle.std.specs.Char.{is_ascii_digit}
@@ -13,6 +13,7 @@ use Rattle.formula_grammar.specs.Numbers.{number_len, numeral_of}
 abbrev pub is_blank : ℕ → Bool
 is_blank b = (b == 32) || (b == 9) || (b == 10) || (b == 13)
 
+-- an ASCII letter
 abbrev pub is_letter : ℕ → Bool
 is_letter b = (nat_le 65 b && nat_le b 90) || (nat_le 97 b && nat_le b 122)
 
@@ -29,9 +30,11 @@ abbrev pub starts_by : (ℕ → Bool) → List ℕ → Bool
 starts_by p [] = false
 starts_by p (b ∷ bs) = p b
 
+-- a name begins with this byte before these bytes: a letter, or `.` and what may follow it
 abbrev pub begins_name : ℕ → List ℕ → Bool
 begins_name b bs = is_letter b || ((b == 46) && starts_by follows_point bs)
 
+-- a number does: a digit, or `.` and a digit
 abbrev pub begins_number : ℕ → List ℕ → Bool
 begins_number b bs = is_ascii_digit b || ((b == 46) && starts_by is_ascii_digit bs)
 
@@ -52,6 +55,7 @@ abbrev pub quoted_to : ℕ → Option ℕ → Lexeme
 quoted_to at None = record { kind = Stray; len = 1 }
 quoted_to at (Some n) = record { kind = Name (record { start = at + 1; len = n }); len = n + 2 }
 
+-- a backtick
 abbrev pub is_backtick : ℕ → Bool
 is_backtick b = b == 96
 
@@ -70,9 +74,11 @@ mark_of b =
     else if b == 46 then Point
     else Stray
 
+-- the name of the first n bytes, or the word that they are
 abbrev pub name_lexeme : ℕ → ℕ → List ℕ → Lexeme
 name_lexeme at n text = record { kind = name_or_word at (take n text) (drop n text); len = n }
 
+-- the number of the first n bytes
 abbrev pub number_lexeme : ℕ → List ℕ → Lexeme
 number_lexeme n text = record { kind = Number (numeral_of (take n text)); len = n }
 
@@ -92,5 +98,6 @@ tokens_from at zero (b ∷ bs) =
     if is_blank b then tokens_from (at + 1) 0 bs
     else record { kind = (lexeme at b bs).kind; at = at } ∷ tokens_from (at + 1) ((lexeme at b bs).len - 1) bs
 
+-- the tokens of a text
 unfoldable pub tokens : List ℕ → List Token
 tokens text = tokens_from 0 0 text

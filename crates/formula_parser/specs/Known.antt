@@ -1,4 +1,4 @@
--- The terms of a list, as a set beside it.
+-- Inner. The terms of a list, as a set beside it.
 use Rattle.std.specs.Prelude.{◌≡◌}
 use Rattle.std.specs.HashSet.{HashSet, contains}
 use Rattle.std.specs.Cmp.Lexicographic.{pointwise}

@@ -1,5 +1,5 @@
--- The meaning of a formula's expressions: a list of distinct terms, or the offset of the first operator whose meaning has
--- more than 4,096. Operators are evaluated operands first and left first.
+-- Stated. The meaning of a formula's expressions: a list of distinct terms, or the offset of the first operator whose
+-- meaning has more than 4,096. Operators are evaluated operands first and left first.
 use Rattle.std.specs.Prelude.{ℕ, Bool, true, false, [], ◌∷◌, length, Result, Ok, Err, nat_lt, if◌then◌else◌}
 use Rattle.formula_grammar.specs.declared.token.Span.{Span}
 use Rattle.formula_grammar.specs.declared.token.Sign.{Sign}
@@ -9,6 +9,7 @@ use Rattle.formula_grammar.specs.Grammar.{Bare, Led, Sum, First, More, Product, 
 use Rattle.formula_grammar.specs.Grammar.{Term as TermItem}
 use Rattle.formula_parser.specs.Terms.{Term, Terms, plus, minus, cross, times, raised}
 
+-- a meaning, and the next one that needs it; the first that has too many terms ends all
 infixl 10 ◌>>=◌
 abbrev pub ◌>>=◌ : {A B : Type 0} → Result A ℕ → (A → Result B ℕ) → Result B ℕ
 (Ok x) >>= f = f x
@@ -18,6 +19,7 @@ abbrev pub ◌>>=◌ : {A B : Type 0} → Result A ℕ → (A → Result B ℕ) 
 unfoldable pub limited : ℕ → Terms → Result Terms ℕ
 limited place ts = if nat_lt 4096 (length ts) then Err place else Ok ts
 
+-- by a plus or by a minus
 abbrev pub combined : Sign → Terms → Terms → Terms
 combined Plus a b = plus a b
 combined Minus a b = minus a b
@@ -26,6 +28,7 @@ combined Minus a b = minus a b
 module _ (only : Span → Bool → Term) (all : Terms) where
   -- a leading sign acts on the empty list
   abbrev mutual
+    -- the meaning of each of these, with that of its parts
     pub sum_meaning : Sum → Result Terms ℕ
     sum_meaning (First Bare p) = product_meaning p
     sum_meaning (First (Led x n) p) = product_meaning p >>= λ b. limited n (combined x [] b)

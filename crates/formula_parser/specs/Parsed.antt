@@ -1,4 +1,4 @@
--- The formula of a text over the columns of a table, or its first fault.
+-- Stated. The formula of a text over the columns of a table, or its first fault.
 use Rattle.std.specs.Prelude.{◌≡◌, ◌^◌, ◌-◌, ℕ, Bool, false, List, [], ◌∷◌, map, zip, length, Option, Some, None, is_none, Result, Ok, Err, if◌then◌else◌}
 use Rattle.std.specs.List.{filter}
 use Rattle.std.specs.List.Sorted.{IsPermutation, IsSortedByKey, IsStableByKey}
@@ -51,6 +51,7 @@ pub record IsBySize (old new : Terms) : Type 0 where
   pub sorted : IsSortedByKey size nat_cmp new
   pub stable : IsStableByKey size nat_cmp old new
 
+-- a variable by the name of its column
 abbrev pub spoken_variable : List Text → Mention → Variable
 spoken_variable names v = record { name = name_at names v.column; as_factor = v.as_factor }
 
@@ -58,6 +59,7 @@ spoken_variable names v = record { name = name_at names v.column; as_factor = v.
 abbrev pub members : List Mention → Bools → List Mention
 members vs t = map (λ p. p.0) (filter (λ p. p.1) (zip vs t))
 
+-- a term by its variables
 abbrev pub spoken_term : List Text → List Mention → Bools → Term
 spoken_term names vs t = record { variables = map (spoken_variable names) (members vs t) }
 
@@ -66,15 +68,19 @@ pub record NamedNumber : Type 0 where
   pub name : Text
   pub lambda : Result ℚ NumberFault
 
+-- the value of a fraction
 abbrev pub exact : Frac128 → ℚ
 exact x = rational (record { num = x.num; den = x.den })
 
+-- a smooth that was given
 abbrev pub told_smooth : Smooth → NamedNumber
 told_smooth s = record { name = s.name; lambda = Ok (exact s.lambda) }
 
+-- the text of a smooth's number
 abbrev pub lambda_text : Text → SmoothPart → Text
 lambda_text text s = piece text (record { start = s.at; len = len_of s.lambda })
 
+-- a smooth that the text has
 abbrev pub meant_smooth : Text → List Text → SmoothPart → NamedNumber
 meant_smooth text names s = record {
   name = name_at names (column_at text names s.name);
@@ -83,6 +89,7 @@ meant_smooth text names s = record {
 
 -- ---- the formula
 
+-- the columns that `.` stands for in this text
 abbrev pub others_of : Text → List Text → Span → List ℕ
 others_of text names response = other_columns (length names) (column_at text names response)
 

@@ -1,4 +1,4 @@
--- What the names of a formula stand for.
+-- Stated. What the names of a formula stand for.
 use Rattle.std.specs.Prelude.{ℕ, ◌==◌, ◌&&◌, not, Bool, false, List, [], ◌∷◌, ◌++◌, map, flat_map, cond, bytes_eq, position, take, drop, slice_index_or, unwrap_or, Option}
 use Rattle.std.specs.List.{filter, list_any, range_with_len}
 use mathlib.Core.Bool.{beq}
@@ -8,6 +8,7 @@ use Rattle.formula_grammar.specs.declared.reading.Step.TheVariants.{Load, LoadAl
 use Rattle.formula_parser.specs.declared.scope.Mention.{Mention}
 use Rattle.formula_parser.specs.Terms.{Term, Terms}
 
+-- bytes
 abbrev pub Text : Type 0
 Text = List ℕ
 
@@ -23,6 +24,7 @@ column_of names name = position (λ n. bytes_eq n name) names
 abbrev pub column_at : Text → List Text → Span → ℕ
 column_at text names x = unwrap_or (column_of names (piece text x)) 0
 
+-- the name of a column
 abbrev pub name_at : List Text → ℕ → Text
 name_at names column = slice_index_or names column []
 
@@ -30,6 +32,7 @@ name_at names column = slice_index_or names column []
 abbrev pub variable : ℕ → Bool → Mention
 variable column factor = record { column = column; as_factor = factor }
 
+-- of the same column, and both or neither written with `factor`
 abbrev pub same : Mention → Mention → Bool
 same v w = (v.column == w.column) && beq v.as_factor w.as_factor
 
@@ -43,6 +46,7 @@ loaded text names others (Load x f) = variable (column_at text names x) f ∷ []
 loaded text names others LoadAll = map (λ c. variable c false) others
 loaded text names others step = []
 
+-- a variable at the end, where the list lacks it
 abbrev pub with_variable : List Mention → Mention → List Mention
 with_variable found v = cond (list_any (λ w. same w v) found) found (found ++ v ∷ [])
 
@@ -59,6 +63,7 @@ variables_of text names others steps = each_once [] (flat_map (loaded text names
 abbrev pub only_term : List Mention → Mention → Term
 only_term vs v = map (λ w. same w v) vs
 
+-- the term of a name in the text
 abbrev pub named_term : Text → List Text → List Mention → Span → Bool → Term
 named_term text names vs x f = only_term vs (variable (column_at text names x) f)
 

@@ -1,4 +1,4 @@
--- What the code of a formula says over the columns of a table.
+-- Inner. What the code of a formula says over the columns of a table.
 use Rattle.std.specs.Prelude.{◌≡◌, ◌^◌, ◌-◌, ℕ, List, map, Result, Ok, Err}
 use Rattle.std.specs.Str.{IsUtf8}
 use Rattle.std.specs.Result.{is_ok}
@@ -20,12 +20,15 @@ pub record HasLambda (text : Text) (s : SmoothPart) : Type 0 where
   pub is_text : IsUtf8 (lambda_text text s)
   pub is_number : is_ok (number_of (2 ^ 127 - 1) (lambda_text text s)) ≡ true
 
+-- the variables of what was read, in the order in which they first stand
 abbrev pub loaded_variables : Text → List Text → Reading → List Mention
 loaded_variables text names r = variables_of text names (others_of text names r.response) r.steps
 
+-- the terms that the code leaves, or the operator that has too many
 abbrev pub code_meaning : Text → List Text → Reading → Result Terms ℕ
 code_meaning text names r = run_steps (named_term text names (loaded_variables text names r)) (dot_terms (loaded_variables text names r) (others_of text names r.response)) r.steps
 
+-- the formula is what was read, over the names of the columns
 pub record IsSpoken (text : Text) (names : List Text) (r : Reading) (f : Formula) : Type 0 where
   pub meaning : Terms
   pub means : code_meaning text names r ≡ Ok meaning
@@ -36,6 +39,7 @@ pub record IsSpoken (text : Text) (names : List Text) (r : Reading) (f : Formula
   pub terms : f.terms ≡ map (spoken_term names (loaded_variables text names r)) ordered
   pub smooths : map told_smooth f.smooths ≡ map (meant_smooth text names) r.smooths
 
+-- why it can't be said: an operator that has too many terms
 abbrev pub IsHalted : Text → List Text → Reading → FormulaFault → Type 0
 IsHalted text names r OutOfMemory = Unit {0}
 IsHalted text names r (TooManyTerms n) = code_meaning text names r ≡ Err n

@@ -1,4 +1,4 @@
--- The steps of a formula's code on a stack of meanings, the top first. A missing operand is the empty list.
+-- Inner. The steps of a formula's code on a stack of meanings, the top first. A missing operand is the empty list.
 use Rattle.std.specs.Prelude.{◌≡◌, ℕ, Bool, List, [], ◌∷◌, Result, Ok, Err}
 use Rattle.formula_grammar.specs.declared.token.Span.{Span}
 use Rattle.formula_grammar.specs.declared.reading.Step.{Step}
@@ -8,21 +8,26 @@ use Rattle.formula_parser.specs.declared.evaluation.Halt.TheVariants.{OutOfMemor
 use Rattle.formula_parser.specs.Terms.{Term, Terms, plus, minus, cross, times, raised}
 use Rattle.formula_parser.specs.Meaning.{limited, ◌>>=◌}
 
+-- the last meaning
 abbrev pub top : List Terms → Terms
 top [] = []
 top (a ∷ stack) = a
 
+-- those before it
 abbrev pub below : List Terms → List Terms
 below [] = []
 below (a ∷ stack) = stack
 
+-- one more meaning
 abbrev pub pushed : List Terms → Terms → Result (List Terms) ℕ
 pushed stack a = Ok (a ∷ stack)
 
+-- an operator of the two last meanings
 abbrev pub on_two : (Terms → Terms → Terms) → ℕ → List Terms → Result (List Terms) ℕ
 on_two f n stack = limited n (f (top (below stack)) (top stack)) >>= λ c. pushed (below (below stack)) c
 
 module _ (only : Span → Bool → Term) (all : Terms) where
+  -- one step
   abbrev pub act : Step → List Terms → Result (List Terms) ℕ
   act (Load x f) stack = pushed stack (only x f ∷ [])
   act LoadAll stack = pushed stack all
@@ -33,6 +38,7 @@ module _ (only : Span → Bool → Term) (all : Terms) where
   act (Interact n) stack = on_two cross n stack
   act (Raise k n) stack = limited n (raised k (top stack)) >>= λ c. pushed (below stack) c
 
+  -- step after step
   abbrev pub exec : List Step → List Terms → Result (List Terms) ℕ
   exec [] stack = Ok stack
   exec (i ∷ is) stack = act i stack >>= λ s. exec is s

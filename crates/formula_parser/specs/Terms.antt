@@ -1,13 +1,16 @@
--- Lists of distinct terms. The variables of a formula are counted in the order in which they first stand in its text.
--- A term is a set of them: a list that says of each variable in turn whether it is in the term.
+-- Stated. Lists of distinct terms. The variables of a formula are counted in the order in which they first stand in its
+-- text. A term is a set of them: a list that says of each variable in turn whether it is in the term
+-- (Wilkinson and Rogers 1973; Chambers and Hastie 1992, chapter 2).
 use Rattle.std.specs.Prelude.{ℕ, zero, suc, ◌-◌, Bool, not, ◌||◌, List, [], ◌∷◌, ◌++◌, map, flat_map, zip, cond, count_by}
 use Rattle.std.specs.List.{filter, list_any}
 use mathlib.Core.Bool.{beq}
 use Rattle.std.specs.Cmp.Lexicographic.{pointwise}
 
+-- for each variable, whether it is in the term
 abbrev pub Term : Type 0
 Term = List Bool
 
+-- terms in their order
 abbrev pub Terms : Type 0
 Terms = List Term
 
@@ -15,6 +18,7 @@ Terms = List Term
 abbrev pub union : Term → Term → Term
 union a b = map (λ p. p.0 || p.1) (zip a b)
 
+-- the list has the term
 abbrev pub is_in : Term → Terms → Bool
 is_in t ts = list_any (λ u. pointwise beq u t) ts
 

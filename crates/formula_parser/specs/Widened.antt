@@ -1,4 +1,4 @@
--- The faults of the steps of parsing as faults of the whole.
+-- Inner. The faults of the steps of parsing as faults of the whole.
 use Rattle.formula_grammar.specs.declared.fault.ReadFault.{ReadFault}
 use Rattle.formula_grammar.specs.declared.fault.ReadFault.TheVariants as read
 use Rattle.formula_parser.specs.declared.evaluation.Halt.{Halt}
@@ -6,6 +6,7 @@ use Rattle.formula_parser.specs.declared.evaluation.Halt.TheVariants as halt
 use Rattle.formula_parser.specs.declared.fault.FormulaFault.{FormulaFault}
 use Rattle.formula_parser.specs.declared.fault.FormulaFault.TheVariants.{OutOfMemory, Syntax, TooDeep, TooManyTerms, PowerRange, NumberTooWide}
 
+-- the faults of reading
 abbrev pub read_fault : ReadFault → FormulaFault
 read_fault read.OutOfMemory = OutOfMemory
 read_fault (read.Syntax n) = Syntax n
@@ -13,6 +14,7 @@ read_fault (read.TooDeep n) = TooDeep n
 read_fault (read.PowerRange n) = PowerRange n
 read_fault (read.NumberTooWide n) = NumberTooWide n
 
+-- the faults of evaluation
 abbrev pub halt_fault : Halt → FormulaFault
 halt_fault halt.OutOfMemory = OutOfMemory
 halt_fault (halt.TooManyTerms n) = TooManyTerms n

@@ -1,4 +1,4 @@
--- When an operation on fractions of limited size is refused (Knuth, TAOCP 4.5.1, for the sum).
+-- Stated. When an operation on fractions of limited size is refused (Knuth, TAOCP 4.5.1, for the sum).
 use Rattle.std.specs.Prelude.{ℕ, ℤ, pos, ◌≡◌, ◌*◌, ◌/◌, ◌≤◌, ◌+ℤ◌, ◌*ℤ◌, neg_ℤ, unsigned_abs, int_lt, if◌then◌else◌}
 use Rattle.exact_algebra.specs.Fraction.{Fraction}
 use Rattle.frac_core.specs.Gcd.{gcd}
@@ -29,9 +29,11 @@ pub record ReducesWithin (range : ℕ) (n : ℤ) (d : ℕ) : Type 0 where
 abbrev pub left_part : Fraction → Fraction → ℤ
 left_part x y = x.num *ℤ pos (y.den / gcd x.den y.den)
 
+-- c*(b/g)
 abbrev pub right_part : Fraction → Fraction → ℤ
 right_part x y = y.num *ℤ pos (x.den / gcd x.den y.den)
 
+-- t, their sum
 abbrev pub joined : Fraction → Fraction → ℤ
 joined x y = left_part x y +ℤ right_part x y
 

@@ -1,5 +1,6 @@
-ghost use Rattle.std.specs.Prelude.{◌≡◌, ◌<◌, ◌++◌, ◌∷◌, [], length, slice_index_or, slice_set, IfErr, OnErr, OnOk};
+ghost use Rattle.std.specs.Prelude.{◌≡◌, ◌<◌, ◌++◌, ◌∷◌, [], length, slice_index_or, slice_set, IfErr, IfOk, OnErr, OnOk};
 
+use crate::OutOfMemory;
 use std::alloc::Global;
 use std::marker::Model;
 
@@ -37,6 +38,42 @@ impl<T> List<T> {
         match self.contents.push(item) {
             Ok(()) => Ok(()),
             Err(failed) => Err(failed.value),
+        }
+    }
+
+    /// Puts an item at the end, or drops it where no memory is found; then the list stays as it was.
+    pub fn add(&mut self, item: T) -> Result<(), OutOfMemory>
+    where
+        T: Drop,
+        ensures added { OnOk result (self.new ≡ self.old ++ item ∷ []) }
+        ensures unchanged { OnErr result (self.new ≡ self.old) }
+    {
+        match self.push(item) {
+            Ok(()) => Ok(()),
+            Err(_) => Err(OutOfMemory),
+        }
+    }
+
+    /// The list of one item.
+    pub fn one(alloc: Global, item: T) -> Result<List<T>, OutOfMemory>
+    where
+        T: Drop,
+        ensures { IfOk result (λ list. list ≡ item ∷ []) }
+    {
+        let mut list = List::new(alloc);
+        list.add(item)?;
+        Ok(list)
+    }
+
+    /// The same items in a list of their own.
+    pub fn copy(alloc: Global, items: &[T]) -> Result<List<T>, OutOfMemory>
+    where
+        T: Copy,
+        ensures { IfOk result (λ list. list ≡ items.now) }
+    {
+        match Vec::from_slice(alloc, items) {
+            Ok(contents) => Ok(List { contents }),
+            Err(_) => Err(OutOfMemory),
         }
     }
 

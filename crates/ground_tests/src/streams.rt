@@ -191,3 +191,41 @@ fn a_writer_of_std_is_a_sink(rt: HostRuntime) -> Result<(), Fail> {
     }
     Ok(())
 }
+
+// Holds back what it takes until it is flushed, and counts the flushes.
+#[derive(Drop)]
+struct Holding {
+    waiting: Vec<u8>,
+    arrived: Vec<u8>,
+    flushes: u32,
+}
+
+impl Write for Holding {
+    fn write(&mut self, buf: &[u8]) -> io::Result<usize> {
+        let count = buf.len().min(3);
+        self.waiting.extend_from_slice(&buf[..count])?;
+        Ok(count)
+    }
+
+    fn flush(&mut self) -> io::Result<()> {
+        self.flushes = self.flushes.saturating_add(1);
+        self.arrived.extend_from_slice(&self.waiting)?;
+        self.waiting.clear();
+        Ok(())
+    }
+}
+
+// All that a sink says is written has left the writer's own room: 31 bytes in pieces of 3.
+#[test]
+fn each_write_is_flushed(rt: HostRuntime) -> Result<(), Fail> {
+    let mut writer = Holding {
+        waiting: Vec::new(rt.alloc()),
+        arrived: Vec::new(rt.alloc()),
+        flushes: 0,
+    };
+    assert!(rt; write_all(&mut StdSink::new(&mut writer), REPORT).is_ok());
+    assert!(rt; writer.arrived.as_slice() == REPORT);
+    assert!(rt; writer.waiting.is_empty());
+    assert!(rt; writer.flushes == 11);
+    Ok(())
+}

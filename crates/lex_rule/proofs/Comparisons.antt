@@ -13,10 +13,10 @@ use Rattle.loss_model.specs.declared.spill.Quantity.TheVariants.{PerturbedRatio}
 use Rattle.loss_model.specs.declared.vertex.Side.{Side}
 use Rattle.loss_model.specs.declared.vertex.Side.TheVariants.{Up, Down}
 use Rattle.loss_model.specs.declared.spill.Spill.{Spill}
-use Rattle.perturbation.specs.Lexicographic.{lex_cmp, lex_cmp-first, lex_cmp-longer, same_from-lex_cmp}
-use Rattle.perturbation.specs.Perturbed.{Nonbasic, IsOutside, perturbed, turned, side_of, ratio_on, perturbed-other, held_coordinate-at}
-use Rattle.perturbation.specs.Ratios.{ratio-none, ratio-own, own-up, own-down}
-use Rattle.perturbation.specs.RatioSpill.{IsRatioEntrySpill, IsSpillOn}
+use Rattle.basis_model.specs.Lexicographic.{lex_cmp, lex_cmp-first, lex_cmp-longer, same_from-lex_cmp}
+use Rattle.basis_model.specs.Perturbed.{Nonbasic, IsOutside, perturbed, turned, side_of, ratio_on, perturbed-other, held_coordinate-at}
+use Rattle.basis_model.specs.Ratios.{ratio-none, ratio-own, own-up, own-down}
+use Rattle.basis_model.specs.RatioSpill.{IsRatioEntrySpill, IsSpillOn}
 use Rattle.lex_rule.specs.declared.quotient.Divisor.{Divisor}
 use Rattle.lex_rule.specs.Divisor.{entry_over, IsDivisorSpill}
 use Rattle.lex_rule.specs.Compared.{IsDivisorOf}

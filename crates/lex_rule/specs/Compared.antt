@@ -1,9 +1,9 @@
--- The rows whose perturbed ratios are compared.
+-- Inner. The rows whose perturbed ratios are compared.
 use Rattle.std.specs.Prelude.{◌≡◌, ◌≢◌, ℕ, ◌<◌, List, length, slice_index, pos}
 use Rattle.exact_algebra.specs.Fraction.{Fraction, rational}
 use Rattle.exact_algebra.specs.Rational.{whole}
 use Rattle.loss_model.specs.Spill.{abs_ℚ}
-use Rattle.perturbation.specs.Perturbed.{Nonbasic, nonbasic, IsOutside}
+use Rattle.basis_model.specs.Perturbed.{Nonbasic, nonbasic, IsOutside}
 use Rattle.lex_rule.specs.declared.less.Ratio.{Ratio}
 use Rattle.lex_rule.specs.declared.quotient.Divisor.{Divisor}
 

@@ -1,10 +1,10 @@
--- An entry of a perturbed ratio by what all its entries share.
+-- Inner. An entry of a perturbed ratio by what all its entries share.
 use Rattle.std.specs.Prelude.{ℕ}
 use Rattle.exact_algebra.specs.Fraction.{Fraction, rational}
 use Rattle.exact_algebra.specs.Rational.{ℚ, ◌*ℚ◌, inverse}
 use Rattle.loss_model.specs.declared.spill.Spill.{Spill}
-use Rattle.perturbation.specs.Perturbed.{turned}
-use Rattle.perturbation.specs.RatioSpill.{IsDivisionSpill}
+use Rattle.basis_model.specs.Perturbed.{turned}
+use Rattle.basis_model.specs.RatioSpill.{IsDivisionSpill}
 use Rattle.lex_rule.specs.declared.quotient.Divisor.{Divisor}
 
 -- the entry of the perturbed residual over the size, negated on the side below

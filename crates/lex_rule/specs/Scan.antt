@@ -1,4 +1,4 @@
--- The least row of a basis in a range that has a coordinate.
+-- Inner. The least row of a basis in a range that has a coordinate.
 use Rattle.std.specs.Prelude.{◌≡◌, ℕ, ◌<◌, ◌≤◌, Option, Some, None, pos}
 use Rattle.exact_algebra.specs.Rational.{ℚ, whole}
 
@@ -19,6 +19,7 @@ pub record IsNextAt (n : ℕ) (at : ℕ → ℕ) (u v : ℕ → ℚ) (from to k 
   pub some : ¬ AreZeroAt u v k
   pub least : AreZeroBetween n at u v from (at k)
 
+-- such a position, or none
 abbrev pub IsNextPosition : ℕ → (ℕ → ℕ) → (ℕ → ℚ) → (ℕ → ℚ) → ℕ → ℕ → Option ℕ → Type 0
 IsNextPosition n at u v from to None = AreZeroBetween n at u v from to
 IsNextPosition n at u v from to (Some k) = IsNextAt n at u v from to k

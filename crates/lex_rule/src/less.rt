@@ -2,9 +2,9 @@
 ghost use Rattle.std.specs.Prelude.{◌≡◌, ◌≢◌, ◌↔◌, ℕ, suc, ◌<◌, ◌≤◌, length, slice_index, IfOk, IfErr, IsTrue};
 ghost use Rattle.std.specs.declared.cmp.Ordering.TheVariants.{Less};
 ghost use Rattle.loss_model.specs.declared.vertex.Side.TheVariants.{Down};
-ghost use Rattle.perturbation.specs.Lexicographic.{lex_cmp};
-ghost use Rattle.perturbation.specs.Perturbed.{perturbed_side, ratio_on, ratio};
-ghost use Rattle.perturbation.specs.RatioSpill.{IsSpillOn, IsRatioSpill};
+ghost use Rattle.basis_model.specs.Lexicographic.{lex_cmp};
+ghost use Rattle.basis_model.specs.Perturbed.{perturbed_side, ratio_on, ratio};
+ghost use Rattle.basis_model.specs.RatioSpill.{IsSpillOn, IsRatioSpill};
 ghost use Rattle.lex_rule.specs.Compared.{of_ratio, IsRatioAt, IsDivisorOf};
 
 use crate::quotient::{Divisor, absolute, compare_entries};

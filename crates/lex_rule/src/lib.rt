@@ -1,9 +1,9 @@
 //! The signs of perturbed residuals and the order of perturbed ratios, by which ties are broken.
 //!
 //! The one contract for the layers above: `lex_sign` and `lex_less` are the sign and the order of
-//! the lists that `perturbation` defines over all rows of a problem. The code looks only at entries
+//! the lists that `basis_model` defines over all rows of a problem. The code looks only at entries
 //! that can differ: the residual, those of the basis's rows in ascending order, and those of the rows
-//! themselves. It takes no memory. It stands on `perturbation`, and on `loss_model` for the types.
+//! themselves. It takes no memory. It stands on `basis_model`, and on `loss_model` for the types.
 //! Its tests stand in the crate `solver_tests`.
 #![tactic(auto)]
 

@@ -4,8 +4,8 @@ ghost use Rattle.exact_algebra.specs.Fraction.{rational};
 ghost use Rattle.exact_algebra.specs.Rational.{◌*ℚ◌, inverse, whole};
 ghost use Rattle.exact_algebra.specs.Order.{cmp_ℚ};
 ghost use Rattle.loss_model.specs.Spill.{abs_ℚ};
-ghost use Rattle.perturbation.specs.Perturbed.{turned};
-ghost use Rattle.perturbation.specs.RatioSpill.{IsDivisionSpill};
+ghost use Rattle.basis_model.specs.Perturbed.{turned};
+ghost use Rattle.basis_model.specs.RatioSpill.{IsDivisionSpill};
 ghost use Rattle.lex_rule.specs.Divisor.{entry_over, IsDivisorSpill};
 
 use frac_core::{Exact, OpKind};

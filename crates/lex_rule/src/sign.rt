@@ -3,7 +3,7 @@ ghost use Rattle.std.specs.Prelude.{◌≡◌, ℕ, ◌<◌, length, slice_index
 ghost use Rattle.exact_algebra.specs.Fraction.{rational};
 ghost use Rattle.exact_algebra.specs.Rational.{whole};
 ghost use Rattle.exact_algebra.specs.Order.{cmp_ℚ};
-ghost use Rattle.perturbation.specs.Perturbed.{IsOutside, nonbasic, perturbed_side, side_of};
+ghost use Rattle.basis_model.specs.Perturbed.{IsOutside, nonbasic, perturbed_side, side_of};
 
 use crate::scan::next_position;
 use frac_core::Exact;

@@ -2,7 +2,7 @@
 use Rattle.std.specs.Prelude.{◌≡◌, ℕ, ◌+◌, Bool, true, false, cond, [], ◌∷◌, ℤ, pos, ◌≤ℤ◌}
 use Rattle.std.proofs.Common.{refl, sym, ap, subst, ◌∙◌}
 use Rattle.exact_algebra.specs.Solver.{number, negated, ◌⊞◌, ◌⊠◌, v0, v1, v2}
-use Rattle.exact_algebra.specs.Rational.{ℚ, ◌+ℚ◌, ◌*ℚ◌, neg_ℚ, whole, le_ℚ, ring_ℚ, zero-+ℚ}
+use Rattle.exact_algebra.specs.Rational.{ℚ, ◌+ℚ◌, ◌*ℚ◌, neg_ℚ, whole, le_ℚ, ring_ℚ, zero-+ℚ, ◌≤ℚ◌}
 use Rattle.exact_algebra.specs.RationalSums.{sum_ℚ, sum_ℚ-same, positive_ℚ, negative_ℚ}
 use Rattle.exact_algebra.specs.Order.{sign_ℚ, sign_ℚ-not_below}
 use Rattle.loss_model.specs.Sample.{Sample, up_cost, down_cost, residual, row_loss, loss}
@@ -12,6 +12,13 @@ use Rattle.loss_model.proofs.Products.{partial_sum-zero, partial_sum-next}
 -- a sign that is not below 0
 pub sign_above : (x : ℚ) (s : ℤ) → s ≡ sign_ℚ x → pos 0 ≤ℤ s → le_ℚ (whole (pos 0)) x ≡ true
 sign_above x s e h = ((sign_ℚ-not_below x).0 (subst (λ z. pos 0 ≤ℤ z) e h)).le
+
+-- where it is, the residual r is not below 0, and else it is
+pub sign_up : (x r : ℚ) (s : ℤ) → x ≡ r → s ≡ sign_ℚ x → pos 0 ≤ℤ s → whole (pos 0) ≤ℚ r
+sign_up x r s e f h = subst (λ z. whole (pos 0) ≤ℚ z) e ((sign_ℚ-not_below x).0 (subst (λ z. pos 0 ≤ℤ z) f h))
+
+pub sign_below : (x r : ℚ) (s : ℤ) → x ≡ r → s ≡ sign_ℚ x → ¬ (pos 0 ≤ℤ s) → ¬ (whole (pos 0) ≤ℚ r)
+sign_below x r s e f below h = below (subst (λ z. pos 0 ≤ℤ z) (sym f) ((sign_ℚ-not_below x).1 (subst (λ z. whole (pos 0) ≤ℚ z) (sym e) h)))
 
 -- the cost and the size where the residual r is not below 0
 pub cost_up : (x r u o : ℚ) → x ≡ r → le_ℚ (whole (pos 0)) x ≡ true → cond (le_ℚ (whole (pos 0)) r) u o ≡ u

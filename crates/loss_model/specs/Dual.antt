@@ -1,4 +1,4 @@
--- Dual values of a quantile regression as a linear program (Koenker 2005, chapter 6), and the
+-- Stated. Dual values of a quantile regression as a linear program (Koenker 2005, chapter 6), and the
 -- rankscores that they give (Gutenbrunner and Jurečková 1992).
 use Rattle.std.specs.Prelude.{◌≡◌, ℕ, ◌+◌, ◌<◌, pos}
 use Rattle.std.specs.declared.cmp.Ordering.TheVariants.{Less}
@@ -13,6 +13,7 @@ pub record IsFeasible (p : Sample) (theta : ℚ) (e : ℕ → ℚ) : Type 0 wher
   pub upper : (i : ℕ) → i < p.rows → e i ≤ℚ up_cost p theta i
   pub balanced : (k : ℕ) → k < p.columns → sum_ℚ p.rows (λ i. e i *ℚ p.x i k) ≡ whole (pos 0)
 
+-- the sum of response times dual value, which bounds every loss from below
 abbrev pub dual_objective : Sample → (ℕ → ℚ) → ℚ
 dual_objective p e = sum_ℚ p.rows (λ i. p.y i *ℚ e i)
 

@@ -1,4 +1,4 @@
--- A problem of the program as a sample. A type of fractions is seen by what its values stand for.
+-- Stated. A problem of the program as a sample. A type of fractions is seen by what its values stand for.
 use Rattle.std.specs.Prelude.{◌≡◌, ℕ, ◌≤◌, List, length, slice_get, All, pos}
 use Rattle.std.specs.Option.{option_map_or}
 use Rattle.exact_algebra.specs.Rational.{ℚ, whole}

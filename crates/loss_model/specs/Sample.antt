@@ -1,4 +1,4 @@
--- A linear quantile regression in fractions, and its check loss (Koenker 2005, chapter 1).
+-- Stated. A linear quantile regression in fractions, and its check loss (Koenker 2005, chapter 1).
 use Rattle.std.specs.Prelude.{ℕ}
 use Rattle.exact_algebra.specs.Rational.{ℚ, ◌+ℚ◌, ◌-ℚ◌, ◌*ℚ◌, ◌≤ℚ◌}
 use Rattle.exact_algebra.specs.RationalSums.{sum_ℚ, positive_ℚ, negative_ℚ}
@@ -27,6 +27,7 @@ down_cost p theta i = p.down0 i +ℚ (p.down1 i *ℚ theta)
 abbrev pub fitted : Sample → (ℕ → ℚ) → ℕ → ℚ
 fitted p b i = sum_ℚ p.columns (λ k. p.x i k *ℚ b k)
 
+-- the response of row i minus what is predicted for it
 abbrev pub residual : Sample → (ℕ → ℚ) → ℕ → ℚ
 residual p b i = p.y i -ℚ fitted p b i
 
@@ -36,6 +37,7 @@ row_loss p theta b i =
     let r = residual p b i in
     (up_cost p theta i *ℚ positive_ℚ r) +ℚ (down_cost p theta i *ℚ negative_ℚ r)
 
+-- the check loss of the coefficients: the sum over all rows
 abbrev pub loss : Sample → ℚ → (ℕ → ℚ) → ℚ
 loss p theta b = sum_ℚ p.rows (row_loss p theta b)
 

@@ -1,4 +1,4 @@
--- Segments of a range of quantiles.
+-- Stated. Segments of a range of quantiles (Koenker and d'Orey 1987).
 use Rattle.std.specs.Prelude.{◌≡◌, ℕ, ◌+◌, ◌-◌, ◌<◌, ◌⊎◌, List, length, slice_get, pos}
 use Rattle.std.specs.Option.{option_map_or}
 use Rattle.std.specs.declared.cmp.Ordering.TheVariants.{Less}

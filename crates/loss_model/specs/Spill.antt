@@ -1,6 +1,6 @@
--- Quantities as sums of products, and the operands of an operation that overflows.
+-- Stated. Quantities as sums of products, and the operands of an operation that overflows.
 use Rattle.std.specs.Prelude.{◌≡◌, ◌⊎◌, ℕ, ◌+◌, ◌<◌, cond, pos}
-use Rattle.exact_algebra.specs.Rational.{ℚ, ◌+ℚ◌, ◌*ℚ◌, neg_ℚ, whole, le_ℚ}
+use Rattle.exact_algebra.specs.Rational.{ℚ, ◌+ℚ◌, ◌*ℚ◌, neg_ℚ, whole, le_ℚ, ◌≤ℚ◌}
 use Rattle.exact_algebra.specs.RationalSums.{sum_ℚ}
 use Rattle.exact_algebra.specs.Fraction.{Fraction, rational}
 use Rattle.frac_core.specs.Overflow.{Overflows}
@@ -23,6 +23,7 @@ pub record Products : Type 0 where
 abbrev pub partial_sum : Products → ℕ → ℚ
 partial_sum t n = t.first +ℚ sum_ℚ n (λ k. t.left k *ℚ t.right k)
 
+-- the value and all products
 abbrev pub total : Products → ℚ
 total t = partial_sum t t.count
 
@@ -61,9 +62,11 @@ residual_products p b i =
 abbrev pub cost_products : ℚ → ℚ → ℚ → Products
 cost_products part0 part1 theta = one_product part0 part1 theta
 
+-- the up cost of row i
 abbrev pub up_products : Sample → ℚ → ℕ → Products
 up_products p theta i = cost_products (p.up0 i) (p.up1 i) theta
 
+-- the down cost of row i
 abbrev pub down_products : Sample → ℚ → ℕ → Products
 down_products p theta i = cost_products (p.down0 i) (p.down1 i) theta
 
@@ -72,6 +75,7 @@ abbrev pub side_cost : Sample → ℚ → (ℕ → ℚ) → ℕ → ℚ
 side_cost p theta b i =
     cond (le_ℚ (whole (pos 0)) (residual p b i)) (up_cost p theta i) (down_cost p theta i)
 
+-- the absolute value
 abbrev pub abs_ℚ : ℚ → ℚ
 abs_ℚ x = cond (le_ℚ (whole (pos 0)) x) x (neg_ℚ x)
 
@@ -97,11 +101,18 @@ IsUpCostSpill value range p theta i s = IsSpillOf value range (site_of CostValue
 abbrev pub IsDownCostSpill : {F : Type 0} → (F → Fraction) → ℕ → Sample → ℚ → ℕ → Spill F → Type 0
 IsDownCostSpill value range p theta i s = IsSpillOf value range (site_of CostValue i 1 1) (down_products p theta i) s
 
+-- one of the cost of the side on which its residual lies does
+abbrev pub IsSideCostSpill : {F : Type 0} → (F → Fraction) → ℕ → Sample → ℚ → (ℕ → ℚ) → ℕ → Spill F → Type 0
+IsSideCostSpill value range p theta b i s =
+    ((whole (pos 0) ≤ℚ residual p b i) × IsUpCostSpill value range p theta i s)
+    ⊎ ((¬ (whole (pos 0) ≤ℚ residual p b i)) × IsDownCostSpill value range p theta i s)
+
+-- one of its residual or of that cost does
 abbrev pub IsRowSpill : {F : Type 0} → (F → Fraction) → ℕ → Sample → ℚ → (ℕ → ℚ) → ℕ → Spill F → Type 0
 IsRowSpill value range p theta b i s =
-    IsResidualSpill value range p b i s ⊎ (IsUpCostSpill value range p theta i s ⊎ IsDownCostSpill value range p theta i s)
+    IsResidualSpill value range p b i s ⊎ IsSideCostSpill value range p theta b i s
 
--- an operation of a row's residual or cost, or of the sum of the losses, overflows
+-- one of a row, or one of the sum of the losses does
 abbrev pub IsLossSpill : {F : Type 0} → (F → Fraction) → ℕ → Sample → ℚ → (ℕ → ℚ) → Spill F → Type 0
 IsLossSpill value range p theta b s =
     ((i : ℕ) × (i < p.rows) × IsRowSpill value range p theta b i s)

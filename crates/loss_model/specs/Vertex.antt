@@ -1,4 +1,4 @@
--- The dual values of a vertex: those of a basis, by the side on which each row lies.
+-- Stated. The dual values of a vertex: those of a basis, by the side on which each row lies (Koenker 2005, chapter 6).
 use Rattle.std.specs.Prelude.{◌≡◌, ◌↔◌, ℕ, ◌<◌, List, length, slice_get, Contains, Some, ◌==◌, pos}
 use Rattle.std.specs.Option.{option_map_or}
 use Rattle.std.specs.List.{position_or_len}

@@ -13,7 +13,7 @@ use Rattle.loss_model.specs.declared.vertex.Side.TheVariants.{Up, Down, Basic}
 use Rattle.loss_model.specs.Sample.{Sample, up_cost, down_cost}
 use Rattle.loss_model.specs.Spill.{abs_ℚ}
 use Rattle.loss_model.specs.Vertex.{value_of_side}
-use Rattle.perturbation.specs.Perturbed.{side_of}
+use Rattle.basis_model.specs.Perturbed.{side_of}
 use Rattle.pivot_rule.specs.declared.direction.Direction.{Direction}
 use Rattle.pivot_rule.specs.declared.direction.Direction.TheVariants.{Upward, Downward}
 use Rattle.basis_model.specs.Basis.{coord}

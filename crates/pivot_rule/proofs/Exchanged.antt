@@ -9,7 +9,7 @@ use Rattle.exact_matrices.specs.Terms.{delta, if-same, if-other, sum_ℚ-replace
 use Rattle.exact_matrices.specs.Matrices.{coordinate}
 use Rattle.exact_matrices.specs.Exchange.{exchanged, coordinate-exchanged}
 use Rattle.loss_model.specs.Sample.{Sample}
-use Rattle.perturbation.specs.Perturbed.{IsOutside, perturbed, held_coordinate, perturbed-own, perturbed-other, held_coordinate-none}
+use Rattle.basis_model.specs.Perturbed.{IsOutside, perturbed, held_coordinate, perturbed-own, perturbed-other, held_coordinate-none}
 use Rattle.basis_model.specs.Basis.{coord, coefficient, outside_row}
 use Rattle.pivot_rule.specs.Responses.{residual_for, response, exchanged_rows}
 

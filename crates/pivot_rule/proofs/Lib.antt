@@ -8,3 +8,5 @@ pub mod Unique
 pub mod Exchanged
 pub mod Solved
 pub mod Counting
+pub mod PerturbedLosses
+pub mod OneVertex

@@ -14,7 +14,7 @@ use Rattle.loss_model.specs.Sample.{Sample, up_cost, down_cost}
 use Rattle.loss_model.specs.Dual.{IsDual}
 use Rattle.loss_model.specs.Vertex.{value_of_side}
 use Rattle.loss_model.proofs.Duality.{sides}
-use Rattle.perturbation.specs.Perturbed.{side_of, held_coordinate}
+use Rattle.basis_model.specs.Perturbed.{side_of, held_coordinate}
 use Rattle.pivot_rule.specs.declared.direction.Direction.TheVariants.{Upward, Downward}
 use Rattle.basis_model.specs.Basis.{IsBasis, coord, coefficient, side_at, dual_value}
 use Rattle.pivot_rule.specs.Duals.{HasCosts, dual}

@@ -15,10 +15,10 @@ use Rattle.loss_model.specs.declared.vertex.Side.{Side}
 use Rattle.loss_model.specs.declared.vertex.Side.TheVariants.{Up, Down, Basic}
 use Rattle.loss_model.specs.Sample.{Sample, up_cost, down_cost}
 use Rattle.loss_model.specs.Spill.{abs_ℚ}
-use Rattle.perturbation.specs.Lexicographic.{lex_cmp, lex_cmp-Equal, less-trans}
-use Rattle.perturbation.specs.Perturbed.{IsOutside, ratio}
-use Rattle.perturbation.specs.Ratios.{abs_not_negative}
-use Rattle.perturbation.proofs.Ordered.{ordered}
+use Rattle.basis_model.specs.Lexicographic.{lex_cmp, lex_cmp-Equal, less-trans}
+use Rattle.basis_model.specs.Perturbed.{IsOutside, ratio}
+use Rattle.basis_model.specs.Ratios.{abs_not_negative}
+use Rattle.basis_model.proofs.Ordered.{ordered}
 use Rattle.pivot_rule.specs.declared.direction.Direction.{Direction}
 use Rattle.pivot_rule.specs.declared.direction.Direction.TheVariants.{Upward, Downward}
 use Rattle.basis_model.specs.Basis.{IsBasis, coord, outside_row, side_at}

@@ -12,8 +12,8 @@ use Rattle.exact_matrices.specs.Terms.{delta, sum_ℚ-delta, delta-turned}
 use Rattle.loss_model.specs.declared.vertex.Side.TheVariants.{Basic}
 use Rattle.loss_model.specs.Sample.{Sample, fitted, residual}
 use Rattle.loss_model.specs.Vertex.{value_of_side, IsOn}
-use Rattle.perturbation.specs.Lexicographic.{lex_cmp, lex_cmp-first}
-use Rattle.perturbation.specs.Perturbed.{perturbed, zeros, side_of, held_coordinate, held_coordinate-at}
+use Rattle.basis_model.specs.Lexicographic.{lex_cmp, lex_cmp-first}
+use Rattle.basis_model.specs.Perturbed.{perturbed, zeros, side_of, held_coordinate, held_coordinate-at}
 use Rattle.basis_model.specs.Basis.{IsBasis, coefficient, outside_row, side_at, dual_value}
 use Rattle.pivot_rule.specs.Duals.{dual}
 use Rattle.pivot_rule.proofs.Bounds.{is_basic}

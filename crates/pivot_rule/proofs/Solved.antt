@@ -17,7 +17,7 @@ use Rattle.loss_model.specs.FullRank.{HasFullRank}
 use Rattle.loss_model.specs.Problem.{value_at, sample}
 use Rattle.loss_model.specs.Vertex.{value_of_side, basic_value, dual_value}
 use Rattle.loss_model.proofs.Vertices.{basic_value-at}
-use Rattle.perturbation.specs.Perturbed.{side_of, held_coordinate}
+use Rattle.basis_model.specs.Perturbed.{side_of, held_coordinate}
 use Rattle.basis_model.specs.Basis.{IsBasis, coefficient, side_at, dual_value as position_dual}
 use Rattle.pivot_rule.specs.Duals.{HasCosts, dual}
 use Rattle.pivot_rule.proofs.Bounds.{is_basic}

@@ -1,9 +1,9 @@
 -- A problem has one lawful trail.
 use Rattle.std.specs.Prelude.{◌≡◌, ◌⊎◌, ℕ, ◌<◌, ◌≤◌, Bool, true, false, ◌==◌, List, [], ◌∷◌, length, map, slice_index, slice_set, Some, pos}
-use Rattle.std.proofs.Common.{arith, refl, sym, ap₂, subst, ◌∙◌, inl, inr}
+use Rattle.std.proofs.Common.{arith, refl, sym, ap, ap₂, subst, ◌∙◌, inl, inr}
 use Rattle.std.proofs.lemmas.Bool.{cases_lt}
 use borrow.Author.Tests.{eqb-true, eqb-false}
-use Rattle.exact_algebra.specs.Fraction.{Fraction}
+use Rattle.exact_algebra.specs.Fraction.{Fraction, rational}
 use Rattle.exact_algebra.specs.Solver.{number, ◌⊞◌, ◌⊟◌, v0, v1, v2}
 use Rattle.exact_algebra.specs.Rational.{ℚ, ◌+ℚ◌, whole, ◌≤ℚ◌, ring_ℚ, ≤ℚ_trans}
 use Rattle.exact_algebra.specs.RationalSums.{≤ℚ_add2}
@@ -98,6 +98,12 @@ no_step p at a b theta j r u v e f stop step =
 
 -- ---- trails
 
+same_items : (xs ys : List ℕ) → map Some xs ≡ map Some ys → xs ≡ ys
+same_items [] [] h = refl
+same_items [] (y ∷ ys) h = absurd (cc h)
+same_items (x ∷ xs) [] h = absurd (cc h)
+same_items (x ∷ xs) (y ∷ ys) h = let head : x ≡ y = cc h in let tail : map Some xs ≡ map Some ys = cc h in ap₂ (λ x xs. x ∷ xs) head (same_items xs ys tail)
+
 module _ {F : Type 0} (value : F → Fraction) (p : Sample) (theta : ℚ) (costs : HasCosts p theta) where
   -- steps that have come to an optimal basis are not the first of longer ones
   ended : (basis : List ℕ) (steps other : List (Exchange F)) → AreSolvingSteps value p theta basis steps → AreSolvingSteps value p theta basis other
@@ -115,12 +121,6 @@ module _ {F : Type 0} (value : F → Fraction) (p : Sample) (theta : ℚ) (costs
       (subst (λ b. AreSolvingSteps value p theta b other) (sym next) v.2) rest stop
       (subst (λ b. HasSolvingStep p theta (basis_after b other)) (sym next) more)
 
-  same_items : (xs ys : List ℕ) → map Some xs ≡ map Some ys → xs ≡ ys
-  same_items [] [] h = refl
-  same_items [] (y ∷ ys) h = absurd (cc h)
-  same_items (x ∷ xs) [] h = absurd (cc h)
-  same_items (x ∷ xs) (y ∷ ys) h = let head : x ≡ y = cc h in let tail : map Some xs ≡ map Some ys = cc h in ap₂ (λ x xs. x ∷ xs) head (same_items xs ys tail)
-
   pub one_trail : (trail other : Trail F) (basis : List ℕ) (limit : ℕ) → IsSolvingTrail value p theta trail basis → IsOptimalBasis p theta basis → length trail.steps ≤ limit → ¬ ReachesLimit value p theta limit other
   one_trail trail other basis limit u stop short r =
       let v = r.lawful in
@@ -130,3 +130,40 @@ module _ {F : Type 0} (value : F → Fraction) (p : Sample) (theta : ℚ) (costs
       (subst (λ n. length trail.steps ≤ n) (sym r.count) short)
       (subst (IsOptimalBasis p theta) (sym u.leads) stop)
       (subst (λ b. HasSolvingStep p theta (basis_after b other.steps)) (sym first) (subst (HasSolvingStep p theta) (sym v.leads) r.more))
+
+-- ---- trails that have ended
+
+module _ {F : Type 0} (value : F → Fraction) (same : (x y : F) → rational (value x) ≡ rational (value y) → x ≡ y) (p : Sample) (theta : ℚ) (costs : HasCosts p theta) where
+  same_exchange : (s t : Exchange F) → rational (value s.theta) ≡ theta → rational (value t.theta) ≡ theta → s.position ≡ t.position → s.row ≡ t.row → s ≡ t
+  same_exchange s t u v position row =
+      let at : s.theta ≡ t.theta = same s.theta t.theta (u ∙ sym v) in
+      λ i. record { theta = at i; position = position i; row = row i }
+
+  same_steps : (basis : List ℕ) (steps other : List (Exchange F)) → AreSolvingSteps value p theta basis steps → AreSolvingSteps value p theta basis other
+      → IsOptimalBasis p theta (basis_after basis steps) → IsOptimalBasis p theta (basis_after basis other) → steps ≡ other
+  same_steps basis [] [] u v stop last = refl
+  same_steps basis [] (t ∷ other) u v stop last =
+      absurd (no_step p (slice_index basis) stop.a v.1.a theta t.position t.row stop.is_basis v.1.is_basis stop.ends v.1.ends stop.holds v.1.holds)
+  same_steps basis (s ∷ steps) [] u v stop last =
+      absurd (no_step p (slice_index basis) last.a u.1.a theta s.position s.row last.is_basis u.1.is_basis last.ends u.1.ends last.holds u.1.holds)
+  same_steps basis (s ∷ steps) (t ∷ other) u v stop last =
+      let step : (s.position ≡ t.position) × (s.row ≡ t.row) = one_step p (slice_index basis) u.1.a v.1.a theta s.position s.row t.position t.row u.1.is_basis v.1.is_basis u.1.ends v.1.ends costs u.1.holds v.1.holds in
+      let next : slice_set basis s.position s.row ≡ slice_set basis t.position t.row = ap₂ (λ j r. slice_set basis j r) step.0 step.1 in
+      ap₂ (λ s steps. s ∷ steps) (same_exchange s t u.0 v.0 step.0 step.1)
+      (same_steps (slice_set basis s.position s.row) steps other u.2
+      (subst (λ b. AreSolvingSteps value p theta b other) (sym next) v.2) stop
+      (subst (λ b. IsOptimalBasis p theta (basis_after b other)) (sym next) last))
+
+  pub one_ended : (trail other : Trail F) (basis last : List ℕ) → IsSolvingTrail value p theta trail basis → IsOptimalBasis p theta basis → IsSolvingTrail value p theta other last → IsOptimalBasis p theta last → (trail ≡ other) × (basis ≡ last)
+  one_ended trail other basis last u stop v end =
+      let first : u.first ≡ v.first = same_items u.first v.first (one_start p p.rows (map Some u.first) (map Some v.first) u.greedy v.greedy) in
+      let steps : trail.steps ≡ other.steps = same_steps u.first trail.steps other.steps u.lawful
+      (subst (λ b. AreSolvingSteps value p theta b other.steps) (sym first) v.lawful)
+      (subst (IsOptimalBasis p theta) (sym u.leads) stop)
+      (subst (λ b. IsOptimalBasis p theta (basis_after b other.steps)) (sym first) (subst (IsOptimalBasis p theta) (sym v.leads) end)) in
+      let start : trail.start ≡ other.start = u.begins ∙ ap (map Some) first ∙ sym v.begins in
+      let rise : trail.rise ≡ other.rise = u.rise ∙ sym v.rise in
+      let fall : trail.fall ≡ other.fall = u.fall ∙ sym v.fall in (
+        λ i. record { start = start i; steps = steps i; rise = rise i; fall = fall i },
+        sym u.leads ∙ ap₂ basis_after first steps ∙ v.leads,
+      )

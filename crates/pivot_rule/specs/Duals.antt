@@ -1,9 +1,9 @@
--- The costs at theta, and the dual values that stand at a basis.
+-- Stated. The costs at theta, and the dual values that stand at a basis.
 use Rattle.std.specs.Prelude.{ℕ, ◌<◌, pos}
 use Rattle.exact_algebra.specs.Rational.{ℚ, ◌+ℚ◌, whole, ◌≤ℚ◌}
 use Rattle.loss_model.specs.Sample.{Sample, up_cost, down_cost}
 use Rattle.loss_model.specs.Vertex.{value_of_side}
-use Rattle.perturbation.specs.Perturbed.{held_coordinate}
+use Rattle.basis_model.specs.Perturbed.{held_coordinate}
 use Rattle.basis_model.specs.Basis.{side_at, dual_value}
 
 -- x is less than y

@@ -1,5 +1,5 @@
--- What the laws of the pivot rule say; each is a clause of a function.
-use Rattle.std.specs.Prelude.{◌≡◌, ◌≢◌, ℕ, ◌<◌, ◌≤◌, true, List, length, slice_index, if◌then◌else◌, pos}
+-- Law. What the laws of the pivot rule say; each is a clause of a function (Barrodale and Roberts 1973).
+use Rattle.std.specs.Prelude.{◌≡◌, ◌≢◌, ℕ, suc, ◌<◌, ◌≤◌, true, List, length, slice_index, if◌then◌else◌, pos}
 use Rattle.exact_algebra.specs.Fraction.{Fraction}
 use Rattle.exact_algebra.specs.Rational.{ℚ, ◌+ℚ◌, ◌-ℚ◌, ◌*ℚ◌, inverse, whole, ◌≤ℚ◌}
 use Rattle.exact_algebra.specs.RationalSums.{sum_ℚ}
@@ -8,14 +8,15 @@ use Rattle.exact_matrices.specs.Selections.{is_among, AreDistinct}
 use Rattle.loss_model.specs.declared.problem.Problem.{Problem}
 use Rattle.loss_model.specs.declared.process.Trail.{Trail}
 use Rattle.loss_model.specs.declared.vertex.Vertex.{Vertex}
-use Rattle.loss_model.specs.Sample.{Sample}
+use Rattle.loss_model.specs.Sample.{Sample, loss}
 use Rattle.loss_model.specs.Dual.{IsDual}
 use Rattle.loss_model.specs.FullRank.{HasFullRank}
 use Rattle.loss_model.specs.Problem.{value_at, sample}
 use Rattle.loss_model.specs.Vertex.{dual_value}
-use Rattle.perturbation.specs.Perturbed.{IsOutside, perturbed}
+use Rattle.basis_model.specs.Perturbed.{IsOutside, perturbed}
 use Rattle.pivot_rule.specs.declared.direction.Direction.{Direction}
 use Rattle.basis_model.specs.Basis.{IsBasis, coord, coefficient, outside_row}
+use Rattle.basis_model.specs.PerturbedLoss.{perturbed_loss, change_list, perturbed_coefficient}
 use Rattle.pivot_rule.specs.Duals.{HasCosts, dual}
 use Rattle.pivot_rule.specs.Responses.{residual_for, response, exchanged_rows}
 use Rattle.pivot_rule.specs.Steps.{slope, HasNoNegativeSlope, moves, is_before, passing, slope_before, IsSolvingStep}
@@ -65,6 +66,14 @@ TrailIsUnique {F} value =
     → IsSolvingTrail value p theta trail basis → IsOptimalBasis p theta basis → length trail.steps ≤ limit
     → ¬ ReachesLimit value p theta limit other
 
+-- and two lawful trails that have each come to an optimal basis are one, and so are their bases
+abbrev pub EndedTrailIsUnique : {F : Type 0} → (F → Fraction) → Type 0
+EndedTrailIsUnique {F} value =
+    (p : Sample) (theta : ℚ) (trail other : Trail F) (basis last : List ℕ) → HasCosts p theta
+    → IsSolvingTrail value p theta trail basis → IsOptimalBasis p theta basis
+    → IsSolvingTrail value p theta other last → IsOptimalBasis p theta last
+    → (trail ≡ other) × (basis ≡ last)
+
 -- in an exchange every residual, for any responses, changes by a multiple of that of the row that enters
 abbrev pub ExchangeChangesResiduals : Type 0
 ExchangeChangesResiduals =
@@ -91,3 +100,32 @@ VertexIsOptimal {F} value p =
     → AreBasicDuals value p theta basis a v basic → HasCosts (sample value p) theta
     → HasNoNegativeSlope (sample value p) (slice_index basis) a theta
     → IsDual (sample value p) theta (value_at value v.coef) (dual_value value p v basic theta)
+
+-- at a basis stands one vertex, and one list of the dual values of its rows
+abbrev pub VertexIsUnique : {F : Type 0} → (F → Fraction) → Problem F → Type 0
+VertexIsUnique {F} value p =
+    (theta : ℚ) (basis : List ℕ) (a b : ℕ → ℕ → ℚ) (v w : Vertex F) (basic other : List F)
+    → IsBasis (sample value p) (slice_index basis) a → IsBasis (sample value p) (slice_index basis) b
+    → EndsAt p.columns a → EndsAt p.columns b
+    → IsVertexAt value p basis a v → IsVertexAt value p basis b w
+    → AreBasicDuals value p theta basis a v basic → AreBasicDuals value p theta basis b w other
+    → (v ≡ w) × (basic ≡ other)
+
+-- the perturbed loss begins with the loss of the coefficients
+abbrev pub PerturbedLossBegins : Type 0
+PerturbedLossBegins =
+    (p : Sample) (at : ℕ → ℕ) (a : ℕ → ℕ → ℚ) (theta : ℚ) → IsBasis p at a
+    → perturbed_loss p at a theta 0 ≡ loss p theta (coefficient p at a)
+
+-- and changes with theta by its change list, entry by entry
+abbrev pub ChangeListIsChange : Type 0
+ChangeListIsChange =
+    (p : Sample) (at : ℕ → ℕ) (a : ℕ → ℕ → ℚ) (theta step : ℚ) (m : ℕ)
+    → perturbed_loss p at a (theta +ℚ step) m ≡ perturbed_loss p at a theta m +ℚ (step *ℚ change_list p at a m)
+
+-- the perturbed coefficient begins with the coefficient, and in the entry of a row that stands at a position has the inverse's entry there
+abbrev pub PerturbedCoefficientIsInverse : Type 0
+PerturbedCoefficientIsInverse =
+    (p : Sample) (at : ℕ → ℕ) (a : ℕ → ℕ → ℚ) (k j : ℕ) → IsBasis p at a → j < p.columns
+    → (perturbed_coefficient p at a k 0 ≡ coefficient p at a k)
+    × (perturbed_coefficient p at a k (suc (at j)) ≡ a k j)

@@ -1,4 +1,4 @@
--- Residuals for responses other than those of the problem. Each entry of a perturbed residual is one:
+-- Law. Residuals for responses other than those of the problem. Each entry of a perturbed residual is one:
 -- the first for the problem's responses, and the one of row m for a response of 1 at row m alone.
 use Rattle.std.specs.Prelude.{ℕ, zero, suc, ◌==◌, if◌then◌else◌}
 use Rattle.exact_algebra.specs.Rational.{ℚ, ◌-ℚ◌, ◌*ℚ◌}
@@ -11,6 +11,7 @@ use Rattle.basis_model.specs.Basis.{coord}
 abbrev pub residual_for : Sample → (ℕ → ℕ) → (ℕ → ℕ → ℚ) → (ℕ → ℚ) → ℕ → ℚ
 residual_for p at a v i = v i -ℚ sum_ℚ p.columns (λ j. coord p a i j *ℚ v (at j))
 
+-- the responses of entry m: those of the problem for entry 0, and for entry m + 1 a response of 1 at row m alone
 abbrev pub response : Sample → ℕ → ℕ → ℚ
 response p zero = p.y
 response p (suc m) = delta m

@@ -1,4 +1,4 @@
--- What comes out of a solve: the vertex of its last basis, and the dual values of the basic rows.
+-- Stated. What comes out of a solve: the vertex of its last basis, and the dual values of the basic rows.
 use Rattle.std.specs.Prelude.{◌≡◌, ◌↔◌, ℕ, ◌<◌, List, length, slice_get, slice_index, Contains, Some}
 use Rattle.exact_algebra.specs.Fraction.{Fraction}
 use Rattle.exact_algebra.specs.Rational.{ℚ}

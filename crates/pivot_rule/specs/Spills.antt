@@ -1,4 +1,4 @@
--- The operations before or in a solving step, where one overflows.
+-- Stated. The operations before or in a solving step, where one overflows.
 use Rattle.std.specs.Prelude.{◌≡◌, ◌≢◌, ◌⊎◌, ℕ, zero, suc, ◌+◌, ◌<◌, Bool, true, ◌&&◌, if◌then◌else◌}
 use Rattle.exact_algebra.specs.Fraction.{Fraction}
 use Rattle.exact_algebra.specs.Rational.{ℚ, ◌+ℚ◌}
@@ -8,7 +8,7 @@ use Rattle.loss_model.specs.declared.spill.Spill.{Spill}
 use Rattle.loss_model.specs.Sample.{Sample, up_cost, down_cost}
 use Rattle.loss_model.specs.Spill.{one_product, site_of, IsSpillOf, IsUpCostSpill, IsDownCostSpill, abs_ℚ}
 use Rattle.loss_model.specs.Quantities.{IsEntrySpill}
-use Rattle.perturbation.specs.RatioSpill.{IsRatioEntrySpill, IsRatioSpill}
+use Rattle.basis_model.specs.RatioSpill.{IsRatioEntrySpill, IsRatioSpill}
 use Rattle.basis_model.specs.declared.part.Part.TheVariants.{Constant, Linear}
 use Rattle.basis_model.specs.Basis.{coord, outside_row, basic_dual, dual_value}
 use Rattle.basis_model.specs.BasisSpills.{IsDualValueSpill, IsSlopeSpill, IsCostSumSpill, IsBasisSpill}

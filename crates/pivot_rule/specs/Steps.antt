@@ -1,4 +1,4 @@
--- The pivot at one quantile: the row that leaves and the row that enters, by the quantities at a basis
+-- Stated. The pivot at one quantile: the row that leaves and the row that enters, by the quantities at a basis
 -- (Barrodale and Roberts 1973; Koenker and d'Orey 1987).
 use Rattle.std.specs.Prelude.{◌≡◌, ℕ, suc, ◌<◌, Bool, true, false, ◌&&◌, if◌then◌else◌, pos}
 use Rattle.std.specs.Ordering.{is_lt, is_gt}
@@ -9,8 +9,8 @@ use Rattle.loss_model.specs.declared.vertex.Side.{Side}
 use Rattle.loss_model.specs.declared.vertex.Side.TheVariants.{Up, Down, Basic}
 use Rattle.loss_model.specs.Sample.{Sample, up_cost, down_cost}
 use Rattle.loss_model.specs.Spill.{abs_ℚ}
-use Rattle.perturbation.specs.Lexicographic.{lex_cmp}
-use Rattle.perturbation.specs.Perturbed.{ratio}
+use Rattle.basis_model.specs.Lexicographic.{lex_cmp}
+use Rattle.basis_model.specs.Perturbed.{ratio}
 use Rattle.pivot_rule.specs.declared.direction.Direction.{Direction}
 use Rattle.pivot_rule.specs.declared.direction.Direction.TheVariants.{Upward, Downward}
 use Rattle.basis_model.specs.Basis.{coord, outside_row, side_at, dual_value}
@@ -28,6 +28,7 @@ module _ (p : Sample) (at : ℕ → ℕ) (a : ℕ → ℕ → ℚ) where
   slope theta j Upward = up_cost p theta (at j) -ℚ dual_value p at a theta j
   slope theta j Downward = down_cost p theta (at j) +ℚ dual_value p at a theta j
 
+  -- the loss falls in no direction
   abbrev pub HasNoNegativeSlope : ℚ → Type 0
   HasNoNegativeSlope theta =
       (j : ℕ) (d : Direction) → j < p.columns → whole (pos 0) ≤ℚ slope theta j d

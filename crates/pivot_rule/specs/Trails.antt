@@ -1,4 +1,4 @@
--- Lawful trails of solving steps.
+-- Stated. Lawful trails of solving steps (Barrodale and Roberts 1973).
 use Rattle.std.specs.Prelude.{◌≡◌, ℕ, ◌<◌, List, [], ◌∷◌, length, map, slice_index, slice_set, Some, pos}
 use Rattle.exact_algebra.specs.Fraction.{Fraction, rational}
 use Rattle.exact_algebra.specs.Rational.{ℚ, whole}

@@ -1,6 +1,6 @@
 //! The laws of the pivot rule. Each function does nothing: its contract is the law.
 
-ghost use Rattle.pivot_rule.specs.Laws.{StopIsOptimal, SomeRowEnters, RowsPassInOrder, StepIsUnique, StopHasNoStep, TrailIsUnique, ExchangeChangesResiduals, PerturbedIsResiduals, BasisHasFullRank, VertexIsOptimal};
+ghost use Rattle.pivot_rule.specs.Laws.{StopIsOptimal, SomeRowEnters, RowsPassInOrder, StepIsUnique, StopHasNoStep, TrailIsUnique, EndedTrailIsUnique, ExchangeChangesResiduals, PerturbedIsResiduals, BasisHasFullRank, VertexIsOptimal, VertexIsUnique, PerturbedLossBegins, ChangeListIsChange, PerturbedCoefficientIsInverse};
 
 use frac_core::Exact;
 use loss_model::Problem;
@@ -24,6 +24,11 @@ pub fn one_trail<F: Exact>(theta: F)
     ensures trail { TrailIsUnique F.value }
 {}
 
+/// Two lawful trails that have come to bases at which no step is left are one trail, to one basis.
+pub fn one_lawful_trail<F: Exact>(theta: F)
+    ensures { EndedTrailIsUnique F.value }
+{}
+
 /// What an exchange does to the residuals, and so to every entry of the perturbed ones.
 pub fn exchanged_residuals()
     ensures residuals { ExchangeChangesResiduals }
@@ -34,4 +39,17 @@ pub fn exchanged_residuals()
 pub fn vertex_is_optimal<F: Exact>(problem: &Problem<F>)
     ensures rank { BasisHasFullRank }
     ensures optimal { VertexIsOptimal F.value problem.now }
+{}
+
+/// At a basis stands one vertex, with one list of dual values at a quantile.
+pub fn one_vertex<F: Exact>(problem: &Problem<F>)
+    ensures { VertexIsUnique F.value problem.now }
+{}
+
+/// What the lists of a perturbed loss are: the first begins with the loss, the second is its change, and
+/// a perturbed coefficient has the inverse's entries.
+pub fn perturbed_losses()
+    ensures loss { PerturbedLossBegins }
+    ensures change { ChangeListIsChange }
+    ensures coefficient { PerturbedCoefficientIsInverse }
 {}

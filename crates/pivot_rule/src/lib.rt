@@ -3,8 +3,8 @@
 //!
 //! The crate has the definitions, of which the code is above it, and the one contract for the layers
 //! above is their laws: a basis without a negative slope has dual values of equal cost, some row
-//! always enters, and the trail of a problem is determined. It stands on the perturbed residuals and
-//! ratios of `perturbation` and on the problem of `loss_model`.
+//! always enters, and the trail of a problem and the vertex of a basis are determined. It stands on the
+//! perturbed residuals and ratios of `basis_model` and on the problem of `loss_model`.
 #![tactic(auto)]
 
 mod direction;

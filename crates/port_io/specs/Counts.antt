@@ -1,4 +1,4 @@
--- What an answer of a source or a sink says of its count of faults.
+-- Stated. What an answer of a source or a sink says of its count of faults.
 use Rattle.std.specs.Prelude.{◌≡◌, ℕ, ◌+◌, ◌-◌, ◌^◌, ◌<◌, ◌≤◌, ◌⊎◌, min, Result, OnOk, OnErr}
 
 -- one more, where a counter of 64 bits stands still at its end

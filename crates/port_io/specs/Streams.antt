@@ -1,4 +1,4 @@
--- The source and the sink in memory, as contracts see them.
+-- Inner. The sources and sinks as contracts see them: those in memory, and those over std.
 use Rattle.std.specs.Prelude.{ℕ, List, []}
 
 -- The bytes that are left, the most that a read gives, the numbers from 1 of the calls that fail,
@@ -29,7 +29,7 @@ abbrev pub new_sink : ℕ → ℕ → List ℕ → SinkState
 new_sink room piece fails =
     record { written = []; room = room; piece = piece; fails = fails; calls = 0; faults = 0 }
 
--- a stream of std, and how many of its calls failed
+-- a reader or a writer of std, and how many calls failed over it
 pub record Counted (S : Type 0) : Type 0 where
   pub stream : S
   pub faults : ℕ

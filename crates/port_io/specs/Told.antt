@@ -1,4 +1,4 @@
--- What calls do to the bytes that a source has left and that a sink holds, where these are told.
+-- Stated. What calls do to the bytes that a source has left and that a sink holds, where these are told.
 use Rattle.std.specs.Prelude.{◌≡◌, ℕ, ◌<◌, ◌≤◌, List, [], Option, Some, None, ⊤, length, take, drop}
 use Rattle.std.specs.Io.KnownBytes.{Appends, IsAtEnd}
 

@@ -1,6 +1,6 @@
 ghost use Rattle.std.specs.Prelude.{◌≡◌, ◌≤◌, ◌<◌, None, IfOk, IfSome, length, take};
-ghost use Rattle.std.specs.Io.{ReadsAtMost, WritesAtMost};
-ghost use Rattle.std.specs.Io.KnownBytes.{Appends, Keeps, ReadConsumes, WriteAppends};
+ghost use Rattle.std.specs.Io.{WritesAtMost};
+ghost use Rattle.std.specs.Io.KnownBytes.{Appends, WriteAppends};
 ghost use Rattle.port_io.specs.Counts.{CountsFaults};
 
 use crate::counts::next_count;
@@ -8,8 +8,8 @@ use crate::{Failed, Sink, Source};
 use std::io::{Read, Write};
 use std::marker::Model;
 
-/// A source over a reader of std. Contracts see the reader and the count of its faults; it tells the
-/// bytes that the reader tells, which is none of standard input.
+/// A source over a reader of std. Contracts see the reader and the count of faults. It tells the
+/// bytes that the reader tells: all that are left of a slice, and none of standard input.
 #[derive(Drop)]
 pub struct StdSource<R> {
     reader: R,
@@ -38,6 +38,8 @@ impl<R: Read> Source for StdSource<R> {
 
     ghost faults = { λ s. s.faults };
 
+    // Takes what one read of the reader takes. An error of the reader counts as a fault, and is never
+    // taken for the end.
     fn read(&mut self, buf: &mut [u8]) -> Result<usize, Failed> {
         match self.reader.read(buf) {
             Ok(count) => Ok(count),
@@ -49,8 +51,9 @@ impl<R: Read> Source for StdSource<R> {
     }
 }
 
-/// A sink over a writer of std, which is flushed after each write. Contracts see the count of its
-/// faults; it tells no bytes.
+/// A sink over a writer of std, which is flushed after each write. Contracts see the writer and the
+/// count of faults. The sink tells no bytes of its own, since after a failed flush nobody knows what
+/// arrived; each write says what the writer was handed.
 #[derive(Drop)]
 pub struct StdSink<W> {
     writer: W,
@@ -74,11 +77,12 @@ impl<W: Write> StdSink<W> {
     }
 }
 
-// How many bytes the writer took, where it took some and was flushed.
+// How many of the first bytes the writer took, where it took some and was flushed.
 fn write_and_flush<W: Write>(writer: &mut W, buf: &[u8]) -> Option<usize>
     ensures bound { IfSome result (λ n. n ≤ length buf.now) }
     ensures some { IfSome result (λ n. 0 < n) }
-    ensures handed { IfSome result (λ n. Appends (W.contents writer.old) (W.contents writer.new) (take n buf.now)) }
+    ensures handed { IfSome result (λ n. Appends (W.contents writer.old) (W.contents writer.new)
+        (take n buf.now)) }
 {
     match writer.write(buf) {
         Ok(0) | Err(_) => None,
@@ -94,14 +98,16 @@ impl<W: Write> Sink for StdSink<W> {
 
     ghost faults = { λ s. s.faults };
 
-    // A write of nothing counts as a fault, and so does a flush that fails.
+    // Hands the writer the first bytes, as many as the answer says. A write of nothing counts as a
+    // fault, and so does a flush that fails.
     fn write(&mut self, buf: &[u8]) -> Result<usize, Failed>
         ensures bound { WritesAtMost result buf.now }
         ensures some { IfOk result (λ n. 0 < length buf.now → 0 < n) }
         ensures bytes { WriteAppends None None result buf.now }
         ensures counted { CountsFaults self.old.faults self.new.faults result }
 
-        ensures handed { IfOk result (λ n. Appends (W.contents self.old.stream) (W.contents self.new.stream) (take n buf.now)) }
+        ensures handed { IfOk result (λ n. Appends (W.contents self.old.stream)
+            (W.contents self.new.stream) (take n buf.now)) }
     {
         match write_and_flush(&mut self.writer, buf) {
             Some(count) => Ok(count),

@@ -3,7 +3,7 @@
 use frac_core::OpKind::{self, Add, Div, Mul, Sub};
 use frac_core::{Exact, Frac128, List};
 use loss_model::{Quantity, Site, Spill, Trail};
-use rq_engine::{Fault, Halt, Place, Refusal, fault_line};
+use report_text::{Fault, Halt, Place, Refusal, fault_line};
 use std::alloc::Global;
 use std::process::Abort;
 use std::test::Fail;

@@ -1,4 +1,4 @@
-//! Tests of the texts that a run prints: the lines of faults (`rq_engine`), byte for byte.
+//! Tests of the texts that a run prints: the lines of faults (`report_text`), byte for byte.
 #![tactic(auto)]
 
 #[cfg(test)]

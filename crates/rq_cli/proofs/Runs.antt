@@ -1,20 +1,20 @@
 -- From the steps of a run to what the run did.
-use Rattle.std.proofs.Common.{◌≡◌, ℕ, ◌<◌, List, Option, None, Some, Result, Ok, Err, OnOk, OnErr, true, arith, refl, sym, ap, subst, ◌∙◌, inl, inr}
-use Rattle.std.proofs.lemmas.Bool.{false≢true}
+use Rattle.std.proofs.Common.{◌≡◌, ℕ, ◌<◌, List, Option, None, Some, Result, Ok, Err, OnOk, OnErr, arith, refl, sym, ap, subst, inl, inr}
 use Rattle.std.specs.Io.KnownBytes.{Appends, Keeps}
 use Rattle.rq_words.specs.declared.job.Job.{Job}
 use Rattle.rq_words.specs.declared.job.Job.TheVariants as jobs
 use Rattle.port_io.specs.Counts.{CountsFaults}
 use Rattle.port_io.specs.Told.{AppendsPart}
 use Rattle.rq_engine.specs.Answers as engine
-use Rattle.rq_engine.specs.ReportText.{report_text}
-use Rattle.rq_engine.specs.declared.report.Report.{Report}
-use Rattle.rq_engine.specs.declared.report.Refusal.TheVariants.{TooLong, Table, Formula, Design, Program, Dependent}
-use Rattle.rq_engine.specs.declared.report.Halt.{Halt}
-use Rattle.rq_engine.specs.declared.report.Halt.TheVariants as halts
-use Rattle.rq_cli.specs.Outcomes.{Stream, OnDone, OnFault, is_fault, outcome_line, WereRead, HasCause, IsAnswered, WasTried, IsRun}
-use Rattle.rq_cli.specs.Steps.{outcome_of, IsWordOutcome, WasTold, WasPrinted}
+use Rattle.report_text.specs.ReportText.{report_text}
+use Rattle.report_text.specs.declared.report.Report.{Report}
+use Rattle.report_text.specs.declared.report.Refusal.TheVariants.{TooLong, Table, Formula, Design, Program, Dependent}
+use Rattle.report_text.specs.declared.report.Halt.{Halt}
+use Rattle.report_text.specs.declared.report.Halt.TheVariants as halts
+use Rattle.rq_cli.specs.Outcomes.{Stream, OnDone, OnFault, outcome_line, WereRead, HasCause, IsAnswered, IsErrorFault, IsFault, WasTried, IsRun}
+use Rattle.rq_cli.specs.Steps.{outcome_of, WasTold, WasPrinted}
 use Rattle.rq_cli.specs.declared.outcome.Outcome.{Outcome}
+use Rattle.rq_cli.specs.declared.trouble.Trouble.TheVariants as troubles
 use Rattle.rq_cli.specs.declared.outcome.Outcome.TheVariants.{Done, Refused, Usage, SourceFault, SinkFault, OutOfMemory, PivotLimit, Overflow, NotBuilt}
 
 -- a write whose answer isn't looked at
@@ -31,7 +31,7 @@ never_long jobs.Check bytes cause = cause
 never_long (jobs.Sample sample) bytes cause = cause
 
 -- the cause of a halt is that of its outcome
-pub halt_cause : (words : List (List ℕ)) (source source' : Stream) (job : Job) (bytes : List ℕ) → WereRead words source source' job bytes → (halt : Halt) → engine.HasCause job bytes halt → HasCause words source source' (outcome_of halt)
+pub halt_cause : (words : List (List ℕ)) (source source' : Stream) (job : Job) (bytes : List ℕ) → WereRead words source source' job bytes → (halt : Halt) → engine.HasCause job bytes halt → IsFault words source source' (outcome_of (troubles.Halt halt))
 halt_cause words source source' job bytes read (halts.Refused TooLong) cause = absurd (never_long job bytes cause)
 halt_cause words source source' job bytes read (halts.Refused (Table fault)) cause = record { job = job; bytes = bytes; read = read; cause = cause }
 halt_cause words source source' job bytes read (halts.Refused (Formula fault)) cause = record { job = job; bytes = bytes; read = read; cause = cause }
@@ -42,18 +42,6 @@ halt_cause words source source' job bytes read halts.OutOfMemory cause = tt
 halt_cause words source source' job bytes read (halts.PivotLimit place limit trail) cause = record { job = job; bytes = bytes; read = read; cause = cause }
 halt_cause words source source' job bytes read (halts.Overflow place trail spill) cause = record { job = job; bytes = bytes; read = read; cause = cause }
 halt_cause words source source' job bytes read (halts.NotBuilt part) cause = inr (record { job = job; bytes = bytes; read = read; cause = cause })
-
--- what is wrong with the words is a fault with its cause
-pub word_cause : (words : List (List ℕ)) (source source' : Stream) (outcome : Outcome) → IsWordOutcome words outcome → (is_fault outcome ≡ true) × HasCause words source source' outcome
-word_cause words source source' (Done report) h = absurd h
-word_cause words source source' (Refused refusal) h = absurd h
-word_cause words source source' (Usage fault) h = (refl, h)
-word_cause words source source' SourceFault h = absurd h
-word_cause words source source' SinkFault h = absurd h
-word_cause words source source' OutOfMemory h = (refl, tt)
-word_cause words source source' (PivotLimit place limit trail) h = absurd h
-word_cause words source source' (Overflow place trail spill) h = absurd h
-word_cause words source source' (NotBuilt part) h = (refl, inl h)
 
 keeps : (bytes : Option (List ℕ)) → Keeps bytes bytes
 keeps None = tt
@@ -69,25 +57,23 @@ module _ (words : List (List ℕ)) (source source' out out' err err' : Stream) w
         quiet = p.quiet;
         untouched = tt;
         told = tt;
-        sink = λ e. absurd (cc);
         source_grew = λ l. absurd (steady l);
         out_grew = λ l. absurd (omega (arith, p.out_counted));
         err_grew = λ l. absurd (omega (arith, p.err_counted));
       })
   printed_run report outcome answered steady (inr p) =
       subst (IsRun words source source' out out' err err') (sym p.is) (record {
-        cause = tt;
+        cause = inl (record { report = report; answered = answered; rose = p.rose; part = p.part; tried = p.tried });
         printed = tt;
         quiet = tt;
         untouched = tt;
         told = tt;
-        sink = λ _. inl (record { report = report; answered = answered; rose = p.rose; part = p.part; tried = p.tried });
         source_grew = λ l. absurd (steady l);
         out_grew = λ _. refl;
         err_grew = λ _. refl;
       })
 
-  -- a fact of every fault
+  -- what holds at every fault holds at one with a cause
   on_fault : (fault : Outcome) (P : Type 0) → P → OnFault fault P
   on_fault (Done _) P h = tt
   on_fault SinkFault P h = tt
@@ -99,8 +85,8 @@ module _ (words : List (List ℕ)) (source source' out out' err err' : Stream) w
   on_fault (Overflow _ _ _) P h = h
   on_fault (NotBuilt _) P h = h
 
-  not_done : (fault : Outcome) (P : Report → Type 0) → is_fault fault ≡ true → OnDone fault P
-  not_done (Done report) P h = absurd (false≢true h)
+  not_done : (fault : Outcome) (P : Report → Type 0) → IsFault words source source' fault → OnDone fault P
+  not_done (Done report) P h = absurd h
   not_done SinkFault P h = tt
   not_done (Refused _) P h = tt
   not_done (Usage _) P h = tt
@@ -110,48 +96,51 @@ module _ (words : List (List ℕ)) (source source' out out' err err' : Stream) w
   not_done (Overflow _ _ _) P h = tt
   not_done (NotBuilt _) P h = tt
 
-  not_sink : (fault : Outcome) → is_fault fault ≡ true → fault ≡ SinkFault → ⊥
-  not_sink fault named e = false≢true (sym (ap is_fault e) ∙ named)
+  fault_cause : (fault : Outcome) → IsFault words source source' fault → HasCause words source source' out out' err err' fault
+  fault_cause (Done _) h = absurd h
+  fault_cause SinkFault h = absurd h
+  fault_cause (Refused _) h = h
+  fault_cause (Usage _) h = h
+  fault_cause SourceFault h = h
+  fault_cause OutOfMemory h = h
+  fault_cause (PivotLimit _ _ _) h = h
+  fault_cause (Overflow _ _ _) h = h
+  fault_cause (NotBuilt _) h = h
 
   -- the line of a fault that was told, or half of it
-  pub told_run : (fault outcome : Outcome) → is_fault fault ≡ true → HasCause words source source' fault → (source.faults < source'.faults → fault ≡ SourceFault) → out' ≡ out → WasTold fault outcome err err' → IsRun words source source' out out' err err' outcome
-  told_run fault outcome named cause grew same (inl p) =
+  pub told_run : (fault outcome : Outcome) → IsFault words source source' fault → (source.faults < source'.faults → fault ≡ SourceFault) → out' ≡ out → WasTold fault outcome err err' → IsRun words source source' out out' err err' outcome
+  told_run fault outcome cause grew same (inl p) =
       subst (IsRun words source source' out out' err err') (sym p.is) (record {
-        cause = cause;
-        printed = not_done fault (λ report. Appends out.bytes out'.bytes (report_text report)) named;
-        quiet = not_done fault (λ _. Keeps err.bytes err'.bytes) named;
-        untouched = on_fault fault (Keeps out.bytes out'.bytes) kept;
+        cause = fault_cause fault cause;
+        printed = not_done fault (λ report. Appends out.bytes out'.bytes (report_text report)) cause;
+        quiet = not_done fault (λ _. Keeps err.bytes err'.bytes) cause;
+        untouched = on_fault fault (Keeps out.bytes out'.bytes) (subst (λ (s : Stream). Keeps out.bytes s.bytes) (sym same) (keeps out.bytes));
         told = on_fault fault (Appends err.bytes err'.bytes (outcome_line fault)) p.told;
-        sink = λ e. absurd (not_sink fault named e);
         source_grew = λ l. inl (grew l);
-        out_grew = λ l. absurd (omega (arith, counted));
+        out_grew = λ l. absurd (omega (arith, ap (λ (s : Stream). s.faults) same));
         err_grew = λ l. absurd (omega (arith, p.counted));
       })
-    where
-      kept : Keeps out.bytes out'.bytes
-      kept = subst (λ (s : Stream). Keeps out.bytes s.bytes) (sym same) (keeps out.bytes)
-
-      counted : out'.faults ≡ out.faults
-      counted = ap (λ (s : Stream). s.faults) same
-  told_run fault outcome named cause grew same (inr p) =
+  told_run fault outcome cause grew same (inr p) =
       subst (IsRun words source source' out out' err err') (sym p.is) (record {
-        cause = tt;
+        cause = inr (fault, half);
         printed = tt;
         quiet = tt;
         untouched = tt;
         told = tt;
-        sink = λ _. inr (record { fault = fault; named = named; cause = cause; kept = kept; counted = counted; rose = p.rose; part = p.part });
-        source_grew = λ l. inr refl;
+        source_grew = λ l. inr (refl, subst (IsErrorFault words source source' out out' err err') (grew l) half);
         out_grew = λ _. refl;
         err_grew = λ _. refl;
       })
     where
-      kept : Keeps out.bytes out'.bytes
-      kept = subst (λ (s : Stream). Keeps out.bytes s.bytes) (sym same) (keeps out.bytes)
-
-      counted : out'.faults ≡ out.faults
-      counted = ap (λ (s : Stream). s.faults) same
+      half : IsErrorFault words source source' out out' err err' fault
+      half = record {
+        cause = cause;
+        kept = subst (λ (s : Stream). Keeps out.bytes s.bytes) (sym same) (keeps out.bytes);
+        counted = ap (λ (s : Stream). s.faults) same;
+        rose = p.rose;
+        part = p.part;
+      }
 
   -- want of memory in place of a fault
   pub memory_run : (outcome : Outcome) → (source.faults < source'.faults → ⊥) → out' ≡ out → WasTold OutOfMemory outcome err err' → IsRun words source source' out out' err err' outcome
-  memory_run outcome steady same told = told_run OutOfMemory outcome refl tt (λ l. absurd (steady l)) same told
+  memory_run outcome steady same told = told_run OutOfMemory outcome tt (λ l. absurd (steady l)) same told

@@ -1,8 +1,10 @@
--- Exit statuses.
-use Rattle.std.specs.Prelude.{ℕ}
+-- Stated. Exit statuses.
+use Rattle.std.specs.Prelude.{◌≡◌, ℕ, List, Option, None}
+use Rattle.rq_cli.specs.Outcomes.{Stream, stream, IsRun}
 use Rattle.rq_cli.specs.declared.outcome.Outcome.{Outcome}
 use Rattle.rq_cli.specs.declared.outcome.Outcome.TheVariants.{Done, Refused, Usage, SourceFault, SinkFault, OutOfMemory, PivotLimit, Overflow, NotBuilt}
 
+-- the status of an outcome
 abbrev pub code_of : Outcome → ℕ
 code_of (Done _) = 0
 code_of (Refused _) = 1
@@ -13,3 +15,12 @@ code_of OutOfMemory = 5
 code_of (PivotLimit _ _ _) = 6
 code_of (Overflow _ _ _) = 7
 code_of (NotBuilt _) = 9
+
+-- the status is that of a run of the words over an input of these bytes, where they are told, and outputs that tell none
+pub record IsStatus (words : List (List ℕ)) (bytes : Option (List ℕ)) (status : ℕ) : Type 0 where
+  pub outcome : Outcome
+  pub source : Stream
+  pub out : Stream
+  pub err : Stream
+  pub ran : IsRun words (stream bytes 0) source (stream None 0) out (stream None 0) err outcome
+  pub code : status ≡ code_of outcome

@@ -1,5 +1,5 @@
--- What an outcome of a run says of the words, of the bytes that came, and of what was written.
-use Rattle.std.specs.Prelude.{◌≡◌, ℕ, ◌^◌, ◌<◌, ◌≤◌, ◌+◌, ◌⊎◌, List, [], Option, Err, length, Bool, true, false, ⊤}
+-- Stated. What an outcome of a run says of the words, of the bytes that came, and of what was written.
+use Rattle.std.specs.Prelude.{◌≡◌, ℕ, ◌^◌, ◌<◌, ◌≤◌, ◌+◌, ◌⊎◌, List, [], Option, Err, length, ⊤}
 use Rattle.std.specs.Io.KnownBytes.{Appends, Keeps}
 use Rattle.port_io.specs.Counts.{Rose}
 use Rattle.port_io.specs.Told.{TakesAll, TakesFirst, AppendsPart}
@@ -7,12 +7,12 @@ use Rattle.rq_words.specs.Words.{words_of}
 use Rattle.rq_words.specs.declared.job.Job.{Job}
 use Rattle.rq_engine.specs.Answers as engine
 use Rattle.rq_engine.specs.Answers.{IsRight}
-use Rattle.rq_engine.specs.FaultText.{source_line, sink_line, memory_line, halt_line, usage_line}
-use Rattle.rq_engine.specs.ReportText.{report_text}
-use Rattle.rq_engine.specs.declared.report.Refusal.TheVariants.{TooLong}
-use Rattle.rq_engine.specs.declared.report.Report.{Report}
-use Rattle.rq_engine.specs.declared.report.Halt.{Halt}
-use Rattle.rq_engine.specs.declared.report.Halt.TheVariants as halts
+use Rattle.report_text.specs.FaultText.{source_line, sink_line, memory_line, halt_line, usage_line}
+use Rattle.report_text.specs.ReportText.{report_text}
+use Rattle.report_text.specs.declared.report.Refusal.TheVariants.{TooLong}
+use Rattle.report_text.specs.declared.report.Report.{Report}
+use Rattle.report_text.specs.declared.report.Halt.{Halt}
+use Rattle.report_text.specs.declared.report.Halt.TheVariants as halts
 use Rattle.rq_engine.specs.Point.{IsBuilt, IsJobOf}
 use Rattle.rq_cli.specs.declared.outcome.Outcome.{Outcome}
 use Rattle.rq_cli.specs.declared.outcome.Outcome.TheVariants.{Done, Refused, Usage, SourceFault, SinkFault, OutOfMemory, PivotLimit, Overflow, NotBuilt}
@@ -27,12 +27,6 @@ abbrev pub OnFault : Outcome → Type 0 → Type 0
 OnFault (Done _) P = ⊤
 OnFault SinkFault P = ⊤
 OnFault _ P = P
-
--- whether an outcome is neither a report nor a failing sink
-abbrev pub is_fault : Outcome → Bool
-is_fault (Done _) = false
-is_fault SinkFault = false
-is_fault _ = true
 
 -- the line of an outcome
 abbrev pub outcome_line : Outcome → List ℕ
@@ -51,6 +45,7 @@ pub record Stream : Type 0 where
   pub bytes : Option (List ℕ)
   pub faults : ℕ
 
+-- a stream with these bytes and this count
 abbrev pub stream : Option (List ℕ) → ℕ → Stream
 stream bytes faults = record { bytes = bytes; faults = faults }
 
@@ -88,23 +83,25 @@ pub record IsTooLong (words : List (List ℕ)) (before now : Stream) : Type 0 wh
   pub built : IsBuilt job
   pub came : TakesFirst before.bytes now.bytes (2 ^ 26 + 1)
 
--- why there is this outcome. Want of memory is free of a cause, and a failing sink has its own
-abbrev pub HasCause : List (List ℕ) → Stream → Stream → Outcome → Type 0
-HasCause words before now (Done report) = IsAnswered words before now report
-HasCause words before now (Refused TooLong) = IsTooLong words before now
-HasCause words before now (Refused refusal) = IsHalted words before now (halts.Refused refusal)
-HasCause words before now (Usage fault) = words_of words ≡ Err fault
-HasCause words before now SourceFault = Rose before.faults now.faults
-HasCause words before now (PivotLimit place limit trail) = IsHalted words before now (halts.PivotLimit place limit trail)
-HasCause words before now (Overflow place trail spill) = IsHalted words before now (halts.Overflow place trail spill)
-HasCause words before now (NotBuilt part) = ((part ≡ 1) × IsNotBuilt words) ⊎ IsHalted words before now (halts.NotBuilt part)
-HasCause words before now _ = ⊤
-
 -- the words ask for a job that is done
 pub record AskBuilt (words : List (List ℕ)) : Type 0 where
   pub job : Job
   pub asked : IsJobOf words job
   pub built : IsBuilt job
+
+-- why a run has no report: each fault has its cause in the words and in what came of the source.
+-- Want of memory is the free answer: it may come at any step
+abbrev pub IsFault : List (List ℕ) → Stream → Stream → Outcome → Type 0
+IsFault words before now (Refused TooLong) = IsTooLong words before now
+IsFault words before now (Refused refusal) = IsHalted words before now (halts.Refused refusal)
+IsFault words before now (Usage fault) = words_of words ≡ Err fault
+IsFault words before now SourceFault = AskBuilt words × Rose before.faults now.faults
+IsFault words before now OutOfMemory = ⊤
+IsFault words before now (PivotLimit place limit trail) = IsHalted words before now (halts.PivotLimit place limit trail)
+IsFault words before now (Overflow place trail spill) = IsHalted words before now (halts.Overflow place trail spill)
+IsFault words before now (NotBuilt part) = ((part ≡ 1) × IsNotBuilt words) ⊎ IsHalted words before now (halts.NotBuilt part)
+IsFault words before now (Done _) = ⊥
+IsFault words before now SinkFault = ⊥
 
 -- all of the bytes were added, or the sink failed behind a part of them
 abbrev pub WasTried : Stream → Stream → List ℕ → Type 0
@@ -119,29 +116,33 @@ pub record IsOutputFault (words : List (List ℕ)) (source source' out out' err 
   pub part : AppendsPart out.bytes out'.bytes (report_text report)
   pub tried : WasTried err err' sink_line
 
--- standard output is as it was, and standard error failed behind a part of the line of a fault that has its cause
-pub record IsErrorFault (words : List (List ℕ)) (source source' out out' err err' : Stream) : Type 0 where
-  pub fault : Outcome
-  pub named : is_fault fault ≡ true
-  pub cause : HasCause words source source' fault
+-- standard output is as it was, and standard error failed behind a part of the line of this fault, which has its cause
+pub record IsErrorFault (words : List (List ℕ)) (source source' out out' err err' : Stream) (fault : Outcome) : Type 0 where
+  pub cause : IsFault words source source' fault
   pub kept : Keeps out.bytes out'.bytes
   pub counted : out'.faults ≡ out.faults
   pub rose : Rose err.faults err'.faults
   pub part : AppendsPart err.bytes err'.bytes (outcome_line fault)
 
+-- why a run has this outcome: a report is right, a sink failed, or there is a fault
+abbrev pub HasCause : List (List ℕ) → (source source' out out' err err' : Stream) → Outcome → Type 0
+HasCause words source source' out out' err err' (Done report) = IsAnswered words source source' report
+HasCause words source source' out out' err err' SinkFault =
+    IsOutputFault words source source' out out' err err' ⊎ ((fault : Outcome) × IsErrorFault words source source' out out' err err' fault)
+HasCause words source source' out out' err err' fault = IsFault words source source' fault
+
 -- what a run with this outcome read and wrote
 pub record IsRun (words : List (List ℕ)) (source source' out out' err err' : Stream) (outcome : Outcome) : Type 0 where
-  -- a report is the right one, and every fault has its cause
-  pub cause : HasCause words source source' outcome
+  -- a report is the right one, and every other outcome has its cause
+  pub cause : HasCause words source source' out out' err err' outcome
   -- a report is printed whole, and nothing is told
   pub printed : OnDone outcome (λ report. Appends out.bytes out'.bytes (report_text report))
   pub quiet : OnDone outcome (λ _. Keeps err.bytes err'.bytes)
   -- a fault leaves standard output alone, and its line is told
   pub untouched : OnFault outcome (Keeps out.bytes out'.bytes)
   pub told : OnFault outcome (Appends err.bytes err'.bytes (outcome_line outcome))
-  -- a sink failed, standard output or standard error
-  pub sink : outcome ≡ SinkFault → IsOutputFault words source source' out out' err err' ⊎ IsErrorFault words source source' out out' err err'
-  -- a fault that was counted has no other outcome
-  pub source_grew : source.faults < source'.faults → (outcome ≡ SourceFault) ⊎ (outcome ≡ SinkFault)
+  -- a failed read has no other outcome, unless its line couldn't be told
+  pub source_grew : source.faults < source'.faults → (outcome ≡ SourceFault) ⊎ ((outcome ≡ SinkFault) × IsErrorFault words source source' out out' err err' SourceFault)
+  -- and a failed write has none
   pub out_grew : out.faults < out'.faults → outcome ≡ SinkFault
   pub err_grew : err.faults < err'.faults → outcome ≡ SinkFault

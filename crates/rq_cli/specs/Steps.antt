@@ -1,33 +1,33 @@
--- What the steps of a run write.
-use Rattle.std.specs.Prelude.{◌≡◌, ◌⊎◌, ℕ, List, Err, ⊤}
+-- Inner. What the steps of a run write.
+use Rattle.std.specs.Prelude.{◌≡◌, ◌⊎◌, ℕ, List}
 use Rattle.std.specs.Io.KnownBytes.{Appends, Keeps}
 use Rattle.port_io.specs.Counts.{Rose}
 use Rattle.port_io.specs.Told.{AppendsPart}
-use Rattle.rq_words.specs.Words.{words_of}
-use Rattle.rq_engine.specs.FaultText.{sink_line}
-use Rattle.rq_engine.specs.ReportText.{report_text}
-use Rattle.rq_engine.specs.declared.report.Report.{Report}
-use Rattle.rq_engine.specs.declared.report.Halt.{Halt}
-use Rattle.rq_engine.specs.declared.report.Halt.TheVariants as halts
-use Rattle.rq_cli.specs.Outcomes.{Stream, outcome_line, IsNotBuilt, WasTried}
+use Rattle.report_text.specs.FaultText.{sink_line}
+use Rattle.report_text.specs.ReportText.{report_text}
+use Rattle.report_text.specs.declared.report.Report.{Report}
+use Rattle.report_text.specs.declared.report.Halt.TheVariants as halts
+use Rattle.rq_cli.specs.Outcomes.{Stream, outcome_line, IsFault, WasTried}
 use Rattle.rq_cli.specs.declared.outcome.Outcome.{Outcome}
 use Rattle.rq_cli.specs.declared.outcome.Outcome.TheVariants as outcomes
-use Rattle.rq_cli.specs.declared.outcome.Outcome.TheVariants.{Done, Usage, SinkFault, OutOfMemory, NotBuilt}
+use Rattle.rq_cli.specs.declared.outcome.Outcome.TheVariants.{Done, SinkFault}
+use Rattle.rq_cli.specs.declared.trouble.Trouble.{Trouble}
+use Rattle.rq_cli.specs.declared.trouble.Trouble.TheVariants as troubles
+use Rattle.rq_cli.specs.declared.trouble.Trouble.TheVariants.{Words, Source}
 
--- the outcome of a halt
-abbrev pub outcome_of : Halt → Outcome
-outcome_of (halts.Refused refusal) = outcomes.Refused refusal
-outcome_of halts.OutOfMemory = outcomes.OutOfMemory
-outcome_of (halts.PivotLimit place limit trail) = outcomes.PivotLimit place limit trail
-outcome_of (halts.Overflow place trail spill) = outcomes.Overflow place trail spill
-outcome_of (halts.NotBuilt part) = outcomes.NotBuilt part
+-- the outcome of a run that ends with this trouble
+abbrev pub outcome_of : Trouble → Outcome
+outcome_of (Words fault) = outcomes.Usage fault
+outcome_of Source = outcomes.SourceFault
+outcome_of (troubles.Halt (halts.Refused refusal)) = outcomes.Refused refusal
+outcome_of (troubles.Halt halts.OutOfMemory) = outcomes.OutOfMemory
+outcome_of (troubles.Halt (halts.PivotLimit place limit trail)) = outcomes.PivotLimit place limit trail
+outcome_of (troubles.Halt (halts.Overflow place trail spill)) = outcomes.Overflow place trail spill
+outcome_of (troubles.Halt (halts.NotBuilt part)) = outcomes.NotBuilt part
 
--- what is wrong with the words, or that no memory was found
-abbrev pub IsWordOutcome : List (List ℕ) → Outcome → Type 0
-IsWordOutcome words (Usage fault) = words_of words ≡ Err fault
-IsWordOutcome words (NotBuilt part) = (part ≡ 1) × IsNotBuilt words
-IsWordOutcome words OutOfMemory = ⊤
-IsWordOutcome words _ = ⊥
+-- the words have this trouble, whatever the source holds
+abbrev pub IsWordTrouble : List (List ℕ) → Trouble → Type 0
+IsWordTrouble words trouble = (before now : Stream) → IsFault words before now (outcome_of trouble)
 
 -- the line of the fault was added
 pub record IsTold (fault outcome : Outcome) (err err' : Stream) : Type 0 where
@@ -41,6 +41,7 @@ pub record IsHalfTold (fault outcome : Outcome) (err err' : Stream) : Type 0 whe
   pub part : AppendsPart err.bytes err'.bytes (outcome_line fault)
   pub rose : Rose err.faults err'.faults
 
+-- the line of a fault was added, or the sink failed behind a part of it
 abbrev pub WasTold : Outcome → Outcome → Stream → Stream → Type 0
 WasTold fault outcome err err' = IsTold fault outcome err err' ⊎ IsHalfTold fault outcome err err'
 
@@ -59,5 +60,6 @@ pub record IsHalfPrinted (report : Report) (outcome : Outcome) (out out' err err
   pub rose : Rose out.faults out'.faults
   pub tried : WasTried err err' sink_line
 
+-- the text of a report was added, or the sink failed behind a part of it
 abbrev pub WasPrinted : Report → Outcome → Stream → Stream → Stream → Stream → Type 0
 WasPrinted report outcome out out' err err' = IsPrinted report outcome out out' err err' ⊎ IsHalfPrinted report outcome out out' err err'

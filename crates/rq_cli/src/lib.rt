@@ -8,7 +8,10 @@
 #![tactic(auto)]
 
 mod outcome;
+mod system;
 mod top;
+mod trouble;
 
 pub use outcome::Outcome;
+pub use system::{program, status};
 pub use top::run;

@@ -3,7 +3,7 @@ ghost use Rattle.rq_cli.specs.Codes.{code_of};
 
 use frac_core::Frac128;
 use loss_model::{Spill, Trail};
-use rq_engine::{Place, Refusal, Report};
+use report_text::{Place, Refusal, Report};
 use rq_words::WordFault;
 
 /// What came of a run.

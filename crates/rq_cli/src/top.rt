@@ -1,16 +1,15 @@
 //! The top call.
-ghost use Rattle.std.specs.Prelude.{◌≡◌, ◌≢◌, ◌⊎◌, ◌<◌, ◌≤◌, map, true, string_bytes, IfOk, IfErr, OnOk};
+ghost use Rattle.std.specs.Prelude.{◌≡◌, ◌≢◌, ◌⊎◌, ◌<◌, ◌≤◌, map, string_bytes, IfOk, IfErr, OnOk};
 ghost use Rattle.rq_engine.specs.Point.{IsBuilt, IsJobOf};
-ghost use Rattle.rq_engine.specs.ReportText.{report_text};
-ghost use Rattle.rq_cli.specs.Outcomes.{is_fault, outcome_line, stream, AskBuilt, HasCause, IsAnswered, IsRun};
-ghost use Rattle.rq_cli.specs.Steps.{outcome_of, IsWordOutcome, WasTold, WasPrinted};
+ghost use Rattle.report_text.specs.ReportText.{report_text};
+ghost use Rattle.rq_cli.specs.Outcomes.{outcome_line, stream, AskBuilt, IsAnswered, IsFault, IsRun};
+ghost use Rattle.rq_cli.specs.Steps.{outcome_of, IsWordTrouble, WasTold, WasPrinted};
 
 use crate::outcome::Outcome;
+use crate::trouble::Trouble;
 use port_io::{Failed, ReadFault, Sink, Source, read_all, write_all};
-use rq_engine::{
-    Fault, Halt, MEMORY_LINE, Refusal, Report, SINK_LINE, SOURCE_LINE, answer, fault_line,
-    is_built, report_bytes,
-};
+use report_text::{Halt, MEMORY_LINE, Refusal, Report, SINK_LINE, SOURCE_LINE, report_bytes};
+use rq_engine::{answer, is_built};
 use rq_words::{Job, WordFault, read_words};
 use std::alloc::Global;
 use std::thread::Threads;
@@ -45,91 +44,62 @@ pub fn run<R: Threads + Sync, S: Source, K: Sink, E: Sink>(
 {
     match work(rt, alloc, words, source) {
         Ok((report, text)) => print(report, &text, out, err),
-        Err(fault) => tell(alloc, fault, err),
+        Err(trouble) => tell(alloc, trouble, err),
     }
 }
 
-// The report of the words and the source with its text, or the fault.
+// The report of the words and the source with its text, or what keeps the run from it.
 fn work<R: Threads + Sync, S: Source>(
     rt: &R,
     alloc: Global,
     words: &[String],
     source: &mut S,
-) -> Result<(Report, Vec<u8>), Outcome>
+) -> Result<(Report, Vec<u8>), Trouble>
     ensures answered { IfOk result (λ done. IsAnswered (map string_bytes words.now)
         (stream (S.left source.old) (S.faults source.old)) (stream (S.left source.new) (S.faults source.new)) done.0) }
     ensures text { IfOk result (λ done. done.1.items ≡ report_text done.0) }
-    ensures named { IfErr result (λ fault. is_fault fault ≡ true) }
-    ensures cause { IfErr result (HasCause (map string_bytes words.now)
-        (stream (S.left source.old) (S.faults source.old)) (stream (S.left source.new) (S.faults source.new))) }
+    ensures cause { IfErr result (λ trouble. IsFault (map string_bytes words.now)
+        (stream (S.left source.old) (S.faults source.old)) (stream (S.left source.new) (S.faults source.new)) (outcome_of trouble)) }
     ensures steady { OnOk result (S.faults source.new ≤ S.faults source.old) }
-    ensures grew { IfErr result (λ fault. S.faults source.old < S.faults source.new → fault ≡ Outcome.SourceFault) }
+    ensures grew { IfErr result (λ trouble. S.faults source.old < S.faults source.new → trouble ≡ Trouble.Source) }
     ensures unread { ¬ AskBuilt (map string_bytes words.now) → source.new ≡ source.old }
 {
     let job = match read_job(alloc, words) {
         Ok(job) => job,
-        Err(fault) => return Err(fault),
+        Err(trouble) => return Err(trouble),
     };
     let bytes = match read_all(alloc, source) {
         Ok(bytes) => bytes,
-        Err(ReadFault::Failed) => return Err(Outcome::SourceFault),
-        Err(ReadFault::TooLong) => return Err(Outcome::Refused(Refusal::TooLong)),
-        Err(ReadFault::OutOfMemory) => return Err(Outcome::OutOfMemory),
+        Err(ReadFault::Failed) => return Err(Trouble::Source),
+        Err(ReadFault::TooLong) => return Err(Trouble::Halt(Halt::Refused(Refusal::TooLong))),
+        Err(ReadFault::OutOfMemory) => return Err(Trouble::Halt(Halt::OutOfMemory)),
     };
     let report = match answer(rt, alloc, &job, &bytes) {
         Ok(report) => report,
-        Err(halt) => return Err(outcome_of(halt)),
+        Err(halt) => return Err(Trouble::Halt(halt)),
     };
     match report_bytes(alloc, &report) {
         Ok(text) => Ok((report, text)),
-        Err(_) => Err(Outcome::OutOfMemory),
+        Err(_) => Err(Trouble::Halt(Halt::OutOfMemory)),
     }
 }
 
 // The job that the words ask for, if this version does it.
-fn read_job(alloc: Global, words: &[String]) -> Result<Job, Outcome>
+fn read_job(alloc: Global, words: &[String]) -> Result<Job, Trouble>
     ensures asked { IfOk result (IsJobOf (map string_bytes words.now)) }
     ensures built { IfOk result IsBuilt }
-    ensures refused { IfErr result (IsWordOutcome (map string_bytes words.now)) }
+    ensures refused { IfErr result (IsWordTrouble (map string_bytes words.now)) }
 {
     match read_words(alloc, words) {
         Ok(job) => {
             if is_built(&job) {
                 Ok(job)
             } else {
-                Err(Outcome::NotBuilt { part: 1 })
+                Err(Trouble::Halt(Halt::NotBuilt { part: 1 }))
             }
         }
-        Err(WordFault::OutOfMemory) => Err(Outcome::OutOfMemory),
-        Err(fault) => Err(Outcome::Usage(fault)),
-    }
-}
-
-fn outcome_of(halt: Halt) -> Outcome
-    ensures { result ≡ outcome_of halt }
-{
-    match halt {
-        Halt::Refused(refusal) => Outcome::Refused(refusal),
-        Halt::OutOfMemory => Outcome::OutOfMemory,
-        Halt::PivotLimit {
-            place,
-            limit,
-            trail,
-        } => Outcome::PivotLimit {
-            place,
-            limit,
-            trail,
-        },
-        Halt::Overflow {
-            place,
-            trail,
-            spill,
-        } => Outcome::Overflow {
-            place,
-            trail,
-            spill,
-        },
-        Halt::NotBuilt { part } => Outcome::NotBuilt { part },
+        Err(WordFault::OutOfMemory) => Err(Trouble::Halt(Halt::OutOfMemory)),
+        Err(fault) => Err(Trouble::Words(fault)),
     }
 }
 
@@ -149,64 +119,18 @@ fn print<K: Sink, E: Sink>(report: Report, text: &[u8], out: &mut K, err: &mut E
     }
 }
 
-// Writes the line of a fault, or that of want of memory where the line finds none.
-fn tell<E: Sink>(alloc: Global, fault: Outcome, err: &mut E) -> Outcome
-    requires { is_fault fault ≡ true }
+// Writes the line of what went wrong, or that of want of memory where the line finds none. The line
+// of a failing source is a constant, so it needs none.
+fn tell<E: Sink>(alloc: Global, trouble: Trouble, err: &mut E) -> Outcome
     ensures { let before = stream (E.written err.old) (E.faults err.old) in
         let now = stream (E.written err.new) (E.faults err.new) in
-        WasTold fault result before now ⊎ ((fault ≢ Outcome.SourceFault) × WasTold Outcome.OutOfMemory result before now) }
+        WasTold (outcome_of trouble) result before now ⊎ ((trouble ≢ Trouble.Source) × WasTold Outcome.OutOfMemory result before now) }
 {
-    match fault {
-        Outcome::Usage(fault) => tell_usage(alloc, fault, err),
-        Outcome::SourceFault => write_line(err, SOURCE_LINE, Outcome::SourceFault),
-        Outcome::Refused(refusal) => tell_halt(alloc, Halt::Refused(refusal), err),
-        Outcome::PivotLimit {
-            place,
-            limit,
-            trail,
-        } => {
-            let halt = Halt::PivotLimit {
-                place,
-                limit,
-                trail,
-            };
-            tell_halt(alloc, halt, err)
-        }
-        Outcome::Overflow {
-            place,
-            trail,
-            spill,
-        } => {
-            let halt = Halt::Overflow {
-                place,
-                trail,
-                spill,
-            };
-            tell_halt(alloc, halt, err)
-        }
-        Outcome::NotBuilt { part } => tell_halt(alloc, Halt::NotBuilt { part }, err),
-        _ => write_line(err, MEMORY_LINE, Outcome::OutOfMemory),
+    if let Trouble::Source = trouble {
+        return write_line(err, SOURCE_LINE, Outcome::SourceFault);
     }
-}
-
-fn tell_usage<E: Sink>(alloc: Global, fault: WordFault, err: &mut E) -> Outcome
-    ensures { let before = stream (E.written err.old) (E.faults err.old) in
-        let now = stream (E.written err.new) (E.faults err.new) in
-        WasTold (Outcome.Usage fault) result before now ⊎ WasTold Outcome.OutOfMemory result before now }
-{
-    match fault_line(alloc, &Fault::Usage(&fault)) {
-        Ok(line) => write_line(err, &line, Outcome::Usage(fault)),
-        Err(_) => write_line(err, MEMORY_LINE, Outcome::OutOfMemory),
-    }
-}
-
-fn tell_halt<E: Sink>(alloc: Global, halt: Halt, err: &mut E) -> Outcome
-    ensures { let before = stream (E.written err.old) (E.faults err.old) in
-        let now = stream (E.written err.new) (E.faults err.new) in
-        WasTold (outcome_of halt) result before now ⊎ WasTold Outcome.OutOfMemory result before now }
-{
-    match fault_line(alloc, &Fault::Halt(&halt)) {
-        Ok(line) => write_line(err, &line, outcome_of(halt)),
+    match trouble.line(alloc) {
+        Ok(line) => write_line(err, &line, trouble.outcome()),
         Err(_) => write_line(err, MEMORY_LINE, Outcome::OutOfMemory),
     }
 }

@@ -24,25 +24,23 @@ use Rattle.br_pivot.specs.declared.solve.Solved.{Solved}
 use Rattle.br_pivot.specs.Solves.{IsSolution, IsSolveStop}
 use Rattle.br_pivot.proofs.Inverses.{basis_of, ends_of}
 use Rattle.br_pivot.proofs.Limits.{solution_limited}
-use Rattle.formula_parser.specs.declared.formula.Formula.{Formula}
-use Rattle.design_matrix.specs.Cells.{Table}
-use Rattle.design_matrix.specs.declared.design.Design.{Design}
 use Rattle.rq_words.specs.declared.job.FitJob.{FitJob}
-use Rattle.rq_engine.specs.declared.fit.Told.{Told}
-use Rattle.rq_engine.specs.declared.report.Fit.{Fit}
-use Rattle.rq_engine.specs.declared.report.Halt.{Halt}
-use Rattle.rq_engine.specs.declared.report.Halt.TheVariants.{Refused, OutOfMemory, PivotLimit, Overflow, NotBuilt}
-use Rattle.rq_engine.specs.declared.report.Refusal.TheVariants.{TooLong, Dependent}
-use Rattle.rq_engine.specs.declared.report.Refusal.TheVariants as refusals
-use Rattle.rq_engine.specs.Answers.{HasTableCause}
+use Rattle.rq_engine.specs.declared.process.Told.{Told}
+use Rattle.report_text.specs.declared.report.Fit.{Fit}
+use Rattle.report_text.specs.declared.report.Halt.{Halt}
+use Rattle.report_text.specs.declared.report.Halt.TheVariants.{Refused, OutOfMemory, PivotLimit, Overflow, NotBuilt}
+use Rattle.report_text.specs.declared.report.Refusal.TheVariants.{TooLong, Dependent}
+use Rattle.report_text.specs.declared.report.Refusal.TheVariants as refusals
+use Rattle.rq_input.specs.Inputs.{HasInputCause, IsInput}
+use Rattle.rq_input.specs.declared.input.Input.{Input}
+use Rattle.rankscores.specs.Spills.{IsScoresSpill}
+use Rattle.rq_engine.specs.Answers.{HasFitCause}
 use Rattle.rq_engine.specs.Fit.{IsOptimalAt, IsRightSegment, IsSegmentAt, HasResults, IsRightFit}
 use Rattle.rq_engine.specs.Halts.{short_halt, stop_halt}
-use Rattle.rq_engine.specs.Models.{IsDesigned, IsProblemOf}
 use Rattle.rq_engine.specs.Point.{IsPoint}
-use Rattle.rq_engine.specs.ReportText.{value}
-use Rattle.rq_engine.specs.Scores.{IsScoresSpill}
+use Rattle.report_text.specs.ReportText.{value}
 use Rattle.rq_engine.specs.Stops.{IsVertexSpill, HasProblemCause, most}
-use Rattle.rq_engine.specs.Told.{HasTold, IsFitUnder, IsPointSegment, IsTold, IsUntold}
+use Rattle.rq_engine.specs.Told.{HasTold, IsPointSegment, IsTold, IsUntold}
 
 all_one : {X : Type 0} (P : X → Type 0) (x : X) → P x → All P (x ∷ [])
 all_one P x h = All-cons P x [] h (All-nil P)
@@ -100,9 +98,9 @@ module _ {F : Type 0} (value : F → Fraction) (p : Problem F) (theta : F) (s : 
 
 -- an operation of a score of such a segment is one of the vertex
 pub scores_untold : {F : Type 0} (value : F → Fraction) (p : Problem F) (theta : F) (v : Vertex F) (basic : List F) (s : Segment F) → IsPointSegment value p theta v basic s → (range : ℕ) (short : Short F)
-    → IsShortOf (IsScoresSpill value range p 0 s) short → IsShortOf (IsUntold value p theta v basic range) short
+    → IsShortOf (IsScoresSpill value range p (length p.rows) 0 s) short → IsShortOf (IsUntold value p theta v basic range) short
 scores_untold {F} value p theta v basic s is range shorts.OutOfMemory h = tt
-scores_untold {F} value p theta v basic s is range (shorts.Overflow spill) h = inr (subst (λ t. IsScoresSpill value range p 0 t spill) same h)
+scores_untold {F} value p theta v basic s is range (shorts.Overflow spill) h = inr (subst (λ t. IsScoresSpill value range p (length p.rows) 0 t spill) same h)
   where
     same : s ≡ record { lo = theta; hi = theta; vertex = v; basic_lo = basic; basic_hi = basic; loss_lo = s.loss_lo; loss_hi = s.loss_hi }
     same = λ i. record { lo = is.lo i; hi = is.hi i; vertex = is.vertex i; basic_lo = is.basic_lo i; basic_hi = is.basic_hi i; loss_lo = s.loss_lo; loss_hi = s.loss_hi }
@@ -135,14 +133,14 @@ module _ (job : FitJob) (p : Problem Frac128) (s : Solved Frac128) (told : Told 
         kept = fit.kept;
         dropped = fit.dropped;
         names = fit.names;
-        data_rows = fit.data_rows;
+        data_rows = length p.rows;
         problem = p;
         process = record { segments = told.segment ∷ []; trail = s.trail };
         scores = told.scores ∷ [];
       }
 
-  pub right_fit : (design : Design) (fit : Fit) → HasTold told s.trail fit → IsFitUnder p design fit → IsRightFit value job fit
-  right_fit design fit has under =
+  pub right_fit : (fit : Fit) → HasTold told s.trail fit → fit.problem ≡ p → fit.data_rows ≡ length p.rows → IsRightFit value job fit
+  right_fit fit has problem data_rows =
       subst (IsRightFit value job) (sym same) (record {
         shaped = shaped;
         covers = covers;
@@ -156,8 +154,8 @@ module _ (job : FitJob) (p : Problem Frac128) (s : Solved Frac128) (told : Told 
         kept = fit.kept;
         dropped = fit.dropped;
         names = fit.names;
-        data_rows = fit.data_rows;
-        problem = under.problem_is i;
+        data_rows = data_rows i;
+        problem = problem i;
         process = record { segments = has.segments i; trail = has.trail i };
         scores = has.scores i;
       }
@@ -181,15 +179,28 @@ short_cause job p s h short (shorts.Overflow spill) untold =
           (record { stop = h.stop; vertex = s.vertex; basic = s.basic; is = h.vertex; duals = h.basic; operation = untold });
     })
 
--- why the problem of a table has no fit is why the table has none
-pub table_cause : (job : FitJob) (table : Table) (model : Formula) (design : Design) (p : Problem Frac128) → IsDesigned job table model design → IsProblemOf design p → (halt : Halt) → HasProblemCause job p halt → HasTableCause job table halt
-table_cause job table model design p designed is (Refused (Dependent combination)) h = record { model = model; design = design; designed = designed; problem = p; is = is; cause = h }
-table_cause job table model design p designed is (Refused TooLong) h = absurd h
-table_cause job table model design p designed is (Refused (refusals.Table fault)) h = absurd h
-table_cause job table model design p designed is (Refused (refusals.Formula fault)) h = absurd h
-table_cause job table model design p designed is (Refused (refusals.Design fault)) h = absurd h
-table_cause job table model design p designed is (Refused (refusals.Program fault)) h = absurd h
-table_cause job table model design p designed is OutOfMemory h = tt
-table_cause job table model design p designed is (PivotLimit place limit trail) h = record { model = model; design = design; designed = designed; problem = p; is = is; cause = h }
-table_cause job table model design p designed is (Overflow place trail spill) h = record { model = model; design = design; designed = designed; problem = p; is = is; cause = h }
-table_cause job table model design p designed is (NotBuilt part) h = absurd h
+-- why there is no input is why there is no fit
+pub input_cause : (job : FitJob) (bytes : List ℕ) (halt : Halt) → HasInputCause job bytes halt → HasFitCause job bytes halt
+input_cause job bytes (Refused (Dependent combination)) h = absurd h.2
+input_cause job bytes (Refused TooLong) h = h
+input_cause job bytes (Refused (refusals.Table fault)) h = h
+input_cause job bytes (Refused (refusals.Formula fault)) h = h
+input_cause job bytes (Refused (refusals.Design fault)) h = h
+input_cause job bytes (Refused (refusals.Program fault)) h = h
+input_cause job bytes OutOfMemory h = h
+input_cause job bytes (PivotLimit place limit trail) h = absurd h.2
+input_cause job bytes (Overflow place trail spill) h = absurd h.2
+input_cause job bytes (NotBuilt part) h = h
+
+-- and so is why the problem of an input has no fit
+pub problem_cause : (job : FitJob) (bytes : List ℕ) (input : Input) → IsInput job bytes input → (halt : Halt) → HasProblemCause job input.problem halt → HasFitCause job bytes halt
+problem_cause job bytes input is (Refused (Dependent combination)) h = record { input = input; is = is; cause = h }
+problem_cause job bytes input is (Refused TooLong) h = h
+problem_cause job bytes input is (Refused (refusals.Table fault)) h = absurd h
+problem_cause job bytes input is (Refused (refusals.Formula fault)) h = absurd h
+problem_cause job bytes input is (Refused (refusals.Design fault)) h = absurd h
+problem_cause job bytes input is (Refused (refusals.Program fault)) h = absurd h
+problem_cause job bytes input is OutOfMemory h = tt
+problem_cause job bytes input is (PivotLimit place limit trail) h = record { input = input; is = is; cause = h }
+problem_cause job bytes input is (Overflow place trail spill) h = record { input = input; is = is; cause = h }
+problem_cause job bytes input is (NotBuilt part) h = absurd h

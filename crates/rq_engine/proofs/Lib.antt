@@ -1,7 +1,3 @@
-pub mod Appends
-pub mod DataRows
-pub mod Designs
+pub mod Costs
 pub mod Fits
-pub mod Numbered
 pub mod Points
-pub mod Rankscores

@@ -12,7 +12,7 @@ use Rattle.rq_words.specs.declared.job.Job.TheVariants.{Process}
 use Rattle.rq_words.proofs.Orders.{process_range}
 use Rattle.rq_words.proofs.ShortWords.{process_formula}
 use Rattle.rq_engine.specs.Point.{IsJobOf, IsPoint}
-use Rattle.rq_engine.specs.ReportText.{value}
+use Rattle.report_text.specs.ReportText.{value}
 
 -- quantiles of the same parts are the same
 same_quantile : (x y : Frac128) → x.num ≡ y.num → x.den ≡ y.den → x ≡ y

@@ -1,5 +1,6 @@
--- The right fit of a problem at one quantile. A type F of fractions is seen by a function into pairs.
-use Rattle.std.specs.Prelude.{◌≡◌, ℕ, ◌≤◌, List, length, map, All, slice_index}
+-- Stated. The right fit of a problem at one quantile (Koenker 2005). A type F of fractions is seen by a function into
+-- pairs.
+use Rattle.std.specs.Prelude.{◌≡◌, ℕ, ◌≤◌, List, length, All, slice_index}
 use Rattle.std.specs.List.{AllZip}
 use Rattle.exact_algebra.specs.Rational.{ℚ}
 use Rattle.exact_algebra.specs.Fraction.{Fraction, rational}
@@ -9,7 +10,7 @@ use Rattle.loss_model.specs.declared.process.Segment.{Segment}
 use Rattle.loss_model.specs.declared.process.Process.{Process}
 use Rattle.loss_model.specs.declared.vertex.Vertex.{Vertex}
 use Rattle.loss_model.specs.Sample.{loss, Minimises}
-use Rattle.loss_model.specs.Dual.{IsDual, rankscore}
+use Rattle.loss_model.specs.Dual.{IsDual}
 use Rattle.loss_model.specs.Problem.{value_at, sample, IsWellShaped}
 use Rattle.loss_model.specs.Segment.{Covers, segments_of}
 use Rattle.loss_model.specs.Vertex.{dual_value, IsVertexOf}
@@ -18,8 +19,9 @@ use Rattle.pivot_rule.specs.Steps.{HasNoNegativeSlope}
 use Rattle.pivot_rule.specs.Trails.{AtBasis, IsSolvingTrail}
 use Rattle.br_pivot.specs.Solves.{IsLimited}
 use Rattle.rq_words.specs.declared.job.FitJob.{FitJob}
-use Rattle.rq_engine.specs.declared.report.Fit.{Fit}
-use Rattle.rq_engine.specs.declared.report.ScorePair.{ScorePair}
+use Rattle.rankscores.specs.Scores.{IsScored}
+use Rattle.report_text.specs.declared.report.Fit.{Fit}
+use Rattle.rq_input.specs.declared.input.Input.{Input}
 
 module _ {F : Type 0} (value : F → Fraction) (p : Problem F) where
   -- at theta the vertex minimises, its dual values are of equal cost, and this is what it loses
@@ -34,17 +36,6 @@ module _ {F : Type 0} (value : F → Fraction) (p : Problem F) where
     pub vertex : IsVertexOf p s.vertex
     pub at_lo : IsOptimalAt s.vertex (rational (value s.lo)) s.basic_lo s.loss_lo
     pub at_hi : IsOptimalAt s.vertex (rational (value s.hi)) s.basic_hi s.loss_hi
-
-  -- the rankscore of row i at theta, where the basic rows have these dual values
-  abbrev pub score : Vertex F → List F → F → ℕ → ℚ
-  score v basic theta =
-      rankscore (sample value p) (rational (value theta)) (dual_value value p v basic (rational (value theta)))
-
-  -- the rankscores of the basic rows, ascending, at both ends of the segment
-  pub record IsScored (s : Segment F) (pairs : List (ScorePair F)) : Type 0 where
-    pub rows : map (λ q. q.row) pairs ≡ s.vertex.basis.rows
-    pub at_lo : All (λ q. rational (value q.at_lo) ≡ score s.vertex s.basic_lo s.lo q.row) pairs
-    pub at_hi : All (λ q. rational (value q.at_hi) ≡ score s.vertex s.basic_hi s.hi q.row) pairs
 
   -- the segment is of this basis: it has its perturbed sides, its coefficients, and the dual values of
   -- its rows at both ends
@@ -74,5 +65,13 @@ pub record IsRightFit (value : Frac128 → Fraction) (job : FitJob) (fit : Fit) 
   pub shaped : IsWellShaped fit.problem
   pub covers : Covers (length fit.problem.rows) (rational (value job.lo)) (rational (value job.hi)) (segments_of value fit.problem fit.process.segments)
   pub segments : All (IsRightSegment value fit.problem) fit.process.segments
-  pub scores : AllZip (IsScored value fit.problem) fit.process.segments fit.scores
+  pub scores : AllZip (IsScored value fit.problem fit.data_rows) fit.process.segments fit.scores
   pub results : HasResults value fit.problem (rational (value job.lo)) job.limit fit.process
+
+-- the fit is of this input, and tells how many records its design has kept and dropped, and its names
+pub record IsFitUnder (input : Input) (fit : Fit) : Type 0 where
+  pub problem_is : fit.problem ≡ input.problem
+  pub kept : fit.kept ≡ length input.design.rows
+  pub dropped : fit.dropped ≡ input.design.dropped
+  pub names : fit.names ≡ input.design.names
+  pub data_rows : fit.data_rows ≡ length input.design.rows

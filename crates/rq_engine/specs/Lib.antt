@@ -1,12 +1,6 @@
 pub mod Answers
-pub mod FaultText
 pub mod Fit
 pub mod Halts
-pub mod Models
-pub mod Names
 pub mod Point
-pub mod Quantities
-pub mod ReportText
-pub mod Scores
 pub mod Stops
 pub mod Told

@@ -1,4 +1,4 @@
--- The job that is done today: a fit at one quantile.
+-- Stated. The job that is done today: a fit at one quantile.
 use Rattle.std.specs.Prelude.{◌≡◌, ℕ, Bool, true, ◌&&◌, List, is_none, Ok}
 use Rattle.rq_words.specs.Requests.{request_of}
 use Rattle.rq_words.specs.Words.{words_of}

@@ -1,4 +1,4 @@
--- Why a problem has no fit.
+-- Stated. Why a problem has no fit.
 use Rattle.std.specs.Prelude.{◌≡◌, ◌⊎◌, ℕ, ◌^◌, ◌-◌, ◌≤◌, List, length, slice_index, ⊤}
 use Rattle.exact_algebra.specs.Fraction.{Fraction, rational}
 use Rattle.exact_algebra.specs.Rational.{ℚ}
@@ -15,11 +15,11 @@ use Rattle.pivot_rule.specs.Steps.{HasNoNegativeSlope}
 use Rattle.pivot_rule.specs.Trails.{AtBasis, IsSolvingTrail, ReachesLimit}
 use Rattle.br_pivot.specs.Solves.{IsSolveSpill}
 use Rattle.rq_words.specs.declared.job.FitJob.{FitJob}
-use Rattle.rq_engine.specs.declared.report.Refusal.TheVariants.{Dependent}
-use Rattle.rq_engine.specs.declared.report.Halt.{Halt}
-use Rattle.rq_engine.specs.declared.report.Halt.TheVariants.{Refused, OutOfMemory, PivotLimit, Overflow}
-use Rattle.rq_engine.specs.ReportText.{value}
-use Rattle.rq_engine.specs.Scores.{IsEndSpill}
+use Rattle.report_text.specs.declared.report.Refusal.TheVariants.{Dependent}
+use Rattle.report_text.specs.declared.report.Halt.{Halt}
+use Rattle.report_text.specs.declared.report.Halt.TheVariants.{Refused, OutOfMemory, PivotLimit, Overflow}
+use Rattle.report_text.specs.ReportText.{value}
+use Rattle.rankscores.specs.Spills.{IsEndSpill}
 
 module _ {F : Type 0} (value : F → Fraction) (range : ℕ) (p : Problem F) (theta : ℚ) where
   -- at the vertex of a basis an operation of its loss overflows, or one of a rankscore
@@ -30,7 +30,7 @@ module _ {F : Type 0} (value : F → Fraction) (range : ℕ) (p : Problem F) (th
     pub is : IsVertexAt value p basis a vertex
     pub duals : AreBasicDuals value p theta basis a vertex basic
     pub operation : IsLossSpill value range (sample value p) theta (value_at value vertex.coef) spill
-        ⊎ (IsEndSpill value range p 0 0 vertex basic theta spill ⊎ IsEndSpill value range p 0 1 vertex basic theta spill)
+        ⊎ (IsEndSpill value range p (length p.rows) 0 0 vertex basic theta spill ⊎ IsEndSpill value range p (length p.rows) 0 1 vertex basic theta spill)
 
   -- after the solve: the lawful trail leads, within the limit, to an optimal basis with such a vertex
   pub record IsResultSpill (limit : ℕ) (trail : Trail F) (spill : Spill F) : Type 0 where

@@ -1,4 +1,4 @@
--- What is told of the vertex that a solve gives.
+-- Inner. What is told of the vertex that a solve gives.
 use Rattle.std.specs.Prelude.{◌≡◌, ◌⊎◌, ℕ, List, [], ◌∷◌, length}
 use Rattle.exact_algebra.specs.Fraction.{Fraction, rational}
 use Rattle.frac_core.specs.declared.frac128.Frac128.{Frac128}
@@ -10,11 +10,10 @@ use Rattle.loss_model.specs.declared.vertex.Vertex.{Vertex}
 use Rattle.loss_model.specs.Problem.{value_at, sample}
 use Rattle.loss_model.specs.Sample.{loss}
 use Rattle.loss_model.specs.Spill.{IsLossSpill}
-use Rattle.design_matrix.specs.declared.design.Design.{Design}
-use Rattle.rq_engine.specs.declared.fit.Told.{Told}
-use Rattle.rq_engine.specs.declared.report.Fit.{Fit}
-use Rattle.rq_engine.specs.Fit.{IsScored}
-use Rattle.rq_engine.specs.Scores.{IsEndSpill}
+use Rattle.rankscores.specs.Scores.{IsScored}
+use Rattle.rankscores.specs.Spills.{IsEndSpill}
+use Rattle.report_text.specs.declared.report.Fit.{Fit}
+use Rattle.rq_engine.specs.declared.process.Told.{Told}
 
 module _ {F : Type 0} (value : F → Fraction) (p : Problem F) (theta : F) (v : Vertex F) (basic : List F) where
   -- the segment of one quantile, with what the vertex loses there
@@ -30,22 +29,14 @@ module _ {F : Type 0} (value : F → Fraction) (p : Problem F) (theta : F) (v : 
   -- and the rankscores of its basic rows
   pub record IsTold (told : Told F) : Type 0 where
     pub segment : IsPointSegment told.segment
-    pub scores : IsScored value p told.segment told.scores
+    pub scores : IsScored value p (length p.rows) told.segment told.scores
 
   -- an operation of the loss or of a rankscore overflows
   abbrev pub IsUntold : ℕ → Spill F → Type 0
   IsUntold range spill =
       IsLossSpill value range (sample value p) (rational (value theta)) (value_at value v.coef) spill
-      ⊎ (IsEndSpill value range p 0 0 v basic (rational (value theta)) spill
-      ⊎ IsEndSpill value range p 0 1 v basic (rational (value theta)) spill)
-
--- the fit is of this problem, and tells how many records the design has kept and dropped, and its names
-pub record IsFitUnder (problem : Problem Frac128) (design : Design) (fit : Fit) : Type 0 where
-  pub problem_is : fit.problem ≡ problem
-  pub kept : fit.kept ≡ length problem.rows
-  pub dropped : fit.dropped ≡ design.dropped
-  pub names : fit.names ≡ design.names
-  pub data_rows : fit.data_rows ≡ length problem.rows
+      ⊎ (IsEndSpill value range p (length p.rows) 0 0 v basic (rational (value theta)) spill
+      ⊎ IsEndSpill value range p (length p.rows) 0 1 v basic (rational (value theta)) spill)
 
 -- the fit has what is told, and this trail
 pub record HasTold (told : Told Frac128) (reached : Trail Frac128) (fit : Fit) : Type 0 where

@@ -1,4 +1,4 @@
--- Why a design has no problem: it is too large.
+-- Stated. Why a design has no problem: it is too large.
 use Rattle.std.specs.Prelude.{ℕ, ◌+◌, ◌<◌, ◌≤◌, length, ⊤}
 use Rattle.design_matrix.specs.declared.design.Design.{Design}
 use Rattle.tv_penalty.specs.declared.Smoothing.{Smoothing}

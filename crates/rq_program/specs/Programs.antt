@@ -1,4 +1,4 @@
--- The problem of a design and of what smooths add to it (Koenker 2005, chapter 1; Koenker, Ng and
+-- Stated. The problem of a design and of what smooths add to it (Koenker 2005, chapter 1; Koenker, Ng and
 -- Portnoy 1994).
 use Rattle.std.specs.Prelude.{◌≡◌, ℕ, ◌+◌, ◌<◌, List, ◌++◌, All, length, map, replicate, zip, pos}
 use Rattle.exact_algebra.specs.Rational.{ℚ, neg_ℚ, whole}
@@ -19,6 +19,7 @@ pub record RowOf : Type 0 where
   pub down0 : ℚ
   pub down1 : ℚ
 
+-- a row of a problem with the values of its numbers
 abbrev pub exact_row : Row Frac128 → RowOf
 exact_row r = record {
   x = map exact r.x;
@@ -58,6 +59,7 @@ abbrev pub rows_of : Design → Smoothing → List RowOf
 rows_of design smoothing =
     map data_row (zip design.rows smoothing.columns) ++ map (penalty_row (length design.names)) smoothing.rows
 
+-- the columns of the design and those of the smooths
 abbrev pub columns_of : Design → Smoothing → ℕ
 columns_of design smoothing = length design.names + length smoothing.names
 

@@ -4,6 +4,7 @@ ghost use Rattle.exact_algebra.specs.Rational.{whole};
 ghost use Rattle.data_frame.specs.Views.{exact};
 ghost use Rattle.loss_model.specs.Problem.{IsWellShaped};
 ghost use Rattle.rq_program.specs.Programs.{exact_row, data_row, penalty_row, rows_of, columns_of, AreTogether};
+ghost use Rattle.rq_program.specs.Costs.{HasDataRows};
 ghost use Rattle.rq_program.specs.Faults.{row_count, HasCause};
 
 use crate::fault::ProgramFault;
@@ -22,7 +23,8 @@ const MOST_COLUMNS: usize = 128;
 /// The design's rows stand first, each with its own entries and then those of the smooths; a row of
 /// weight `w` costs `w*theta` per unit above the fit and `w*(1-theta)` below it. The penalty rows
 /// follow, with the entry 0 in the design's columns, the response 0, and the cost lambda on both
-/// sides (Koenker 2005; Koenker, Ng and Portnoy 1994). There is at least one column in all.
+/// sides (Koenker 2005; Koenker, Ng and Portnoy 1994). There is at least one column in all. Where the
+/// weights are above 0, the rows of the design are data rows of the problem.
 ///
 /// `TooManyRows` comes exactly past 16,384 rows of both kinds, and then `TooManyColumns` exactly past
 /// 128 columns.
@@ -35,6 +37,7 @@ pub fn problem(
     ensures shaped { IfOk result IsWellShaped }
     ensures columns { IfOk result (λ p. p.columns ≡ columns_of design.now smoothing.now) }
     ensures rows { IfOk result (λ p. map exact_row p.rows ≡ rows_of design.now smoothing.now) }
+    ensures data_rows { IfOk result (HasDataRows design.now smoothing.now) }
     ensures cause { IfErr result (HasCause design.now smoothing.now) }
 {
     let width = design.names.as_slice().len();

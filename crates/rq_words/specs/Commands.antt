@@ -1,4 +1,4 @@
--- The commands, as `clap`'s own definitions read them.
+-- Stated. The commands, as `clap`'s own definitions read them.
 use Rattle.std.specs.Prelude.{Bool, true, false, List, [], ◌∷◌, ◌++◌, Option, Some, None, codes, map, if◌then◌else◌}
 use Rattle.std.specs.Str.{bytes_eq}
 use Rattle.clap.specs.Words.{App, Kinds, Row, Rule, Text, new_rule, fault_of, matches_of}
@@ -26,6 +26,7 @@ with_rules app rules = record app { top = record app.top { rules = app.top.rules
 abbrev pub rules_of : List Text → List Text → List Rule
 rules_of required optional = map (λ name. option_rule name true) required ++ map (λ name. option_rule name false) optional
 
+-- the options of a fit
 abbrev pub fit_rules : List Rule
 fit_rules = rules_of (codes "formula" ∷ codes "lo" ∷ codes "hi" ∷ [])
     (codes "weights" ∷ codes "contrasts" ∷ codes "pivots" ∷ codes "crit" ∷ codes "rank-at" ∷ [])
@@ -46,6 +47,7 @@ kind_of word = if bytes_eq word (codes "process") then Some Process
     else if bytes_eq word (codes "check") then Some Check
     else if bytes_eq word (codes "sample") then Some Sample else None
 
+-- the rows, where there is no fault
 abbrev pub some_if_none : Kinds → List Row → Option (List Row)
 some_if_none [] rows = Some rows
 some_if_none (k ∷ ks) rows = None

@@ -1,4 +1,4 @@
--- What a job asks for, with its numbers in ℚ and its texts as bytes.
+-- Stated. What a job asks for, with its numbers in ℚ and its texts as bytes.
 use Rattle.std.specs.Prelude.{ℕ, List, map, Option, option_map, Result}
 use Rattle.std.specs.Result.{result_map_both}
 use Rattle.exact_algebra.specs.Rational.{ℚ}
@@ -33,6 +33,7 @@ pub record RankRequest : Type 0 where
   pub crit : ℚ
   pub taus : List ℚ
 
+-- a fit of a table
 pub record FitRequest : Type 0 where
   pub formula : List ℕ
   pub lo : ℚ
@@ -42,6 +43,7 @@ pub record FitRequest : Type 0 where
   pub limit : ℕ
   pub rank : Option RankRequest
 
+-- a fit of a generated table
 pub record SampleRequest : Type 0 where
   pub number : ℕ
   pub rows : ℕ
@@ -50,6 +52,7 @@ pub record SampleRequest : Type 0 where
   pub hi : ℚ
   pub limit : ℕ
 
+-- what a command asks for, by its job
 pub data Request : Type 0 where
   Process : FitRequest → Request
   Ranks : FitRequest → Request
@@ -57,6 +60,7 @@ pub data Request : Type 0 where
   Check : Request
   Sample : SampleRequest → Request
 
+-- the numbers of the options that were read
 abbrev pub option_numbers : Numbers → OptionNumbers
 option_numbers n = record {
   lo = number n.lo;
@@ -69,9 +73,11 @@ option_numbers n = record {
   columns = n.columns;
 }
 
+-- the rank intervals that a job asks for
 abbrev pub rank_request : RankAsk → RankRequest
 rank_request r = record { crit = number r.crit; taus = map number r.taus }
 
+-- the fit that a job asks for
 abbrev pub fit_request : FitJob → FitRequest
 fit_request f = record {
   formula = f.formula;
@@ -83,6 +89,7 @@ fit_request f = record {
   rank = option_map rank_request f.rank;
 }
 
+-- the generated table that a job asks for
 abbrev pub sample_request : SampleJob → SampleRequest
 sample_request s = record {
   number = s.number;

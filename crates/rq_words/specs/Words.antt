@@ -1,4 +1,4 @@
--- The request of a list of words, or its first fault.
+-- Stated. The request of a list of words, or its first fault.
 use Rattle.std.specs.Prelude.{ℕ, ◌-◌, ◌^◌, ◌==◌, ◌&&◌, ◌||◌, not, Bool, true, false, List, [], ◌∷◌, Option, Some, None, Result, Ok, Err, pos, codes, drop, length, nat_le, is_some, if◌then◌else◌, option_and_then, option_map, ok_or}
 use Rattle.std.specs.List.{slice_split, list_any}
 use Rattle.std.specs.Option.{option_map_or}
@@ -24,9 +24,11 @@ abbrev pub ◌>>=◌ : {A B : Type 0} → Result A WordFault → (A → Result B
 (Ok x) >>= next = next x
 (Err fault) >>= next = Err fault
 
+-- 0
 abbrev pub zero : ℚ
 zero = whole (pos 0)
 
+-- 1
 abbrev pub one : ℚ
 one = whole (pos 1)
 
@@ -36,6 +38,7 @@ one = whole (pos 1)
 unfoldable pub number_text : Text → Option ℚ
 number_text text = result_ok (number_of (2 ^ 127 - 1) text)
 
+-- number texts one by one, all of which must read
 unfoldable pub number_texts : List Text → Option (List ℚ)
 number_texts [] = Some []
 number_texts (text ∷ rest) = option_and_then (λ x. option_map (λ xs. x ∷ xs) (number_texts rest)) (number_text text)
@@ -56,6 +59,7 @@ count places least most text =
     let n = digits_value 10 text in
     if has_digits places text && nat_le least n && nat_le n most then Some n else None
 
+-- the contrasts of a name
 unfoldable pub coding : Text → Option Coding
 coding text = if bytes_eq text (codes "treatment") then Some Treatment
     else if bytes_eq text (codes "sas") then Some Sas
@@ -68,6 +72,7 @@ coding text = if bytes_eq text (codes "treatment") then Some Treatment
 abbrev pub option : {X : Type 0} → WordFault → List Row → Text → X → (Text → Option X) → Result X WordFault
 option fault found name other read = option_map_or (λ text. ok_or (read text) fault) (first_of name found) (Ok other)
 
+-- the same of an option that is a number
 abbrev pub number_option : {X : Type 0} → List Row → Text → X → (Text → Option X) → Result X WordFault
 number_option found name other read = option (BadNumber name) found name other read
 
@@ -75,6 +80,7 @@ number_option found name other read = option (BadNumber name) found name other r
 abbrev pub given : {X : Type 0} → (Text → Option X) → Text → Option (Option X)
 given read text = option_map (λ x. Some x) (read text)
 
+-- the numbers of the options in the order in which they are read, or the first that can't be
 unfoldable pub numbers_of : List Row → Result OptionNumbers WordFault
 numbers_of found =
     number_option found (codes "lo") zero number_text >>= (λ lo.
@@ -96,9 +102,11 @@ numbers_of found =
       columns = columns;
     })))))))))
 
+-- 0 is at most lo, lo at most hi, and hi at most 1
 abbrev pub is_in_order : ℚ → ℚ → Bool
 is_in_order lo hi = le_ℚ zero lo && le_ℚ lo hi && le_ℚ hi one
 
+-- both are there, or neither
 abbrev pub are_alike : Bool → Bool → Bool
 are_alike true b = b
 are_alike false b = not b
@@ -118,13 +126,16 @@ fault_of n =
 
 -- ---- the request
 
+-- the rank intervals that are asked for, where both options stand
 abbrev pub rank_of : OptionNumbers → Option RankRequest
 rank_of n = option_and_then (λ crit. option_map (λ taus. record { crit = crit; taus = taus }) n.taus) n.crit
 
+-- the text of an option
 abbrev pub text_or_empty : Option Text → Text
 text_or_empty None = []
 text_or_empty (Some text) = text
 
+-- the fit of these options
 abbrev pub fit : List Row → OptionNumbers → Coding → FitRequest
 fit found n coding = record {
   formula = text_or_empty (first_of (codes "formula") found);
@@ -136,6 +147,7 @@ fit found n coding = record {
   rank = rank_of n;
 }
 
+-- the generated table of these numbers
 abbrev pub sample : OptionNumbers → SampleRequest
 sample n = record {
   number = n.number;
@@ -146,6 +158,7 @@ sample n = record {
   limit = n.limit;
 }
 
+-- the request of a job with these options
 abbrev pub request_for : Kind → List Row → OptionNumbers → Coding → Request
 request_for kind.Process found n coding = request.Process (fit found n coding)
 request_for kind.Ranks found n coding = request.Ranks (fit found n coding)
@@ -160,6 +173,7 @@ checked kind found =
     option BadContrasts found (codes "contrasts") Treatment coding >>= (λ coding.
     option_map_or (λ fault. Err fault) (fault_of n) (Ok (request_for kind found n coding))))
 
+-- a word of 2^31 bytes or more
 abbrev pub is_long : Text → Bool
 is_long word = nat_le (2 ^ 31) (length word)
 

@@ -6,7 +6,7 @@ use Rattle.exact_matrices.specs.Selections.{is_among}
 use Rattle.loss_model.specs.declared.vertex.Side.TheVariants.{Basic}
 use Rattle.loss_model.specs.Problem.{sample}
 use Rattle.basis_inverse.specs.Square.{inverse_entry}
-use Rattle.perturbation.specs.Perturbed.{perturbed_side}
+use Rattle.basis_model.specs.Perturbed.{perturbed_side}
 use Rattle.basis_model.specs.Basis.{outside_row}
 use Rattle.basic_solution.proofs.RowSides.{any_among}
 use Rattle.basic_solution.proofs.signs.side_of_row.Goals as goal

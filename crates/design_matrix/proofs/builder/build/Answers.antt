@@ -4,6 +4,7 @@ use Rattle.std.proofs.lemmas.Result.{err_from_is_err_and}
 use Rattle.data_frame.specs.Views.{lent_column}
 use Rattle.design_matrix.specs.Cells.{column_of, is_complete}
 use Rattle.design_matrix.proofs.Building.{fault_late, fault_response, fault_rows, fault_width, fewer_from, kept_from, numbered_from}
+use Rattle.design_matrix.proofs.Shapes.{shaped}
 use Rattle.design_matrix.proofs.builder.build.Goals as goal
 
 pub returns-then-is_text-clause-fault : goal.returns-then-is_text-clause-fault
@@ -58,6 +59,10 @@ returns-in-Ok-clause-design c =
       sound = fault_late _ _ _ _ _ _ None response (sym c.is_text.ensures ∙ c.if-is_text.false) names c.in_ok-columns.ensures.sound here (eqb-false (length c.as_slice-kept.result.now) 0 (sym c.is_empty.ensures ∙ c.if-is_empty.false)) c.in-Ok.ensures.sound;
       design_is = c.in-Ok.ensures.design;
     }
+
+pub returns-in-Ok-clause-shape : goal.returns-in-Ok-clause-shape
+returns-in-Ok-clause-shape c =
+    shaped c.args.frame.now c.args.model.now c.args.coding c.in-Ok.design (returns-in-Ok-clause-design c)
 
 pub returns-clause-fault : goal.returns-clause-fault
 returns-clause-fault c =

@@ -1,13 +1,12 @@
 use Rattle.std.proofs.Common.{◌≡◌, map, take}
 use Rattle.data_frame.specs.Views.{exact}
 use Rattle.design_matrix.specs.Parts.{factors}
-use Rattle.design_matrix.specs.Products.{product}
+use Rattle.design_matrix.specs.Products.{FitUpTo, product}
 use Rattle.design_matrix.specs.Views.{part_seen}
-use Rattle.design_matrix.proofs.Products.{FitsUpTo}
 use Rattle.design_matrix.proofs.rows.product_of.Given as goal
 
 abbrev pub invariant-loop-term : goal.invariant-loop-term
 invariant-loop-term l = record {
   value : exact l.product ≡ product (take l.term (factors (map part_seen l.parts) l.place));
-  fits : FitsUpTo (factors (map part_seen l.parts) l.place) l.term;
+  fits : FitUpTo (factors (map part_seen l.parts) l.place) l.term;
 }

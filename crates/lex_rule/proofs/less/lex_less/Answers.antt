@@ -2,8 +2,8 @@ use Rattle.std.proofs.Common.{◌≡◌, ◌<◌, ◌≤◌, ◌↔◌, suc, len
 use Rattle.std.specs.Ordering.{is_ne}
 use Rattle.std.specs.declared.cmp.Ordering.TheVariants.{Equal}
 use Rattle.loss_model.specs.declared.vertex.Side.TheVariants.{Down}
-use Rattle.perturbation.specs.Lexicographic.{lex_cmp}
-use Rattle.perturbation.specs.Perturbed.{perturbed, perturbed_side, zeros, ratio}
+use Rattle.basis_model.specs.Lexicographic.{lex_cmp}
+use Rattle.basis_model.specs.Perturbed.{perturbed, perturbed_side, zeros, ratio}
 use Rattle.lex_rule.specs.Compared.{of_ratio}
 use Rattle.lex_rule.proofs.Comparisons.{equal_from, side_cases, less_from_first, left_decides, right_decides}
 use Rattle.lex_rule.proofs.less.lex_less.Goals as goal

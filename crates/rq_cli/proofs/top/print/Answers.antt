@@ -1,5 +1,5 @@
 use Rattle.std.proofs.Common.{inr, refl}
-use Rattle.rq_engine.specs.FaultText.{sink_line}
+use Rattle.report_text.specs.FaultText.{sink_line}
 use Rattle.rq_cli.proofs.Runs.{tried}
 use Rattle.rq_cli.proofs.top.print.Goals as goal
 

@@ -1,4 +1,5 @@
-use Rattle.std.proofs.Common.{arith, refl, inl, inr}
+use Rattle.std.proofs.Common.{arith, refl, ap, ◌∙◌, inl, inr}
+use Rattle.rq_cli.specs.Steps.{outcome_of}
 use Rattle.rq_cli.proofs.Runs.{printed_run, told_run, memory_run}
 use Rattle.rq_cli.proofs.top.run.Goals as goal
 
@@ -9,6 +10,6 @@ returns-in-Ok-clause-ran g c =
 pub returns-in-Err-clause-ran : goal.returns-in-Err-clause-ran
 returns-in-Err-clause-ran g c =
     elim c.tell.ensures [
-      | inl told ↦ told_run _ _ _ _ _ _ _ c.in-Err.fault c.tell.result c.in-Err.ensures.named c.in-Err.ensures.cause c.in-Err.ensures.grew refl told
+      | inl told ↦ told_run _ _ _ _ _ _ _ (outcome_of c.in-Err.trouble) c.tell.result c.in-Err.ensures.cause (λ grew. ap outcome_of (c.in-Err.ensures.grew grew)) refl told
       | inr told ↦ memory_run _ _ _ _ _ _ _ c.tell.result (λ grew. told.0 (c.in-Err.ensures.grew grew)) refl told.1
     ]

@@ -1,8 +1,11 @@
 use Rattle.rq_cli.proofs.Runs.{halt_cause}
 use Rattle.rq_cli.proofs.top.work.Goals as goal
 
+pub returns-in-Err-clause-cause : goal.returns-in-Err-clause-cause
+returns-in-Err-clause-cause g c = c.in-Err.ensures.refused _ _
+
 pub returns-in-Err-answer-clause-cause : goal.returns-in-Err-answer-clause-cause
 returns-in-Err-answer-clause-cause g c =
-    rw c.outcome_of.ensures (halt_cause _ _ _ c.in-Ok.job c.deref.result.now
+    halt_cause _ _ _ c.in-Ok.job c.deref.result.now
     (record { asked = c.in-Ok.ensures.asked; built = c.in-Ok.ensures.built; whole = rw c.deref.ensures.value c.in-Ok-read_all.ensures.whole; short = rw c.deref.ensures.value c.in-Ok-read_all.ensures.short })
-    c.in-Err-answer.halt c.in-Err-answer.ensures.cause)
+    c.in-Err-answer.halt c.in-Err-answer.ensures.cause

@@ -1,18 +1,8 @@
-use Rattle.std.proofs.Common.{◌≡◌, length, IfSome, List, [], ◌∷◌, arith, refl, subst, ap, suc}
-use Rattle.std.specs.List.{AllZip}
+use Rattle.std.proofs.Common.{◌≡◌, IfSome, subst}
 use Rattle.rq_words.specs.declared.job.Job.TheVariants.{Process}
-use Rattle.rq_engine.specs.ReportText.{value}
-use Rattle.rq_engine.specs.Fit.{IsScored}
 use Rattle.rq_engine.specs.Point.{IsJobOf, IsPoint}
-use Rattle.rq_engine.proofs.DataRows.{same_rows}
 use Rattle.rq_engine.proofs.Points.{point_formula, point_range}
 use Rattle.rq_engine.proofs.job.answer.Goals as goal
-
-same_length : {A B : Type 0} (R : A → B → Type 0) (xs : List A) (ys : List B) → AllZip R xs ys → length ys ≡ length xs
-same_length R [] [] h = refl
-same_length R [] (y ∷ ys) h = absurd h
-same_length R (x ∷ xs) [] h = absurd h
-same_length R (x ∷ xs) (y ∷ ys) h = ap suc (same_length R xs ys h.1)
 
 pub fit_bytes-requires-clause-low : goal.fit_bytes-requires-clause-low
 fit_bytes-requires-clause-low g c =
@@ -33,9 +23,3 @@ fit_bytes-requires-clause-long g c =
     let fit = c.unwrap-fit_job.result.now in
     let found : c.args.job.now ≡ Process fit = subst (λ r. IfSome r (λ fit. c.args.job.now ≡ Process fit.now)) c.unwrap-fit_job.ensures c.point_of.ensures.found in
     point_formula c.requires.asked.0 fit (subst (IsJobOf c.requires.asked.0) found c.requires.asked.1)
-
-pub returns-in-Ok-clause-printable : goal.returns-in-Ok-clause-printable
-returns-in-Ok-clause-printable g c =
-    let fit = c.in-Ok.fit in
-    let of = c.in-Ok.ensures.right.2 in
-    (same_length (IsScored value fit.problem) fit.process.segments fit.scores of.right.scores, omega (arith, of.data_rows, same_rows of.design fit.problem of.problem))

@@ -1,0 +1,69 @@
+#!/usr/bin/env bash
+# Runs the program that the gate has built, and compares its exit status, standard output and standard
+# error byte for byte. The lines expected were written by hand, from the table of exit statuses in
+# docs/MANUAL.md. It prints nothing where all is well.
+cd "$(dirname "$0")/.." || exit 1
+program=$PWD/crates/quantreg/out/quantreg
+table=$PWD/examples/stackloss.csv
+report=$PWD/crates/quantreg/stdout
+
+skip() { echo "streams: skipped: $1" >&2; exit 0; }
+[ -x "$program" ] || skip "rt ci has left no program at crates/quantreg/out/quantreg"
+for tool in cmp cat mktemp; do command -v "$tool" > /dev/null || skip "no command $tool"; done
+cmp -s crates/quantreg/src/main.rt crates/quantreg_refused/src/main.rt ||
+  { echo "streams: quantreg_refused has another main than quantreg" >&2; exit 1; }
+
+room=$(mktemp -d) || exit 1
+trap 'rm -rf "$room"' EXIT
+failed=0
+: > "$room/nothing"
+
+wrong() { echo "streams: $1: $2" >&2; failed=1; }
+
+# compare NAME WANTED STATUS LINE REPORT: of the run that wrote $room/out and $room/err and ended with STATUS
+compare() {
+  printf '%s' "$4" > "$room/line"
+  [ "$3" -eq "$2" ] || wrong "$1" "exit status $3, and not $2"
+  cmp -s "$room/out" "$5" || wrong "$1" "standard output differs: $(cat "$room/out")"
+  cmp -s "$room/err" "$room/line" || wrong "$1" "standard error differs: $(cat "$room/err")"
+}
+
+# try NAME STATUS LINE REPORT INPUT WORD..
+try() {
+  local name=$1 status=$2 line=$3 wanted=$4 input=$5
+  shift 5
+  "$program" "$@" < "$input" > "$room/out" 2> "$room/err"
+  compare "$name" "$status" $? "$line" "$wanted"
+}
+
+job=(process --formula "stack.loss ~ ." --lo 1/2 --hi 1/2)
+nothing=$room/nothing
+printf 'y,x\n1,2\n3,5\n' > "$room/two"
+printf 'y,x\n1,2\n3\n' > "$room/ragged"
+
+try "a report" 0 "" "$report" "$table" "${job[@]}"
+try "no words" 2 $'quantreg: usage: NoJob\n' "$nothing" "$table"
+try "a range that falls" 2 $'quantreg: usage: BadRange\n' "$nothing" "$table" process --formula "y ~ x" --lo 3/4 --hi 1/4
+try "an empty input" 1 $'quantreg: table: NoHeader\n' "$nothing" "$nothing" "${job[@]}"
+try "a short record" 1 $'quantreg: table: Ragged record=2 found=1 wanted=2\n' "$nothing" "$room/ragged" process --formula "y ~ x" --lo 1/2 --hi 1/2
+try "a name that is no column" 1 $'quantreg: formula: UnknownName offset=4\n' "$nothing" "$room/two" process --formula "y ~ z" --lo 1/2 --hi 1/2
+try "one pivot too few" 6 $'quantreg: solver: PivotLimit place=process limit=4\n' "$nothing" "$table" "${job[@]}" --pivots 4
+try "as many pivots as are needed" 0 "" "$report" "$table" "${job[@]}" --pivots 5
+# a folder can't be read
+try "a source that fails" 3 $'quantreg: source: SourceFault\n' "$nothing" "$room" "${job[@]}"
+
+# a device that is always full
+if [ -c /dev/full ]; then
+  "$program" "${job[@]}" < "$table" > /dev/full 2> "$room/err"
+  status=$?
+  : > "$room/out"
+  compare "standard output that fails" 4 $status $'quantreg: sink: SinkFault\n' "$nothing"
+  "$program" < "$table" > "$room/out" 2> /dev/full
+  status=$?
+  : > "$room/err"
+  compare "standard error that fails" 4 $status "" "$nothing"
+else
+  echo "streams: no device /dev/full, so no failing output was tried" >&2
+fi
+
+exit "$failed"

@@ -1,0 +1,6 @@
+use Rattle.std.proofs.Common.{◌≡◌, ◌++◌, take}
+use Rattle.report_text.specs.ReportText.{column_line, numbered}
+use Rattle.report_text.proofs.page.Page.column_lines.Given as goal
+
+abbrev pub invariant-loop-index : goal.invariant-loop-index
+invariant-loop-index l = l.self ≡ l.initial.self ++ numbered column_line 1 (take l.index l.names)

@@ -1,0 +1,4 @@
+pub mod FaultText
+pub mod Names
+pub mod Quantities
+pub mod ReportText

@@ -1,0 +1,98 @@
+-- Stated. The printed text of a report: lines of words with one space between them. A type F of fractions
+-- is seen by a function into pairs.
+use Rattle.std.specs.Prelude.{◌≡◌, ◌≤◌, ℕ, ◌+◌, ◌-◌, Bool, true, false, nat_lt, List, [], ◌∷◌, ◌++◌, length, codes, decimal}
+use Rattle.std.specs.List.{flat_map, zip}
+use Rattle.exact_algebra.specs.Fraction.{Fraction}
+use Rattle.frac_core.specs.NumberText.{number_text_of}
+use Rattle.loss_model.specs.declared.vertex.Side.{Side}
+use Rattle.loss_model.specs.declared.vertex.Side.TheVariants.{Up, Down, Basic}
+use Rattle.loss_model.specs.declared.process.Segment.{Segment}
+use Rattle.frac_core.specs.declared.frac128.Frac128.{Frac128}
+use Rattle.rankscores.specs.declared.pair.ScorePair.{ScorePair}
+use Rattle.report_text.specs.declared.report.Fit.{Fit}
+use Rattle.report_text.specs.declared.report.Report.{Report}
+use Rattle.report_text.specs.declared.report.Report.TheVariants.{Process}
+use Rattle.report_text.specs.Names.{name_bytes}
+
+-- the texts of the items, which are numbered from i, one after another
+abbrev pub numbered : {X : Type 0} → (ℕ → X → List ℕ) → ℕ → List X → List ℕ
+numbered text i [] = []
+numbered text i (x ∷ xs) = text i x ++ numbered text (i + 1) xs
+
+-- how many records are kept and how many are not
+unfoldable pub records_line : ℕ → ℕ → List ℕ
+records_line kept dropped = codes "records " ++ decimal kept ++ codes " dropped " ++ decimal dropped ++ codes "\n"
+
+-- the name of column j
+unfoldable pub column_line : ℕ → List ℕ → List ℕ
+column_line j name = codes "column " ++ decimal j ++ codes " " ++ name_bytes name ++ codes "\n"
+
+-- how many rows there are of records and of smooths
+unfoldable pub data_line : ℕ → ℕ → List ℕ
+data_line rows penalty = codes "data " ++ decimal rows ++ codes " penalty " ++ decimal penalty ++ codes "\n"
+
+-- how many pivots were made
+unfoldable pub pivots_line : ℕ → List ℕ
+pivots_line pivots = codes "pivots " ++ decimal pivots ++ codes "\n"
+
+-- 1, 0 or * at a data row; +, - or * at a penalty row
+abbrev pub score_mark : Bool → Side → ℕ
+score_mark true Up = 49
+score_mark true Down = 48
+score_mark false Up = 43
+score_mark false Down = 45
+score_mark _ Basic = 42
+
+-- the mark of row i, of which the first n are data rows
+abbrev pub row_mark : ℕ → ℕ → Side → List ℕ
+row_mark n i side = score_mark (nat_lt i n) side ∷ []
+
+-- a mark for each row
+unfoldable pub scores_line : ℕ → List Side → List ℕ
+scores_line n sides = codes "scores " ++ numbered (row_mark n) 0 sides ++ codes "\n"
+
+module _ {F : Type 0} (value : F → Fraction) where
+  -- the range of segment i
+  unfoldable pub segment_line : ℕ → Segment F → List ℕ
+  segment_line i s = codes "segment " ++ decimal i ++ codes " " ++ number_text_of (value s.lo) ++ codes " " ++ number_text_of (value s.hi) ++ codes "\n"
+
+  -- the coefficient of column j
+  unfoldable pub coef_line : ℕ → F → List ℕ
+  coef_line j b = codes "coef " ++ decimal j ++ codes " " ++ number_text_of (value b) ++ codes "\n"
+
+  -- the loss at both ends
+  unfoldable pub loss_line : Segment F → List ℕ
+  loss_line s = codes "loss " ++ number_text_of (value s.loss_lo) ++ codes " " ++ number_text_of (value s.loss_hi) ++ codes "\n"
+
+  -- the rankscores of a row of the basis at both ends, rows counted from 1
+  unfoldable pub basic_line : ScorePair F → List ℕ
+  basic_line p = codes "basic " ++ decimal (p.row + 1) ++ codes " " ++ number_text_of (value p.at_lo) ++ codes " " ++ number_text_of (value p.at_hi) ++ codes "\n"
+
+  -- one segment: its range, its coefficients, its losses, its scores and its basic rows
+  unfoldable pub segment_text : ℕ → ℕ → Segment F × List (ScorePair F) → List ℕ
+  segment_text n i (s, pairs) =
+      segment_line i s ++ numbered coef_line 1 s.vertex.coef ++ loss_line s ++ scores_line n s.vertex.sides ++ flat_map basic_line pairs
+
+-- the numbers of a value of 128 bits
+abbrev pub value : Frac128 → Fraction
+value x = record { num = x.num; den = x.den }
+
+-- how many rows and pivots the fit has
+unfoldable pub fit_size : Fit → List ℕ
+fit_size fit = data_line fit.data_rows (length fit.problem.rows - fit.data_rows) ++ pivots_line (length fit.process.trail.steps)
+
+-- what stands before the segments
+unfoldable pub fit_head : Fit → List ℕ
+fit_head fit = codes "quantreg 1\n" ++ records_line fit.kept fit.dropped ++ numbered column_line 1 fit.names ++ fit_size fit
+
+-- the report of a fit
+unfoldable pub fit_text : Fit → List ℕ
+fit_text fit = fit_head fit ++ numbered (segment_text value fit.data_rows) 1 (zip fit.process.segments fit.scores) ++ codes "end\n"
+
+-- the text of a report
+abbrev pub report_text : Report → List ℕ
+report_text (Process fit) = fit_text fit
+
+-- one list of scores per segment, and no more data rows than rows
+abbrev pub IsPrintable : Report → Type 0
+IsPrintable (Process fit) = (length fit.scores ≡ length fit.process.segments) × (fit.data_rows ≤ length fit.problem.rows)

@@ -1,0 +1,20 @@
+//! The texts of quantreg: what a job answers, and every byte that is printed of it.
+//!
+//! The one contract: `report_bytes` gives the text of a report and `fault_line` the line of a fault,
+//! as `specs/ReportText.antt` and `specs/FaultText.antt` write them. The types that a job answers
+//! with stand here, so that who reads them needs no solver. It stands on `rq_words`, `data_frame`,
+//! `formula_parser`, `design_matrix` and `rq_program` for their faults, on `loss_model` and
+//! `rankscores` for what a fit holds, and on `itoa`.
+//! Its tests stand in the crate `report_tests`.
+#![tactic(auto)]
+
+mod fault;
+mod lines;
+mod page;
+mod quantity;
+mod report;
+
+pub use fault::{MEMORY_LINE, SINK_LINE, SOURCE_LINE, fault_line};
+pub use lines::report_bytes;
+pub use page::Page;
+pub use report::{Fault, Fit, Halt, Place, Refusal, Report};

@@ -1,0 +1,86 @@
+//! What a job answers.
+use data_frame::TableFault;
+use design_matrix::DesignFault;
+use formula_parser::FormulaFault;
+use frac_core::{Frac128, List, Text};
+use loss_model::{Problem, Process, Spill, Trail};
+use rankscores::ScorePair;
+use rq_program::ProgramFault;
+use rq_words::WordFault;
+
+/// A fitted model: how many records were kept and dropped, the names of its columns, its rows, of
+/// which the first `data_rows` are data rows, the process, and for each segment the rankscores of
+/// its basic rows.
+#[derive(Drop)]
+pub struct Fit {
+    pub kept: u32,
+    pub dropped: u32,
+    pub names: List<Text>,
+    pub data_rows: u32,
+    pub problem: Problem<Frac128>,
+    pub process: Process<Frac128>,
+    pub scores: List<List<ScorePair<Frac128>>>,
+}
+
+/// What a job found.
+#[derive(Drop)]
+pub enum Report {
+    Process(Fit),
+}
+
+/// Why an input has no report. No fault in it is want of memory.
+#[derive(Drop)]
+pub enum Refusal {
+    /// It is longer than 2^26 bytes.
+    TooLong,
+    /// It is no table.
+    Table(TableFault),
+    /// The formula is none over the names of the table.
+    Formula(FormulaFault),
+    /// The table has no design by the formula.
+    Design(DesignFault),
+    /// The design has no problem.
+    Program(ProgramFault),
+    /// The columns are dependent: this combination of them, which isn't all 0, is 0 in every row.
+    Dependent { combination: List<Frac128> },
+}
+
+/// Where the solver stopped.
+#[derive(Clone, Copy, Debug, PartialEq, Eq)]
+pub enum Place {
+    /// In the fit itself.
+    Process,
+}
+
+/// Why a job ended without a report.
+#[derive(Drop)]
+pub enum Halt {
+    Refused(Refusal),
+    OutOfMemory,
+    /// The trail has as many pivots as the limit says, and one more is left.
+    PivotLimit {
+        place: Place,
+        limit: u32,
+        trail: Trail<Frac128>,
+    },
+    /// An operation overflows at the last basis of the trail, or after the solve, when the trail is
+    /// whole.
+    Overflow {
+        place: Place,
+        trail: Trail<Frac128>,
+        spill: Spill<Frac128>,
+    },
+    /// It asks for what this version does not do: part 1 is the job, part 3 a smooth in its formula.
+    NotBuilt {
+        part: u8,
+    },
+}
+
+/// What is told on standard error.
+#[derive(Clone, Copy)]
+pub enum Fault<'a> {
+    Usage(&'a WordFault),
+    Source,
+    Sink,
+    Halt(&'a Halt),
+}

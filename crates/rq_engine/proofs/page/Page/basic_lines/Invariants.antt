@@ -1,7 +1,0 @@
-use Rattle.std.proofs.Common.{◌≡◌, ◌++◌, take}
-use Rattle.std.specs.List.{flat_map}
-use Rattle.rq_engine.specs.ReportText.{basic_line}
-use Rattle.rq_engine.proofs.page.Page.basic_lines.Given as goal
-
-abbrev pub invariant-loop-pair : goal.invariant-loop-pair
-invariant-loop-pair g l = l.self ≡ l.initial.self ++ flat_map (basic_line g.F.Exact.value) (take l.pair-index l.pairs)

@@ -1,8 +1,0 @@
-use Rattle.std.proofs.Common.{refl}
-use Rattle.rq_engine.proofs.Numbered.{numbered_more_at}
-use Rattle.rq_engine.specs.ReportText.{column_line}
-use Rattle.rq_engine.proofs.page.Page.column_lines.Goals as goal
-
-pub loop-index-preserved : goal.loop-index-preserved
-loop-index-preserved c =
-    numbered_more_at column_line 1 _ _ _ _ _ _ _ c.loop-index-test.true refl c.index-names-index.is c.loop-index.invariant c.in_ok-column_line.ensures

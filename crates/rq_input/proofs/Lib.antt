@@ -1,0 +1,2 @@
+pub mod DataRows
+pub mod Designs

@@ -1,0 +1,3 @@
+pub mod Halts
+pub mod Inputs
+pub mod Models

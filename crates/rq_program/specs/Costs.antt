@@ -1,0 +1,32 @@
+-- Law. What the rows of a problem cost, and which of them are the design's.
+use Rattle.std.specs.Prelude.{◌≡◌, ◌<◌, ℕ, All, Some, length, pos}
+use Rattle.std.specs.List.{slice_get}
+use Rattle.std.specs.declared.cmp.Ordering.TheVariants.{Less}
+use Rattle.exact_algebra.specs.Fraction.{Fraction}
+use Rattle.exact_algebra.specs.Order.{cmp_ℚ}
+use Rattle.exact_algebra.specs.Rational.{ℚ, ◌-ℚ◌, ◌*ℚ◌, whole}
+use Rattle.frac_core.specs.declared.frac128.Frac128.{Frac128}
+use Rattle.data_frame.specs.Views.{exact}
+use Rattle.loss_model.specs.declared.problem.Problem.{Problem}
+use Rattle.loss_model.specs.Dual.{IsDataRow}
+use Rattle.loss_model.specs.Problem.{sample}
+use Rattle.loss_model.specs.Sample.{Sample, up_cost, down_cost}
+use Rattle.design_matrix.specs.declared.design.Design.{Design}
+use Rattle.design_matrix.specs.declared.design.DesignRow.{DesignRow}
+use Rattle.tv_penalty.specs.declared.Smoothing.{Smoothing}
+use Rattle.rq_program.specs.Faults.{row_count}
+
+-- a number of the program as a fraction
+abbrev pub value : Frac128 → Fraction
+value x = record { num = x.num; den = x.den }
+
+-- at the quantile theta a unit above the fit costs weight*theta, and a unit below it weight*(1-theta)
+pub record CostsBy (weight : ℚ) (p : Sample) (i : ℕ) : Type 0 where
+  pub up : (theta : ℚ) → up_cost p theta i ≡ weight *ℚ theta
+  pub down : (theta : ℚ) → down_cost p theta i ≡ weight *ℚ (whole (pos 1) -ℚ theta)
+
+-- the rows of the design stand first, and cost by their weights; weights above 0 make them data rows
+pub record HasDataRows (design : Design) (smoothing : Smoothing) (p : Problem Frac128) : Type 0 where
+  pub count : length p.rows ≡ row_count design smoothing
+  pub costs : (i : ℕ) (r : DesignRow) → slice_get design.rows i ≡ Some r → CostsBy (exact r.weight) (sample value p) i
+  pub are_data : All (λ r. cmp_ℚ (whole (pos 0)) (exact r.weight) ≡ Less) design.rows → (i : ℕ) → i < length design.rows → IsDataRow (sample value p) i
