@@ -9,6 +9,24 @@ fn reduced<F: Exact>(n: i128, d: i128) -> Option<Ratio> {
     Some(ratio(F::from_parts(n, d)?))
 }
 
+const M: i128 = Frac128::RANGE;
+
+// The tables are those of 128 bits: a number at their edge is moved to the edge of the type.
+fn moved<F: Exact>(n: i128) -> i128 {
+    let gap = M.wrapping_sub(F::RANGE);
+    if n > M / 2 {
+        n.wrapping_sub(gap)
+    } else if n < -(M / 2) {
+        n.wrapping_add(gap)
+    } else {
+        n
+    }
+}
+
+fn at_edge<F: Exact>((n, d): Ratio) -> Ratio {
+    (moved::<F>(n), moved::<F>(d))
+}
+
 // What an operation gives: `None` where it is refused, and then it names itself and its operands.
 fn operation<F: Exact>(rt: &impl Abort, kind: OpKind, left: Ratio, right: Ratio) -> Option<Ratio> {
     let x: F = fraction(rt, left);
@@ -31,49 +49,51 @@ fn operation<F: Exact>(rt: &impl Abort, kind: OpKind, left: Ratio, right: Ratio)
     }
 }
 
-// Each operation on a pair of operands, and what it gives: `None` where it is refused. The widest number
-// is m.
-fn operations<F: Exact>(rt: &impl Abort) {
-    let m = F::RANGE;
-    let less = m - 1;
-    let low = -m;
-    let cases: [(OpKind, Ratio, Ratio, Option<Ratio>); 33] = [
-        (OpKind::Add, (1, 2), (1, 3), Some((5, 6))),
-        (OpKind::Add, (1, 6), (1, 10), Some((4, 15))),
-        (OpKind::Add, (m, 1), (1, 1), None),
-        (OpKind::Add, (m, 1), (-1, 1), Some((less, 1))),
-        (OpKind::Add, (low, 1), (-1, 1), None),
-        (OpKind::Add, (low, 1), (m, 1), Some((0, 1))),
-        (OpKind::Add, (m, 2), (m, 2), None),
-        (OpKind::Add, (m, 2), (low, 2), Some((0, 1))),
-        (OpKind::Add, (1, m), (1, m), Some((2, m))),
-        (OpKind::Add, (1, m), (-1, m), Some((0, 1))),
-        (OpKind::Add, (1, m), (1, less), None),
-        (OpKind::Add, (1, m), (1, 1), None),
-        (OpKind::Add, (0, 1), (m, less), Some((m, less))),
-        (OpKind::Sub, (0, 1), (1, m), Some((-1, m))),
-        (OpKind::Sub, (1, 2), (1, 3), Some((1, 6))),
-        (OpKind::Sub, (m, 1), (-1, 1), None),
-        (OpKind::Sub, (low, 1), (1, 1), None),
-        (OpKind::Sub, (low, 1), (low, 1), Some((0, 1))),
-        (OpKind::Sub, (-1, m), (1, m), Some((-2, m))),
-        (OpKind::Mul, (m, 3), (3, m), Some((1, 1))),
-        (OpKind::Mul, (m, 3), (-3, m), Some((-1, 1))),
-        (OpKind::Mul, (m, 1), (2, 1), None),
-        (OpKind::Mul, (low, 1), (-1, 1), Some((m, 1))),
-        (OpKind::Mul, (1, m), (1, 2), None),
-        (OpKind::Mul, (m, 2), (2, 1), Some((m, 1))),
-        (OpKind::Mul, (m, less), (less, m), Some((1, 1))),
-        (OpKind::Mul, (0, 1), (m, 2), Some((0, 1))),
-        (OpKind::Div, (1, 2), (-3, 4), Some((-2, 3))),
-        (OpKind::Div, (m, 1), (m, 1), Some((1, 1))),
-        (OpKind::Div, (1, m), (low, 1), None),
-        (OpKind::Div, (1, 1), (low, 1), Some((-1, m))),
-        (OpKind::Div, (m, 1), (1, 2), None),
-        (OpKind::Div, (0, 1), (low, less), Some((0, 1))),
-    ];
-    for (kind, left, right, want) in cases {
-        let found = operation::<F>(rt, kind, left, right);
+// Each operation on a pair of operands, and what it gives: `None` where it is refused.
+static OPERATIONS: [(OpKind, Ratio, Ratio, Option<Ratio>); 33] = [
+    (OpKind::Add, (1, 2), (1, 3), Some((5, 6))),
+    (OpKind::Add, (1, 6), (1, 10), Some((4, 15))),
+    (OpKind::Add, (M, 1), (1, 1), None),
+    (OpKind::Add, (M, 1), (-1, 1), Some((M - 1, 1))),
+    (OpKind::Add, (-M, 1), (-1, 1), None),
+    (OpKind::Add, (-M, 1), (M, 1), Some((0, 1))),
+    (OpKind::Add, (M, 2), (M, 2), None),
+    (OpKind::Add, (M, 2), (-M, 2), Some((0, 1))),
+    (OpKind::Add, (1, M), (1, M), Some((2, M))),
+    (OpKind::Add, (1, M), (-1, M), Some((0, 1))),
+    (OpKind::Add, (1, M), (1, M - 1), None),
+    (OpKind::Add, (1, M), (1, 1), None),
+    (OpKind::Add, (0, 1), (M, M - 1), Some((M, M - 1))),
+    (OpKind::Sub, (0, 1), (1, M), Some((-1, M))),
+    (OpKind::Sub, (1, 2), (1, 3), Some((1, 6))),
+    (OpKind::Sub, (M, 1), (-1, 1), None),
+    (OpKind::Sub, (-M, 1), (1, 1), None),
+    (OpKind::Sub, (-M, 1), (-M, 1), Some((0, 1))),
+    (OpKind::Sub, (-1, M), (1, M), Some((-2, M))),
+    (OpKind::Mul, (M, 3), (3, M), Some((1, 1))),
+    (OpKind::Mul, (M, 3), (-3, M), Some((-1, 1))),
+    (OpKind::Mul, (M, 1), (2, 1), None),
+    (OpKind::Mul, (-M, 1), (-1, 1), Some((M, 1))),
+    (OpKind::Mul, (1, M), (1, 2), None),
+    (OpKind::Mul, (M, 2), (2, 1), Some((M, 1))),
+    (OpKind::Mul, (M, M - 1), (M - 1, M), Some((1, 1))),
+    (OpKind::Mul, (0, 1), (M, 2), Some((0, 1))),
+    (OpKind::Div, (1, 2), (-3, 4), Some((-2, 3))),
+    (OpKind::Div, (M, 1), (M, 1), Some((1, 1))),
+    (OpKind::Div, (1, M), (-M, 1), None),
+    (OpKind::Div, (1, 1), (-M, 1), Some((-1, M))),
+    (OpKind::Div, (M, 1), (1, 2), None),
+    (OpKind::Div, (0, 1), (-M, M - 1), Some((0, 1))),
+];
+
+fn expect_operations<F: Exact>(rt: &impl Abort) {
+    for (kind, left, right, want) in &OPERATIONS {
+        let [left, right] = [at_edge::<F>(*left), at_edge::<F>(*right)];
+        let found = operation::<F>(rt, *kind, left, right);
+        let want = match want {
+            Some(want) => Some(at_edge::<F>(*want)),
+            None => None,
+        };
         assert!(rt;
             found == want,
             "{kind:?} of {left:?} and {right:?}: {found:?}"
@@ -86,8 +106,6 @@ const LOW: i128 = i128::MIN;
 const HALF: i128 = 1i128 << 126;
 
 const QUARTER: i128 = 1i128 << 62;
-
-const M: i128 = Frac128::RANGE;
 
 const L: i128 = Frac64::RANGE;
 
@@ -139,27 +157,26 @@ fn expect_order<F: Exact>(rt: &impl Abort, left: Ratio, right: Ratio, order: Ord
     assert!(rt; negated.denominator() == left.1, "{left:?}");
 }
 
-// How fractions compare, and the sign of the first. The widest number is m.
-fn orders<F: Exact>(rt: &impl Abort) {
-    let m = F::RANGE;
-    let less = m - 1;
-    let least = m - 2;
-    let cases: [(Ratio, Ratio, Ordering, i8); 12] = [
-        ((1, 2), (1, 3), Ordering::Greater, 1),
-        ((-1, 2), (-1, 3), Ordering::Less, -1),
-        ((0, 1), (1, m), Ordering::Less, 0),
-        ((0, 1), (-1, m), Ordering::Greater, 0),
-        ((-m, 1), (m, 1), Ordering::Less, -1),
-        ((m, 1), (-m, 1), Ordering::Greater, 1),
-        ((m, 1), (1, m), Ordering::Greater, 1),
-        ((1, m), (1, m), Ordering::Equal, 1),
-        ((m, less), (less, least), Ordering::Less, 1),
-        ((less, m), (least, less), Ordering::Greater, 1),
-        ((-m, less), (-less, least), Ordering::Greater, -1),
-        ((-less, m), (-least, less), Ordering::Less, -1),
-    ];
-    for (left, right, order, sign) in cases {
-        expect_order::<F>(rt, left, right, order, sign);
+// How fractions compare, and the sign of the first.
+static ORDERS: [(Ratio, Ratio, Ordering, i8); 12] = [
+    ((1, 2), (1, 3), Ordering::Greater, 1),
+    ((-1, 2), (-1, 3), Ordering::Less, -1),
+    ((0, 1), (1, M), Ordering::Less, 0),
+    ((0, 1), (-1, M), Ordering::Greater, 0),
+    ((-M, 1), (M, 1), Ordering::Less, -1),
+    ((M, 1), (-M, 1), Ordering::Greater, 1),
+    ((M, 1), (1, M), Ordering::Greater, 1),
+    ((1, M), (1, M), Ordering::Equal, 1),
+    ((M, M - 1), (M - 1, M - 2), Ordering::Less, 1),
+    ((M - 1, M), (M - 2, M - 1), Ordering::Greater, 1),
+    ((-M, M - 1), (1 - M, M - 2), Ordering::Greater, -1),
+    ((1 - M, M), (2 - M, M - 1), Ordering::Less, -1),
+];
+
+fn expect_orders<F: Exact>(rt: &impl Abort) {
+    for (left, right, order, sign) in &ORDERS {
+        let [left, right] = [at_edge::<F>(*left), at_edge::<F>(*right)];
+        expect_order::<F>(rt, left, right, *order, *sign);
     }
     assert!(rt; ratio(F::zero()) == (0, 1));
     assert!(rt; ratio(F::one()) == (1, 1));
@@ -167,8 +184,8 @@ fn orders<F: Exact>(rt: &impl Abort) {
 
 #[test]
 fn operations_of_both_types(rt: HostRuntime) {
-    operations::<Frac128>(&rt);
-    operations::<Frac64>(&rt);
+    expect_operations::<Frac128>(&rt);
+    expect_operations::<Frac64>(&rt);
 }
 
 #[test]
@@ -181,6 +198,6 @@ fn parts_in_range(rt: HostRuntime) {
 
 #[test]
 fn orders_of_both_types(rt: HostRuntime) {
-    orders::<Frac128>(&rt);
-    orders::<Frac64>(&rt);
+    expect_orders::<Frac128>(&rt);
+    expect_orders::<Frac64>(&rt);
 }

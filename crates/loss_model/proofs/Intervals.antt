@@ -1,18 +1,15 @@
 -- Every fraction of a closed interval is a mix of its ends by whole numbers.
-use Rattle.std.specs.Prelude.{◌≡◌, ℕ, zero, suc, ◌+◌, ◌<◌, ◌≤◌, [], ◌∷◌, ℤ, pos, negsuc, ◌*ℤ◌, ◌-ℤ◌, ◌≤ℤ◌, neg_ℤ, unsigned_abs}
+use Rattle.std.specs.Prelude.{◌≡◌, ℕ, zero, suc, ◌+◌, ◌<◌, ◌≤◌, [], ◌∷◌, ℤ, pos, negsuc, ◌*ℤ◌, ◌-ℤ◌, ◌≤ℤ◌, unsigned_abs}
 use Rattle.std.proofs.Common.{arith, refl, sym, ap, subst, ◌∙◌}
 use Rattle.std.proofs.lemmas.Int.{ints}
 use Rattle.exact_algebra.specs.Solver.{number, negated, ◌⊞◌, ◌⊟◌, ◌⊠◌, v0, v1, v2, v3, v4, v5, v6}
 use Rattle.exact_algebra.specs.Rational.{ℚ, ◌+ℚ◌, ◌-ℚ◌, ◌*ℚ◌, inverse, whole, whole-add, whole-mul, ◌≤ℚ◌, ring_ℚ, ring_by_ℚ}
 use Rattle.exact_algebra.specs.Fraction.{Fraction, rational}
-use Rattle.exact_algebra.specs.WholeNumbers.{le_from_whole, whole-neg}
+use Rattle.exact_algebra.specs.WholeNumbers.{le_from_whole}
 use Rattle.exact_algebra.specs.Order.{≤ℚ-minus}
 use Rattle.loss_model.specs.Dual.{mix}
 use Rattle.loss_model.specs.Laws.{IntervalIsMixes}
-use Rattle.loss_model.proofs.Quotients.{inverse_of, whole-quotient, cancel_whole, whole_not_negative, product_not_negative}
-
-pub whole-sub : (a b : ℤ) → whole (a -ℤ b) ≡ whole a -ℚ whole b
-whole-sub a b = whole-add a (neg_ℤ b) ∙ ap (λ z. whole a +ℚ z) (whole-neg b)
+use Rattle.loss_model.proofs.Quotients.{inverse_of, whole-quotient, whole-sub, cancel_whole, whole_not_negative, product_not_negative}
 
 -- how far b is above a, in units of the three denominators
 gap : Fraction → Fraction → Fraction → ℤ

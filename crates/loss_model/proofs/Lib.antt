@@ -3,12 +3,7 @@ pub mod Duality
 pub mod Mixes
 pub mod Intervals
 pub mod Rankscores
-pub mod Scales
-pub mod Ranks
 pub mod Starts
-pub mod CommonDenominators
-pub mod Integers
-pub mod Denominators
 pub mod Vertices
 pub mod Covers
 pub mod Products

@@ -1,10 +1,10 @@
--- Vectors of quotients of whole numbers, and positive factors that can be taken away.
-use Rattle.std.specs.Prelude.{◌≡◌, ℕ, ◌<◌, ◌≤◌, [], ◌∷◌, ℤ, pos}
-use Rattle.std.proofs.Common.{arith, refl, sym, subst}
+-- Whole numbers among fractions, their quotients, and positive factors that can be taken away.
+use Rattle.std.specs.Prelude.{◌≡◌, ℕ, ◌≤◌, [], ◌∷◌, ℤ, pos, ◌-ℤ◌, neg_ℤ}
+use Rattle.std.proofs.Common.{arith, refl, sym, ap, subst, ◌∙◌}
 use Rattle.std.proofs.lemmas.Int.{ints}
 use Rattle.exact_algebra.specs.Solver.{number, ◌⊠◌, v0}
-use Rattle.exact_algebra.specs.Rational.{ℚ, ◌*ℚ◌, whole, inverse, quotient, *ℚ-inverse, ◌≤ℚ◌, ring_ℚ, ≤ℚ_mul}
-use Rattle.exact_algebra.specs.WholeNumbers.{same_from_whole, whole-le, le_from_whole}
+use Rattle.exact_algebra.specs.Rational.{ℚ, ◌+ℚ◌, ◌-ℚ◌, ◌*ℚ◌, whole, whole-add, inverse, quotient, *ℚ-inverse, ◌≤ℚ◌, ring_ℚ, ≤ℚ_mul}
+use Rattle.exact_algebra.specs.WholeNumbers.{same_from_whole, whole-le, le_from_whole, whole-neg}
 use Rattle.exact_algebra.specs.Inverses.{*ℚ_cancel}
 use Rattle.exact_algebra.specs.Order.{≤ℚ-from_mul}
 use Rattle.exact_algebra.specs.Quotients.{denominator-times}
@@ -20,6 +20,9 @@ inverse_of n h = *ℚ-inverse (whole (pos n)) (whole_nonzero n h)
 pub whole-quotient : (c : ℤ) (d : ℕ) → 1 ≤ d → whole c ≡ whole (pos d) *ℚ quotient c d
 whole-quotient c d h = sym (denominator-times c d h)
 
+pub whole-sub : (a b : ℤ) → whole (a -ℤ b) ≡ whole a -ℚ whole b
+whole-sub a b = whole-add a (neg_ℤ b) ∙ ap (λ z. whole a +ℚ z) (whole-neg b)
+
 pub whole_not_negative : (n : ℕ) → whole (pos 0) ≤ℚ whole (pos n)
 whole_not_negative n = whole-le (pos 0) (pos n) (omega (arith, ints))
 
@@ -32,7 +35,3 @@ cancel_whole n x y h e = *ℚ_cancel x y (whole (pos n)) (whole_nonzero n h) e
 
 pub cancel_whole_le : (n : ℕ) (x y : ℚ) → 1 ≤ n → (whole (pos n) *ℚ x) ≤ℚ (whole (pos n) *ℚ y) → x ≤ℚ y
 cancel_whole_le n x y h e = ≤ℚ-from_mul x y (whole (pos n)) (λ below. absurd (omega (arith, ints, le_from_whole (pos n) (pos 0) below))) e
-
--- c/d is v in each of the first n places
-pub record IsOver (n : ℕ) (c : ℕ → ℤ) (d : ℕ) (v : ℕ → ℚ) : Type 0 where
-  pub each : (k : ℕ) → k < n → whole (c k) ≡ whole (pos d) *ℚ v k

@@ -1,7 +1,7 @@
 -- Law. What the laws of quantile regression say; each is the contract of a function (Koenker 2005, chapter 6).
-use Rattle.std.specs.Prelude.{◌≡◌, ◌↔◌, ℕ, ◌+◌, ◌*◌, ◌<◌, ◌≤◌, List, length, map, slice_get, Some, ℤ, pos}
-use Rattle.exact_algebra.specs.Rational.{ℚ, ◌*ℚ◌, whole, ◌≤ℚ◌, quotient}
-use Rattle.exact_algebra.specs.Fraction.{Fraction, rational, common}
+use Rattle.std.specs.Prelude.{◌≡◌, ℕ, ◌+◌, ◌<◌, ◌≤◌, List, length, slice_get, Some, pos}
+use Rattle.exact_algebra.specs.Rational.{ℚ, whole, ◌≤ℚ◌}
+use Rattle.exact_algebra.specs.Fraction.{Fraction, rational}
 use Rattle.loss_model.specs.declared.problem.Problem.{Problem}
 use Rattle.loss_model.specs.declared.vertex.Side.{Side}
 use Rattle.loss_model.specs.declared.vertex.Side.TheVariants.{Up, Down}
@@ -11,8 +11,6 @@ use Rattle.loss_model.specs.Dual.{IsFeasible, dual_objective, IsDual, mix, IsDat
 use Rattle.loss_model.specs.Vertex.{value_of_side, IsOn, dual_value}
 use Rattle.loss_model.specs.Segment.{Segments, Covers}
 use Rattle.loss_model.specs.Problem.{value_at, sample}
-use Rattle.loss_model.specs.Scaled.{Scaled, unit, scaled, over_at, between, mixed}
-use Rattle.loss_model.specs.Scaled as integers
 
 -- no feasible dual values have an objective above the loss of any coefficients
 abbrev pub WeakDuality : Type 0
@@ -97,46 +95,3 @@ SidesAreScores {F} value p v =
     (theta : ℚ) (basic : List F) (i : ℕ) → IsDataRow (sample value p) i
     → (slice_get v.sides i ≡ Some Up → rankscore (sample value p) theta (dual_value value p v basic theta) i ≡ whole (pos 1))
     × (slice_get v.sides i ≡ Some Down → rankscore (sample value p) theta (dual_value value p v basic theta) i ≡ whole (pos 0))
-
--- the loss in whole numbers at c/d and s/t is that in fractions, in units of 1/(Q*t * Q*d)
-abbrev pub LossInIntegers : {F : Type 0} → (F → Fraction) → Problem F → Type 0
-LossInIntegers value p =
-    let q = whole (pos (unit value p)) in
-    (theta : Fraction) (c : ℕ → ℤ) (d : ℕ) → 1 ≤ theta.den → 1 ≤ d
-    → whole (integers.loss (scaled value p) theta c d)
-    ≡ ((q *ℚ whole (pos theta.den)) *ℚ (q *ℚ whole (pos d))) *ℚ loss (sample value p) (rational theta) (λ k. quotient (c k) d)
-
--- c/d minimises among fractions exactly where it does among whole numbers
-abbrev pub MinimisesInIntegers : {F : Type 0} → (F → Fraction) → Problem F → Type 0
-MinimisesInIntegers value p =
-    (theta : Fraction) (c : ℕ → ℤ) (d : ℕ) → 1 ≤ theta.den → 1 ≤ d
-    → (Minimises (sample value p) (rational theta) (λ k. quotient (c k) d)
-    ↔ integers.Minimises (scaled value p) theta c d)
-
--- and e/(Q*g) are dual values among fractions exactly where they are among whole numbers
-abbrev pub DualsInIntegers : {F : Type 0} → (F → Fraction) → Problem F → Type 0
-DualsInIntegers value p =
-    (theta : Fraction) (c : ℕ → ℤ) (d : ℕ) (e : ℕ → ℤ) (g : ℕ) → 1 ≤ theta.den → 1 ≤ d → 1 ≤ g
-    → (IsDual (sample value p) (rational theta) (λ k. quotient (c k) d)
-    (λ i. quotient (e i) (unit value p * g))
-    ↔ integers.IsDual (scaled value p) theta c d e g)
-
--- every list of fractions is a vector of whole numbers over the product of its denominators
-abbrev pub ListIsOver : {F : Type 0} → (F → Fraction) → List F → Type 0
-ListIsOver value xs =
-    let d = common (map value xs) in
-    (1 ≤ d) × ((k : ℕ) → value_at value xs k ≡ quotient (over_at value d xs k) d)
-
--- dual values in whole numbers show a minimum
-abbrev pub DualsShowMinimumInIntegers : Type 0
-DualsShowMinimumInIntegers =
-    (p : Scaled) (theta : Fraction) (c : ℕ → ℤ) (d : ℕ) (e : ℕ → ℤ) (g : ℕ)
-    → 1 ≤ theta.den → 1 ≤ d → 1 ≤ g → integers.IsDual p theta c d e g → integers.Minimises p theta c d
-
--- and those of two parameters mix
-abbrev pub MixIsDualInIntegers : Type 0
-MixIsDualInIntegers =
-    (p : Scaled) (lo hi : Fraction) (c : ℕ → ℤ) (d : ℕ) (e f : ℕ → ℤ) (g h m n : ℕ)
-    → 1 ≤ lo.den → 1 ≤ hi.den → 1 ≤ d → 1 ≤ g → 1 ≤ h → 0 < m + n
-    → integers.IsDual p lo c d e g → integers.IsDual p hi c d f h
-    → integers.IsDual p (between m n lo hi) c d (mixed m n e g f h) ((m + n) * (g * h))

@@ -3,7 +3,6 @@ pub mod Dual
 pub mod Problem
 pub mod Vertex
 pub mod Segment
-pub mod Scaled
 pub mod Laws
 pub mod FullRank
 pub mod Greedy

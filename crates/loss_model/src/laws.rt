@@ -1,6 +1,6 @@
 //! The laws of losses and dual values. No function here does anything: its contract is the law.
 
-ghost use Rattle.loss_model.specs.Laws.{WeakDuality, DualsShowMinimum, DualsAreGreatest, SidesShowDuals, VertexIsDual, MixIsDual, IntervalIsMixes, MinimisesBetween, CoversEveryValue, RankscoresAreBounded, AboveScoresOne, BelowScoresZero, SidesAreScores, DualsShowMinimumInIntegers, MixIsDualInIntegers, LossInIntegers, MinimisesInIntegers, DualsInIntegers, ListIsOver};
+ghost use Rattle.loss_model.specs.Laws.{WeakDuality, DualsShowMinimum, DualsAreGreatest, SidesShowDuals, VertexIsDual, MixIsDual, IntervalIsMixes, MinimisesBetween, CoversEveryValue, RankscoresAreBounded, AboveScoresOne, BelowScoresZero, SidesAreScores};
 
 use crate::problem::Problem;
 use crate::vertex::Vertex;
@@ -48,24 +48,4 @@ pub fn rankscores_outside<F: Exact>(problem: &Problem<F>, vertex: &Vertex<F>)
     ensures above { AboveScoresOne }
     ensures below { BelowScoresZero }
     ensures vertex { SidesAreScores F.value problem.now vertex.now }
-{}
-
-/// Dual values show a minimum, and mix.
-pub fn duality_in_integers()
-    ensures minimum { DualsShowMinimumInIntegers }
-    ensures mixed { MixIsDualInIntegers }
-{}
-
-/// A loss among fractions is one among whole numbers in other units. So what minimises, and what is
-/// dual, among fractions is so among whole numbers, and the other way round: for the problem in
-/// units of the product of all its denominators.
-pub fn minima_in_integers<F: Exact>(problem: &Problem<F>)
-    ensures loss { LossInIntegers F.value problem.now }
-    ensures minimum { MinimisesInIntegers F.value problem.now }
-    ensures dual { DualsInIntegers F.value problem.now }
-{}
-
-/// A list of fractions is a vector of whole numbers over the product of its denominators.
-pub fn vector_in_integers<F: Exact>(values: &[F])
-    ensures { ListIsOver F.value values.now }
 {}

@@ -5,6 +5,7 @@
 //! with stand here, so that who reads them needs no solver. It stands on `rq_words`, `data_frame`,
 //! `formula_parser`, `design_matrix` and `rq_program` for their faults, on `loss_model` and
 //! `rankscores` for what a fit holds, and on `itoa`.
+//! Its tests stand in the crate `report_tests`.
 #![tactic(auto)]
 
 mod fault;

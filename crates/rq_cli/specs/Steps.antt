@@ -41,6 +41,7 @@ pub record IsHalfTold (fault outcome : Outcome) (err err' : Stream) : Type 0 whe
   pub part : AppendsPart err.bytes err'.bytes (outcome_line fault)
   pub rose : Rose err.faults err'.faults
 
+-- the line of a fault was added, or the sink failed behind a part of it
 abbrev pub WasTold : Outcome → Outcome → Stream → Stream → Type 0
 WasTold fault outcome err err' = IsTold fault outcome err err' ⊎ IsHalfTold fault outcome err err'
 
@@ -59,5 +60,6 @@ pub record IsHalfPrinted (report : Report) (outcome : Outcome) (out out' err err
   pub rose : Rose out.faults out'.faults
   pub tried : WasTried err err' sink_line
 
+-- the text of a report was added, or the sink failed behind a part of it
 abbrev pub WasPrinted : Report → Outcome → Stream → Stream → Stream → Stream → Type 0
 WasPrinted report outcome out out' err err' = IsPrinted report outcome out out' err err' ⊎ IsHalfPrinted report outcome out out' err err'

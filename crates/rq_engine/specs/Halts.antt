@@ -10,6 +10,7 @@ use Rattle.report_text.specs.declared.report.Place.TheVariants.{Process}
 use Rattle.report_text.specs.declared.report.Halt.{Halt}
 use Rattle.report_text.specs.declared.report.Halt.TheVariants.{Refused, OutOfMemory, PivotLimit, Overflow}
 
+-- the halt of a stop of the solver
 abbrev pub stop_halt : Stop Frac128 → Halt
 stop_halt stops.OutOfMemory = OutOfMemory
 stop_halt (stops.PivotLimit limit trail) = PivotLimit Process limit trail

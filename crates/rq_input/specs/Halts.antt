@@ -11,18 +11,22 @@ use Rattle.report_text.specs.declared.report.Refusal.TheVariants.{Table, Formula
 use Rattle.report_text.specs.declared.report.Halt.{Halt}
 use Rattle.report_text.specs.declared.report.Halt.TheVariants.{Refused, OutOfMemory}
 
+-- the halt of a faulty table
 abbrev pub table_halt : TableFault → Halt
 table_halt tables.OutOfMemory = OutOfMemory
 table_halt fault = Refused (Table fault)
 
+-- that of a faulty formula
 abbrev pub formula_halt : FormulaFault → Halt
 formula_halt formulas.OutOfMemory = OutOfMemory
 formula_halt fault = Refused (Formula fault)
 
+-- that of a table without a design
 abbrev pub design_halt : DesignFault → Halt
 design_halt designs.OutOfMemory = OutOfMemory
 design_halt fault = Refused (Design fault)
 
+-- that of a design without a problem
 abbrev pub program_halt : ProgramFault → Halt
 program_halt programs.OutOfMemory = OutOfMemory
 program_halt fault = Refused (Program fault)

@@ -16,22 +16,15 @@ struct Path {
 }
 
 /// The trail is this one, and its steps are at theta.
-fn expect_trail<F: Exact>(
-    rt: &impl Abort,
-    alloc: Global,
-    trail: &Trail<F>,
-    theta: F,
-    want: &Path,
-) -> Result<(), AllocError> {
+fn expect_trail<F: Exact>(rt: &impl Abort, trail: &Trail<F>, theta: F, want: &Path) {
     assert!(rt; trail.start.as_slice() == want.start);
-    let mut steps = Vec::new(alloc);
-    for step in trail.steps.as_slice() {
+    let steps = trail.steps.as_slice();
+    assert!(rt; steps.len() == want.steps.len());
+    for (step, (position, row)) in steps.iter().zip(want.steps) {
         assert!(rt; step.theta.compare(theta).is_eq());
-        steps.push((step.position, step.row))?;
+        assert!(rt; step.position == *position && step.row == *row);
     }
-    assert!(rt; steps.as_slice() == want.steps);
     assert!(rt; trail.rise.as_slice().is_empty() && trail.fall.as_slice().is_empty());
-    Ok(())
 }
 
 /// Two medians apart: the first column alone has the responses 3, 2 and 1, and the second alone
@@ -51,31 +44,29 @@ static APART: [Data; 6] = [
     ([1, 0, 0], 1, 1),
 ];
 
-fn expect_apart<F: Exact>(
-    rt: &impl Abort,
-    alloc: Global,
-    solved: &Solved<F>,
-    theta: F,
-) -> Result<(), AllocError> {
-    let path = Path {
-        start: &[Some(0), Some(1)],
-        steps: &[(1, 3), (0, 5)],
-    };
-    expect_trail(rt, alloc, &solved.trail, theta, &path)?;
+/// Its trail.
+static BOTH: Path = Path {
+    start: &[Some(0), Some(1)],
+    steps: &[(1, 3), (0, 5)],
+};
+
+/// The sides of its rows at the optimum.
+static BESIDE: [Side; 6] = [
+    Side::Up,
+    Side::Up,
+    Side::Up,
+    Side::Basic,
+    Side::Up,
+    Side::Basic,
+];
+
+fn expect_apart<F: Exact>(rt: &impl Abort, solved: &Solved<F>, theta: F) {
+    expect_trail(rt, &solved.trail, theta, &BOTH);
     assert!(rt; solved.basis.rows.as_slice() == [5, 3].as_slice());
     assert!(rt; solved.vertex.basis.rows.as_slice() == [3, 5].as_slice());
-    expect(rt, alloc, &solved.vertex.coef, &[(1, 1), (10, 1)])?;
-    expect(rt, alloc, &solved.basic, &[(-1, 1), (-1, 2)])?;
-    let sides = [
-        Side::Up,
-        Side::Up,
-        Side::Up,
-        Side::Basic,
-        Side::Up,
-        Side::Basic,
-    ];
-    assert!(rt; solved.vertex.sides.as_slice() == sides.as_slice());
-    Ok(())
+    expect(rt, &solved.vertex.coef, &[(1, 1), (10, 1)]);
+    expect(rt, &solved.basic, &[(-1, 1), (-1, 2)]);
+    assert!(rt; solved.vertex.sides.as_slice() == BESIDE.as_slice());
 }
 
 /// What the first pivots of the two are.
@@ -106,19 +97,21 @@ fn expect_limit<F: Exact>(
             },
         ) => {
             assert!(rt; shown == limit);
-            expect_trail(rt, alloc, &trail, theta, path)
+            expect_trail(rt, &trail, theta, path);
         }
         _ => panic!(rt; "a pivot is left"),
     }
+    Ok(())
 }
 
 fn expect_pivots<F: Exact>(rt: &impl Abort, alloc: Global, limit: u32) -> Result<(), AllocError> {
     let apart = problem::<F>(rt, alloc, 2, 1, APART.as_slice())?;
     let theta = fraction(rt, (1, 4));
     match solve(rt, alloc, &apart, theta, limit) {
-        Ok(solved) => expect_apart(rt, alloc, &solved, theta),
+        Ok(solved) => expect_apart(rt, &solved, theta),
         Err(_) => panic!(rt; "two pivots suffice"),
     }
+    Ok(())
 }
 
 #[test]
@@ -163,10 +156,11 @@ fn expect_overflow<F: Exact>(
             assert!(rt; spill.site == case.site);
             assert!(rt; ratio(spill.left) == case.left);
             assert!(rt; ratio(spill.right) == case.right);
-            expect_trail(rt, alloc, &trail, theta, &case.path)
+            expect_trail(rt, &trail, theta, &case.path);
         }
         _ => panic!(rt; "an operation overflows"),
     }
+    Ok(())
 }
 
 const WIDE_64: i128 = 4_611_686_018_427_387_904;
@@ -364,9 +358,10 @@ fn expect_dependence<F: Exact>(
 ) -> Result<(), AllocError> {
     let rows = problem::<F>(rt, alloc, case.columns, case.over, case.rows)?;
     match solve(rt, alloc, &rows, fraction(rt, (1, 2)), 100) {
-        Err(Stop::Dependent { combination }) => expect(rt, alloc, &combination, case.combination),
+        Err(Stop::Dependent { combination }) => expect(rt, &combination, case.combination),
         _ => panic!(rt; "the columns are dependent"),
     }
+    Ok(())
 }
 
 #[test]

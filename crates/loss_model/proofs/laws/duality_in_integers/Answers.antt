@@ -1,5 +1,0 @@
-use Rattle.loss_model.proofs.Integers as law
-use Rattle.loss_model.proofs.laws.duality_in_integers.Goals as goal
-
-pub returns : goal.returns
-returns c = record { minimum = law.minimum_of; mixed = law.mixed_of }

@@ -1,0 +1,5 @@
+pub mod CommonDenominators
+pub mod Scales
+pub mod Integers
+pub mod Denominators
+pub mod Ranks

@@ -1,0 +1,32 @@
+//! The laws of the regression in whole numbers. No function here does anything: its contract is the law.
+
+ghost use Rattle.whole_model.specs.Laws.{DualsShowMinimumInIntegers, MixIsDualInIntegers, LossInIntegers, MinimisesInIntegers, DualsInIntegers, FullRankInIntegers, ListIsOver};
+
+use frac_core::Exact;
+use loss_model::Problem;
+
+/// Dual values in whole numbers show a minimum, and those of two quantiles mix.
+pub fn duality_in_integers()
+    ensures minimum { DualsShowMinimumInIntegers }
+    ensures mixed { MixIsDualInIntegers }
+{}
+
+/// A loss among fractions is one among whole numbers in other units. So what minimises, and what is
+/// dual, among fractions is so among whole numbers, and the other way round: for the problem in
+/// units of the product of all its denominators.
+pub fn minima_in_integers<F: Exact>(problem: &Problem<F>)
+    ensures loss { LossInIntegers F.value problem.now }
+    ensures minimum { MinimisesInIntegers F.value problem.now }
+    ensures dual { DualsInIntegers F.value problem.now }
+{}
+
+/// A problem has full rank among fractions exactly where it has among whole numbers, in units of the
+/// product of all its denominators.
+pub fn full_rank_in_integers<F: Exact>(problem: &Problem<F>)
+    ensures { FullRankInIntegers F.value problem.now }
+{}
+
+/// A list of fractions is a vector of whole numbers over the product of its denominators.
+pub fn vector_in_integers<F: Exact>(values: &[F])
+    ensures { ListIsOver F.value values.now }
+{}
