@@ -64,7 +64,7 @@ module _ (p : Sample) (side : ℕ → Side) (part : Part) (k i : ℕ) where
           (
             outside,
             subst P count
-            (same_term value range (site_of NonbasicTotal k (part_number part) terms) s first (partial_sum (total_products p side part k) i) left (p.x i k) right (bound_part p part i (side i)) before l r h),
+                (same_term value range (site_of NonbasicTotal k (part_number part) terms) s first (partial_sum (total_products p side part k) i) left (p.x i k) right (bound_part p part i (side i)) before l r h),
           ),
         );
       }

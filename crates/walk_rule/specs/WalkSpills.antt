@@ -3,6 +3,7 @@
 use Rattle.std.specs.Prelude.{◌≡◌, ◌⊎◌, ℕ, ◌<◌, Bool, true, pos}
 use Rattle.exact_algebra.specs.Fraction.{Fraction}
 use Rattle.exact_algebra.specs.Rational.{ℚ, ◌-ℚ◌, whole}
+use Rattle.frac_core.specs.declared.exact.OpKind.{OpKind}
 use Rattle.frac_core.specs.declared.exact.OpKind.TheVariants.{Sub, Div}
 use Rattle.loss_model.specs.declared.spill.Quantity.TheVariants.{DualValue, Crossing, Loss}
 use Rattle.loss_model.specs.declared.spill.Spill.{Spill}
@@ -22,13 +23,18 @@ use Rattle.walk_rule.specs.Families.{Family, over_quantiles, slope_part}
 use Rattle.walk_rule.specs.Walks.{side_towards, HasNoBreak, IsNextBreak, IsWalkingStep}
 use Rattle.walk_rule.specs.WalkTrails.{is_below, is_within}
 
+-- an operation of the crossing of position j in direction d
+abbrev pub IsCrossingOperation : {F : Type 0} → (F → Fraction) → ℕ → ℕ → Direction → ℕ → OpKind → ℚ → ℚ → Spill F → Type 0
+IsCrossingOperation value range j d term kind left right s =
+    IsOperation value range (record (site_of Crossing j (direction_number d) term) { kind = kind }) left right s
+
 -- a bound and a dual value in two parts each: at what is missing to the bound, at the gain on it, or at
 -- their quotient, which is made for a bound alone that the dual value passes beyond
 abbrev pub IsMeetingSpill : {F : Type 0} → (F → Fraction) → ℕ → ℕ → Direction → ℚ → ℚ → ℚ → ℚ → Type 0 → Spill F → Type 0
 IsMeetingSpill value range j d bound0 bound1 dual0 dual1 Passes s =
-    IsOperation value range (record (site_of Crossing j (direction_number d) 1) { kind = Sub }) bound0 dual0 s
-    ⊎ (IsOperation value range (record (site_of Crossing j (direction_number d) 2) { kind = Sub }) dual1 bound1 s
-    ⊎ (Passes × IsOperation value range (record (site_of Crossing j (direction_number d) 3) { kind = Div }) (bound0 -ℚ dual0) (dual1 -ℚ bound1) s))
+    IsCrossingOperation value range j d 1 Sub bound0 dual0 s
+    ⊎ (IsCrossingOperation value range j d 2 Sub dual1 bound1 s
+    ⊎ (Passes × IsCrossingOperation value range j d 3 Div (bound0 -ℚ dual0) (dual1 -ℚ bound1) s))
 
 module _ {F : Type 0} (value : F → Fraction) (range : ℕ) (f : Family) (at : ℕ → ℕ) (a : ℕ → ℕ → ℚ) (reach : ℚ → Bool) (from : ℚ) where
   -- at the next breakpoint: at the first entry of the ratio of a row that moves, where two of them are
