@@ -1,5 +1,5 @@
 -- Stated. The design of a table and a formula.
-use Rattle.std.specs.Prelude.{◌≡◌, ◌<◌, ◌≤◌, ℕ, ◌+◌, ◌-◌, ◌^◌, List, [], length, map, pos, All, slice_index_or, take}
+use Rattle.std.specs.Prelude.{◌<◌, ◌≤◌, ℕ, ◌+◌, ◌-◌, ◌^◌, List, [], length, map, pos, All, slice_index_or, take}
 use Rattle.exact_algebra.specs.Rational.{ℚ, whole}
 use Rattle.contrasts.specs.declared.Coding.{Coding}
 use Rattle.frac_core.specs.declared.exact.OpKind.TheVariants.{Mul}
