@@ -44,6 +44,7 @@ printf 'y,x\n1,2\n3\n' > "$room/ragged"
 try "a report" 0 "" "$report" "$table" "${job[@]}"
 try "no words" 2 $'quantreg: usage: NoJob\n' "$nothing" "$table"
 try "a range that falls" 2 $'quantreg: usage: BadRange\n' "$nothing" "$table" process --formula "y ~ x" --lo 3/4 --hi 1/4
+try "a word that isn't UTF-8" 5 "" "$nothing" "$table" $'\xff'
 try "an empty input" 1 $'quantreg: table: NoHeader\n' "$nothing" "$nothing" "${job[@]}"
 try "a short record" 1 $'quantreg: table: Ragged record=2 found=1 wanted=2\n' "$nothing" "$room/ragged" process --formula "y ~ x" --lo 1/2 --hi 1/2
 try "a name that is no column" 1 $'quantreg: formula: UnknownName offset=4\n' "$nothing" "$room/two" process --formula "y ~ z" --lo 1/2 --hi 1/2

@@ -1,11 +1,9 @@
 -- Quantities that are made of equal parts are equal, and so are their spills.
 use Rattle.std.specs.Prelude.{◌≡◌, ℕ, zero, suc, ◌+◌, ◌<◌, if◌then◌else◌}
-use Rattle.std.proofs.Common.{arith, refl, sym, ap, ap₂, ◌∙◌}
+use Rattle.std.proofs.Common.{arith, refl, sym, ap, ap₂, subst, ◌∙◌}
 use Rattle.exact_algebra.specs.Fraction.{Fraction}
 use Rattle.exact_algebra.specs.Rational.{ℚ, ◌-ℚ◌, ◌*ℚ◌, neg_ℚ}
 use Rattle.exact_algebra.specs.RationalSums.{sum_ℚ-same}
-use Rattle.frac_core.specs.declared.exact.OpKind.{OpKind}
-use Rattle.frac_core.specs.declared.exact.OpKind.TheVariants.{Add, Sub, Mul, Div}
 use Rattle.loss_model.specs.declared.spill.Quantity.TheVariants.{Residual, NonbasicTotal, BasicDual}
 use Rattle.loss_model.specs.declared.spill.Spill.{Spill}
 use Rattle.loss_model.specs.declared.spill.Short.{Short}
@@ -13,7 +11,8 @@ use Rattle.loss_model.specs.declared.spill.Short.TheVariants.{OutOfMemory, Overf
 use Rattle.loss_model.specs.Quantities.{IsShortOf}
 use Rattle.loss_model.specs.declared.vertex.Side.{Side}
 use Rattle.loss_model.specs.Sample.{Sample, residual}
-use Rattle.loss_model.specs.Spill.{AreOperands, site_of, residual_products, IsResidualSpill}
+use Rattle.loss_model.specs.Spill.{partial_sum, IsProductSpill, site_of, residual_products, IsResidualSpill}
+use Rattle.loss_model.proofs.Products.{same_term}
 use Rattle.basis_model.specs.declared.part.Part.{Part}
 use Rattle.basis_model.specs.Parts.{part_number}
 use Rattle.basis_model.specs.Basis.{bound_part, nonbasic_total, balancing}
@@ -45,27 +44,22 @@ module _ (p : Sample) (side other : ℕ → Side) (same : (i : ℕ) → i < p.ro
       ap₂ (λ n s. n + (if is_basic s then 0 else 1)) (before-same i (λ m l. within m (omega arith))) (same i (within i (omega arith)))
 
   pub total_spill-same : {F : Type 0} (value : F → Fraction) (range : ℕ) (s : Spill F) → IsTotalSpill value range p side part k s → IsTotalSpill value range p other part k s
-  total_spill-same {F} value range s h =
+  total_spill-same value range s h =
+      let i = h.at_row.0 in
+      let l = h.at_row.1 in
+      let P : ℕ → Type 0 = λ n. IsProductSpill value range (site_of NonbasicTotal k (part_number part) n) (total_products p other part k) i s in
       record {
-        row = h.row;
-        within = h.within;
-        outside = sym (ap is_basic (same h.row h.within)) ∙ h.outside;
-        named = h.named ∙ ap (λ n. record (site_of NonbasicTotal k (part_number part) (n + 1)) { kind = s.site.kind }) (before-same h.row below);
-        operands = by s.site.kind _ _ h.operands;
-        overflows = h.overflows;
+        at_row = (
+          i,
+          l,
+          (
+            sym (ap is_basic (same i l)) ∙ h.at_row.2.0,
+            subst P (before-same i (λ m lm. omega (arith, l, lm)))
+                (same_term value range (site_of NonbasicTotal k (part_number part) (outside_before side i)) s (partial_sum (total_products p side part k) i) (partial_sum (total_products p other part k) i) (p.x i k) (p.x i k) (bound_part p part i (side i)) (bound_part p part i (other i))
+                (partial_sum-same (total_products p side part k) (total_products p other part k) refl refl (λ i l. refl) bound-same i (λ m lm. omega (arith, l, lm))) refl (bound-same i l) h.at_row.2.1),
+          ),
+        );
       }
-    where
-      below : (m : ℕ) → m < h.row → m < p.rows
-      below m l = omega (arith, h.within)
-
-      by : (kind : OpKind) (x y : ℚ) → AreOperands (total_products p side part k) kind h.row x y → AreOperands (total_products p other part k) kind h.row x y
-      by Mul x y at = (at.0, at.1 ∙ bound-same h.row h.within)
-      by Add x y at = (
-        at.0 ∙ partial_sum-same (total_products p side part k) (total_products p other part k) refl refl (λ i l. refl) bound-same h.row below,
-        at.1 ∙ ap (λ z. p.x h.row k *ℚ z) (bound-same h.row h.within),
-      )
-      by Sub x y at = absurd at
-      by Div x y at = absurd at
 
 -- values that balance equal totals
 module _ (n : ℕ) (a : ℕ → ℕ → ℚ) (t u : ℕ → ℚ) (same : (k : ℕ) → k < n → t k ≡ u k) where

@@ -1,6 +1,6 @@
 -- Totals over the rows outside a basis, row by row.
 use Rattle.std.specs.Prelude.{◌≡◌, ℕ, zero, suc, ◌+◌, ◌<◌, ◌≤◌, Bool, true, false, if◌then◌else◌, [], ◌∷◌, pos}
-use Rattle.std.proofs.Common.{arith, refl, sym, ap, ◌∙◌, add-one}
+use Rattle.std.proofs.Common.{arith, refl, sym, ap, subst, ◌∙◌, add-one}
 use Rattle.exact_algebra.specs.Fraction.{Fraction}
 use Rattle.exact_algebra.specs.Solver.{number, ◌⊞◌, ◌⊠◌, v0, v1}
 use Rattle.exact_algebra.specs.Rational.{ℚ, whole, ring_ℚ}
@@ -9,12 +9,13 @@ use Rattle.loss_model.specs.declared.spill.Spill.{Spill}
 use Rattle.loss_model.specs.declared.vertex.Side.{Side}
 use Rattle.loss_model.specs.declared.vertex.Side.TheVariants.{Up, Down, Basic}
 use Rattle.loss_model.specs.Sample.{Sample}
-use Rattle.loss_model.specs.Spill.{partial_sum, one_product, site_of, IsSpillOf}
+use Rattle.loss_model.specs.Spill.{partial_sum, site_of, IsTermSpill, IsProductSpill}
+use Rattle.loss_model.proofs.Products.{same_term}
 use Rattle.basis_model.specs.declared.part.Part.{Part}
 use Rattle.basis_model.specs.declared.part.Part.TheVariants.{Constant, Linear}
 use Rattle.basis_model.specs.Parts.{part_number}
 use Rattle.basis_model.specs.Basis.{bound_part}
-use Rattle.basis_model.specs.Sums.{partial_sum-more, step_operands}
+use Rattle.basis_model.specs.Sums.{partial_sum-more}
 use Rattle.basis_model.specs.BasisSpills.{is_basic, total_products, outside_before, IsTotalSpill}
 
 pub outside_before-le : (side : ℕ → Side) (i : ℕ) → outside_before side i ≤ i
@@ -53,19 +54,17 @@ module _ (p : Sample) (side : ℕ → Side) (part : Part) (k i : ℕ) where
   -- a spill of the product of a row outside
   pub total_spill : {F : Type 0} (value : F → Fraction) (range terms : ℕ) (first left right : ℚ) (s : Spill F) → i < p.rows → is_basic (side i) ≡ false → terms ≡ outside_before side i
       → first ≡ partial_sum (total_products p side part k) i → left ≡ p.x i k → right ≡ bound_part p part i (side i)
-      → IsSpillOf value range (site_of NonbasicTotal k (part_number part) terms) (one_product first left right) s → IsTotalSpill value range p side part k s
-  total_spill {F} value range terms first left right s within outside count before l r h =
+      → IsTermSpill value range (site_of NonbasicTotal k (part_number part) terms) first left right s → IsTotalSpill value range p side part k s
+  total_spill value range terms first left right s within outside count before l r h =
+      let P : ℕ → Type 0 = λ n. IsProductSpill value range (site_of NonbasicTotal k (part_number part) n) (total_products p side part k) i s in
       record {
-        row = i;
-        within = within;
-        outside = outside;
-        named = h.named ∙ ap (λ n. record (site_of NonbasicTotal k (part_number part) n) { kind = s.site.kind }) term;
-        operands = step_operands (total_products p side part k) i first left right before l r s.site.kind h.place one _ _ h.operands;
-        overflows = h.overflows;
+        at_row = (
+          i,
+          within,
+          (
+            outside,
+            subst P count
+                (same_term value range (site_of NonbasicTotal k (part_number part) terms) s first (partial_sum (total_products p side part k) i) left (p.x i k) right (bound_part p part i (side i)) before l r h),
+          ),
+        );
       }
-    where
-      one : h.place ≡ 0
-      one = let below : h.place < 1 = h.within in omega arith
-
-      term : terms + h.place + 1 ≡ outside_before side i + 1
-      term = omega (arith, one, count)

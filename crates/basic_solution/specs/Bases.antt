@@ -1,5 +1,5 @@
 -- Inner. What the quantities at a basis are computed from.
-use Rattle.std.specs.Prelude.{◌≡◌, ℕ, ◌<◌, List, length, slice_get, slice_index, unwrap_or, pos}
+use Rattle.std.specs.Prelude.{◌≡◌, ℕ, List, length, slice_get, slice_index, unwrap_or, pos}
 use Rattle.exact_algebra.specs.Fraction.{Fraction, rational}
 use Rattle.exact_algebra.specs.Rational.{ℚ, neg_ℚ, whole}
 use Rattle.exact_matrices.specs.Selections.{AreDistinct}
@@ -9,7 +9,7 @@ use Rattle.loss_model.specs.declared.spill.Spill.{Spill}
 use Rattle.loss_model.specs.declared.vertex.Side.{Side}
 use Rattle.loss_model.specs.declared.vertex.Side.TheVariants.{Up, Down, Basic}
 use Rattle.loss_model.specs.Sample.{Sample}
-use Rattle.loss_model.specs.Spill.{IsResidualSpill}
+use Rattle.loss_model.specs.Spill.{AtSome, IsResidualSpill}
 use Rattle.loss_model.specs.Quantities.{IsCoordinateSpill, IsCoordinatesSpill}
 use Rattle.basis_inverse.specs.Square.{Square}
 use Rattle.basis_model.specs.declared.part.Part.{Part}
@@ -37,24 +37,24 @@ bound_of value r Linear Basic = whole (pos 0)
 
 -- at the coefficient of some column
 abbrev pub IsCoefficientsSpill : {F : Type 0} → (F → Fraction) → ℕ → Sample → (ℕ → ℕ) → (ℕ → ℕ → ℚ) → Spill F → Type 0
-IsCoefficientsSpill value range p at a s = (k : ℕ) × (k < p.columns) × IsCoefficientSpill value range p at a k s
+IsCoefficientsSpill value range p at a s = AtSome p.columns (λ k. IsCoefficientSpill value range p at a k s)
 
 -- at the residual of some row
 abbrev pub IsResidualsSpill : {F : Type 0} → (F → Fraction) → ℕ → Sample → (ℕ → ℚ) → Spill F → Type 0
-IsResidualsSpill value range p b s = (i : ℕ) × (i < p.rows) × IsResidualSpill value range p b i s
+IsResidualsSpill value range p b s = AtSome p.rows (λ i. IsResidualSpill value range p b i s)
 
 -- at the coordinate of some row at position j
 abbrev pub IsColumnSpill : {F : Type 0} → (F → Fraction) → ℕ → Sample → (ℕ → ℕ → ℚ) → ℕ → Spill F → Type 0
-IsColumnSpill value range p a j s = (i : ℕ) × (i < p.rows) × IsCoordinateSpill value range p.columns a (p.x i) i j s
+IsColumnSpill value range p a j s = AtSome p.rows (λ i. IsCoordinateSpill value range p.columns a (p.x i) i j s)
 
 -- at some coordinate of some row
 abbrev pub IsRowsSpill : {F : Type 0} → (F → Fraction) → ℕ → Sample → (ℕ → ℕ → ℚ) → Spill F → Type 0
-IsRowsSpill value range p a s = (i : ℕ) × (i < p.rows) × IsCoordinatesSpill value range p.columns a (p.x i) i s
+IsRowsSpill value range p a s = AtSome p.rows (λ i. IsCoordinatesSpill value range p.columns a (p.x i) i s)
 
 -- at the total of some column
 abbrev pub IsTotalsSpill : {F : Type 0} → (F → Fraction) → ℕ → Sample → (ℕ → Side) → Part → Spill F → Type 0
-IsTotalsSpill value range p side part s = (k : ℕ) × (k < p.columns) × IsTotalSpill value range p side part k s
+IsTotalsSpill value range p side part s = AtSome p.columns (λ k. IsTotalSpill value range p side part k s)
 
 -- at the balancing value of some position
 abbrev pub IsBalancingsSpill : {F : Type 0} → (F → Fraction) → ℕ → ℕ → (ℕ → ℕ → ℚ) → (ℕ → ℚ) → Part → Spill F → Type 0
-IsBalancingsSpill value range n a totals part s = (j : ℕ) × (j < n) × IsBalancingSpill value range n a totals part j s
+IsBalancingsSpill value range n a totals part s = AtSome n (λ j. IsBalancingSpill value range n a totals part j s)

@@ -4,6 +4,7 @@ use Rattle.exact_algebra.specs.Fraction.{Fraction}
 use Rattle.exact_algebra.specs.Rational.{ℚ}
 use Rattle.loss_model.specs.declared.spill.Spill.{Spill}
 use Rattle.loss_model.specs.Sample.{Sample, residual}
+use Rattle.loss_model.specs.Spill.{AtSome}
 use Rattle.loss_model.specs.Problem.{value_at}
 use Rattle.basis_model.specs.declared.part.Part.{Part}
 use Rattle.basis_model.specs.declared.part.Part.TheVariants.{Constant, Linear}
@@ -28,5 +29,5 @@ pub record IsSolution {F : Type 0} (value : F → Fraction) (p : Sample) (at : �
 -- at a total of a column, or at a basic dual value
 abbrev pub IsDualSpill : {F : Type 0} → (F → Fraction) → ℕ → Sample → (ℕ → ℕ) → (ℕ → ℕ → ℚ) → Spill F → Type 0
 IsDualSpill value range p at a s =
-    ((part : Part) × (k : ℕ) × (k < p.columns) × IsTotalSpill value range p (side_at p at a) part k s)
-    ⊎ ((part : Part) × (j : ℕ) × (j < p.columns) × IsBalancingSpill value range p.columns a (nonbasic_total p (side_at p at a) part) part j s)
+    ((part : Part) × AtSome p.columns (λ k. IsTotalSpill value range p (side_at p at a) part k s))
+    ⊎ ((part : Part) × AtSome p.columns (λ j. IsBalancingSpill value range p.columns a (nonbasic_total p (side_at p at a) part) part j s))

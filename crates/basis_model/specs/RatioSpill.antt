@@ -1,27 +1,23 @@
 -- Stated. The operations of perturbed ratios that overflow.
 use Rattle.std.specs.Prelude.{◌≡◌, ◌⊎◌, ℕ, ◌<◌, ◌≤◌}
-use Rattle.exact_algebra.specs.Fraction.{Fraction, rational}
-use Rattle.exact_algebra.specs.Rational.{ℚ}
-use Rattle.frac_core.specs.Overflow.{Overflows}
+use Rattle.exact_algebra.specs.Fraction.{Fraction}
 use Rattle.frac_core.specs.declared.exact.OpKind.TheVariants.{Div}
 use Rattle.loss_model.specs.declared.spill.Quantity.TheVariants.{PerturbedRatio}
+use Rattle.loss_model.specs.declared.spill.Site.{Site}
 use Rattle.loss_model.specs.declared.spill.Spill.{Spill}
 use Rattle.loss_model.specs.declared.vertex.Side.{Side}
-use Rattle.loss_model.specs.Spill.{abs_ℚ}
+use Rattle.loss_model.specs.Spill.{IsOperation, abs_ℚ}
 use Rattle.basis_model.specs.Perturbed.{Nonbasic, perturbed, perturbed_side, ratio_on}
 
--- the division of an entry of a perturbed residual by the size of a coordinate overflows; it makes
--- entry m of the perturbed ratio of a row at a position
-pub record IsDivisionSpill {F : Type 0} (value : F → Fraction) (range row position m : ℕ) (entry size : ℚ) (s : Spill F) : Type 0 where
-  pub named : s.site ≡ record { quantity = PerturbedRatio; first = row; second = position; third = m; term = 1; kind = Div }
-  pub is_entry : rational (value s.left) ≡ entry
-  pub is_size : rational (value s.right) ≡ size
-  pub overflows : Overflows range Div (value s.left) (value s.right)
+-- the division that makes entry m of the perturbed ratio of a row at a position
+abbrev pub ratio_site : ℕ → ℕ → ℕ → Site
+ratio_site row position m =
+    record { quantity = PerturbedRatio; first = row; second = position; third = m; term = 1; kind = Div }
 
--- the division that makes entry m of the perturbed ratio of row u at position j
+-- that of row u at position j: entry m of its perturbed residual over the absolute coordinate
 abbrev pub IsRatioEntrySpill : {F : Type 0} → (F → Fraction) → ℕ → ℕ → (ℕ → ℕ) → ℕ → Nonbasic → ℕ → Spill F → Type 0
 IsRatioEntrySpill value range n at j u m s =
-    IsDivisionSpill value range u.row j m (perturbed n at u m) (abs_ℚ (u.coord j)) s
+    IsOperation value range (ratio_site u.row j m) (perturbed n at u m) (abs_ℚ (u.coord j)) s
 
 -- an entry of one of two ratios on these sides overflows, and they agree at every entry before it
 pub record IsSpillOn {F : Type 0} (value : F → Fraction) (range rows n : ℕ) (at : ℕ → ℕ) (j : ℕ) (left right : Side) (u v : Nonbasic) (s : Spill F) : Type 0 where

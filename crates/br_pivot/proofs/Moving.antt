@@ -82,7 +82,7 @@ module _ {F : Type 0} (value : F → Fraction) (l : Line F) where
   ratio_spill range i c r size s line li here h read is_size is over =
       subst (IsStepSpill value range (model value l) (at_of value l) (inverse_of value l) (rational (value l.theta))) (sym is)
       (of_search l.position l.direction line.leaving
-      (of_ratio i li h (record { named = refl; is_entry = sym read ∙ line.residuals i li; is_size = is_size ∙ ap abs_ℚ here; overflows = over })))
+      (of_ratio i li h (record { named = refl; is_left = sym read ∙ line.residuals i li; is_right = is_size ∙ ap abs_ℚ here; overflows = over })))
 
   -- ---- row by row
 

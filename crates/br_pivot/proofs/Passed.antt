@@ -11,7 +11,8 @@ use Rattle.exact_matrices.specs.Selections.{is_among, AreDistinct, among, sum_�
 use Rattle.loss_model.specs.declared.spill.Spill.{Spill}
 use Rattle.loss_model.specs.declared.spill.Quantity.TheVariants.{Slope}
 use Rattle.loss_model.specs.Sample.{up_cost, down_cost}
-use Rattle.loss_model.specs.Spill.{IsUpCostSpill, IsDownCostSpill, IsSpillOf, one_product, site_of, abs_ℚ}
+use Rattle.loss_model.specs.Spill.{IsUpCostSpill, IsDownCostSpill, IsTermSpill, site_of, abs_ℚ}
+use Rattle.loss_model.proofs.Products.{same_term}
 use Rattle.basis_model.specs.BasisSpills.{IsCostSumSpill}
 use Rattle.basis_model.specs.Basis.{coord}
 use Rattle.pivot_rule.specs.Steps.{slope}
@@ -212,14 +213,14 @@ module _ {F : Type 0} (value : F → Fraction) (l : Line F) where
   pub pass_spill : (range : ℕ) (m : Mover F) (up down cost slope : F) (n : ℕ) (s : Spill F) → IsLine value l → IsMover value l m
       → rational (value up) ≡ up_cost (model value l) (rational (value l.theta)) m.row → rational (value down) ≡ down_cost (model value l) (rational (value l.theta)) m.row
       → rational (value cost) ≡ rational (value up) +ℚ rational (value down) → rational (value slope) ≡ slope_until value l m.row → n ≡ passed_until value l m.row
-      → IsSpillOf value range (site_of Slope l.position (direction_number l.direction) (n + 1)) (one_product (rational (value slope)) (rational (value m.size)) (rational (value cost))) s → IsLineSpill value range l s
+      → IsTermSpill value range (site_of Slope l.position (direction_number l.direction) (n + 1)) (rational (value slope)) (rational (value m.size)) (rational (value cost)) s → IsLineSpill value range l s
   unfolding IsLineSpill is_moving slope_until passed_until comes_before
   pass_spill range m up down cost slope n s line h u d c is counted k =
+      let size = abs_ℚ (coord (model value l) (inverse_of value l) m.row l.position) in
+      let costs = up_cost (model value l) (rational (value l.theta)) m.row +ℚ down_cost (model value l) (rational (value l.theta)) m.row in
       of_search l.position l.direction line.leaving (of_passing m.row h.row h.moves
-      (subst (λ y. IsSpillOf value range (site_of Slope l.position (direction_number l.direction) (y + 1)) (one_product (slope_until value l m.row) (abs_ℚ (coord (model value l) (inverse_of value l) m.row l.position)) (up_cost (model value l) (rational (value l.theta)) m.row +ℚ down_cost (model value l) (rational (value l.theta)) m.row)) s) counted
-      (subst (λ y. IsSpillOf value range (site_of Slope l.position (direction_number l.direction) (n + 1)) (one_product y (abs_ℚ (coord (model value l) (inverse_of value l) m.row l.position)) (up_cost (model value l) (rational (value l.theta)) m.row +ℚ down_cost (model value l) (rational (value l.theta)) m.row)) s) is
-      (subst (λ y. IsSpillOf value range (site_of Slope l.position (direction_number l.direction) (n + 1)) (one_product (rational (value slope)) y (up_cost (model value l) (rational (value l.theta)) m.row +ℚ down_cost (model value l) (rational (value l.theta)) m.row)) s) h.size_is
-      (subst (λ y. IsSpillOf value range (site_of Slope l.position (direction_number l.direction) (n + 1)) (one_product (rational (value slope)) (rational (value m.size)) y) s) (c ∙ ap₂ (λ y z. y +ℚ z) u d) k)))))
+      (subst (λ y. IsTermSpill value range (site_of Slope l.position (direction_number l.direction) (y + 1)) (slope_until value l m.row) size costs s) counted
+      (same_term value range (site_of Slope l.position (direction_number l.direction) (n + 1)) s (rational (value slope)) (slope_until value l m.row) (rational (value m.size)) size (rational (value cost)) costs is h.size_is (c ∙ ap₂ (λ y z. y +ℚ z) u d) k)))
 
   -- ---- the first item as it was read
 

@@ -1,10 +1,11 @@
 -- Inner. What is left at a basis.
-use Rattle.std.specs.Prelude.{ℕ, ◌<◌, List, slice_index}
+use Rattle.std.specs.Prelude.{ℕ, List, slice_index}
 use Rattle.exact_algebra.specs.Fraction.{Fraction}
 use Rattle.exact_algebra.specs.Rational.{ℚ}
 use Rattle.loss_model.specs.declared.problem.Problem.{Problem}
 use Rattle.loss_model.specs.declared.spill.Spill.{Spill}
 use Rattle.loss_model.specs.Problem.{sample}
+use Rattle.loss_model.specs.Spill.{AtSome}
 use Rattle.basis_model.specs.BasisSpills.{IsDualValueSpill}
 use Rattle.pivot_rule.specs.Steps.{HasNoNegativeSlope, IsSolvingStep}
 use Rattle.br_pivot.specs.declared.standing.Standing.{Standing}
@@ -27,4 +28,4 @@ IsNext value p theta basis a (Pivot position row) = IsSolvingStep (sample value 
 -- at one of the first n dual values at theta
 abbrev pub IsDualFault : {F : Type 0} → (F → Fraction) → ℕ → ℕ → (ℕ → ℚ) → (ℕ → ℚ) → ℚ → Spill F → Type 0
 IsDualFault value range n constant linear theta s =
-    (j : ℕ) × (j < n) × IsDualValueSpill value range (constant j) (linear j) theta j s
+    AtSome n (λ j. IsDualValueSpill value range (constant j) (linear j) theta j s)

@@ -5,7 +5,7 @@ use Rattle.exact_algebra.specs.Rational.{ℚ, ◌+ℚ◌, ◌-ℚ◌, whole, ◌
 use Rattle.loss_model.specs.declared.vertex.Side.TheVariants.{Up, Down}
 use Rattle.loss_model.specs.declared.spill.Spill.{Spill}
 use Rattle.loss_model.specs.Sample.{Sample, up_cost, down_cost}
-use Rattle.loss_model.specs.Spill.{IsUpCostSpill, IsDownCostSpill}
+use Rattle.loss_model.specs.Spill.{AtSome, IsUpCostSpill, IsDownCostSpill}
 use Rattle.basis_model.specs.BasisSpills.{IsSlopeSpill}
 use Rattle.pivot_rule.specs.declared.direction.Direction.{Direction}
 use Rattle.pivot_rule.specs.declared.direction.Direction.TheVariants.{Upward, Downward}
@@ -57,4 +57,4 @@ IsSteeper value first second taken =
 -- at a slope of one of the first n positions
 abbrev pub IsSomeSlopeFault : {F : Type 0} → (F → Fraction) → ℕ → Sample → ℚ → (ℕ → ℕ) → (ℕ → ℚ) → ℕ → Spill F → Type 0
 IsSomeSlopeFault value range p theta at e n s =
-    (j : ℕ) × (j < n) × IsSlopeFault value range p theta (at j) (e j) j s
+    AtSome n (λ j. IsSlopeFault value range p theta (at j) (e j) j s)

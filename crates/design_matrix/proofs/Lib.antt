@@ -11,3 +11,4 @@ pub mod Lengths
 pub mod Building
 pub mod Ascending
 pub mod Shapes
+pub mod Chosen

@@ -4,11 +4,10 @@ use Rattle.std.proofs.lemmas.List.{get_or-map, length-map, take_more}
 use Rattle.exact_algebra.specs.Rational.{ℚ, ◌*ℚ◌, whole}
 use Rattle.frac_core.specs.declared.frac128.Frac128.{Frac128}
 use Rattle.data_frame.specs.Views.{exact}
-use Rattle.design_matrix.specs.Products.{FitUpTo, IsValue, OverflowsAt, SpillsAt, product, product_onto}
-use Rattle.frac_core.specs.Overflow.{Overflows}
-use Rattle.frac_core.specs.declared.exact.OpKind.TheVariants.{Mul}
+use Rattle.design_matrix.specs.Products.{FitUpTo, IsValue, product, product_onto, value}
 use Rattle.loss_model.specs.declared.spill.Site.{Site}
 use Rattle.loss_model.specs.declared.spill.Spill.{Spill}
+use Rattle.loss_model.specs.Spill.{IsOperation}
 use Rattle.design_matrix.proofs.Steps.{map_map}
 
 onto_push : (x : ℚ) (ys : List ℚ) (y : ℚ) → product_onto x (ys ++ (y ∷ [])) ≡ product_onto x ys *ℚ y
@@ -46,17 +45,8 @@ product_step told h ps i p old new factor k e f g q =
     ∙ ap (λ x. product (take i (map h (map told ps))) *ℚ x) (g ∙ sym (factor_at told h ps i p factor k e))
     ∙ sym (product_more (map h (map told ps)) i factor (let n : length (map h (map told ps)) ≡ length ps = length_maps told h ps in omega arith))
 
-pub spilt : {X Y : Type 0} (told : X → Y) (h : Y → ℚ) (ps : List X) (i : ℕ) (p : X) (site : Site) (left right : Frac128) (s : Spill Frac128)
-    → site.term ≡ i → i < length ps → p ≡ get_or ps i p → exact left ≡ product (take i (map h (map told ps))) → exact right ≡ h (told p)
-    → SpillsAt site left right s → OverflowsAt (map h (map told ps)) i s.left s.right
-spilt told h ps i p site left right s n k e f g o =
-    let P : Spill Frac128 → Type 0 = λ z. Overflows (2 ^ 127 - 1) Mul (record { num = z.left.num; den = z.left.den }) (record { num = z.right.num; den = z.right.den }) in
-    let m : length (map h (map told ps)) ≡ length ps = length_maps told h ps in
-    let one : 1 ≤ site.term = o.some in
-    record {
-      some = omega arith;
-      more = omega arith;
-      left_is = ap (λ z. exact z.left) o.is ∙ f;
-      right_is = ap (λ z. exact z.right) o.is ∙ g ∙ sym (factor_at told h ps i p (whole (pos 0)) k e);
-      overflows = subst P (sym o.is) o.overflows;
-    }
+pub spilt : {X Y : Type 0} (told : X → Y) (h : Y → ℚ) (ps : List X) (i : ℕ) (p : X) (site : Site) (left right : ℚ) (s : Spill Frac128)
+    → i < length ps → p ≡ get_or ps i p → left ≡ product (take i (map h (map told ps))) → right ≡ h (told p)
+    → IsOperation value (2 ^ 127 - 1) site left right s → IsOperation value (2 ^ 127 - 1) site (product (take i (map h (map told ps)))) (get_or (map h (map told ps)) i (whole (pos 0))) s
+spilt told h ps i p site left right s k e f g o =
+    record { named = o.named; is_left = o.is_left ∙ f; is_right = o.is_right ∙ g ∙ sym (factor_at told h ps i p (whole (pos 0)) k e); overflows = o.overflows }

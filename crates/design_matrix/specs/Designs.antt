@@ -1,11 +1,13 @@
 -- Stated. The design of a table and a formula.
-use Rattle.std.specs.Prelude.{◌≡◌, ◌<◌, ℕ, ◌+◌, ◌-◌, List, [], length, map, pos, All, slice_index_or, take}
+use Rattle.std.specs.Prelude.{◌≡◌, ◌<◌, ◌≤◌, ℕ, ◌+◌, ◌-◌, ◌^◌, List, [], length, map, pos, All, slice_index_or, take}
 use Rattle.exact_algebra.specs.Rational.{ℚ, whole}
 use Rattle.contrasts.specs.declared.Coding.{Coding}
 use Rattle.frac_core.specs.declared.exact.OpKind.TheVariants.{Mul}
 use Rattle.frac_core.specs.declared.frac128.Frac128.{Frac128}
 use Rattle.loss_model.specs.declared.spill.Quantity.TheVariants.{DesignEntry}
+use Rattle.loss_model.specs.declared.spill.Site.{Site}
 use Rattle.loss_model.specs.declared.spill.Spill.{Spill}
+use Rattle.loss_model.specs.Spill.{IsOperation}
 use Rattle.data_frame.specs.Records.{Text}
 use Rattle.data_frame.specs.Views.{exact}
 use Rattle.formula_parser.specs.declared.formula.Formula.{Formula}
@@ -14,7 +16,7 @@ use Rattle.design_matrix.specs.declared.design.DesignRow.{DesignRow}
 use Rattle.design_matrix.specs.Lists.{each}
 use Rattle.design_matrix.specs.Cells.{Column, Table, column_of, kept, number_at}
 use Rattle.design_matrix.specs.Parts.{Part, column_name, columns_of, factors}
-use Rattle.design_matrix.specs.Products.{Fits, FitUpTo, OverflowsAt, product}
+use Rattle.design_matrix.specs.Products.{Fits, FitUpTo, product, value}
 
 -- a row of a design: the number of its record, its entries, its response and its weight
 pub record RowOf : Type 0 where
@@ -58,12 +60,17 @@ exact_design design = record { names = design.names; rows = map exact_row design
 abbrev pub RowFits : List (List Part) → ℕ → Type 0
 RowFits columns place = All (λ column. Fits (factors column place)) columns
 
+-- the site of the product of the first factors of an entry, as many as the term, and the next one
+abbrev pub entry_site : ℕ → ℕ → ℕ → Site
+entry_site rec column term = record { quantity = DesignEntry; first = rec; second = column; third = 0; term = term; kind = Mul }
+
 -- the first product of a column's parts that overflows at a place, at the record and the column of these numbers
 pub record OverflowsInColumn (parts : List Part) (place rec column : ℕ) (spill : Spill Frac128) : Type 0 where
   pub term : ℕ
-  pub site : spill.site ≡ record { quantity = DesignEntry; first = rec; second = column; third = 0; term = term; kind = Mul }
+  pub some : 1 ≤ term
+  pub more : term < length (factors parts place)
   pub first : FitUpTo (factors parts place) term
-  pub overflows : OverflowsAt (factors parts place) term spill.left spill.right
+  pub operation : IsOperation value (2 ^ 127 - 1) (entry_site rec column term) (product (take term (factors parts place))) (slice_index_or (factors parts place) term (whole (pos 0))) spill
 
 -- a product of the row at a place overflows, and it is of the first such column
 pub record OverflowsInRow (columns : List (List Part)) (place rec : ℕ) (spill : Spill Frac128) : Type 0 where

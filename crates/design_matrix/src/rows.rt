@@ -1,13 +1,14 @@
 //! The rows of a design.
 
-ghost use Rattle.std.specs.Prelude.{◌≡◌, ◌<◌, ◌+◌, ◌^◌, ◌⊎◌, pos, All, IfOk, IfErr, OnOk, length, map};
+ghost use Rattle.std.specs.Prelude.{◌≡◌, ◌<◌, ◌≤◌, ◌+◌, ◌-◌, ◌^◌, ◌⊎◌, pos, All, IfOk, IfErr, OnOk, length, map};
 ghost use Rattle.exact_algebra.specs.Rational.{◌*ℚ◌, whole};
 ghost use Rattle.data_frame.specs.Views.{exact, lent_column};
 ghost use Rattle.loss_model.specs.declared.spill.Spill.{Spill as Spilt};
+ghost use Rattle.loss_model.specs.Spill.{IsOperation};
 ghost use Rattle.design_matrix.specs.Designs.{AllFit, OverflowsFirst, OverflowsInColumn, OverflowsInRow, RowFits, exact_row, row_of};
 ghost use Rattle.design_matrix.specs.Lists.{each};
 ghost use Rattle.design_matrix.specs.Parts.{factors};
-ghost use Rattle.design_matrix.specs.Products.{Fits, SpillsAt, product};
+ghost use Rattle.design_matrix.specs.Products.{Fits, product, value};
 ghost use Rattle.design_matrix.specs.Views.{columns_seen, part_seen};
 ghost use Rattle.frac_core.specs.declared.frac128.Frac128.{Frac128 as Fraction128};
 
@@ -23,7 +24,8 @@ use std::alloc::Global;
 fn next_product(site: Site, product: Frac128, factor: Frac128) -> Result<Frac128, Spill<Frac128>>
     requires { site.term ≡ 0 → exact product ≡ whole (pos 1) }
     ensures exact { IfOk result (λ v. exact v ≡ exact product *ℚ exact factor) }
-    ensures spill { IfErr result (λ s. SpillsAt site product factor s) }
+    ensures spill { IfErr result (λ s. (1 ≤ site.term)
+        × IsOperation value (2 ^ 127 - 1) (record site { kind = OpKind.Mul }) (exact product) (exact factor) s) }
 {
     if site.term == 0 {
         return Ok(factor);

@@ -1,15 +1,17 @@
 -- The tokens of a text, one at a time.
-use Rattle.std.proofs.Common.{◌≡◌, ◌<◌, ◌≤◌, ◌+◌, ◌-◌, ◌++◌, ◌∷◌, [], ℕ, zero, suc, true, false, List, length, take, drop, drop-cons, get_or, get_or-drop, subst, position, slice_range, add-one, refl, sym, ◌∙◌, ap, append_assoc, arith, length-drop}
+use Rattle.std.proofs.Common.{ne_eqb, ◌≡◌, ◌<◌, ◌≤◌, ◌+◌, ◌-◌, ◌++◌, ◌∷◌, [], ℕ, zero, suc, true, false, List, length, take, drop, drop-cons, get_or, get_or-drop, subst, position, slice_range, add-one, refl, sym, ◌∙◌, ap, append_assoc, arith, length-drop}
 use Rattle.std.proofs.lemmas.List.{drop-drop, take_all}
+use Rattle.std.specs.List.{prefix_len}
 use Rattle.std.specs.Str.{IsCharBoundary, IsUtf8}
 use Rattle.std.proofs.lemmas.Str.{IsCharBoundary-after_ascii}
+use Rattle.formula_grammar.specs.declared.token.Kind.{Kind}
 use Rattle.formula_grammar.specs.declared.token.Kind.TheVariants.{Number}
 use Rattle.formula_grammar.specs.declared.token.Numeral.{Numeral}
 use Rattle.formula_grammar.specs.declared.token.Token.{Token}
 use Rattle.formula_grammar.specs.declared.lexer.Lexeme.{Lexeme}
 use Rattle.formula_grammar.specs.Numbers.{number_len, numeral_of}
 use Rattle.formula_grammar.proofs.NumberTexts.{some_number}
-use Rattle.formula_grammar.specs.Tokens.{begins_name, begins_number, is_backtick, is_blank, lexeme, number_lexeme, quoted_to, tokens, tokens_from}
+use Rattle.formula_grammar.specs.Tokens.{begins_name, begins_number, goes_on, is_backtick, is_blank, lexeme, mark_of, name_lexeme, name_or_word, number_lexeme, quoted_to, tokens, tokens_from}
 
 -- a slice to the end of a text
 pub to_the_end : (bs : List ℕ) (i : ℕ) → i ≤ length bs → take (length bs - i) (drop i bs) ≡ drop i bs
@@ -133,3 +135,46 @@ pub token_here : (text bytes : List ℕ) (all all' : List Token) (i : ℕ) (l : 
     → all ++ tokens_from i 0 (drop i bytes) ≡ tokens bytes → all' ++ tokens_from (i + l.len) 0 (drop (i + l.len) bytes) ≡ tokens bytes
 token_here text bytes all all' i l e lt blank is some within pushed left =
     token_more bytes all all' i l lt blank (rw e is) some (rw e within) pushed left
+
+name_lexeme_of : (text : List ℕ) (at n : ℕ) (k : Kind) → at < length text → begins_name (get_or text at 0) (from text (at + 1)) ≡ true → n ≡ prefix_len goes_on (from text at) → n ≤ length (from text at)
+    → k ≡ name_or_word at (take n (from text at)) (from (from text at) n)
+    → (let l : Lexeme = record { kind = k; len = n } in l) ≡ lexeme at (get_or text at 0) (drop (at + 1) text)
+name_lexeme_of text at n k lt name is within word =
+    let b = get_or text at 0 in
+    let bs : List ℕ = b ∷ drop (at + 1) text in
+    let here : from text at ≡ bs = to_the_end text at (omega arith) ∙ first_and_rest text at lt in
+    let a_name : begins_name b (drop (at + 1) text) ≡ true = ap (begins_name b) (sym (to_the_end text (at + 1) (omega arith))) ∙ name in
+    let len : n ≡ prefix_len goes_on bs = is ∙ ap (prefix_len goes_on) here in
+    let same : k ≡ name_or_word at (take n bs) (drop n bs) =
+    word
+    ∙ ap (λ (x : List ℕ). name_or_word at (take n x) (from x n)) here
+    ∙ ap (name_or_word at (take n bs)) (to_the_end bs n (subst (λ (x : List ℕ). n ≤ length x) here within)) in
+    let made : (let l : Lexeme = record { kind = k; len = n } in l) ≡ name_lexeme at n bs = ap (λ (x : Kind). let l : Lexeme = record { kind = x; len = n } in l) same in
+    rw a_name (made ∙ ap (λ (m : ℕ). name_lexeme at m bs) len)
+
+pub name_lexeme_here : (text bytes : List ℕ) (at n : ℕ) (k : Kind) → bytes ≡ text → at < length text → begins_name (get_or bytes at 0) (from bytes (at + 1)) ≡ true → n ≡ prefix_len goes_on (from bytes at) → n ≤ length (from bytes at)
+    → k ≡ name_or_word at (take n (from bytes at)) (from (from bytes at) n)
+    → (let l : Lexeme = record { kind = k; len = n } in l) ≡ lexeme at (get_or text at 0) (drop (at + 1) text)
+name_lexeme_here text bytes at n k e lt =
+    let P : List ℕ → Type 0 = λ bs. begins_name (get_or bs at 0) (from bs (at + 1)) ≡ true → n ≡ prefix_len goes_on (from bs at) → n ≤ length (from bs at)
+    → k ≡ name_or_word at (take n (from bs at)) (from (from bs at) n)
+    → (let l : Lexeme = record { kind = k; len = n } in l) ≡ lexeme at (get_or text at 0) (drop (at + 1) text) in
+    subst P (sym e) (name_lexeme_of text at n k lt)
+
+mark_lexeme_of : (at b : ℕ) (bs : List ℕ) (k : Kind) → begins_name b bs ≡ false → begins_number b bs ≡ false → (b ≡ 96 → ⊥) → k ≡ mark_of b
+    → (let l : Lexeme = record { kind = k; len = 1 } in l) ≡ lexeme at b bs
+mark_lexeme_of at b bs k name number other is =
+    let test : is_backtick b ≡ false = ne_eqb b 96 other in
+    rw (name, number, test) (ap (λ (x : Kind). let l : Lexeme = record { kind = x; len = 1 } in l) is)
+
+pub mark_here : (text bytes : List ℕ) (at : ℕ) (k : Kind) → bytes ≡ text → at < length text → begins_name (get_or bytes at 0) (from bytes (at + 1)) ≡ false
+    → begins_number (get_or bytes at 0) (from bytes (at + 1)) ≡ false → (get_or bytes at 0 ≡ 96 → ⊥) → k ≡ mark_of (get_or bytes at 0)
+    → (let l : Lexeme = record { kind = k; len = 1 } in l) ≡ lexeme at (get_or text at 0) (drop (at + 1) text)
+mark_here text bytes at k e lt =
+    let P : List ℕ → Type 0 = λ bs. begins_name (get_or bs at 0) (from bs (at + 1)) ≡ false
+    → begins_number (get_or bs at 0) (from bs (at + 1)) ≡ false → (get_or bs at 0 ≡ 96 → ⊥) → k ≡ mark_of (get_or bs at 0)
+    → (let l : Lexeme = record { kind = k; len = 1 } in l) ≡ lexeme at (get_or text at 0) (drop (at + 1) text) in
+    let Q : List ℕ → Type 0 = λ rest. begins_name (get_or text at 0) rest ≡ false
+    → begins_number (get_or text at 0) rest ≡ false → (get_or text at 0 ≡ 96 → ⊥) → k ≡ mark_of (get_or text at 0)
+    → (let l : Lexeme = record { kind = k; len = 1 } in l) ≡ lexeme at (get_or text at 0) (drop (at + 1) text) in
+    subst P (sym e) (subst Q (sym (to_the_end text (at + 1) (omega arith))) (mark_lexeme_of at (get_or text at 0) (drop (at + 1) text) k))

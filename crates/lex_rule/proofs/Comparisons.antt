@@ -8,15 +8,13 @@ use Rattle.std.proofs.lemmas.Bool.{cases_lt}
 use Rattle.exact_algebra.specs.Fraction.{Fraction, rational}
 use Rattle.exact_algebra.specs.Rational.{ℚ, ◌*ℚ◌, neg_ℚ, inverse, whole}
 use Rattle.exact_algebra.specs.Order.{cmp_ℚ, cmp_ℚ-Equal, cmp_ℚ_swap}
-use Rattle.frac_core.specs.declared.exact.OpKind.TheVariants.{Div}
-use Rattle.loss_model.specs.declared.spill.Quantity.TheVariants.{PerturbedRatio}
 use Rattle.loss_model.specs.declared.vertex.Side.{Side}
 use Rattle.loss_model.specs.declared.vertex.Side.TheVariants.{Up, Down}
 use Rattle.loss_model.specs.declared.spill.Spill.{Spill}
 use Rattle.basis_model.specs.Lexicographic.{lex_cmp, lex_cmp-first, lex_cmp-longer, same_from-lex_cmp}
 use Rattle.basis_model.specs.Perturbed.{Nonbasic, IsOutside, perturbed, turned, side_of, ratio_on, perturbed-other, held_coordinate-at}
 use Rattle.basis_model.specs.Ratios.{ratio-none, ratio-own, own-up, own-down}
-use Rattle.basis_model.specs.RatioSpill.{IsRatioEntrySpill, IsSpillOn}
+use Rattle.basis_model.specs.RatioSpill.{ratio_site, IsRatioEntrySpill, IsSpillOn}
 use Rattle.lex_rule.specs.declared.quotient.Divisor.{Divisor}
 use Rattle.lex_rule.specs.Divisor.{entry_over, IsDivisorSpill}
 use Rattle.lex_rule.specs.Compared.{IsDivisorOf}
@@ -41,9 +39,9 @@ module _ {F : Type 0} (value : F → Fraction) (n : ℕ) (at : ℕ → ℕ) (j :
   pub entry_spill : (range : ℕ) (s : Spill F) → IsDivisorSpill value range by m x s → IsRatioEntrySpill value range n at j u m s
   entry_spill range s h =
       record {
-        named = h.named ∙ ap₂ (λ r p. record { quantity = PerturbedRatio; first = r; second = p; third = m; term = 1; kind = Div }) d.row d.position;
-        is_entry = h.is_entry ∙ is;
-        is_size = h.is_size ∙ d.size;
+        named = h.named ∙ ap₂ (λ r p. ratio_site r p m) d.row d.position;
+        is_left = h.is_left ∙ is;
+        is_right = h.is_right ∙ d.size;
         overflows = h.overflows;
       }
 

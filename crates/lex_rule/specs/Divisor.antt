@@ -3,8 +3,9 @@ use Rattle.std.specs.Prelude.{ℕ}
 use Rattle.exact_algebra.specs.Fraction.{Fraction, rational}
 use Rattle.exact_algebra.specs.Rational.{ℚ, ◌*ℚ◌, inverse}
 use Rattle.loss_model.specs.declared.spill.Spill.{Spill}
+use Rattle.loss_model.specs.Spill.{IsOperation}
 use Rattle.basis_model.specs.Perturbed.{turned}
-use Rattle.basis_model.specs.RatioSpill.{IsDivisionSpill}
+use Rattle.basis_model.specs.RatioSpill.{ratio_site}
 use Rattle.lex_rule.specs.declared.quotient.Divisor.{Divisor}
 
 -- the entry of the perturbed residual over the size, negated on the side below
@@ -14,4 +15,4 @@ entry_over value by x = turned by.side (rational (value x) *ℚ inverse (rationa
 -- that division overflows
 abbrev pub IsDivisorSpill : {F : Type 0} → (F → Fraction) → ℕ → Divisor F → ℕ → F → Spill F → Type 0
 IsDivisorSpill value range by entry x s =
-    IsDivisionSpill value range by.row by.position entry (rational (value x)) (rational (value by.size)) s
+    IsOperation value range (ratio_site by.row by.position entry) (rational (value x)) (rational (value by.size)) s

@@ -5,7 +5,6 @@ ghost use Rattle.exact_algebra.specs.Rational.{◌*ℚ◌, inverse, whole};
 ghost use Rattle.exact_algebra.specs.Order.{cmp_ℚ};
 ghost use Rattle.loss_model.specs.Spill.{abs_ℚ};
 ghost use Rattle.basis_model.specs.Perturbed.{turned};
-ghost use Rattle.basis_model.specs.RatioSpill.{IsDivisionSpill};
 ghost use Rattle.lex_rule.specs.Divisor.{entry_over, IsDivisorSpill};
 
 use frac_core::{Exact, OpKind};

@@ -5,7 +5,7 @@ ghost use Rattle.exact_algebra.specs.Fraction.{rational};
 ghost use Rattle.exact_algebra.specs.Rational.{◌+ℚ◌, ◌*ℚ◌};
 ghost use Rattle.loss_model.specs.Sample.{up_cost, down_cost, residual, loss};
 ghost use Rattle.loss_model.specs.Problem.{value_at, sample, IsWellShaped};
-ghost use Rattle.loss_model.specs.Spill.{IsSpillOf, cost_products, side_cost, abs_ℚ, IsResidualSpill, IsUpCostSpill, IsDownCostSpill, IsRowSpill, IsLossSpill};
+ghost use Rattle.loss_model.specs.Spill.{side_cost, abs_ℚ, IsResidualSpill, IsUpCostSpill, IsDownCostSpill, IsRowSpill, IsLossSpill};
 
 use crate::problem::Problem;
 use crate::sites::{Sign, plus_product, sum_of_products};

@@ -5,7 +5,7 @@ ghost use Rattle.exact_algebra.specs.Fraction.{rational};
 ghost use Rattle.exact_algebra.specs.Rational.{◌+ℚ◌, ◌-ℚ◌, ◌*ℚ◌, inverse, whole};
 ghost use Rattle.frac_core.specs.Overflow.{IsWithin, Overflows};
 ghost use Rattle.loss_model.specs.Problem.{value_at};
-ghost use Rattle.loss_model.specs.Spill.{Products, total, one_product, IsSpillOf};
+ghost use Rattle.loss_model.specs.Spill.{Products, total, IsTermSpill, IsSpillOf};
 ghost use Rattle.loss_model.specs.Sign.{signed, products_of};
 
 use crate::spill::{Site, Spill};
@@ -103,7 +103,7 @@ pub fn over_at<F: Exact>(site: Site, left: F, right: F) -> Result<F, Spill<F>>
 pub fn plus_product<F: Exact>(site: Site, first: F, left: F, right: F) -> Result<F, Spill<F>>
     requires few { site.term + 1 < 2 ^ 32 }
     ensures exact { IfOk result (λ r. rational (F.value r) ≡ rational (F.value first) +ℚ (rational (F.value left) *ℚ rational (F.value right))) }
-    ensures spilled { IfErr result (IsSpillOf F.value F.range site (one_product (rational (F.value first)) (rational (F.value left)) (rational (F.value right)))) }
+    ensures spilled { IfErr result (IsTermSpill F.value F.range site (rational (F.value first)) (rational (F.value left)) (rational (F.value right))) }
 {
     if left.is_zero() || right.is_zero() {
         return Ok(first);

@@ -52,7 +52,7 @@ negated_not_positive : (x : ℚ) → whole (pos 0) ≤ℚ x → neg_ℚ x ≤ℚ
 negated_not_positive x h =
     subst (λ z. neg_ℚ x ≤ℚ z) (ring_ℚ [] (negated (number (pos 0))) (number (pos 0)) refl) (≤ℚ_neg (whole (pos 0)) x h)
 
-double_neg : (x : ℚ) → neg_ℚ (neg_ℚ x) ≡ x
+pub double_neg : (x : ℚ) → neg_ℚ (neg_ℚ x) ≡ x
 double_neg x = ring_ℚ (x ∷ []) (negated (negated v0)) v0 refl
 
 abs_neg : (x : ℚ) → abs_ℚ (neg_ℚ x) ≡ abs_ℚ x

@@ -10,7 +10,7 @@ use Rattle.exact_matrices.specs.Matrices.{coordinate}
 use Rattle.exact_matrices.specs.Exchange.{exchanged, coordinate-exchanged}
 use Rattle.loss_model.specs.Sample.{Sample}
 use Rattle.basis_model.specs.Perturbed.{IsOutside, perturbed, held_coordinate, perturbed-own, perturbed-other, held_coordinate-none}
-use Rattle.basis_model.specs.Basis.{coord, coefficient, outside_row}
+use Rattle.basis_model.specs.Basis.{coord, outside_row}
 use Rattle.pivot_rule.specs.Responses.{residual_for, response, exchanged_rows}
 
 module _ (p : Sample) (at : ℕ → ℕ) (a : ℕ → ℕ → ℚ) (j r : ℕ) (lj : j < p.columns) (some : coord p a r j ≢ whole (pos 0)) (v : ℕ → ℚ) (i : ℕ) where
@@ -55,7 +55,7 @@ module _ (p : Sample) (at : ℕ → ℕ) (a : ℕ → ℕ → ℚ) (j r : ℕ) (
       ((v0 ⊟ v1) ⊟ (v2 ⊠ v3) ⊠ (v5 ⊟ v4)) (negated (v2 ⊠ var 7)) (var 6 ⊠ v3) (number (pos 1)) refl (*ℚ-inverse (coord p a r j) some)
 
 -- the coordinate held by row m, as a sum over the positions
-held_sum : (n : ℕ) (at : ℕ → ℕ) (c : ℕ → ℚ) (m : ℕ) → ((j k : ℕ) → j < k → k < n → at j ≢ at k) → held_coordinate n at c m ≡ sum_ℚ n (λ j. c j *ℚ delta m (at j))
+pub held_sum : (n : ℕ) (at : ℕ → ℕ) (c : ℕ → ℚ) (m : ℕ) → ((j k : ℕ) → j < k → k < n → at j ≢ at k) → held_coordinate n at c m ≡ sum_ℚ n (λ j. c j *ℚ delta m (at j))
 held_sum zero at c m apart = refl
 held_sum (suc n) at c m apart = here (m == at n) refl (held_sum n at c m (λ j k l lk. apart j k l (omega arith)))
   where
@@ -77,21 +77,21 @@ held_sum (suc n) at c m apart = here (m == at n) refl (held_sum n at c m (λ j k
         ∙ ring_ℚ (sum_ℚ n (λ j. c j *ℚ delta m (at j)) ∷ c n ∷ []) v0 (v0 ⊞ v1 ⊠ number (pos 0)) refl
         ∙ ap (λ z. sum_ℚ n (λ j. c j *ℚ delta m (at j)) +ℚ (c n *ℚ z)) (sym (if-other m (at n) (whole (pos 1)) (whole (pos 0)) other))
 
-module _ (p : Sample) (at : ℕ → ℕ) (a : ℕ → ℕ → ℚ) (i : ℕ) (out : IsOutside p.columns at i) where
-  -- the residual of the problem is that of its responses
-  first_is : perturbed p.columns at (outside_row p at a i) zero ≡ residual_for p at a p.y i
-  first_is =
-      ap (λ z. p.y i -ℚ z) (
-      sum_ℚ-same p.columns (λ k. p.x i k *ℚ coefficient p at a k) (λ k. sum_ℚ p.columns (λ j. p.y (at j) *ℚ (p.x i k *ℚ a k j)))
-      (λ k lk. sym (sum_ℚ-scale p.columns (p.x i k) (λ j. a k j *ℚ p.y (at j))) ∙ sum_ℚ-same p.columns (λ j. p.x i k *ℚ (a k j *ℚ p.y (at j))) (λ j. p.y (at j) *ℚ (p.x i k *ℚ a k j)) (λ j lj. ring_ℚ (p.x i k ∷ a k j ∷ p.y (at j) ∷ []) (v0 ⊠ (v1 ⊠ v2)) (v2 ⊠ (v0 ⊠ v1)) refl))
-      ∙ sum_ℚ-swap p.columns p.columns (λ k j. p.y (at j) *ℚ (p.x i k *ℚ a k j))
-      ∙ sum_ℚ-same p.columns (λ j. sum_ℚ p.columns (λ k. p.y (at j) *ℚ (p.x i k *ℚ a k j))) (λ j. coord p a i j *ℚ p.y (at j)) (λ j lj. sum_ℚ-scale p.columns (p.y (at j)) (λ k. p.x i k *ℚ a k j) ∙ ring_ℚ (p.y (at j) ∷ coord p a i j ∷ []) (v0 ⊠ v1) (v1 ⊠ v0) refl))
+-- a residual is the response less its fit by the coefficients
+pub residual_fit : (p : Sample) (at : ℕ → ℕ) (a : ℕ → ℕ → ℚ) (v : ℕ → ℚ) (i : ℕ) → residual_for p at a v i ≡ v i -ℚ sum_ℚ p.columns (λ k. p.x i k *ℚ sum_ℚ p.columns (λ j. a k j *ℚ v (at j)))
+residual_fit p at a v i =
+    ap (λ z. v i -ℚ z) (sym (
+    sum_ℚ-same p.columns (λ k. p.x i k *ℚ sum_ℚ p.columns (λ j. a k j *ℚ v (at j))) (λ k. sum_ℚ p.columns (λ j. v (at j) *ℚ (p.x i k *ℚ a k j)))
+    (λ k lk. sym (sum_ℚ-scale p.columns (p.x i k) (λ j. a k j *ℚ v (at j))) ∙ sum_ℚ-same p.columns (λ j. p.x i k *ℚ (a k j *ℚ v (at j))) (λ j. v (at j) *ℚ (p.x i k *ℚ a k j)) (λ j lj. ring_ℚ (p.x i k ∷ a k j ∷ v (at j) ∷ []) (v0 ⊠ (v1 ⊠ v2)) (v2 ⊠ (v0 ⊠ v1)) refl))
+    ∙ sum_ℚ-swap p.columns p.columns (λ k j. v (at j) *ℚ (p.x i k *ℚ a k j))
+    ∙ sum_ℚ-same p.columns (λ j. sum_ℚ p.columns (λ k. v (at j) *ℚ (p.x i k *ℚ a k j))) (λ j. coord p a i j *ℚ v (at j)) (λ j lj. sum_ℚ-scale p.columns (v (at j)) (λ k. p.x i k *ℚ a k j) ∙ ring_ℚ (v (at j) ∷ coord p a i j ∷ []) (v0 ⊠ v1) (v1 ⊠ v0) refl)))
 
+module _ (p : Sample) (at : ℕ → ℕ) (a : ℕ → ℕ → ℚ) (i : ℕ) (out : IsOutside p.columns at i) where
   held_is : (m : ℕ) → held_coordinate p.columns at (coord p a i) m ≡ sum_ℚ p.columns (λ j. coord p a i j *ℚ delta m (at j))
   held_is m = held_sum p.columns at (coord p a i) m out.apart
 
   pub perturbed_is : (m : ℕ) → perturbed p.columns at (outside_row p at a i) m ≡ residual_for p at a (response p m) i
-  perturbed_is zero = first_is
+  perturbed_is zero = sym (residual_fit p at a p.y i)
   perturbed_is (suc m) = by (m == i) refl
     where
       by : (t : Bool) → (m == i) ≡ t → perturbed p.columns at (outside_row p at a i) (suc m) ≡ delta m i -ℚ sum_ℚ p.columns (λ j. coord p a i j *ℚ delta m (at j))

@@ -24,7 +24,7 @@ use Rattle.pivot_rule.proofs.Among.{among_place}
 use Rattle.pivot_rule.proofs.Sides.{sign, side_outside, on_side, dual_basic, held_dual}
 
 -- a negated down cost is at most an up cost
-wide : (u d : ℚ) → whole (pos 0) ≤ℚ u → whole (pos 0) ≤ℚ d → neg_ℚ d ≤ℚ u
+pub wide : (u d : ℚ) → whole (pos 0) ≤ℚ u → whole (pos 0) ≤ℚ d → neg_ℚ d ≤ℚ u
 wide u d hu hd =
     ≤ℚ_from (neg_ℚ d) u (subst (λ z. z ≤ℚ (u -ℚ neg_ℚ d)) (zero-+ℚ (whole (pos 0)))
     (subst (λ z. (whole (pos 0) +ℚ whole (pos 0)) ≤ℚ z) (ring_ℚ (u ∷ d ∷ []) (v0 ⊞ v1) (v0 ⊟ negated v1) refl) (≤ℚ_add2 (whole (pos 0)) u (whole (pos 0)) d hu hd)))

@@ -29,10 +29,10 @@ use Rattle.pivot_rule.proofs.Among.{among_at, among_place}
 use Rattle.pivot_rule.proofs.Sides.{side_basic}
 use Rattle.pivot_rule.proofs.Entering.{product_not_negative, sum_not_negative}
 
-no : true ≡ false → ⊥
+pub no : true ≡ false → ⊥
 no h = cc
 
-less_from : (o : Ordering) → is_lt o ≡ true → o ≡ Less
+pub less_from : (o : Ordering) → is_lt o ≡ true → o ≡ Less
 less_from Less h = refl
 less_from Equal h = absurd (cc h)
 less_from Greater h = absurd (cc h)

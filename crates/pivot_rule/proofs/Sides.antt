@@ -10,7 +10,7 @@ use Rattle.exact_algebra.specs.Inverses.{zero_or_not}
 use Rattle.exact_algebra.specs.Order.{cmp_ℚ-Greater, cmp_ℚ-not_Greater, le_from_not}
 use Rattle.exact_matrices.specs.Terms.{delta, sum_ℚ-delta, delta-turned}
 use Rattle.loss_model.specs.declared.vertex.Side.TheVariants.{Basic}
-use Rattle.loss_model.specs.Sample.{Sample, fitted, residual}
+use Rattle.loss_model.specs.Sample.{Sample, residual}
 use Rattle.loss_model.specs.Vertex.{value_of_side, IsOn}
 use Rattle.basis_model.specs.Lexicographic.{lex_cmp, lex_cmp-first}
 use Rattle.basis_model.specs.Perturbed.{perturbed, zeros, side_of, held_coordinate, held_coordinate-at}
@@ -61,18 +61,19 @@ module _ (p : Sample) (at : ℕ → ℕ) (a : ℕ → ℕ → ℚ) where
       by Equal e = first_below p.rows (perturbed p.columns at (outside_row p at a i)) (λ g. absurd (cc (sym g ∙ e)))
 
   module _ (basis : IsBasis p at a) where
-    -- the rows of the basis are fitted exactly
+    -- responses at the rows of the basis are fitted exactly
+    pub fitted_for : (v : ℕ → ℚ) (j : ℕ) → j < p.columns → sum_ℚ p.columns (λ k. p.x (at j) k *ℚ sum_ℚ p.columns (λ i. a k i *ℚ v (at i))) ≡ v (at j)
+    fitted_for v j lj =
+        sum_ℚ-same p.columns (λ k. p.x (at j) k *ℚ sum_ℚ p.columns (λ i. a k i *ℚ v (at i))) (λ k. sum_ℚ p.columns (λ i. v (at i) *ℚ (p.x (at j) k *ℚ a k i)))
+        (λ k lk. sym (sum_ℚ-scale p.columns (p.x (at j) k) (λ i. a k i *ℚ v (at i))) ∙ sum_ℚ-same p.columns (λ i. p.x (at j) k *ℚ (a k i *ℚ v (at i))) (λ i. v (at i) *ℚ (p.x (at j) k *ℚ a k i)) (λ i li. ring_ℚ (p.x (at j) k ∷ a k i ∷ v (at i) ∷ []) (v0 ⊠ (v1 ⊠ v2)) (v2 ⊠ (v0 ⊠ v1)) refl))
+        ∙ sum_ℚ-swap p.columns p.columns (λ k i. v (at i) *ℚ (p.x (at j) k *ℚ a k i))
+        ∙ sum_ℚ-same p.columns (λ i. sum_ℚ p.columns (λ k. v (at i) *ℚ (p.x (at j) k *ℚ a k i))) (λ i. v (at i) *ℚ delta i j)
+        (λ i li. sum_ℚ-scale p.columns (v (at i)) (λ k. p.x (at j) k *ℚ a k i) ∙ ap (λ z. v (at i) *ℚ z) (basis.inverse.left j i lj li ∙ delta-turned j i))
+        ∙ sum_ℚ-delta p.columns (λ i. v (at i)) j lj
+
+    -- and so those of the problem
     pub fits : (j : ℕ) → j < p.columns → residual p (coefficient p at a) (at j) ≡ whole (pos 0)
-    fits j lj = ap (λ z. p.y (at j) -ℚ z) here ∙ ring_ℚ (p.y (at j) ∷ []) (v0 ⊟ v0) (number (pos 0)) refl
-      where
-        here : fitted p (coefficient p at a) (at j) ≡ p.y (at j)
-        here =
-            sum_ℚ-same p.columns (λ k. p.x (at j) k *ℚ coefficient p at a k) (λ k. sum_ℚ p.columns (λ i. p.y (at i) *ℚ (p.x (at j) k *ℚ a k i)))
-            (λ k lk. sym (sum_ℚ-scale p.columns (p.x (at j) k) (λ i. a k i *ℚ p.y (at i))) ∙ sum_ℚ-same p.columns (λ i. p.x (at j) k *ℚ (a k i *ℚ p.y (at i))) (λ i. p.y (at i) *ℚ (p.x (at j) k *ℚ a k i)) (λ i li. ring_ℚ (p.x (at j) k ∷ a k i ∷ p.y (at i) ∷ []) (v0 ⊠ (v1 ⊠ v2)) (v2 ⊠ (v0 ⊠ v1)) refl))
-            ∙ sum_ℚ-swap p.columns p.columns (λ k i. p.y (at i) *ℚ (p.x (at j) k *ℚ a k i))
-            ∙ sum_ℚ-same p.columns (λ i. sum_ℚ p.columns (λ k. p.y (at i) *ℚ (p.x (at j) k *ℚ a k i))) (λ i. p.y (at i) *ℚ delta i j)
-            (λ i li. sum_ℚ-scale p.columns (p.y (at i)) (λ k. p.x (at j) k *ℚ a k i) ∙ ap (λ z. p.y (at i) *ℚ z) (basis.inverse.left j i lj li ∙ delta-turned j i))
-            ∙ sum_ℚ-delta p.columns (λ i. p.y (at i)) j lj
+    fits j lj = ap (λ z. p.y (at j) -ℚ z) (fitted_for p.y j lj) ∙ ring_ℚ (p.y (at j) ∷ []) (v0 ⊟ v0) (number (pos 0)) refl
 
     -- every residual lies on the side of its row
     pub on_side : (i : ℕ) → IsOn (side_at p at a i) (residual p (coefficient p at a) i)

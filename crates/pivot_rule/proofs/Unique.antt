@@ -98,7 +98,7 @@ no_step p at a b theta j r u v e f stop step =
 
 -- ---- trails
 
-same_items : (xs ys : List ℕ) → map Some xs ≡ map Some ys → xs ≡ ys
+pub same_items : (xs ys : List ℕ) → map Some xs ≡ map Some ys → xs ≡ ys
 same_items [] [] h = refl
 same_items [] (y ∷ ys) h = absurd (cc h)
 same_items (x ∷ xs) [] h = absurd (cc h)

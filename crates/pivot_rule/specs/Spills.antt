@@ -6,7 +6,7 @@ use Rattle.loss_model.specs.declared.vertex.Side.TheVariants.{Up, Down}
 use Rattle.loss_model.specs.declared.spill.Quantity.TheVariants.{Slope}
 use Rattle.loss_model.specs.declared.spill.Spill.{Spill}
 use Rattle.loss_model.specs.Sample.{Sample, up_cost, down_cost}
-use Rattle.loss_model.specs.Spill.{one_product, site_of, IsSpillOf, IsUpCostSpill, IsDownCostSpill, abs_ℚ}
+use Rattle.loss_model.specs.Spill.{IsTermSpill, site_of, IsUpCostSpill, IsDownCostSpill, abs_ℚ}
 use Rattle.loss_model.specs.Quantities.{IsEntrySpill}
 use Rattle.basis_model.specs.RatioSpill.{IsRatioEntrySpill, IsRatioSpill}
 use Rattle.basis_model.specs.declared.part.Part.TheVariants.{Constant, Linear}
@@ -42,9 +42,9 @@ module _ {F : Type 0} (value : F → Fraction) (range : ℕ) (p : Sample) (at : 
   -- to the slope before; the terms are the rows passed before, after the first one
   abbrev pub IsPassingSpill : ℕ → Direction → ℕ → Spill F → Type 0
   IsPassingSpill j d r s =
-      IsSpillOf value range
+      IsTermSpill value range
       (site_of Slope j (direction_number d) (count p.rows (λ i. moves p at a j d i && is_before p at a j i r) + 1))
-      (one_product (slope_before p at a theta j d r) (abs_ℚ (coord p a r j)) (up_cost p theta r +ℚ down_cost p theta r)) s
+      (slope_before p at a theta j d r) (abs_ℚ (coord p a r j)) (up_cost p theta r +ℚ down_cost p theta r) s
 
   -- where position j leaves in direction d: at the sum of the costs of a row that moves, at where it
   -- is passed, at the first entry of its ratio, or where its ratio is compared with that of another row

@@ -1,7 +1,7 @@
--- Stated. The line of a fault: what failed, and by which fault with which fields.
-use Rattle.std.specs.Prelude.{ℕ, ◌+◌, List, [], ◌++◌, codes, decimal, ◌==◌, if◌then◌else◌}
+-- Stated. The line of a fault, as data: the group, the name of the fault, and its fields.
+use Rattle.std.specs.Prelude.{ℕ, ◌+◌, List, [], ◌∷◌, ◌++◌, codes, decimal, ◌==◌, if◌then◌else◌}
+use Rattle.std.specs.List.{concat}
 use Rattle.data_frame.specs.declared.fault.TableFault.{TableFault}
-use Rattle.data_frame.specs.declared.fault.TableFault.TheVariants.{NoHeader, NotUtf8, Ragged, DoubleName, EmptyName, TooManyColumns, TooManyRows}
 use Rattle.data_frame.specs.declared.fault.TableFault.TheVariants as tables
 use Rattle.frac_core.specs.NumberText.{number_text_of}
 use Rattle.frac_core.specs.declared.frac128.Frac128.{Frac128}
@@ -14,7 +14,6 @@ use Rattle.design_matrix.specs.declared.fault.DesignFault.TheVariants as designs
 use Rattle.rq_program.specs.declared.fault.ProgramFault.{ProgramFault}
 use Rattle.rq_program.specs.declared.fault.ProgramFault.TheVariants as programs
 use Rattle.rq_words.specs.declared.job.WordFault.{WordFault}
-use Rattle.rq_words.specs.declared.job.WordFault.TheVariants.{NoJob, UnknownJob, BadOption, BadNumber, BadRange, BadTauForRank, NegativeLimit, BadContrasts, RankHalf}
 use Rattle.rq_words.specs.declared.job.WordFault.TheVariants as words
 use Rattle.report_text.specs.Names.{name_bytes}
 use Rattle.report_text.specs.Quantities.{indices, op_name, quantity_name}
@@ -23,6 +22,7 @@ use Rattle.report_text.specs.declared.quantity.PrintedIndices.{PrintedIndices}
 use Rattle.report_text.specs.declared.quantity.PrintedIndices.TheVariants.{One, Two, Three}
 use Rattle.report_text.specs.declared.report.Place.{Place}
 use Rattle.report_text.specs.declared.report.Place.TheVariants.{Process}
+use Rattle.report_text.specs.declared.report.Refusal.{Refusal}
 use Rattle.report_text.specs.declared.report.Refusal.TheVariants.{TooLong, Table, Formula, Design, Program, Dependent}
 use Rattle.report_text.specs.declared.report.Halt.{Halt}
 use Rattle.report_text.specs.declared.report.Halt.TheVariants.{Refused, OutOfMemory, PivotLimit, Overflow, NotBuilt}
@@ -41,39 +41,43 @@ sink_line = codes "quantreg: sink: SinkFault\n"
 abbrev pub memory_line : List ℕ
 memory_line = codes "quantreg: memory: OutOfMemory\n"
 
--- the line of what this version doesn't do
-unfoldable pub not_built_line : ℕ → List ℕ
-not_built_line part = codes "quantreg: build: " ++ codes "NotBuilt part=" ++ decimal part ++ codes "\n"
+-- `quantreg: GROUP: NAME`, and then the fields
+abbrev pub line : List ℕ → List ℕ → List (List ℕ) → List ℕ
+line group name fields = codes "quantreg: " ++ group ++ codes ": " ++ name ++ concat fields ++ codes "\n"
 
--- what names a field, and its number
-abbrev pub field : List ℕ → ℕ → List ℕ
-field name number = name ++ decimal number
+-- ---- fields
 
--- the line of a faulty table: records stand as they are, and columns are counted from 1
-unfoldable pub table_line : TableFault → List ℕ
-table_line NoHeader = codes "quantreg: table: NoHeader\n"
-table_line (NotUtf8 rec) = codes "quantreg: table: NotUtf8" ++ field (codes " record=") rec ++ codes "\n"
-table_line (Ragged rec found wanted) =
-    codes "quantreg: table: Ragged" ++ field (codes " record=") rec ++ field (codes " found=") found ++ field (codes " wanted=") wanted ++ codes "\n"
-table_line (DoubleName column) = codes "quantreg: table: DoubleName" ++ field (codes " column=") (column + 1) ++ codes "\n"
-table_line (EmptyName column) = codes "quantreg: table: EmptyName" ++ field (codes " column=") (column + 1) ++ codes "\n"
-table_line TooManyColumns = codes "quantreg: table: TooManyColumns\n"
-table_line TooManyRows = codes "quantreg: table: TooManyRows\n"
-table_line tables.OutOfMemory = memory_line
+-- ` NAME=`
+abbrev pub key : List ℕ → List ℕ
+key name = codes " " ++ name ++ codes "="
 
--- the line of a faulty formula: an offset stands as it is
-unfoldable pub formula_line : FormulaFault → List ℕ
-formula_line (formulas.Syntax offset) = codes "quantreg: formula: Syntax" ++ field (codes " offset=") offset ++ codes "\n"
-formula_line (formulas.UnknownName offset) = codes "quantreg: formula: UnknownName" ++ field (codes " offset=") offset ++ codes "\n"
-formula_line (formulas.TooDeep offset) = codes "quantreg: formula: TooDeep" ++ field (codes " offset=") offset ++ codes "\n"
-formula_line (formulas.TooManyTerms offset) = codes "quantreg: formula: TooManyTerms" ++ field (codes " offset=") offset ++ codes "\n"
-formula_line (formulas.PowerRange offset) = codes "quantreg: formula: PowerRange" ++ field (codes " offset=") offset ++ codes "\n"
-formula_line (formulas.NumberTooWide offset) = codes "quantreg: formula: NumberTooWide" ++ field (codes " offset=") offset ++ codes "\n"
-formula_line formulas.OutOfMemory = memory_line
+-- a number as it stands
+abbrev pub number : List ℕ → ℕ → List ℕ
+number name n = key name ++ decimal n
 
--- what names a field, and the name in it
-abbrev pub named : List ℕ → List ℕ → List ℕ
-named field name = field ++ name_bytes name
+-- a position, from 1
+abbrev pub position : List ℕ → ℕ → List ℕ
+position name n = number name (n + 1)
+
+-- a word of the program's own
+abbrev pub word : List ℕ → List ℕ → List ℕ
+word name w = key name ++ w
+
+-- a text, as names are printed
+abbrev pub text : List ℕ → List ℕ → List ℕ
+text name t = key name ++ name_bytes t
+
+-- a fraction
+abbrev pub fraction : List ℕ → Frac128 → List ℕ
+fraction name x = key name ++ number_text_of (value x)
+
+-- an item of a list: a comma stands before all but the first
+abbrev pub listed : ℕ → Frac128 → List ℕ
+listed place x = (if place == 0 then [] else codes ",") ++ number_text_of (value x)
+
+-- fractions with commas between them
+abbrev pub fractions : List ℕ → List Frac128 → List ℕ
+fractions name xs = key name ++ numbered listed 0 xs
 
 -- numbers with a comma between them
 unfoldable pub indices_text : PrintedIndices → List ℕ
@@ -83,82 +87,89 @@ indices_text (Three i j k) = decimal i ++ codes "," ++ decimal j ++ codes "," ++
 
 -- where an operation stands: its quantity, the indices of that, and the term
 unfoldable pub site_text : Site → List ℕ
-site_text site =
-    codes " quantity=" ++ quantity_name site.quantity ++ codes " at=" ++ indices_text (indices site) ++ field (codes " term=") site.term
+site_text site = word (codes "quantity") (quantity_name site.quantity) ++ (key (codes "at") ++ indices_text (indices site)) ++ number (codes "term") site.term
 
--- both operands
-unfoldable pub operands : Frac128 → Frac128 → List ℕ
-operands left right = codes " left=" ++ number_text_of (value left) ++ codes " right=" ++ number_text_of (value right)
-
--- an operation that overflows
+-- an operation that overflows, and both operands
 unfoldable pub spill_text : Spill Frac128 → List ℕ
-spill_text spill = site_text spill.site ++ codes " op=" ++ op_name spill.site.kind ++ operands spill.left spill.right
+spill_text spill = site_text spill.site ++ word (codes "op") (op_name spill.site.kind) ++ fraction (codes "left") spill.left ++ fraction (codes "right") spill.right
 
--- the line of a table that has no design by the formula
+-- the place where the solver stopped
+abbrev pub place_name : Place → List ℕ
+place_name Process = codes "process"
+
+-- ---- faults
+
+-- words that are refused
+unfoldable pub usage_line : WordFault → List ℕ
+usage_line words.NoJob = line (codes "usage") (codes "NoJob") []
+usage_line words.UnknownJob = line (codes "usage") (codes "UnknownJob") []
+usage_line words.BadOption = line (codes "usage") (codes "BadOption") []
+usage_line (words.BadNumber option) = line (codes "usage") (codes "BadNumber") (text (codes "option") option ∷ [])
+usage_line words.BadRange = line (codes "usage") (codes "BadRange") []
+usage_line words.BadTauForRank = line (codes "usage") (codes "BadTauForRank") []
+usage_line words.NegativeLimit = line (codes "usage") (codes "NegativeLimit") []
+usage_line words.BadContrasts = line (codes "usage") (codes "BadContrasts") []
+usage_line words.RankHalf = line (codes "usage") (codes "RankHalf") []
+usage_line words.OutOfMemory = memory_line
+
+-- a faulty table
+unfoldable pub table_line : TableFault → List ℕ
+table_line tables.NoHeader = line (codes "table") (codes "NoHeader") []
+table_line (tables.NotUtf8 rec) = line (codes "table") (codes "NotUtf8") (number (codes "record") rec ∷ [])
+table_line (tables.Ragged rec found wanted) =
+    line (codes "table") (codes "Ragged") (number (codes "record") rec ∷ number (codes "found") found ∷ number (codes "wanted") wanted ∷ [])
+table_line (tables.DoubleName column) = line (codes "table") (codes "DoubleName") (position (codes "column") column ∷ [])
+table_line (tables.EmptyName column) = line (codes "table") (codes "EmptyName") (position (codes "column") column ∷ [])
+table_line tables.TooManyColumns = line (codes "table") (codes "TooManyColumns") []
+table_line tables.TooManyRows = line (codes "table") (codes "TooManyRows") []
+table_line tables.OutOfMemory = memory_line
+
+-- a faulty formula
+unfoldable pub formula_line : FormulaFault → List ℕ
+formula_line (formulas.Syntax offset) = line (codes "formula") (codes "Syntax") (number (codes "offset") offset ∷ [])
+formula_line (formulas.UnknownName offset) = line (codes "formula") (codes "UnknownName") (number (codes "offset") offset ∷ [])
+formula_line (formulas.TooDeep offset) = line (codes "formula") (codes "TooDeep") (number (codes "offset") offset ∷ [])
+formula_line (formulas.TooManyTerms offset) = line (codes "formula") (codes "TooManyTerms") (number (codes "offset") offset ∷ [])
+formula_line (formulas.PowerRange offset) = line (codes "formula") (codes "PowerRange") (number (codes "offset") offset ∷ [])
+formula_line (formulas.NumberTooWide offset) = line (codes "formula") (codes "NumberTooWide") (number (codes "offset") offset ∷ [])
+formula_line formulas.OutOfMemory = memory_line
+
+-- a table that has no design by the formula
 unfoldable pub design_line : DesignFault → List ℕ
-design_line designs.UnknownWeights = codes "quantreg: design: UnknownWeights\n"
-design_line designs.ResponseNotNumeric = codes "quantreg: design: ResponseNotNumeric\n"
-design_line designs.WeightNotNumeric = codes "quantreg: design: WeightNotNumeric\n"
-design_line (designs.NumberTooWide rec column) = codes "quantreg: design: NumberTooWide" ++ field (codes " record=") rec ++ named (codes " column=") column ++ codes "\n"
-design_line (designs.NegativeWeight rec) = codes "quantreg: design: NegativeWeight" ++ field (codes " record=") rec ++ codes "\n"
-design_line designs.NoRows = codes "quantreg: design: NoRows\n"
-design_line (designs.OneLevel factor) = codes "quantreg: design: OneLevel" ++ named (codes " factor=") factor ++ codes "\n"
-design_line designs.NoColumns = codes "quantreg: design: NoColumns\n"
-design_line designs.TooManyColumns = codes "quantreg: design: TooManyColumns\n"
-design_line (designs.Overflow spill) = codes "quantreg: design: Overflow" ++ spill_text spill ++ codes "\n"
+design_line designs.UnknownWeights = line (codes "design") (codes "UnknownWeights") []
+design_line designs.ResponseNotNumeric = line (codes "design") (codes "ResponseNotNumeric") []
+design_line designs.WeightNotNumeric = line (codes "design") (codes "WeightNotNumeric") []
+design_line (designs.NumberTooWide rec column) = line (codes "design") (codes "NumberTooWide") (number (codes "record") rec ∷ text (codes "column") column ∷ [])
+design_line (designs.NegativeWeight rec) = line (codes "design") (codes "NegativeWeight") (number (codes "record") rec ∷ [])
+design_line designs.NoRows = line (codes "design") (codes "NoRows") []
+design_line (designs.OneLevel factor) = line (codes "design") (codes "OneLevel") (text (codes "factor") factor ∷ [])
+design_line designs.NoColumns = line (codes "design") (codes "NoColumns") []
+design_line designs.TooManyColumns = line (codes "design") (codes "TooManyColumns") []
+design_line (designs.Overflow spill) = line (codes "design") (codes "Overflow") (spill_text spill ∷ [])
 design_line designs.OutOfMemory = memory_line
 
--- the line of a design that is too large
+-- a design that is too large
 unfoldable pub program_line : ProgramFault → List ℕ
-program_line programs.TooManyRows = codes "quantreg: program: TooManyRows\n"
-program_line programs.TooManyColumns = codes "quantreg: program: TooManyColumns\n"
+program_line programs.TooManyRows = line (codes "program") (codes "TooManyRows") []
+program_line programs.TooManyColumns = line (codes "program") (codes "TooManyColumns") []
 program_line programs.OutOfMemory = memory_line
 
--- an item of a list: a comma stands before all but the first
-abbrev pub listed : ℕ → Frac128 → List ℕ
-listed place x = (if place == 0 then [] else codes ",") ++ number_text_of (value x)
+-- an input that has no report; the combination of dependent columns is 0 in every row
+abbrev pub refusal_line : Refusal → List ℕ
+refusal_line TooLong = line (codes "input") (codes "TooLong") []
+refusal_line (Table fault) = table_line fault
+refusal_line (Formula fault) = formula_line fault
+refusal_line (Design fault) = design_line fault
+refusal_line (Program fault) = program_line fault
+refusal_line (Dependent combination) = line (codes "solver") (codes "Dependent") (fractions (codes "combination") combination ∷ [])
 
--- the line of dependent columns, with a combination of them that is 0 in every row
-unfoldable pub dependent_line : List Frac128 → List ℕ
-dependent_line combination = codes "quantreg: solver: Dependent combination=" ++ numbered listed 0 combination ++ codes "\n"
-
--- what names the place where the solver stopped
-abbrev pub place_text : Place → List ℕ
-place_text Process = codes " place=process"
-
--- the line of a pivot limit that is reached
-unfoldable pub limit_line : Place → ℕ → List ℕ
-limit_line place limit = codes "quantreg: solver: PivotLimit" ++ place_text place ++ field (codes " limit=") limit ++ codes "\n"
-
--- the line of an operation of the solver that overflows
-unfoldable pub overflow_line : Place → Spill Frac128 → List ℕ
-overflow_line place spill = codes "quantreg: solver: Overflow" ++ place_text place ++ spill_text spill ++ codes "\n"
-
--- the line of a halt; trails aren't printed
+-- a halt; trails aren't printed
 abbrev pub halt_line : Halt → List ℕ
-halt_line (Refused TooLong) = codes "quantreg: input: TooLong\n"
-halt_line (Refused (Table fault)) = table_line fault
-halt_line (Refused (Formula fault)) = formula_line fault
-halt_line (Refused (Design fault)) = design_line fault
-halt_line (Refused (Program fault)) = program_line fault
-halt_line (Refused (Dependent combination)) = dependent_line combination
+halt_line (Refused refusal) = refusal_line refusal
 halt_line OutOfMemory = memory_line
-halt_line (PivotLimit place limit trail) = limit_line place limit
-halt_line (Overflow place trail spill) = overflow_line place spill
-halt_line (NotBuilt part) = not_built_line part
-
--- the line of words that are refused
-unfoldable pub usage_line : WordFault → List ℕ
-usage_line NoJob = codes "quantreg: usage: NoJob\n"
-usage_line UnknownJob = codes "quantreg: usage: UnknownJob\n"
-usage_line BadOption = codes "quantreg: usage: BadOption\n"
-usage_line (BadNumber option) = codes "quantreg: usage: BadNumber option=" ++ name_bytes option ++ codes "\n"
-usage_line BadRange = codes "quantreg: usage: BadRange\n"
-usage_line BadTauForRank = codes "quantreg: usage: BadTauForRank\n"
-usage_line NegativeLimit = codes "quantreg: usage: NegativeLimit\n"
-usage_line BadContrasts = codes "quantreg: usage: BadContrasts\n"
-usage_line RankHalf = codes "quantreg: usage: RankHalf\n"
-usage_line words.OutOfMemory = memory_line
+halt_line (PivotLimit place limit trail) = line (codes "solver") (codes "PivotLimit") (word (codes "place") (place_name place) ∷ number (codes "limit") limit ∷ [])
+halt_line (Overflow place trail spill) = line (codes "solver") (codes "Overflow") (word (codes "place") (place_name place) ∷ spill_text spill ∷ [])
+halt_line (NotBuilt part) = line (codes "build") (codes "NotBuilt") (number (codes "part") part ∷ [])
 
 -- the line of each fault
 abbrev pub fault_line : Fault → List ℕ

@@ -9,6 +9,8 @@
 #![tactic(auto)]
 
 mod fault;
+pub mod laws;
+mod line;
 mod lines;
 mod page;
 mod quantity;

@@ -16,11 +16,11 @@ code_of (PivotLimit _ _ _) = 6
 code_of (Overflow _ _ _) = 7
 code_of (NotBuilt _) = 9
 
--- the status is that of a run of the words over an input of these bytes, where they are told, and outputs that tell none
-pub record IsStatus (words : List (List ℕ)) (bytes : Option (List ℕ)) (status : ℕ) : Type 0 where
+-- a run of the words over this input, and outputs that tell no bytes, ends with the status
+pub record IsStatus (words : List (List ℕ)) (input : Option (List ℕ)) (status : ℕ) : Type 0 where
   pub outcome : Outcome
   pub source : Stream
   pub out : Stream
   pub err : Stream
-  pub ran : IsRun words (stream bytes 0) source (stream None 0) out (stream None 0) err outcome
+  pub ran : IsRun words (stream input 0) source (stream None 0) out (stream None 0) err outcome
   pub code : status ≡ code_of outcome

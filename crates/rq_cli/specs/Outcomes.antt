@@ -89,8 +89,7 @@ pub record AskBuilt (words : List (List ℕ)) : Type 0 where
   pub asked : IsJobOf words job
   pub built : IsBuilt job
 
--- why a run has no report: each fault has its cause in the words and in what came of the source.
--- Want of memory is the free answer: it may come at any step
+-- the words and what came of the source are the cause of this fault; want of memory, the free answer, needs none
 abbrev pub IsFault : List (List ℕ) → Stream → Stream → Outcome → Type 0
 IsFault words before now (Refused TooLong) = IsTooLong words before now
 IsFault words before now (Refused refusal) = IsHalted words before now (halts.Refused refusal)
@@ -124,7 +123,7 @@ pub record IsErrorFault (words : List (List ℕ)) (source source' out out' err e
   pub rose : Rose err.faults err'.faults
   pub part : AppendsPart err.bytes err'.bytes (outcome_line fault)
 
--- why a run has this outcome: a report is right, a sink failed, or there is a fault
+-- why a run has this outcome: a report is right, a sink failed, or a fault has its cause
 abbrev pub HasCause : List (List ℕ) → (source source' out out' err err' : Stream) → Outcome → Type 0
 HasCause words source source' out out' err err' (Done report) = IsAnswered words source source' report
 HasCause words source source' out out' err err' SinkFault =

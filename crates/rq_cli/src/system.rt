@@ -12,9 +12,9 @@ use std::env::Env;
 use std::io::{Read, Write};
 use std::thread::Threads;
 
-/// All of the program but the handing over of streams: the exit status of a run of the words that
-/// stand behind the program's name. Where the words can't be taken from the system, it is 5, and
-/// nothing is read or written.
+/// All of the program but the handing over of streams: the exit status of a run of the words behind
+/// the program's name. Where these can't be taken from the system, it is 5, and nothing is read or
+/// written.
 pub fn program<R, I: Read + Drop, O: Write + Drop, E: Write + Drop>(
     rt: &R,
     input: I,
@@ -43,7 +43,8 @@ fn words_of<R: Env + Alloc<A = Global>>(rt: &R) -> Result<Vec<String>, AllocErro
     Ok(words)
 }
 
-/// The exit status of a run of the words over these streams, which is flushed after each write.
+/// The exit status of a run of the words over these streams: a report goes to the output and the
+/// line of a fault to the errors, and each write is flushed.
 pub fn status<R: Threads + Sync, I: Read + Drop, O: Write + Drop, E: Write + Drop>(
     rt: &R,
     alloc: Global,

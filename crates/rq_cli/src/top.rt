@@ -25,9 +25,11 @@ use std::thread::Threads;
 /// are dependent. `NotBuilt` comes with part 3 exactly where the formula has a smooth. `PivotLimit`
 /// comes only where the lawful trail of the problem has as many pivots as the words' limit says and one
 /// more is left, and `Overflow` only where an operation that the solve names overflows.
-/// `SourceFault` and `SinkFault` come only where the count of faults of the source or of a sink rose
-/// in this call, and where it grew there is no other outcome but `SinkFault`. `OutOfMemory` may come
-/// in place of what would follow, and never after a write to `out`.
+/// `SourceFault` comes only where the words ask for a job that this version does and the source's
+/// count of faults rose in this call; where it grew there is no other outcome, unless the line of
+/// `SourceFault` couldn't be told. `SinkFault` comes only where the count of `out` or of `err` rose;
+/// where one grew there is no other outcome. `OutOfMemory` may come in place of what would follow,
+/// and never after a write to `out`.
 pub fn run<R: Threads + Sync, S: Source, K: Sink, E: Sink>(
     rt: &R,
     alloc: Global,

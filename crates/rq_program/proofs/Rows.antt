@@ -5,7 +5,7 @@ use Rattle.std.proofs.Math.Seq.{take-length}
 use Rattle.std.proofs.lemmas.List.{get_or-map, length-append, length-map, length-replicate, map-append, take_more}
 use Rattle.std.proofs.lemmas.List.Elements.{All-append, All-map}
 use Rattle.std.proofs.lemmas.Slice.Zip.{get_or-zip, length-zip}
-use Rattle.exact_algebra.specs.Rational.{ℚ, whole}
+use Rattle.exact_algebra.specs.Rational.{ℚ, neg_ℚ, whole}
 use Rattle.frac_core.specs.declared.frac128.Frac128.{Frac128}
 use Rattle.data_frame.specs.Views.{exact}
 use Rattle.loss_model.specs.declared.problem.Row.{Row}
@@ -105,5 +105,13 @@ padded_row width penalty nought y up1 down1 noughts after zero_nought zero_y zer
     let entries : map exact after ≡ replicate width (whole (pos 0)) ++ map exact penalty.x =
     ap (map exact) joined ∙ map-append exact noughts penalty.x
     ∙ ap (λ z. z ++ map exact penalty.x) (ap (map exact) filled ∙ map_replicate exact width nought ∙ ap (replicate width) zero_nought)
+    in
+    cc
+
+-- a row of a design with its entries of the smooths behind its own
+pub joined_row : (r : DesignRow) (smooth none own front after : List Frac128) (up0 down1 : Frac128) → exact up0 ≡ whole (pos 0) → exact down1 ≡ neg_ℚ (exact r.weight) → none ≡ [] → own ≡ r.x → front ≡ none ++ own → after ≡ front ++ smooth → exact_row (record { x = after; y = r.y; up0 = up0; up1 = r.weight; down0 = r.weight; down1 = down1 }) ≡ data_row (r, smooth)
+joined_row r smooth none own front after up0 down1 zero_up negated_down empty own_is first second =
+    let entries : map exact after ≡ map exact r.x ++ map exact smooth =
+    ap (map exact) (second ∙ ap (λ z. z ++ smooth) (first ∙ ap (λ z. z ++ own) empty ∙ own_is)) ∙ map-append exact r.x smooth
     in
     cc

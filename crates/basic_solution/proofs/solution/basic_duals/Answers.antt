@@ -18,7 +18,7 @@ returns-in_err-weights-clause-spill g c =
     let q = err_from_is_err_and c.from_residual.result c.from_residual.ensures.1 in
     rw (q.1, q.2)
     (short_map (IsTotalsSpill value range p (side_in c.args.sides.now) c.args.part) (IsDualSpill value range p at a) c.in_err-weights.field-0.0
-    (λ s (k, l, h). inl (c.args.part, k, l, total_spill-same p (side_in c.args.sides.now) (side_at p at a) c.requires.sides c.args.part k value range s h))
+    (λ s (k, l, h). inl (c.args.part, (k, l, total_spill-same p (side_in c.args.sides.now) (side_at p at a) c.requires.sides c.args.part k value range s h)))
     (c.in_err-weights.ensures {u = tt}).spill)
 
 pub returns : goal.returns
@@ -38,6 +38,6 @@ returns g c =
       each = IfOk-weaker c.balancing_values.result _ _ (λ found h j l. h j l ∙ balancing-same p.columns a (value_at value weights) (nonbasic_total p (side_at p at a) c.args.part) same j) made.each;
       spill = IfErr-weaker c.balancing_values.result _ _
           (λ e. short_map (IsBalancingsSpill value range p.columns a (value_at value weights) c.args.part) (IsDualSpill value range p at a) e
-          (λ s (j, l, h). inr (c.args.part, j, l, balancing_spill-same p.columns a (value_at value weights) (nonbasic_total p (side_at p at a) c.args.part) same value range c.args.part j s h)))
+          (λ s (j, l, h). inr (c.args.part, (j, l, balancing_spill-same p.columns a (value_at value weights) (nonbasic_total p (side_at p at a) c.args.part) same value range c.args.part j s h))))
           made.spill;
     }

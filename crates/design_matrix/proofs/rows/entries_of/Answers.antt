@@ -1,5 +1,6 @@
-use Rattle.std.proofs.Common.{List, ap, inr, map, refl, subst, take_all, ◌∙◌, Vec}
+use Rattle.std.proofs.Common.{List, ap, inl, inr, map, refl, subst, take_all, ◌∙◌, Vec}
 use Rattle.std.specs.declared.alloc.Global.{Global}
+use Rattle.std.proofs.lemmas.Result.{err_from_is_err_and}
 use Rattle.data_frame.specs.Views.{exact}
 use Rattle.design_matrix.specs.declared.part.Part.{Part as Held}
 use Rattle.design_matrix.specs.Designs.{OverflowsInColumn, RowFits}
@@ -35,3 +36,17 @@ pub returns-clause-fits : goal.returns-clause-fits
 returns-clause-fits c =
     let Q : List (Vec Held Global) → Type 0 = λ l. RowFits (columns_seen l) c.args.place in
     subst Q (take_all _ _ c.loop-column-test.false) c.loop-column.invariant.fits
+
+pub returns-clause-exact : goal.returns-clause-exact
+returns-clause-exact c =
+    c.loop-column.invariant.made ∙ ap (λ l. map (λ x. product (factors x c.args.place)) (columns_seen l)) (take_all _ _ c.loop-column-test.false)
+
+pub returns-in_err-entries-clause-fault : goal.returns-in_err-entries-clause-fault
+returns-in_err-entries-clause-fault c =
+    let p = err_from_is_err_and c.from_residual.result c.from_residual.ensures.1 in
+    rw p.1 (inl p.2)
+
+pub returns-in_err-push-in-Ok-clause-fault : goal.returns-in_err-push-in-Ok-clause-fault
+returns-in_err-push-in-Ok-clause-fault c =
+    let p = err_from_is_err_and c.from_residual-in_err-push-in-Ok.result c.from_residual-in_err-push-in-Ok.ensures.1 in
+    rw p.1 (inl p.2)

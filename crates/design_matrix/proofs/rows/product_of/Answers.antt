@@ -1,4 +1,4 @@
-use Rattle.std.proofs.Common.{◌≡◌, ap, arith, length, map, pos, refl, slice_index_or}
+use Rattle.std.proofs.Common.{◌≡◌, arith, length, map, pos, slice_index_or}
 use Rattle.exact_algebra.specs.Rational.{whole}
 use Rattle.design_matrix.specs.Parts.{factors}
 use Rattle.design_matrix.specs.Views.{part_seen}
@@ -21,13 +21,16 @@ loop-term-preserved c =
     }
 
 pub returns-in-Err-clause-spill : goal.returns-in-Err-clause-spill
-returns-in-Err-clause-spill c = record {
-  term = c.loop-term.term;
-  site = ap (λ z. z.site) c.in-Err.ensures.spill.is;
-  first = c.loop-term.invariant.fits;
-  overflows = spilt part_seen (λ p. slice_index_or p.entries c.args.place (whole (pos 0))) c.args.parts.now _ _ _ _ _ _
-      refl c.loop-term-test.true c.index-parts-term.is c.loop-term.invariant.value c.entry.ensures c.in-Err.ensures.spill;
-}
+returns-in-Err-clause-spill c =
+    let spilled = c.in-Err.ensures.spill in
+    let n : length (factors (map part_seen c.args.parts.now) c.args.place) ≡ length c.args.parts.now = length_maps part_seen (λ p. slice_index_or p.entries c.args.place (whole (pos 0))) c.args.parts.now in
+    record {
+      term = c.loop-term.term;
+      some = spilled.0;
+      more = omega (arith, n, c.loop-term-test.true);
+      first = c.loop-term.invariant.fits;
+      operation = spilt part_seen (λ p. slice_index_or p.entries c.args.place (whole (pos 0))) c.args.parts.now _ _ _ _ _ _ c.loop-term-test.true c.index-parts-term.is c.loop-term.invariant.value c.entry.ensures spilled.1;
+    }
 
 pub returns-clause-fits : goal.returns-clause-fits
 returns-clause-fits c t h =

@@ -1,0 +1,176 @@
+//! The one printer of fault lines, and the kinds of their fields.
+ghost use Rattle.std.specs.Prelude.{◌≡◌, ◌++◌, OnOk, codes, decimal};
+ghost use Rattle.std.specs.List.{flat_map};
+ghost use Rattle.report_text.specs.FaultText.{fraction, fractions, indices_text, key, listed, number, site_text, spill_text, text, word};
+ghost use Rattle.report_text.specs.Fields.{shown};
+ghost use Rattle.report_text.specs.ReportText.{numbered};
+
+use crate::page::Page;
+use crate::quantity::{PrintedIndices, indices, op_name, quantity_name};
+use frac_core::{Frac128, OutOfMemory, Text};
+use loss_model::{Site, Spill};
+
+/// A field of a line, by the kind of its value: a number as it stands, a position, which is printed
+/// from 1, a word of the program's own, a text, fractions, or an operation that overflows.
+#[derive(Clone, Copy)]
+pub(crate) enum Field<'a> {
+    Number(&'static [u8], u32),
+    Position(&'static [u8], u32),
+    Word(&'static [u8], &'static [u8]),
+    Name(&'static [u8], &'a Text),
+    Fractions(&'static [u8], &'a [Frac128]),
+    Spill(&'a Spill<Frac128>),
+}
+
+impl Page {
+    /// Adds the line of a fault: its group, its name and its fields.
+    pub(crate) fn line(
+        &mut self,
+        group: &[u8],
+        name: &[u8],
+        fields: &[Field],
+    ) -> Result<(), OutOfMemory>
+        ensures { OnOk result (self.new ≡ self.old ++ (codes "quantreg: " ++ group.now ++ codes ": " ++ name.now ++ flat_map shown fields.now ++ codes "\n")) }
+    {
+        self.put(b"quantreg: ")?;
+        self.put(group)?;
+        self.put(b": ")?;
+        self.put(name)?;
+        self.put_fields(fields)?;
+        self.put(b"\n")
+    }
+
+    fn put_fields(&mut self, fields: &[Field]) -> Result<(), OutOfMemory>
+        ensures { OnOk result (self.new ≡ self.old ++ flat_map shown fields.now) }
+    {
+        for field in fields {
+            self.put_field(field)?;
+        }
+        Ok(())
+    }
+
+    fn put_field(&mut self, field: &Field) -> Result<(), OutOfMemory>
+        ensures { OnOk result (self.new ≡ self.old ++ shown field.now) }
+    {
+        match field {
+            Field::Number(name, count) => self.put_counted(name, *count as u64),
+            Field::Position(name, place) => self.put_counted(name, *place as u64 + 1),
+            Field::Word(name, told) => self.put_word(name, told),
+            Field::Name(name, text) => self.put_text(name, text),
+            Field::Fractions(name, list) => self.put_fractions(name, list),
+            Field::Spill(spill) => self.put_spill(spill),
+        }
+    }
+
+    // What names a field.
+    fn put_key(&mut self, name: &[u8]) -> Result<(), OutOfMemory>
+        ensures { OnOk result (self.new ≡ self.old ++ key name.now) }
+    {
+        self.put(b" ")?;
+        self.put(name)?;
+        self.put(b"=")
+    }
+
+    fn put_counted(&mut self, name: &[u8], count: u64) -> Result<(), OutOfMemory>
+        ensures { OnOk result (self.new ≡ self.old ++ number name.now count) }
+    {
+        self.put_key(name)?;
+        self.put_count(count)
+    }
+
+    fn put_word(&mut self, name: &[u8], told: &[u8]) -> Result<(), OutOfMemory>
+        ensures { OnOk result (self.new ≡ self.old ++ word name.now told.now) }
+    {
+        self.put_key(name)?;
+        self.put(told)
+    }
+
+    fn put_text(&mut self, name: &[u8], told: &Text) -> Result<(), OutOfMemory>
+        ensures { OnOk result (self.new ≡ self.old ++ text name.now told.now) }
+    {
+        self.put_key(name)?;
+        self.put_name(told)
+    }
+
+    fn put_fraction(&mut self, name: &[u8], told: Frac128) -> Result<(), OutOfMemory>
+        ensures { OnOk result (self.new ≡ self.old ++ fraction name.now told) }
+    {
+        self.put_key(name)?;
+        self.put_number(told)
+    }
+
+    fn put_fractions(&mut self, name: &[u8], told: &[Frac128]) -> Result<(), OutOfMemory>
+        ensures { OnOk result (self.new ≡ self.old ++ fractions name.now told.now) }
+    {
+        self.put_key(name)?;
+        self.put_numbers(told)
+    }
+
+    // Fractions with commas between them.
+    fn put_numbers(&mut self, numbers: &[Frac128]) -> Result<(), OutOfMemory>
+        ensures { OnOk result (self.new ≡ self.old ++ numbered listed 0 numbers.now) }
+    {
+        for (place, number) in numbers.iter().enumerate() {
+            self.put_listed(place, *number)?;
+        }
+        Ok(())
+    }
+
+    // An item of a list, with a comma before all but the first.
+    fn put_listed(&mut self, place: usize, number: Frac128) -> Result<(), OutOfMemory>
+        ensures { OnOk result (self.new ≡ self.old ++ listed place number) }
+    {
+        if place > 0 {
+            self.put(b",")?;
+        }
+        self.put_number(number)
+    }
+
+    // Numbers with a comma between them.
+    #[tactic(auto, unfolding(crate::specs::FaultText::indices_text))]
+    fn put_indices(&mut self, indices: PrintedIndices) -> Result<(), OutOfMemory>
+        ensures { OnOk result (self.new ≡ self.old ++ indices_text indices) }
+    {
+        match indices {
+            PrintedIndices::One(first) => self.put_count(first),
+            PrintedIndices::Two(first, second) => {
+                self.put_count(first)?;
+                self.put_after_comma(second)
+            }
+            PrintedIndices::Three(first, second, third) => {
+                self.put_count(first)?;
+                self.put_after_comma(second)?;
+                self.put_after_comma(third)
+            }
+        }
+    }
+
+    fn put_after_comma(&mut self, count: u64) -> Result<(), OutOfMemory>
+        ensures { OnOk result (self.new ≡ self.old ++ (codes "," ++ decimal count)) }
+    {
+        self.put(b",")?;
+        self.put_count(count)
+    }
+
+    // Where an operation stands.
+    #[tactic(auto, unfolding(crate::specs::FaultText::site_text))]
+    fn put_site(&mut self, site: &Site) -> Result<(), OutOfMemory>
+        ensures { OnOk result (self.new ≡ self.old ++ site_text site.now) }
+    {
+        self.put_word(b"quantity", quantity_name(site.quantity))?;
+        self.put_key(b"at")?;
+        self.put_indices(indices(site))?;
+        self.put_counted(b"term", site.term as u64)
+    }
+
+    // An operation that overflows.
+    #[tactic(auto, unfolding(crate::specs::FaultText::spill_text))]
+    fn put_spill(&mut self, spill: &Spill<Frac128>) -> Result<(), OutOfMemory>
+        ensures { OnOk result (self.new ≡ self.old ++ spill_text spill.now) }
+    {
+        self.put_site(&spill.site)?;
+        self.put_word(b"op", op_name(spill.site.kind))?;
+        self.put_fraction(b"left", spill.left)?;
+        self.put_fraction(b"right", spill.right)
+    }
+}

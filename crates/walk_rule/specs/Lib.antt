@@ -1,0 +1,16 @@
+pub mod Families
+pub mod Walks
+pub mod WalkTrails
+pub mod Stays
+pub mod Underway
+pub mod Rays
+pub mod Complements
+pub mod WalkSpills
+pub mod SlopeLaws
+pub mod BreakLaws
+pub mod JointLaws
+pub mod EntryLaws
+pub mod TrailLaws
+pub mod CoverLaws
+pub mod TestedLaws
+pub mod ImprovingLaws
