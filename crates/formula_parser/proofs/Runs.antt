@@ -1,5 +1,6 @@
 -- The code of a tree does what the tree means.
-use Rattle.std.proofs.Common.{◌≡◌, ℕ, Bool, List, [], ◌∷◌, ◌++◌, append-nil, Result, Ok, Err, refl, sym, ◌∙◌, ap, append_assoc}
+use Rattle.std.proofs.Common.{◌≡◌, ◌<◌, ◌≤◌, ◌+◌, ℕ, suc, length, drop, drop-cons, get_or, add-one, Bool, List, [], ◌∷◌, ◌++◌, append-nil, Result, Ok, Err, refl, sym, ◌∙◌, ap, append_assoc}
+use Rattle.std.proofs.lemmas.List.{drop_all}
 use Rattle.formula_grammar.specs.declared.token.Span.{Span}
 use Rattle.formula_grammar.specs.declared.token.Sign.{Sign}
 use Rattle.formula_grammar.specs.declared.token.Sign.TheVariants.{Plus, Minus}
@@ -11,7 +12,9 @@ use Rattle.formula_grammar.specs.Grammar.{Term as TermItem}
 use Rattle.formula_grammar.specs.Codes.{signed_step, sum_code, product_code, inter_code, power_code, atom_code, items_code}
 use Rattle.formula_parser.specs.Terms.{Term, Terms, cross, raised, times}
 use Rattle.formula_parser.specs.Meaning.{◌>>=◌, limited, combined, sum_meaning, product_meaning, inter_meaning, power_meaning, atom_meaning, items_meaning}
-use Rattle.formula_parser.specs.Stack.{act, exec, pushed, run_steps, top}
+use Rattle.formula_parser.specs.declared.evaluation.Halt.{Halt}
+use Rattle.formula_parser.specs.declared.evaluation.Halt.TheVariants.{OutOfMemory, TooManyTerms}
+use Rattle.formula_parser.specs.Stack.{Halts, act, exec, pushed, run_steps, top}
 
 bind_assoc : {A B C : Type 0} (r : Result A ℕ) (f : A → Result B ℕ) (g : B → Result C ℕ) → ((r >>= f) >>= g) ≡ (r >>= λ x. f x >>= g)
 bind_assoc (Ok x) f g = refl
@@ -103,3 +106,27 @@ module _ (only : Span → Bool → Term) (all : Terms) where
       ap (λ (c : List Step). exec only all c [] >>= λ s. Ok (top s)) (sym (append-nil (items_code j)))
       ∙ ap (λ (r : Result (List Terms) ℕ). r >>= λ s. Ok (top s)) (items_runs j [] [])
       ∙ itself (items_meaning only all j)
+
+  -- a step is done, and the rest goes on from what it leaves
+  pub goes_on : (code : List Step) (i : ℕ) (d : Step) (stack next : List Terms) (r : Result (List Terms) ℕ) → i < length code → act only all (get_or code i d) stack ≡ Ok next
+      → exec only all (drop i code) stack ≡ r → exec only all (drop (i + 1) code) next ≡ r
+  goes_on code i d stack next r within acts before =
+      ap (λ (n : ℕ). exec only all (drop n code) next) (add-one i)
+      ∙ sym (ap (λ (q : Result (List Terms) ℕ). q >>= λ s. exec only all (drop (suc i) code) s) acts)
+      ∙ sym (ap (λ (l : List Step). exec only all l stack) (drop-cons code i d within))
+      ∙ before
+
+  -- a step stops, and so do the steps
+  pub stops_at : (code : List Step) (i : ℕ) (d : Step) (stack : List Terms) (h : Halt) → i < length code → Halts (act only all (get_or code i d) stack) h
+      → exec only all (drop i code) stack ≡ exec only all code [] → Halts (run_steps only all code) h
+  stops_at code i d stack OutOfMemory within halts before = tt
+  stops_at code i d stack (TooManyTerms n) within halts before =
+      ap (λ (q : Result (List Terms) ℕ). q >>= λ s. Ok (top s))
+      (sym before
+      ∙ ap (λ (l : List Step). exec only all l stack) (drop-cons code i d within)
+      ∙ ap (λ (q : Result (List Terms) ℕ). q >>= λ s. exec only all (drop (suc i) code) s) halts)
+
+  -- all steps are done
+  pub leaves : (code : List Step) (i : ℕ) (stack : List Terms) → length code ≤ i → exec only all (drop i code) stack ≡ exec only all code [] → run_steps only all code ≡ Ok (top stack)
+  leaves code i stack done before =
+      ap (λ (q : Result (List Terms) ℕ). q >>= λ s. Ok (top s)) (sym before ∙ ap (λ (l : List Step). exec only all l stack) (drop_all i code done))

@@ -161,3 +161,15 @@ pub raised_more : (i : ℕ) (a p p' : Terms) → 1 ≤ i → p ≡ raised_by (i 
 raised_more i a p p' one e f =
     let next : i + 1 - 1 ≡ suc (i - 1) = omega arith in
     f ∙ ap (λ (x : Terms). plus x (unions x a)) e ∙ sym (raised_next (i - 1) a) ∙ ap (λ (n : ℕ). raised_by n a) (sym next)
+
+-- a sum goes on from its first term
+pub plus_on : (other seen : Terms) (i : ℕ) (x : Term) (all next r : Terms) → seen ≡ other → i < length seen → x ≡ get_or seen i x → next ≡ with_term all x
+    → plus all (drop i other) ≡ r → plus next (drop (i + 1) other) ≡ r
+plus_on other seen i x all next r same within here new before =
+    let lt : i < length other = omega (arith, ap length same) in
+    let item : x ≡ get_or other i x = here ∙ ap (λ (l : Terms). get_or l i x) same in
+    ap (λ (a : Terms). plus a (drop (i + 1) other)) new
+    ∙ ap (λ (n : ℕ). plus (with_term all x) (drop n other)) (add-one i)
+    ∙ ap (λ (t : Term). plus (with_term all t) (drop (suc i) other)) item
+    ∙ sym (ap (plus all) (drop-cons other i x lt))
+    ∙ before

@@ -1,6 +1,7 @@
 //! The problem of a design without smooths.
 ghost use Rattle.std.specs.Prelude.{◌≡◌, ◌≤◌, All, IfErr, IfOk, length};
 ghost use Rattle.loss_model.specs.Problem.{IsWellShaped};
+ghost use Rattle.rq_program.specs.Costs.{HasDataRows};
 ghost use Rattle.rq_program.specs.Faults.{HasCause};
 ghost use Rattle.rq_input.specs.Models.{no_smoothing as no_smoothing_of, IsProblemOf};
 
@@ -35,6 +36,7 @@ pub(crate) fn plain_problem(
     requires some { 1 ≤ length design.now.names }
     ensures shaped { IfOk result IsWellShaped }
     ensures is { IfOk result (IsProblemOf design.now) }
+    ensures rows { IfOk result (HasDataRows design.now (no_smoothing_of (length design.now.rows))) }
     ensures cause { IfErr result (HasCause design.now (no_smoothing_of (length design.now.rows))) }
 {
     match no_smoothing(alloc, design.rows.as_slice().len()) {

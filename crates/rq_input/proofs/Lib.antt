@@ -1,2 +1,0 @@
-pub mod DataRows
-pub mod Designs
