@@ -135,37 +135,42 @@ fn dependent(alloc: Global, numbers: &[(i128, i128)]) -> Result<Halt, Fail> {
     Ok(Halt::Refused(Refusal::Dependent { combination }))
 }
 
+// A combination of columns, and the line that lists it.
+static COMBINATIONS: [(&[(i128, i128)], &[u8]); 2] = [
+    (&[(1, 1)], b"quantreg: solver: Dependent combination=1\n"),
+    (
+        &[(0, 1), (-2, 3), (1, 1)],
+        b"quantreg: solver: Dependent combination=0,-2/3,1\n",
+    ),
+];
+
+fn is_listed(alloc: Global, numbers: &[(i128, i128)], line: &[u8]) -> Result<bool, Fail> {
+    let halt = dependent(alloc, numbers)?;
+    is_line(alloc, &halt, line)
+}
+
 #[test]
 fn dependent_columns_are_listed(rt: HostRuntime) -> Result<(), Fail> {
-    let one = dependent(rt.alloc(), &[(1, 1)])?;
-    let told = is_line(
-        rt.alloc(),
-        &one,
-        b"quantreg: solver: Dependent combination=1\n",
-    )?;
-    assert!(rt; told);
-    let three = dependent(rt.alloc(), &[(0, 1), (-2, 3), (1, 1)])?;
-    let told = is_line(
-        rt.alloc(),
-        &three,
-        b"quantreg: solver: Dependent combination=0,-2/3,1\n",
-    )?;
-    assert!(rt; told);
+    for (numbers, line) in &COMBINATIONS {
+        let told = is_listed(rt.alloc(), numbers, line)?;
+        assert!(rt; told);
+    }
     Ok(())
+}
+
+fn is_limit_told(alloc: Global, line: &[u8]) -> Result<bool, Fail> {
+    let halt = Halt::PivotLimit {
+        place: Place::Process,
+        limit: 2,
+        trail: no_trail(alloc),
+    };
+    is_line(alloc, &halt, line)
 }
 
 #[test]
 fn a_limit_is_told_with_its_place(rt: HostRuntime) -> Result<(), Fail> {
-    let halt = Halt::PivotLimit {
-        place: Place::Process,
-        limit: 2,
-        trail: no_trail(rt.alloc()),
-    };
-    let told = is_line(
-        rt.alloc(),
-        &halt,
-        b"quantreg: solver: PivotLimit place=process limit=2\n",
-    )?;
+    let line = b"quantreg: solver: PivotLimit place=process limit=2\n";
+    let told = is_limit_told(rt.alloc(), line)?;
     assert!(rt; told);
     Ok(())
 }

@@ -48,8 +48,36 @@ pub(crate) struct Left {
     pub told: Vec<u8>,
 }
 
-/// A run of the words over a source. It has no clause: a test compares what is left, and needs nothing
-/// of what is proved.
+// A sink that takes 5 bytes a write.
+fn sink(alloc: Global, room: usize, fails: &[u32]) -> Result<MemSink, Fail> {
+    let fails = fails.to_vec(alloc)?;
+    Ok(MemSink::new(alloc, room, 5, fails)?)
+}
+
+// The run and its status. It has no clause: a test compares what is left, and needs nothing of what is
+// proved.
+fn status_of<R: Threads + Sync, S: Source>(
+    rt: &R,
+    alloc: Global,
+    words: &[String],
+    source: &mut S,
+    out: &mut MemSink,
+    err: &mut MemSink,
+) -> u8 {
+    run(rt, alloc, words, source, out, err).code()
+}
+
+fn left_on(alloc: Global, status: u8, out: &MemSink, err: &MemSink) -> Result<Left, Fail> {
+    let printed = out.written().to_vec(alloc)?;
+    let told = err.written().to_vec(alloc)?;
+    Ok(Left {
+        status,
+        printed,
+        told,
+    })
+}
+
+/// A run of the words over a source.
 pub(crate) fn ran<R: Threads + Sync, S: Source>(
     rt: &R,
     alloc: Global,
@@ -58,14 +86,10 @@ pub(crate) fn ran<R: Threads + Sync, S: Source>(
     outputs: &Outputs,
 ) -> Result<Left, Fail> {
     let words = words_of(alloc, line)?;
-    let mut out = MemSink::new(alloc, outputs.room, 5, outputs.writes.to_vec(alloc)?)?;
-    let mut err = MemSink::new(alloc, 4096, 5, outputs.tellings.to_vec(alloc)?)?;
-    let outcome = run(rt, alloc, &words, source, &mut out, &mut err);
-    Ok(Left {
-        status: outcome.code(),
-        printed: out.written().to_vec(alloc)?,
-        told: err.written().to_vec(alloc)?,
-    })
+    let mut out = sink(alloc, outputs.room, outputs.writes)?;
+    let mut err = sink(alloc, 4096, outputs.tellings)?;
+    let status = status_of(rt, alloc, &words, source, &mut out, &mut err);
+    left_on(alloc, status, &out, &err)
 }
 
 /// A run of the words on a table, where nothing fails.
