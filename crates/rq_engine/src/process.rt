@@ -1,5 +1,5 @@
 //! The job `process` at one quantile: the input, the solve, and what is told of its vertex.
-ghost use Rattle.std.specs.Prelude.{◌≡◌, ◌≢◌, ℕ, ◌<◌, ◌≤◌, ◌^◌, [], ◌∷◌, All, length, pos, IfOk, IfErr};
+ghost use Rattle.std.specs.Prelude.{◌≡◌, ◌≢◌, ℕ, ◌<◌, ◌≤◌, ◌^◌, All, length, pos, IfOk, IfErr};
 ghost use Rattle.exact_algebra.specs.Fraction.{rational};
 ghost use Rattle.exact_algebra.specs.Rational.{◌≤ℚ◌, whole};
 ghost use Rattle.loss_model.specs.Problem.{sample, value_at, IsWellShaped};
@@ -24,17 +24,6 @@ use report_text::{Fit, Halt};
 use rq_input::{Input, read_input};
 use rq_words::FitJob;
 use std::alloc::Global;
-
-// The list of one item.
-fn list_of<T: Drop>(alloc: Global, item: T) -> Result<List<T>, OutOfMemory>
-    ensures { IfOk result (λ list. list ≡ item ∷ []) }
-{
-    let mut items = List::new(alloc);
-    match items.push(item) {
-        Ok(()) => Ok(items),
-        Err(_) => Err(OutOfMemory),
-    }
-}
 
 // The same values in a list of their own.
 fn copy_of<F: Copy>(alloc: Global, values: &List<F>) -> Result<List<F>, OutOfMemory>
@@ -114,8 +103,8 @@ fn fit_of(
 {
     let Input { design, problem } = input;
     let rows = problem.rows.as_slice().len() as u32;
-    let segments = list_of(alloc, told.segment)?;
-    let scores = list_of(alloc, told.scores)?;
+    let segments = List::one(alloc, told.segment)?;
+    let scores = List::one(alloc, told.scores)?;
     Ok(Fit {
         kept: rows,
         dropped: design.dropped,
