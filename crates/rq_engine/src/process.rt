@@ -25,16 +25,6 @@ use rq_input::{Input, read_input};
 use rq_words::FitJob;
 use std::alloc::Global;
 
-// The same values in a list of their own.
-fn copy_of<F: Copy>(alloc: Global, values: &List<F>) -> Result<List<F>, OutOfMemory>
-    ensures { IfOk result (λ copy. copy ≡ values.now) }
-{
-    match Vec::from_slice(alloc, values.as_slice()) {
-        Ok(copy) => Ok(List::from(copy)),
-        Err(_) => Err(OutOfMemory),
-    }
-}
-
 // The segment of one quantile, with what the vertex loses there.
 fn point_segment<F: Exact>(
     alloc: Global,
@@ -49,7 +39,7 @@ fn point_segment<F: Exact>(
     ensures spilled { IfErr result (IsShortOf (IsLossSpill F.value F.range (sample F.value problem.now) (rational (F.value theta)) (value_at F.value vertex.coef))) }
 {
     let loss = loss_at(problem, vertex.coef.as_slice(), theta)?;
-    let basic_hi = copy_of(alloc, &basic)?;
+    let basic_hi = List::copy(alloc, basic.as_slice())?;
     Ok(Segment {
         lo: theta,
         hi: theta,
