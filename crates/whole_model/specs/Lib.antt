@@ -1,3 +1,2 @@
 pub mod Scaled
-pub mod WholeRanks
 pub mod Laws
