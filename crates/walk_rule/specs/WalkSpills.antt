@@ -1,6 +1,6 @@
 -- Inner. The operations of a walk where one overflows, over quantiles and of a tested value: their operands
 -- at the basis and the value at which the walk stands.
-use Rattle.std.specs.Prelude.{◌≡◌, ◌⊎◌, ℕ, ◌<◌, Bool, true, pos}
+use Rattle.std.specs.Prelude.{◌≡◌, ◌≢◌, ◌⊎◌, ℕ, ◌<◌, Bool, true, pos}
 use Rattle.exact_algebra.specs.Fraction.{Fraction}
 use Rattle.exact_algebra.specs.Rational.{ℚ, ◌-ℚ◌, whole}
 use Rattle.frac_core.specs.declared.exact.OpKind.{OpKind}
@@ -37,11 +37,11 @@ IsMeetingSpill value range j d bound0 bound1 dual0 dual1 Passes s =
     ⊎ (Passes × IsCrossingOperation value range j d 3 Div (bound0 -ℚ dual0) (dual1 -ℚ bound1) s))
 
 module _ {F : Type 0} (value : F → Fraction) (range : ℕ) (f : Family) (at : ℕ → ℕ) (a : ℕ → ℕ → ℚ) (reach : ℚ → Bool) (from : ℚ) where
-  -- at the next breakpoint: at the first entry of the ratio of a row that moves, where two of them are
+  -- at the next breakpoint: at the first entry of the ratio of a row that moves, where two different ones are
   -- compared, or at an entry of the exchange of the step
   pub data IsPivotSpill (s : Spill F) : Type 0 where
     of_ratio : (t : ℚ) (j : ℕ) (d : Direction) (r : ℕ) → IsNextBreak f at a from t j d → reach t ≡ true → r < f.sample.rows → moves f.sample at a j d r ≡ true → IsRatioEntrySpill value range f.sample.columns at j (outside_row f.sample at a r) 0 s → IsPivotSpill s
-    of_tie : (t : ℚ) (j : ℕ) (d : Direction) (r i : ℕ) → IsNextBreak f at a from t j d → reach t ≡ true → r < f.sample.rows → i < f.sample.rows → moves f.sample at a j d r ≡ true → moves f.sample at a j d i ≡ true → IsRatioSpill value range f.sample.rows f.sample.columns at j (outside_row f.sample at a r) (outside_row f.sample at a i) s → IsPivotSpill s
+    of_tie : (t : ℚ) (j : ℕ) (d : Direction) (r i : ℕ) → r ≢ i → IsNextBreak f at a from t j d → reach t ≡ true → r < f.sample.rows → i < f.sample.rows → moves f.sample at a j d r ≡ true → moves f.sample at a j d i ≡ true → IsRatioSpill value range f.sample.rows f.sample.columns at j (outside_row f.sample at a r) (outside_row f.sample at a i) s → IsPivotSpill s
     of_exchange : (t : ℚ) (j r : ℕ) → IsWalkingStep f at a reach from t j r → IsEntrySpill value range f.sample.columns a (f.sample.x r) j s → IsPivotSpill s
 
 -- ---- over quantiles
