@@ -1,0 +1,6 @@
+//! A basis in exact fractions.
+#![tactic(auto)]
+
+mod fractions;
+
+pub use fractions::FractionTableau;

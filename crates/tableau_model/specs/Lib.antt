@@ -1,0 +1,5 @@
+pub mod Places
+pub mod Questions
+pub mod Refusals
+pub mod Answers
+pub mod WalkAnswers

@@ -1,0 +1,40 @@
+-- Inner. What the answers for a walk over quantiles say at a basis.
+use Rattle.std.specs.Prelude.{ℕ, Option, Some, None}
+use Rattle.exact_algebra.specs.Fraction.{Fraction, rational}
+use Rattle.exact_algebra.specs.Rational.{ℚ}
+use Rattle.loss_model.specs.declared.process.Exchange.{Exchange}
+use Rattle.loss_model.specs.declared.process.Segment.{Segment}
+use Rattle.walk_rule.specs.Families.{over_quantiles, IsOptimalIn}
+use Rattle.walk_rule.specs.Walks.{IsWalkingStep}
+use Rattle.walk_rule.specs.WalkTrails.{is_below}
+use Rattle.walk_rule.specs.WalkSpills.{IsStayEnd}
+use Rattle.walk_rule.specs.Stays.{IsSegmentOf}
+use Rattle.tableau_model.specs.Places.{Place, at_of, sample_of}
+
+module _ {F : Type 0} (value : F → Fraction) where
+  -- no slope is negative at the quantile t
+  abbrev pub IsOptimalFrom : Place F → ℚ → Type 0
+  IsOptimalFrom h t = IsOptimalIn (over_quantiles (sample_of value h)) (at_of h) h.inverse t
+
+  -- the walking step from `from` on and below hi
+  abbrev pub IsStepTo : Place F → ℚ → ℚ → Exchange F → Type 0
+  IsStepTo h from hi x =
+      IsWalkingStep (over_quantiles (sample_of value h)) (at_of h) h.inverse (is_below hi) from (rational (value x.theta)) x.position x.row
+
+  -- no walking step is left
+  abbrev pub IsStill : Place F → ℚ → ℚ → Type 0
+  IsStill h from hi =
+      (t : ℚ) (j r : ℕ) → ¬ IsWalkingStep (over_quantiles (sample_of value h)) (at_of h) h.inverse (is_below hi) from t j r
+
+  -- none is left, or this one
+  abbrev pub IsWalkingAnswer : Place F → ℚ → ℚ → Option (Exchange F) → Type 0
+  IsWalkingAnswer h from hi None = IsStill h from hi
+  IsWalkingAnswer h from hi (Some x) = IsStepTo h from hi x
+
+  -- the stay at the basis from `from` on ends at `to`
+  abbrev pub IsStayTo : ℕ → Place F → ℚ → ℚ → ℚ → Type 0
+  IsStayTo range h from hi to = IsStayEnd value range (sample_of value h) (at_of h) h.inverse from hi to
+
+  -- its segment
+  abbrev pub IsSegmentHere : Place F → ℚ → ℚ → Segment F → Type 0
+  IsSegmentHere h from to s = IsSegmentOf value h.task.problem (record { basis = h.rows; lo = from; hi = to }) s
