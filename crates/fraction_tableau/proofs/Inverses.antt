@@ -19,6 +19,7 @@ use Rattle.loss_model.specs.Greedy.{basis_rows}
 use Rattle.basis_inverse.specs.Square.{Square, entries, inverse_entry, IsInverse}
 use Rattle.basis_inverse.proofs.Underway.{IsRead, at_row}
 use Rattle.basis_model.specs.Basis.{IsBasis}
+use Rattle.basic_solution.specs.Bases.{HasBasis}
 use Rattle.pivot_rule.specs.Trails.{EndsAt}
 use Rattle.fraction_tableau.specs.Inverses.{IsInverseOf}
 
@@ -102,3 +103,6 @@ inverse_after {F} value p basis s t j i r xs read h rows inv size =
           ∙ ap (λ xs. slice_set (basis_rows p basis) j xs) (read.same ∙ sym (ap (λ (o : Option (Row F)). option_map_or (λ r. r.x) o []) read.there))
           ∙ sym (map-set (λ i. option_map_or (λ (r : Row F). r.x) (slice_get p.rows i) []) basis j i);
     }
+
+pub has_basis : {F : Type 0} (value : F → Fraction) (p : Problem F) (basis : List ℕ) (s : Square F) → IsInverseOf value p basis s → HasBasis p s basis
+has_basis value p basis s h = record { size = h.square; same = h.size; distinct = (basis_of value p basis s h).distinct }

@@ -1,3 +1,13 @@
 pub mod Inverses
 pub mod Places
 pub mod Refusals
+pub mod Lists
+pub mod Ascending
+pub mod Vertices
+pub mod HeapLaws
+pub mod Items
+pub mod SlopeLaws
+pub mod Moving
+pub mod Ties
+pub mod Passed
+pub mod NextSteps

@@ -16,6 +16,8 @@ use Rattle.loss_model.specs.declared.vertex.Side.{Side}
 use Rattle.loss_model.specs.declared.vertex.Side.TheVariants.{Basic}
 use Rattle.loss_model.specs.Sample.{Sample}
 use Rattle.loss_model.specs.Problem.{value_at}
+use Rattle.loss_model.specs.Quantities.{IsShortOf}
+use Rattle.loss_model.specs.declared.spill.Short.{Short}
 use Rattle.loss_model.specs.Spill.{abs_ℚ, site_of}
 use Rattle.basis_model.specs.Perturbed.{turned, perturbed_side}
 use Rattle.basis_model.specs.Ratios.{abs_nonzero}
@@ -24,14 +26,16 @@ use Rattle.basic_solution.specs.Bases.{side_in}
 use Rattle.pivot_rule.specs.declared.direction.Direction.{Direction}
 use Rattle.pivot_rule.specs.declared.direction.Direction.TheVariants.{Upward, Downward}
 use Rattle.pivot_rule.specs.Steps.{is_towards, change, moves}
-use Rattle.pivot_rule.specs.Spills.{IsStepSpill, of_ratio, of_search}
+use Rattle.pivot_rule.specs.Spills.{of_basis, of_ratio, of_tie, of_search}
 use Rattle.pivot_rule.proofs.Passing.{mover_some, mover_outside}
 use Rattle.pivot_rule.proofs.Sides.{side_outside}
 use Rattle.fraction_tableau.specs.declared.line.Line.{Line}
 use Rattle.fraction_tableau.specs.declared.line.Mover.{Mover}
-use Rattle.fraction_tableau.specs.Lines.{model, at_of, inverse_of, IsLine, IsLineSpill, IsMover, AreMovers, AreMoversBelow, row_at, is_moving, side_is, coord_is, turned_by}
+use Rattle.fraction_tableau.specs.Lines.{model, at_of, inverse_of, IsLine, IsOrderSpill, IsLineSpill, at_coordinates, at_ratio, at_tie, IsMover, AreMovers, AreMoversBelow, row_at, is_moving, side_is, coord_is, turned_by}
+use Rattle.fraction_tableau.specs.Descents.{IsDescent, IsDescentSpill}
 use Rattle.fraction_tableau.proofs.Lists.{get_front, get_end}
 use Rattle.fraction_tableau.proofs.Items.{row_read}
+use Rattle.fraction_tableau.proofs.Refusals.{short_weaker}
 
 no : true ≡ false → ⊥
 no h = cc
@@ -80,9 +84,18 @@ module _ {F : Type 0} (value : F → Fraction) (l : Line F) where
       → s ≡ record { site = record (site_of PerturbedRatio i l.position 1) { kind = Div }; left = r; right = size } → Overflows range Div (value r) (value size) → IsLineSpill value range l s
   unfolding IsLineSpill is_moving
   ratio_spill range i c r size s line li here h read is_size is over =
-      subst (IsStepSpill value range (model value l) (at_of value l) (inverse_of value l) (rational (value l.theta))) (sym is)
-      (of_search l.position l.direction line.leaving
-      (of_ratio i li h (record { named = refl; is_left = sym read ∙ line.residuals i li; is_right = is_size ∙ ap abs_ℚ here; overflows = over })))
+      subst (IsOrderSpill value range (model value l) (at_of value l) (inverse_of value l) l.position l.direction) (sym is)
+      (at_ratio i li h (record { named = refl; is_left = sym read ∙ line.residuals i li; is_right = is_size ∙ ap abs_ℚ here; overflows = over }))
+
+  -- in a descent it is one of the solving step
+  line_spill : (range : ℕ) → IsDescent value l → (s : Spill F) → IsLineSpill value range l s → IsDescentSpill value range l s
+  unfolding IsLineSpill IsDescentSpill
+  line_spill range h s (at_coordinates i li k) = of_basis (inr (inr (inl (i, li, k))))
+  line_spill range h s (at_ratio r lr moves k) = of_search l.position l.direction h.leaving (of_ratio r lr moves k)
+  line_spill range h s (at_tie r i differ lr li mr mi k) = of_search l.position l.direction h.leaving (of_tie r i differ lr li mr mi k)
+
+  pub line_fault : (range : ℕ) → IsDescent value l → (e : Short F) → IsShortOf (IsLineSpill value range l) e → IsShortOf (IsDescentSpill value range l) e
+  line_fault range h e k = short_weaker (IsLineSpill value range l) (IsDescentSpill value range l) (line_spill range h) e k
 
   -- ---- row by row
 

@@ -1,100 +1,67 @@
 -- The step that is left at a basis, from what is computed there.
-use Rattle.std.specs.Prelude.{◌≡◌, ℕ, ◌<◌, List, length, slice_get, slice_index, unwrap_or, Option, Some, pos}
+use Rattle.std.specs.Prelude.{◌≡◌, ℕ, ◌<◌, List, length, slice_get, unwrap_or, Option, Some}
 use Rattle.std.proofs.Common.{arith, sym, ap, ap₂, subst, ◌∙◌, inl, inr}
 use Rattle.exact_algebra.specs.Fraction.{Fraction, rational}
-use Rattle.exact_algebra.specs.Rational.{ℚ, ◌+ℚ◌, ◌-ℚ◌, ◌*ℚ◌, whole, ◌≤ℚ◌}
-use Rattle.loss_model.specs.declared.problem.Problem.{Problem}
+use Rattle.exact_algebra.specs.Rational.{ℚ, ◌+ℚ◌, ◌*ℚ◌}
 use Rattle.loss_model.specs.declared.spill.Spill.{Spill}
 use Rattle.loss_model.specs.declared.spill.Short.{Short}
 use Rattle.loss_model.specs.declared.vertex.Side.{Side}
-use Rattle.loss_model.specs.declared.vertex.Side.TheVariants.{Up, Down, Basic}
-use Rattle.loss_model.specs.Sample.{Sample, up_cost, down_cost}
-use Rattle.loss_model.specs.Problem.{value_at, sample, IsWellShaped}
+use Rattle.loss_model.specs.declared.vertex.Side.TheVariants.{Basic}
+use Rattle.loss_model.specs.Sample.{Sample}
+use Rattle.loss_model.specs.Problem.{value_at}
 use Rattle.loss_model.specs.Quantities.{IsShortOf}
-use Rattle.basis_inverse.specs.Square.{Square}
 use Rattle.basis_model.specs.declared.part.Part.TheVariants.{Linear}
-use Rattle.basis_model.specs.Basis.{IsBasis, coord, side_at, basic_dual, dual_value}
-use Rattle.basis_model.specs.BasisSpills.{IsBasisSpill, IsDualValueSpill, IsSlopeSpill}
+use Rattle.basis_model.specs.Basis.{coord, side_at, basic_dual, dual_value}
+use Rattle.basis_model.specs.BasisSpills.{IsBasisSpill, IsDualValueSpill}
 use Rattle.basic_solution.specs.declared.solution.BasicSolution.{BasicSolution}
-use Rattle.basic_solution.specs.Bases.{HasBasis, side_in, IsColumnSpill}
+use Rattle.basic_solution.specs.Bases.{side_in, IsColumnSpill}
 use Rattle.basic_solution.specs.Solutions.{IsSolution}
-use Rattle.pivot_rule.specs.declared.direction.Direction.{Direction}
-use Rattle.pivot_rule.specs.declared.direction.Direction.TheVariants.{Upward, Downward}
-use Rattle.pivot_rule.specs.Duals.{◌<ℚ◌, HasCosts}
-use Rattle.pivot_rule.specs.Steps.{slope, HasNoNegativeSlope, IsLeaving, IsEntering}
-use Rattle.pivot_rule.specs.Spills.{IsStepSpill, of_basis, of_dual, of_cost, of_slope}
-use Rattle.fraction_tableau.specs.declared.slopes.Leaving.{Leaving}
+use Rattle.pivot_rule.specs.Steps.{slope, IsEntering}
+use Rattle.pivot_rule.specs.Spills.{IsStepSpill, of_basis, of_dual}
+use Rattle.tableau_model.specs.Places.{Place, at_of as places, sample_of}
 use Rattle.fraction_tableau.specs.declared.line.Line.{Line}
-use Rattle.fraction_tableau.specs.Lines.{model, at_of, inverse_of, IsLine, IsLineSpill, HasSides, HasCoordinates, Enters, first_slope}
-use Rattle.fraction_tableau.specs.Inverses.{IsInverseOf}
-use Rattle.fraction_tableau.specs.Next.{Stands, IsDualFault}
-use Rattle.fraction_tableau.specs.Slopes.{slope_at, IsLeastSlope, IsSomeSlopeFault}
-use Rattle.fraction_tableau.proofs.Inverses.{basis_of}
+use Rattle.fraction_tableau.specs.Kept.{IsKept}
+use Rattle.fraction_tableau.specs.Lines.{model, at_of, inverse_of, IsLine, HasSides, HasCoordinates}
+use Rattle.fraction_tableau.specs.Descents.{IsDescentSpill, Enters, first_slope}
+use Rattle.fraction_tableau.specs.Next.{IsDualFault}
+use Rattle.fraction_tableau.specs.Standing.{AreDuals, Stands}
 use Rattle.fraction_tableau.proofs.Items.{get_some}
-use Rattle.fraction_tableau.proofs.Trails.{short_weaker}
+use Rattle.fraction_tableau.proofs.Refusals.{short_weaker}
 
-pub has_basis : {F : Type 0} (value : F → Fraction) (p : Problem F) (basis : List ℕ) (s : Square F) → IsInverseOf value p basis s → HasBasis p s basis
-has_basis value p basis s h = record { size = h.square; same = h.size; distinct = (basis_of value p basis s h).distinct }
-
-module _ {F : Type 0} (value : F → Fraction) (p : Problem F) (theta : ℚ) (basis : List ℕ) (a : ℕ → ℕ → ℚ) (sol : BasicSolution F) (h : IsSolution value (sample value p) (slice_index basis) a sol)
+module _ {F : Type 0} (value : F → Fraction) (h : Place F) (theta : ℚ) (sol : BasicSolution F) (is : IsSolution value (sample_of value h) (places h) h.inverse sol)
     (duals : List F) (size : length duals ≡ length sol.constant)
     (each : (j : ℕ) → j < length sol.constant → value_at value duals j ≡ value_at value sol.constant j +ℚ (value_at value sol.linear j *ℚ theta)) where
-  pub dual_here : (j : ℕ) → j < p.columns → value_at value duals j ≡ dual_value (sample value p) (slice_index basis) a theta j
-  dual_here j lj = each j (omega (arith, lj, h.constants)) ∙ ap₂ (λ y z. y +ℚ (z *ℚ theta)) (h.constant j lj) (h.linear j lj)
+  dual_here : (j : ℕ) → j < h.task.problem.columns → value_at value duals j ≡ dual_value (sample_of value h) (places h) h.inverse theta j
+  dual_here j lj = each j (omega (arith, lj, is.constants)) ∙ ap₂ (λ y z. y +ℚ (z *ℚ theta)) (is.constant j lj) (is.linear j lj)
 
-  slope_here : (j : ℕ) (d : Direction) → j < p.columns → slope_at (sample value p) theta (slice_index basis) (value_at value duals) j d ≡ slope (sample value p) (slice_index basis) a theta j d
-  slope_here j Upward lj = ap (λ z. up_cost (sample value p) theta (slice_index basis j) -ℚ z) (dual_here j lj)
-  slope_here j Downward lj = ap (λ z. down_cost (sample value p) theta (slice_index basis j) +ℚ z) (dual_here j lj)
+  pub duals_here : AreDuals value h theta duals
+  duals_here = record { size = size ∙ is.constants; each = dual_here }
 
-  pub none_negative_here : ((j : ℕ) (d : Direction) → j < p.columns → whole (pos 0) ≤ℚ slope_at (sample value p) theta (slice_index basis) (value_at value duals) j d) → HasNoNegativeSlope (sample value p) (slice_index basis) a theta
-  none_negative_here k j d lj = subst (λ z. whole (pos 0) ≤ℚ z) (slope_here j d lj) (k j d lj)
-
-  module _ (l : Leaving F) (k : IsLeastSlope (sample value p) theta (slice_index basis) (value_at value duals) value p.columns l) where
-    own : slope_at (sample value p) theta (slice_index basis) (value_at value duals) l.position l.direction ≡ slope (sample value p) (slice_index basis) a theta l.position l.direction
-    own = slope_here l.position l.direction k.within
-
-    pub slope_is : rational (value l.slope) ≡ slope (sample value p) (slice_index basis) a theta l.position l.direction
-    slope_is = k.is ∙ own
-
-    pub leaving_is : slope_at (sample value p) theta (slice_index basis) (value_at value duals) l.position l.direction <ℚ whole (pos 0) → IsLeaving (sample value p) (slice_index basis) a theta l.position l.direction
-    leaving_is negative =
-        record {
-          position = k.within;
-          negative = λ up. negative (subst (λ z. whole (pos 0) ≤ℚ z) (sym own) up);
-          least = λ j d lj. subst (λ z. z ≤ℚ slope (sample value p) (slice_index basis) a theta j d) own (subst (λ z. slope_at (sample value p) theta (slice_index basis) (value_at value duals) l.position l.direction ≤ℚ z) (slope_here j d lj) (k.least j d lj));
-          first = λ j d less back. k.first j d less (subst (λ z. z ≤ℚ slope_at (sample value p) theta (slice_index basis) (value_at value duals) l.position l.direction) (sym (slope_here j d (omega (arith, less, k.within)))) (subst (λ z. slope (sample value p) (slice_index basis) a theta j d ≤ℚ z) (sym own) back));
-        }
-
-  pub stands_here : Stands value p theta basis a (record { coef = sol.coef; sides = sol.sides; duals = duals })
+  pub stands_here : Stands value h theta (record { coef = sol.coef; sides = sol.sides; duals = duals })
   stands_here =
       record {
-        coef = record { size = h.columns; each = h.coef };
-        sides = record { size = h.all_sides; each = side_here };
-        duals = record { size = size ∙ h.constants; each = dual_here };
+        coef = record { size = is.columns; each = is.coef };
+        sides = record { size = is.all_sides; each = side_here };
+        duals = duals_here;
       }
     where
-      side_here : (i : ℕ) → i < length p.rows → slice_get sol.sides i ≡ Some (side_at (sample value p) (slice_index basis) a i)
+      side_here : (i : ℕ) → i < length h.task.problem.rows → slice_get sol.sides i ≡ Some (side_at (sample_of value h) (places h) h.inverse i)
       side_here i li =
-          let found : (s : Side) × (slice_get sol.sides i ≡ Some s) = get_some sol.sides i (omega (arith, li, h.all_sides)) in
-          found.1 ∙ ap (λ (s : Side). Some s) (sym (ap (λ (o : Option Side). unwrap_or o Basic) found.1) ∙ h.sides i li)
+          let found : (s : Side) × (slice_get sol.sides i ≡ Some s) = get_some sol.sides i (omega (arith, li, is.all_sides)) in
+          found.1 ∙ ap (λ (s : Side). Some s) (sym (ap (λ (o : Option Side). unwrap_or o Basic) found.1) ∙ is.sides i li)
 
-  -- ---- what overflows
+-- ---- what overflows
 
-  pub slope_fault : (b : IsBasis (sample value p) (slice_index basis) a) (range : ℕ) (s : Spill F) → IsSomeSlopeFault value range (sample value p) theta (slice_index basis) (value_at value duals) p.columns s → IsStepSpill value range (sample value p) (slice_index basis) a theta s
-  slope_fault b range s (j, lj, inl k) = of_cost (slice_index basis j) (b.distinct.within j lj) k
-  slope_fault b range s (j, lj, inr (inl k)) = of_slope j Upward lj (subst (λ e. IsSlopeSpill value range j Up (up_cost (sample value p) theta (slice_index basis j)) e s) (dual_here j lj) k)
-  slope_fault b range s (j, lj, inr (inr k)) = of_slope j Downward lj (subst (λ e. IsSlopeSpill value range j Down (down_cost (sample value p) theta (slice_index basis j)) e s) (dual_here j lj) k)
-
-pub dual_fault : {F : Type 0} (value : F → Fraction) (p : Problem F) (theta : ℚ) (basis : List ℕ) (a : ℕ → ℕ → ℚ) (sol : BasicSolution F) → IsSolution value (sample value p) (slice_index basis) a sol → (range : ℕ) (e : Short F) → IsShortOf (IsDualFault value range (length sol.constant) (value_at value sol.constant) (value_at value sol.linear) theta) e → IsShortOf (IsStepSpill value range (sample value p) (slice_index basis) a theta) e
-dual_fault {F} value p theta basis a sol h range e k =
-    short_weaker (IsDualFault value range (length sol.constant) (value_at value sol.constant) (value_at value sol.linear) theta) (IsStepSpill value range (sample value p) (slice_index basis) a theta) by e k
+pub dual_fault : {F : Type 0} (value : F → Fraction) (h : Place F) (theta : ℚ) (sol : BasicSolution F) → IsSolution value (sample_of value h) (places h) h.inverse sol → (range : ℕ) (e : Short F) → IsShortOf (IsDualFault value range (length sol.constant) (value_at value sol.constant) (value_at value sol.linear) theta) e → IsShortOf (IsStepSpill value range (sample_of value h) (places h) h.inverse theta) e
+dual_fault {F} value h theta sol is range e k =
+    short_weaker (IsDualFault value range (length sol.constant) (value_at value sol.constant) (value_at value sol.linear) theta) (IsStepSpill value range (sample_of value h) (places h) h.inverse theta) by e k
   where
-    by : (s : Spill F) → IsDualFault value range (length sol.constant) (value_at value sol.constant) (value_at value sol.linear) theta s → IsStepSpill value range (sample value p) (slice_index basis) a theta s
+    by : (s : Spill F) → IsDualFault value range (length sol.constant) (value_at value sol.constant) (value_at value sol.linear) theta s → IsStepSpill value range (sample_of value h) (places h) h.inverse theta s
     by s (j, lj, k) =
-        let within : j < p.columns = omega (arith, lj, h.constants) in
+        let within : j < h.task.problem.columns = omega (arith, lj, is.constants) in
         of_dual j within
-        (subst (λ y. IsDualValueSpill value range y (basic_dual (sample value p) (slice_index basis) a Linear j) theta j s) (h.constant j within)
-        (subst (λ z. IsDualValueSpill value range (value_at value sol.constant j) z theta j s) (h.linear j within) k))
+        (subst (λ y. IsDualValueSpill value range y (basic_dual (sample_of value h) (places h) h.inverse Linear j) theta j s) (is.constant j within)
+        (subst (λ z. IsDualValueSpill value range (value_at value sol.constant j) z theta j s) (is.linear j within) k))
 
 pub basis_fault : {F : Type 0} (value : F → Fraction) (range : ℕ) (p : Sample) (at : ℕ → ℕ) (a : ℕ → ℕ → ℚ) (theta : ℚ) (e : Short F) → IsShortOf (IsBasisSpill value range p at a) e → IsShortOf (IsStepSpill value range p at a theta) e
 basis_fault value range p at a theta e k = short_weaker (IsBasisSpill value range p at a) (IsStepSpill value range p at a theta) (λ s h. of_basis h) e k
@@ -106,16 +73,13 @@ column_fault value range p at a theta j e lj k =
 -- ---- the line
 
 module _ {F : Type 0} (value : F → Fraction) (l : Line F) where
-  pub line_here : (sol : BasicSolution F) → IsWellShaped l.tableau.now.problem → HasCosts (model value l) (rational (value l.theta)) → IsInverseOf value l.tableau.now.problem l.tableau.now.rows l.tableau.now.square
-      → IsSolution value (model value l) (at_of value l) (inverse_of value l) sol → l.residuals.now ≡ sol.residuals → IsLeaving (model value l) (at_of value l) (inverse_of value l) (rational (value l.theta)) l.position l.direction → IsLine value l
-  line_here sol shaped costs inverse h same leaving =
+  pub line_here : (sol : BasicSolution F) → IsKept value l.tableau.now → IsSolution value (model value l) (at_of value l) (inverse_of value l) sol → l.residuals.now ≡ sol.residuals → l.position < l.tableau.now.problem.columns → IsLine value l
+  line_here sol kept h same position =
       record {
-        shaped = shaped;
-        costs = costs;
-        inverse = inverse;
+        kept = kept;
         size = ap length same ∙ h.rows;
         residuals = λ i li. ap (λ xs. value_at value xs i) same ∙ h.residuals i li;
-        leaving = leaving;
+        position = position;
       }
 
   pub sides_here : (sol : BasicSolution F) (sides : List Side) → IsSolution value (model value l) (at_of value l) (inverse_of value l) sol → sides ≡ sol.sides → HasSides value l sides
@@ -132,6 +96,6 @@ module _ {F : Type 0} (value : F → Fraction) (l : Line F) where
   unfolding Enters
   entering_here r h = h
 
-  pub line_fault : (range : ℕ) (e : Short F) → IsShortOf (IsLineSpill value range l) e → IsShortOf (IsStepSpill value range (model value l) (at_of value l) (inverse_of value l) (rational (value l.theta))) e
-  unfolding IsLineSpill
-  line_fault range e h = h
+  pub descent_fault : (range : ℕ) (e : Short F) → IsShortOf (IsDescentSpill value range l) e → IsShortOf (IsStepSpill value range (model value l) (at_of value l) (inverse_of value l) (rational (value l.theta))) e
+  unfolding IsDescentSpill
+  descent_fault range e h = h

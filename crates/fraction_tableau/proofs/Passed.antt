@@ -24,7 +24,8 @@ use Rattle.pivot_rule.proofs.Passing.{passed, passed_test}
 use Rattle.fraction_tableau.specs.declared.line.Line.{Line}
 use Rattle.fraction_tableau.specs.declared.line.Mover.{Mover}
 use Rattle.fraction_tableau.specs.Heaps.{IsHeapFrom, IsPopped}
-use Rattle.fraction_tableau.specs.Lines.{model, at_of, inverse_of, IsLine, IsLineSpill, IsMover, AreMovers, Enters, row_at, is_moving, comes_before, first_slope, slope_until, passing_of, passed_until}
+use Rattle.fraction_tableau.specs.Lines.{model, at_of, inverse_of, IsLine, IsMover, AreMovers, row_at, is_moving, comes_before}
+use Rattle.fraction_tableau.specs.Descents.{IsDescent, IsDescentSpill, Enters, first_slope, slope_until, passing_of, passed_until}
 use Rattle.fraction_tableau.proofs.HeapLaws.{IsOrderOn, root_first, asym}
 use Rattle.fraction_tableau.proofs.Items.{line_basis, row_moves, rows_differ, order_of, item_read}
 
@@ -158,11 +159,11 @@ module _ {F : Type 0} (value : F → Fraction) (l : Line F) where
           own = let at : last ≡ length ys - suc (length xs - end) = omega (arith, size, before, h.within) in sym popped.least ∙ ap (row_at ys) at
 
   -- the rows that move suffice to turn the slope
-  pub exhausted : IsLine value l → (xs : List (Mover F)) (end : ℕ) (s : ℚ) → end ≡ 0 → IsPassing xs end → s ≡ slope_after xs end → whole (pos 0) ≤ℚ s
+  pub exhausted : IsDescent value l → (xs : List (Mover F)) (end : ℕ) (s : ℚ) → end ≡ 0 → IsPassing xs end → s ≡ slope_after xs end → whole (pos 0) ≤ℚ s
   unfolding first_slope passing_of is_moving
-  exhausted line xs end s none h is =
+  exhausted descent xs end s none h is =
       subst (λ z. whole (pos 0) ≤ℚ z) (sym (is ∙ ap (λ z. first_slope value l +ℚ z) (sym total)))
-      (enough (model value l) (at_of value l) (inverse_of value l) (rational (value l.theta)) line.costs l.position l.direction ((line_basis value l line).distinct.within l.position line.position))
+      (enough (model value l) (at_of value l) (inverse_of value l) (rational (value l.theta)) descent.costs l.position l.direction ((line_basis value l descent.line).distinct.within l.position descent.leaving.position))
     where
       same : (i : ℕ) → i < length l.tableau.now.problem.rows → is_moving value l i ≡ is_among (order_in xs) (length xs - end) i
       same i li = by (is_moving value l i) refl (is_among (order_in xs) (length xs - end) i) refl
@@ -194,31 +195,31 @@ module _ {F : Type 0} (value : F → Fraction) (l : Line F) where
   pass_exact m up down cost next slope h u d c n =
       n ∙ ap (λ z. rational (value slope) +ℚ z) (ap₂ (λ y z. y *ℚ z) h.size_is (c ∙ ap₂ (λ y z. y +ℚ z) u d))
 
-  pub up_spill : (range i : ℕ) (s : Spill F) → i < length l.tableau.now.problem.rows → IsUpCostSpill value range (model value l) (rational (value l.theta)) i s → IsLineSpill value range l s
-  unfolding IsLineSpill
+  pub up_spill : (range i : ℕ) (s : Spill F) → i < length l.tableau.now.problem.rows → IsUpCostSpill value range (model value l) (rational (value l.theta)) i s → IsDescentSpill value range l s
+  unfolding IsDescentSpill
   up_spill range i s li h = of_cost i li (inl h)
 
-  pub down_spill : (range i : ℕ) (s : Spill F) → i < length l.tableau.now.problem.rows → IsDownCostSpill value range (model value l) (rational (value l.theta)) i s → IsLineSpill value range l s
-  unfolding IsLineSpill
+  pub down_spill : (range i : ℕ) (s : Spill F) → i < length l.tableau.now.problem.rows → IsDownCostSpill value range (model value l) (rational (value l.theta)) i s → IsDescentSpill value range l s
+  unfolding IsDescentSpill
   down_spill range i s li h = of_cost i li (inr h)
 
-  pub sum_spill : (range : ℕ) (m : Mover F) (up down : F) (s : Spill F) → IsLine value l → IsMover value l m
+  pub sum_spill : (range : ℕ) (m : Mover F) (up down : F) (s : Spill F) → IsDescent value l → IsMover value l m
       → rational (value up) ≡ up_cost (model value l) (rational (value l.theta)) m.row → rational (value down) ≡ down_cost (model value l) (rational (value l.theta)) m.row
-      → IsCostSumSpill value range m.row (rational (value up)) (rational (value down)) s → IsLineSpill value range l s
-  unfolding IsLineSpill is_moving
-  sum_spill range m up down s line h u d k =
-      of_search l.position l.direction line.leaving (of_cost_sum m.row h.row h.moves
+      → IsCostSumSpill value range m.row (rational (value up)) (rational (value down)) s → IsDescentSpill value range l s
+  unfolding IsDescentSpill is_moving
+  sum_spill range m up down s descent h u d k =
+      of_search l.position l.direction descent.leaving (of_cost_sum m.row h.row h.moves
       (subst (λ y. IsCostSumSpill value range m.row y (down_cost (model value l) (rational (value l.theta)) m.row) s) u (subst (λ z. IsCostSumSpill value range m.row (rational (value up)) z s) d k)))
 
-  pub pass_spill : (range : ℕ) (m : Mover F) (up down cost slope : F) (n : ℕ) (s : Spill F) → IsLine value l → IsMover value l m
+  pub pass_spill : (range : ℕ) (m : Mover F) (up down cost slope : F) (n : ℕ) (s : Spill F) → IsDescent value l → IsMover value l m
       → rational (value up) ≡ up_cost (model value l) (rational (value l.theta)) m.row → rational (value down) ≡ down_cost (model value l) (rational (value l.theta)) m.row
       → rational (value cost) ≡ rational (value up) +ℚ rational (value down) → rational (value slope) ≡ slope_until value l m.row → n ≡ passed_until value l m.row
-      → IsTermSpill value range (site_of Slope l.position (direction_number l.direction) (n + 1)) (rational (value slope)) (rational (value m.size)) (rational (value cost)) s → IsLineSpill value range l s
-  unfolding IsLineSpill is_moving slope_until passed_until comes_before
-  pass_spill range m up down cost slope n s line h u d c is counted k =
+      → IsTermSpill value range (site_of Slope l.position (direction_number l.direction) (n + 1)) (rational (value slope)) (rational (value m.size)) (rational (value cost)) s → IsDescentSpill value range l s
+  unfolding IsDescentSpill is_moving slope_until passed_until comes_before
+  pass_spill range m up down cost slope n s descent h u d c is counted k =
       let size = abs_ℚ (coord (model value l) (inverse_of value l) m.row l.position) in
       let costs = up_cost (model value l) (rational (value l.theta)) m.row +ℚ down_cost (model value l) (rational (value l.theta)) m.row in
-      of_search l.position l.direction line.leaving (of_passing m.row h.row h.moves
+      of_search l.position l.direction descent.leaving (of_passing m.row h.row h.moves
       (subst (λ y. IsTermSpill value range (site_of Slope l.position (direction_number l.direction) (y + 1)) (slope_until value l m.row) size costs s) counted
       (same_term value range (site_of Slope l.position (direction_number l.direction) (n + 1)) s (rational (value slope)) (slope_until value l m.row) (rational (value m.size)) size (rational (value cost)) costs is h.size_is (c ∙ ap₂ (λ y z. y +ℚ z) u d) k)))
 
@@ -252,6 +253,6 @@ module _ {F : Type 0} (value : F → Fraction) (l : Line F) where
       let most = count-at_most (length l.tableau.now.problem.rows) (is_among (order_in xs) (length xs)) in
       omega (arith, all, most, line.kept.shaped.rows)
 
-  pub negative_begun : (s : ℚ) → IsLine value l → s ≡ first_slope value l → ¬ (whole (pos 0) ≤ℚ s)
+  pub negative_begun : (s : ℚ) → IsDescent value l → s ≡ first_slope value l → ¬ (whole (pos 0) ≤ℚ s)
   unfolding first_slope
-  negative_begun s line e up = line.leaving.negative (subst (λ z. whole (pos 0) ≤ℚ z) e up)
+  negative_begun s descent e up = descent.leaving.negative (subst (λ z. whole (pos 0) ≤ℚ z) e up)

@@ -14,6 +14,11 @@ use Rattle.tableau_model.specs.Questions.{Question, solving, walking, IsStepOf, 
 use Rattle.tableau_model.specs.Refusals.{IsRefusalAt, IsRefusedOf}
 use Rattle.fraction_tableau.specs.Shorts.{IsSameShort}
 
+-- what follows from what a spill says follows from what a refusal says
+pub short_weaker : {F : Type 0} (P Q : Spill F → Type 0) → ((s : Spill F) → P s → Q s) → (e : Short F) → IsShortOf P e → IsShortOf Q e
+short_weaker P Q h OutOfMemory k = tt
+short_weaker P Q h (Overflow s) k = h s k
+
 -- where what overflows is an operation for the question, the refusal is one to it
 pub short_refused : {F : Type 0} (value : F → Fraction) (range : ℕ) (h : Place F) (asked : Question) (P : Spill F → Type 0) (e : Short F) (r : Refused F)
     → h.task.body ≡ in_fractions → ((s : Spill F) → P s → IsSpillAt value range h asked s) → IsShortOf P e → IsSameShort e r → IsRefusedOf (IsRefusalAt value range h asked) r

@@ -3,17 +3,23 @@ use Rattle.std.specs.Prelude.{◌≡◌, ◌≢◌, ℕ, ◌+◌, ◌<◌, Bool,
 use Rattle.std.specs.Ordering.{is_lt}
 use Rattle.std.specs.declared.cmp.Ordering.{Ordering}
 use Rattle.std.specs.declared.cmp.Ordering.TheVariants.{Less, Equal, Greater}
-use Rattle.std.proofs.Common.{arith, refl, sym, ap, subst, ◌∙◌, inl, inr}
+use Rattle.std.proofs.Common.{arith, refl, sym, ap, ap₂, subst, ◌∙◌, inl, inr}
 use borrow.Author.Tests.{eqb-true, eqb-false}
 use Rattle.exact_algebra.specs.Fraction.{Fraction, rational}
-use Rattle.exact_algebra.specs.Rational.{ℚ, whole, ◌≤ℚ◌, ≤ℚ_refl, ≤ℚ_trans}
+use Rattle.exact_algebra.specs.Rational.{ℚ, ◌+ℚ◌, ◌-ℚ◌, whole, ◌≤ℚ◌, ≤ℚ_refl, ≤ℚ_trans}
 use Rattle.exact_algebra.specs.Order.{cmp_ℚ, sign_ℚ, cmp_ℚ-Less, cmp_ℚ-not_Less, sign_ℚ-below, sign_ℚ-not_below, le_from_not}
-use Rattle.loss_model.specs.Sample.{Sample}
+use Rattle.loss_model.specs.declared.spill.Spill.{Spill}
+use Rattle.loss_model.specs.declared.vertex.Side.TheVariants.{Up, Down}
+use Rattle.loss_model.specs.Sample.{Sample, up_cost, down_cost}
+use Rattle.basis_model.specs.Basis.{dual_value}
+use Rattle.basis_model.specs.BasisSpills.{IsSlopeSpill}
 use Rattle.pivot_rule.specs.declared.direction.Direction.{Direction}
 use Rattle.pivot_rule.specs.declared.direction.Direction.TheVariants.{Upward, Downward}
 use Rattle.pivot_rule.specs.Duals.{◌<ℚ◌}
+use Rattle.pivot_rule.specs.Steps.{slope, IsLeaving}
+use Rattle.pivot_rule.specs.Spills.{IsStepSpill, of_slope}
 use Rattle.fraction_tableau.specs.declared.slopes.Leaving.{Leaving}
-use Rattle.fraction_tableau.specs.Slopes.{slope_at, IsLesserSlope, IsLeastSlope, IsSteeper}
+use Rattle.fraction_tableau.specs.Slopes.{IsLesser, IsLeast, IsSteeper}
 
 -- what a test of order says
 pub less_from_test : (x y : ℚ) → is_lt (cmp_ℚ x y) ≡ true → x <ℚ y
@@ -33,83 +39,104 @@ at_least_from_test x y h = (cmp_ℚ-not_Less x y).0 (λ e. by (sym (ap is_lt e) 
 less_le : (x y z : ℚ) → x <ℚ y → y ≤ℚ z → x <ℚ z
 less_le x y z h k back = h (≤ℚ_trans y z x k back)
 
-module _ {F : Type 0} (value : F → Fraction) (p : Sample) (theta : ℚ) (at : ℕ → ℕ) (e : ℕ → ℚ) where
-  pub one_least : (l : Leaving F) → IsLesserSlope p theta at e value 0 l → IsLeastSlope p theta at e value 1 l
+module _ {F : Type 0} (value : F → Fraction) (p : Sample) (at : ℕ → ℕ) (a : ℕ → ℕ → ℚ) (theta : ℚ) where
+  pub one_least : (l : Leaving F) → IsLesser value p at a theta 0 l → IsLeast value p at a theta 1 l
   one_least l h =
       record {
         within = omega (arith, h.position);
-        is = h.is ∙ ap (λ j. slope_at p theta at e j l.direction) (sym h.position);
+        is = h.is ∙ ap (λ j. slope p at a theta j l.direction) (sym h.position);
         least = λ k d lk. let here : k ≡ 0 = omega arith in
-            subst (λ j. slope_at p theta at e j l.direction ≤ℚ slope_at p theta at e k d) (sym h.position)
-            (subst (λ k. slope_at p theta at e 0 l.direction ≤ℚ slope_at p theta at e k d) (sym here) (h.least d));
+            subst (λ j. slope p at a theta j l.direction ≤ℚ slope p at a theta k d) (sym h.position)
+            (subst (λ k. slope p at a theta 0 l.direction ≤ℚ slope p at a theta k d) (sym here) (h.least d));
         first = λ k d lk. absurd (omega (arith, lk, h.position));
       }
 
-  pub one_more : (first second taken : Leaving F) (n : ℕ) → IsLeastSlope p theta at e value n first → IsLesserSlope p theta at e value n second → IsSteeper value first second taken → IsLeastSlope p theta at e value (n + 1) taken
+  pub one_more : (first second taken : Leaving F) (n : ℕ) → IsLeast value p at a theta n first → IsLesser value p at a theta n second → IsSteeper value first second taken → IsLeast value p at a theta (n + 1) taken
   one_more first second taken n h k (inl s) =
-      subst (IsLeastSlope p theta at e value (n + 1)) (sym s.0) (record { within = omega (arith, k.position); is = own; least = least; first = earlier })
+      subst (IsLeast value p at a theta (n + 1)) (sym s.0) (record { within = omega (arith, k.position); is = own; least = least; first = earlier })
     where
-      own : rational (value second.slope) ≡ slope_at p theta at e second.position second.direction
-      own = k.is ∙ ap (λ j. slope_at p theta at e j second.direction) (sym k.position)
+      own : rational (value second.slope) ≡ slope p at a theta second.position second.direction
+      own = k.is ∙ ap (λ j. slope p at a theta j second.direction) (sym k.position)
 
-      less : slope_at p theta at e second.position second.direction <ℚ slope_at p theta at e first.position first.direction
-      less back = s.1 (subst (λ z. z ≤ℚ rational (value second.slope)) (sym h.is) (subst (λ z. slope_at p theta at e first.position first.direction ≤ℚ z) (sym own) back))
+      less : slope p at a theta second.position second.direction <ℚ slope p at a theta first.position first.direction
+      less back = s.1 (subst (λ z. z ≤ℚ rational (value second.slope)) (sym h.is) (subst (λ z. slope p at a theta first.position first.direction ≤ℚ z) (sym own) back))
 
-      here : (d : Direction) → slope_at p theta at e second.position second.direction ≤ℚ slope_at p theta at e n d
-      here d = subst (λ j. slope_at p theta at e j second.direction ≤ℚ slope_at p theta at e n d) (sym k.position) (k.least d)
+      here : (d : Direction) → slope p at a theta second.position second.direction ≤ℚ slope p at a theta n d
+      here d = subst (λ j. slope p at a theta j second.direction ≤ℚ slope p at a theta n d) (sym k.position) (k.least d)
 
-      least : (q : ℕ) (d : Direction) → q < n + 1 → slope_at p theta at e second.position second.direction ≤ℚ slope_at p theta at e q d
+      least : (q : ℕ) (d : Direction) → q < n + 1 → slope p at a theta second.position second.direction ≤ℚ slope p at a theta q d
       least q d lq = by (q == n) refl
         where
-          by : (t : Bool) → (q == n) ≡ t → slope_at p theta at e second.position second.direction ≤ℚ slope_at p theta at e q d
-          by true g = subst (λ q. slope_at p theta at e second.position second.direction ≤ℚ slope_at p theta at e q d) (sym (eqb-true q n g)) (here d)
+          by : (t : Bool) → (q == n) ≡ t → slope p at a theta second.position second.direction ≤ℚ slope p at a theta q d
+          by true g = subst (λ q. slope p at a theta second.position second.direction ≤ℚ slope p at a theta q d) (sym (eqb-true q n g)) (here d)
           by false g =
               let other : q ≢ n = eqb-false q n g in
               let below : q < n = omega arith in
-              ≤ℚ_trans (slope_at p theta at e second.position second.direction) (slope_at p theta at e first.position first.direction) (slope_at p theta at e q d)
-              (le_from_not (slope_at p theta at e second.position second.direction) (slope_at p theta at e first.position first.direction) less) (h.least q d below)
+              ≤ℚ_trans (slope p at a theta second.position second.direction) (slope p at a theta first.position first.direction) (slope p at a theta q d)
+              (le_from_not (slope p at a theta second.position second.direction) (slope p at a theta first.position first.direction) less) (h.least q d below)
 
-      earlier : (q : ℕ) (d : Direction) → q < second.position → slope_at p theta at e second.position second.direction <ℚ slope_at p theta at e q d
+      earlier : (q : ℕ) (d : Direction) → q < second.position → slope p at a theta second.position second.direction <ℚ slope p at a theta q d
       earlier q d lq =
-          less_le (slope_at p theta at e second.position second.direction) (slope_at p theta at e first.position first.direction) (slope_at p theta at e q d) less (h.least q d (omega (arith, lq, k.position)))
+          less_le (slope p at a theta second.position second.direction) (slope p at a theta first.position first.direction) (slope p at a theta q d) less (h.least q d (omega (arith, lq, k.position)))
   one_more first second taken n h k (inr s) =
-      subst (IsLeastSlope p theta at e value (n + 1)) (sym s.0) (record { within = omega (arith, h.within); is = h.is; least = least; first = h.first })
+      subst (IsLeast value p at a theta (n + 1)) (sym s.0) (record { within = omega (arith, h.within); is = h.is; least = least; first = h.first })
     where
-      least : (q : ℕ) (d : Direction) → q < n + 1 → slope_at p theta at e first.position first.direction ≤ℚ slope_at p theta at e q d
+      least : (q : ℕ) (d : Direction) → q < n + 1 → slope p at a theta first.position first.direction ≤ℚ slope p at a theta q d
       least q d lq = by (q == n) refl
         where
-          by : (t : Bool) → (q == n) ≡ t → slope_at p theta at e first.position first.direction ≤ℚ slope_at p theta at e q d
+          by : (t : Bool) → (q == n) ≡ t → slope p at a theta first.position first.direction ≤ℚ slope p at a theta q d
           by false g = let other : q ≢ n = eqb-false q n g in let below : q < n = omega arith in h.least q d below
           by true g =
-              subst (λ q. slope_at p theta at e first.position first.direction ≤ℚ slope_at p theta at e q d) (sym (eqb-true q n g))
-              (≤ℚ_trans (slope_at p theta at e first.position first.direction) (slope_at p theta at e n second.direction) (slope_at p theta at e n d)
-              (subst (λ z. slope_at p theta at e first.position first.direction ≤ℚ z) k.is (subst (λ z. z ≤ℚ rational (value second.slope)) h.is s.1)) (k.least d))
+              subst (λ q. slope p at a theta first.position first.direction ≤ℚ slope p at a theta q d) (sym (eqb-true q n g))
+              (≤ℚ_trans (slope p at a theta first.position first.direction) (slope p at a theta n second.direction) (slope p at a theta n d)
+              (subst (λ z. slope p at a theta first.position first.direction ≤ℚ z) k.is (subst (λ z. z ≤ℚ rational (value second.slope)) h.is s.1)) (k.least d))
 
-  pub none_negative : (l : Leaving F) (n : ℕ) → IsLeastSlope p theta at e value n l → whole (pos 0) ≤ℚ rational (value l.slope) → (j : ℕ) (d : Direction) → j < n → whole (pos 0) ≤ℚ slope_at p theta at e j d
+  -- the least slope of all positions, where it is negative, is that of the position that leaves
+  pub leaves : (l : Leaving F) → IsLeast value p at a theta p.columns l → rational (value l.slope) <ℚ whole (pos 0) → IsLeaving p at a theta l.position l.direction × (rational (value l.slope) ≡ slope p at a theta l.position l.direction)
+  leaves l h below = (record { position = h.within; negative = λ up. below (subst (λ z. whole (pos 0) ≤ℚ z) (sym h.is) up); least = h.least; first = h.first }, h.is)
+
+  pub none_negative : (l : Leaving F) (n : ℕ) → IsLeast value p at a theta n l → whole (pos 0) ≤ℚ rational (value l.slope) → (j : ℕ) (d : Direction) → j < n → whole (pos 0) ≤ℚ slope p at a theta j d
   none_negative l n h up j d lj =
-      ≤ℚ_trans (whole (pos 0)) (slope_at p theta at e l.position l.direction) (slope_at p theta at e j d) (subst (λ z. whole (pos 0) ≤ℚ z) h.is up) (h.least j d lj)
+      ≤ℚ_trans (whole (pos 0)) (slope p at a theta l.position l.direction) (slope p at a theta j d) (subst (λ z. whole (pos 0) ≤ℚ z) h.is up) (h.least j d lj)
 
-  pub down_lesser : (j : ℕ) (up down : F) → rational (value up) ≡ slope_at p theta at e j Upward → rational (value down) ≡ slope_at p theta at e j Downward
-      → is_lt (cmp_ℚ (rational (value down)) (rational (value up))) ≡ true → IsLesserSlope p theta at e value j (record { position = j; direction = Downward; slope = down })
+  pub down_lesser : (j : ℕ) (up down : F) → rational (value up) ≡ slope p at a theta j Upward → rational (value down) ≡ slope p at a theta j Downward
+      → is_lt (cmp_ℚ (rational (value down)) (rational (value up))) ≡ true → IsLesser value p at a theta j (record { position = j; direction = Downward; slope = down })
   down_lesser j up down u d h = record { position = refl; is = d; least = least }
     where
       less : rational (value down) ≤ℚ rational (value up)
       less = le_from_not (rational (value down)) (rational (value up)) (less_from_test (rational (value down)) (rational (value up)) h)
 
-      least : (b : Direction) → slope_at p theta at e j Downward ≤ℚ slope_at p theta at e j b
-      least Downward = ≤ℚ_refl (slope_at p theta at e j Downward)
-      least Upward = subst (λ z. slope_at p theta at e j Downward ≤ℚ z) u (subst (λ z. z ≤ℚ rational (value up)) d less)
+      least : (b : Direction) → slope p at a theta j Downward ≤ℚ slope p at a theta j b
+      least Downward = ≤ℚ_refl (slope p at a theta j Downward)
+      least Upward = subst (λ z. slope p at a theta j Downward ≤ℚ z) u (subst (λ z. z ≤ℚ rational (value up)) d less)
 
-  pub up_lesser : (j : ℕ) (up down : F) → rational (value up) ≡ slope_at p theta at e j Upward → rational (value down) ≡ slope_at p theta at e j Downward
-      → is_lt (cmp_ℚ (rational (value down)) (rational (value up))) ≡ false → IsLesserSlope p theta at e value j (record { position = j; direction = Upward; slope = up })
+  pub up_lesser : (j : ℕ) (up down : F) → rational (value up) ≡ slope p at a theta j Upward → rational (value down) ≡ slope p at a theta j Downward
+      → is_lt (cmp_ℚ (rational (value down)) (rational (value up))) ≡ false → IsLesser value p at a theta j (record { position = j; direction = Upward; slope = up })
   up_lesser j up down u d h = record { position = refl; is = u; least = least }
     where
       less : rational (value up) ≤ℚ rational (value down)
       less = at_least_from_test (rational (value down)) (rational (value up)) h
 
-      least : (b : Direction) → slope_at p theta at e j Upward ≤ℚ slope_at p theta at e j b
-      least Upward = ≤ℚ_refl (slope_at p theta at e j Upward)
-      least Downward = subst (λ z. slope_at p theta at e j Upward ≤ℚ z) d (subst (λ z. z ≤ℚ rational (value down)) u less)
+      least : (b : Direction) → slope p at a theta j Upward ≤ℚ slope p at a theta j b
+      least Upward = ≤ℚ_refl (slope p at a theta j Upward)
+      least Downward = subst (λ z. slope p at a theta j Upward ≤ℚ z) d (subst (λ z. z ≤ℚ rational (value down)) u less)
+
+  -- ---- a slope as it is computed
+
+  module _ (j i : ℕ) (cost dual : F) (here : i ≡ at j) (e : rational (value dual) ≡ dual_value p at a theta j) where
+    pub upward : (s : F) → rational (value cost) ≡ up_cost p theta i → rational (value s) ≡ rational (value cost) -ℚ rational (value dual) → rational (value s) ≡ slope p at a theta j Upward
+    upward s c is = is ∙ ap₂ (λ x y. x -ℚ y) (c ∙ ap (up_cost p theta) here) e
+
+    pub downward : (s : F) → rational (value cost) ≡ down_cost p theta i → rational (value s) ≡ rational (value cost) +ℚ rational (value dual) → rational (value s) ≡ slope p at a theta j Downward
+    downward s c is = is ∙ ap₂ (λ x y. x +ℚ y) (c ∙ ap (down_cost p theta) here) e
+
+    pub upward_spill : (range : ℕ) (s : Spill F) → j < p.columns → rational (value cost) ≡ up_cost p theta i → IsSlopeSpill value range j Up (rational (value cost)) (rational (value dual)) s → IsStepSpill value range p at a theta s
+    upward_spill range s lj c k =
+        of_slope j Upward lj (subst (λ x. IsSlopeSpill value range j Up x (dual_value p at a theta j) s) (c ∙ ap (up_cost p theta) here) (subst (λ y. IsSlopeSpill value range j Up (rational (value cost)) y s) e k))
+
+    pub downward_spill : (range : ℕ) (s : Spill F) → j < p.columns → rational (value cost) ≡ down_cost p theta i → IsSlopeSpill value range j Down (rational (value cost)) (rational (value dual)) s → IsStepSpill value range p at a theta s
+    downward_spill range s lj c k =
+        of_slope j Downward lj (subst (λ x. IsSlopeSpill value range j Down x (dual_value p at a theta j) s) (c ∙ ap (down_cost p theta) here) (subst (λ y. IsSlopeSpill value range j Down (rational (value cost)) y s) e k))
 
 -- a sign that is not below 0
 pub from_sign : (x : ℚ) (s : ℤ) → s ≡ sign_ℚ x → pos 0 ≤ℤ s → whole (pos 0) ≤ℚ x

@@ -23,13 +23,12 @@ use Rattle.basis_model.specs.RatioSpill.{IsRatioSpill}
 use Rattle.lex_rule.specs.declared.less.Ratio.{Ratio}
 use Rattle.lex_rule.specs.Compared.{of_ratio, IsRatioAt}
 use Rattle.basis_model.specs.Basis.{coord, coefficient, outside_row}
-use Rattle.pivot_rule.specs.Spills.{IsStepSpill, of_basis, of_tie, of_search}
 use Rattle.pivot_rule.proofs.Passing.{is_outside}
 use Rattle.fraction_tableau.specs.declared.line.Line.{Line}
 use Rattle.fraction_tableau.specs.declared.line.Mover.{Mover}
-use Rattle.fraction_tableau.specs.Lines.{model, at_of, inverse_of, IsLine, IsLineSpill, IsMover, is_moving, comes_before, IsMovingRow}
+use Rattle.fraction_tableau.specs.Lines.{model, at_of, inverse_of, IsLine, IsLineSpill, at_coordinates, at_tie, IsMover, is_moving, comes_before, IsMovingRow}
 use Rattle.fraction_tableau.proofs.Inverses.{ends_of}
-use Rattle.fraction_tableau.proofs.Trails.{short_weaker}
+use Rattle.fraction_tableau.proofs.Refusals.{short_weaker}
 use Rattle.fraction_tableau.proofs.Items.{line_basis}
 use Rattle.fraction_tableau.proofs.Moving.{moving_some}
 
@@ -49,7 +48,7 @@ module _ {F : Type 0} (value : F → Fraction) (l : Line F) (line : IsLine value
   no_coord : (i j : ℕ) → l.tableau.now.problem.columns ≤ j → coord (model value l) (inverse_of value l) i j ≡ whole (pos 0)
   no_coord i j past =
       sum_ℚ-same l.tableau.now.problem.columns (λ k. (model value l).x i k *ℚ inverse_of value l k j) (λ k. whole (pos 0))
-      (λ k lk. ap (λ z. (model value l).x i k *ℚ z) (ends_of value l.tableau.now.problem l.tableau.now.rows l.tableau.now.square line.inverse k j (λ within. omega (arith, past, within.1)))
+      (λ k lk. ap (λ z. (model value l).x i k *ℚ z) (ends_of value l.tableau.now.problem l.tableau.now.rows l.tableau.now.square line.kept.inverse k j (λ within. omega (arith, past, within.1)))
       ∙ ring_ℚ ((model value l).x i k ∷ []) (v0 ⊠ number (pos 0)) (number (pos 0)) refl)
       ∙ sum_ℚ-zero l.tableau.now.problem.columns
 
@@ -102,12 +101,11 @@ module _ {F : Type 0} (value : F → Fraction) (l : Line F) (line : IsLine value
       → ((rows : ℕ) → u.row < rows → v.row < rows → IsRatioSpill value range rows (length l.tableau.now.rows) (slice_index l.tableau.now.rows) l.position u v s) → IsLineSpill value range l s
   unfolding IsLineSpill is_moving
   tie_spill range i k u v s differ li lk mi mk eu ev h =
-      of_search l.position l.direction line.leaving
-      (of_tie i k differ li lk mi mk
+      at_tie i k differ li lk mi mk
       (subst (λ n. Q n (outside_row (model value l) (at_of value l) (inverse_of value l) i) (outside_row (model value l) (at_of value l) (inverse_of value l) k)) line.kept.inverse.size
       (subst (λ u. Q (length l.tableau.now.rows) u (outside_row (model value l) (at_of value l) (inverse_of value l) k)) eu
       (subst (λ v. Q (length l.tableau.now.rows) u v) ev
-      (h (length l.tableau.now.problem.rows) (subst (λ (b : Nonbasic). b.row < length l.tableau.now.problem.rows) (sym eu) li) (subst (λ (b : Nonbasic). b.row < length l.tableau.now.problem.rows) (sym ev) lk))))))
+      (h (length l.tableau.now.problem.rows) (subst (λ (b : Nonbasic). b.row < length l.tableau.now.problem.rows) (sym eu) li) (subst (λ (b : Nonbasic). b.row < length l.tableau.now.problem.rows) (sym ev) lk)))))
     where
       Q : ℕ → Nonbasic → Nonbasic → Type 0
       Q n u v = IsRatioSpill value range (length l.tableau.now.problem.rows) n (slice_index l.tableau.now.rows) l.position u v s
@@ -128,5 +126,5 @@ module _ {F : Type 0} (value : F → Fraction) (l : Line F) (line : IsLine value
   pub coordinates_spill : (range i : ℕ) (e : Short F) → i < length l.tableau.now.problem.rows → IsShortOf (IsCoordinatesSpill value range (model value l).columns (inverse_of value l) ((model value l).x i) i) e → IsShortOf (IsLineSpill value range l) e
   unfolding IsLineSpill
   coordinates_spill range i e li h =
-      short_weaker (IsCoordinatesSpill value range (model value l).columns (inverse_of value l) ((model value l).x i) i) (IsStepSpill value range (model value l) (at_of value l) (inverse_of value l) (rational (value l.theta)))
-      (λ s k. of_basis (inr (inr (inl (i, li, k))))) e h
+      short_weaker (IsCoordinatesSpill value range (model value l).columns (inverse_of value l) ((model value l).x i) i) (IsLineSpill value range l)
+      (λ s k. at_coordinates i li k) e h

@@ -1,3 +1,9 @@
 pub mod Inverses
 pub mod Kept
 pub mod Shorts
+pub mod Heaps
+pub mod Lines
+pub mod Descents
+pub mod Slopes
+pub mod Standing
+pub mod Next

@@ -10,6 +10,8 @@ use Rattle.loss_model.specs.Spill.{abs_ℚ}
 use Rattle.basis_model.specs.Perturbed.{ratio}
 use Rattle.basis_inverse.specs.Square.{inverse_entry}
 use Rattle.basis_model.specs.Basis.{coord, coefficient, outside_row, side_at}
+use Rattle.lex_rule.specs.declared.less.Ratio.{Ratio}
+use Rattle.lex_rule.specs.Compared.{of_ratio, IsRatioAt}
 use Rattle.basic_solution.specs.Bases.{side_in}
 use Rattle.loss_model.specs.declared.vertex.Side.{Side}
 use Rattle.pivot_rule.specs.declared.direction.Direction.{Direction}
@@ -17,9 +19,11 @@ use Rattle.pivot_rule.specs.declared.direction.Direction.TheVariants.{Upward, Do
 use Rattle.pivot_rule.specs.Duals.{HasCosts}
 use Rattle.pivot_rule.specs.Steps.{slope, moves, is_before, passing, slope_before, IsLeaving, IsEntering}
 use Rattle.pivot_rule.specs.Spills.{IsStepSpill, count}
+use Rattle.loss_model.specs.Quantities.{IsCoordinatesSpill}
+use Rattle.basis_model.specs.RatioSpill.{IsRatioEntrySpill, IsRatioSpill}
 use Rattle.fraction_tableau.specs.declared.line.Line.{Line}
 use Rattle.fraction_tableau.specs.declared.line.Mover.{Mover}
-use Rattle.fraction_tableau.specs.Inverses.{IsInverseOf}
+use Rattle.fraction_tableau.specs.Kept.{IsKept}
 
 -- a change in a direction
 abbrev pub turned_by : Direction → ℚ → ℚ
@@ -29,6 +33,13 @@ turned_by Downward x = neg_ℚ x
 -- the row of item k of a list
 abbrev pub row_at : {F : Type 0} → List (Mover F) → ℕ → ℕ
 row_at xs k = option_map_or (λ m. m.row) (slice_get xs k) 0
+
+-- where position j leaves in direction d, an operation by which the rows that move are ordered overflows: of the
+-- coordinates of a row, at the first entry of a ratio, or where the ratios of two rows are compared
+pub data IsOrderSpill {F : Type 0} (value : F → Fraction) (range : ℕ) (p : Sample) (at : ℕ → ℕ) (a : ℕ → ℕ → ℚ) (j : ℕ) (d : Direction) (s : Spill F) : Type 0 where
+  at_coordinates : (i : ℕ) → i < p.rows → IsCoordinatesSpill value range p.columns a (p.x i) i s → IsOrderSpill value range p at a j d s
+  at_ratio : (r : ℕ) → r < p.rows → moves p at a j d r ≡ true → IsRatioEntrySpill value range p.columns at j (outside_row p at a r) 0 s → IsOrderSpill value range p at a j d s
+  at_tie : (r i : ℕ) → r ≢ i → r < p.rows → i < p.rows → moves p at a j d r ≡ true → moves p at a j d i ≡ true → IsRatioSpill value range p.rows p.columns at j (outside_row p at a r) (outside_row p at a i) s → IsOrderSpill value range p at a j d s
 
 module _ {F : Type 0} (value : F → Fraction) where
   -- the problem of a line as a sample
@@ -43,14 +54,12 @@ module _ {F : Type 0} (value : F → Fraction) where
   abbrev pub inverse_of : Line F → ℕ → ℕ → ℚ
   inverse_of l = inverse_entry value l.tableau.now.square
 
-  -- the residuals are those of the basis, of which this position leaves in this direction
+  -- the residuals are those of the basis, which has this position
   pub record IsLine (l : Line F) : Type 0 where
-    pub shaped : IsWellShaped l.tableau.now.problem
-    pub costs : HasCosts (model l) (rational (value l.theta))
-    pub inverse : IsInverseOf value l.tableau.now.problem l.tableau.now.rows l.tableau.now.square
+    pub kept : IsKept value l.tableau.now
     pub size : length l.residuals.now ≡ length l.tableau.now.problem.rows
     pub residuals : (i : ℕ) → i < length l.tableau.now.problem.rows → value_at value l.residuals.now i ≡ residual (model l) (coefficient (model l) (at_of l) (inverse_of l)) i
-    pub leaving : IsLeaving (model l) (at_of l) (inverse_of l) (rational (value l.theta)) l.position l.direction
+    pub position : l.position < l.tableau.now.problem.columns
 
   -- row i moves towards 0 on the line
   unfoldable pub is_moving : Line F → ℕ → Bool
@@ -60,9 +69,9 @@ module _ {F : Type 0} (value : F → Fraction) where
   unfoldable pub comes_before : Line F → ℕ → ℕ → Bool
   comes_before l i r = is_before (model l) (at_of l) (inverse_of l) l.position i r
 
-  -- an operation in the line search overflows
+  -- an operation by which the rows that move on the line are ordered overflows
   unfoldable pub IsLineSpill : ℕ → Line F → Spill F → Type 0
-  IsLineSpill range l s = IsStepSpill value range (model l) (at_of l) (inverse_of l) (rational (value l.theta)) s
+  IsLineSpill range l s = IsOrderSpill value range (model l) (at_of l) (inverse_of l) l.position l.direction s
 
   -- a row that moves, with the first entry of its ratio and the size of its coordinate
   pub record IsMover (l : Line F) (m : Mover F) : Type 0 where
@@ -77,6 +86,11 @@ module _ {F : Type 0} (value : F → Fraction) where
     pub moves : is_moving l i ≡ true
     pub size : length coords ≡ l.tableau.now.problem.columns
     pub each : (j : ℕ) → j < l.tableau.now.problem.columns → value_at value coords j ≡ coord (model l) (inverse_of l) i j
+
+  -- the row as its ratio is compared by all its entries
+  pub record IsRatioOf (l : Line F) (i : ℕ) (u : Ratio F) : Type 0 where
+    pub same : of_ratio value u ≡ outside_row (model l) (at_of l) (inverse_of l) i
+    pub at : IsRatioAt value l.tableau.now.rows l.position u
 
   -- side i is that of row i
   abbrev pub side_is : Line F → ℕ → Side → Type 0
@@ -108,23 +122,3 @@ module _ {F : Type 0} (value : F → Fraction) where
     pub each : (k : ℕ) (m : Mover F) → slice_get xs k ≡ Some m → IsMover l m
     pub all : (i : ℕ) → i < length l.tableau.now.problem.rows → is_moving l i ≡ true → (k : ℕ) × (k < length xs) × (row_at xs k ≡ i)
     pub apart : (j k : ℕ) → j < k → k < length xs → row_at xs j ≢ row_at xs k
-
-  -- row r enters
-  unfoldable pub Enters : Line F → ℕ → Type 0
-  Enters l r = IsEntering (model l) (at_of l) (inverse_of l) (rational (value l.theta)) l.position l.direction r
-
-  -- the slope where the line begins
-  unfoldable pub first_slope : Line F → ℚ
-  first_slope l = slope (model l) (at_of l) (inverse_of l) (rational (value l.theta)) l.position l.direction
-
-  -- the slope after all rows before row r
-  unfoldable pub slope_until : Line F → ℕ → ℚ
-  slope_until l r = slope_before (model l) (at_of l) (inverse_of l) (rational (value l.theta)) l.position l.direction r
-
-  -- what passing row i adds
-  unfoldable pub passing_of : Line F → ℕ → ℚ
-  passing_of l i = passing (model l) (at_of l) (inverse_of l) (rational (value l.theta)) l.position i
-
-  -- how many rows are passed before row r
-  unfoldable pub passed_until : Line F → ℕ → ℕ
-  passed_until l r = count (length l.tableau.now.problem.rows) (λ i. is_moving l i && comes_before l i r)

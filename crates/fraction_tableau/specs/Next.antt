@@ -1,29 +1,21 @@
 -- Inner. What is left at a basis.
-use Rattle.std.specs.Prelude.{ℕ, List, slice_index}
+use Rattle.std.specs.Prelude.{ℕ}
 use Rattle.exact_algebra.specs.Fraction.{Fraction}
 use Rattle.exact_algebra.specs.Rational.{ℚ}
-use Rattle.loss_model.specs.declared.problem.Problem.{Problem}
 use Rattle.loss_model.specs.declared.spill.Spill.{Spill}
-use Rattle.loss_model.specs.Problem.{sample}
 use Rattle.loss_model.specs.Spill.{AtSome}
 use Rattle.basis_model.specs.BasisSpills.{IsDualValueSpill}
-use Rattle.pivot_rule.specs.Steps.{HasNoNegativeSlope, IsSolvingStep}
-use Rattle.fraction_tableau.specs.declared.standing.Standing.{Standing}
+use Rattle.pivot_rule.specs.Steps.{IsSolvingStep}
+use Rattle.tableau_model.specs.Places.{Place, at_of, sample_of}
+use Rattle.tableau_model.specs.Answers.{IsOptimalAt}
 use Rattle.fraction_tableau.specs.declared.standing.Next.{Next}
 use Rattle.fraction_tableau.specs.declared.standing.Next.TheVariants.{Optimal, Pivot}
-use Rattle.fraction_tableau.specs.Standing.{AreCoefficients, AreSides, AreDuals}
-
--- what stands at a basis at theta
-pub record Stands {F : Type 0} (value : F → Fraction) (p : Problem F) (theta : ℚ) (basis : List ℕ) (a : ℕ → ℕ → ℚ) (s : Standing F) : Type 0 where
-  pub coef : AreCoefficients value p basis a s.coef
-  pub sides : AreSides value p basis a s.sides
-  pub duals : AreDuals value p theta basis a s.duals
+use Rattle.fraction_tableau.specs.Standing.{Stands}
 
 -- no slope is negative, or the solving step
-abbrev pub IsNext : {F : Type 0} → (F → Fraction) → Problem F → ℚ → List ℕ → (ℕ → ℕ → ℚ) → Next F → Type 0
-IsNext value p theta basis a (Optimal s) =
-    HasNoNegativeSlope (sample value p) (slice_index basis) a theta × Stands value p theta basis a s
-IsNext value p theta basis a (Pivot position row) = IsSolvingStep (sample value p) (slice_index basis) a theta position row
+abbrev pub IsNext : {F : Type 0} → (F → Fraction) → Place F → ℚ → Next F → Type 0
+IsNext value h theta (Optimal s) = IsOptimalAt value h theta × Stands value h theta s
+IsNext value h theta (Pivot s) = IsSolvingStep (sample_of value h) (at_of h) h.inverse theta s.position s.row
 
 -- at one of the first n dual values at theta
 abbrev pub IsDualFault : {F : Type 0} → (F → Fraction) → ℕ → ℕ → (ℕ → ℚ) → (ℕ → ℚ) → ℚ → Spill F → Type 0

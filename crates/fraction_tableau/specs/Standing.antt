@@ -1,23 +1,31 @@
 -- Inner. What is computed at a basis.
-use Rattle.std.specs.Prelude.{◌≡◌, ℕ, ◌<◌, List, length, slice_get, slice_index, Some}
+use Rattle.std.specs.Prelude.{◌≡◌, ℕ, ◌<◌, List, length, slice_get, Some}
 use Rattle.exact_algebra.specs.Fraction.{Fraction}
 use Rattle.exact_algebra.specs.Rational.{ℚ}
-use Rattle.loss_model.specs.declared.problem.Problem.{Problem}
 use Rattle.loss_model.specs.declared.vertex.Side.{Side}
-use Rattle.loss_model.specs.Problem.{value_at, sample}
+use Rattle.loss_model.specs.Problem.{value_at}
 use Rattle.basis_model.specs.Basis.{coefficient, side_at, dual_value}
+use Rattle.tableau_model.specs.Places.{Place, at_of, sample_of}
+use Rattle.fraction_tableau.specs.declared.standing.Standing.{Standing}
 
--- the coefficients by column
-pub record AreCoefficients {F : Type 0} (value : F → Fraction) (p : Problem F) (basis : List ℕ) (a : ℕ → ℕ → ℚ) (coef : List F) : Type 0 where
-  pub size : length coef ≡ p.columns
-  pub each : (k : ℕ) → k < p.columns → value_at value coef k ≡ coefficient (sample value p) (slice_index basis) a k
+module _ {F : Type 0} (value : F → Fraction) (h : Place F) where
+  -- the coefficients by column
+  pub record AreCoefficients (coef : List F) : Type 0 where
+    pub size : length coef ≡ h.task.problem.columns
+    pub each : (k : ℕ) → k < h.task.problem.columns → value_at value coef k ≡ coefficient (sample_of value h) (at_of h) h.inverse k
 
--- the sides by row
-pub record AreSides {F : Type 0} (value : F → Fraction) (p : Problem F) (basis : List ℕ) (a : ℕ → ℕ → ℚ) (sides : List Side) : Type 0 where
-  pub size : length sides ≡ length p.rows
-  pub each : (i : ℕ) → i < length p.rows → slice_get sides i ≡ Some (side_at (sample value p) (slice_index basis) a i)
+  -- the sides by row
+  pub record AreSides (sides : List Side) : Type 0 where
+    pub size : length sides ≡ length h.task.problem.rows
+    pub each : (i : ℕ) → i < length h.task.problem.rows → slice_get sides i ≡ Some (side_at (sample_of value h) (at_of h) h.inverse i)
 
--- the dual values of the basis at theta, by position
-pub record AreDuals {F : Type 0} (value : F → Fraction) (p : Problem F) (theta : ℚ) (basis : List ℕ) (a : ℕ → ℕ → ℚ) (duals : List F) : Type 0 where
-  pub size : length duals ≡ p.columns
-  pub each : (j : ℕ) → j < p.columns → value_at value duals j ≡ dual_value (sample value p) (slice_index basis) a theta j
+  -- the dual values of the basis at theta, by position
+  pub record AreDuals (theta : ℚ) (duals : List F) : Type 0 where
+    pub size : length duals ≡ h.task.problem.columns
+    pub each : (j : ℕ) → j < h.task.problem.columns → value_at value duals j ≡ dual_value (sample_of value h) (at_of h) h.inverse theta j
+
+  -- what stands at the basis at theta
+  pub record Stands (theta : ℚ) (s : Standing F) : Type 0 where
+    pub coef : AreCoefficients s.coef
+    pub sides : AreSides s.sides
+    pub duals : AreDuals theta s.duals

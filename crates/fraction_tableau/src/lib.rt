@@ -1,6 +1,22 @@
-//! A basis in exact fractions.
+//! A basis in exact fractions, and what it answers to the loops.
+//!
+//! The one contract for the layers above: `FractionTableau` is seen as a basis of a problem with its
+//! inverse, at every moment, and each of its calls has the contract of its question in `tableau_model`; what
+//! it refuses names the operation that overflows. It stands on `basis_inverse` for the start and the inverse,
+//! on `basic_solution` for the quantities at a basis, and on `lex_rule` for the order of ties. The line search
+//! is that of Barrodale and Roberts (1973).
+//! Its tests stand in the crate `solver_tests`.
 #![tactic(auto)]
 
+mod answers;
 mod fractions;
+mod heap;
+mod line;
+mod movers;
+mod order;
+mod search;
+mod slopes;
+mod standing;
+mod vertex;
 
 pub use fractions::FractionTableau;

@@ -4,7 +4,7 @@ ghost use Rattle.exact_algebra.specs.Fraction.{rational};
 ghost use Rattle.exact_algebra.specs.Rational.{◌+ℚ◌};
 ghost use Rattle.loss_model.specs.Quantities.{IsShortOf};
 ghost use Rattle.pivot_rule.specs.Spills.{direction_number};
-ghost use Rattle.fraction_tableau.specs.Lines.{IsLine, IsMover, AreMovers};
+ghost use Rattle.fraction_tableau.specs.Lines.{IsMover, AreMovers};
 ghost use Rattle.fraction_tableau.specs.Descents.{IsDescent, IsDescentSpill, Enters, first_slope, slope_until, passed_until, passing_of};
 
 use crate::heap::{make_heap, pop};
@@ -26,7 +26,6 @@ fn number_of(direction: Direction) -> u32
 
 /// The slope after a row is passed, where as many were passed before.
 fn pass<F: Exact>(line: &Line<F>, mover: Mover<F>, slope: F, passed: u32) -> Result<F, Spill<F>>
-    requires line { IsLine F.value line.now }
     requires descent { IsDescent F.value line.now }
     requires mover { IsMover F.value line.now mover }
     requires slope { rational (F.value slope) ≡ slope_until F.value line.now mover.row }
@@ -50,7 +49,6 @@ pub fn entering<F: Exact>(
     heap: &mut [Mover<F>],
     slope: F,
 ) -> Result<u32, Short<F>>
-    requires line { IsLine F.value line.now }
     requires descent { IsDescent F.value line.now }
     requires movers { AreMovers F.value line.now heap.old }
     requires slope { rational (F.value slope) ≡ first_slope F.value line.now }

@@ -1,7 +1,7 @@
 //! The position that leaves a basis.
-ghost use Rattle.std.specs.Prelude.{◌≡◌, ℕ, ◌<◌, length, slice_index, IfOk, IfErr};
+ghost use Rattle.std.specs.Prelude.{◌≡◌, ◌<◌, IfOk, IfErr};
 ghost use Rattle.exact_algebra.specs.Fraction.{rational};
-ghost use Rattle.fraction_tableau.specs.Slopes.{HasDuals, slope_here, IsSlopeFault, IsLesserSlope, IsSteeper, IsLeavingOf, IsSomeSlopeFault};
+ghost use Rattle.fraction_tableau.specs.Slopes.{HasDuals, slope_of, IsLesserOf, IsSteeper, IsLeavingOf, IsSlopesSpill};
 
 use crate::fractions::FractionTableau;
 use basic_solution::{slope_down, slope_up};
@@ -41,8 +41,8 @@ impl<'a, F: Exact> Slopes<'a, F> {
     fn slope(&self, position: u32, direction: Direction) -> Result<F, Spill<F>>
         requires duals { HasDuals F.value self.now }
         requires position { position < self.now.tableau.now.problem.columns }
-        ensures exact { IfOk result (λ s. rational (F.value s) ≡ slope_here F.value self.now position direction) }
-        ensures spill { IfErr result (IsSlopeFault F.value F.range self.now position) }
+        ensures exact { IfOk result (λ s. rational (F.value s) ≡ slope_of F.value self.now position direction) }
+        ensures spill { IfErr result (IsSlopesSpill F.value F.range self.now) }
     {
         let row = self.tableau.row_at(position);
         let dual = self.duals[position as usize];
@@ -62,8 +62,8 @@ impl<'a, F: Exact> Slopes<'a, F> {
     fn lesser(&self, position: u32) -> Result<Leaving<F>, Spill<F>>
         requires duals { HasDuals F.value self.now }
         requires position { position < self.now.tableau.now.problem.columns }
-        ensures lesser { IfOk result (IsLesserSlope F.value self.now position) }
-        ensures spill { IfErr result (IsSlopeFault F.value F.range self.now position) }
+        ensures lesser { IfOk result (IsLesserOf F.value self.now position) }
+        ensures spill { IfErr result (IsSlopesSpill F.value F.range self.now) }
     {
         let up = self.slope(position, Direction::Upward)?;
         let down = self.slope(position, Direction::Downward)?;
@@ -85,9 +85,9 @@ impl<'a, F: Exact> Slopes<'a, F> {
     /// The position that leaves, in the direction of its slope: the least slope of all, and the least
     /// position of equal ones; none where no slope is negative.
     pub fn steepest(&self) -> Result<Option<Leaving<F>>, Spill<F>>
-        requires { HasDuals F.value self.now }
+        requires duals { HasDuals F.value self.now }
         ensures leaving { IfOk result (IsLeavingOf F.value self.now) }
-        ensures spill { IfErr result (IsSomeSlopeFault F.value F.range self.now) }
+        ensures spill { IfErr result (IsSlopesSpill F.value F.range self.now) }
     {
         let mut least = self.lesser(0)?;
         for position in 1..self.tableau.columns() {

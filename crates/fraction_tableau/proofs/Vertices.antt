@@ -1,0 +1,90 @@
+-- The vertex of a basis, from what stands there.
+use Rattle.std.specs.Prelude.{◌≡◌, ◌≢◌, ◌↔◌, ℕ, ◌<◌, Bool, true, false, List, length, slice_get, slice_index, Contains, Some}
+use Rattle.std.specs.List.Sorted.{IsStrictlyIncreasing}
+use Rattle.std.specs.declared.cmp.Ordering.{Ordering}
+use Rattle.std.specs.declared.cmp.Ordering.TheVariants.{Less, Equal, Greater}
+use Rattle.std.proofs.Common.{arith, refl, sym, ap, ◌∙◌}
+use Rattle.exact_algebra.specs.Fraction.{Fraction}
+use Rattle.exact_algebra.specs.Rational.{ℚ}
+use Rattle.exact_matrices.specs.Selections.{is_among}
+use Rattle.loss_model.specs.declared.vertex.Side.{Side}
+use Rattle.loss_model.specs.declared.vertex.Side.TheVariants.{Basic}
+use Rattle.basis_model.specs.Perturbed.{side_of}
+use Rattle.basis_model.specs.Basis.{side_at}
+use Rattle.pivot_rule.specs.Duals.{dual}
+use Rattle.pivot_rule.specs.Results.{IsVertexAt, AreBasicDuals}
+use Rattle.pivot_rule.proofs.Among.{among_at, among_place}
+use Rattle.pivot_rule.proofs.Sides.{sign, side_basic, side_outside, dual_at}
+use Rattle.pivot_rule.proofs.Solved.{any_default}
+use Rattle.tableau_model.specs.Places.{Place, IsPlace, at_of, sample_of}
+use Rattle.fraction_tableau.specs.declared.standing.Standing.{Standing}
+use Rattle.fraction_tableau.specs.Inverses.{HasValueAt}
+use Rattle.fraction_tableau.specs.Standing.{Stands}
+
+-- a row of the list is one of its first items
+pub among_from : (basis : List ℕ) (n i : ℕ) → length basis ≡ n → Contains basis i → is_among (slice_index basis) n i ≡ true
+among_from basis n i size (k, lk, e) =
+    ap (is_among (slice_index basis) n) (sym e ∙ any_default basis k i 0 lk) ∙ among_at (slice_index basis) n k (omega (arith, size))
+
+pub among_in : (basis : List ℕ) (n i : ℕ) → length basis ≡ n → is_among (slice_index basis) n i ≡ true → Contains basis i
+among_in basis n i size h =
+    let place : (j : ℕ) × (j < n) × (slice_index basis j ≡ i) = among_place (slice_index basis) n i h in
+    let inside : place.0 < length basis = omega (arith, size, place.1) in
+    (place.0, inside, any_default basis place.0 i 0 inside ∙ place.2)
+
+outside_side : (o : Ordering) → side_of o ≢ Basic
+outside_side Less h = absurd (cc h)
+outside_side Equal h = absurd (cc h)
+outside_side Greater h = absurd (cc h)
+
+module _ {F : Type 0} (value : F → Fraction) (h : Place F) (theta : ℚ) (st : Standing F) (sorted : List ℕ) (basic : List F)
+    (is_place : IsPlace value h) (stands : Stands value h theta st)
+    (increasing : IsStrictlyIncreasing sorted) (size : length sorted ≡ length h.rows) (same : (i : ℕ) → Contains sorted i ↔ Contains h.rows i)
+    (wide : length basic ≡ length sorted) (each : (k : ℕ) → k < length sorted → HasValueAt value h.rows st.duals sorted basic k) where
+  basic_here : (i : ℕ) → slice_get st.sides i ≡ Some Basic → slice_get st.sides i ≡ Some (side_at (sample_of value h) (at_of h) h.inverse i) → Contains sorted i
+  basic_here i b e = by (is_among (at_of h) h.task.problem.columns i) refl
+    where
+      by : (t : Bool) → is_among (at_of h) h.task.problem.columns i ≡ t → Contains sorted i
+      by true g = (same i).1 (among_in h.rows h.task.problem.columns i is_place.size g)
+      by false g =
+          let same_side : side_at (sample_of value h) (at_of h) h.inverse i ≡ Basic = cc (sym e ∙ b) in
+          absurd (outside_side (sign (sample_of value h) (at_of h) h.inverse i) (sym (side_outside (sample_of value h) (at_of h) h.inverse i g) ∙ same_side))
+
+  basic_there : (i : ℕ) → Contains sorted i → slice_get st.sides i ≡ Some (side_at (sample_of value h) (at_of h) h.inverse i) → slice_get st.sides i ≡ Some Basic
+  basic_there i b e =
+      e ∙ ap (λ (s : Side). Some s) (side_basic (sample_of value h) (at_of h) h.inverse i (among_from h.rows h.task.problem.columns i is_place.size ((same i).0 b)))
+
+  pub is_vertex : IsVertexAt value h.task.problem h.rows h.inverse (record { basis = record { rows = sorted }; sides = st.sides; coef = st.coef })
+  is_vertex =
+      record {
+        shape = record {
+          ascending = increasing;
+          size = size ∙ is_place.size;
+          coef = stands.coef.size;
+          sides = stands.sides.size;
+          basic = λ i li. (λ b. basic_here i b (stands.sides.each i li), λ b. basic_there i b (stands.sides.each i li));
+        };
+        rows = same;
+        sides = stands.sides.each;
+        coef = stands.coef.each;
+      }
+
+  pub basic_duals : AreBasicDuals value h.task.problem theta h.rows h.inverse (record { basis = record { rows = sorted }; sides = st.sides; coef = st.coef }) basic
+  basic_duals =
+      record {
+        size = wide ∙ size ∙ is_place.size;
+        each = λ j lj.
+            let here : HasValueAt value h.rows st.duals sorted basic j = each j (omega (arith, size, is_place.size)) in
+            let within : here.position < h.task.problem.columns = omega (arith, here.within, is_place.size) in
+            here.same ∙ stands.duals.each here.position within
+            ∙ sym (dual_at (sample_of value h) (at_of h) h.inverse is_place.is_basis theta here.position within)
+            ∙ ap (dual (sample_of value h) (at_of h) h.inverse theta) here.holds;
+      }
+
+-- the rows of a basis differ
+pub distinct_rows : {F : Type 0} (value : F → Fraction) (h : Place F) → IsPlace value h → (j k : ℕ) → j < k → k < length h.rows → slice_index h.rows j ≢ slice_index h.rows k
+distinct_rows value h is_place j k l lk = is_place.is_basis.distinct.apart j k l (omega (arith, lk, is_place.size))
+
+-- an item of a list is in it
+pub itself : (xs : List ℕ) (k : ℕ) → k < length xs → Contains xs (slice_index xs k)
+itself xs k l = (k, l, any_default xs k (slice_index xs k) 0 l)

@@ -1,0 +1,73 @@
+//! A basis as one of its bodies keeps it, and what the loops ask of it.
+ghost use Rattle.std.specs.Prelude.{◌≡◌, ◌≢◌, ◌<◌, ℕ, IfOk, IfErr, OnOk, length, slice_set, pos};
+ghost use Rattle.exact_algebra.specs.Fraction.{rational};
+ghost use Rattle.exact_algebra.specs.Rational.{whole};
+ghost use Rattle.basis_model.specs.Basis.{coord};
+ghost use Rattle.pivot_rule.specs.Duals.{HasCosts};
+ghost use Rattle.tableau_model.specs.Places.{IsPlace, sample_of};
+ghost use Rattle.tableau_model.specs.Questions.{Question, solving, IsStepOf};
+ghost use Rattle.tableau_model.specs.Refusals.{IsRefusalAt, IsRefusedOf};
+ghost use Rattle.tableau_model.specs.Answers.{IsOptimalAt, IsSolvingAnswer, IsFitted};
+ghost use Rattle.tableau.specs.Bodies.{place_of, IsTaken};
+
+use basis_inverse::Inverse;
+use fraction_tableau::FractionTableau;
+use frac_core::Exact;
+use loss_model::Basis;
+use tableau_model::{Fitted, Refused, Step};
+
+/// A basis of a problem, as its body keeps it.
+#[derive(Drop)]
+pub enum Tableau<'a, F: Exact> {
+    Fractions(FractionTableau<'a, F>),
+}
+
+impl<'a, F: Exact> Tableau<'a, F> {
+    /// The solving step at theta that is left, or none where no slope is negative.
+    pub fn solving_step(&self, theta: F) -> Result<Option<Step>, Refused<F>>
+        requires costs { HasCosts (sample_of F.value (place_of F.value self.now)) (rational (F.value theta)) }
+        ensures step { IfOk result (IsSolvingAnswer F.value (place_of F.value self.now) (rational (F.value theta))) }
+        ensures refused { IfErr result (IsRefusedOf (IsRefusalAt F.value F.range (place_of F.value self.now) (solving (rational (F.value theta))))) }
+    {
+        match self {
+            Tableau::Fractions(body) => body.solving_step(theta),
+        }
+    }
+
+    /// The vertex of the basis, where no slope is negative, with the dual values of its rows at theta.
+    pub fn vertex(&self, theta: F) -> Result<Fitted<F>, Refused<F>>
+        requires costs { HasCosts (sample_of F.value (place_of F.value self.now)) (rational (F.value theta)) }
+        requires stop { IsOptimalAt F.value (place_of F.value self.now) (rational (F.value theta)) }
+        ensures fitted { IfOk result (IsFitted F.value (place_of F.value self.now) (rational (F.value theta))) }
+        ensures refused { IfErr result (IsRefusedOf (IsRefusalAt F.value F.range (place_of F.value self.now) (solving (rational (F.value theta))))) }
+    {
+        match self {
+            Tableau::Fractions(body) => body.vertex(theta),
+        }
+    }
+
+    /// Lets a row take a position at which its coordinate isn't 0. What is refused is refused to each
+    /// question of which this is the step.
+    pub fn exchange(&mut self, step: Step) -> Result<(), Refused<F>>
+        requires position { step.position < (place_of F.value self.old).task.problem.columns }
+        requires row { step.row < length (place_of F.value self.old).task.problem.rows }
+        requires some { let h = place_of F.value self.old in coord (sample_of F.value h) h.inverse step.row step.position ≢ whole (pos 0) }
+        ensures place { OnOk result (IsPlace F.value (place_of F.value self.new)) }
+        ensures same { OnOk result ((place_of F.value self.new).task ≡ (place_of F.value self.old).task) }
+        ensures rows { OnOk result ((place_of F.value self.new).rows ≡ slice_set (place_of F.value self.old).rows step.position step.row) }
+        ensures refused { (asked : Question) → IsStepOf F.value (place_of F.value self.old) asked step.position step.row → IfErr result (IsRefusedOf (IsRefusalAt F.value F.range (place_of F.value self.old) asked)) }
+    {
+        match self {
+            Tableau::Fractions(body) => body.exchange(step),
+        }
+    }
+
+    /// The basis by position, and the inverse of its rows.
+    pub fn into_parts(self) -> (Basis, Inverse<F>)
+        ensures { IsTaken F.value (place_of F.value self.entry) result.0.rows result.1 }
+    {
+        match self {
+            Tableau::Fractions(body) => body.into_parts(),
+        }
+    }
+}
