@@ -1,14 +1,3 @@
-pub mod Lists
-pub mod Inverses
-pub mod Trails
-pub mod Ascending
-pub mod Solutions
 pub mod Limits
-pub mod Stops
-pub mod HeapLaws
-pub mod Items
-pub mod SlopeLaws
-pub mod Moving
-pub mod Ties
-pub mod Passed
-pub mod NextSteps
+pub mod Found
+pub mod Halts

@@ -1,8 +1,3 @@
-pub mod Inverses
-pub mod Standing
-pub mod Next
-pub mod Underway
-pub mod Lines
-pub mod Heaps
-pub mod Slopes
 pub mod Solves
+pub mod Solutions
+pub mod Answers

@@ -1,18 +1,20 @@
 //! Solves at one quantile.
-ghost use Rattle.std.specs.Prelude.{◌≡◌, ℕ, ◌≤◌, length, IfOk, IfErr};
+ghost use Rattle.std.specs.Prelude.{ℕ, ◌≤◌, length, IfOk, IfErr};
 ghost use Rattle.exact_algebra.specs.Fraction.{rational};
 ghost use Rattle.loss_model.specs.Problem.{sample, IsWellShaped};
 ghost use Rattle.pivot_rule.specs.Duals.{HasCosts};
-ghost use Rattle.br_pivot.specs.Underway.{IsUnderway, IsStop, IsStopOf};
-ghost use Rattle.br_pivot.specs.Solves.{IsSolution, IsSolveStop, IsLimited, IsLimitAnswer};
+ghost use Rattle.tableau_model.specs.Places.{in_fractions};
+ghost use Rattle.tableau.specs.Solving.{IsHalted, IsSolution as IsFound};
+ghost use Rattle.br_pivot.specs.Answers.{IsStopAnswer};
+ghost use Rattle.br_pivot.specs.Solutions.{IsSolution};
+ghost use Rattle.br_pivot.specs.Solves.{IsSolveStop, IsLimited, IsLimitAnswer};
 
-use crate::standing::{Next, Standing, next_step};
-use crate::step::{Underway, begin};
-use crate::vertex::{ascending, by_row};
 use basis_inverse::Inverse;
-use frac_core::{Exact, List, OutOfMemory};
-use loss_model::{Basis, Problem, Short, Stop, Trail, Vertex};
+use frac_core::{Exact, List};
+use loss_model::{Basis, Problem, Stop, Trail, Vertex};
 use std::alloc::Global;
+use tableau::{Halt, Reached, Solution, solve};
+use tableau_model::Refusal;
 
 /// An optimal vertex with the dual values of its basic rows, ascending; and how it was reached: the
 /// basis by position, its inverse, and the trail that leads to it.
@@ -25,43 +27,46 @@ pub struct Solved<F: Exact> {
     pub trail: Trail<F>,
 }
 
-/// The solution at an optimal basis.
-fn finish<F: Exact>(
-    alloc: Global,
+/// The solution with the inverse of its basis.
+fn solved<'a, F: Exact>(
     problem: &Problem<F>,
-    solve: Underway<F>,
-    standing: Standing<F>,
     theta: F,
-) -> Result<Solved<F>, OutOfMemory>
+    limit: u32,
+    solution: Solution<'a, F>,
+) -> Solved<F>
     requires costs { HasCosts (sample F.value problem.now) (rational (F.value theta)) }
-    requires underway { IsUnderway F.value problem.now (rational (F.value theta)) solve }
-    requires stop { IsStop F.value problem.now (rational (F.value theta)) solve standing }
-    ensures solution { IfOk result (IsSolution F.value problem.now (rational (F.value theta))) }
-    ensures trail { IfOk result (λ s. s.trail ≡ solve.trail) }
+    requires solution { IsFound F.value (record { problem = problem.now; body = in_fractions }) (rational (F.value theta)) limit solution }
+    ensures solution { IsSolution F.value problem.now (rational (F.value theta)) result }
+    ensures short { length result.trail.steps ≤ limit }
 {
-    let rows = solve.basis.rows.as_slice();
-    let sorted = ascending(alloc, rows)?;
-    let basic = by_row(alloc, rows, sorted.as_slice(), standing.duals.as_slice())?;
-    Ok(Solved {
-        vertex: Vertex {
-            basis: Basis { rows: sorted },
-            sides: standing.sides,
-            coef: standing.coef,
-        },
-        basic,
-        inverse: solve.inverse,
-        basis: solve.basis,
-        trail: solve.trail,
-    })
+    let _problem = problem;
+    let _theta = theta;
+    let _limit = limit;
+    let Solution { fitted, reached } = solution;
+    let (basis, inverse) = reached.tableau.into_parts();
+    Solved {
+        vertex: fitted.vertex,
+        basic: fitted.basic,
+        inverse,
+        basis,
+        trail: reached.trail,
+    }
 }
 
-/// The stop of a solve for what refused its next step.
-fn stopped<F: Exact>(short: Short<F>, trail: Trail<F>) -> Stop<F>
-    ensures { IsStopOf short trail result }
+/// The stop for which fractions halted.
+fn stopped<F: Exact>(problem: &Problem<F>, theta: F, limit: u32, halt: Halt<F>) -> Stop<F>
+    requires { IsHalted F.value F.range (record { problem = problem.now; body = in_fractions }) (rational (F.value theta)) limit halt }
+    ensures { IsStopAnswer F.value F.range problem.now (rational (F.value theta)) limit result }
 {
-    match short {
-        Short::OutOfMemory => Stop::OutOfMemory,
-        Short::Overflow(spill) => Stop::Overflow { trail, spill },
+    let _problem = problem;
+    let _theta = theta;
+    match halt {
+        Halt::OutOfMemory => Stop::OutOfMemory,
+        Halt::PivotLimit { trail } => Stop::PivotLimit { limit, trail },
+        Halt::Refused { trail, refusal } => match refusal {
+            Refusal::Overflow(spill) => Stop::Overflow { trail, spill },
+            Refusal::TooWide => unreachable!(),
+        },
     }
 }
 
@@ -84,20 +89,9 @@ pub fn solve_at<F: Exact>(
     ensures stopped { IfErr result (IsSolveStop F.value F.range problem.now (rational (F.value theta)) limit) }
     ensures limited { IsLimited F.value (sample F.value problem.now) (rational (F.value theta)) limit → IsLimitAnswer result }
 {
-    let mut solve = begin(alloc, problem)?;
-    for _ in 0..limit {
-        match solve.advance(alloc, problem, theta) {
-            Ok(None) => {}
-            Ok(Some(standing)) => return Ok(finish(alloc, problem, solve, standing, theta)?),
-            Err(short) => return Err(stopped(short, solve.trail)),
-        }
-    }
-    match next_step(alloc, problem, &solve.inverse, &solve.basis, theta) {
-        Ok(Next::Optimal(standing)) => Ok(finish(alloc, problem, solve, standing, theta)?),
-        Ok(Next::Pivot { .. }) => Err(Stop::PivotLimit {
-            limit,
-            trail: solve.trail,
-        }),
-        Err(short) => Err(stopped(short, solve.trail)),
+    let begun = Reached::begin(alloc, problem)?;
+    match solve(begun, theta, limit) {
+        Ok(solution) => Ok(solved(problem, theta, limit, solution)),
+        Err(halt) => Err(stopped(problem, theta, limit, halt)),
     }
 }

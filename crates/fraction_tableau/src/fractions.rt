@@ -91,7 +91,7 @@ impl<'a, F: Exact> FractionTableau<'a, F> {
     }
 
     /// The rows of the basis by position.
-    pub(crate) fn basis(&self) -> &Basis
+    pub fn basis(&self) -> &Basis
         ensures kept { IsKept F.value self.now }
         ensures rows { result.now.rows ≡ self.now.rows }
     {

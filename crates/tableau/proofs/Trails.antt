@@ -1,24 +1,14 @@
 -- How a trail goes on.
 use Rattle.std.specs.Prelude.{◌≡◌, ℕ, List, [], ◌∷◌, ◌++◌, map, slice_index, slice_set, Some}
-use Rattle.std.proofs.Common.{refl, sym, ap, subst, ◌∙◌, inl, inr}
+use Rattle.std.proofs.Common.{refl, sym, ap, subst, ◌∙◌}
 use Rattle.exact_algebra.specs.Fraction.{Fraction, rational}
 use Rattle.exact_algebra.specs.Rational.{ℚ}
 use Rattle.loss_model.specs.declared.process.Exchange.{Exchange}
 use Rattle.loss_model.specs.declared.process.Trail.{Trail}
-use Rattle.loss_model.specs.declared.spill.Spill.{Spill}
-use Rattle.loss_model.specs.declared.spill.Short.{Short}
-use Rattle.loss_model.specs.declared.spill.Short.TheVariants.{OutOfMemory, Overflow}
-use Rattle.loss_model.specs.Quantities.{IsShortOf, IsExchangeSpill}
 use Rattle.loss_model.specs.Sample.{Sample}
 use Rattle.loss_model.specs.Greedy.{IsGreedyBasis}
 use Rattle.pivot_rule.specs.Steps.{IsSolvingStep}
-use Rattle.pivot_rule.specs.Spills.{IsStepSpill, of_basis, of_exchange}
 use Rattle.pivot_rule.specs.Trails.{AtBasis, basis_after, AreSolvingSteps, IsSolvingTrail}
-
--- what follows from what a spill says follows from what a refusal says
-pub short_weaker : {F : Type 0} (P Q : Spill F → Type 0) → ((s : Spill F) → P s → Q s) → (e : Short F) → IsShortOf P e → IsShortOf Q e
-short_weaker P Q h OutOfMemory k = tt
-short_weaker P Q h (Overflow s) k = h s k
 
 after_more : {F : Type 0} (basis : List ℕ) (steps : List (Exchange F)) (s : Exchange F) → basis_after basis (steps ++ s ∷ []) ≡ slice_set (basis_after basis steps) s.position s.row
 after_more basis [] s = refl
@@ -59,8 +49,3 @@ trail_of_start {F} value p theta trail basis start steps rise fall greedy =
       rise = rise;
       fall = fall;
     }
-
--- an overflow of the rule's exchange is one in the step
-pub exchange_spill : {F : Type 0} (value : F → Fraction) (range : ℕ) (p : Sample) (at : ℕ → ℕ) (a : ℕ → ℕ → ℚ) (theta : ℚ) (j r : ℕ) (s : Spill F) → IsSolvingStep p at a theta j r → IsExchangeSpill value range p.columns a (p.x r) r j s → IsStepSpill value range p at a theta s
-exchange_spill value range p at a theta j r s step (inl h) = of_basis (inr (inr (inl (r, step.entering.row, h))))
-exchange_spill value range p at a theta j r s step (inr h) = of_exchange j r step h

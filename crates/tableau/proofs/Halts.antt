@@ -1,0 +1,61 @@
+-- What a refused step, and a step at the limit, say of a solve.
+use Rattle.std.specs.Prelude.{◌≡◌, ℕ, ◌≤◌, length}
+use Rattle.std.proofs.Common.{refl, sym, subst}
+use Rattle.exact_algebra.specs.Fraction.{Fraction}
+use Rattle.exact_algebra.specs.Rational.{ℚ}
+use Rattle.loss_model.specs.declared.process.Trail.{Trail}
+use Rattle.loss_model.specs.Problem.{sample}
+use Rattle.pivot_rule.specs.Steps.{IsSolvingStep}
+use Rattle.pivot_rule.specs.Trails.{AtBasis, IsSolvingTrail, ReachesLimit}
+use Rattle.tableau_model.specs.declared.refusal.Refusal.{Refusal}
+use Rattle.tableau_model.specs.declared.refusal.Refused.{Refused}
+use Rattle.tableau_model.specs.declared.refusal.Refused.TheVariants.{OutOfMemory, Of}
+use Rattle.tableau_model.specs.Places.{Place, Task, IsPlace, at_of, sample_of}
+use Rattle.tableau_model.specs.Questions.{Question, solving}
+use Rattle.tableau_model.specs.Refusals.{IsRefusalAt, IsRefusedOf}
+use Rattle.tableau.specs.declared.solving.Halt.{Halt}
+use Rattle.tableau.specs.Solving.{IsRefusal, IsHaltOf, IsHalted}
+
+-- what holds of the inverse of a place holds at its basis
+pub at_place : {F : Type 0} (value : F → Fraction) (h : Place F) → IsPlace value h → (Q : (ℕ → ℕ → ℚ) → Type 0) → Q h.inverse → AtBasis (sample_of value h) h.rows Q
+at_place value h is_place Q holds = record { size = is_place.size; a = h.inverse; is_basis = is_place.is_basis; ends = is_place.ends; holds = holds }
+
+-- what follows from what a body refuses follows from a refusal
+pub refused_weaker : {F : Type 0} (P Q : Refusal F → Type 0) → ((r : Refusal F) → P r → Q r) → (e : Refused F) → IsRefusedOf P e → IsRefusedOf Q e
+refused_weaker P Q h OutOfMemory k = tt
+refused_weaker P Q h (Of r) k = h r k
+
+-- what is refused before the trail has changed
+pub refusal_kept : {F : Type 0} (value : F → Fraction) (range : ℕ) (h : Place F) (asked : Question) (trail : Trail F) (e : Refused F)
+    → IsRefusedOf (IsRefusalAt value range h asked) e → IsRefusedOf (IsRefusal value range h asked trail trail) e
+refusal_kept value range h asked trail e k =
+    refused_weaker (IsRefusalAt value range h asked) (IsRefusal value range h asked trail trail) (λ r is. record { kept = refl; refusal = is }) e k
+
+module _ {F : Type 0} (value : F → Fraction) (range : ℕ) (task : Task F) (theta : ℚ) (limit : ℕ) (h : Place F)
+    (same : h.task ≡ task) (is_place : IsPlace value h) where
+  -- a refusal halts the solve
+  pub refusal_halts : (before after : Trail F) (e : Refused F) (halt : Halt F) → IsSolvingTrail value (sample_of value h) theta before h.rows → length before.steps ≤ limit
+      → IsRefusedOf (IsRefusal value range h (solving theta) before after) e → IsHaltOf e after halt → IsHalted value range task theta limit halt
+  refusal_halts before after OutOfMemory halt lawful short k is = subst (IsHalted value range task theta limit) (sym is) tt
+  refusal_halts before after (Of r) halt lawful short k is =
+      subst (IsHalted value range task theta limit) (sym is)
+      (record {
+        here = h;
+        same = same;
+        is_place = is_place;
+        lawful = subst (λ t. IsSolvingTrail value (sample_of value h) theta t h.rows) (sym k.kept) lawful;
+        short = subst (λ (t : Trail F). length t.steps ≤ limit) (sym k.kept) short;
+        refusal = k.refusal;
+      })
+
+  -- and so does a step that is left at the limit
+  pub limit_reached : (trail : Trail F) (j r : ℕ) → IsSolvingTrail value (sample_of value h) theta trail h.rows → length trail.steps ≡ limit
+      → IsSolvingStep (sample_of value h) (at_of h) h.inverse theta j r → ReachesLimit value (sample value task.problem) theta limit trail
+  limit_reached trail j r lawful counted step =
+      subst (λ (t : Task F). ReachesLimit value (sample value t.problem) theta limit trail) same
+      (record {
+        basis = h.rows;
+        lawful = lawful;
+        count = counted;
+        more = at_place value h is_place (λ a. (j : ℕ) × (r : ℕ) × IsSolvingStep (sample_of value h) (at_of h) a theta j r) (j, r, step);
+      })
