@@ -28,7 +28,7 @@ pub struct Solved<F: Exact> {
 }
 
 /// The solution with the inverse of its basis.
-fn solved<'a, F: Exact>(
+fn with_inverse<'a, F: Exact>(
     problem: &Problem<F>,
     theta: F,
     limit: u32,
@@ -91,7 +91,7 @@ pub fn solve_at<F: Exact>(
 {
     let begun = Reached::begin(alloc, problem)?;
     match solve(begun, theta, limit) {
-        Ok(solution) => Ok(solved(problem, theta, limit, solution)),
+        Ok(solution) => Ok(with_inverse(problem, theta, limit, solution)),
         Err(halt) => Err(stopped(problem, theta, limit, halt)),
     }
 }

@@ -6,12 +6,11 @@ use Rattle.tableau_model.specs.Places.{Place}
 use Rattle.fraction_tableau.specs.Inverses.{IsInverseOf}
 use Rattle.fraction_tableau.specs.Kept.{place}
 use Rattle.tableau.specs.declared.bodies.Tableau.{Tableau}
-use Rattle.tableau.specs.declared.bodies.Tableau.TheVariants.{Fractions}
 
 module _ {F : Type 0} (value : F → Fraction) where
   -- the basis as a place
   abbrev pub place_of : Tableau F → Place F
-  place_of (Fractions k) = place value k
+  place_of t = place value t.body
 
   -- the rows and the inverse that were taken out of a place
   pub record IsTaken (h : Place F) (rows : List ℕ) (s : Square F) : Type 0 where

@@ -18,8 +18,8 @@ use tableau_model::{Fitted, Refused, Step};
 
 /// A basis of a problem, as its body keeps it.
 #[derive(Drop)]
-pub enum Tableau<'a, F: Exact> {
-    Fractions(FractionTableau<'a, F>),
+pub struct Tableau<'a, F: Exact> {
+    pub body: FractionTableau<'a, F>,
 }
 
 impl<'a, F: Exact> Tableau<'a, F> {
@@ -29,9 +29,7 @@ impl<'a, F: Exact> Tableau<'a, F> {
         ensures step { IfOk result (IsSolvingAnswer F.value (place_of F.value self.now) (rational (F.value theta))) }
         ensures refused { IfErr result (IsRefusedOf (IsRefusalAt F.value F.range (place_of F.value self.now) (solving (rational (F.value theta))))) }
     {
-        match self {
-            Tableau::Fractions(body) => body.solving_step(theta),
-        }
+        self.body.solving_step(theta)
     }
 
     /// The vertex of the basis, where no slope is negative, with the dual values of its rows at theta.
@@ -41,9 +39,7 @@ impl<'a, F: Exact> Tableau<'a, F> {
         ensures fitted { IfOk result (IsFitted F.value (place_of F.value self.now) (rational (F.value theta))) }
         ensures refused { IfErr result (IsRefusedOf (IsRefusalAt F.value F.range (place_of F.value self.now) (solving (rational (F.value theta))))) }
     {
-        match self {
-            Tableau::Fractions(body) => body.vertex(theta),
-        }
+        self.body.vertex(theta)
     }
 
     /// Lets a row take a position at which its coordinate isn't 0. What is refused is refused to each
@@ -57,17 +53,13 @@ impl<'a, F: Exact> Tableau<'a, F> {
         ensures rows { OnOk result ((place_of F.value self.new).rows ≡ slice_set (place_of F.value self.old).rows step.position step.row) }
         ensures refused { (asked : Question) → IsStepOf F.value (place_of F.value self.old) asked step.position step.row → IfErr result (IsRefusedOf (IsRefusalAt F.value F.range (place_of F.value self.old) asked)) }
     {
-        match self {
-            Tableau::Fractions(body) => body.exchange(step),
-        }
+        self.body.exchange(step)
     }
 
     /// The basis by position, and the inverse of its rows.
     pub fn into_parts(self) -> (Basis, Inverse<F>)
         ensures { IsTaken F.value (place_of F.value self.entry) result.0.rows result.1 }
     {
-        match self {
-            Tableau::Fractions(body) => body.into_parts(),
-        }
+        self.body.into_parts()
     }
 }

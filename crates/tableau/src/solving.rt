@@ -73,7 +73,7 @@ impl<'a, F: Exact> Reached<'a, F> {
         let body = FractionTableau::begin(alloc, problem)?;
         let start = full_start(alloc, body.basis().rows.as_slice())?;
         Ok(Reached {
-            tableau: Tableau::Fractions(body),
+            tableau: Tableau { body },
             trail: Trail {
                 start,
                 steps: List::new(alloc),

@@ -1,7 +1,7 @@
 use Rattle.exact_algebra.specs.Fraction.{rational}
 use Rattle.tableau_model.specs.Places.{in_fractions}
 use Rattle.br_pivot.proofs.Found.{found}
-use Rattle.br_pivot.proofs.solve.solved.Goals as goal
+use Rattle.br_pivot.proofs.solve.with_inverse.Goals as goal
 
 pub returns-clause-solution : goal.returns-clause-solution
 returns-clause-solution g c =
