@@ -82,6 +82,13 @@ impl<'a, F: Exact> FractionTableau<'a, F> {
         self.alloc
     }
 
+    /// The problem.
+    pub(crate) fn problem(&self) -> &Problem<F>
+        ensures { result.now ≡ self.now.problem }
+    {
+        self.problem
+    }
+
     /// How many columns the problem has.
     pub(crate) fn columns(&self) -> u32
         ensures kept { IsKept F.value self.now }
