@@ -6,13 +6,13 @@ use Rattle.std.proofs.Common.{arith, refl, sym, ap, ap₂, subst, ◌∙◌, inl
 use Rattle.std.proofs.lemmas.Option.{slice_get_read}
 use Rattle.exact_algebra.specs.Fraction.{Fraction, rational}
 use Rattle.exact_algebra.specs.Solver.{number, negated, ◌⊟◌, v0}
-use Rattle.exact_algebra.specs.Rational.{ℚ, ◌-ℚ◌, ◌*ℚ◌, neg_ℚ, inverse, whole, ◌≤ℚ◌, ring_ℚ, ≤ℚ_refl, ≤ℚ_trans}
+use Rattle.exact_algebra.specs.Rational.{ℚ, ◌-ℚ◌, ◌*ℚ◌, neg_ℚ, inverse, whole, ◌≤ℚ◌, ring_ℚ, ≤ℚ_refl}
 use Rattle.exact_algebra.specs.Order.{cmp_ℚ, by_cmp, le_from_not}
 use Rattle.loss_model.specs.declared.problem.Row.{Row}
 use Rattle.loss_model.specs.declared.problem.Problem.{Problem}
 use Rattle.loss_model.specs.declared.spill.Spill.{Spill}
 use Rattle.loss_model.specs.Sample.{Sample}
-use Rattle.loss_model.specs.Problem.{sample, of_row}
+use Rattle.loss_model.specs.Problem.{sample}
 use Rattle.basis_model.specs.declared.part.Part.{Part}
 use Rattle.basis_model.specs.declared.part.Part.TheVariants.{Constant, Linear}
 use Rattle.basis_model.specs.Basis.{bound_part, basic_dual}
@@ -22,7 +22,7 @@ use Rattle.basic_solution.specs.Solutions.{IsSolution}
 use Rattle.pivot_rule.specs.declared.direction.Direction.{Direction}
 use Rattle.pivot_rule.specs.declared.direction.Direction.TheVariants.{Upward, Downward}
 use Rattle.pivot_rule.specs.Duals.{◌<ℚ◌}
-use Rattle.walk_rule.specs.Families.{over_quantiles, slope_part, IsOptimalIn}
+use Rattle.walk_rule.specs.Families.{over_quantiles, IsOptimalIn}
 use Rattle.walk_rule.specs.Walks.{side_towards, slope_change, Crosses, IsNextBreak}
 use Rattle.walk_rule.specs.SlopeLaws.{crossing_of}
 use Rattle.walk_rule.specs.WalkSpills.{IsMeetingSpill, IsCrossingSpill}

@@ -1,5 +1,5 @@
 -- The ends of a segment, and where an operation there overflows.
-use Rattle.std.specs.Prelude.{◌≡◌, ◌⊎◌, ℕ, ◌<◌, ◌≤◌, Bool, true, false, List, [], ◌∷◌, length, Option, if◌then◌else◌, pos}
+use Rattle.std.specs.Prelude.{◌≡◌, ◌⊎◌, ℕ, ◌<◌, ◌≤◌, false, [], ◌∷◌, length, Option, if◌then◌else◌, pos}
 use Rattle.std.specs.Option.{option_map_or}
 use Rattle.std.proofs.Common.{arith, refl, sym, ap, subst, ◌∙◌, inl, inr}
 use Rattle.std.proofs.lemmas.Bool.{cases_lt}
@@ -8,8 +8,7 @@ use Rattle.exact_algebra.specs.Fraction.{Fraction, rational}
 use Rattle.exact_algebra.specs.Solver.{number, ◌⊠◌, v0}
 use Rattle.exact_algebra.specs.Rational.{ℚ, ◌*ℚ◌, whole, ring_ℚ}
 use Rattle.exact_algebra.specs.RationalSums.{sum_ℚ-same, sum_ℚ-zero}
-use Rattle.loss_model.specs.declared.spill.Quantity.{Quantity}
-use Rattle.loss_model.specs.declared.spill.Quantity.TheVariants.{Residual, CostValue, Loss}
+use Rattle.loss_model.specs.declared.spill.Quantity.TheVariants.{Residual, Loss}
 use Rattle.loss_model.specs.declared.spill.Site.{Site}
 use Rattle.loss_model.specs.declared.spill.Spill.{Spill}
 use Rattle.loss_model.specs.Sample.{Sample}

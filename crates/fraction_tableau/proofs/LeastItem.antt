@@ -1,5 +1,5 @@
 -- The first of the rows that move, item by item.
-use Rattle.std.specs.Prelude.{◌≡◌, ◌≢◌, ◌⊎◌, ℕ, ◌+◌, ◌<◌, ◌≤◌, Bool, true, false, ◌==◌, List, length, get_or}
+use Rattle.std.specs.Prelude.{◌≡◌, ◌≢◌, ◌⊎◌, ℕ, ◌+◌, ◌<◌, Bool, true, false, ◌==◌, List, length, get_or}
 use Rattle.std.proofs.Common.{arith, refl, sym, ap, ap₂, subst, ◌∙◌, inl, inr}
 use borrow.Author.Tests.{eqb-true, eqb-false}
 use Rattle.exact_algebra.specs.Fraction.{Fraction}
@@ -17,7 +17,7 @@ use Rattle.fraction_tableau.specs.Lines.{model, at_of, inverse_of, IsLine, IsOrd
 use Rattle.fraction_tableau.specs.LeastRatio.{IsEarlier, IsFirstOn}
 use Rattle.fraction_tableau.proofs.HeapLaws.{IsOrderOn}
 use Rattle.fraction_tableau.proofs.Refusals.{short_weaker}
-use Rattle.fraction_tableau.proofs.Items.{order_of, item_read, row_moves}
+use Rattle.fraction_tableau.proofs.Items.{order_of, item_read}
 
 no : true ≡ false → ⊥
 no h = cc

@@ -1,5 +1,5 @@
 -- The first crossing, position by position.
-use Rattle.std.specs.Prelude.{◌≡◌, ◌≢◌, ◌⊎◌, ℕ, ◌+◌, ◌<◌, Bool, true, false, ◌==◌, Option, Some, None}
+use Rattle.std.specs.Prelude.{◌≡◌, ◌≢◌, ℕ, ◌+◌, ◌<◌, Bool, true, false, ◌==◌, Option, Some, None}
 use Rattle.std.proofs.Common.{arith, sym, ap, subst, ◌∙◌, inl, inr, refl}
 use borrow.Author.Tests.{eqb-true, eqb-false}
 use Rattle.exact_algebra.specs.Fraction.{Fraction, rational}
@@ -9,7 +9,7 @@ use Rattle.pivot_rule.specs.declared.direction.Direction.{Direction}
 use Rattle.pivot_rule.specs.declared.direction.Direction.TheVariants.{Upward, Downward}
 use Rattle.pivot_rule.specs.Duals.{◌<ℚ◌}
 use Rattle.fraction_tableau.specs.declared.crossings.Breakpoint.{Breakpoint}
-use Rattle.fraction_tableau.specs.Crossings.{IsSooner, IsCrossingAt, IsFirst, IsFirstOf}
+use Rattle.fraction_tableau.specs.Crossings.{IsSooner, IsCrossingAt, IsFirstOf}
 
 module _ {F : Type 0} (value : F → Fraction) (Passes : ℕ → Direction → Type 0) (crossing : ℕ → Direction → ℚ) where
   abbrev theta : Breakpoint F → ℚ

@@ -1,5 +1,5 @@
 -- The walking step that is left at a basis.
-use Rattle.std.specs.Prelude.{◌≡◌, ◌⊎◌, ℕ, ◌<◌, true, Option, Some, None, pos}
+use Rattle.std.specs.Prelude.{◌≡◌, ℕ, ◌<◌, true, Option, Some, None, pos}
 use Rattle.std.proofs.Common.{sym, subst, inl, inr}
 use Rattle.exact_algebra.specs.Fraction.{Fraction, rational}
 use Rattle.exact_algebra.specs.Rational.{ℚ, whole, ◌≤ℚ◌, ≤ℚ_trans}
@@ -17,7 +17,7 @@ use Rattle.walk_rule.specs.WalkTrails.{is_below}
 use Rattle.walk_rule.specs.SlopeLaws.{crossing_of}
 use Rattle.walk_rule.specs.WalkSpills.{IsCrossingSpill, IsStaySpill, of_basis, of_crossing, of_pivot, of_ratio, of_tie}
 use Rattle.walk_rule.proofs.Movers.{some_row}
-use Rattle.walk_rule.proofs.Slopes.{crossing, slope_is}
+use Rattle.walk_rule.proofs.Slopes.{slope_is}
 use Rattle.walk_rule.proofs.Trails.{below_from}
 use Rattle.tableau_model.specs.WalkAnswers.{IsWalkingAnswer}
 use Rattle.fraction_tableau.specs.Kept.{place}

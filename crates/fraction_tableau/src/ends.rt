@@ -70,12 +70,7 @@ fn spill_at<F: Exact>(end: End, spill: Spill<F>) -> Spill<F>
 }
 
 /// The loss at an end, which is the first index of its site.
-fn end_loss<F: Exact>(
-    problem: &Problem<F>,
-    coef: &[F],
-    theta: F,
-    end: End,
-) -> Result<F, Spill<F>>
+fn end_loss<F: Exact>(problem: &Problem<F>, coef: &[F], theta: F, end: End) -> Result<F, Spill<F>>
     requires shaped { IsWellShaped problem.now }
     requires coefs { length coef.now ≡ problem.now.columns }
     ensures exact { let p = sample F.value problem.now in let b = value_at F.value coef.now in

@@ -9,7 +9,7 @@ use Rattle.fraction_tableau.proofs.Refusals.{short_refused}
 use Rattle.fraction_tableau.proofs.fractions.FractionTableau.walking_step.Goals as goal
 
 pub returns-in-Err-clause-refused : goal.returns-in-Err-clause-refused
-returns-in-Err-clause-refused g c = 
+returns-in-Err-clause-refused g c =
     let value = g.F.Exact.value in
     let range = g.F.Exact.range in
     let k = c.args.self.now in
