@@ -11,3 +11,9 @@ pub mod Moving
 pub mod Ties
 pub mod Passed
 pub mod NextSteps
+pub mod Soonest
+pub mod Crossed
+pub mod LeastItem
+pub mod Stepping
+pub mod EndSpills
+pub mod Stayed

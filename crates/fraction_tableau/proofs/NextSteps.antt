@@ -28,6 +28,21 @@ use Rattle.fraction_tableau.specs.Standing.{AreDuals, Stands}
 use Rattle.fraction_tableau.proofs.Items.{get_some}
 use Rattle.fraction_tableau.proofs.Refusals.{short_weaker}
 
+-- with the dual values at theta, the basic solution is what stands at the basis
+pub standing_by : {F : Type 0} (value : F → Fraction) (h : Place F) (theta : ℚ) (sol : BasicSolution F) → IsSolution value (sample_of value h) (places h) h.inverse sol
+    → (duals : List F) → AreDuals value h theta duals → Stands value h theta (record { coef = sol.coef; sides = sol.sides; duals = duals })
+standing_by {F} value h theta sol is duals are =
+    record {
+      coef = record { size = is.columns; each = is.coef };
+      sides = record { size = is.all_sides; each = side_here };
+      duals = are;
+    }
+  where
+    side_here : (i : ℕ) → i < length h.task.problem.rows → slice_get sol.sides i ≡ Some (side_at (sample_of value h) (places h) h.inverse i)
+    side_here i li =
+        let found : (s : Side) × (slice_get sol.sides i ≡ Some s) = get_some sol.sides i (omega (arith, li, is.all_sides)) in
+        found.1 ∙ ap (λ (s : Side). Some s) (sym (ap (λ (o : Option Side). unwrap_or o Basic) found.1) ∙ is.sides i li)
+
 module _ {F : Type 0} (value : F → Fraction) (h : Place F) (theta : ℚ) (sol : BasicSolution F) (is : IsSolution value (sample_of value h) (places h) h.inverse sol)
     (duals : List F) (size : length duals ≡ length sol.constant)
     (each : (j : ℕ) → j < length sol.constant → value_at value duals j ≡ value_at value sol.constant j +ℚ (value_at value sol.linear j *ℚ theta)) where
@@ -38,17 +53,7 @@ module _ {F : Type 0} (value : F → Fraction) (h : Place F) (theta : ℚ) (sol 
   duals_here = record { size = size ∙ is.constants; each = dual_here }
 
   pub stands_here : Stands value h theta (record { coef = sol.coef; sides = sol.sides; duals = duals })
-  stands_here =
-      record {
-        coef = record { size = is.columns; each = is.coef };
-        sides = record { size = is.all_sides; each = side_here };
-        duals = duals_here;
-      }
-    where
-      side_here : (i : ℕ) → i < length h.task.problem.rows → slice_get sol.sides i ≡ Some (side_at (sample_of value h) (places h) h.inverse i)
-      side_here i li =
-          let found : (s : Side) × (slice_get sol.sides i ≡ Some s) = get_some sol.sides i (omega (arith, li, is.all_sides)) in
-          found.1 ∙ ap (λ (s : Side). Some s) (sym (ap (λ (o : Option Side). unwrap_or o Basic) found.1) ∙ is.sides i li)
+  stands_here = standing_by value h theta sol is duals duals_here
 
 -- ---- what overflows
 

@@ -7,3 +7,8 @@ pub mod Descents
 pub mod Slopes
 pub mod Standing
 pub mod Next
+pub mod Views
+pub mod Crossings
+pub mod LeastRatio
+pub mod Ends
+pub mod WalkingSteps

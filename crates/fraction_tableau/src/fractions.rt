@@ -59,10 +59,7 @@ pub(crate) fn refused<F: Exact>(short: Short<F>) -> Refused<F>
 
 impl<'a, F: Exact> FractionTableau<'a, F> {
     /// The greedy start of a problem.
-    pub fn begin(
-        alloc: Global,
-        problem: &'a Problem<F>,
-    ) -> Result<FractionTableau<'a, F>, Stop<F>>
+    pub fn begin(alloc: Global, problem: &'a Problem<F>) -> Result<FractionTableau<'a, F>, Stop<F>>
         requires shaped { IsWellShaped problem.now }
         ensures problem { IfOk result (λ t. t.problem ≡ problem.now) }
         ensures greedy { IfOk result (λ t. IsGreedyBasis (sample F.value problem.now) t.rows) }
@@ -80,6 +77,13 @@ impl<'a, F: Exact> FractionTableau<'a, F> {
     /// Where its lists are made.
     pub(crate) fn alloc(&self) -> Global {
         self.alloc
+    }
+
+    /// The problem.
+    pub(crate) fn problem(&self) -> &Problem<F>
+        ensures { result.now ≡ self.now.problem }
+    {
+        self.problem
     }
 
     /// How many columns the problem has.

@@ -9,8 +9,11 @@
 #![tactic(auto)]
 
 mod answers;
+mod crossings;
+mod ends;
 mod fractions;
 mod heap;
+mod least_ratio;
 mod line;
 mod movers;
 mod order;
@@ -18,5 +21,7 @@ mod search;
 mod slopes;
 mod standing;
 mod vertex;
+mod view;
+mod walking;
 
 pub use fractions::FractionTableau;

@@ -42,7 +42,7 @@ pub enum Next<F> {
 }
 
 /// The dual values at theta by position, from their two parts.
-fn duals_at<F: Exact>(
+pub(crate) fn duals_at<F: Exact>(
     alloc: Global,
     constant: &[F],
     linear: &[F],

@@ -7,7 +7,7 @@ use Rattle.loss_model.specs.declared.process.Segment.{Segment}
 use Rattle.walk_rule.specs.Families.{over_quantiles, IsOptimalIn}
 use Rattle.walk_rule.specs.Walks.{IsWalkingStep}
 use Rattle.walk_rule.specs.WalkTrails.{is_below}
-use Rattle.walk_rule.specs.WalkSpills.{IsStayEnd}
+use Rattle.walk_rule.specs.WalkSpills.{IsSegmentEnd}
 use Rattle.walk_rule.specs.Stays.{IsSegmentOf}
 use Rattle.tableau_model.specs.Places.{Place, at_of, sample_of}
 
@@ -31,9 +31,9 @@ module _ {F : Type 0} (value : F → Fraction) where
   IsWalkingAnswer h from hi None = IsStill h from hi
   IsWalkingAnswer h from hi (Some x) = IsStepTo h from hi x
 
-  -- the stay at the basis from `from` on ends at `to`
-  abbrev pub IsStayTo : ℕ → Place F → ℚ → ℚ → ℚ → Type 0
-  IsStayTo range h from hi to = IsStayEnd value range (sample_of value h) (at_of h) h.inverse from hi to
+  -- the stay at the basis from `from` on ends at `to`, and has a segment
+  abbrev pub IsSegmentTo : Place F → ℚ → ℚ → ℚ → Type 0
+  IsSegmentTo h from hi to = IsSegmentEnd (sample_of value h) (at_of h) h.inverse from hi to
 
   -- its segment
   abbrev pub IsSegmentHere : Place F → ℚ → ℚ → Segment F → Type 0

@@ -8,7 +8,7 @@ use Rattle.frac_core.specs.declared.exact.OpKind.TheVariants.{Sub, Div}
 use Rattle.loss_model.specs.declared.spill.Quantity.TheVariants.{DualValue, Crossing, Loss}
 use Rattle.loss_model.specs.declared.spill.Spill.{Spill}
 use Rattle.loss_model.specs.Sample.{Sample}
-use Rattle.loss_model.specs.Spill.{AtSome, IsOperation, IsTermSpill, IsSpillOf, site_of, loss_products}
+use Rattle.loss_model.specs.Spill.{IsOperation, IsTermSpill, IsSpillOf, IsSideCostSpill, site_of, loss_products}
 use Rattle.loss_model.specs.Quantities.{IsEntrySpill}
 use Rattle.loss_model.specs.Vertex.{value_of_side}
 use Rattle.basis_model.specs.RatioSpill.{IsRatioEntrySpill, IsRatioSpill}
@@ -46,35 +46,40 @@ module _ {F : Type 0} (value : F → Fraction) (range : ℕ) (f : Family) (at : 
 
 -- ---- over quantiles
 
-module _ {F : Type 0} (value : F → Fraction) (range : ℕ) (p : Sample) (at : ℕ → ℕ) (a : ℕ → ℕ → ℚ) (from hi : ℚ) where
-  -- at the crossing of position j in direction d
-  abbrev pub IsCrossingSpill : ℕ → Direction → Spill F → Type 0
-  IsCrossingSpill j d s =
-      IsMeetingSpill value range j d (bound_part p Constant (at j) (side_towards d)) (bound_part p Linear (at j) (side_towards d))
-      (basic_dual p at a Constant j) (basic_dual p at a Linear j) (slope_part (over_quantiles p) at a Linear j d <ℚ whole (pos 0)) s
-
+module _ (p : Sample) (at : ℕ → ℕ) (a : ℕ → ℕ → ℚ) (from hi : ℚ) where
   -- where a stay at the basis ends: at the next breakpoint before hi, or at hi where there is none
   abbrev pub IsStayEnd : ℚ → Type 0
   IsStayEnd theta =
       ((j : ℕ) × (d : Direction) × IsNextBreak (over_quantiles p) at a from theta j d × (theta <ℚ hi))
       ⊎ ((theta ≡ hi) × HasNoBreak (over_quantiles p) at a from hi)
 
-  -- at a dual value or at a cost at theta
-  abbrev pub IsValueSpill : ℚ → Spill F → Type 0
-  IsValueSpill theta s =
-      AtSome p.columns (λ j. IsDualValueSpill value range (basic_dual p at a Constant j) (basic_dual p at a Linear j) theta j s)
-      ⊎ AtSome p.rows (λ i. IsCostSpill value range p at a theta i s)
+  -- and a segment with it: its ends differ, or the range is of one value
+  pub record IsSegmentEnd (theta : ℚ) : Type 0 where
+    pub stay : IsStayEnd theta
+    pub reported : (from <ℚ theta) ⊎ (from ≡ hi)
 
-  -- at a quantity of the basis, at a crossing, at a dual value, a cost or the loss at an end of the stay,
-  -- or at the pivot that ends it
-  pub data IsStaySpill (s : Spill F) : Type 0 where
-    of_basis : IsBasisSpill value range p at a s → IsStaySpill s
-    of_crossing : (j : ℕ) (d : Direction) → j < p.columns → IsCrossingSpill j d s → IsStaySpill s
-    of_begin : IsValueSpill from s → IsStaySpill s
-    of_end : (theta : ℚ) → IsStayEnd theta → IsValueSpill theta s → IsStaySpill s
-    of_loss_lo : IsSpillOf value range (site_of Loss 0 0 0) (loss_products p from (coefficient p at a)) s → IsStaySpill s
-    of_loss_hi : (theta : ℚ) → IsStayEnd theta → IsSpillOf value range (site_of Loss 1 0 0) (loss_products p theta (coefficient p at a)) s → IsStaySpill s
-    of_pivot : IsPivotSpill value range (over_quantiles p) at a (is_below hi) from s → IsStaySpill s
+module _ {F : Type 0} (value : F → Fraction) (range : ℕ) (p : Sample) (at : ℕ → ℕ) (a : ℕ → ℕ → ℚ) where
+  -- at the crossing of position j in direction d
+  abbrev pub IsCrossingSpill : ℕ → Direction → Spill F → Type 0
+  IsCrossingSpill j d s =
+      IsMeetingSpill value range j d (bound_part p Constant (at j) (side_towards d)) (bound_part p Linear (at j) (side_towards d))
+      (basic_dual p at a Constant j) (basic_dual p at a Linear j) (slope_part (over_quantiles p) at a Linear j d <ℚ whole (pos 0)) s
+
+  -- at an end of a segment, which is at theta: at a dual value of the basis, at the cost of the side on which
+  -- a row lies, or at the loss of this end
+  pub data IsEndSpill (end : ℕ) (theta : ℚ) (s : Spill F) : Type 0 where
+    of_dual : (j : ℕ) → j < p.columns → IsDualValueSpill value range (basic_dual p at a Constant j) (basic_dual p at a Linear j) theta j s → IsEndSpill end theta s
+    of_cost : (i : ℕ) → i < p.rows → IsSideCostSpill value range p theta (coefficient p at a) i s → IsEndSpill end theta s
+    of_loss : IsSpillOf value range (site_of Loss end 0 0) (loss_products p theta (coefficient p at a)) s → IsEndSpill end theta s
+
+  -- from `from` on, at a quantity of the basis, at a crossing before hi, at an end of the segment, or at the
+  -- pivot that ends the stay
+  pub data IsStaySpill (from hi : ℚ) (s : Spill F) : Type 0 where
+    of_basis : IsBasisSpill value range p at a s → IsStaySpill from hi s
+    of_crossing : (j : ℕ) (d : Direction) → from <ℚ hi → j < p.columns → IsCrossingSpill j d s → IsStaySpill from hi s
+    of_lo : (theta : ℚ) → IsSegmentEnd p at a from hi theta → IsEndSpill 0 from s → IsStaySpill from hi s
+    of_hi : (theta : ℚ) → IsSegmentEnd p at a from hi theta → IsEndSpill 1 theta s → IsStaySpill from hi s
+    of_pivot : IsPivotSpill value range (over_quantiles p) at a (is_below hi) from s → IsStaySpill from hi s
 
 -- ---- of a tested value: f is the family in which it rises or falls, and `wanted` what column c is to weigh
 

@@ -1,0 +1,33 @@
+use Rattle.std.proofs.Common.{slice_index}
+use Rattle.std.proofs.lemmas.Result.{err_from_is_err_and}
+use Rattle.fraction_tableau.specs.Kept.{place}
+use Rattle.fraction_tableau.proofs.Places.{kept_is_place}
+use Rattle.fraction_tableau.proofs.Vertices.{distinct_rows, itself}
+use Rattle.fraction_tableau.proofs.Stayed.{segment_here}
+use Rattle.fraction_tableau.proofs.fractions.FractionTableau.stay.Goals as goal
+
+pub ascending-requires : goal.ascending-requires
+ascending-requires g c =
+    let value = g.F.Exact.value in
+    let k = c.args.self.now in
+    rw (c.as_slice.ensures, c.basis.ensures.rows) (record { distinct = distinct_rows value (place value k) (kept_is_place value k c.basis.ensures.kept) })
+
+pub ends_at-requires-clause-members : goal.ends_at-requires-clause-members
+ends_at-requires-clause-members g c κs within =
+    let ordered = rw (c.as_slice.ensures, c.basis.ensures.rows) at (c.in_ok-sorted.ensures {u = tt}) in
+    rw c.as_slice-2.ensures (λ k lk. (ordered.same (slice_index c.in_ok-sorted.sorted k)).0 (itself c.in_ok-sorted.sorted k lk))
+
+pub returns-in_err-low-clause-refused : goal.returns-in_err-low-clause-refused
+returns-in_err-low-clause-refused g c = λ hi stay.
+    let returned = err_from_is_err_and c.from_residual-in_err-low.result c.from_residual-in_err-low.ensures.1 in
+    rw (returned.1, returned.2) ((c.in_err-low.ensures {u = tt}).refused hi stay)
+
+pub returns-clause-segment : goal.returns-clause-segment
+returns-clause-segment g c =
+    let value = g.F.Exact.value in
+    let k = c.args.self.now in
+    let ordered = rw (c.as_slice.ensures, c.basis.ensures.rows) at (c.in_ok-sorted.ensures {u = tt}) in
+    let low = rw c.as_slice-2.ensures at (c.in_ok-low.ensures {u = tt}).low in
+    let high = rw c.as_slice-2.ensures at (c.in_ok-low.ensures {u = tt}).high in
+    segment_here value (place value k) c.in_ok-solution.solution (kept_is_place value k c.basis.ensures.kept) (c.in_ok-solution.ensures {u = tt}).solution
+    c.in_ok-sorted.sorted ordered.increasing ordered.size ordered.same c.args.from c.args.to c.in_ok-low.field-0.low c.in_ok-low.field-0.high low high

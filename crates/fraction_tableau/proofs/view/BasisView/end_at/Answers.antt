@@ -1,0 +1,51 @@
+use Rattle.std.proofs.Common.{length, inr}
+use Rattle.std.proofs.lemmas.Result.{err_from_is_err_and}
+use Rattle.exact_algebra.specs.Fraction.{rational}
+use Rattle.loss_model.specs.Problem.{value_at}
+use Rattle.fraction_tableau.specs.Next.{IsDualFault}
+use Rattle.fraction_tableau.specs.Ends.{end_number, IsEndedSpill}
+use Rattle.fraction_tableau.specs.Kept.{place}
+use Rattle.fraction_tableau.proofs.Places.{kept_is_place}
+use Rattle.fraction_tableau.proofs.EndSpills.{duals_fault, loss_fault}
+use Rattle.fraction_tableau.proofs.NextSteps.{duals_here}
+use Rattle.fraction_tableau.proofs.Refusals.{short_weaker}
+use Rattle.fraction_tableau.proofs.view.BasisView.end_at.Goals as goal
+
+pub returns-in_err-duals-clause-spill : goal.returns-in_err-duals-clause-spill
+returns-in_err-duals-clause-spill g c =
+    let value = g.F.Exact.value in
+    let range = g.F.Exact.range in
+    let view = c.args.self.now in
+    let sol = view.solution.now in
+    let theta = rational (value c.args.theta) in
+    let returned = err_from_is_err_and c.from_residual.result c.from_residual.ensures.1 in
+    rw (returned.1, returned.2)
+    (short_weaker (IsDualFault value range (length sol.constant) (value_at value sol.constant) (value_at value sol.linear) theta) (IsEndedSpill value range view theta c.args.end)
+    (λ s k. inr (duals_fault value (place value view.tableau.now) sol (kept_is_place value view.tableau.now c.requires.view.kept) c.requires.view.solution range theta (end_number c.args.end) s k)) _
+    (rw (c.as_slice.ensures, c.as_slice-2.ensures) at (c.in_err-duals.ensures {u = tt}).spill))
+
+pub by_row-requires-clause-members : goal.by_row-requires-clause-members
+by_row-requires-clause-members g c κs within = rw (c.as_slice-rows.ensures, c.basis.ensures.rows) c.requires.members
+
+pub returns-in_err-loss-clause-spill : goal.returns-in_err-loss-clause-spill
+returns-in_err-loss-clause-spill g c =
+    let value = g.F.Exact.value in
+    let view = c.args.self.now in
+    let returned = err_from_is_err_and c.from_residual-in_err-loss.result c.from_residual-in_err-loss.ensures.1 in
+    rw (returned.1, returned.2)
+    (loss_fault value (place value view.tableau.now) view.solution.now (kept_is_place value view.tableau.now c.requires.view.kept) c.requires.view.solution g.F.Exact.range (rational (value c.args.theta)) (end_number c.args.end) _
+    (rw (c.problem.ensures, c.as_slice-coef.ensures) at (c.in_err-loss.ensures {u = tt}).spill))
+
+pub returns-clause-ended : goal.returns-clause-ended
+returns-clause-ended g c =
+    let value = g.F.Exact.value in
+    let view = c.args.self.now in
+    let made = rw (c.as_slice.ensures, c.as_slice-2.ensures) at (c.in_ok-duals.ensures {u = tt}) in
+    let values = rw (c.as_slice-rows.ensures, c.basis.ensures.rows, c.as_slice-3.ensures) at (c.in_ok-basic.ensures {u = tt}) in
+    record {
+      duals = c.in_ok-duals.duals;
+      are_duals = duals_here value (place value view.tableau.now) (rational (value c.args.theta)) view.solution.now c.requires.view.solution c.in_ok-duals.duals made.size made.each;
+      size = values.size;
+      each = values.each;
+      loss = rw (c.problem.ensures, c.as_slice-coef.ensures) at (c.in_ok-loss.ensures {u = tt}).exact;
+    }

@@ -1,0 +1,14 @@
+-- Inner. The first of the rows that move on a line.
+use Rattle.std.specs.Prelude.{◌≡◌, ◌⊎◌, ℕ, Bool, true, false}
+use Rattle.exact_algebra.specs.Fraction.{Fraction}
+use Rattle.walk_rule.specs.Walks.{IsFirstMover}
+use Rattle.fraction_tableau.specs.declared.line.Line.{Line}
+use Rattle.fraction_tableau.specs.Lines.{model, at_of, inverse_of}
+
+-- of the items j and k, which f gives, the one that comes first
+abbrev pub IsEarlier : (ℕ → ℕ → Bool) → (ℕ → ℕ) → ℕ → ℕ → ℕ → Type 0
+IsEarlier lt f j k n = ((n ≡ k) × (lt (f k) (f j) ≡ true)) ⊎ ((n ≡ j) × (lt (f k) (f j) ≡ false))
+
+-- row r is the first of those that move on the line
+unfoldable pub IsFirstOn : {F : Type 0} → (F → Fraction) → Line F → ℕ → Type 0
+IsFirstOn value l r = IsFirstMover (model value l) (at_of value l) (inverse_of value l) l.position l.direction r

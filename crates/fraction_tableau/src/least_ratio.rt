@@ -1,0 +1,86 @@
+//! The row that enters at a breakpoint: of the rows that move, the first by perturbed ratio, found in
+//! one pass.
+ghost use Rattle.std.specs.Prelude.{◌≡◌, ℕ, ◌<◌, length, true, IfOk, IfErr};
+ghost use Rattle.loss_model.specs.Quantities.{IsShortOf};
+ghost use Rattle.pivot_rule.specs.Steps.{moves};
+ghost use Rattle.walk_rule.specs.Walks.{IsFirstMover};
+ghost use Rattle.fraction_tableau.specs.Views.{IsView, sample_at, rows_at, entries_at};
+ghost use Rattle.fraction_tableau.specs.Lines.{IsLine, IsOrderSpill, IsLineSpill, AreMovers, row_at, comes_before};
+ghost use Rattle.fraction_tableau.specs.LeastRatio.{IsEarlier, IsFirstOn};
+
+use crate::crossings::Breakpoint;
+use crate::line::{Line, Mover};
+use crate::movers::movers;
+use crate::order::precedes;
+use crate::view::BasisView;
+use frac_core::Exact;
+use loss_model::Short;
+
+/// The one of two movers that comes first.
+fn earlier<F: Exact>(
+    line: &Line<F>,
+    movers: &[Mover<F>],
+    j: usize,
+    k: usize,
+) -> Result<usize, Short<F>>
+    requires line { IsLine F.value line.now }
+    requires movers { AreMovers F.value line.now movers.now }
+    requires first { j < k }
+    requires second { k < length movers.now }
+    ensures earlier { IfOk result (IsEarlier (comes_before F.value line.now) (row_at movers.now) j k) }
+    ensures spill { IfErr result (IsShortOf (IsLineSpill F.value F.range line.now)) }
+{
+    if precedes(line, movers, k, j)? {
+        Ok(k)
+    } else {
+        Ok(j)
+    }
+}
+
+/// The row of the first of the movers.
+fn first_mover<F: Exact>(line: &Line<F>, movers: &[Mover<F>]) -> Result<u32, Short<F>>
+    requires line { IsLine F.value line.now }
+    requires movers { AreMovers F.value line.now movers.now }
+    requires some { 0 < length movers.now }
+    ensures first { IfOk result (IsFirstOn F.value line.now) }
+    ensures spill { IfErr result (IsShortOf (IsLineSpill F.value F.range line.now)) }
+{
+    let mut least = 0;
+    for k in 1..movers.len() {
+        match earlier(line, movers, least, k) {
+            Ok(next) => least = next,
+            Err(short) => return Err(short),
+        }
+    }
+    Ok(movers[least].row)
+}
+
+impl<'a, F: Exact> BasisView<'a, F> {
+    /// The row that enters where a position leaves at a breakpoint, if some row moves.
+    pub(crate) fn entering_at(&self, next: Breakpoint<F>) -> Result<u32, Short<F>>
+        requires view { IsView F.value self.now }
+        requires position { next.position < self.now.tableau.now.problem.columns }
+        requires some { let p = sample_at F.value self.now in let at = rows_at F.value self.now in let a = entries_at F.value self.now in
+            (i : ℕ) × (i < p.rows) × (moves p at a next.position next.direction i ≡ true) }
+        ensures first { let p = sample_at F.value self.now in let at = rows_at F.value self.now in let a = entries_at F.value self.now in
+            IfOk result (IsFirstMover p at a next.position next.direction) }
+        ensures spill { let p = sample_at F.value self.now in let at = rows_at F.value self.now in let a = entries_at F.value self.now in
+            IfErr result (IsShortOf (IsOrderSpill F.value F.range p at a next.position next.direction)) }
+    {
+        let line = Line {
+            tableau: self.tableau,
+            residuals: self.solution.residuals.as_slice(),
+            theta: next.theta,
+            position: next.position,
+            direction: next.direction,
+        };
+        let coords = self.tableau.coordinates_at(next.position)?;
+        let found = movers(
+            self.tableau.alloc(),
+            &line,
+            self.solution.sides.as_slice(),
+            coords.as_slice(),
+        )?;
+        first_mover(&line, found.as_slice())
+    }
+}
