@@ -6,8 +6,10 @@ use Rattle.std.proofs.Common.{arith, refl, sym, ap, ap₂, subst, ◌∙◌, inl
 use Rattle.std.proofs.lemmas.Option.{slice_get_read}
 use Rattle.exact_algebra.specs.Fraction.{Fraction, rational}
 use Rattle.exact_algebra.specs.Solver.{number, negated, ◌⊟◌, v0}
-use Rattle.exact_algebra.specs.Rational.{ℚ, ◌-ℚ◌, ◌*ℚ◌, neg_ℚ, inverse, whole, ◌≤ℚ◌, ring_ℚ, ≤ℚ_refl}
-use Rattle.exact_algebra.specs.Order.{cmp_ℚ, by_cmp, le_from_not}
+use Rattle.exact_algebra.specs.Rational.{ℚ, ◌-ℚ◌, ◌*ℚ◌, neg_ℚ, inverse, whole, ◌≤ℚ◌}
+use Rattle.exact_algebra.proofs.RationalLaws.{ring_ℚ, ≤ℚ_refl}
+use Rattle.exact_algebra.specs.Order.{cmp_ℚ}
+use Rattle.exact_algebra.proofs.OrderLaws.{by_cmp, le_from_not}
 use Rattle.loss_model.specs.declared.problem.Row.{Row}
 use Rattle.loss_model.specs.declared.problem.Problem.{Problem}
 use Rattle.loss_model.specs.declared.spill.Spill.{Spill}
