@@ -30,12 +30,14 @@ mod checks;
 mod coded;
 mod design;
 mod fault;
+mod kept;
 pub mod laws;
 mod levels;
 mod part;
 mod parts;
 mod rows;
 mod used;
+mod weights;
 
 pub use builder::build;
 pub use design::{Design, DesignRow};
