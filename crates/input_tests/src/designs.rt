@@ -607,13 +607,7 @@ fn designs_of_all_codings(rt: HostRuntime) -> Result<(), Fail> {
 #[test]
 fn hostile_tables(rt: HostRuntime) -> Result<(), Fail> {
     for case in &HOSTILE {
-        let told = answer(
-            rt.alloc(),
-            case.table,
-            case.terms,
-            Coding::Treatment,
-            None,
-        )?;
+        let told = answer(rt.alloc(), case.table, case.terms, Coding::Treatment, None)?;
         expect_answer(&rt, told.as_str(), case.answer, case.terms);
     }
     Ok(())

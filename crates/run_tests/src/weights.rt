@@ -65,7 +65,8 @@ static LINES: [(&str, &str); 3] = [
 
 #[test]
 fn a_weighted_line(rt: HostRuntime) -> Result<(), Fail> {
-    let table = "y,x,w\n1,0,1/2\n3,1,2\n9,NA,1\n2,2,2/6\n5,3,2.5\n100,4,-0\n4,5,1e0\n8,4,15e-1\n2,6,.25\n";
+    let table =
+        "y,x,w\n1,0,1/2\n3,1,2\n9,NA,1\n2,2,2/6\n5,3,2.5\n100,4,-0\n4,5,1e0\n8,4,15e-1\n2,6,.25\n";
     for (quantile, report) in &LINES {
         let line = format!(in rt.alloc();
             "process|--formula|y ~ x|--lo|{quantile}|--hi|{quantile}|--weights|w"
@@ -84,8 +85,9 @@ fn weighted_median<R: Threads + Sync>(
     weights: &str,
     table: &[u8],
 ) -> Result<Left, Fail> {
-    let line =
-        format!(in alloc; "process|--formula|{formula}|--lo|1/2|--hi|1/2|--weights|{weights}")?;
+    let line = format!(in alloc;
+        "process|--formula|{formula}|--lo|1/2|--hi|1/2|--weights|{weights}"
+    )?;
     ran_on(rt, alloc, &line, table)
 }
 
@@ -246,7 +248,9 @@ fn repeated_tables(alloc: Global, number: u32) -> Result<(String, String), Fail>
 // What a report says of the loss; nothing where the run printed none.
 fn loss_of(left: &Left) -> &str {
     let text = from_utf8(left.printed.as_slice()).unwrap_or("");
-    text.lines().find(|line| line.starts_with("loss ")).unwrap_or("")
+    text.lines()
+        .find(|line| line.starts_with("loss "))
+        .unwrap_or("")
 }
 
 #[test]
