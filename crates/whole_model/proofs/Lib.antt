@@ -3,3 +3,4 @@ pub mod Scales
 pub mod Integers
 pub mod Denominators
 pub mod Ranks
+pub mod Repetitions

@@ -1,2 +1,3 @@
 pub mod Scaled
 pub mod Laws
+pub mod Repeated
