@@ -3,7 +3,8 @@ use Rattle.std.proofs.Common.{◌≡◌, ◌+◌, ℕ, zero, suc, List, [], ◌�
 use Rattle.std.specs.Prelude.{replicate, ◌↔◌}
 use Rattle.std.specs.List.{flat_map}
 use Rattle.exact_algebra.specs.Solver.{number, negated, ◌⊞◌, ◌⊠◌, v0, v1, v2, v3}
-use Rattle.exact_algebra.specs.Rational.{ℚ, ◌+ℚ◌, ◌-ℚ◌, ◌*ℚ◌, ◌≤ℚ◌, neg_ℚ, whole, whole-add, ring_ℚ}
+use Rattle.exact_algebra.specs.Rational.{ℚ, ◌+ℚ◌, ◌-ℚ◌, ◌*ℚ◌, ◌≤ℚ◌, neg_ℚ, whole}
+use Rattle.exact_algebra.proofs.RationalLaws.{whole-add, ring_ℚ}
 use Rattle.exact_algebra.specs.RationalSums.{sum_ℚ, positive_ℚ, negative_ℚ}
 use Rattle.loss_model.specs.Sample.{loss, row_loss, Minimises}
 use Rattle.whole_model.specs.Repeated.{Observation, WholeWeightsCount, often, once, weighted}
