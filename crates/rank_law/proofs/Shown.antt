@@ -8,7 +8,9 @@ use Rattle.loss_model.specs.declared.vertex.Side.{Side}
 use Rattle.loss_model.specs.declared.vertex.Side.TheVariants.{Up, Down, Basic}
 use Rattle.loss_model.specs.Sample.{Sample, up_cost, down_cost, fitted, residual}
 use Rattle.loss_model.specs.Vertex.{value_of_side, IsOn}
-use Rattle.rank_law.specs.Restricted.{◌<ℚ◌, IsComplementary, residual_change, rank_statistic}
+use Rattle.loss_model.specs.Strict.{◌<ℚ◌}
+use Rattle.loss_model.specs.Complements.{IsComplementary, residual_change}
+use Rattle.rank_law.specs.Restricted.{rank_statistic}
 use Rattle.rank_law.specs.Bounds.{IsInside, IsBeyond}
 use Rattle.rank_law.specs.Shown.{AreBySides, IsStatedInside, IsStatedBeyond, IsRowAlong, IsStatedRay, HighConditionsShow, LowConditionsShow}
 use Rattle.rank_law.proofs.Values.{le_same}

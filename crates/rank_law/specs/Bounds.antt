@@ -5,7 +5,8 @@ use Rattle.exact_algebra.specs.Rational.{ℚ, ◌*ℚ◌, whole, ◌≤ℚ◌}
 use Rattle.loss_model.specs.Sample.{Sample}
 use Rattle.rank_law.specs.declared.interval.Bound.{Bound}
 use Rattle.rank_law.specs.declared.interval.Bound.TheVariants.{Finite, Infinite}
-use Rattle.rank_law.specs.Restricted.{◌<ℚ◌, IsFeasibleWithout, IsOptimalAt, rank_statistic, rank_bound, Holds}
+use Rattle.loss_model.specs.Strict.{◌<ℚ◌}
+use Rattle.rank_law.specs.Restricted.{IsFeasibleWithout, IsOptimalAt, rank_statistic, rank_bound, Holds}
 
 -- a value is not below the low end
 abbrev pub IsAtLeast : Bound ℚ → ℚ → Type 0

@@ -16,7 +16,8 @@ use Rattle.rank_law.specs.declared.interval.Beyond.{Beyond}
 use Rattle.rank_law.specs.declared.interval.Beyond.TheVariants.{Outside, Ray}
 use Rattle.rank_law.specs.declared.interval.End.{End}
 use Rattle.rank_law.specs.declared.interval.IntervalProof.{IntervalProof}
-use Rattle.rank_law.specs.Restricted.{◌<ℚ◌, IsFeasibleWithout, IsOptimalAt, rank_statistic, IsProjection, squared_length, rank_bound, Holds}
+use Rattle.loss_model.specs.Strict.{◌<ℚ◌}
+use Rattle.rank_law.specs.Restricted.{IsFeasibleWithout, IsOptimalAt, rank_statistic, IsProjection, squared_length, rank_bound, Holds}
 use Rattle.rank_law.specs.Bounds.{IsAtLeast, IsAtMost, IsAbove, IsBelow, IsInside}
 use Rattle.rank_law.specs.Shown.{IsStatedRay}
 

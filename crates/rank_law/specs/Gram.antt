@@ -7,7 +7,8 @@ use Rattle.exact_matrices.specs.Matrices.{AreInverse}
 use Rattle.loss_model.specs.Sample.{Sample}
 use Rattle.loss_model.specs.FullRank.{HasFullRank, IsDependence}
 use Rattle.loss_model.specs.Greedy.{IsGreedyBasis}
-use Rattle.rank_law.specs.Restricted.{◌<ℚ◌, IsProjection, squared_length}
+use Rattle.loss_model.specs.Strict.{◌<ℚ◌}
+use Rattle.rank_law.specs.Restricted.{IsProjection, squared_length}
 
 -- entry k, l of the Gram matrix: products of weighted entries, added over the rows
 abbrev pub gram : Sample → ℕ → ℕ → ℚ

@@ -5,7 +5,9 @@ use Rattle.exact_algebra.specs.Rational.{ℚ, whole, ◌≤ℚ◌}
 use Rattle.loss_model.specs.Sample.{Sample, residual}
 use Rattle.loss_model.specs.Dual.{IsDual, IsDataRow}
 use Rattle.rank_law.specs.Gram.{HasWeights}
-use Rattle.rank_law.specs.Restricted.{◌<ℚ◌, IsFeasibleWithout, IsOptimalAt, IsComplementary, residual_change, rank_statistic, IsProjection, squared_length, rank_bound, Holds}
+use Rattle.loss_model.specs.Strict.{◌<ℚ◌}
+use Rattle.loss_model.specs.Complements.{IsComplementary, residual_change}
+use Rattle.rank_law.specs.Restricted.{IsFeasibleWithout, IsOptimalAt, rank_statistic, IsProjection, squared_length, rank_bound, Holds}
 use Rattle.rank_law.specs.Bounds.{IsAtLeast, IsAtMost, IsAbove, IsBelow, HoldsBetween, IsInside, IsHighEnd, IsLowEnd, IsShownHigh, IsShownLow}
 use Rattle.rank_law.specs.declared.interval.Bound.{Bound}
 use Rattle.rank_law.specs.declared.interval.Bound.TheVariants.{Finite, Infinite}

@@ -7,11 +7,6 @@ use Rattle.exact_algebra.specs.Rational.{ℚ, ◌-ℚ◌, ◌*ℚ◌, neg_ℚ, w
 use Rattle.exact_algebra.specs.RationalSums.{sum_ℚ}
 use Rattle.loss_model.specs.Sample.{Sample, up_cost, down_cost, fitted}
 
--- x is less than y
-infix 50 ◌<ℚ◌
-abbrev pub ◌<ℚ◌ : ℚ → ℚ → Type 0
-x <ℚ y = ¬ (y ≤ℚ x)
-
 -- what the values e weigh in column k
 abbrev pub column_sum : Sample → (ℕ → ℚ) → ℕ → ℚ
 column_sum p e k = sum_ℚ p.rows (λ i. e i *ℚ p.x i k)
@@ -30,15 +25,6 @@ restricted_objective p j xi e = sum_ℚ p.rows (λ i. (p.y i -ℚ (p.x i j *ℚ 
 pub record IsOptimalAt (p : Sample) (j : ℕ) (theta xi : ℚ) (e : ℕ → ℚ) : Type 0 where
   pub feasible : IsFeasibleWithout p j theta e
   pub greatest : (f : ℕ → ℚ) → IsFeasibleWithout p j theta f → restricted_objective p j xi f ≤ℚ restricted_objective p j xi e
-
--- a value is the up cost where r is positive, and the negated down cost where r is negative
-pub record IsComplementary (p : Sample) (theta : ℚ) (r e : ℕ → ℚ) : Type 0 where
-  pub above : (i : ℕ) → i < p.rows → whole (pos 0) <ℚ r i → e i ≡ up_cost p theta i
-  pub below : (i : ℕ) → i < p.rows → r i <ℚ whole (pos 0) → e i ≡ neg_ℚ (down_cost p theta i)
-
--- how the residuals change as the coefficients move along d
-abbrev pub residual_change : Sample → (ℕ → ℚ) → ℕ → ℚ
-residual_change p d i = neg_ℚ (fitted p d i)
 
 -- the rank score statistic of column j, before it is scaled: what the values weigh there
 abbrev pub rank_statistic : Sample → ℕ → (ℕ → ℚ) → ℚ

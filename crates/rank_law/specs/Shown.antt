@@ -5,7 +5,8 @@ use Rattle.exact_algebra.specs.Rational.{ℚ, ◌*ℚ◌, neg_ℚ, whole, ◌≤
 use Rattle.loss_model.specs.declared.vertex.Side.{Side}
 use Rattle.loss_model.specs.Sample.{Sample, up_cost, down_cost, fitted, residual}
 use Rattle.loss_model.specs.Vertex.{value_of_side, IsOn}
-use Rattle.rank_law.specs.Restricted.{◌<ℚ◌, IsFeasibleWithout, rank_statistic, rank_bound}
+use Rattle.loss_model.specs.Strict.{◌<ℚ◌}
+use Rattle.rank_law.specs.Restricted.{IsFeasibleWithout, rank_statistic, rank_bound}
 use Rattle.rank_law.specs.Bounds.{IsShownHigh, IsShownLow}
 use Rattle.rank_law.specs.declared.interval.Bound.TheVariants.{Finite, Infinite}
 

@@ -16,7 +16,7 @@ use Rattle.walk_rule.specs.Walks.{Crosses}
 use Rattle.pivot_rule.proofs.Entering.{double_neg}
 use Rattle.walk_rule.proofs.Lines.{le_by, negative_neg}
 use Rattle.walk_rule.proofs.Slopes.{crossing}
-use Rattle.rank_law.specs.Restricted.{◌<ℚ◌}
+use Rattle.loss_model.specs.Strict.{◌<ℚ◌}
 use Rattle.rank_walk.specs.RankWalks.{rise, fall}
 use Rattle.rank_walk.specs.Crossings.{CrossingByEntry}
 

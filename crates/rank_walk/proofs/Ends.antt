@@ -33,7 +33,9 @@ use Rattle.rank_law.specs.declared.interval.Bound.{Bound}
 use Rattle.rank_law.specs.declared.interval.Bound.TheVariants.{Finite, Infinite}
 use Rattle.rank_law.specs.declared.interval.Beyond.{Beyond}
 use Rattle.rank_law.specs.declared.interval.Beyond.TheVariants.{Outside, Ray}
-use Rattle.rank_law.specs.Restricted.{◌<ℚ◌, IsFeasibleWithout, IsComplementary, residual_change, rank_statistic, squared_length, rank_bound}
+use Rattle.loss_model.specs.Strict.{◌<ℚ◌}
+use Rattle.loss_model.specs.Complements.{IsComplementary, residual_change}
+use Rattle.rank_law.specs.Restricted.{IsFeasibleWithout, rank_statistic, squared_length, rank_bound}
 use Rattle.rank_law.specs.Bounds.{IsInside, IsBeyond}
 use Rattle.rank_law.specs.Shown.{IsRowAlong, IsStatedRay}
 use Rattle.rank_law.specs.Certified.{bound_of, MeetsInside, MeetsOutside, MeetsHighBound, MeetsLowBound}

@@ -3,15 +3,15 @@ use Rattle.std.specs.Prelude.{◌≡◌, ◌≢◌, ℕ, ◌<◌, [], ◌∷◌,
 use Rattle.std.proofs.Common.{refl, sym, ap, ap₂, subst, ◌∙◌}
 use Rattle.exact_algebra.specs.Solver.{number, ◌⊠◌, v0, v1}
 use Rattle.exact_algebra.specs.Rational.{ℚ, ◌*ℚ◌, whole, ◌≤ℚ◌, ring_ℚ, ring_by_ℚ}
-use Rattle.loss_model.specs.Sample.{Sample, residual}
+use Rattle.loss_model.specs.Sample.{Sample}
 use Rattle.pivot_rule.specs.declared.direction.Direction.{Direction}
 use Rattle.basis_model.specs.Basis.{IsBasis, coefficient}
 use Rattle.pivot_rule.specs.Duals.{HasCosts}
 use Rattle.walk_rule.specs.Families.{Family, by_weight, IsFeasibleIn, dual_in, slope_in, IsOptimalIn}
 use Rattle.walk_rule.specs.Walks.{IsFirstMover, AreExchanged}
-use Rattle.walk_rule.specs.Complements.{AreComplementary}
 use Rattle.walk_rule.proofs.Stays.{feasible, complementary, both_complement}
-use Rattle.rank_law.specs.Restricted.{◌<ℚ◌, IsFeasibleWithout, IsOptimalAt, IsComplementary, rank_statistic, rank_bound}
+use Rattle.loss_model.specs.Strict.{◌<ℚ◌}
+use Rattle.rank_law.specs.Restricted.{IsFeasibleWithout, IsOptimalAt, rank_statistic, rank_bound}
 use Rattle.rank_law.specs.Bounds.{IsInside, IsBeyond}
 use Rattle.rank_law.proofs.Optimal as ranks
 use Rattle.rank_law.proofs.Optimal.{sum_ℚ-single}
@@ -37,9 +37,6 @@ module _ (p : Sample) (tau : ℚ) (j : ℕ) (lj : j < p.columns) (right : ℕ �
       ap₂ ◌*ℚ◌ (statistic_is t e h) (statistic_is t e h)
       ∙ ring_by_ℚ (sigma ∷ t ∷ []) ((v0 ⊠ v1) ⊠ (v0 ⊠ v1)) (v1 ⊠ v1) (v1 ⊠ v1) (v0 ⊠ v0) (number (pos 1)) refl square
 
-  agrees : (b e : ℕ → ℚ) → AreComplementary p tau b e → IsComplementary p tau (residual p b) e
-  agrees b e h = record { above = h.above; below = h.below }
-
   module _ (at : ℕ → ℕ) (a : ℕ → ℕ → ℚ) (basis : IsBasis p at a) (costs : HasCosts p tau) where
     module _ (t : ℚ) (stop : IsOptimalIn f at a t) where
       pub is_feasible : IsFeasibleIn f t (dual_in f at a t)
@@ -49,7 +46,7 @@ module _ (p : Sample) (tau : ℚ) (j : ℕ) (lj : j < p.columns) (right : ℕ �
       pub optimal_here : IsOptimalAt p j tau (coefficient p at a j) (dual_in f at a t)
       optimal_here =
           ranks.complementary p j tau (coefficient p at a) (dual_in f at a t) lj (feasible_without t (dual_in f at a t) is_feasible)
-          (agrees (coefficient p at a) (dual_in f at a t) (complementary f at a basis t))
+          (complementary f at a basis t)
 
       pub is_inside : (crit q : ℚ) → (t *ℚ t) ≤ℚ rank_bound tau crit q → IsInside p j tau crit q (coefficient p at a j) (dual_in f at a t)
       is_inside crit q h =
@@ -64,4 +61,4 @@ module _ (p : Sample) (tau : ℚ) (j : ℕ) (lj : j < p.columns) (right : ℕ �
           → k < p.columns → IsFirstMover p at a k d r → slope_in f at a t k d ≡ whole (pos 0) → IsOptimalAt p j tau (coefficient p next b j) (dual_in f at a t)
       optimal_next next b k r d new exchange lk first meets =
           ranks.complementary p j tau (coefficient p next b) (dual_in f at a t) lj (feasible_without t (dual_in f at a t) is_feasible)
-          (agrees (coefficient p next b) (dual_in f at a t) (both_complement f at next a b t k r d basis new exchange lk first meets).1)
+          (both_complement f at next a b t k r d basis new exchange lk first meets).1

@@ -5,7 +5,7 @@ use Rattle.exact_algebra.specs.Solver.{number, negated, ◌⊟◌, ◌⊠◌, v0
 use Rattle.exact_algebra.specs.Rational.{ℚ, ◌*ℚ◌, neg_ℚ, whole, ◌≤ℚ◌, ring_ℚ, ≤ℚ_refl, ≤ℚ_trans}
 use Rattle.exact_algebra.specs.RationalSums.{≤ℚ_from}
 use Rattle.exact_matrices.specs.Terms.{delta, if-same, if-other}
-use Rattle.loss_model.specs.Sample.{Sample, fitted}
+use Rattle.loss_model.specs.Sample.{Sample}
 use Rattle.pivot_rule.specs.declared.direction.Direction.{Direction}
 use Rattle.basis_model.specs.Basis.{IsBasis, coefficient}
 use Rattle.pivot_rule.specs.Steps.{HasNoNegativeSlope}
@@ -14,11 +14,10 @@ use Rattle.walk_rule.specs.Walks.{IsFirstMover, AreExchanged, IsNextBreak}
 use Rattle.walk_rule.proofs.Slopes.{optimal_to, none_before}
 use Rattle.walk_rule.proofs.Stays.{optimal_stays}
 use Rattle.walk_rule.proofs.Tested.{slope_zero}
-use Rattle.walk_rule.specs.Rays.{IsRay}
 use Rattle.walk_rule.proofs.Ends.{break_is_there, rising_right, falling_right}
 use Rattle.walk_rule.proofs.Rays.{rising_end, falling_end, rising_scaled, falling_scaled}
-use Rattle.exact_algebra.specs.Order.{≤ℚ_neg}
-use Rattle.rank_law.specs.Restricted.{◌<ℚ◌, IsOptimalAt, IsComplementary, residual_change, rank_statistic, squared_length, rank_bound}
+use Rattle.loss_model.specs.Strict.{◌<ℚ◌}
+use Rattle.rank_law.specs.Restricted.{IsOptimalAt, rank_statistic, squared_length, rank_bound}
 use Rattle.rank_law.specs.Bounds.{IsInside, IsBeyond}
 use Rattle.rank_law.proofs.Values.{not_negative_is}
 use Rattle.rank_law.proofs.Exact.{begins, rises, sinks, endless, endless_below, exact}
@@ -168,27 +167,16 @@ ends_here fall p j tau crit c start at a t u k d test s break out =
     let side = not_negative_is u _ (ring_ℚ (u ∷ []) v0 (number (pos 1) ⊠ v0) refl ∙ sym statistic) forward in
     (beyond, side, (s.holds, (_, beyond, side)))
 
--- values that are those of a ray agree with the residuals' change along it
-ray_agrees : (p : Sample) (tau : ℚ) (d e : ℕ → ℚ) → IsRay p tau d e → IsComplementary p tau (residual_change p d) e
-ray_agrees p tau d e h =
-    record {
-      above = λ i li up. h.falls i li (λ not. up (subst (λ z. neg_ℚ (fitted p d i) ≤ℚ z) none (≤ℚ_neg (whole (pos 0)) (fitted p d i) not)));
-      below = λ i li down. h.rises i li (λ not. down (subst (λ z. z ≤ℚ neg_ℚ (fitted p d i)) none (≤ℚ_neg (fitted p d i) (whole (pos 0)) not)));
-    }
-  where
-    none : neg_ℚ (whole (pos 0)) ≡ whole (pos 0)
-    none = ring_ℚ [] (negated (number (pos 0))) (number (pos 0)) refl
-
 pub never_ends : WalkNeverEnds
 never_ends rise p j tau crit c start at a t u k d test s break small none =
     let right = λ (k : ℕ). neg_ℚ (delta j k) in
     let here = there_inside p j tau crit c test right (neg_ℚ (whole (pos 1))) (rising_signed j) at a s.basis t s.optimal u k d break small in
-    let agrees = ray_agrees p tau (ray rise a j k) _ (rising_end p tau j at a s.basis u k test.column break.position d break.crosses none) in
+    let agrees = rising_end p tau j at a s.basis u k test.column break.position d break.crosses none in
     let one = rising_scaled p tau j at a s.basis u k test.column break.position d break.crosses in
     (here, agrees, one, endless p j tau crit start (coefficient p at a j) c (ray rise a j k) _ test.column test.projection s.holds here agrees one)
 never_ends fall p j tau crit c start at a t u k d test s break small none =
     let here = there_inside p j tau crit c test (delta j) (whole (pos 1)) (falling_signed j) at a s.basis t s.optimal u k d break small in
-    let agrees = ray_agrees p tau (ray fall a j k) _ (falling_end p tau j at a s.basis u k test.column break.position d break.crosses none) in
+    let agrees = falling_end p tau j at a s.basis u k test.column break.position d break.crosses none in
     let one =
     falling_scaled p tau j at a s.basis u k test.column break.position d break.crosses
     ∙ ring_ℚ [] (negated (number (pos 1))) (number (negsuc 0)) refl in

@@ -6,7 +6,7 @@ use Rattle.pivot_rule.specs.declared.direction.Direction.{Direction}
 use Rattle.pivot_rule.specs.declared.direction.Direction.TheVariants.{Upward, Downward}
 use Rattle.basis_model.specs.Basis.{dual_value}
 use Rattle.walk_rule.specs.Walks.{Crosses}
-use Rattle.rank_law.specs.Restricted.{◌<ℚ◌}
+use Rattle.loss_model.specs.Strict.{◌<ℚ◌}
 use Rattle.rank_walk.specs.RankWalks.{Way, rise, fall, tested}
 
 -- the parameter of the walk at s, which falls from 0 as the tested value rises, and rises from 0 as it falls

@@ -17,7 +17,8 @@ use Rattle.rank_law.specs.declared.interval.Bound.TheVariants.{Finite, Infinite}
 use Rattle.rank_law.specs.declared.interval.Beyond.{Beyond}
 use Rattle.rank_law.specs.declared.interval.Beyond.TheVariants.{Outside, Ray}
 use Rattle.rank_law.specs.declared.interval.End.{End}
-use Rattle.rank_law.specs.Restricted.{◌<ℚ◌, squared_length, rank_bound}
+use Rattle.loss_model.specs.Strict.{◌<ℚ◌}
+use Rattle.rank_law.specs.Restricted.{squared_length, rank_bound}
 use Rattle.rank_law.specs.Certified.{bound_of, MeetsHigh, MeetsLow}
 use Rattle.rank_walk.specs.RankWalks.{Way, rise, fall, tested, ray, StandsAt, IsTest, IsEnd}
 

@@ -13,7 +13,8 @@ use Rattle.pivot_rule.specs.Trails.{AtBasis, basis_after}
 use Rattle.walk_rule.specs.WalkTrails.{AreWalkingSteps, value_after, is_within, negated_theta, theta_value, IsIntervalTrail}
 use Rattle.rank_law.specs.declared.interval.End.{End}
 use Rattle.rank_law.specs.declared.interval.Interval.{Interval}
-use Rattle.rank_law.specs.Restricted.{◌<ℚ◌, IsProjection, squared_length, rank_bound, Holds}
+use Rattle.loss_model.specs.Strict.{◌<ℚ◌}
+use Rattle.rank_law.specs.Restricted.{IsProjection, squared_length, rank_bound, Holds}
 use Rattle.rank_law.specs.Bounds.{IsAtLeast, IsAtMost}
 use Rattle.rank_law.specs.Certified.{bound_of, length_of, MeetsHigh, MeetsLow, AreInOrder, MeetsConditions}
 use Rattle.rank_walk.specs.RankWalks.{Way, rise, fall, tested, StandsAt, IsTest}

@@ -11,7 +11,9 @@ use Rattle.walk_rule.specs.Families.{Family, rising_value, falling_value, dual_i
 use Rattle.walk_rule.specs.Walks.{AreExchanged, IsNextBreak, IsWalkingStep}
 use Rattle.walk_rule.specs.WalkTrails.{is_within}
 use Rattle.walk_rule.specs.Rays.{ray_up, ray_down}
-use Rattle.rank_law.specs.Restricted.{◌<ℚ◌, IsComplementary, residual_change, rank_statistic, IsProjection, squared_length, rank_bound, Holds}
+use Rattle.loss_model.specs.Strict.{◌<ℚ◌}
+use Rattle.loss_model.specs.Complements.{IsComplementary, residual_change}
+use Rattle.rank_law.specs.Restricted.{rank_statistic, IsProjection, squared_length, rank_bound, Holds}
 use Rattle.rank_law.specs.Bounds.{IsAtLeast, IsAtMost, HoldsBetween, IsInside, IsBeyond, IsHighEnd, IsLowEnd}
 use Rattle.rank_law.specs.declared.interval.Bound.{Bound}
 use Rattle.rank_law.specs.declared.interval.Bound.TheVariants.{Finite, Infinite}

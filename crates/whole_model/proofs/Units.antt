@@ -7,7 +7,7 @@ use Rattle.exact_algebra.specs.Rational.{ℚ, ◌*ℚ◌, whole, ◌≤ℚ◌, r
 use Rattle.exact_algebra.specs.WholeNumbers.{whole-le, le_from_whole, same_from_whole}
 use Rattle.exact_algebra.specs.Inverses.{*ℚ_cancel}
 use Rattle.exact_algebra.specs.Order.{≤ℚ-from_mul, le_from_not}
-use Rattle.rank_law.specs.Restricted.{◌<ℚ◌}
+use Rattle.loss_model.specs.Strict.{◌<ℚ◌}
 use Rattle.rank_law.proofs.Values.{le_same}
 
 nonzero : (u : ℚ) → whole (pos 0) <ℚ u → u ≢ whole (pos 0)

@@ -18,7 +18,7 @@ use Rattle.whole_model.proofs.Units.{positive_whole, positive_product, order_of,
 use Rattle.whole_model.proofs.Integers.{lower_of, upper_of, balanced_of}
 use Rattle.whole_model.proofs.Scales.{Scales}
 use Rattle.whole_model.proofs.Denominators.{scales, unit_positive}
-use Rattle.rank_law.specs.Restricted.{◌<ℚ◌}
+use Rattle.loss_model.specs.Strict.{◌<ℚ◌}
 use Rattle.rank_law.specs.Restricted as ranks
 use Rattle.whole_model.specs.WholeRanks.{IsFeasibleWithout, restricted_objective, IsOptimalAt, rank_statistic, projected, IsProjection, squared_length, IsWithin, Holds}
 use Rattle.whole_model.specs.Laws.{HoldsInIntegers, ExactIntervalInIntegers}
