@@ -173,11 +173,7 @@ impl RankTest {
         choices
     }
 
-    fn add_with_both(
-        &self,
-        basis: [usize; 2],
-        found: &mut Vec<Vertex>,
-    ) -> Result<(), AllocError> {
+    fn add_with_both(&self, basis: [usize; 2], found: &mut Vec<Vertex>) -> Result<(), AllocError> {
         for sides in 0..self.choices() {
             if let Some(vertex) = self.vertex(basis, sides) {
                 found.push(vertex)?;

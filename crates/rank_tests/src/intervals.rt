@@ -65,11 +65,7 @@ static OF_FIVE: [Case; 4] = [
 ];
 
 /// A line through three points.
-static LINE: [Data; 3] = [
-    ([1, 0, 0], 0, 1),
-    ([1, 1, 0], 2, 1),
-    ([1, 3, 0], 3, 1),
-];
+static LINE: [Data; 3] = [([1, 0, 0], 0, 1), ([1, 1, 0], 2, 1), ([1, 3, 0], 3, 1)];
 
 /// Of the intercept, beside x: the ones less 2/5 of x leave 1, 3/5 and -1/5, of squared length 7/5, so
 /// the bound is 6/7 * 1/4 * 7/5 = 3/10. Dual values balance x: e2 + 3 e3 = 0. The third row, of the
@@ -121,7 +117,7 @@ static WEIGHTS: [i128; 4] = [1, 1, 2, 3];
 static QUANTILES: [Parts; 4] = [[1, 2], [1, 3], [3, 4], [2, 5]];
 
 /// What critical values are drawn from.
-static CRITICAL: [Parts; 6] = [[0, 1], [1, 2], [1, 1], [5, 2], [4, 1], [9, 1]];
+static CRITICAL: [Parts; 6] = [[0, 1], [1, 4], [1, 2], [1, 1], [3, 2], [4, 1]];
 
 fn fraction([num, den]: Parts) -> Ratio {
     Ratio::new(Wrapping(num), Wrapping(den))
@@ -284,21 +280,25 @@ fn draw_row(state: &mut u32, columns: usize, before: Option<Data>) -> Data {
         if columns > 1 { drawn[0] } else { 0 },
         if columns > 2 { drawn[1] } else { 0 },
     ];
-    match (kind, before) {
-        (0, Some((x, y, _))) => (x, y, weight),
-        (1, Some((x, _, _))) => (x, y, weight),
+    let Some(before) = before else {
+        return (x, y, weight);
+    };
+    let old = before.0;
+    match kind {
+        0 => (old, before.1, weight),
+        1 => (old, y, weight),
         _ => (x, y, weight),
     }
 }
 
-/// A table of two to four rows more than columns.
+/// A table of one to three rows more than columns.
 fn draw_table(alloc: Global, state: &mut u32, columns: usize) -> Result<Vec<Data>, AllocError> {
     let mut table: Vec<Data> = Vec::new(alloc);
     for _ in 0..columns {
         let row = draw_row(state, columns, table.last().copied());
         table.push(row)?;
     }
-    for _ in 0..2 + draw(state, 3) {
+    for _ in 0..1 + draw(state, 3) {
         let row = draw_row(state, columns, table.last().copied());
         table.push(row)?;
     }
@@ -332,18 +332,13 @@ impl Counts {
 
 /// The intervals of a column, with a drawn critical value and with one that ties with a statistic;
 /// `false` where the columns are dependent.
-fn try_column(
-    rt: &impl Abort,
-    state: &mut u32,
-    counts: &mut Counts,
-    mut found: Tested,
-) -> bool {
-    let last = found.values.len();
-    if last == 0 {
+fn try_column(rt: &impl Abort, state: &mut u32, counts: &mut Counts, mut found: Tested) -> bool {
+    let count = found.values.len();
+    if count == 0 {
         return false;
     }
     counts.try_interval(rt, &found);
-    let place = draw(state, 1000) as usize % last;
+    let place = draw(state, 1000) as usize % count;
     found.test.crit = found.tie(found.values[place]);
     counts.try_interval(rt, &found);
     true
@@ -370,6 +365,7 @@ fn try_table(
     Ok(())
 }
 
+/// The numbers of tables and ends come from an enumeration that is no part of this program.
 #[test]
 fn two_ways_agree(rt: HostRuntime) -> Result<(), Fail> {
     let mut state = 1;
@@ -378,7 +374,7 @@ fn two_ways_agree(rt: HostRuntime) -> Result<(), Fail> {
         finite: 0,
         infinite: 0,
     };
-    for number in 0..66 {
+    for number in 0..79 {
         try_table(&rt, rt.alloc(), &mut state, &mut counts, number % 3 + 1)?;
     }
     let Counts {
@@ -386,6 +382,9 @@ fn two_ways_agree(rt: HostRuntime) -> Result<(), Fail> {
         finite,
         infinite,
     } = counts;
-    assert!(rt; (tables, finite, infinite) == (60, 0, 0), "{tables} {finite} {infinite}");
+    assert!(rt;
+        (tables, finite, infinite) == (60, 220, 208),
+        "{tables} {finite} {infinite}"
+    );
     Ok(())
 }
