@@ -2,9 +2,11 @@
 use Rattle.std.specs.Prelude.{◌≡◌, ◌⊎◌, ℕ, ◌<◌, [], ◌∷◌, pos}
 use Rattle.std.proofs.Common.{refl, sym, subst, ◌∙◌, inl, inr}
 use Rattle.exact_algebra.specs.Solver.{number, negated, ◌⊞◌, ◌⊟◌, ◌⊠◌, v0, v1, v2, v3, v4}
-use Rattle.exact_algebra.specs.Rational.{ℚ, ◌+ℚ◌, ◌-ℚ◌, ◌*ℚ◌, neg_ℚ, whole, ◌≤ℚ◌, ring_ℚ, ≤ℚ_trans, ≤ℚ_antisym}
-use Rattle.exact_algebra.specs.RationalSums.{sum_ℚ, sum_ℚ-le, parts_ℚ, positive_ℚ, negative_ℚ}
-use Rattle.exact_algebra.specs.Order.{≤ℚ-minus}
+use Rattle.exact_algebra.specs.Rational.{ℚ, ◌+ℚ◌, ◌-ℚ◌, ◌*ℚ◌, neg_ℚ, whole, ◌≤ℚ◌}
+use Rattle.exact_algebra.proofs.RationalLaws.{ring_ℚ, ≤ℚ_trans, ≤ℚ_antisym}
+use Rattle.exact_algebra.specs.RationalSums.{sum_ℚ, positive_ℚ, negative_ℚ}
+use Rattle.exact_algebra.proofs.RationalSumLaws.{sum_ℚ-le, parts_ℚ}
+use Rattle.exact_algebra.proofs.OrderLaws.{≤ℚ-minus}
 use Rattle.loss_model.specs.Sample.{Sample, up_cost, down_cost, residual, row_loss, loss}
 use Rattle.loss_model.proofs.Quotients.{product_not_negative}
 use Rattle.loss_model.proofs.Duality.{sum_of_residuals}

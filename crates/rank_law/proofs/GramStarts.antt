@@ -7,10 +7,13 @@ use Rattle.std.proofs.lemmas.Option.{unwrap_or-slice_get, slice_get-get_or, slic
 use Rattle.std.proofs.lemmas.Bool.{ltb-false, cases_order}
 use borrow.Author.Tests.{ltb-true}
 use Rattle.exact_algebra.specs.Solver.{number, ◌⊟◌, ◌⊠◌, v0, v1, v2}
-use Rattle.exact_algebra.specs.Rational.{ℚ, ◌-ℚ◌, ◌*ℚ◌, whole, ring_ℚ}
-use Rattle.exact_algebra.specs.RationalSums.{sum_ℚ, sum_ℚ-same, sum_ℚ-zero}
-use Rattle.exact_algebra.specs.WholeNumbers.{same_from_whole}
-use Rattle.exact_matrices.specs.Terms.{delta, if-same, if-other, sum_ℚ-delta}
+use Rattle.exact_algebra.specs.Rational.{ℚ, ◌-ℚ◌, ◌*ℚ◌, whole}
+use Rattle.exact_algebra.proofs.RationalLaws.{ring_ℚ}
+use Rattle.exact_algebra.specs.RationalSums.{sum_ℚ}
+use Rattle.exact_algebra.proofs.RationalSumLaws.{sum_ℚ-same, sum_ℚ-zero}
+use Rattle.exact_algebra.proofs.WholeNumbers.{same_from_whole}
+use Rattle.exact_matrices.specs.Terms.{delta}
+use Rattle.exact_matrices.proofs.TermLaws.{if-same, if-other, sum_ℚ-delta}
 use Rattle.exact_matrices.specs.Exchange.{with_row}
 use Rattle.exact_matrices.specs.Spans.{AreIndependent, selected}
 use Rattle.loss_model.specs.Sample.{Sample, fitted}

@@ -2,8 +2,9 @@
 use Rattle.std.specs.Prelude.{◌≡◌, ℕ, ◌<◌, [], ◌∷◌, pos}
 use Rattle.std.proofs.Common.{refl, sym, subst, inl, inr}
 use Rattle.exact_algebra.specs.Solver.{number, negated, v0}
-use Rattle.exact_algebra.specs.Rational.{ℚ, neg_ℚ, whole, ◌≤ℚ◌, ring_ℚ}
-use Rattle.exact_algebra.specs.Order.{≤ℚ_neg, le_from_not}
+use Rattle.exact_algebra.specs.Rational.{ℚ, neg_ℚ, whole, ◌≤ℚ◌}
+use Rattle.exact_algebra.proofs.RationalLaws.{ring_ℚ}
+use Rattle.exact_algebra.proofs.OrderLaws.{≤ℚ_neg, le_from_not}
 use Rattle.loss_model.specs.declared.vertex.Side.{Side}
 use Rattle.loss_model.specs.declared.vertex.Side.TheVariants.{Up, Down, Basic}
 use Rattle.loss_model.specs.Sample.{Sample, up_cost, down_cost, fitted, residual}

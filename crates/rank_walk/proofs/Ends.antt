@@ -8,9 +8,10 @@ use Rattle.std.proofs.lemmas.List.{get_or_default}
 use Rattle.std.proofs.lemmas.Option.{slice_get_within}
 use Rattle.exact_algebra.specs.Fraction.{Fraction}
 use Rattle.exact_algebra.specs.Solver.{number, negated, ◌⊠◌}
-use Rattle.exact_algebra.specs.Rational.{ℚ, ◌-ℚ◌, ◌*ℚ◌, neg_ℚ, whole, ◌≤ℚ◌, ring_ℚ, ≤ℚ_trans, ≤ℚ_antisym}
-use Rattle.exact_algebra.specs.RationalSums.{sum_ℚ-same}
-use Rattle.exact_algebra.specs.Order.{by_sign, ≤ℚ_neg}
+use Rattle.exact_algebra.specs.Rational.{ℚ, ◌-ℚ◌, ◌*ℚ◌, neg_ℚ, whole, ◌≤ℚ◌}
+use Rattle.exact_algebra.proofs.RationalLaws.{ring_ℚ, ≤ℚ_trans, ≤ℚ_antisym}
+use Rattle.exact_algebra.proofs.RationalSumLaws.{sum_ℚ-same}
+use Rattle.exact_algebra.proofs.OrderLaws.{by_sign, ≤ℚ_neg}
 use Rattle.exact_matrices.specs.Terms.{delta}
 use Rattle.loss_model.specs.declared.problem.Problem.{Problem}
 use Rattle.loss_model.specs.declared.vertex.Side.{Side}

@@ -2,7 +2,8 @@
 use Rattle.std.specs.Prelude.{ℕ, ◌<◌, List, [], ◌∷◌, slice_index, slice_set, pos}
 use Rattle.std.proofs.Common.{subst, ◌∙◌, length-set}
 use Rattle.exact_algebra.specs.Fraction.{Fraction, rational}
-use Rattle.exact_algebra.specs.Rational.{ℚ, whole, ≤ℚ_refl}
+use Rattle.exact_algebra.specs.Rational.{ℚ, whole}
+use Rattle.exact_algebra.proofs.RationalLaws.{≤ℚ_refl}
 use Rattle.exact_matrices.specs.Exchange.{exchanged}
 use Rattle.loss_model.specs.declared.problem.Problem.{Problem}
 use Rattle.loss_model.specs.Sample.{Sample}

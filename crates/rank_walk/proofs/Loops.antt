@@ -2,7 +2,8 @@
 use Rattle.std.specs.Prelude.{◌≡◌, ℕ, Bool, List, length, slice_index, slice_set, pos}
 use Rattle.std.proofs.Common.{refl, sym, ap, subst, ◌∙◌, length-set}
 use Rattle.exact_algebra.specs.Fraction.{Fraction}
-use Rattle.exact_algebra.specs.Rational.{ℚ, neg_ℚ, whole, ◌≤ℚ◌, ≤ℚ_refl}
+use Rattle.exact_algebra.specs.Rational.{ℚ, neg_ℚ, whole, ◌≤ℚ◌}
+use Rattle.exact_algebra.proofs.RationalLaws.{≤ℚ_refl}
 use Rattle.exact_matrices.specs.Exchange.{exchanged}
 use Rattle.exact_matrices.specs.Terms.{delta}
 use Rattle.loss_model.specs.declared.problem.Problem.{Problem}

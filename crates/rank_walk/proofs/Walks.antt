@@ -2,9 +2,11 @@
 use Rattle.std.specs.Prelude.{◌≡◌, ◌≢◌, ℕ, [], ◌∷◌, pos, negsuc}
 use Rattle.std.proofs.Common.{refl, sym, ap, subst, ◌∙◌}
 use Rattle.exact_algebra.specs.Solver.{number, negated, ◌⊟◌, ◌⊠◌, v0}
-use Rattle.exact_algebra.specs.Rational.{ℚ, ◌*ℚ◌, neg_ℚ, whole, ◌≤ℚ◌, ring_ℚ, ≤ℚ_refl, ≤ℚ_trans}
-use Rattle.exact_algebra.specs.RationalSums.{≤ℚ_from}
-use Rattle.exact_matrices.specs.Terms.{delta, if-same, if-other}
+use Rattle.exact_algebra.specs.Rational.{ℚ, ◌*ℚ◌, neg_ℚ, whole, ◌≤ℚ◌}
+use Rattle.exact_algebra.proofs.RationalLaws.{ring_ℚ, ≤ℚ_refl, ≤ℚ_trans}
+use Rattle.exact_algebra.proofs.RationalSumLaws.{≤ℚ_from}
+use Rattle.exact_matrices.specs.Terms.{delta}
+use Rattle.exact_matrices.proofs.TermLaws.{if-same, if-other}
 use Rattle.loss_model.specs.Sample.{Sample}
 use Rattle.pivot_rule.specs.declared.direction.Direction.{Direction}
 use Rattle.basis_model.specs.Basis.{IsBasis, coefficient}

@@ -8,7 +8,7 @@ use mathlib.Core.HLevel.{is_prop→PathP}
 use native.Mathlib.Nat.{ℕ_set}
 use native.Mathlib.Bridge.{le_prop}
 use Rattle.exact_algebra.specs.Fraction.{Fraction, rational}
-use Rattle.exact_algebra.specs.Quotients.{by_quotient, same_value}
+use Rattle.exact_algebra.proofs.Quotients.{by_quotient, same_value}
 use Rattle.exact_algebra.specs.Solver.{identity, negated, ◌⊠◌, v0, v1}
 use Rattle.exact_algebra.specs.Rational.{ℚ, ℚ_set, quotient}
 use Rattle.frac_core.specs.Gcd.{gcd}

@@ -3,10 +3,11 @@ use Rattle.std.specs.Prelude.{◌≡◌, ◌≢◌, ◌↔◌, ℕ, ◌≤◌, [
 use Rattle.std.proofs.Common.{arith, refl, sym, ap, subst, ◌∙◌}
 use Rattle.std.proofs.lemmas.Int.{ints}
 use Rattle.exact_algebra.specs.Solver.{number, ◌⊠◌, v0}
-use Rattle.exact_algebra.specs.Rational.{ℚ, ◌*ℚ◌, whole, ◌≤ℚ◌, ring_ℚ, ≤ℚ_mul}
-use Rattle.exact_algebra.specs.WholeNumbers.{whole-le, le_from_whole, same_from_whole}
-use Rattle.exact_algebra.specs.Inverses.{*ℚ_cancel}
-use Rattle.exact_algebra.specs.Order.{≤ℚ-from_mul, le_from_not}
+use Rattle.exact_algebra.specs.Rational.{ℚ, ◌*ℚ◌, whole, ◌≤ℚ◌}
+use Rattle.exact_algebra.proofs.RationalLaws.{ring_ℚ, ≤ℚ_mul}
+use Rattle.exact_algebra.proofs.WholeNumbers.{whole-le, le_from_whole, same_from_whole}
+use Rattle.exact_algebra.proofs.Inverses.{*ℚ_cancel}
+use Rattle.exact_algebra.proofs.OrderLaws.{≤ℚ-from_mul, le_from_not}
 use Rattle.loss_model.specs.Strict.{◌<ℚ◌}
 use Rattle.rank_law.proofs.Values.{le_same}
 
