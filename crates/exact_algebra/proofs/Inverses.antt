@@ -1,4 +1,4 @@
--- Stated. Inverses, and products that are 0.
+-- Inverses, and products that are 0.
 --
 --     y is 1/x, from x * y = 1              inverse_from x y h
 --     the inverse of a product, of -x, of 1/x, of 0    inverse-mul, inverse-neg, inverse_inverse, inverse-zero
@@ -8,8 +8,9 @@
 use Rattle.std.specs.Prelude.{◌≡◌, ◌≢◌, ◌⊎◌, Bool, true, false, [], ◌∷◌, pos}
 use Rattle.std.proofs.Common.{refl, sym, ap, ap₂, subst, ◌∙◌, inl, inr}
 use Rattle.exact_algebra.specs.Solver.{number, negated, ◌⊠◌, v0, v1, v2, v3}
-use Rattle.exact_algebra.specs.Rational.{ℚ, ◌*ℚ◌, neg_ℚ, whole, inverse, le_ℚ, ≤ℚ_refl, ≤ℚ_antisym, ring_ℚ, *ℚ-inverse}
-use Rattle.exact_algebra.specs.WholeNumbers.{same_from_whole}
+use Rattle.exact_algebra.specs.Rational.{ℚ, ◌*ℚ◌, neg_ℚ, whole, inverse, le_ℚ}
+use Rattle.exact_algebra.proofs.RationalLaws.{≤ℚ_refl, ≤ℚ_antisym, ring_ℚ, *ℚ-inverse}
+use Rattle.exact_algebra.proofs.WholeNumbers.{same_from_whole}
 
 -- a value is 0 or it isn't
 pub zero_or_not : (x : ℚ) → (x ≡ whole (pos 0)) ⊎ (x ≢ whole (pos 0))

@@ -1,12 +1,14 @@
--- Inner. Sums of products by their steps.
+-- Sums of products by their steps.
 --
 --     at the start, after a step, at the end   partial_sum-begun, partial_sum-more, partial_sum-whole
 --     sums with the same terms                 partial_sum-same, spill-same
 use Rattle.std.specs.Prelude.{◌≡◌, ℕ, ◌+◌, ◌<◌, [], ◌∷◌, pos}
 use Rattle.std.proofs.Common.{arith, refl, sym, ap, ap₂, ◌∙◌, add-one}
 use Rattle.exact_algebra.specs.Solver.{number, ◌⊞◌, v0, v1, v2}
-use Rattle.exact_algebra.specs.Rational.{ℚ, ◌+ℚ◌, ◌*ℚ◌, whole, ring_ℚ, zero-+ℚ}
-use Rattle.exact_algebra.specs.RationalSums.{sum_ℚ, sum_ℚ-same}
+use Rattle.exact_algebra.specs.Rational.{ℚ, ◌+ℚ◌, ◌*ℚ◌, whole}
+use Rattle.exact_algebra.proofs.RationalLaws.{ring_ℚ, zero-+ℚ}
+use Rattle.exact_algebra.specs.RationalSums.{sum_ℚ}
+use Rattle.exact_algebra.proofs.RationalSumLaws.{sum_ℚ-same}
 use Rattle.exact_algebra.specs.Fraction.{Fraction}
 use Rattle.loss_model.specs.declared.spill.Site.{Site}
 use Rattle.loss_model.specs.declared.spill.Spill.{Spill}
@@ -26,8 +28,6 @@ partial_sum-more t k sum left right next before l r e =
 pub partial_sum-whole : (t : Products) (n : ℕ) (x : ℚ) → n ≡ t.count → t.first ≡ whole (pos 0) → x ≡ partial_sum t n → x ≡ sum_ℚ t.count (λ k. t.left k *ℚ t.right k)
 partial_sum-whole t n x end none h =
     h ∙ ap (partial_sum t) end ∙ ap (λ z. z +ℚ sum_ℚ t.count (λ k. t.left k *ℚ t.right k)) none ∙ zero-+ℚ (sum_ℚ t.count (λ k. t.left k *ℚ t.right k))
-
--- ---- sums with the same terms
 
 module _ (t u : Products) (count : t.count ≡ u.count) (first : t.first ≡ u.first) (left : (k : ℕ) → k < t.count → t.left k ≡ u.left k) (right : (k : ℕ) → k < t.count → t.right k ≡ u.right k) where
   pub partial_sum-same : (n : ℕ) → ((k : ℕ) → k < n → k < t.count) → partial_sum t n ≡ partial_sum u n

@@ -1,4 +1,4 @@
--- Stated. Identities of any commutative ring, by computing both sides as polynomials with whole
+-- Identities of any commutative ring, by computing both sides as polynomials with whole
 -- coefficients.
 --
 -- A ring is given by its operations and an embedding of the whole numbers; `IsRing` says that they
@@ -8,7 +8,7 @@
 --     ring_by add mul neg embed r vs a b k l l' refl h   the same from h : worth vs l ≡ worth vs l',
 --                                                        where a - b = k * (l - l')
 --
--- Over ℚ write `ring_ℚ` and `ring_by_ℚ` of `specs.Rational`.
+-- Over ℚ write `ring_ℚ` and `ring_by_ℚ` of `proofs.RationalLaws`.
 use Rattle.std.specs.Prelude.{◌≡◌, ℕ, Bool, true, false, cond, ltb, List, [], ◌∷◌, get_or, ℤ, pos, negsuc, ◌+ℤ◌, ◌*ℤ◌}
 use Rattle.std.proofs.Common.{refl, sym, ap, ◌∙◌}
 use Rattle.exact_algebra.specs.Solver.{Term, var, number, plus, minus, times, negated, Monomial, put, merge, same, before, insert, joined, scaled, spread, multiplied, normal, is_zero, vanishes, same-true, and-true, zero_is}

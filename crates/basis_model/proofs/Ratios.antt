@@ -1,4 +1,4 @@
--- Inner. Entries of perturbed ratios.
+-- Entries of perturbed ratios.
 --
 --     at row m, which is neither the row itself nor one of the basis with a coordinate    ratio-none
 --     at the row itself                                                                   ratio-own: not 0;
@@ -7,13 +7,16 @@ use Rattle.std.specs.Prelude.{◌≡◌, ◌≢◌, ℕ, suc, ◌<◌, Bool, tru
 use Rattle.std.specs.declared.cmp.Ordering.TheVariants.{Less, Greater}
 use Rattle.std.proofs.Common.{refl, sym, ap, subst, ◌∙◌}
 use Rattle.exact_algebra.specs.Solver.{number, negated, ◌⊠◌, v0}
-use Rattle.exact_algebra.specs.Rational.{ℚ, ◌*ℚ◌, neg_ℚ, inverse, whole, le_ℚ, ◌≤ℚ◌, ring_ℚ, one-*ℚ, ≤ℚ_antisym, ≤ℚ_total}
-use Rattle.exact_algebra.specs.Inverses.{inverse_nonzero}
-use Rattle.exact_algebra.specs.Order.{cmp_ℚ, cmp_ℚ-Less, cmp_ℚ-Greater, inverse_not_negative, ≤ℚ_neg}
+use Rattle.exact_algebra.specs.Rational.{ℚ, ◌*ℚ◌, neg_ℚ, inverse, whole, le_ℚ, ◌≤ℚ◌}
+use Rattle.exact_algebra.proofs.RationalLaws.{ring_ℚ, one-*ℚ, ≤ℚ_antisym, ≤ℚ_total}
+use Rattle.exact_algebra.proofs.Inverses.{inverse_nonzero}
+use Rattle.exact_algebra.specs.Order.{cmp_ℚ}
+use Rattle.exact_algebra.proofs.OrderLaws.{cmp_ℚ-Less, cmp_ℚ-Greater, inverse_not_negative, ≤ℚ_neg}
 use Rattle.loss_model.specs.declared.vertex.Side.{Side}
 use Rattle.loss_model.specs.declared.vertex.Side.TheVariants.{Up, Down, Basic}
 use Rattle.loss_model.specs.Spill.{abs_ℚ}
-use Rattle.basis_model.specs.Perturbed.{Nonbasic, turned, ratio_on, held_coordinate-none, perturbed-own, perturbed-other}
+use Rattle.basis_model.specs.Perturbed.{Nonbasic, turned, ratio_on}
+use Rattle.basis_model.proofs.PerturbedLaws.{held_coordinate-none, perturbed-own, perturbed-other}
 
 zero_neg : neg_ℚ (whole (pos 0)) ≡ whole (pos 0)
 zero_neg = ring_ℚ [] (negated (number (pos 0))) (number (pos 0)) refl

@@ -1,8 +1,8 @@
--- Stated. Whole numbers among the fractions: an equation or an order of fractions, said of whole numbers,
+-- Whole numbers among the fractions: an equation or an order of fractions, said of whole numbers,
 -- and the other way.
 --
 --     into ℚ      whole-neg, whole-le, whole-sum, whole-positive, whole-negative
---                 (whole-add and whole-mul are in `specs.Rational`)
+--                 (whole-add and whole-mul are in `proofs.RationalLaws`)
 --     out of ℚ    same_from_whole a b e, le_from_whole a b h
 --     pairs       same_from a b e: equal fractions have equal cross products
 --
@@ -15,7 +15,8 @@ use Rattle.std.proofs.lemmas.Int.{ints}
 use lib.Signed.{le_z_yes}
 use mathlib.Core.Quot.{mk}
 use Rattle.exact_algebra.specs.IntegerSums.{sum_to, positive_part, negative_part}
-use Rattle.exact_algebra.specs.Rational.{ℚ, Pair, Same, ◌+ℚ◌, neg_ℚ, whole, whole-add, ◌≤ℚ◌, le_ℚ, to_le, from_le, ≤ℚ_refl}
+use Rattle.exact_algebra.specs.Rational.{ℚ, Pair, Same, ◌+ℚ◌, neg_ℚ, whole, ◌≤ℚ◌, le_ℚ, to_le, from_le}
+use Rattle.exact_algebra.proofs.RationalLaws.{whole-add, ≤ℚ_refl}
 use Rattle.exact_algebra.specs.RationalSums.{sum_ℚ, positive_ℚ, negative_ℚ}
 
 -- equal fractions have equal cross products

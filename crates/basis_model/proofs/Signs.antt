@@ -1,4 +1,4 @@
--- Inner. The sign of a perturbed residual, and what it depends on.
+-- The sign of a perturbed residual, and what it depends on.
 --
 --     the first entry that isn't 0 decides     first_sign; side-residual, where it is the residual
 --     rows that agree                          perturbed-same, perturbed_side-same
@@ -7,7 +7,8 @@ use Rattle.std.specs.Ordering.{ordering_then}
 use Rattle.std.proofs.Common.{arith, refl, ap, ap₂}
 use Rattle.exact_algebra.specs.Rational.{ℚ, neg_ℚ, whole}
 use Rattle.exact_algebra.specs.Order.{cmp_ℚ}
-use Rattle.basis_model.specs.Lexicographic.{lex_cmp, lex_cmp-first}
+use Rattle.basis_model.specs.Lexicographic.{lex_cmp}
+use Rattle.basis_model.proofs.LexicographicLaws.{lex_cmp-first}
 use Rattle.basis_model.specs.Perturbed.{Nonbasic, held_coordinate, perturbed, zeros, side_of, perturbed_side}
 
 module _ (n : ℕ) (at : ℕ → ℕ) (u : Nonbasic) where
