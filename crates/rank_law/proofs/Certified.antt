@@ -17,11 +17,11 @@ use Rattle.loss_model.specs.Problem.{value_at, sample}
 use Rattle.loss_model.specs.Sample.{Sample, up_cost, down_cost}
 use Rattle.loss_model.specs.Vertex.{value_of_side, basic_value, dual_value}
 use Rattle.loss_model.proofs.Vertices.{basic_value-at}
-use Rattle.rank_law.specs.declared.interval.Bound.{Bound}
-use Rattle.rank_law.specs.declared.interval.Bound.TheVariants.{Finite, Infinite}
-use Rattle.rank_law.specs.declared.interval.Beyond.{Beyond}
-use Rattle.rank_law.specs.declared.interval.Beyond.TheVariants.{Outside, Ray}
-use Rattle.rank_law.specs.declared.interval.IntervalProof.{IntervalProof}
+use Rattle.loss_model.specs.declared.interval.Bound.{Bound}
+use Rattle.loss_model.specs.declared.interval.Bound.TheVariants.{Finite, Infinite}
+use Rattle.loss_model.specs.declared.interval.Beyond.{Beyond}
+use Rattle.loss_model.specs.declared.interval.Beyond.TheVariants.{Outside, Ray}
+use Rattle.loss_model.specs.declared.interval.IntervalProof.{IntervalProof}
 use Rattle.rank_law.specs.Restricted.{IsProjection, squared_length, Holds}
 use Rattle.rank_law.specs.Bounds.{IsInside, IsShownHigh, IsShownLow}
 use Rattle.rank_law.specs.Shown.{AreBySides, IsStatedInside, IsStatedBeyond}

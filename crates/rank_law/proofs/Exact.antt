@@ -16,8 +16,8 @@ use Rattle.rank_law.specs.Laws.{FitIsInside, BoundIsNotNegative, WalkBegins, Ris
 use Rattle.rank_law.proofs.Values.{either, not_less, sum_not_negative, not_negative_is, square_falls, square_grows, square_between}
 use Rattle.rank_law.proofs.Optimal.{falls, optimal_between, rising_ray, falling_ray, objective_by_residuals}
 use Rattle.rank_law.proofs.Lengths.{one_length, squares_not_negative}
-use Rattle.rank_law.specs.declared.interval.Bound.{Bound}
-use Rattle.rank_law.specs.declared.interval.Bound.TheVariants.{Finite, Infinite}
+use Rattle.loss_model.specs.declared.interval.Bound.{Bound}
+use Rattle.loss_model.specs.declared.interval.Bound.TheVariants.{Finite, Infinite}
 
 module _ (p : Sample) (j : ℕ) (tau crit : ℚ) where
   -- values that are inside show that the tested one holds

@@ -10,12 +10,12 @@ use Rattle.loss_model.specs.Sample.{Sample, up_cost, down_cost, residual}
 use Rattle.loss_model.specs.Problem.{value_at, sample}
 use Rattle.loss_model.specs.Dual.{IsDataRow}
 use Rattle.loss_model.specs.Vertex.{dual_value, IsOn, IsVertexOf}
-use Rattle.rank_law.specs.declared.interval.Bound.{Bound}
-use Rattle.rank_law.specs.declared.interval.Bound.TheVariants.{Finite, Infinite}
-use Rattle.rank_law.specs.declared.interval.Beyond.{Beyond}
-use Rattle.rank_law.specs.declared.interval.Beyond.TheVariants.{Outside, Ray}
-use Rattle.rank_law.specs.declared.interval.End.{End}
-use Rattle.rank_law.specs.declared.interval.IntervalProof.{IntervalProof}
+use Rattle.loss_model.specs.declared.interval.Bound.{Bound}
+use Rattle.loss_model.specs.declared.interval.Bound.TheVariants.{Finite, Infinite}
+use Rattle.loss_model.specs.declared.interval.Beyond.{Beyond}
+use Rattle.loss_model.specs.declared.interval.Beyond.TheVariants.{Outside, Ray}
+use Rattle.loss_model.specs.declared.interval.End.{End}
+use Rattle.loss_model.specs.declared.interval.IntervalProof.{IntervalProof}
 use Rattle.loss_model.specs.Strict.{◌<ℚ◌}
 use Rattle.rank_law.specs.Restricted.{IsFeasibleWithout, IsOptimalAt, rank_statistic, IsProjection, squared_length, rank_bound, Holds}
 use Rattle.rank_law.specs.Bounds.{IsAtLeast, IsAtMost, IsAbove, IsBelow, IsInside}

@@ -9,8 +9,8 @@ use Rattle.loss_model.specs.Strict.{◌<ℚ◌}
 use Rattle.loss_model.specs.Complements.{IsComplementary, residual_change}
 use Rattle.rank_law.specs.Restricted.{IsFeasibleWithout, IsOptimalAt, rank_statistic, IsProjection, squared_length, rank_bound, Holds}
 use Rattle.rank_law.specs.Bounds.{IsAtLeast, IsAtMost, IsAbove, IsBelow, HoldsBetween, IsInside, IsHighEnd, IsLowEnd, IsShownHigh, IsShownLow}
-use Rattle.rank_law.specs.declared.interval.Bound.{Bound}
-use Rattle.rank_law.specs.declared.interval.Bound.TheVariants.{Finite, Infinite}
+use Rattle.loss_model.specs.declared.interval.Bound.{Bound}
+use Rattle.loss_model.specs.declared.interval.Bound.TheVariants.{Finite, Infinite}
 
 -- feasible values that complement the residuals of coefficients b are optimal at b j
 abbrev pub ComplementaryIsOptimal : Type 0

@@ -8,7 +8,7 @@ use Rattle.loss_model.specs.Vertex.{value_of_side, IsOn}
 use Rattle.loss_model.specs.Strict.{◌<ℚ◌}
 use Rattle.rank_law.specs.Restricted.{IsFeasibleWithout, rank_statistic, rank_bound}
 use Rattle.rank_law.specs.Bounds.{IsShownHigh, IsShownLow}
-use Rattle.rank_law.specs.declared.interval.Bound.TheVariants.{Finite, Infinite}
+use Rattle.loss_model.specs.declared.interval.Bound.TheVariants.{Finite, Infinite}
 
 -- each value is that of its side: a cost, or any value in a row of the basis
 abbrev pub AreBySides : Sample → ℚ → (ℕ → Side) → (ℕ → ℚ) → Type 0

@@ -8,9 +8,8 @@ ghost use Rattle.rank_law.specs.Shown.{HighConditionsShow, LowConditionsShow};
 ghost use Rattle.rank_law.specs.Certified.{ConditionsShowInterval, BoundsByBasics};
 ghost use Rattle.rank_law.specs.Gram.{GramInverseProjects, GramDependence, GramKeepsRank, GramStartsInOrder};
 
-use crate::interval::IntervalProof;
 use frac_core::Exact;
-use loss_model::Problem;
+use loss_model::{IntervalProof, Problem};
 
 /// Where dual values are optimal for a tested value, and that their statistic falls as it rises
 /// (Gutenbrunner, Jurečková, Koenker and Portnoy 1993).

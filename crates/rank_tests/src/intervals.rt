@@ -5,7 +5,7 @@ ghost use Rattle.std.specs.Prelude.{◌<◌};
 use crate::duals::Vertex;
 use crate::losses::{Ends, after, before};
 use crate::tables::{Data, RankTest, Ratio, rank_test};
-use rank_law::Bound;
+use loss_model::Bound;
 use std::alloc::{AllocError, Global};
 use std::num::Wrapping;
 use std::process::Abort;

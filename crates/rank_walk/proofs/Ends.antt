@@ -30,10 +30,10 @@ use Rattle.pivot_rule.proofs.Sides.{sign, side_basic, side_outside, on_side}
 use Rattle.walk_rule.specs.Families.{Family, by_weight, basic_at, dual_in}
 use Rattle.walk_rule.specs.Walks.{IsNextBreak}
 use Rattle.walk_rule.proofs.Balanced.{dual_basic}
-use Rattle.rank_law.specs.declared.interval.Bound.{Bound}
-use Rattle.rank_law.specs.declared.interval.Bound.TheVariants.{Finite, Infinite}
-use Rattle.rank_law.specs.declared.interval.Beyond.{Beyond}
-use Rattle.rank_law.specs.declared.interval.Beyond.TheVariants.{Outside, Ray}
+use Rattle.loss_model.specs.declared.interval.Bound.{Bound}
+use Rattle.loss_model.specs.declared.interval.Bound.TheVariants.{Finite, Infinite}
+use Rattle.loss_model.specs.declared.interval.Beyond.{Beyond}
+use Rattle.loss_model.specs.declared.interval.Beyond.TheVariants.{Outside, Ray}
 use Rattle.loss_model.specs.Strict.{◌<ℚ◌}
 use Rattle.loss_model.specs.Complements.{IsComplementary, residual_change}
 use Rattle.rank_law.specs.Restricted.{IsFeasibleWithout, rank_statistic, squared_length, rank_bound}

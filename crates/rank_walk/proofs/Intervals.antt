@@ -16,10 +16,10 @@ use Rattle.walk_rule.specs.Walks.{IsFirstMover, AreExchanged, IsNextBreak, IsWal
 use Rattle.walk_rule.specs.WalkTrails.{is_within}
 use Rattle.walk_rule.proofs.Trails.{list_exchanged}
 use Rattle.walk_rule.proofs.NextBasis.{next_basis, next_ends}
-use Rattle.rank_law.specs.declared.interval.Bound.{Bound}
-use Rattle.rank_law.specs.declared.interval.Bound.TheVariants.{Finite, Infinite}
-use Rattle.rank_law.specs.declared.interval.End.{End}
-use Rattle.rank_law.specs.declared.interval.Interval.{Interval}
+use Rattle.loss_model.specs.declared.interval.Bound.{Bound}
+use Rattle.loss_model.specs.declared.interval.Bound.TheVariants.{Finite, Infinite}
+use Rattle.loss_model.specs.declared.interval.End.{End}
+use Rattle.loss_model.specs.declared.interval.Interval.{Interval}
 use Rattle.rank_law.specs.Restricted.{squared_length, rank_bound, Holds}
 use Rattle.rank_law.specs.Bounds.{IsHighEnd, IsLowEnd}
 use Rattle.rank_law.specs.Certified.{bound_of, AreInOrder}

@@ -12,11 +12,11 @@ use Rattle.pivot_rule.specs.Results.{IsVertexAt}
 use Rattle.pivot_rule.specs.Steps.{moves}
 use Rattle.walk_rule.specs.Families.{dual_in}
 use Rattle.walk_rule.specs.Walks.{IsNextBreak}
-use Rattle.rank_law.specs.declared.interval.Bound.{Bound}
-use Rattle.rank_law.specs.declared.interval.Bound.TheVariants.{Finite, Infinite}
-use Rattle.rank_law.specs.declared.interval.Beyond.{Beyond}
-use Rattle.rank_law.specs.declared.interval.Beyond.TheVariants.{Outside, Ray}
-use Rattle.rank_law.specs.declared.interval.End.{End}
+use Rattle.loss_model.specs.declared.interval.Bound.{Bound}
+use Rattle.loss_model.specs.declared.interval.Bound.TheVariants.{Finite, Infinite}
+use Rattle.loss_model.specs.declared.interval.Beyond.{Beyond}
+use Rattle.loss_model.specs.declared.interval.Beyond.TheVariants.{Outside, Ray}
+use Rattle.loss_model.specs.declared.interval.End.{End}
 use Rattle.loss_model.specs.Strict.{◌<ℚ◌}
 use Rattle.rank_law.specs.Restricted.{squared_length, rank_bound}
 use Rattle.rank_law.specs.Certified.{bound_of, MeetsHigh, MeetsLow}

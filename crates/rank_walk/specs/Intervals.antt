@@ -11,8 +11,8 @@ use Rattle.loss_model.specs.Dual.{IsDataRow}
 use Rattle.pivot_rule.specs.Duals.{HasCosts}
 use Rattle.pivot_rule.specs.Trails.{AtBasis, basis_after}
 use Rattle.walk_rule.specs.WalkTrails.{AreWalkingSteps, value_after, is_within, negated_theta, theta_value, IsIntervalTrail}
-use Rattle.rank_law.specs.declared.interval.End.{End}
-use Rattle.rank_law.specs.declared.interval.Interval.{Interval}
+use Rattle.loss_model.specs.declared.interval.End.{End}
+use Rattle.loss_model.specs.declared.interval.Interval.{Interval}
 use Rattle.loss_model.specs.Strict.{◌<ℚ◌}
 use Rattle.rank_law.specs.Restricted.{IsProjection, squared_length, rank_bound, Holds}
 use Rattle.rank_law.specs.Bounds.{IsAtLeast, IsAtMost}

@@ -13,7 +13,7 @@ use Rattle.pivot_rule.specs.Trails.{EndsAt, basis_after}
 use Rattle.walk_rule.specs.Families.{IsOptimalIn}
 use Rattle.walk_rule.specs.Walks.{IsWalkingStep}
 use Rattle.walk_rule.specs.WalkTrails.{AreWalkingSteps, value_after, is_within}
-use Rattle.rank_law.specs.declared.interval.End.{End}
+use Rattle.loss_model.specs.declared.interval.End.{End}
 use Rattle.rank_walk.specs.RankWalks.{Way, tested}
 use Rattle.rank_walk.specs.Ends.{IsEndAt}
 use Rattle.rank_walk.specs.Intervals.{when_on, IsWalked}

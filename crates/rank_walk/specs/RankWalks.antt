@@ -15,8 +15,8 @@ use Rattle.loss_model.specs.Strict.{◌<ℚ◌}
 use Rattle.loss_model.specs.Complements.{IsComplementary, residual_change}
 use Rattle.rank_law.specs.Restricted.{rank_statistic, IsProjection, squared_length, rank_bound, Holds}
 use Rattle.rank_law.specs.Bounds.{IsAtLeast, IsAtMost, HoldsBetween, IsInside, IsBeyond, IsHighEnd, IsLowEnd}
-use Rattle.rank_law.specs.declared.interval.Bound.{Bound}
-use Rattle.rank_law.specs.declared.interval.Bound.TheVariants.{Finite, Infinite}
+use Rattle.loss_model.specs.declared.interval.Bound.{Bound}
+use Rattle.loss_model.specs.declared.interval.Bound.TheVariants.{Finite, Infinite}
 
 -- the way of a walk: the tested value rises or falls
 pub data Way : Type 0 where

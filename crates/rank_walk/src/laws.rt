@@ -7,8 +7,7 @@ ghost use Rattle.rank_walk.specs.Loops.{LoopBegins, LoopGoesOn, LoopIsDone};
 ghost use Rattle.rank_walk.specs.Ends.{EndIsRight, EndMeetsConditions};
 
 use frac_core::Exact;
-use loss_model::Problem;
-use rank_law::Interval;
+use loss_model::{Interval, Problem};
 
 /// A walk of an interval stands at each of its bases such that all values up to it hold, and at its
 /// end it leaves the end of the interval.

@@ -10,7 +10,7 @@ use Rattle.loss_model.specs.Problem.{value_at, sample}
 use Rattle.whole_model.specs.Scaled.{Scaled, unit, scaled, over_at, between, mixed}
 use Rattle.whole_model.specs.Scaled as integers
 use Rattle.whole_model.specs.WholeRanks as whole_ranks
-use Rattle.rank_law.specs.declared.interval.Bound.{Bound}
+use Rattle.loss_model.specs.declared.interval.Bound.{Bound}
 use Rattle.rank_law.specs.Restricted.{IsProjection, squared_length, Holds}
 use Rattle.rank_law.specs.Bounds.{IsAtLeast, IsAtMost, IsHighEnd, IsLowEnd}
 

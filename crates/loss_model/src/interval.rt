@@ -1,6 +1,7 @@
 //! A rank interval of one coefficient, and what shows it.
+use crate::process::Trail;
+use crate::vertex::Vertex;
 use frac_core::List;
-use loss_model::{Trail, Vertex};
 
 /// An end of an interval: a tested value, or none on this side.
 #[derive(Clone, Copy, Debug, PartialEq, Eq)]
