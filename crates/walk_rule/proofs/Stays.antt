@@ -12,6 +12,7 @@ use Rattle.exact_algebra.proofs.OrderLaws.{≤ℚ-minus}
 use Rattle.loss_model.specs.declared.vertex.Side.{Side}
 use Rattle.loss_model.specs.declared.vertex.Side.TheVariants.{Up, Down, Basic}
 use Rattle.loss_model.specs.Sample.{Sample, up_cost, down_cost, residual}
+use Rattle.loss_model.specs.Complements.{IsComplementary}
 use Rattle.loss_model.specs.Vertex.{value_of_side, IsOn}
 use Rattle.basis_model.specs.Perturbed.{side_of}
 use Rattle.pivot_rule.specs.declared.direction.Direction.{Direction}
@@ -25,7 +26,6 @@ use Rattle.pivot_rule.proofs.Passing.{no}
 use Rattle.pivot_rule.proofs.Optimal.{wide}
 use Rattle.walk_rule.specs.Families.{Family, theta_of, IsFeasibleIn, basic_at, dual_in, slope_in, IsOptimalIn}
 use Rattle.walk_rule.specs.Walks.{IsFirstMover, side_towards, AreExchanged}
-use Rattle.walk_rule.specs.Complements.{AreComplementary}
 use Rattle.walk_rule.proofs.Balanced.{held, dual_at, dual_outside, balanced, only}
 use Rattle.walk_rule.proofs.Joint.{next_same, stays_in, sides_stay, side_left}
 
@@ -71,7 +71,7 @@ module _ (f : Family) (at : ℕ → ℕ) (a : ℕ → ℕ → ℚ) (basis : IsBa
               subst (IsWithin i) (sym (dual_outside f at a basis t i e))
               (subst (λ s. IsWithin i (value_of_side p th (λ i. whole (pos 0)) i s)) (sym (side_outside p at a i e)) (outside (sign p at a i)))
 
-  pub complementary : AreComplementary p th (coefficient p at a) (dual_in f at a t)
+  pub complementary : IsComplementary p th (residual p (coefficient p at a)) (dual_in f at a t)
   complementary =
       record {
         above = λ i li h. rise i h (side_at p at a i) refl (on_side p at a basis i);
@@ -152,9 +152,9 @@ module _ (f : Family) (at next : ℕ → ℕ) (a b : ℕ → ℕ → ℚ) (t : �
   pub optimal_stays : HasCosts q tq → IsOptimalIn f at a t → IsOptimalIn f next b t
   optimal_stays costs stop = optimal_from f next b after t (dual_in f at a t) (feasible f at a basis t costs stop) duals_stay
 
-  pub both_complement : AreComplementary q tq (coefficient q at a) (dual_in f at a t) × AreComplementary q tq (coefficient q next b) (dual_in f at a t)
+  pub both_complement : IsComplementary q tq (residual q (coefficient q at a)) (dual_in f at a t) × IsComplementary q tq (residual q (coefficient q next b)) (dual_in f at a t)
   both_complement =
-      let own : AreComplementary q tq (coefficient q next b) (dual_in f next b t) = complementary f next b after t in (
+      let own : IsComplementary q tq (residual q (coefficient q next b)) (dual_in f next b t) = complementary f next b after t in (
         complementary f at a basis t,
         record {
           above = λ i li h. sym (duals_stay i li) ∙ own.above i li h;
