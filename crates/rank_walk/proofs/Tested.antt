@@ -15,7 +15,6 @@ use Rattle.loss_model.specs.Strict.{◌<ℚ◌}
 use Rattle.rank_law.specs.Restricted.{IsFeasibleWithout, IsOptimalAt, rank_statistic, rank_bound}
 use Rattle.rank_law.specs.Bounds.{IsInside, IsBeyond}
 use Rattle.rank_law.proofs.Optimal as ranks
-use Rattle.rank_law.proofs.Optimal.{sum_ℚ-single}
 
 module _ (p : Sample) (tau : ℚ) (j : ℕ) (lj : j < p.columns) (right : ℕ → ℚ) (sigma : ℚ) (own : right j ≡ sigma)
     (others : (k : ℕ) → k ≢ j → right k ≡ whole (pos 0)) (square : sigma *ℚ sigma ≡ whole (pos 1)) where

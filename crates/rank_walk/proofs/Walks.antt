@@ -24,7 +24,7 @@ use Rattle.rank_law.specs.Bounds.{IsInside, IsBeyond}
 use Rattle.rank_law.proofs.Values.{not_negative_is}
 use Rattle.rank_law.proofs.Exact.{begins, rises, sinks, endless, endless_below, exact}
 use Rattle.rank_walk.specs.RankWalks.{rise, fall, ray, IsTest, WalkStandsFirst, WalkStandsNext, WalkIsInside, WalkHasBreak, WalkEndsHere, WalkNeverEnds, WalksAreExact}
-use Rattle.rank_walk.proofs.Tested.{is_feasible, statistic_is, optimal_here, is_inside, is_beyond, optimal_next}
+use Rattle.rank_walk.proofs.Tested.{is_feasible, statistic_is, is_inside, is_beyond, optimal_next}
 
 -- column j alone is to weigh anything: sigma, whose square is 1
 record IsSigned (right : ℕ → ℚ) (j : ℕ) (sigma : ℚ) : Type 0 where
@@ -63,9 +63,6 @@ module _ (p : Sample) (j : ℕ) (tau crit : ℚ) (c : ℕ → ℚ) (test : IsTes
     zero_within h = subst (λ z. z ≤ℚ rank_bound tau crit q) (ring_ℚ [] (number (pos 0)) (number (pos 0) ⊠ number (pos 0)) refl) h
 
     module _ (t : ℚ) (stop : IsOptimalIn f at a t) where
-      here_optimal : IsOptimalAt p j tau (coefficient p at a j) (dual_in f at a t)
-      here_optimal = optimal_here p tau j test.column right sigma w.own w.others w.square at a basis test.costs t stop
-
       here_inside : (t *ℚ t) ≤ℚ rank_bound tau crit q → IsInside p j tau crit q (coefficient p at a j) (dual_in f at a t)
       here_inside h = is_inside p tau j test.column right sigma w.own w.others w.square at a basis test.costs t stop crit q h
 
