@@ -6,3 +6,4 @@ pub mod Integers
 pub mod Denominators
 pub mod Ranks
 pub mod WholeRanks
+pub mod Repetitions

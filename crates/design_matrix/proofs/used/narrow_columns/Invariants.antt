@@ -3,7 +3,7 @@ use Rattle.data_frame.specs.Views.{lent_column}
 use Rattle.design_matrix.specs.Cells.{column_of}
 use Rattle.design_matrix.specs.Faults.{wide_fault}
 use Rattle.design_matrix.specs.Lists.{first_some}
-use Rattle.design_matrix.proofs.used.used_columns.Given as goal
+use Rattle.design_matrix.proofs.used.narrow_columns.Given as goal
 
 abbrev pub invariant-loop-name : goal.invariant-loop-name
 invariant-loop-name l = record {
