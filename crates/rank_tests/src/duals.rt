@@ -88,7 +88,7 @@ impl Optimum {
         Optimum {
             objective: self.objective,
             least: lesser(self.least, other.least),
-            greatest: lesser_last(self.greatest, other.greatest),
+            greatest: greater(self.greatest, other.greatest),
         }
     }
 }
@@ -97,7 +97,7 @@ fn lesser(a: Ratio, b: Ratio) -> Ratio {
     if b.is_less(a) { b } else { a }
 }
 
-fn lesser_last(a: Ratio, b: Ratio) -> Ratio {
+fn greater(a: Ratio, b: Ratio) -> Ratio {
     if a.is_less(b) { b } else { a }
 }
 
