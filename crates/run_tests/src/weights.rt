@@ -224,10 +224,10 @@ fn faulty_weights_are_told(rt: HostRuntime) -> Result<(), Fail> {
     Ok(())
 }
 
-// The next number of a sequence, and one below a limit from it.
-fn drawn(state: &mut u32, limit: u32) -> u32 {
+// A number below 2^16 from the next of a sequence.
+fn drawn(state: &mut u32) -> u32 {
     *state = state.wrapping_mul(1_664_525).wrapping_add(1_013_904_223);
-    (*state >> 16) % limit
+    *state >> 16
 }
 
 // A table with weights from 0 to 3, and the table that has each of its records so many times.
@@ -236,7 +236,7 @@ fn repeated_tables(alloc: Global, number: u32) -> Result<(String, String), Fail>
     let mut weighted = String::from_str(alloc, "y,x,w\n0,0,1\n")?;
     let mut repeated = String::from_str(alloc, "y,x\n0,0\n")?;
     for x in 1..8 {
-        let (y, weight) = (drawn(&mut state, 50), drawn(&mut state, 4));
+        let (y, weight) = (drawn(&mut state) % 50, drawn(&mut state) % 4);
         weighted.push_str(&format!(in alloc; "{y},{x},{weight}\n")?)?;
         for _ in 0..weight {
             repeated.push_str(&format!(in alloc; "{y},{x}\n")?)?;
@@ -253,6 +253,12 @@ fn loss_of(left: &Left) -> &str {
         .unwrap_or("")
 }
 
+// Both losses are there and are the same.
+fn assert_same_loss(rt: &impl Abort, once: &str, often: &str, table: &str) {
+    assert!(rt; !once.is_empty(), "{table}");
+    assert!(rt; once == often, "{table}: {once} and {often}");
+}
+
 #[test]
 fn whole_weights_are_repeated_records(rt: HostRuntime) -> Result<(), Fail> {
     for number in 0..30 {
@@ -265,10 +271,4 @@ fn whole_weights_are_repeated_records(rt: HostRuntime) -> Result<(), Fail> {
         assert_same_loss(&rt, loss_of(&once), loss_of(&often), &weighted);
     }
     Ok(())
-}
-
-// Both losses are there and are the same.
-fn assert_same_loss(rt: &impl Abort, once: &str, often: &str, table: &str) {
-    assert!(rt; !once.is_empty(), "{table}");
-    assert!(rt; once == often, "{table}: {once} and {often}");
 }
