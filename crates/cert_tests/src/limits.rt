@@ -5,9 +5,11 @@ use std::alloc::Global;
 use std::process::Abort;
 use std::test::Fail;
 
-static ROW: &str = "{\"down0\":\"1\",\"down1\":\"-1\",\"up0\":\"0\",\"up1\":\"1\",\"x\":[\"1\"],\"y\":\"0\"}";
+static ROW: &str =
+    "{\"down0\":\"1\",\"down1\":\"-1\",\"up0\":\"0\",\"up1\":\"1\",\"x\":[\"1\"],\"y\":\"0\"}";
 
-static INTERVAL: &str = "{\"column\":0,\"crit\":\"1\",\"high\":{\"coef\":[],\"inside\":[],\"kind\":\"infinite\",\"ray\":[],\"sides\":\"\"},\"low\":{\"coef\":[],\"inside\":[],\"kind\":\"infinite\",\"ray\":[],\"sides\":\"\"},\"projection\":[],\"tau\":\"1/2\"}";
+static INTERVAL: &str =
+    "{\"column\":0,\"crit\":\"1\",\"high\":{\"coef\":[],\"inside\":[],\"kind\":\"infinite\",\"ray\":[],\"sides\":\"\"},\"low\":{\"coef\":[],\"inside\":[],\"kind\":\"infinite\",\"ray\":[],\"sides\":\"\"},\"projection\":[],\"tau\":\"1/2\"}";
 
 // A certificate with so many intervals and rows.
 fn of_size(alloc: Global, intervals: usize, rows: usize) -> Result<String, Fail> {
@@ -25,20 +27,27 @@ fn of_size(alloc: Global, intervals: usize, rows: usize) -> Result<String, Fail>
     Ok(text)
 }
 
-// Each case: intervals, rows, and what such a certificate is read as.
-static SIZES: [(usize, usize, &str); 4] = [
-    (0, 16_384, "read"),
-    (0, 16_385, "TooLarge"),
-    (8_192, 0, "read"),
-    (8_193, 0, "TooLarge"),
-];
+// Each case: so many, and what such a certificate is read as.
+static ROWS: [(usize, &str); 2] = [(16_384, "read"), (16_385, "TooLarge")];
 
 #[test]
-fn too_many_rows_or_intervals_are_refused(rt: HostRuntime) -> Result<(), Fail> {
-    for (intervals, rows, wanted) in &SIZES {
-        let text = of_size(rt.alloc(), *intervals, *rows)?;
+fn a_row_past_the_limit_is_refused(rt: HostRuntime) -> Result<(), Fail> {
+    for (rows, wanted) in &ROWS {
+        let text = of_size(rt.alloc(), 0, *rows)?;
         let found = outcome(rt.alloc(), text.as_bytes())?;
-        assert!(rt; found.as_str() == *wanted, "{intervals} {rows}: {found}");
+        assert!(rt; found.as_str() == *wanted, "{rows}: {found}");
+    }
+    Ok(())
+}
+
+static INTERVALS: [(usize, &str); 2] = [(8_192, "read"), (8_193, "TooLarge")];
+
+#[test]
+fn an_interval_past_the_limit_is_refused(rt: HostRuntime) -> Result<(), Fail> {
+    for (intervals, wanted) in &INTERVALS {
+        let text = of_size(rt.alloc(), *intervals, 0)?;
+        let found = outcome(rt.alloc(), text.as_bytes())?;
+        assert!(rt; found.as_str() == *wanted, "{intervals}: {found}");
     }
     Ok(())
 }

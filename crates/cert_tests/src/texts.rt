@@ -51,7 +51,9 @@ fn says_the_line(cert: &Cert) -> bool {
     }
     let first = &segments[0].vertex;
     let second = &segments[1].vertex;
-    if first.basis.rows.as_slice() != [0, 2].as_slice() || second.basis.rows.as_slice() != [1, 2].as_slice() {
+    if first.basis.rows.as_slice() != [0, 2].as_slice()
+        || second.basis.rows.as_slice() != [1, 2].as_slice()
+    {
         return false;
     }
     first.sides.as_slice() == [Side::Basic, Side::Up, Side::Basic].as_slice()
@@ -63,7 +65,10 @@ fn has_its_numbers(cert: &Cert) -> bool {
     if rows.len() != 3 || rows[2].x.as_slice().len() != 2 {
         return false;
     }
-    is_whole(cert.lo, 0) && is_whole(cert.hi, 1) && is_whole(rows[2].y, 3) && is_whole(rows[2].x.as_slice()[1], 3)
+    is_whole(cert.lo, 0)
+        && is_whole(cert.hi, 1)
+        && is_whole(rows[2].y, 3)
+        && is_whole(rows[2].x.as_slice()[1], 3)
 }
 
 #[test]

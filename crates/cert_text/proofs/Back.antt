@@ -118,14 +118,14 @@ segment_back s kept =
     ∙ step (codes "loss_lo") fraction _ _ (exact s.loss_lo) _ (fraction_back s.loss_lo)
     ∙ step (codes "sides") sides _ _ s.vertex.sides _ (sides_back s.vertex.sides)
     ∙ ap (λ v. Ok (record {
-        lo = exact s.lo;
-        hi = exact s.hi;
-        vertex = v;
-        basic_lo = map exact s.basic_lo;
-        basic_hi = map exact s.basic_hi;
-        loss_lo = exact s.loss_lo;
-        loss_hi = exact s.loss_hi;
-      })) (vertex_back s.vertex kept)
+      lo = exact s.lo;
+      hi = exact s.hi;
+      vertex = v;
+      basic_lo = map exact s.basic_lo;
+      basic_hi = map exact s.basic_hi;
+      loss_lo = exact s.loss_lo;
+      loss_hi = exact s.loss_hi;
+    })) (vertex_back s.vertex kept)
 
 finite_back : end_kind (string (codes "finite")) ≡ Ok true
 unfolding end_kind
@@ -189,13 +189,13 @@ top_back c within =
     step (codes "columns") count _ _ c.problem.columns _ (count_back c.problem.columns (omega (arith, within.columns)))
     ∙ step (codes "hi") fraction _ _ (exact c.hi) _ (fraction_back c.hi)
     ∙ step (codes "intervals") (list interval) _ _ (map exact_interval c.intervals) _
-        (list_back IsKeptInterval interval_tree exact_interval interval interval_back c.intervals c.ended)
+    (list_back IsKeptInterval interval_tree exact_interval interval interval_back c.intervals c.ended)
     ∙ step (codes "kind") kind _ _ tt _ kind_back
     ∙ step (codes "lo") fraction _ _ (exact c.lo) _ (fraction_back c.lo)
     ∙ step (codes "rows") (list row) _ _ (map exact_row c.problem.rows) _
-        (list_back (λ _. Unit {0}) row_tree exact_row row (λ r _. row_back r) c.problem.rows (λ k d lt. tt))
+    (list_back (λ _. Unit {0}) row_tree exact_row row (λ r _. row_back r) c.problem.rows (λ k d lt. tt))
     ∙ step (codes "segments") (list segment) _ _ (map exact_segment c.segments) _
-        (list_back IsKeptSegment segment_tree exact_segment segment segment_back c.segments c.listed)
+    (list_back IsKeptSegment segment_tree exact_segment segment segment_back c.segments c.listed)
     ∙ step (codes "version") anything _ _ tt _ refl
 
 not_too_large : (c : Cert) → IsWithinLimits c → is_too_large (content c) ≡ false

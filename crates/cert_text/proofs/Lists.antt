@@ -1,5 +1,5 @@
 -- A list that is read item by item.
-use Rattle.std.proofs.Common.{◌≡◌, ℕ, ◌+◌, ◌<◌, ◌≤◌, List, [], ◌∷◌, ◌++◌, Ok, Err, All, length, take, drop, get_or, map, refl, sym, ap, ap₂, ◌∙◌, subst, append_assoc, append-nil, arith}
+use Rattle.std.proofs.Common.{◌≡◌, ℕ, suc, ◌+◌, ◌<◌, ◌≤◌, List, [], ◌∷◌, ◌++◌, Ok, Err, All, length, take, drop, get_or, map, refl, sym, ap, ap₂, ◌∙◌, subst, append_assoc, append-nil, arith}
 use Rattle.std.proofs.lemmas.List.{drop_more, drop_all, map_push, take_more, take_all}
 use Rattle.std.proofs.lemmas.List.Elements.{All-push}
 use Rattle.serde_json.specs.Data.{Data, Items, no_items, item}
@@ -97,3 +97,8 @@ first_holds P x xs all = all 0 x (omega arith)
 
 pub rest_hold : {T : Type 0} (P : T → Type 0) (x : T) (xs : List T) → All P (x ∷ xs) → All P xs
 rest_hold P x xs all = λ k d lt. all (suc k) d (omega (arith, lt))
+
+-- what is read after a fault
+
+pub stops : {A B : Type 0} (r : Reading A) (f : A → Reading B) (e : CertFault) → r ≡ Err e → on_read r f ≡ Err e
+stops r f e h = ap (λ z. on_read z f) h

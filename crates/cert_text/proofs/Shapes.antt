@@ -57,14 +57,28 @@ interval_numbers t l = (IsNumber-decimal t.column (omega (arith, l)), (tt, (end_
 
 pub cert_numbers : (c : Cert) → c.problem.columns < 2 ^ 64 → HasNumbers (outline (cert_tree c))
 unfolding cert_tree
-cert_numbers c l =
-    (IsNumber-decimal c.problem.columns l,
-    (tt,
-    (items_numbers (λ t. t.column < 2 ^ 32) interval_tree interval_numbers c.intervals (λ k d lt. (c.ended k d lt).0),
-    (tt, (tt,
-    (all_have row_tree row_numbers c.problem.rows,
-    (all_have segment_tree segment_numbers c.segments,
-    (IsNumber-decimal 1 (omega arith), tt))))))))
+cert_numbers c l = (
+  IsNumber-decimal c.problem.columns l,
+  (
+    tt,
+    (
+      items_numbers (λ t. t.column < 2 ^ 32) interval_tree interval_numbers c.intervals (λ k d lt. (c.ended k d lt).0),
+      (
+        tt,
+        (
+          tt,
+          (
+            all_have row_tree row_numbers c.problem.rows,
+            (
+              all_have segment_tree segment_numbers c.segments,
+              (IsNumber-decimal 1 (omega arith), tt),
+            ),
+          ),
+        ),
+      ),
+    ),
+  ),
+)
 
 -- ---- depth
 
@@ -94,9 +108,9 @@ beyond_shallow (Ray xs) ms h = omega (arith, fractions_shallow xs, h)
 end_shallow : (e : End Frac128) → depth (end_tree e) ≤ 2
 unfolding end_tree
 end_shallow e =
-    let last : members_depth (member (codes "sides") (sides_tree e.vertex.sides) (value_member e.bound)) ≤ 1 = omega (arith, value_shallow e.bound) in
-    let more = beyond_shallow e.beyond _ last in
-    omega (arith, fractions_shallow e.vertex.coef, fractions_shallow e.inside, more)
+    let last = member (codes "sides") (sides_tree e.vertex.sides) (value_member e.bound) in
+    let small : members_depth last ≤ 1 = omega (arith, value_shallow e.bound) in
+    omega (arith, fractions_shallow e.vertex.coef, fractions_shallow e.inside, beyond_shallow e.beyond last small)
 
 interval_shallow : (t : IntervalProof Frac128) → depth (interval_tree t) ≤ 3
 unfolding interval_tree

@@ -13,14 +13,13 @@ ghost use Rattle.cert_text.specs.Certificates.{end_kind, finite_members, infinit
 ghost use Rattle.cert_text.specs.Trees.{end_tree, interval_tree};
 
 use crate::fault::CertFault;
-use crate::json::{FromJson, ToJson};
+use crate::json::{FromJson, Name, ToJson, put};
 use crate::keys::{closed, field, members};
 use crate::path::wrong_kind;
-use crate::vertex::{sides_to_json, vertex};
+use crate::vertex::{Signs, vertex};
 use frac_core::{Frac128, List};
 use loss_model::{Beyond, Bound, End, IntervalProof};
-
-use serde_json::{Value, json};
+use serde_json::{Map, Value};
 use std::alloc::{AllocError, Global};
 use std::collections::btree_map::Iter;
 
@@ -60,7 +59,11 @@ struct Solution {
 }
 
 #[tactic(auto, unfolding(crate::specs::Certificates::finite_members))]
-fn finite_end(alloc: Global, solution: Solution, rest: &mut Iter<'_, String, Value>) -> Result<End<Frac128>, CertFault>
+fn finite_end(
+    alloc: Global,
+    solution: Solution,
+    rest: &mut Iter<'_, String, Value>,
+) -> Result<End<Frac128>, CertFault>
     ensures ok { let coef = map exact solution.coef in let inside = map exact solution.inside in
         IfOk result (λ e. finite_members coef inside (members_view rest.old) ≡ Ok (exact_end e)) }
     ensures kept { IfOk result IsKeptEnd }
@@ -80,7 +83,11 @@ fn finite_end(alloc: Global, solution: Solution, rest: &mut Iter<'_, String, Val
 }
 
 #[tactic(auto, unfolding(crate::specs::Certificates::infinite_members))]
-fn infinite_end(alloc: Global, solution: Solution, rest: &mut Iter<'_, String, Value>) -> Result<End<Frac128>, CertFault>
+fn infinite_end(
+    alloc: Global,
+    solution: Solution,
+    rest: &mut Iter<'_, String, Value>,
+) -> Result<End<Frac128>, CertFault>
     ensures ok { let coef = map exact solution.coef in let inside = map exact solution.inside in
         IfOk result (λ e. infinite_members coef inside (members_view rest.old) ≡ Ok (exact_end e)) }
     ensures kept { IfOk result IsKeptEnd }
@@ -140,7 +147,11 @@ struct Tested {
 }
 
 #[tactic(auto, unfolding(crate::specs::Certificates::projected_members))]
-fn projected(alloc: Global, t: Tested, rest: &mut Iter<'_, String, Value>) -> Result<IntervalProof<Frac128>, CertFault>
+fn projected(
+    alloc: Global,
+    t: Tested,
+    rest: &mut Iter<'_, String, Value>,
+) -> Result<IntervalProof<Frac128>, CertFault>
     requires kept { IsKeptEnd t.low × IsKeptEnd t.high }
     ensures ok { let read = projected_members t.column (exact t.crit) (exact_end t.high) (exact_end t.low) in
         IfOk result (λ p. read (members_view rest.old) ≡ Ok (exact_interval p)) }
@@ -162,7 +173,10 @@ fn projected(alloc: Global, t: Tested, rest: &mut Iter<'_, String, Value>) -> Re
 }
 
 #[tactic(auto, unfolding(crate::specs::Certificates::interval_members))]
-fn interval_of(alloc: Global, rest: &mut Iter<'_, String, Value>) -> Result<IntervalProof<Frac128>, CertFault>
+fn interval_of(
+    alloc: Global,
+    rest: &mut Iter<'_, String, Value>,
+) -> Result<IntervalProof<Frac128>, CertFault>
     ensures ok { IfOk result (λ t. interval_members (members_view rest.old) ≡ Ok (exact_interval t)) }
     ensures kept { IfOk result IsKeptInterval }
     ensures err { IfErr result (λ e. e ≢ CertFault.OutOfMemory → interval_members (members_view rest.old) ≡ Err e) }
@@ -197,43 +211,53 @@ impl FromJson for IntervalProof<Frac128> {
 }
 
 #[tactic(auto, unfolding(crate::specs::Trees::end_tree))]
-fn finite_to_json(alloc: Global, end: &End<Frac128>, outside: &List<Frac128>, value: Frac128) -> Result<Value, AllocError>
+fn finite_to_json(
+    alloc: Global,
+    end: &End<Frac128>,
+    outside: &List<Frac128>,
+    value: Frac128,
+) -> Result<Value, AllocError>
     requires bound { end.now.bound ≡ Finite value }
     requires beyond { end.now.beyond ≡ Outside outside.now }
     ensures { IfOk result (λ v. view v ≡ end_tree end.now) }
 {
-    let coef = end.vertex.coef.to_json(alloc)?;
-    let inside = end.inside.to_json(alloc)?;
-    let outside = outside.to_json(alloc)?;
-    let sides = sides_to_json(alloc, end.vertex.sides.as_slice())?;
-    let value = value.to_json(alloc)?;
-    json!(in alloc; {
-        "coef": coef,
-        "inside": inside,
-        "kind": "finite",
-        "outside": outside,
-        "sides": sides,
-        "value": value,
-    })
+    let mut object = Map::new(alloc);
+    put(alloc, &mut object, "coef", &end.vertex.coef)?;
+    put(alloc, &mut object, "inside", &end.inside)?;
+    put(alloc, &mut object, "kind", &Name("finite"))?;
+    put(alloc, &mut object, "outside", outside)?;
+    put(
+        alloc,
+        &mut object,
+        "sides",
+        &Signs(end.vertex.sides.as_slice()),
+    )?;
+    put(alloc, &mut object, "value", &value)?;
+    Ok(Value::Object(object))
 }
 
 #[tactic(auto, unfolding(crate::specs::Trees::end_tree))]
-fn infinite_to_json(alloc: Global, end: &End<Frac128>, ray: &List<Frac128>) -> Result<Value, AllocError>
+fn infinite_to_json(
+    alloc: Global,
+    end: &End<Frac128>,
+    ray: &List<Frac128>,
+) -> Result<Value, AllocError>
     requires bound { end.now.bound ≡ Infinite }
     requires beyond { end.now.beyond ≡ Ray ray.now }
     ensures { IfOk result (λ v. view v ≡ end_tree end.now) }
 {
-    let coef = end.vertex.coef.to_json(alloc)?;
-    let inside = end.inside.to_json(alloc)?;
-    let ray = ray.to_json(alloc)?;
-    let sides = sides_to_json(alloc, end.vertex.sides.as_slice())?;
-    json!(in alloc; {
-        "coef": coef,
-        "inside": inside,
-        "kind": "infinite",
-        "ray": ray,
-        "sides": sides,
-    })
+    let mut object = Map::new(alloc);
+    put(alloc, &mut object, "coef", &end.vertex.coef)?;
+    put(alloc, &mut object, "inside", &end.inside)?;
+    put(alloc, &mut object, "kind", &Name("infinite"))?;
+    put(alloc, &mut object, "ray", ray)?;
+    put(
+        alloc,
+        &mut object,
+        "sides",
+        &Signs(end.vertex.sides.as_slice()),
+    )?;
+    Ok(Value::Object(object))
 }
 
 impl ToJson for End<Frac128> {
@@ -243,7 +267,9 @@ impl ToJson for End<Frac128> {
 
     fn to_json(&self, alloc: Global) -> Result<Value, AllocError> {
         match (self.bound, &self.beyond) {
-            (Bound::Finite(value), Beyond::Outside(outside)) => finite_to_json(alloc, self, outside, value),
+            (Bound::Finite(value), Beyond::Outside(outside)) => finite_to_json(
+                alloc, self, outside, value,
+            ),
             (Bound::Infinite, Beyond::Ray(ray)) => infinite_to_json(alloc, self, ray),
             (Bound::Finite(_), Beyond::Ray(_)) => unreachable!(),
             (Bound::Infinite, Beyond::Outside(_)) => unreachable!(),
@@ -258,12 +284,13 @@ impl ToJson for IntervalProof<Frac128> {
 
     #[tactic(auto, unfolding(crate::specs::Trees::interval_tree))]
     fn to_json(&self, alloc: Global) -> Result<Value, AllocError> {
-        let column = Value::from(self.column);
-        let crit = self.crit.to_json(alloc)?;
-        let high = self.high.to_json(alloc)?;
-        let low = self.low.to_json(alloc)?;
-        let projection = self.projection.to_json(alloc)?;
-        let tau = self.tau.to_json(alloc)?;
-        json!(in alloc; {"column": column, "crit": crit, "high": high, "low": low, "projection": projection, "tau": tau})
+        let mut object = Map::new(alloc);
+        put(alloc, &mut object, "column", &self.column)?;
+        put(alloc, &mut object, "crit", &self.crit)?;
+        put(alloc, &mut object, "high", &self.high)?;
+        put(alloc, &mut object, "low", &self.low)?;
+        put(alloc, &mut object, "projection", &self.projection)?;
+        put(alloc, &mut object, "tau", &self.tau)?;
+        Ok(Value::Object(object))
     }
 }

@@ -1,15 +1,15 @@
 //! Parts of a certificate as JSON values, both ways.
 
-ghost use Rattle.std.specs.Prelude.{◌≡◌, ◌≢◌, Ok, Err, ⊤, All, map, IfOk, IfErr};
-ghost use Rattle.serde_json.specs.Data.{Data};
-ghost use Rattle.serde_json.specs.View.{view, items_view};
+ghost use Rattle.std.specs.Prelude.{◌≡◌, ◌≢◌, Ok, Err, ⊤, All, map, IfOk, IfErr, OnOk};
+ghost use Rattle.serde_json.specs.Data.{Data, string, put as with_member};
+ghost use Rattle.serde_json.specs.View.{view, items_view, members_view};
 ghost use Rattle.cert_text.specs.Reading.{Reading, items_from, list};
 ghost use Rattle.cert_text.specs.Trees.{list_tree};
 
 use crate::fault::CertFault;
 use crate::path::{under_item, wrong_kind};
 use frac_core::List;
-use serde_json::Value;
+use serde_json::{Map, Value};
 use std::alloc::{AllocError, Global};
 
 /// A part that is read from a value: what it says is what the reader of its kind gives, and its fault is
@@ -38,6 +38,32 @@ pub(crate) trait ToJson {
     fn to_json(&self, alloc: Global) -> Result<Value, AllocError>
         requires { IsKept self.now }
         ensures { IfOk result (λ v. view v ≡ tree self.now) };
+}
+
+/// A name that a value has for its kind.
+#[derive(Clone, Copy)]
+pub(crate) struct Name(pub &'static str);
+
+impl ToJson for Name {
+    ghost tree = { λ name. string name.0.now };
+
+    fn to_json(&self, alloc: Global) -> Result<Value, AllocError> {
+        Value::try_from_str(alloc, self.0)
+    }
+}
+
+/// Puts a part under a key.
+pub(crate) fn put<T: ToJson>(
+    alloc: Global,
+    object: &mut Map<String, Value>,
+    key: &str,
+    part: &T,
+) -> Result<(), AllocError>
+    requires { T.IsKept part.now }
+    ensures { OnOk result (members_view object.new.entries ≡ with_member key.now (T.tree part.now) (members_view object.old.entries)) }
+{
+    let value = part.to_json(alloc)?;
+    serde_json::put(object, alloc, key, value)
 }
 
 fn items<T: FromJson>(alloc: Global, values: &[Value]) -> Result<Vec<T>, CertFault>

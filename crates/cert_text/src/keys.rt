@@ -15,7 +15,10 @@ use std::cmp::Ordering;
 use std::collections::btree_map::Iter;
 
 /// The members of a value that must be an object.
-pub(crate) fn members<'a>(alloc: Global, value: &'a Value) -> Result<&'a Map<String, Value>, CertFault>
+pub(crate) fn members<'a>(
+    alloc: Global,
+    value: &'a Value,
+) -> Result<&'a Map<String, Value>, CertFault>
     ensures ok { IfOk result (λ m. or_shape (as_object (view value.now)) ≡ Ok (members_view m.now.entries)) }
     ensures err { IfErr result (λ e. or_shape (as_object (view value.now)) ≡ Err e) }
 {
@@ -27,7 +30,11 @@ pub(crate) fn members<'a>(alloc: Global, value: &'a Value) -> Result<&'a Map<Str
 
 // The value of the next key, which must be this one.
 #[tactic(auto, unfolding(crate::specs::Reading::next))]
-fn next<'a>(alloc: Global, key: &str, rest: &mut Iter<'a, String, Value>) -> Result<&'a Value, CertFault>
+fn next<'a>(
+    alloc: Global,
+    key: &str,
+    rest: &mut Iter<'a, String, Value>,
+) -> Result<&'a Value, CertFault>
     ensures ok { IfOk result (λ v. next key.now (members_view rest.old) ≡ Ok (view v.now, members_view rest.new)) }
     ensures err { IfErr result (λ e. e ≢ OutOfMemory → next key.now (members_view rest.old) ≡ Err e) }
 {
@@ -43,7 +50,11 @@ fn next<'a>(alloc: Global, key: &str, rest: &mut Iter<'a, String, Value>) -> Res
 
 /// The part that the next key has, which must be this one.
 #[tactic(auto, unfolding(crate::specs::Reading::field))]
-pub(crate) fn field<T: FromJson>(alloc: Global, key: &str, rest: &mut Iter<'_, String, Value>) -> Result<T, CertFault>
+pub(crate) fn field<T: FromJson>(
+    alloc: Global,
+    key: &str,
+    rest: &mut Iter<'_, String, Value>,
+) -> Result<T, CertFault>
     ensures ok { IfOk result (λ part. field key.now T.reader (members_view rest.old) ≡ Ok (T.content part, members_view rest.new)) }
     ensures kept { IfOk result (λ part. T.IsKept part) }
     ensures err { IfErr result (λ e. e ≢ OutOfMemory → field key.now T.reader (members_view rest.old) ≡ Err e) }

@@ -45,6 +45,14 @@ impl ToJson for Frac128 {
     }
 }
 
+impl ToJson for u32 {
+    ghost tree = { λ n. number (unsigned n) };
+
+    fn to_json(&self, _alloc: Global) -> Result<Value, AllocError> {
+        Ok(Value::from(*self))
+    }
+}
+
 impl FromJson for u32 {
     ghost Content = { ℕ };
 

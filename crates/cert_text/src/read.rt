@@ -15,7 +15,6 @@ use crate::keys::{closed, field, members};
 use crate::path::{under_key, wrong_kind};
 use frac_core::{Frac128, List};
 use loss_model::{IntervalProof, Problem, Row, Segment};
-
 use serde_json::{Category, Value};
 use std::alloc::Global;
 use std::collections::btree_map::Iter;

@@ -9,11 +9,11 @@ ghost use Rattle.cert_text.specs.Certificates.{row_members, row};
 ghost use Rattle.cert_text.specs.Trees.{row_tree};
 
 use crate::fault::CertFault;
-use crate::json::{FromJson, ToJson};
+use crate::json::{FromJson, ToJson, put};
 use crate::keys::{closed, field, members};
 use frac_core::Frac128;
 use loss_model::Row;
-use serde_json::{Value, json};
+use serde_json::{Map, Value};
 use std::alloc::{AllocError, Global};
 use std::collections::btree_map::Iter;
 
@@ -58,12 +58,13 @@ impl ToJson for Row<Frac128> {
 
     #[tactic(auto, unfolding(crate::specs::Trees::row_tree))]
     fn to_json(&self, alloc: Global) -> Result<Value, AllocError> {
-        let down0 = self.down0.to_json(alloc)?;
-        let down1 = self.down1.to_json(alloc)?;
-        let up0 = self.up0.to_json(alloc)?;
-        let up1 = self.up1.to_json(alloc)?;
-        let x = self.x.to_json(alloc)?;
-        let y = self.y.to_json(alloc)?;
-        json!(in alloc; {"down0": down0, "down1": down1, "up0": up0, "up1": up1, "x": x, "y": y})
+        let mut object = Map::new(alloc);
+        put(alloc, &mut object, "down0", &self.down0)?;
+        put(alloc, &mut object, "down1", &self.down1)?;
+        put(alloc, &mut object, "up0", &self.up0)?;
+        put(alloc, &mut object, "up1", &self.up1)?;
+        put(alloc, &mut object, "x", &self.x)?;
+        put(alloc, &mut object, "y", &self.y)?;
+        Ok(Value::Object(object))
     }
 }

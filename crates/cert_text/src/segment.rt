@@ -10,17 +10,20 @@ ghost use Rattle.cert_text.specs.Certificates.{segment_members, segment};
 ghost use Rattle.cert_text.specs.Trees.{segment_tree};
 
 use crate::fault::CertFault;
-use crate::json::{FromJson, ToJson};
+use crate::json::{FromJson, ToJson, put};
 use crate::keys::{closed, field, members};
-use crate::vertex::{sides_to_json, vertex};
+use crate::vertex::{Signs, vertex};
 use frac_core::Frac128;
 use loss_model::Segment;
-use serde_json::{Value, json};
+use serde_json::{Map, Value};
 use std::alloc::{AllocError, Global};
 use std::collections::btree_map::Iter;
 
 #[tactic(auto, unfolding(crate::specs::Certificates::segment_members))]
-fn segment_of(alloc: Global, rest: &mut Iter<'_, String, Value>) -> Result<Segment<Frac128>, CertFault>
+fn segment_of(
+    alloc: Global,
+    rest: &mut Iter<'_, String, Value>,
+) -> Result<Segment<Frac128>, CertFault>
     ensures ok { IfOk result (λ segment. segment_members (members_view rest.old) ≡ Ok (exact_segment segment)) }
     ensures kept { IfOk result IsKeptSegment }
     ensures err { IfErr result (λ e. e ≢ CertFault.OutOfMemory → segment_members (members_view rest.old) ≡ Err e) }
@@ -66,23 +69,20 @@ impl ToJson for Segment<Frac128> {
 
     #[tactic(auto, unfolding(crate::specs::Trees::segment_tree))]
     fn to_json(&self, alloc: Global) -> Result<Value, AllocError> {
-        let basic_hi = self.basic_hi.to_json(alloc)?;
-        let basic_lo = self.basic_lo.to_json(alloc)?;
-        let coef = self.vertex.coef.to_json(alloc)?;
-        let hi = self.hi.to_json(alloc)?;
-        let lo = self.lo.to_json(alloc)?;
-        let loss_hi = self.loss_hi.to_json(alloc)?;
-        let loss_lo = self.loss_lo.to_json(alloc)?;
-        let sides = sides_to_json(alloc, self.vertex.sides.as_slice())?;
-        json!(in alloc; {
-            "basic_hi": basic_hi,
-            "basic_lo": basic_lo,
-            "coef": coef,
-            "hi": hi,
-            "lo": lo,
-            "loss_hi": loss_hi,
-            "loss_lo": loss_lo,
-            "sides": sides,
-        })
+        let mut object = Map::new(alloc);
+        put(alloc, &mut object, "basic_hi", &self.basic_hi)?;
+        put(alloc, &mut object, "basic_lo", &self.basic_lo)?;
+        put(alloc, &mut object, "coef", &self.vertex.coef)?;
+        put(alloc, &mut object, "hi", &self.hi)?;
+        put(alloc, &mut object, "lo", &self.lo)?;
+        put(alloc, &mut object, "loss_hi", &self.loss_hi)?;
+        put(alloc, &mut object, "loss_lo", &self.loss_lo)?;
+        put(
+            alloc,
+            &mut object,
+            "sides",
+            &Signs(self.vertex.sides.as_slice()),
+        )?;
+        Ok(Value::Object(object))
     }
 }

@@ -8,7 +8,7 @@ ghost use Rattle.cert_text.specs.Certificates.{sides, sides_of, side_of};
 ghost use Rattle.cert_text.specs.Trees.{sign_of, sides_tree};
 
 use crate::fault::CertFault;
-use crate::json::FromJson;
+use crate::json::{FromJson, ToJson};
 use crate::path::wrong_kind;
 use frac_core::{Frac128, List, OutOfMemory};
 use loss_model::{Basis, Side, Vertex};
@@ -74,8 +74,19 @@ impl FromJson for Sides {
     }
 }
 
-/// A string of signs, one for each row.
-pub(crate) fn sides_to_json(alloc: Global, sides: &[Side]) -> Result<Value, AllocError>
+/// The sides of the rows as they are written: a string of signs, one for each row.
+#[derive(Clone, Copy)]
+pub(crate) struct Signs<'a>(pub &'a [Side]);
+
+impl ToJson for Signs<'_> {
+    ghost tree = { λ s. sides_tree s.0.now };
+
+    fn to_json(&self, alloc: Global) -> Result<Value, AllocError> {
+        sides_to_json(alloc, self.0)
+    }
+}
+
+fn sides_to_json(alloc: Global, sides: &[Side]) -> Result<Value, AllocError>
     ensures { IfOk result (λ v. view v ≡ sides_tree sides.now) }
 {
     let mut signs = String::with_capacity(alloc, sides.len())?;
@@ -102,7 +113,11 @@ fn basic_rows(alloc: Global, sides: &[Side]) -> Result<List<u32>, OutOfMemory>
 }
 
 /// The vertex with these sides, whose basis lists the rows that are basic.
-pub(crate) fn vertex(alloc: Global, sides: Sides, coef: List<Frac128>) -> Result<Vertex<Frac128>, OutOfMemory>
+pub(crate) fn vertex(
+    alloc: Global,
+    sides: Sides,
+    coef: List<Frac128>,
+) -> Result<Vertex<Frac128>, OutOfMemory>
     ensures { IfOk result (λ v. v ≡ record { basis = record { rows = basic_rows sides.0 }; sides = sides.0; coef = coef }) }
 {
     let rows = basic_rows(alloc, sides.0.as_slice())?;

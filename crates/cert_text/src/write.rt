@@ -12,32 +12,27 @@ ghost use Rattle.cert_text.specs.Limits.{IsWithinLimits};
 ghost use Rattle.cert_text.specs.Trees.{cert_tree, cert_text};
 
 use crate::cert::Cert;
-use crate::json::ToJson;
+use crate::json::{Name, put};
 use frac_core::OutOfMemory;
-use serde_json::{Value, json};
+use serde_json::{Map, Value};
 use std::alloc::{AllocError, Global};
+
+const VERSION: u32 = 1;
 
 #[tactic(auto, unfolding(crate::specs::Trees::cert_tree))]
 fn to_json(alloc: Global, cert: &Cert) -> Result<Value, AllocError>
     ensures { IfOk result (λ v. view v ≡ cert_tree cert.now) }
 {
-    let columns = Value::from(cert.problem.columns);
-    let hi = cert.hi.to_json(alloc)?;
-    let intervals = cert.intervals.to_json(alloc)?;
-    let lo = cert.lo.to_json(alloc)?;
-    let rows = cert.problem.rows.to_json(alloc)?;
-    let segments = cert.segments.to_json(alloc)?;
-    let version = Value::from(1u32);
-    json!(in alloc; {
-        "columns": columns,
-        "hi": hi,
-        "intervals": intervals,
-        "kind": "quantreg-certificate",
-        "lo": lo,
-        "rows": rows,
-        "segments": segments,
-        "version": version,
-    })
+    let mut object = Map::new(alloc);
+    put(alloc, &mut object, "columns", &cert.problem.columns)?;
+    put(alloc, &mut object, "hi", &cert.hi)?;
+    put(alloc, &mut object, "intervals", &cert.intervals)?;
+    put(alloc, &mut object, "kind", &Name("quantreg-certificate"))?;
+    put(alloc, &mut object, "lo", &cert.lo)?;
+    put(alloc, &mut object, "rows", &cert.problem.rows)?;
+    put(alloc, &mut object, "segments", &cert.segments)?;
+    put(alloc, &mut object, "version", &VERSION)?;
+    Ok(Value::Object(object))
 }
 
 // A value without a float as compact text, and a line feed.

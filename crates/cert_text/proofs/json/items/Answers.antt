@@ -6,10 +6,11 @@ use Rattle.cert_text.proofs.json.items.Goals as goal
 pub loop-i-preserved : goal.loop-i-preserved
 loop-i-preserved g c =
     let part = g.T.FromJson in
-    let old = c.loop-i.found.items in
-    (value_read part.content part.reader c.args.values.now c.loop-i.i _ old _ c.in-Ok.part
-        c.loop-i-test.true c.index-values-i.is c.loop-i.invariant.0 c.in-Ok.ensures.ok c.in_ok-push-in-Ok.ensures.items,
-     subst (λ l. All part.IsKept l) (sym c.in_ok-push-in-Ok.ensures.items) (All-push part.IsKept old c.in-Ok.part c.loop-i.invariant.1 c.in-Ok.ensures.kept))
+    let old = c.loop-i.found.items in (
+      value_read part.content part.reader c.args.values.now c.loop-i.i _ old _ c.in-Ok.part
+          c.loop-i-test.true c.index-values-i.is c.loop-i.invariant.0 c.in-Ok.ensures.ok c.in_ok-push-in-Ok.ensures.items,
+      subst (λ l. All part.IsKept l) (sym c.in_ok-push-in-Ok.ensures.items) (All-push part.IsKept old c.in-Ok.part c.loop-i.invariant.1 c.in-Ok.ensures.kept),
+    )
 
 pub returns-in-Err-clause-err : goal.returns-in-Err-clause-err
 returns-in-Err-clause-err g c = λ other.
