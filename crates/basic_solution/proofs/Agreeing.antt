@@ -3,7 +3,7 @@ use Rattle.std.specs.Prelude.{◌≡◌, ℕ, zero, suc, ◌+◌, ◌<◌, if◌
 use Rattle.std.proofs.Common.{arith, refl, sym, ap, ap₂, subst, ◌∙◌}
 use Rattle.exact_algebra.specs.Fraction.{Fraction}
 use Rattle.exact_algebra.specs.Rational.{ℚ, ◌-ℚ◌, ◌*ℚ◌, neg_ℚ}
-use Rattle.exact_algebra.specs.RationalSums.{sum_ℚ-same}
+use Rattle.exact_algebra.proofs.RationalSumLaws.{sum_ℚ-same}
 use Rattle.loss_model.specs.declared.spill.Quantity.TheVariants.{Residual, NonbasicTotal, BasicDual}
 use Rattle.loss_model.specs.declared.spill.Spill.{Spill}
 use Rattle.loss_model.specs.declared.spill.Short.{Short}
@@ -16,7 +16,7 @@ use Rattle.loss_model.proofs.Products.{same_term}
 use Rattle.basis_model.specs.declared.part.Part.{Part}
 use Rattle.basis_model.specs.Parts.{part_number}
 use Rattle.basis_model.specs.Basis.{bound_part, nonbasic_total, balancing}
-use Rattle.basis_model.specs.Sums.{partial_sum-same, spill-same}
+use Rattle.basis_model.proofs.Sums.{partial_sum-same, spill-same}
 use Rattle.basis_model.specs.BasisSpills.{is_basic, total_products, outside_before, balancing_products, IsTotalSpill, IsBalancingSpill}
 
 -- residuals under equal coefficients

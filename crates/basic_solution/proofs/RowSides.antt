@@ -7,12 +7,13 @@ use Rattle.std.proofs.Common.{arith, refl, sym, ap, ap₂, ◌∙◌, below_more
 use Rattle.basic_solution.specs.Bases.{side_in}
 use borrow.Author.Tests.{eqb-true, eqb-false, eq-eqb, ne_eqb}
 use Rattle.exact_algebra.specs.Rational.{whole}
-use Rattle.exact_algebra.specs.Order.{cmp_ℚ, cmp_ℚ-Equal}
+use Rattle.exact_algebra.specs.Order.{cmp_ℚ}
+use Rattle.exact_algebra.proofs.OrderLaws.{cmp_ℚ-Equal}
 use Rattle.exact_matrices.specs.Selections.{is_among}
 use Rattle.loss_model.specs.declared.vertex.Side.{Side}
 use Rattle.loss_model.specs.declared.vertex.Side.TheVariants.{Up, Down}
 use Rattle.basis_model.specs.Perturbed.{Nonbasic, side_of, perturbed_side}
-use Rattle.basis_model.specs.Signs.{side-residual}
+use Rattle.basis_model.proofs.Signs.{side-residual}
 
 -- ---- membership
 

@@ -3,7 +3,8 @@ use Rattle.std.specs.Prelude.{◌≡◌, ℕ, zero, suc, ◌+◌, ◌<◌, ◌�
 use Rattle.std.proofs.Common.{arith, refl, sym, ap, subst, ◌∙◌, add-one}
 use Rattle.exact_algebra.specs.Fraction.{Fraction}
 use Rattle.exact_algebra.specs.Solver.{number, ◌⊞◌, ◌⊠◌, v0, v1}
-use Rattle.exact_algebra.specs.Rational.{ℚ, whole, ring_ℚ}
+use Rattle.exact_algebra.specs.Rational.{ℚ, whole}
+use Rattle.exact_algebra.proofs.RationalLaws.{ring_ℚ}
 use Rattle.loss_model.specs.declared.spill.Quantity.TheVariants.{NonbasicTotal}
 use Rattle.loss_model.specs.declared.spill.Spill.{Spill}
 use Rattle.loss_model.specs.declared.vertex.Side.{Side}
@@ -15,7 +16,7 @@ use Rattle.basis_model.specs.declared.part.Part.{Part}
 use Rattle.basis_model.specs.declared.part.Part.TheVariants.{Constant, Linear}
 use Rattle.basis_model.specs.Parts.{part_number}
 use Rattle.basis_model.specs.Basis.{bound_part}
-use Rattle.basis_model.specs.Sums.{partial_sum-more}
+use Rattle.basis_model.proofs.Sums.{partial_sum-more}
 use Rattle.basis_model.specs.BasisSpills.{is_basic, total_products, outside_before, IsTotalSpill}
 
 pub outside_before-le : (side : ℕ → Side) (i : ℕ) → outside_before side i ≤ i

@@ -4,10 +4,12 @@ use Rattle.std.specs.declared.cmp.Ordering.TheVariants.{Less, Equal}
 use Rattle.std.specs.Ordering.{ordering_reverse}
 use Rattle.std.proofs.Common.{arith, refl, sym, ap, ◌∙◌}
 use Rattle.exact_algebra.specs.Rational.{ℚ, whole}
-use Rattle.exact_algebra.specs.Inverses.{one-zero}
-use Rattle.basis_model.specs.Lexicographic.{lex_cmp, lex_cmp_swap, same_from-lex_cmp, less-total}
-use Rattle.basis_model.specs.Perturbed.{Nonbasic, IsOutside, perturbed, zeros, perturbed_side, ratio, perturbed-own}
-use Rattle.basis_model.specs.Ratios.{ratio-own, ratio-none}
+use Rattle.exact_algebra.proofs.Inverses.{one-zero}
+use Rattle.basis_model.specs.Lexicographic.{lex_cmp}
+use Rattle.basis_model.proofs.LexicographicLaws.{lex_cmp_swap, same_from-lex_cmp, less-total}
+use Rattle.basis_model.specs.Perturbed.{Nonbasic, IsOutside, perturbed, zeros, perturbed_side, ratio}
+use Rattle.basis_model.proofs.PerturbedLaws.{perturbed-own}
+use Rattle.basis_model.proofs.Ratios.{ratio-own, ratio-none}
 
 pub one_way : (n : ℕ) (u v : ℕ → ℚ) → lex_cmp n u v ≡ Less → lex_cmp n v u ≢ Less
 one_way n u v h k = absurd (cc (sym k ∙ lex_cmp_swap n u v ∙ ap ordering_reverse h))

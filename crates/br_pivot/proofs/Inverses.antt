@@ -7,11 +7,14 @@ use Rattle.std.proofs.lemmas.List.{map-set}
 use Rattle.std.proofs.lemmas.Option.{slice_get_past, slice_get-get_or, slice_get-map}
 use Rattle.exact_algebra.specs.Fraction.{Fraction, rational}
 use Rattle.exact_algebra.specs.Solver.{number, ◌⊠◌, v0}
-use Rattle.exact_algebra.specs.Rational.{ℚ, ◌*ℚ◌, whole, ring_ℚ}
-use Rattle.exact_algebra.specs.RationalSums.{sum_ℚ, sum_ℚ-same, sum_ℚ-zero}
-use Rattle.exact_algebra.specs.Inverses.{one-zero}
-use Rattle.exact_matrices.specs.Terms.{if-same, if-other}
-use Rattle.exact_matrices.specs.Matrices.{AreInverse, AreInverse-same, coordinate}
+use Rattle.exact_algebra.specs.Rational.{ℚ, ◌*ℚ◌, whole}
+use Rattle.exact_algebra.proofs.RationalLaws.{ring_ℚ}
+use Rattle.exact_algebra.specs.RationalSums.{sum_ℚ}
+use Rattle.exact_algebra.proofs.RationalSumLaws.{sum_ℚ-same, sum_ℚ-zero}
+use Rattle.exact_algebra.proofs.Inverses.{one-zero}
+use Rattle.exact_matrices.proofs.TermLaws.{if-same, if-other}
+use Rattle.exact_matrices.specs.Matrices.{AreInverse, coordinate}
+use Rattle.exact_matrices.proofs.MatrixLaws.{AreInverse-same}
 use Rattle.loss_model.specs.declared.problem.Row.{Row}
 use Rattle.loss_model.specs.declared.problem.Problem.{Problem}
 use Rattle.loss_model.specs.Problem.{value_at, sample}

@@ -18,7 +18,7 @@ use Rattle.loss_model.specs.Sample.{Sample}
 use Rattle.loss_model.specs.Problem.{value_at}
 use Rattle.loss_model.specs.Spill.{abs_ℚ, site_of}
 use Rattle.basis_model.specs.Perturbed.{turned, perturbed_side}
-use Rattle.basis_model.specs.Ratios.{abs_nonzero}
+use Rattle.basis_model.proofs.Ratios.{abs_nonzero}
 use Rattle.basis_model.specs.Basis.{coord, outside_row, side_at}
 use Rattle.basic_solution.specs.Bases.{side_in}
 use Rattle.pivot_rule.specs.declared.direction.Direction.{Direction}

@@ -6,8 +6,10 @@ use Rattle.std.specs.declared.cmp.Ordering.TheVariants.{Less, Equal, Greater}
 use Rattle.std.proofs.Common.{arith, refl, sym, ap, subst, ◌∙◌, inl, inr}
 use borrow.Author.Tests.{eqb-true, eqb-false}
 use Rattle.exact_algebra.specs.Fraction.{Fraction, rational}
-use Rattle.exact_algebra.specs.Rational.{ℚ, whole, ◌≤ℚ◌, ≤ℚ_refl, ≤ℚ_trans}
-use Rattle.exact_algebra.specs.Order.{cmp_ℚ, sign_ℚ, cmp_ℚ-Less, cmp_ℚ-not_Less, sign_ℚ-below, sign_ℚ-not_below, le_from_not}
+use Rattle.exact_algebra.specs.Rational.{ℚ, whole, ◌≤ℚ◌}
+use Rattle.exact_algebra.proofs.RationalLaws.{≤ℚ_refl, ≤ℚ_trans}
+use Rattle.exact_algebra.specs.Order.{cmp_ℚ, sign_ℚ}
+use Rattle.exact_algebra.proofs.OrderLaws.{cmp_ℚ-Less, cmp_ℚ-not_Less, sign_ℚ-below, sign_ℚ-not_below, le_from_not}
 use Rattle.loss_model.specs.Sample.{Sample}
 use Rattle.pivot_rule.specs.declared.direction.Direction.{Direction}
 use Rattle.pivot_rule.specs.declared.direction.Direction.TheVariants.{Upward, Downward}

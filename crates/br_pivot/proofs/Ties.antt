@@ -9,15 +9,18 @@ use Rattle.std.proofs.lemmas.Bool.{cases_lt}
 use Rattle.std.proofs.lemmas.Option.{slice_get_past}
 use Rattle.exact_algebra.specs.Fraction.{Fraction, rational}
 use Rattle.exact_algebra.specs.Solver.{number, ◌⊠◌, v0}
-use Rattle.exact_algebra.specs.Rational.{◌*ℚ◌, whole, ring_ℚ}
-use Rattle.exact_algebra.specs.RationalSums.{sum_ℚ-same, sum_ℚ-zero}
-use Rattle.exact_algebra.specs.Order.{cmp_ℚ, cmp_ℚ-Equal}
+use Rattle.exact_algebra.specs.Rational.{◌*ℚ◌, whole}
+use Rattle.exact_algebra.proofs.RationalLaws.{ring_ℚ}
+use Rattle.exact_algebra.proofs.RationalSumLaws.{sum_ℚ-same, sum_ℚ-zero}
+use Rattle.exact_algebra.specs.Order.{cmp_ℚ}
+use Rattle.exact_algebra.proofs.OrderLaws.{cmp_ℚ-Equal}
 use Rattle.loss_model.specs.declared.spill.Spill.{Spill}
 use Rattle.loss_model.specs.declared.spill.Short.{Short}
 use Rattle.loss_model.specs.Quantities.{IsShortOf, IsCoordinatesSpill}
 use Rattle.loss_model.specs.Problem.{value_at}
 use Rattle.loss_model.specs.Sample.{residual}
-use Rattle.basis_model.specs.Lexicographic.{lex_cmp, lex_cmp-first}
+use Rattle.basis_model.specs.Lexicographic.{lex_cmp}
+use Rattle.basis_model.proofs.LexicographicLaws.{lex_cmp-first}
 use Rattle.basis_model.specs.Perturbed.{Nonbasic, IsOutside, ratio}
 use Rattle.basis_model.specs.RatioSpill.{IsRatioSpill}
 use Rattle.lex_rule.specs.declared.less.Ratio.{Ratio}

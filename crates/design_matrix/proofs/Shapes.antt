@@ -7,9 +7,10 @@ use Rattle.std.proofs.lemmas.Bool.{ltb-false}
 use Rattle.std.proofs.lemmas.Int.{ints}
 use Rattle.std.proofs.lemmas.List.{get_or-map, length-map}
 use Rattle.std.proofs.lemmas.List.Elements.{All-cons, All-nil}
-use Rattle.exact_algebra.specs.Order.{cmp_ℚ, cmp_ℚ-Less}
+use Rattle.exact_algebra.specs.Order.{cmp_ℚ}
+use Rattle.exact_algebra.proofs.OrderLaws.{cmp_ℚ-Less}
 use Rattle.exact_algebra.specs.Rational.{whole}
-use Rattle.exact_algebra.specs.WholeNumbers.{le_from_whole}
+use Rattle.exact_algebra.proofs.WholeNumbers.{le_from_whole}
 use Rattle.contrasts.specs.declared.Coding.{Coding}
 use Rattle.data_frame.specs.Views.{exact}
 use Rattle.formula_parser.specs.declared.formula.Formula.{Formula}

@@ -7,13 +7,16 @@ use Rattle.std.proofs.Common.{arith, refl, sym, ap, ap₂, subst, ◌∙◌, inl
 use Rattle.std.proofs.lemmas.Bool.{cases_lt}
 use Rattle.exact_algebra.specs.Fraction.{Fraction, rational}
 use Rattle.exact_algebra.specs.Rational.{ℚ, ◌*ℚ◌, neg_ℚ, inverse, whole}
-use Rattle.exact_algebra.specs.Order.{cmp_ℚ, cmp_ℚ-Equal, cmp_ℚ_swap}
+use Rattle.exact_algebra.specs.Order.{cmp_ℚ}
+use Rattle.exact_algebra.proofs.OrderLaws.{cmp_ℚ-Equal, cmp_ℚ_swap}
 use Rattle.loss_model.specs.declared.vertex.Side.{Side}
 use Rattle.loss_model.specs.declared.vertex.Side.TheVariants.{Up, Down}
 use Rattle.loss_model.specs.declared.spill.Spill.{Spill}
-use Rattle.basis_model.specs.Lexicographic.{lex_cmp, lex_cmp-first, lex_cmp-longer, same_from-lex_cmp}
-use Rattle.basis_model.specs.Perturbed.{Nonbasic, IsOutside, perturbed, turned, side_of, ratio_on, perturbed-other, held_coordinate-at}
-use Rattle.basis_model.specs.Ratios.{ratio-none, ratio-own, own-up, own-down}
+use Rattle.basis_model.specs.Lexicographic.{lex_cmp}
+use Rattle.basis_model.proofs.LexicographicLaws.{lex_cmp-first, lex_cmp-longer, same_from-lex_cmp}
+use Rattle.basis_model.specs.Perturbed.{Nonbasic, IsOutside, perturbed, turned, side_of, ratio_on}
+use Rattle.basis_model.proofs.PerturbedLaws.{perturbed-other, held_coordinate-at}
+use Rattle.basis_model.proofs.Ratios.{ratio-none, ratio-own, own-up, own-down}
 use Rattle.basis_model.specs.RatioSpill.{ratio_site, IsRatioEntrySpill, IsSpillOn}
 use Rattle.lex_rule.specs.declared.quotient.Divisor.{Divisor}
 use Rattle.lex_rule.specs.Divisor.{entry_over, IsDivisorSpill}

@@ -5,7 +5,8 @@ use Rattle.std.proofs.Common.{refl, sym, ap, get_or}
 use Rattle.std.proofs.lemmas.Option.{slice_get_read}
 use Rattle.exact_algebra.specs.Fraction.{Fraction, rational}
 use Rattle.exact_algebra.specs.Rational.{ℚ, neg_ℚ, whole}
-use Rattle.exact_algebra.specs.Order.{sign_ℚ, sign_ℚ-not_below}
+use Rattle.exact_algebra.specs.Order.{sign_ℚ}
+use Rattle.exact_algebra.proofs.OrderLaws.{sign_ℚ-not_below}
 use Rattle.loss_model.specs.Problem.{value_at}
 use Rattle.loss_model.specs.Spill.{abs_ℚ}
 

@@ -3,8 +3,10 @@
 use Rattle.std.specs.Prelude.{◌≡◌, ℕ, Bool, [], ◌∷◌, pos}
 use Rattle.std.proofs.Common.{refl, sym, ap, ap₂, ◌∙◌}
 use Rattle.exact_algebra.specs.Solver.{number, negated, ◌⊞◌, ◌⊠◌, v0, v1, v2, v3}
-use Rattle.exact_algebra.specs.Rational.{ℚ, ◌+ℚ◌, ◌*ℚ◌, neg_ℚ, whole, ring_ℚ}
-use Rattle.exact_algebra.specs.RationalSums.{sum_ℚ, sum_ℚ-same, sum_ℚ-scale, sum_ℚ-swap, sum_ℚ-mix}
+use Rattle.exact_algebra.specs.Rational.{ℚ, ◌+ℚ◌, ◌*ℚ◌, neg_ℚ, whole}
+use Rattle.exact_algebra.proofs.RationalLaws.{ring_ℚ}
+use Rattle.exact_algebra.specs.RationalSums.{sum_ℚ}
+use Rattle.exact_algebra.proofs.RationalSumLaws.{sum_ℚ-same, sum_ℚ-scale, sum_ℚ-swap, sum_ℚ-mix}
 use Rattle.exact_matrices.specs.Selections.{is_among}
 use Rattle.loss_model.specs.declared.vertex.Side.{Side}
 use Rattle.loss_model.specs.declared.vertex.Side.TheVariants.{Up, Down, Basic}

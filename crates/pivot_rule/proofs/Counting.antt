@@ -3,10 +3,12 @@ use Rattle.std.specs.Prelude.{◌≡◌, ℕ, zero, suc, ◌<◌, ◌≤◌, Boo
 use Rattle.std.proofs.Common.{arith, refl, sym, ap, ap₂, ◌∙◌}
 use Rattle.std.proofs.lemmas.Int.{ints}
 use Rattle.exact_algebra.specs.Solver.{number, ◌⊞◌, v0}
-use Rattle.exact_algebra.specs.Rational.{◌+ℚ◌, whole, whole-add, ring_ℚ}
+use Rattle.exact_algebra.specs.Rational.{◌+ℚ◌, whole}
+use Rattle.exact_algebra.proofs.RationalLaws.{whole-add, ring_ℚ}
 use Rattle.exact_algebra.specs.RationalSums.{sum_ℚ}
-use Rattle.exact_algebra.specs.WholeNumbers.{same_from_whole}
-use Rattle.exact_matrices.specs.Selections.{is_among, AreDistinct, sum_ℚ-among}
+use Rattle.exact_algebra.proofs.WholeNumbers.{same_from_whole}
+use Rattle.exact_matrices.specs.Selections.{is_among, AreDistinct}
+use Rattle.exact_matrices.proofs.SelectionLaws.{sum_ℚ-among}
 use Rattle.pivot_rule.specs.Spills.{count}
 
 next_whole : (n : ℕ) → whole (pos (suc n)) ≡ whole (pos n) +ℚ whole (pos 1)

@@ -3,13 +3,18 @@ use Rattle.std.specs.Prelude.{◌≡◌, ◌≢◌, ℕ, zero, suc, ◌<◌, Boo
 use Rattle.std.proofs.Common.{arith, refl, sym, ap, ◌∙◌}
 use borrow.Author.Tests.{eqb-true, eqb-false}
 use Rattle.exact_algebra.specs.Solver.{var, number, negated, ◌⊞◌, ◌⊟◌, ◌⊠◌, v0, v1, v2, v3, v4, v5}
-use Rattle.exact_algebra.specs.Rational.{ℚ, ◌+ℚ◌, ◌-ℚ◌, ◌*ℚ◌, neg_ℚ, inverse, whole, ring_ℚ, ring_by_ℚ, *ℚ-inverse}
-use Rattle.exact_algebra.specs.RationalSums.{sum_ℚ, sum_ℚ-same, sum_ℚ-zero, sum_ℚ-scale, sum_ℚ-swap, sum_ℚ-mix}
-use Rattle.exact_matrices.specs.Terms.{delta, if-same, if-other, sum_ℚ-replaced}
+use Rattle.exact_algebra.specs.Rational.{ℚ, ◌+ℚ◌, ◌-ℚ◌, ◌*ℚ◌, neg_ℚ, inverse, whole}
+use Rattle.exact_algebra.proofs.RationalLaws.{ring_ℚ, ring_by_ℚ, *ℚ-inverse}
+use Rattle.exact_algebra.specs.RationalSums.{sum_ℚ}
+use Rattle.exact_algebra.proofs.RationalSumLaws.{sum_ℚ-same, sum_ℚ-zero, sum_ℚ-scale, sum_ℚ-swap, sum_ℚ-mix}
+use Rattle.exact_matrices.specs.Terms.{delta}
+use Rattle.exact_matrices.proofs.TermLaws.{if-same, if-other, sum_ℚ-replaced}
 use Rattle.exact_matrices.specs.Matrices.{coordinate}
-use Rattle.exact_matrices.specs.Exchange.{exchanged, coordinate-exchanged}
+use Rattle.exact_matrices.specs.Exchange.{exchanged}
+use Rattle.exact_matrices.proofs.ExchangeLaws.{coordinate-exchanged}
 use Rattle.loss_model.specs.Sample.{Sample}
-use Rattle.basis_model.specs.Perturbed.{IsOutside, perturbed, held_coordinate, perturbed-own, perturbed-other, held_coordinate-none}
+use Rattle.basis_model.specs.Perturbed.{IsOutside, perturbed, held_coordinate}
+use Rattle.basis_model.proofs.PerturbedLaws.{perturbed-own, perturbed-other, held_coordinate-none}
 use Rattle.basis_model.specs.Basis.{coord, outside_row}
 use Rattle.pivot_rule.specs.Responses.{residual_for, response, exchanged_rows}
 

@@ -6,18 +6,22 @@ use Rattle.std.specs.declared.cmp.Ordering.TheVariants.{Less, Equal, Greater}
 use Rattle.std.proofs.Common.{refl, sym, ap, ap₂, subst, ◌∙◌, inl, inr}
 use borrow.Author.Tests.{eqb-true, eqb-false}
 use Rattle.exact_algebra.specs.Solver.{number, negated, ◌⊞◌, ◌⊟◌, v0, v1, v2}
-use Rattle.exact_algebra.specs.Rational.{ℚ, ◌+ℚ◌, ◌-ℚ◌, neg_ℚ, whole, ◌≤ℚ◌, ring_ℚ, ≤ℚ_refl, ≤ℚ_add}
-use Rattle.exact_algebra.specs.RationalSums.{sum_ℚ, sum_ℚ-same, sum_ℚ-le}
-use Rattle.exact_algebra.specs.Order.{cmp_ℚ-Equal}
-use Rattle.exact_matrices.specs.Terms.{if-same, if-other, sum_ℚ-replaced}
-use Rattle.exact_matrices.specs.Selections.{is_among, AreDistinct, among, sum_ℚ-among}
+use Rattle.exact_algebra.specs.Rational.{ℚ, ◌+ℚ◌, ◌-ℚ◌, neg_ℚ, whole, ◌≤ℚ◌}
+use Rattle.exact_algebra.proofs.RationalLaws.{ring_ℚ, ≤ℚ_refl, ≤ℚ_add}
+use Rattle.exact_algebra.specs.RationalSums.{sum_ℚ}
+use Rattle.exact_algebra.proofs.RationalSumLaws.{sum_ℚ-same, sum_ℚ-le}
+use Rattle.exact_algebra.proofs.OrderLaws.{cmp_ℚ-Equal}
+use Rattle.exact_matrices.proofs.TermLaws.{if-same, if-other, sum_ℚ-replaced}
+use Rattle.exact_matrices.specs.Selections.{is_among, AreDistinct, among}
+use Rattle.exact_matrices.proofs.SelectionLaws.{sum_ℚ-among}
 use Rattle.loss_model.specs.declared.vertex.Side.{Side}
 use Rattle.loss_model.specs.declared.vertex.Side.TheVariants.{Up, Down, Basic}
 use Rattle.loss_model.specs.Sample.{Sample, up_cost, down_cost}
 use Rattle.loss_model.specs.Spill.{abs_ℚ}
-use Rattle.basis_model.specs.Lexicographic.{lex_cmp, lex_cmp-Equal, less-trans}
+use Rattle.basis_model.specs.Lexicographic.{lex_cmp}
+use Rattle.basis_model.proofs.LexicographicLaws.{lex_cmp-Equal, less-trans}
 use Rattle.basis_model.specs.Perturbed.{IsOutside, ratio}
-use Rattle.basis_model.specs.Ratios.{abs_not_negative}
+use Rattle.basis_model.proofs.Ratios.{abs_not_negative}
 use Rattle.basis_model.proofs.Ordered.{ordered}
 use Rattle.pivot_rule.specs.declared.direction.Direction.{Direction}
 use Rattle.pivot_rule.specs.declared.direction.Direction.TheVariants.{Upward, Downward}

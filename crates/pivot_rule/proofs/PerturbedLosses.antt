@@ -2,13 +2,16 @@
 use Rattle.std.specs.Prelude.{◌≡◌, ℕ, suc, ◌<◌, Bool, true, false, cond, [], ◌∷◌, pos}
 use Rattle.std.proofs.Common.{refl, sym, ap, subst, ◌∙◌}
 use Rattle.exact_algebra.specs.Solver.{number, negated, ◌⊞◌, ◌⊠◌, v0, v1, v2, v3, v4}
-use Rattle.exact_algebra.specs.Rational.{ℚ, ◌+ℚ◌, ◌*ℚ◌, neg_ℚ, whole, le_ℚ, ◌≤ℚ◌, ring_ℚ, ≤ℚ_refl, ≤ℚ_antisym}
-use Rattle.exact_algebra.specs.RationalSums.{sum_ℚ, sum_ℚ-same, sum_ℚ-add, sum_ℚ-scale, positive_ℚ, negative_ℚ}
+use Rattle.exact_algebra.specs.Rational.{ℚ, ◌+ℚ◌, ◌*ℚ◌, neg_ℚ, whole, le_ℚ, ◌≤ℚ◌}
+use Rattle.exact_algebra.proofs.RationalLaws.{ring_ℚ, ≤ℚ_refl, ≤ℚ_antisym}
+use Rattle.exact_algebra.specs.RationalSums.{sum_ℚ, positive_ℚ, negative_ℚ}
+use Rattle.exact_algebra.proofs.RationalSumLaws.{sum_ℚ-same, sum_ℚ-add, sum_ℚ-scale}
 use Rattle.loss_model.specs.declared.vertex.Side.{Side}
 use Rattle.loss_model.specs.declared.vertex.Side.TheVariants.{Up, Down, Basic}
 use Rattle.loss_model.specs.Sample.{Sample, up_cost, down_cost, residual, row_loss, loss}
 use Rattle.loss_model.specs.Vertex.{IsOn}
-use Rattle.basis_model.specs.Perturbed.{turned, held_coordinate-at}
+use Rattle.basis_model.specs.Perturbed.{turned}
+use Rattle.basis_model.proofs.PerturbedLaws.{held_coordinate-at}
 use Rattle.basis_model.specs.Basis.{IsBasis, coefficient, side_at}
 use Rattle.basis_model.specs.PerturbedLoss.{by_side, perturbed_size, perturbed_loss, change_list, perturbed_coefficient}
 use Rattle.pivot_rule.proofs.Sides.{on_side}

@@ -4,16 +4,21 @@ use Rattle.std.specs.declared.cmp.Ordering.{Ordering}
 use Rattle.std.specs.declared.cmp.Ordering.TheVariants.{Less, Equal, Greater}
 use Rattle.std.proofs.Common.{arith, refl, sym, ap, subst, ◌∙◌, inl, inr}
 use Rattle.exact_algebra.specs.Solver.{number, ◌⊟◌, ◌⊠◌, v0, v1, v2}
-use Rattle.exact_algebra.specs.Rational.{ℚ, ◌-ℚ◌, ◌*ℚ◌, whole, ◌≤ℚ◌, ring_ℚ, ≤ℚ_refl}
-use Rattle.exact_algebra.specs.RationalSums.{sum_ℚ, sum_ℚ-same, sum_ℚ-scale, sum_ℚ-swap}
-use Rattle.exact_algebra.specs.Inverses.{zero_or_not}
-use Rattle.exact_algebra.specs.Order.{cmp_ℚ-Greater, cmp_ℚ-not_Greater, le_from_not}
-use Rattle.exact_matrices.specs.Terms.{delta, sum_ℚ-delta, delta-turned}
+use Rattle.exact_algebra.specs.Rational.{ℚ, ◌-ℚ◌, ◌*ℚ◌, whole, ◌≤ℚ◌}
+use Rattle.exact_algebra.proofs.RationalLaws.{ring_ℚ, ≤ℚ_refl}
+use Rattle.exact_algebra.specs.RationalSums.{sum_ℚ}
+use Rattle.exact_algebra.proofs.RationalSumLaws.{sum_ℚ-same, sum_ℚ-scale, sum_ℚ-swap}
+use Rattle.exact_algebra.proofs.Inverses.{zero_or_not}
+use Rattle.exact_algebra.proofs.OrderLaws.{cmp_ℚ-Greater, cmp_ℚ-not_Greater, le_from_not}
+use Rattle.exact_matrices.specs.Terms.{delta}
+use Rattle.exact_matrices.proofs.TermLaws.{sum_ℚ-delta, delta-turned}
 use Rattle.loss_model.specs.declared.vertex.Side.TheVariants.{Basic}
 use Rattle.loss_model.specs.Sample.{Sample, residual}
 use Rattle.loss_model.specs.Vertex.{value_of_side, IsOn}
-use Rattle.basis_model.specs.Lexicographic.{lex_cmp, lex_cmp-first}
-use Rattle.basis_model.specs.Perturbed.{perturbed, zeros, side_of, held_coordinate, held_coordinate-at}
+use Rattle.basis_model.specs.Lexicographic.{lex_cmp}
+use Rattle.basis_model.proofs.LexicographicLaws.{lex_cmp-first}
+use Rattle.basis_model.specs.Perturbed.{perturbed, zeros, side_of, held_coordinate}
+use Rattle.basis_model.proofs.PerturbedLaws.{held_coordinate-at}
 use Rattle.basis_model.specs.Basis.{IsBasis, coefficient, outside_row, side_at, dual_value}
 use Rattle.pivot_rule.specs.Duals.{dual}
 use Rattle.pivot_rule.proofs.Bounds.{is_basic}

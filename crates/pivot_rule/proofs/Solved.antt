@@ -7,8 +7,9 @@ use Rattle.std.proofs.Common.{refl, sym, ap, subst, ◌∙◌}
 use Rattle.std.proofs.lemmas.Option.{slice_get-get_or}
 use Rattle.exact_algebra.specs.Fraction.{Fraction}
 use Rattle.exact_algebra.specs.Rational.{ℚ, ◌+ℚ◌, ◌-ℚ◌, ◌*ℚ◌, neg_ℚ, whole, ◌≤ℚ◌}
-use Rattle.exact_algebra.specs.RationalSums.{sum_ℚ-same, positive_ℚ, negative_ℚ}
-use Rattle.exact_matrices.specs.Matrices.{kernel-zero}
+use Rattle.exact_algebra.proofs.RationalSumLaws.{sum_ℚ-same}
+use Rattle.exact_algebra.specs.RationalSums.{positive_ℚ, negative_ℚ}
+use Rattle.exact_matrices.proofs.MatrixLaws.{kernel-zero}
 use Rattle.loss_model.specs.declared.problem.Problem.{Problem}
 use Rattle.loss_model.specs.declared.vertex.Vertex.{Vertex}
 use Rattle.loss_model.specs.Sample.{Sample, up_cost, down_cost, residual, row_loss, loss}

@@ -5,10 +5,11 @@ use Rattle.std.proofs.lemmas.Bool.{cases_lt}
 use borrow.Author.Tests.{eqb-true, eqb-false}
 use Rattle.exact_algebra.specs.Fraction.{Fraction, rational}
 use Rattle.exact_algebra.specs.Solver.{number, ◌⊞◌, ◌⊟◌, v0, v1, v2}
-use Rattle.exact_algebra.specs.Rational.{ℚ, ◌+ℚ◌, whole, ◌≤ℚ◌, ring_ℚ, ≤ℚ_trans}
-use Rattle.exact_algebra.specs.RationalSums.{≤ℚ_add2}
-use Rattle.exact_algebra.specs.Order.{le_from_not}
-use Rattle.exact_matrices.specs.Matrices.{inverse-unique}
+use Rattle.exact_algebra.specs.Rational.{ℚ, ◌+ℚ◌, whole, ◌≤ℚ◌}
+use Rattle.exact_algebra.proofs.RationalLaws.{ring_ℚ, ≤ℚ_trans}
+use Rattle.exact_algebra.proofs.RationalSumLaws.{≤ℚ_add2}
+use Rattle.exact_algebra.proofs.OrderLaws.{le_from_not}
+use Rattle.exact_matrices.proofs.MatrixLaws.{inverse-unique}
 use Rattle.loss_model.specs.declared.process.Exchange.{Exchange}
 use Rattle.loss_model.specs.declared.process.Trail.{Trail}
 use Rattle.loss_model.specs.Sample.{Sample, up_cost, down_cost}

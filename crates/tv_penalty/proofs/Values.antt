@@ -4,8 +4,10 @@ use Rattle.std.specs.Cmp.{IsTotalOrder, IsEquivalence, both_ways, Equal-is, on_t
 use Rattle.std.specs.Ordering.{eq_by_cmp}
 use Rattle.std.proofs.lemmas.Bool.{eqb-true}
 use Rattle.std.proofs.lemmas.Bool.Decides.{Decides-eqb, Decides-int_eq}
-use Rattle.exact_algebra.specs.Rational.{ℚ, ≤ℚ_trans}
-use Rattle.exact_algebra.specs.Order.{cmp_ℚ, cmp_ℚ-Less, cmp_ℚ-Equal, cmp_ℚ_swap, le_from_not}
+use Rattle.exact_algebra.specs.Rational.{ℚ}
+use Rattle.exact_algebra.proofs.RationalLaws.{≤ℚ_trans}
+use Rattle.exact_algebra.specs.Order.{cmp_ℚ}
+use Rattle.exact_algebra.proofs.OrderLaws.{cmp_ℚ-Less, cmp_ℚ-Equal, cmp_ℚ_swap, le_from_not}
 use Rattle.frac_core.specs.Lowest.{same_fraction, IsWithin-along}
 use Rattle.frac_core.specs.declared.frac128.Frac128.{Frac128}
 use Rattle.data_frame.specs.Views.{exact}

@@ -9,7 +9,8 @@ use Rattle.std.proofs.lemmas.List.Elements.{All-nil, All-cons, All-append, All-m
 use Rattle.std.proofs.lemmas.List.{get_or-map, length-map, length-replicate}
 use Rattle.std.proofs.lemmas.List.FromFn.{length-map-range_with_len}
 use borrow.Author.Tests.{ltb-false}
-use Rattle.exact_algebra.specs.Order.{by_cmp, cmp_ℚ, cmp_ℚ-Equal}
+use Rattle.exact_algebra.proofs.OrderLaws.{by_cmp, cmp_ℚ-Equal}
+use Rattle.exact_algebra.specs.Order.{cmp_ℚ}
 use Rattle.exact_algebra.specs.Rational.{ℚ, ◌≤ℚ◌, whole}
 use Rattle.data_frame.specs.Views.{exact}
 use Rattle.formula_parser.specs.declared.formula.Formula.{Formula}

@@ -2,15 +2,17 @@
 use Rattle.std.specs.Prelude.{◌≡◌, ℕ, suc, ◌<◌, Bool, true, false, [], ◌∷◌, pos}
 use Rattle.std.proofs.Common.{refl, sym, ap, ap₂, subst, ◌∙◌}
 use Rattle.exact_algebra.specs.Solver.{number, negated, ◌⊞◌, ◌⊟◌, ◌⊠◌, v0, v1, v2}
-use Rattle.exact_algebra.specs.Rational.{ℚ, ◌+ℚ◌, ◌-ℚ◌, ◌*ℚ◌, neg_ℚ, whole, ring_ℚ, ring_by_ℚ}
-use Rattle.exact_algebra.specs.RationalSums.{sum_ℚ, sum_ℚ-same, sum_ℚ-mix}
-use Rattle.exact_matrices.specs.Matrices.{kernel-zero}
+use Rattle.exact_algebra.specs.Rational.{ℚ, ◌+ℚ◌, ◌-ℚ◌, ◌*ℚ◌, neg_ℚ, whole}
+use Rattle.exact_algebra.proofs.RationalLaws.{ring_ℚ, ring_by_ℚ}
+use Rattle.exact_algebra.specs.RationalSums.{sum_ℚ}
+use Rattle.exact_algebra.proofs.RationalSumLaws.{sum_ℚ-same, sum_ℚ-mix}
+use Rattle.exact_matrices.proofs.MatrixLaws.{kernel-zero}
 use Rattle.exact_matrices.specs.Selections.{is_among}
 use Rattle.loss_model.specs.declared.vertex.Side.{Side}
 use Rattle.loss_model.specs.declared.vertex.Side.TheVariants.{Up, Down, Basic}
 use Rattle.loss_model.specs.Sample.{Sample}
 use Rattle.basis_model.specs.Perturbed.{perturbed, zeros, side_of}
-use Rattle.basis_model.specs.Signs.{lex_cmp-same}
+use Rattle.basis_model.proofs.Signs.{lex_cmp-same}
 use Rattle.basis_model.specs.Basis.{IsBasis, outside_row, side_at}
 use Rattle.pivot_rule.specs.Responses.{residual_for, response}
 use Rattle.pivot_rule.proofs.Among.{among_at, among_place}

@@ -5,15 +5,21 @@ use Rattle.std.specs.declared.cmp.Ordering.{Ordering}
 use Rattle.std.specs.declared.cmp.Ordering.TheVariants.{Less, Equal, Greater}
 use Rattle.std.proofs.Common.{refl, sym, ap, ap₂, ◌∙◌}
 use Rattle.exact_algebra.specs.Solver.{number, negated, ◌⊞◌, ◌⊠◌, v0, v1, v2, v3}
-use Rattle.exact_algebra.specs.Rational.{ℚ, ◌+ℚ◌, ◌*ℚ◌, neg_ℚ, whole, ring_ℚ, ring_by_ℚ}
-use Rattle.exact_algebra.specs.RationalSums.{sum_ℚ, sum_ℚ-same, sum_ℚ-zero, sum_ℚ-add, sum_ℚ-scale, sum_ℚ-swap, sum_ℚ-mix}
-use Rattle.exact_matrices.specs.Terms.{delta, sum_ℚ-delta}
-use Rattle.exact_matrices.specs.Matrices.{coordinate, sum_ℚ-coordinate}
-use Rattle.exact_matrices.specs.Selections.{among, is_among, sum_ℚ-among, sum_ℚ-split}
+use Rattle.exact_algebra.specs.Rational.{ℚ, ◌+ℚ◌, ◌*ℚ◌, neg_ℚ, whole}
+use Rattle.exact_algebra.proofs.RationalLaws.{ring_ℚ, ring_by_ℚ}
+use Rattle.exact_algebra.specs.RationalSums.{sum_ℚ}
+use Rattle.exact_algebra.proofs.RationalSumLaws.{sum_ℚ-same, sum_ℚ-zero, sum_ℚ-add, sum_ℚ-scale, sum_ℚ-swap, sum_ℚ-mix}
+use Rattle.exact_matrices.specs.Terms.{delta}
+use Rattle.exact_matrices.proofs.TermLaws.{sum_ℚ-delta}
+use Rattle.exact_matrices.specs.Matrices.{coordinate}
+use Rattle.exact_matrices.proofs.MatrixLaws.{sum_ℚ-coordinate}
+use Rattle.exact_matrices.specs.Selections.{among, is_among}
+use Rattle.exact_matrices.proofs.SelectionLaws.{sum_ℚ-among, sum_ℚ-split}
 use Rattle.loss_model.specs.declared.vertex.Side.TheVariants.{Basic}
 use Rattle.loss_model.specs.Sample.{Sample, up_cost, down_cost}
 use Rattle.loss_model.specs.Vertex.{value_of_side}
-use Rattle.basis_model.specs.Perturbed.{side_of, held_coordinate, held_coordinate-at}
+use Rattle.basis_model.specs.Perturbed.{side_of, held_coordinate}
+use Rattle.basis_model.proofs.PerturbedLaws.{held_coordinate-at}
 use Rattle.basis_model.specs.Basis.{IsBasis, coord, dual_value}
 use Rattle.pivot_rule.proofs.Among.{among_at, among_place}
 use Rattle.pivot_rule.proofs.Bounds.{dual_is, is_basic, bound}

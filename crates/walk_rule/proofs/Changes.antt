@@ -3,10 +3,12 @@ use Rattle.std.specs.Prelude.{◌≡◌, ◌≢◌, ℕ, ◌<◌, Bool, true, fa
 use Rattle.std.proofs.Common.{refl, sym, ap, ap₂, ◌∙◌}
 use borrow.Author.Tests.{eqb-true, eqb-false}
 use Rattle.exact_algebra.specs.Solver.{var, number, negated, ◌⊞◌, ◌⊟◌, ◌⊠◌, v0, v1, v2, v3, v4, v5}
-use Rattle.exact_algebra.specs.Rational.{ℚ, ◌+ℚ◌, ◌-ℚ◌, ◌*ℚ◌, neg_ℚ, inverse, whole, ring_ℚ, ring_by_ℚ, *ℚ-inverse}
-use Rattle.exact_algebra.specs.RationalSums.{sum_ℚ, sum_ℚ-same, sum_ℚ-mix}
-use Rattle.exact_matrices.specs.Terms.{sum_ℚ-replaced}
-use Rattle.exact_matrices.specs.Matrices.{inverse-unique}
+use Rattle.exact_algebra.specs.Rational.{ℚ, ◌+ℚ◌, ◌-ℚ◌, ◌*ℚ◌, neg_ℚ, inverse, whole}
+use Rattle.exact_algebra.proofs.RationalLaws.{ring_ℚ, ring_by_ℚ, *ℚ-inverse}
+use Rattle.exact_algebra.specs.RationalSums.{sum_ℚ}
+use Rattle.exact_algebra.proofs.RationalSumLaws.{sum_ℚ-same, sum_ℚ-mix}
+use Rattle.exact_matrices.proofs.TermLaws.{sum_ℚ-replaced}
+use Rattle.exact_matrices.proofs.MatrixLaws.{inverse-unique}
 use Rattle.exact_matrices.specs.Exchange.{exchanged}
 use Rattle.loss_model.specs.declared.vertex.Side.{Side}
 use Rattle.loss_model.specs.declared.vertex.Side.TheVariants.{Basic}

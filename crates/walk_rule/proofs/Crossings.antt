@@ -2,9 +2,10 @@
 use Rattle.std.specs.Prelude.{◌≡◌, ℕ, ◌<◌, [], ◌∷◌, pos}
 use Rattle.std.proofs.Common.{refl, ap, ap₂, ◌∙◌}
 use Rattle.exact_algebra.specs.Solver.{number, negated, ◌⊞◌, ◌⊟◌, ◌⊠◌, v0, v1, v2}
-use Rattle.exact_algebra.specs.Rational.{ℚ, ◌+ℚ◌, ◌-ℚ◌, ◌*ℚ◌, neg_ℚ, inverse, whole, ring_ℚ}
-use Rattle.exact_algebra.specs.Inverses.{inverse-neg}
-use Rattle.exact_matrices.specs.Matrices.{coordinate-delta}
+use Rattle.exact_algebra.specs.Rational.{ℚ, ◌+ℚ◌, ◌-ℚ◌, ◌*ℚ◌, neg_ℚ, inverse, whole}
+use Rattle.exact_algebra.proofs.RationalLaws.{ring_ℚ}
+use Rattle.exact_algebra.proofs.Inverses.{inverse-neg}
+use Rattle.exact_matrices.proofs.MatrixLaws.{coordinate-delta}
 use Rattle.loss_model.specs.Sample.{Sample, up_cost, down_cost}
 use Rattle.loss_model.specs.Vertex.{value_of_side}
 use Rattle.pivot_rule.specs.declared.direction.Direction.{Direction}

@@ -3,11 +3,15 @@
 use Rattle.std.specs.Prelude.{◌≡◌, ◌≢◌, ℕ, ◌<◌, Bool, true, false, ◌==◌, if◌then◌else◌, [], ◌∷◌, pos}
 use Rattle.std.proofs.Common.{refl, sym, ap, ap₂, ◌∙◌}
 use Rattle.exact_algebra.specs.Solver.{number, ◌⊟◌, ◌⊠◌, v0, v1}
-use Rattle.exact_algebra.specs.Rational.{ℚ, ◌-ℚ◌, ◌*ℚ◌, inverse, whole, ring_ℚ}
-use Rattle.exact_algebra.specs.RationalSums.{sum_ℚ-same}
-use Rattle.exact_matrices.specs.Terms.{delta, sum_ℚ-delta, delta-turned}
-use Rattle.exact_matrices.specs.Matrices.{AreInverse, AreInverse-same, inverse-unique}
-use Rattle.exact_matrices.specs.Exchange.{exchanged, with_row, exchange-inverse}
+use Rattle.exact_algebra.specs.Rational.{ℚ, ◌-ℚ◌, ◌*ℚ◌, inverse, whole}
+use Rattle.exact_algebra.proofs.RationalLaws.{ring_ℚ}
+use Rattle.exact_algebra.proofs.RationalSumLaws.{sum_ℚ-same}
+use Rattle.exact_matrices.specs.Terms.{delta}
+use Rattle.exact_matrices.proofs.TermLaws.{sum_ℚ-delta, delta-turned}
+use Rattle.exact_matrices.specs.Matrices.{AreInverse}
+use Rattle.exact_matrices.proofs.MatrixLaws.{AreInverse-same, inverse-unique}
+use Rattle.exact_matrices.specs.Exchange.{exchanged, with_row}
+use Rattle.exact_matrices.proofs.ExchangeLaws.{exchange-inverse}
 use Rattle.loss_model.specs.Sample.{Sample}
 use Rattle.basis_model.specs.Perturbed.{IsOutside}
 use Rattle.basis_model.specs.Basis.{IsBasis, coord}

@@ -6,16 +6,21 @@ use Rattle.std.specs.declared.cmp.Ordering.TheVariants.{Less}
 use Rattle.std.proofs.Common.{refl, sym, ap, ap₂, subst, ◌∙◌}
 use borrow.Author.Tests.{eqb-true, eqb-false}
 use Rattle.exact_algebra.specs.Solver.{var, number, negated, ◌⊞◌, ◌⊟◌, ◌⊠◌, v0, v1, v2, v3, v4, v5}
-use Rattle.exact_algebra.specs.Rational.{ℚ, ◌+ℚ◌, ◌-ℚ◌, ◌*ℚ◌, neg_ℚ, inverse, whole, ring_ℚ, ring_by_ℚ, *ℚ-inverse}
-use Rattle.exact_algebra.specs.RationalSums.{sum_ℚ, sum_ℚ-same, sum_ℚ-scale, sum_ℚ-swap, sum_ℚ-mix}
-use Rattle.exact_algebra.specs.Inverses.{inverse-neg}
-use Rattle.exact_matrices.specs.Terms.{delta, if-same, sum_ℚ-replaced}
-use Rattle.exact_matrices.specs.Matrices.{coordinate, coordinate-delta}
+use Rattle.exact_algebra.specs.Rational.{ℚ, ◌+ℚ◌, ◌-ℚ◌, ◌*ℚ◌, neg_ℚ, inverse, whole}
+use Rattle.exact_algebra.proofs.RationalLaws.{ring_ℚ, ring_by_ℚ, *ℚ-inverse}
+use Rattle.exact_algebra.specs.RationalSums.{sum_ℚ}
+use Rattle.exact_algebra.proofs.RationalSumLaws.{sum_ℚ-same, sum_ℚ-scale, sum_ℚ-swap, sum_ℚ-mix}
+use Rattle.exact_algebra.proofs.Inverses.{inverse-neg}
+use Rattle.exact_matrices.specs.Terms.{delta}
+use Rattle.exact_matrices.proofs.TermLaws.{if-same, sum_ℚ-replaced}
+use Rattle.exact_matrices.specs.Matrices.{coordinate}
+use Rattle.exact_matrices.proofs.MatrixLaws.{coordinate-delta}
 use Rattle.loss_model.specs.declared.vertex.Side.{Side}
 use Rattle.loss_model.specs.declared.vertex.Side.TheVariants.{Up, Down, Basic}
 use Rattle.loss_model.specs.Sample.{Sample, up_cost, down_cost}
 use Rattle.loss_model.specs.Vertex.{value_of_side}
-use Rattle.basis_model.specs.Lexicographic.{lex_cmp, lex_cmp_swap}
+use Rattle.basis_model.specs.Lexicographic.{lex_cmp}
+use Rattle.basis_model.proofs.LexicographicLaws.{lex_cmp_swap}
 use Rattle.basis_model.specs.Perturbed.{perturbed, zeros, turned}
 use Rattle.pivot_rule.specs.declared.direction.Direction.{Direction}
 use Rattle.pivot_rule.specs.declared.direction.Direction.TheVariants.{Upward, Downward}

@@ -3,10 +3,11 @@ use Rattle.std.specs.Prelude.{◌≡◌, ◌≢◌, ◌⊎◌, Bool, true, false
 use Rattle.std.proofs.lemmas.Int.{ints}
 use Rattle.std.proofs.Common.{arith, refl, sym, ap, subst, ◌∙◌, inl, inr}
 use Rattle.exact_algebra.specs.Solver.{number, negated, ◌⊞◌, ◌⊟◌, ◌⊠◌, v0, v1, v2, v3}
-use Rattle.exact_algebra.specs.Rational.{ℚ, ◌+ℚ◌, ◌-ℚ◌, ◌*ℚ◌, neg_ℚ, inverse, whole, le_ℚ, ◌≤ℚ◌, ring_ℚ, ring_by_ℚ, ≤ℚ_refl, ≤ℚ_trans, ≤ℚ_mul, *ℚ-inverse}
-use Rattle.exact_algebra.specs.RationalSums.{≤ℚ_from}
-use Rattle.exact_algebra.specs.WholeNumbers.{le_from_whole}
-use Rattle.exact_algebra.specs.Order.{le_from_not, not_le, ≤ℚ-minus, ≤ℚ-from_mul}
+use Rattle.exact_algebra.specs.Rational.{ℚ, ◌+ℚ◌, ◌-ℚ◌, ◌*ℚ◌, neg_ℚ, inverse, whole, le_ℚ, ◌≤ℚ◌}
+use Rattle.exact_algebra.proofs.RationalLaws.{ring_ℚ, ring_by_ℚ, ≤ℚ_refl, ≤ℚ_trans, ≤ℚ_mul, *ℚ-inverse}
+use Rattle.exact_algebra.proofs.RationalSumLaws.{≤ℚ_from}
+use Rattle.exact_algebra.proofs.WholeNumbers.{le_from_whole}
+use Rattle.exact_algebra.proofs.OrderLaws.{le_from_not, not_le, ≤ℚ-minus, ≤ℚ-from_mul}
 use Rattle.pivot_rule.specs.Duals.{◌<ℚ◌}
 
 -- ---- the order

@@ -5,12 +5,15 @@ use Rattle.std.specs.declared.cmp.Ordering.{Ordering}
 use Rattle.std.specs.declared.cmp.Ordering.TheVariants.{Less, Equal, Greater}
 use Rattle.std.proofs.Common.{refl, sym, ap, ap₂, subst, ◌∙◌}
 use Rattle.exact_algebra.specs.Solver.{number, negated, ◌⊞◌, ◌⊟◌, ◌⊠◌, v0, v1, v2, v3}
-use Rattle.exact_algebra.specs.Rational.{ℚ, ◌+ℚ◌, ◌-ℚ◌, ◌*ℚ◌, neg_ℚ, inverse, whole, ◌≤ℚ◌, ring_ℚ, ring_by_ℚ, ≤ℚ_refl, ≤ℚ_antisym, *ℚ-inverse}
-use Rattle.exact_algebra.specs.Inverses.{inverse_nonzero}
-use Rattle.exact_algebra.specs.Order.{cmp_ℚ, cmp_ℚ-Less, cmp_ℚ-Equal, cmp_ℚ-Greater, by_cmp, le_from_not, ≤ℚ-from_mul, inverse_not_negative}
-use Rattle.basis_model.specs.Lexicographic.{lex_cmp, lex_cmp_swap, less-trans}
+use Rattle.exact_algebra.specs.Rational.{ℚ, ◌+ℚ◌, ◌-ℚ◌, ◌*ℚ◌, neg_ℚ, inverse, whole, ◌≤ℚ◌}
+use Rattle.exact_algebra.proofs.RationalLaws.{ring_ℚ, ring_by_ℚ, ≤ℚ_refl, ≤ℚ_antisym, *ℚ-inverse}
+use Rattle.exact_algebra.proofs.Inverses.{inverse_nonzero}
+use Rattle.exact_algebra.specs.Order.{cmp_ℚ}
+use Rattle.exact_algebra.proofs.OrderLaws.{cmp_ℚ-Less, cmp_ℚ-Equal, cmp_ℚ-Greater, by_cmp, le_from_not, ≤ℚ-from_mul, inverse_not_negative}
+use Rattle.basis_model.specs.Lexicographic.{lex_cmp}
+use Rattle.basis_model.proofs.LexicographicLaws.{lex_cmp_swap, less-trans}
 use Rattle.basis_model.specs.Perturbed.{zeros}
-use Rattle.basis_model.specs.Signs.{lex_cmp-same}
+use Rattle.basis_model.proofs.Signs.{lex_cmp-same}
 use Rattle.pivot_rule.specs.Duals.{◌<ℚ◌}
 use Rattle.walk_rule.proofs.Lines.{le_by, positive_neg}
 

@@ -8,17 +8,19 @@ use Rattle.std.proofs.Common.{arith, refl, sym, ap, ap₂, subst, ◌∙◌, inl
 use Rattle.std.proofs.lemmas.Bool.{cases_lt}
 use borrow.Author.Tests.{eqb-true, eqb-false}
 use Rattle.exact_algebra.specs.Solver.{number, negated, ◌⊞◌, ◌⊟◌, ◌⊠◌, v0, v1, v2, v3}
-use Rattle.exact_algebra.specs.Rational.{ℚ, ◌+ℚ◌, ◌-ℚ◌, ◌*ℚ◌, neg_ℚ, inverse, whole, ◌≤ℚ◌, ring_ℚ, ≤ℚ_antisym}
-use Rattle.exact_algebra.specs.Inverses.{inverse-neg}
-use Rattle.exact_algebra.specs.Order.{cmp_ℚ, cmp_ℚ-Less, cmp_ℚ-Greater, le_from_not}
-use Rattle.exact_matrices.specs.Terms.{if-same, if-other}
+use Rattle.exact_algebra.specs.Rational.{ℚ, ◌+ℚ◌, ◌-ℚ◌, ◌*ℚ◌, neg_ℚ, inverse, whole, ◌≤ℚ◌}
+use Rattle.exact_algebra.proofs.RationalLaws.{ring_ℚ, ≤ℚ_antisym}
+use Rattle.exact_algebra.proofs.Inverses.{inverse-neg}
+use Rattle.exact_algebra.specs.Order.{cmp_ℚ}
+use Rattle.exact_algebra.proofs.OrderLaws.{cmp_ℚ-Less, cmp_ℚ-Greater, le_from_not}
+use Rattle.exact_matrices.proofs.TermLaws.{if-same, if-other}
 use Rattle.loss_model.specs.declared.vertex.Side.TheVariants.{Up, Down}
 use Rattle.loss_model.specs.Sample.{Sample}
 use Rattle.loss_model.specs.Spill.{abs_ℚ}
 use Rattle.basis_model.specs.Lexicographic.{lex_cmp}
 use Rattle.basis_model.specs.Perturbed.{IsOutside, perturbed, zeros, side_of, ratio, ratio_on}
-use Rattle.basis_model.specs.Ratios.{abs_not_negative, abs_nonzero}
-use Rattle.basis_model.specs.Signs.{lex_cmp-same}
+use Rattle.basis_model.proofs.Ratios.{abs_not_negative, abs_nonzero}
+use Rattle.basis_model.proofs.Signs.{lex_cmp-same}
 use Rattle.basis_model.proofs.Ordered.{not_zero}
 use Rattle.pivot_rule.specs.declared.direction.Direction.{Direction}
 use Rattle.pivot_rule.specs.declared.direction.Direction.TheVariants.{Upward, Downward}

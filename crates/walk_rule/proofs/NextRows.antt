@@ -4,12 +4,15 @@ use Rattle.std.proofs.Common.{arith, refl, sym, ap, ap₂, subst, ◌∙◌, inl
 use Rattle.std.proofs.lemmas.Bool.{cases_lt}
 use borrow.Author.Tests.{eqb-true, eqb-false}
 use Rattle.exact_algebra.specs.Solver.{number, ◌⊟◌, ◌⊠◌, v0, v1}
-use Rattle.exact_algebra.specs.Rational.{ℚ, ◌-ℚ◌, ◌*ℚ◌, inverse, whole, ring_ℚ}
-use Rattle.exact_algebra.specs.RationalSums.{sum_ℚ-same, sum_ℚ-zero}
-use Rattle.exact_matrices.specs.Terms.{if-same, if-other}
-use Rattle.exact_matrices.specs.Matrices.{AreInverse-same, coordinate}
+use Rattle.exact_algebra.specs.Rational.{ℚ, ◌-ℚ◌, ◌*ℚ◌, inverse, whole}
+use Rattle.exact_algebra.proofs.RationalLaws.{ring_ℚ}
+use Rattle.exact_algebra.proofs.RationalSumLaws.{sum_ℚ-same, sum_ℚ-zero}
+use Rattle.exact_matrices.proofs.TermLaws.{if-same, if-other}
+use Rattle.exact_matrices.proofs.MatrixLaws.{AreInverse-same}
+use Rattle.exact_matrices.specs.Matrices.{coordinate}
 use Rattle.exact_matrices.specs.Selections.{AreDistinct}
-use Rattle.exact_matrices.specs.Exchange.{exchanged, with_row, exchange-inverse}
+use Rattle.exact_matrices.specs.Exchange.{exchanged, with_row}
+use Rattle.exact_matrices.proofs.ExchangeLaws.{exchange-inverse}
 use Rattle.loss_model.specs.Sample.{Sample}
 use Rattle.basis_model.specs.Perturbed.{IsOutside}
 use Rattle.pivot_rule.specs.declared.direction.Direction.{Direction}

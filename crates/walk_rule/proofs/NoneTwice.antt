@@ -4,12 +4,14 @@ use Rattle.std.specs.declared.cmp.Ordering.TheVariants.{Less}
 use Rattle.std.proofs.Common.{refl, sym, ap, subst, ◌∙◌}
 use Rattle.std.proofs.lemmas.List.{length-set}
 use Rattle.exact_algebra.specs.Solver.{negated, ◌⊟◌, v0, v1}
-use Rattle.exact_algebra.specs.Rational.{ℚ, neg_ℚ, ring_ℚ}
+use Rattle.exact_algebra.specs.Rational.{ℚ, neg_ℚ}
+use Rattle.exact_algebra.proofs.RationalLaws.{ring_ℚ}
 use Rattle.exact_matrices.specs.Selections.{is_among}
 use Rattle.exact_matrices.specs.Exchange.{exchanged}
 use Rattle.loss_model.specs.declared.process.Exchange.{Exchange}
 use Rattle.loss_model.specs.Sample.{Sample}
-use Rattle.basis_model.specs.Lexicographic.{lex_cmp, lex_cmp-Equal, less-trans}
+use Rattle.basis_model.specs.Lexicographic.{lex_cmp}
+use Rattle.basis_model.proofs.LexicographicLaws.{lex_cmp-Equal, less-trans}
 use Rattle.basis_model.specs.Basis.{IsBasis}
 use Rattle.pivot_rule.specs.Trails.{EndsAt, basis_after}
 use Rattle.pivot_rule.proofs.Unique.{same_inverse}

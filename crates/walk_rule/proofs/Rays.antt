@@ -7,13 +7,16 @@ use Rattle.std.proofs.lemmas.Int.{ints}
 use Rattle.std.proofs.Common.{arith, refl, sym, ap, subst, ◌∙◌}
 use borrow.Author.Tests.{eqb-true, eqb-false}
 use Rattle.exact_algebra.specs.Solver.{number, negated, ◌⊞◌, ◌⊟◌, ◌⊠◌, v0, v1, v2}
-use Rattle.exact_algebra.specs.Rational.{ℚ, ◌+ℚ◌, ◌-ℚ◌, ◌*ℚ◌, neg_ℚ, inverse, whole, ◌≤ℚ◌, ring_ℚ, ring_by_ℚ, ≤ℚ_refl, ≤ℚ_mul, *ℚ-inverse}
-use Rattle.exact_algebra.specs.RationalSums.{sum_ℚ-same, sum_ℚ-scale}
-use Rattle.exact_algebra.specs.Inverses.{inverse-neg}
-use Rattle.exact_algebra.specs.WholeNumbers.{whole-le}
-use Rattle.exact_algebra.specs.Order.{cmp_ℚ-Less, cmp_ℚ-Greater, le_from_not}
-use Rattle.exact_matrices.specs.Terms.{delta, if-same, if-other}
-use Rattle.exact_matrices.specs.Matrices.{coordinate, coordinate-delta}
+use Rattle.exact_algebra.specs.Rational.{ℚ, ◌+ℚ◌, ◌-ℚ◌, ◌*ℚ◌, neg_ℚ, inverse, whole, ◌≤ℚ◌}
+use Rattle.exact_algebra.proofs.RationalLaws.{ring_ℚ, ring_by_ℚ, ≤ℚ_refl, ≤ℚ_mul, *ℚ-inverse}
+use Rattle.exact_algebra.proofs.RationalSumLaws.{sum_ℚ-same, sum_ℚ-scale}
+use Rattle.exact_algebra.proofs.Inverses.{inverse-neg}
+use Rattle.exact_algebra.proofs.WholeNumbers.{whole-le}
+use Rattle.exact_algebra.proofs.OrderLaws.{cmp_ℚ-Less, cmp_ℚ-Greater, le_from_not}
+use Rattle.exact_matrices.specs.Terms.{delta}
+use Rattle.exact_matrices.proofs.TermLaws.{if-same, if-other}
+use Rattle.exact_matrices.specs.Matrices.{coordinate}
+use Rattle.exact_matrices.proofs.MatrixLaws.{coordinate-delta}
 use Rattle.loss_model.specs.declared.vertex.Side.{Side}
 use Rattle.loss_model.specs.declared.vertex.Side.TheVariants.{Up, Down, Basic}
 use Rattle.loss_model.specs.Sample.{Sample, up_cost, down_cost, fitted}

@@ -2,8 +2,9 @@
 use Rattle.std.specs.Prelude.{◌≡◌, ◌↔◌, ◌⊎◌, ℕ, [], ◌∷◌, pos}
 use Rattle.std.proofs.Common.{refl, sym, ap, ap₂, subst, ◌∙◌, inl, inr}
 use Rattle.exact_algebra.specs.Solver.{number, ◌⊞◌, ◌⊟◌, ◌⊠◌, v0, v1, v2, v3, v4}
-use Rattle.exact_algebra.specs.Rational.{ℚ, ◌+ℚ◌, ◌-ℚ◌, ◌*ℚ◌, whole, ◌≤ℚ◌, ring_ℚ, ≤ℚ_trans}
-use Rattle.exact_algebra.specs.RationalSums.{sum_ℚ-same, sum_ℚ-zero}
+use Rattle.exact_algebra.specs.Rational.{ℚ, ◌+ℚ◌, ◌-ℚ◌, ◌*ℚ◌, whole, ◌≤ℚ◌}
+use Rattle.exact_algebra.proofs.RationalLaws.{ring_ℚ, ≤ℚ_trans}
+use Rattle.exact_algebra.proofs.RationalSumLaws.{sum_ℚ-same, sum_ℚ-zero}
 use Rattle.exact_matrices.specs.Matrices.{coordinate}
 use Rattle.loss_model.specs.Sample.{Sample, up_cost, down_cost}
 use Rattle.loss_model.specs.Vertex.{value_of_side}

@@ -5,9 +5,10 @@ use Rattle.std.specs.declared.cmp.Ordering.TheVariants.{Less, Equal, Greater}
 use Rattle.std.proofs.Common.{refl, sym, ap, subst, ◌∙◌}
 use borrow.Author.Tests.{eqb-true, eqb-false}
 use Rattle.exact_algebra.specs.Solver.{number, negated, ◌⊞◌, ◌⊟◌, v0, v1}
-use Rattle.exact_algebra.specs.Rational.{ℚ, ◌+ℚ◌, ◌-ℚ◌, neg_ℚ, whole, ◌≤ℚ◌, ring_ℚ, ring_by_ℚ, ≤ℚ_refl}
-use Rattle.exact_algebra.specs.RationalSums.{≤ℚ_from}
-use Rattle.exact_algebra.specs.Order.{≤ℚ-minus}
+use Rattle.exact_algebra.specs.Rational.{ℚ, ◌+ℚ◌, ◌-ℚ◌, neg_ℚ, whole, ◌≤ℚ◌}
+use Rattle.exact_algebra.proofs.RationalLaws.{ring_ℚ, ring_by_ℚ, ≤ℚ_refl}
+use Rattle.exact_algebra.proofs.RationalSumLaws.{≤ℚ_from}
+use Rattle.exact_algebra.proofs.OrderLaws.{≤ℚ-minus}
 use Rattle.loss_model.specs.declared.vertex.Side.{Side}
 use Rattle.loss_model.specs.declared.vertex.Side.TheVariants.{Up, Down, Basic}
 use Rattle.loss_model.specs.Sample.{Sample, up_cost, down_cost, residual}

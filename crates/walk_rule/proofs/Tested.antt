@@ -2,10 +2,13 @@
 use Rattle.std.specs.Prelude.{◌≡◌, ℕ, ◌<◌, [], ◌∷◌, pos}
 use Rattle.std.proofs.Common.{refl, sym, ap, ◌∙◌}
 use Rattle.exact_algebra.specs.Solver.{number, negated, ◌⊞◌, ◌⊠◌, v0, v1, v2}
-use Rattle.exact_algebra.specs.Rational.{ℚ, ◌+ℚ◌, ◌-ℚ◌, ◌*ℚ◌, neg_ℚ, whole, ring_ℚ}
-use Rattle.exact_algebra.specs.RationalSums.{sum_ℚ-same, sum_ℚ-scale}
-use Rattle.exact_matrices.specs.Terms.{delta, if-same, if-other}
-use Rattle.exact_matrices.specs.Matrices.{coordinate, coordinate-delta}
+use Rattle.exact_algebra.specs.Rational.{ℚ, ◌+ℚ◌, ◌-ℚ◌, ◌*ℚ◌, neg_ℚ, whole}
+use Rattle.exact_algebra.proofs.RationalLaws.{ring_ℚ}
+use Rattle.exact_algebra.proofs.RationalSumLaws.{sum_ℚ-same, sum_ℚ-scale}
+use Rattle.exact_matrices.specs.Terms.{delta}
+use Rattle.exact_matrices.proofs.TermLaws.{if-same, if-other}
+use Rattle.exact_matrices.specs.Matrices.{coordinate}
+use Rattle.exact_matrices.proofs.MatrixLaws.{coordinate-delta}
 use Rattle.loss_model.specs.Sample.{Sample, up_cost, down_cost}
 use Rattle.pivot_rule.specs.declared.direction.Direction.{Direction}
 use Rattle.pivot_rule.specs.declared.direction.Direction.TheVariants.{Upward, Downward}

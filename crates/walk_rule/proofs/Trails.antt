@@ -6,9 +6,11 @@ use Rattle.std.proofs.lemmas.Bool.{cases_lt}
 use Rattle.std.proofs.lemmas.List.{length-append, get_or-set_same, get_or-set_other}
 use borrow.Author.Tests.{eqb-true, eqb-false}
 use Rattle.exact_algebra.specs.Fraction.{Fraction, rational}
-use Rattle.exact_algebra.specs.Rational.{ℚ, whole, ◌≤ℚ◌, ≤ℚ_refl, ≤ℚ_trans}
-use Rattle.exact_algebra.specs.Order.{cmp_ℚ, cmp_ℚ-Less, le_from_not}
-use Rattle.exact_matrices.specs.Terms.{if-same, if-other}
+use Rattle.exact_algebra.specs.Rational.{ℚ, whole, ◌≤ℚ◌}
+use Rattle.exact_algebra.proofs.RationalLaws.{≤ℚ_refl, ≤ℚ_trans}
+use Rattle.exact_algebra.specs.Order.{cmp_ℚ}
+use Rattle.exact_algebra.proofs.OrderLaws.{cmp_ℚ-Less, le_from_not}
+use Rattle.exact_matrices.proofs.TermLaws.{if-same, if-other}
 use Rattle.loss_model.specs.declared.process.Exchange.{Exchange}
 use Rattle.loss_model.specs.declared.process.Trail.{Trail}
 use Rattle.loss_model.specs.Sample.{Sample}

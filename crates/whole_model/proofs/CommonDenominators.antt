@@ -5,9 +5,10 @@ use Rattle.std.proofs.Math.Nat.{mul-pos}
 use Rattle.std.proofs.lemmas.Bool.{ltb-false}
 use borrow.Author.Tests.{ltb-true}
 use mathlib.Core.HLevel.{Π_prop}
-use Rattle.exact_algebra.specs.Quotients.{by_quotient}
+use Rattle.exact_algebra.proofs.Quotients.{by_quotient}
 use Rattle.exact_algebra.specs.Solver.{◌⊠◌, v0, v1, v2}
-use Rattle.exact_algebra.specs.Rational.{ℚ, ◌*ℚ◌, whole, whole-mul, ring_ℚ}
+use Rattle.exact_algebra.specs.Rational.{ℚ, ◌*ℚ◌, whole}
+use Rattle.exact_algebra.proofs.RationalLaws.{whole-mul, ring_ℚ}
 use Rattle.loss_model.proofs.Quotients.{whole-quotient}
 
 -- c/d is v in each of the first n places

@@ -5,8 +5,9 @@ use Rattle.std.proofs.Common.{arith, refl, sym, ap, ◌∙◌}
 use Rattle.std.proofs.Math.Nat.{mul-div_cancel_left}
 use Rattle.exact_algebra.specs.Fraction.{Fraction, rational, common, over}
 use Rattle.exact_algebra.specs.Solver.{number, ◌⊠◌, v0, v1, v2, v3}
-use Rattle.exact_algebra.specs.Rational.{ℚ, ◌*ℚ◌, inverse, quotient, whole, whole-mul, ring_ℚ, ring_by_ℚ}
-use Rattle.exact_algebra.specs.Quotients.{quotient_from}
+use Rattle.exact_algebra.specs.Rational.{ℚ, ◌*ℚ◌, inverse, quotient, whole}
+use Rattle.exact_algebra.proofs.RationalLaws.{whole-mul, ring_ℚ, ring_by_ℚ}
+use Rattle.exact_algebra.proofs.Quotients.{quotient_from}
 use Rattle.loss_model.specs.declared.problem.Row.{Row}
 use Rattle.loss_model.specs.declared.problem.Problem.{Problem}
 use Rattle.loss_model.specs.Problem.{value_at, sample}

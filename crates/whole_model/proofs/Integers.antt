@@ -4,11 +4,13 @@ use Rattle.std.proofs.Common.{arith, refl, sym, ap, subst, ◌∙◌}
 use mathlib.Core.Bool.{Bool-set}
 use Rattle.exact_algebra.specs.IntegerSums.{sum_to}
 use Rattle.exact_algebra.specs.Solver.{number, negated, ◌⊞◌, ◌⊠◌, v0, v1, v2, v3, v4, v5, v6, v7}
-use Rattle.exact_algebra.specs.Rational.{ℚ, ◌+ℚ◌, ◌*ℚ◌, neg_ℚ, inverse, quotient, whole, whole-add, whole-mul, one-*ℚ, ◌≤ℚ◌, le_ℚ, ring_ℚ, ring_by_ℚ, ≤ℚ_mul}
-use Rattle.exact_algebra.specs.RationalSums.{sum_ℚ, sum_ℚ-same, sum_ℚ-scale}
-use Rattle.exact_algebra.specs.WholeNumbers.{whole-le, le_from_whole, same_from_whole, whole-neg, whole-sum}
+use Rattle.exact_algebra.specs.Rational.{ℚ, ◌+ℚ◌, ◌*ℚ◌, neg_ℚ, inverse, quotient, whole, ◌≤ℚ◌, le_ℚ}
+use Rattle.exact_algebra.proofs.RationalLaws.{whole-add, whole-mul, one-*ℚ, ring_ℚ, ring_by_ℚ, ≤ℚ_mul}
+use Rattle.exact_algebra.specs.RationalSums.{sum_ℚ}
+use Rattle.exact_algebra.proofs.RationalSumLaws.{sum_ℚ-same, sum_ℚ-scale}
+use Rattle.exact_algebra.proofs.WholeNumbers.{whole-le, le_from_whole, same_from_whole, whole-neg, whole-sum}
 use Rattle.exact_algebra.specs.Fraction.{Fraction, rational}
-use Rattle.exact_algebra.specs.Quotients.{quotient_from}
+use Rattle.exact_algebra.proofs.Quotients.{quotient_from}
 use Rattle.loss_model.specs.Sample.{Sample}
 use Rattle.loss_model.specs.Sample as exact
 use Rattle.loss_model.specs.Dual.{mix}

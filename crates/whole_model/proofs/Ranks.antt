@@ -3,9 +3,11 @@ use Rattle.std.specs.Prelude.{◌≡◌, ◌↔◌, ℕ, ◌<◌, ◌≤◌, [],
 use Rattle.std.proofs.Common.{refl, sym, ap, subst, ◌∙◌}
 use Rattle.exact_algebra.specs.IntegerSums.{sum_to}
 use Rattle.exact_algebra.specs.Solver.{number, ◌⊠◌, v0, v1, v2, v3}
-use Rattle.exact_algebra.specs.Rational.{ℚ, ℚ_set, ◌*ℚ◌, whole, whole-mul, ring_ℚ}
-use Rattle.exact_algebra.specs.RationalSums.{sum_ℚ, sum_ℚ-same, sum_ℚ-scale}
-use Rattle.exact_algebra.specs.WholeNumbers.{same_from_whole, whole-sum}
+use Rattle.exact_algebra.specs.Rational.{ℚ, ℚ_set, ◌*ℚ◌, whole}
+use Rattle.exact_algebra.proofs.RationalLaws.{whole-mul, ring_ℚ}
+use Rattle.exact_algebra.specs.RationalSums.{sum_ℚ}
+use Rattle.exact_algebra.proofs.RationalSumLaws.{sum_ℚ-same, sum_ℚ-scale}
+use Rattle.exact_algebra.proofs.WholeNumbers.{same_from_whole, whole-sum}
 use Rattle.loss_model.specs.Sample.{Sample, fitted}
 use Rattle.whole_model.specs.Scaled.{Scaled}
 use Rattle.whole_model.specs.Scaled as integers

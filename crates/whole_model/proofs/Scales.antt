@@ -3,9 +3,11 @@ use Rattle.std.specs.Prelude.{◌≡◌, ℕ, ◌≤◌, Bool, true, false, [], 
 use Rattle.std.proofs.Common.{refl, sym, ap, subst, ◌∙◌}
 use Rattle.exact_algebra.specs.IntegerSums.{sum_to, positive_part, negative_part}
 use Rattle.exact_algebra.specs.Solver.{number, negated, ◌⊞◌, ◌⊟◌, ◌⊠◌, v0, v1, v2, v3, v4, v5, v6}
-use Rattle.exact_algebra.specs.Rational.{ℚ, ◌+ℚ◌, ◌-ℚ◌, ◌*ℚ◌, whole, whole-add, whole-mul, ◌≤ℚ◌, le_ℚ, ring_ℚ, ≤ℚ_mul, ≤ℚ_total}
-use Rattle.exact_algebra.specs.RationalSums.{sum_ℚ, positive_ℚ, negative_ℚ, sum_ℚ-same, sum_ℚ-scale}
-use Rattle.exact_algebra.specs.WholeNumbers.{whole-sum, whole-positive, whole-negative}
+use Rattle.exact_algebra.specs.Rational.{ℚ, ◌+ℚ◌, ◌-ℚ◌, ◌*ℚ◌, whole, ◌≤ℚ◌, le_ℚ}
+use Rattle.exact_algebra.proofs.RationalLaws.{whole-add, whole-mul, ring_ℚ, ≤ℚ_mul, ≤ℚ_total}
+use Rattle.exact_algebra.specs.RationalSums.{sum_ℚ, positive_ℚ, negative_ℚ}
+use Rattle.exact_algebra.proofs.RationalSumLaws.{sum_ℚ-same, sum_ℚ-scale}
+use Rattle.exact_algebra.proofs.WholeNumbers.{whole-sum, whole-positive, whole-negative}
 use Rattle.exact_algebra.specs.Fraction.{Fraction, rational}
 use Rattle.loss_model.specs.Sample.{Sample}
 use Rattle.loss_model.specs.Sample as exact

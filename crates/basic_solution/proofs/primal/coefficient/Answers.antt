@@ -7,7 +7,7 @@ use Rattle.loss_model.specs.Spill.{site_of}
 use Rattle.loss_model.proofs.Products.{step_spill}
 use Rattle.basis_inverse.specs.Square.{inverse_entry}
 use Rattle.basis_model.specs.BasisSpills.{coefficient_products}
-use Rattle.basis_model.specs.Sums.{partial_sum-begun, partial_sum-more, partial_sum-whole}
+use Rattle.basis_model.proofs.Sums.{partial_sum-begun, partial_sum-more, partial_sum-whole}
 use Rattle.basic_solution.proofs.Rows.{row_number}
 use Rattle.basic_solution.proofs.primal.coefficient.Goals as goal
 

@@ -5,7 +5,7 @@ use Rattle.exact_algebra.specs.Order.{cmp_ℚ}
 use Rattle.loss_model.specs.Problem.{sample}
 use Rattle.basis_inverse.specs.Square.{inverse_entry}
 use Rattle.basis_model.specs.Perturbed.{nonbasic}
-use Rattle.basis_model.specs.Signs.{perturbed_side-same}
+use Rattle.basis_model.proofs.Signs.{perturbed_side-same}
 use Rattle.basis_model.specs.Basis.{outside_row}
 use Rattle.basic_solution.proofs.RowSides.{side_above, side_below}
 use Rattle.basic_solution.proofs.signs.perturbed_side.Goals as goal

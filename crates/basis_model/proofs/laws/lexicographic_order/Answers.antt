@@ -1,4 +1,4 @@
-use Rattle.basis_model.specs.Lexicographic.{less_at, first_less, less-trans}
+use Rattle.basis_model.proofs.LexicographicLaws.{less_at, first_less, less-trans}
 use Rattle.basis_model.proofs.Ordered.{one_way}
 use Rattle.basis_model.proofs.laws.lexicographic_order.Goals as goal
 

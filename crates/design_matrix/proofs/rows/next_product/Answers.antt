@@ -1,5 +1,6 @@
 use Rattle.std.proofs.Common.{ap, sym, ◌∙◌}
-use Rattle.exact_algebra.specs.Rational.{◌*ℚ◌, one-*ℚ}
+use Rattle.exact_algebra.specs.Rational.{◌*ℚ◌}
+use Rattle.exact_algebra.proofs.RationalLaws.{one-*ℚ}
 use Rattle.data_frame.specs.Views.{exact}
 use Rattle.design_matrix.proofs.rows.next_product.Goals as goal
 

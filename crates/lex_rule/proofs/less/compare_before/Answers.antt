@@ -3,7 +3,7 @@ use Rattle.std.specs.Ordering.{is_ne}
 use Rattle.std.proofs.lemmas.Result.{err_from_is_err_and}
 use Rattle.exact_algebra.specs.Fraction.{rational}
 use Rattle.exact_algebra.specs.Rational.{neg_ℚ}
-use Rattle.basis_model.specs.Lexicographic.{lex_cmp-Equal}
+use Rattle.basis_model.proofs.LexicographicLaws.{lex_cmp-Equal}
 use Rattle.basis_model.specs.Perturbed.{perturbed, ratio_on}
 use Rattle.lex_rule.specs.Compared.{of_ratio}
 use Rattle.lex_rule.specs.Scan.{IsNextAt, AreZeroBetween}

@@ -5,7 +5,7 @@ use Rattle.exact_algebra.specs.Order.{cmp_ℚ}
 use Rattle.loss_model.specs.Problem.{value_at}
 use Rattle.basis_model.specs.Perturbed.{nonbasic, side_of}
 use Rattle.lex_rule.specs.Scan.{IsNextAt, AreZeroBetween}
-use Rattle.basis_model.specs.Signs.{side-residual}
+use Rattle.basis_model.proofs.Signs.{side-residual}
 use Rattle.lex_rule.proofs.Values.{value_read}
 use Rattle.lex_rule.proofs.Signs.{at_held, at_own}
 use Rattle.lex_rule.proofs.sign.lex_sign.Goals as goal

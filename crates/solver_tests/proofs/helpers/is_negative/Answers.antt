@@ -1,7 +1,7 @@
 use Rattle.std.proofs.Common.{ℤ, pos, ◌≤ℤ◌, arith, subst}
 use Rattle.std.proofs.lemmas.Int.{ints}
 use Rattle.exact_algebra.specs.Fraction.{rational}
-use Rattle.exact_algebra.specs.Order.{sign_ℚ-not_below}
+use Rattle.exact_algebra.proofs.OrderLaws.{sign_ℚ-not_below}
 use Rattle.solver_tests.proofs.helpers.is_negative.Goals as goal
 
 pub returns-else-sign-lt0 : goal.returns-else-sign-lt0

@@ -2,7 +2,7 @@ use Rattle.std.proofs.Common.{◌≡◌, ◌<ℤ◌, pos, unsigned_abs, SFits, t
 use Rattle.std.proofs.lemmas.Int.{ints}
 use mir.Syntax.{w128}
 use Rattle.exact_algebra.specs.Rational.{neg_ℚ, quotient}
-use Rattle.exact_algebra.specs.Quotients.{quotient-negative}
+use Rattle.exact_algebra.proofs.Quotients.{quotient-negative}
 use Rattle.frac_core.proofs.parts.Parts.reduced.Goals as goal
 
 pub returns-then-d-lt0-clause-exact : goal.returns-then-d-lt0-clause-exact
