@@ -1,2 +1,3 @@
 pub mod Scaled
+pub mod WholeRanks
 pub mod Laws

@@ -1,6 +1,6 @@
 //! The laws of the regression in whole numbers. No function here does anything: its contract is the law.
 
-ghost use Rattle.whole_model.specs.Laws.{DualsShowMinimumInIntegers, MixIsDualInIntegers, LossInIntegers, MinimisesInIntegers, DualsInIntegers, FullRankInIntegers, ListIsOver};
+ghost use Rattle.whole_model.specs.Laws.{DualsShowMinimumInIntegers, MixIsDualInIntegers, LossInIntegers, MinimisesInIntegers, DualsInIntegers, FullRankInIntegers, ListIsOver, HoldsInIntegers, ExactIntervalInIntegers};
 
 use frac_core::Exact;
 use loss_model::Problem;
@@ -29,4 +29,11 @@ pub fn full_rank_in_integers<F: Exact>(problem: &Problem<F>)
 /// A list of fractions is a vector of whole numbers over the product of its denominators.
 pub fn vector_in_integers<F: Exact>(values: &[F])
     ensures { ListIsOver F.value values.now }
+{}
+
+/// A tested value of a coefficient holds among fractions exactly where it does among whole numbers, and
+/// so the ends of a rank interval bound the values that hold there (Koenker 2005, section 3.5).
+pub fn ranks_in_integers<F: Exact>(problem: &Problem<F>)
+    ensures holds { HoldsInIntegers F.value problem.now }
+    ensures exact { ExactIntervalInIntegers F.value problem.now }
 {}
