@@ -1,12 +1,13 @@
 -- The penalty rows cost lambda times the total variation of the slope.
-use Rattle.std.proofs.Common.{◌≡◌, ℕ, zero, suc, ◌+◌, ◌-◌, ◌++◌, Bool, true, false, not, List, [], ◌∷◌, length, map, pos, replicate, refl, sym, ap, ap₂, ◌∙◌, arith, if◌then◌else◌}
+use Rattle.std.specs.Prelude.{All}
+use Rattle.std.proofs.Common.{◌≡◌, ℕ, zero, suc, ◌+◌, ◌-◌, ◌++◌, Bool, true, false, List, [], ◌∷◌, length, map, pos, replicate, refl, sym, ap, ap₂, ◌∙◌, arith, if◌then◌else◌}
 use Rattle.std.specs.List.{range_with_len}
-use Rattle.std.specs.Cmp.{Equal-is}
-use Rattle.std.specs.Ordering.{is_eq}
+use Rattle.std.specs.Ordering.{is_lt}
 use Rattle.std.proofs.lemmas.List.{length-replicate}
+use Rattle.std.proofs.lemmas.List.Elements.{All-head, All-tail}
 use Rattle.exact_algebra.specs.Order.{cmp_ℚ}
-use Rattle.exact_algebra.proofs.OrderLaws.{cmp_ℚ-Equal}
-use Rattle.exact_algebra.specs.Rational.{ℚ, ◌+ℚ◌, ◌-ℚ◌, ◌*ℚ◌, neg_ℚ, inverse, whole}
+use Rattle.exact_algebra.proofs.OrderLaws.{by_cmp}
+use Rattle.exact_algebra.specs.Rational.{ℚ, ◌≤ℚ◌, ◌+ℚ◌, ◌-ℚ◌, ◌*ℚ◌, neg_ℚ, inverse, whole}
 use Rattle.exact_algebra.proofs.RationalLaws.{ring_ℚ, +ℚ_assoc, zero-+ℚ}
 use Rattle.exact_algebra.specs.RationalSums.{sum_ℚ}
 use Rattle.exact_algebra.proofs.RationalSumLaws.{sum_ℚ-same}
@@ -111,24 +112,24 @@ module _ (intercept : Bool) (columns before : ℕ) (p : PartOf) (b : ℕ → ℚ
       ∙ ap (λ z. z *ℚ total_variation p.knots (values intercept (λ j. b (before + j)))) (sym free)
 
 module _ (table : Table) (rows : List DesignRow) (intercept : Bool) (columns : ℕ) (b : ℕ → ℚ) where
-  zero_from : {x : ℚ} → is_eq (cmp_ℚ x (whole (pos 0))) ≡ true → x ≡ whole (pos 0)
-  zero_from {x} e = (cmp_ℚ-Equal x (whole (pos 0))).0 ((Equal-is (cmp_ℚ x (whole (pos 0)))).0 e)
+  nought : (x : ℚ) → whole (pos 0) ≤ℚ x → is_lt (cmp_ℚ (whole (pos 0)) x) ≡ false → x ≡ whole (pos 0)
+  nought x h = by_cmp (whole (pos 0)) x (λ o. is_lt o ≡ false → x ≡ whole (pos 0)) (λ l e. absurd (cc e)) (λ s e. sym s) (λ g e. absurd (g h))
 
-  one_smooth : (before : ℕ) (s : Smooth) → let p = part_of true table rows s in penalty (each (bend_row intercept columns before p) 0 p.bends) b ≡ p.lambda *ℚ total_variation p.knots (values intercept (λ j. b (before + j)))
+  one_smooth : (before : ℕ) (s : Smooth) → whole (pos 0) ≤ℚ exact s.lambda → let p = part_of true table rows s in penalty (each (bend_row intercept columns before p) 0 p.bends) b ≡ p.lambda *ℚ total_variation p.knots (values intercept (λ j. b (before + j)))
   unfolding part_of
-  one_smooth before s = by (is_eq (cmp_ℚ (exact s.lambda) (whole (pos 0)))) refl
+  one_smooth before s h = by (is_lt (cmp_ℚ (whole (pos 0)) (exact s.lambda))) refl
     where
-      by : (t : Bool) → is_eq (cmp_ℚ (exact s.lambda) (whole (pos 0))) ≡ t → let p = part_of true table rows s in penalty (each (bend_row intercept columns before p) 0 p.bends) b ≡ p.lambda *ℚ total_variation p.knots (values intercept (λ j. b (before + j)))
-      by true e = smooth_free intercept columns before (part_of true table rows s) b (ap (λ t. if not t then bends_of (knots_of table rows s) else []) e) (zero_from {x = exact s.lambda} e)
-      by false e = smooth_costs intercept columns before (part_of true table rows s) b (ap (λ t. if not t then bends_of (knots_of table rows s) else []) e)
+      by : (t : Bool) → is_lt (cmp_ℚ (whole (pos 0)) (exact s.lambda)) ≡ t → let p = part_of true table rows s in penalty (each (bend_row intercept columns before p) 0 p.bends) b ≡ p.lambda *ℚ total_variation p.knots (values intercept (λ j. b (before + j)))
+      by false e = smooth_free intercept columns before (part_of true table rows s) b (ap (λ t. if t then bends_of (knots_of table rows s) else []) e) (nought (exact s.lambda) h e)
+      by true e = smooth_costs intercept columns before (part_of true table rows s) b (ap (λ t. if t then bends_of (knots_of table rows s) else []) e)
 
-  rows_vary : (before : ℕ) (ss : List Smooth) → penalty (rows_from intercept columns before (map (part_of true table rows) ss)) b ≡ variation_from intercept before (map (part_of true table rows) ss) b
-  rows_vary before [] = refl
-  rows_vary before (s ∷ ss) =
+  rows_vary : (before : ℕ) (ss : List Smooth) → All (λ s. whole (pos 0) ≤ℚ exact s.lambda) ss → penalty (rows_from intercept columns before (map (part_of true table rows) ss)) b ≡ variation_from intercept before (map (part_of true table rows) ss) b
+  rows_vary before [] h = refl
+  rows_vary before (s ∷ ss) h =
       let p = part_of true table rows s in
       penalty_append (each (bend_row intercept columns before p) 0 p.bends) (rows_from intercept columns (before + width intercept p) (map (part_of true table rows) ss)) b
-      ∙ ap₂ ◌+ℚ◌ (one_smooth before s) (rows_vary (before + width intercept p) ss)
+      ∙ ap₂ ◌+ℚ◌ (one_smooth before s (All-head (λ q. whole (pos 0) ≤ℚ exact q.lambda) s ss h)) (rows_vary (before + width intercept p) ss (All-tail (λ q. whole (pos 0) ≤ℚ exact q.lambda) s ss h))
 
 pub penalty_is_variation : PenaltyIsVariation
 unfolding smoothing_of
-penalty_is_variation table design model b = rows_vary table design.rows model.intercept _ b 0 model.smooths
+penalty_is_variation table design model b h = rows_vary table design.rows model.intercept _ b 0 model.smooths h

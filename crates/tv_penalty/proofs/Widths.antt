@@ -1,17 +1,16 @@
 -- The lists and rows that smooths add have an entry for each name.
 use Rattle.std.specs.Prelude.{All, IfOk, OnOk}
-use Rattle.std.proofs.Common.{◌≡◌, ◌≤◌, ◌+◌, ◌-◌, ℕ, ◌++◌, ◌&&◌, Bool, true, false, not, List, [], ◌∷◌, Option, Some, None, Result, Ok, Err, Less, length, get_or, map, pos, replicate, nat_lt, if◌then◌else◌, refl, sym, ap, subst, ◌∙◌, arith, length-append}
-use Rattle.std.specs.Cmp.{Equal-is}
+use Rattle.std.proofs.Common.{◌≡◌, ◌≤◌, ◌+◌, ◌-◌, ℕ, ◌++◌, ◌&&◌, Bool, true, false, List, [], ◌∷◌, Option, Some, None, Result, Ok, Err, Less, length, get_or, map, pos, replicate, nat_lt, if◌then◌else◌, refl, sym, ap, subst, ◌∙◌, arith, length-append}
 use Rattle.std.specs.List.{flat_map}
 use Rattle.std.specs.Option.{option_or}
-use Rattle.std.specs.Ordering.{is_eq}
-use Rattle.std.proofs.lemmas.List.Elements.{All-nil, All-cons, All-append, All-map, All-head, All-tail}
+use Rattle.std.specs.Ordering.{is_lt}
+use Rattle.std.proofs.lemmas.List.Elements.{All-nil, All-cons, All-append, All-map}
 use Rattle.std.proofs.lemmas.List.{get_or-map, length-map, length-replicate}
 use Rattle.std.proofs.lemmas.List.FromFn.{length-map-range_with_len}
 use borrow.Author.Tests.{ltb-false}
-use Rattle.exact_algebra.proofs.OrderLaws.{by_cmp, cmp_ℚ-Equal}
 use Rattle.exact_algebra.specs.Order.{cmp_ℚ}
-use Rattle.exact_algebra.specs.Rational.{ℚ, ◌≤ℚ◌, whole}
+use Rattle.exact_algebra.proofs.OrderLaws.{by_cmp}
+use Rattle.exact_algebra.specs.Rational.{ℚ, whole}
 use Rattle.data_frame.specs.Views.{exact}
 use Rattle.formula_parser.specs.declared.formula.Formula.{Formula}
 use Rattle.formula_parser.specs.declared.formula.Smooth.{Smooth}
@@ -82,9 +81,8 @@ module _ (b : Bool) (pen : Bool) (table : Table) (rows : List DesignRow) where
       All-append (λ r. length r.x ≡ columns) (each (bend_row b columns before p) 0 p.bends) (rows_from b columns (before + width b p) (map (part_of pen table rows) ss))
       (each_wide b columns before p 0 p.bends (omega (arith, few_bends s)) (omega arith)) (rows_wide columns (before + width b p) ss (omega arith))
 
-  above_zero : (x : ℚ) → whole (pos 0) ≤ℚ x → is_eq (cmp_ℚ x (whole (pos 0))) ≡ false → cmp_ℚ (whole (pos 0)) x ≡ Less
-  above_zero x h n = by_cmp (whole (pos 0)) x (λ o. o ≡ Less) (λ k. refl)
-      (λ e. absurd (cc (n, (Equal-is (cmp_ℚ x (whole (pos 0)))).1 ((cmp_ℚ-Equal x (whole (pos 0))).1 (sym e))))) (λ k. absurd (k h))
+  above_zero : (x : ℚ) → is_lt (cmp_ℚ (whole (pos 0)) x) ≡ true → cmp_ℚ (whole (pos 0)) x ≡ Less
+  above_zero x = by_cmp (whole (pos 0)) x (λ o. is_lt o ≡ true → o ≡ Less) (λ l e. refl) (λ s e. absurd (cc e)) (λ g e. absurd (cc e))
 
   abbrev IsWeighted : PenaltyOf → Type 0
   IsWeighted r = cmp_ℚ (whole (pos 0)) r.lambda ≡ Less
@@ -93,24 +91,24 @@ module _ (b : Bool) (pen : Bool) (table : Table) (rows : List DesignRow) where
   each_weighted columns before p k [] h = All-nil IsWeighted
   each_weighted columns before p k (x ∷ xs) h = All-cons IsWeighted (bend_row b columns before p k x) (each (bend_row b columns before p) (k + 1) xs) h (each_weighted columns before p (k + 1) xs h)
 
-  smooth_weighted : (columns before : ℕ) (s : Smooth) → whole (pos 0) ≤ℚ exact s.lambda → All IsWeighted (each (bend_row b columns before (part_of pen table rows s)) 0 (part_of pen table rows s).bends)
+  smooth_weighted : (columns before : ℕ) (s : Smooth) → All IsWeighted (each (bend_row b columns before (part_of pen table rows s)) 0 (part_of pen table rows s).bends)
   unfolding part_of
-  smooth_weighted columns before s h = by pen (is_eq (cmp_ℚ (exact s.lambda) (whole (pos 0)))) refl
+  smooth_weighted columns before s = by pen (is_lt (cmp_ℚ (whole (pos 0)) (exact s.lambda))) refl
     where
       p : PartOf
       p = part_of pen table rows s
 
-      by : (t u : Bool) → is_eq (cmp_ℚ (exact s.lambda) (whole (pos 0))) ≡ u → All IsWeighted (each (bend_row b columns before p) 0 (if (t && not u) then bends_of (knots_of table rows s) else []))
-      by true false e = each_weighted columns before p 0 (bends_of (knots_of table rows s)) (above_zero (exact s.lambda) h e)
-      by true true e = All-nil IsWeighted
+      by : (t u : Bool) → is_lt (cmp_ℚ (whole (pos 0)) (exact s.lambda)) ≡ u → All IsWeighted (each (bend_row b columns before p) 0 (if (t && u) then bends_of (knots_of table rows s) else []))
+      by true true e = each_weighted columns before p 0 (bends_of (knots_of table rows s)) (above_zero (exact s.lambda) e)
+      by true false e = All-nil IsWeighted
       by false u e = All-nil IsWeighted
 
-  rows_weighted : (columns before : ℕ) (ss : List Smooth) → All (λ q. whole (pos 0) ≤ℚ exact q.lambda) ss → All IsWeighted (rows_from b columns before (map (part_of pen table rows) ss))
-  rows_weighted columns before [] h = All-nil IsWeighted
-  rows_weighted columns before (s ∷ ss) h =
+  rows_weighted : (columns before : ℕ) (ss : List Smooth) → All IsWeighted (rows_from b columns before (map (part_of pen table rows) ss))
+  rows_weighted columns before [] = All-nil IsWeighted
+  rows_weighted columns before (s ∷ ss) =
       let p = part_of pen table rows s in
       All-append IsWeighted (each (bend_row b columns before p) 0 p.bends) (rows_from b columns (before + width b p) (map (part_of pen table rows) ss))
-      (smooth_weighted columns before s (All-head (λ q. whole (pos 0) ≤ℚ exact q.lambda) s ss h)) (rows_weighted columns (before + width b p) ss (All-tail (λ q. whole (pos 0) ≤ℚ exact q.lambda) s ss h))
+      (smooth_weighted columns before s) (rows_weighted columns (before + width b p) ss)
 
 none_left : (o p : Option PenaltyFault) → option_or o p ≡ None → o ≡ None
 none_left None p e = refl
@@ -142,8 +140,8 @@ shaped pen table design model s is sound = record {
   entries = λ k d l. sym (length-map (get_or s.columns k d) exact) ∙ unmapped (map exact) (λ xs. length xs ≡ length s.names) s.columns lists k d l;
   penalties = λ k d l. sym (length-map (get_or s.rows k d).x exact) ∙ unmapped exact_penalty (λ r. length r.x ≡ length s.names) s.rows wide k d l;
   some = λ l. subst (λ n. 1 ≤ n) (sym count) (first_names (setting_of pen table design model) 0 (length design.names) model.smooths sound l);
-  weighted = λ h. unmapped exact_penalty (λ r. cmp_ℚ (whole (pos 0)) r.lambda ≡ Less) s.rows
-      (subst (All (λ r. cmp_ℚ (whole (pos 0)) r.lambda ≡ Less)) (sym (ap (λ z. z.rows) is)) (rows_weighted b pen table design.rows (length (flat_map (part_names b) ps)) 0 model.smooths h));
+  weighted = unmapped exact_penalty (λ r. cmp_ℚ (whole (pos 0)) r.lambda ≡ Less) s.rows
+      (subst (All (λ r. cmp_ℚ (whole (pos 0)) r.lambda ≡ Less)) (sym (ap (λ z. z.rows) is)) (rows_weighted b pen table design.rows (length (flat_map (part_names b) ps)) 0 model.smooths));
 }
   where
     b : Bool

@@ -1,9 +1,9 @@
--- Stated. What smooths add to a design: a column for the value of the function at each knot, and a row for its change of
+-- Law. What smooths add to a design: a column for the value of the function at each knot, and a row for its change of
 -- slope at each inner knot (Koenker, Ng and Portnoy 1994). Where the model has an intercept the function is 0 at the first
 -- knot, whose value has no column.
-use Rattle.std.specs.Prelude.{ℕ, ◌+◌, ◌-◌, ◌++◌, ◌&&◌, not, Bool, true, false, List, [], ◌∷◌, Option, codes, drop, length, map, pos, replicate, if◌then◌else◌}
+use Rattle.std.specs.Prelude.{ℕ, ◌+◌, ◌-◌, ◌++◌, ◌&&◌, Bool, true, false, List, [], ◌∷◌, Option, codes, drop, length, map, pos, replicate, if◌then◌else◌}
 use Rattle.std.specs.List.{flat_map, range_with_len}
-use Rattle.std.specs.Ordering.{is_eq}
+use Rattle.std.specs.Ordering.{is_lt}
 use Rattle.exact_algebra.specs.Order.{cmp_ℚ}
 use Rattle.exact_algebra.specs.Rational.{ℚ, ◌+ℚ◌, ◌-ℚ◌, neg_ℚ, inverse, whole}
 use Rattle.frac_core.specs.declared.frac128.Frac128.{Frac128}
@@ -71,9 +71,9 @@ bend_after knots k = bend_of (knot_at knots k) (knot_at knots (k + 1)) (knot_at 
 abbrev pub bends_of : List Frac128 → List Bend
 bends_of knots = map (bend_after knots) (range_with_len 0 (length knots - 2))
 
--- a smooth has penalty rows where they are asked for and its lambda isn't 0
+-- a smooth has penalty rows where they are asked for and its lambda is above 0
 abbrev pub has_rows : Bool → ℚ → Bool
-has_rows penalised lambda = penalised && not (is_eq (cmp_ℚ lambda (whole (pos 0))))
+has_rows penalised lambda = penalised && is_lt (cmp_ℚ (whole (pos 0)) lambda)
 
 -- a smooth with the cells of its column, its knots, and the bends that are penalised
 pub record PartOf : Type 0 where

@@ -1,10 +1,11 @@
 -- Law. What the columns and the penalty rows of smooths are for (Koenker, Ng and Portnoy 1994): the columns give a piecewise
 -- linear function's value at a record's number, and the penalty of a coefficient vector is lambda times the total variation
 -- of that function's slope.
-use Rattle.std.specs.Prelude.{◌≡◌, ℕ, zero, suc, ◌+◌, ◌-◌, Bool, true, false, List, [], ◌∷◌, length, map, pos}
-use Rattle.exact_algebra.specs.Rational.{ℚ, ◌+ℚ◌, ◌-ℚ◌, ◌*ℚ◌, inverse, whole}
+use Rattle.std.specs.Prelude.{◌≡◌, All, ℕ, zero, suc, ◌+◌, ◌-◌, Bool, true, false, List, [], ◌∷◌, length, map, pos}
+use Rattle.exact_algebra.specs.Rational.{ℚ, ◌+ℚ◌, ◌-ℚ◌, ◌*ℚ◌, inverse, whole, ◌≤ℚ◌}
 use Rattle.exact_algebra.specs.RationalSums.{sum_ℚ}
 use Rattle.frac_core.specs.declared.frac128.Frac128.{Frac128}
+use Rattle.data_frame.specs.Views.{exact}
 use Rattle.loss_model.specs.Spill.{abs_ℚ}
 use Rattle.formula_parser.specs.declared.formula.Formula.{Formula}
 use Rattle.design_matrix.specs.declared.design.Design.{Design}
@@ -46,7 +47,9 @@ variation_from intercept before (p ∷ ps) b =
 abbrev pub variation : Table → Design → Formula → (ℕ → ℚ) → ℚ
 variation table design model = variation_from model.intercept 0 (map (part_of true table design.rows) model.smooths)
 
--- the penalty rows cost lambda times the total variation of the slope, whatever the coefficients are
+-- where no lambda is negative, the penalty rows cost lambda times the total variation of the slope, whatever the
+-- coefficients are
 abbrev pub PenaltyIsVariation : Type 0
 PenaltyIsVariation =
-    (table : Table) (design : Design) (model : Formula) (b : ℕ → ℚ) → penalty (smoothing_by true table design model).rows b ≡ variation table design model b
+    (table : Table) (design : Design) (model : Formula) (b : ℕ → ℚ) → All (λ s. whole (pos 0) ≤ℚ exact s.lambda) model.smooths
+    → penalty (smoothing_by true table design model).rows b ≡ variation table design model b

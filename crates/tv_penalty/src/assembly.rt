@@ -185,8 +185,8 @@ pub fn qss_columns(
     smooths_added(alloc, false, frame, design, model)
 }
 
-/// The columns of `qss_columns`, and the penalty rows: for each inner knot of a smooth whose lambda isn't
-/// 0, in order, the change of slope there. With neighbours at the distances `g` below and `h` above it
+/// The columns of `qss_columns`, and the penalty rows: for each inner knot of a smooth whose lambda is
+/// above 0, in order, the change of slope there. With neighbours at the distances `g` below and `h` above it
 /// is `1/g` times the value at the knot below, minus `1/g + 1/h` times the value at the knot, plus
 /// `1/h` times the value at the knot above (Koenker, Ng and Portnoy 1994).
 ///

@@ -4,7 +4,7 @@
 //! The knots of a smooth are the distinct numbers of its column at the records of a design. The
 //! function's values at the knots are the coefficients; beside an intercept its value at the first
 //! knot is 0 and has no column. For each inner knot there is a penalty row: the change of slope
-//! there. The rows of a lambda 0 are left out.
+//! there. A lambda of 0 has no rows.
 //!
 //! The one contract: `knots`, `qss_columns` and `qss_rows` give the knots, the columns and the penalty
 //! rows as `specs/Knots.antt` and `specs/Smoothings.antt` define them, or the first fault by

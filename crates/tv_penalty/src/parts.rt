@@ -44,7 +44,7 @@ pub(crate) fn with_columns(intercept: bool, items: &[Frac128]) -> &[Frac128]
 fn has_rows(penalised: bool, lambda: Frac128) -> bool
     ensures { result ≡ has_rows_of penalised (exact lambda) }
 {
-    penalised && !lambda.compare(Frac128::zero()).is_eq()
+    penalised && Frac128::zero().compare(lambda).is_lt()
 }
 
 // The bends of a smooth of this number that are penalised.
