@@ -497,7 +497,7 @@ fn formula(alloc: Global, text: &str) -> Result<Formula, Fail> {
     })
 }
 
-fn are_short(terms: &[Term]) -> bool
+pub(crate) fn are_short(terms: &[Term]) -> bool
     ensures { IsTrue result → All (λ t. length t.variables < 2 ^ 32) terms.now }
 {
     for term in terms {
