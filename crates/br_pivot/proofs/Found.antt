@@ -21,6 +21,9 @@ use Rattle.br_pivot.specs.declared.solve.Solved.{Solved}
 use Rattle.br_pivot.specs.Solutions.{IsSolution}
 
 module _ {F : Type 0} (value : F → Fraction) (theta : ℚ) (limit : ℕ) (s : Solution F) (basis : Basis) (square : Square F) where
+  abbrev p : Problem F
+  p = (place_of value s.reached.tableau).task.problem
+
   abbrev made : Solved F
   made = record { vertex = s.fitted.vertex; basic = s.fitted.basic; inverse = square; basis = basis; trail = s.reached.trail }
 
@@ -33,6 +36,9 @@ module _ {F : Type 0} (value : F → Fraction) (theta : ℚ) (limit : ℕ) (s : 
   pub found : (task : Task F) → (place_of value s.reached.tableau).task ≡ task → HasCosts (sample value task.problem) theta → IsFound value task theta limit s
       → IsTaken value (place_of value s.reached.tableau) basis.rows square → IsSolution value task.problem theta (record { vertex = s.fitted.vertex; basic = s.fitted.basic; inverse = square; basis = basis; trail = s.reached.trail })
   found task same costs h t =
+      let under = h.solved.underway in
+      let optimal = vertex_is_optimal value p theta (place_of value s.reached.tableau).rows (place_of value s.reached.tableau).inverse s.fitted.vertex s.fitted.basic under.is_place.size under.is_place.is_basis
+          h.fitted.vertex h.fitted.basic (subst (λ (x : Task F). HasCosts (sample value x.problem) theta) (sym same) costs) h.solved.stop in
       subst (λ (x : Task F). IsSolution value x.problem theta made) same
       (record {
         minimises = minimum (sample value p) theta (value_at value s.fitted.vertex.coef) _ optimal;
@@ -43,12 +49,3 @@ module _ {F : Type 0} (value : F → Fraction) (theta : ℚ) (limit : ℕ) (s : 
         vertex = at_taken t (λ rows a. IsVertexAt value p rows a s.fitted.vertex) h.fitted.vertex;
         basic = at_taken t (λ rows a. AreBasicDuals value p theta rows a s.fitted.vertex s.fitted.basic) h.fitted.basic;
       })
-    where
-      abbrev p : Problem F
-      p = (place_of value s.reached.tableau).task.problem
-
-      under = h.solved.underway
-
-      optimal =
-          vertex_is_optimal value p theta (place_of value s.reached.tableau).rows (place_of value s.reached.tableau).inverse s.fitted.vertex s.fitted.basic under.is_place.size under.is_place.is_basis
-          h.fitted.vertex h.fitted.basic (subst (λ (x : Task F). HasCosts (sample value x.problem) theta) (sym same) costs) h.solved.stop

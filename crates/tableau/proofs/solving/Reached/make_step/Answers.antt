@@ -1,10 +1,12 @@
-use Rattle.std.proofs.Common.{◌≡◌, length, refl, ap, ◌∙◌}
+use Rattle.std.proofs.Common.{◌≡◌, length, refl, sym, ap, subst, ◌∙◌}
 use Rattle.std.proofs.lemmas.List.{length_push}
 use Rattle.exact_algebra.specs.Fraction.{rational}
 use Rattle.loss_model.specs.declared.process.Exchange.{Exchange}
 use Rattle.pivot_rule.proofs.Passing.{mover_some}
+use Rattle.loss_model.specs.Problem.{sample}
 use Rattle.pivot_rule.specs.Steps.{IsSolvingStep}
-use Rattle.tableau_model.specs.Places.{at_of, sample_of}
+use Rattle.pivot_rule.specs.Trails.{IsSolvingTrail}
+use Rattle.tableau_model.specs.Places.{Task, at_of, sample_of}
 use Rattle.tableau_model.specs.Questions.{solving}
 use Rattle.tableau.specs.Bodies.{place_of}
 use Rattle.tableau.proofs.Trails.{trail_more}
@@ -35,7 +37,7 @@ returns-in-Ok-push-clause-made g c =
     record {
       underway = record {
         is_place = exchanged.place;
-        lawful = rw exchanged.same
+        lawful = subst (λ (t : Task _). IsSolvingTrail value (sample value t.problem) theta after (place_of value c.exchange.new.self).rows) (sym exchanged.same)
             (trail_more value (sample_of value h) theta before.trail after h.rows (place_of value c.exchange.new.self).rows made c.requires.underway.lawful refl
             (at_place value h c.requires.underway.is_place (λ a. IsSolvingStep (sample_of value h) (at_of h) a theta made.position made.row) c.requires.step)
             refl pushed refl refl exchanged.rows);
