@@ -21,8 +21,9 @@ use Rattle.pivot_rule.specs.Duals.{HasCosts}
 use Rattle.pivot_rule.specs.Trails.{AtBasis}
 use Rattle.pivot_rule.proofs.Solved.{any_default}
 use Rattle.br_pivot.specs.declared.solve.Solved.{Solved}
-use Rattle.br_pivot.specs.Solves.{IsSolution, IsSolveStop}
-use Rattle.br_pivot.proofs.Inverses.{basis_of, ends_of}
+use Rattle.fraction_tableau.proofs.Inverses.{basis_of, ends_of}
+use Rattle.br_pivot.specs.Solutions.{IsSolution}
+use Rattle.br_pivot.specs.Solves.{IsSolveStop}
 use Rattle.br_pivot.proofs.Limits.{solution_limited}
 use Rattle.rq_words.specs.declared.job.FitJob.{FitJob}
 use Rattle.rq_engine.specs.declared.process.Told.{Told}
