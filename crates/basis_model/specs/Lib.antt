@@ -1,11 +1,8 @@
 pub mod Lexicographic
 pub mod Perturbed
-pub mod Signs
-pub mod Ratios
 pub mod RatioSpill
 pub mod Laws
 pub mod Parts
 pub mod Basis
-pub mod Sums
 pub mod BasisSpills
 pub mod PerturbedLoss

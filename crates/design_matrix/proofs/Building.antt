@@ -1,5 +1,5 @@
 -- A design from its parts, and the first fault from those that are looked for before.
-use Rattle.std.proofs.Common.{◌≡◌, ◌<◌, ◌≤◌, ◌-◌, ℕ, Bool, true, false, List, Option, Some, None, cond, length, map, nat_eq, lt-ltb, le-ltb, eq-eqb, refl, sym, ap, subst, ◌∙◌, arith, All, Vec, filter, ◌+◌, ◌^◌}
+use Rattle.std.proofs.Common.{◌≡◌, ◌<◌, ◌≤◌, ◌-◌, ℕ, Bool, true, false, List, Option, Some, None, cond, length, map, nat_eq, lt-ltb, le-ltb, eq-eqb, inl, inr, refl, sym, ap, subst, ◌∙◌, arith, All, Vec, filter, ◌+◌, ◌^◌}
 use Rattle.std.proofs.lemmas.Bool.{eqb-true}
 use Rattle.std.proofs.lemmas.List.Elements.{All-weaker}
 use Rattle.std.specs.List.{flat_map, range_with_len}
@@ -11,116 +11,89 @@ use Rattle.frac_core.specs.declared.frac128.Frac128.{Frac128}
 use Rattle.loss_model.specs.declared.spill.Spill.{Spill}
 use Rattle.design_matrix.specs.declared.design.Design.{Design}
 use Rattle.design_matrix.specs.declared.fault.DesignFault.{DesignFault}
-use Rattle.design_matrix.specs.declared.fault.DesignFault.TheVariants.{ResponseNotNumeric, NoRows, NoColumns, TooManyColumns, Overflow}
-use Rattle.design_matrix.specs.Cells.{Column, Table, column_of, is_complete, kept, used_names}
-use Rattle.design_matrix.specs.Coded.{Coded, coded_term, coded_terms, is_text}
+use Rattle.design_matrix.specs.declared.fault.DesignFault.TheVariants.{NoRows, NoColumns, TooManyColumns, Overflow}
+use Rattle.design_matrix.specs.Cells.{Column, Table, column_of, is_kept, kept, used_names, weights_in}
+use Rattle.design_matrix.specs.Coded.{Coded, coded_term, coded_terms}
 use Rattle.design_matrix.specs.declared.coded.Coded.{Coded as Held}
-use Rattle.design_matrix.specs.Views.{terms_seen}
+use Rattle.design_matrix.specs.declared.used.Used.{Used}
+use Rattle.data_frame.specs.Views.{lent_column}
+use Rattle.design_matrix.specs.Views.{AreUsed, terms_seen, weights_seen}
 use Rattle.design_matrix.specs.Widths.{IsUsable}
 use Rattle.design_matrix.specs.Designs.{AllFit, OverflowsFirst, design_of, exact_design, exact_row, row_of}
-use Rattle.design_matrix.specs.Faults.{HasDesign, IsOverflow, fault_of, lacks_columns, late_fault, response_fault, rows_fault, terms_fault, widths_fault}
+use Rattle.design_matrix.specs.Faults.{HasCause, HasDesign, HasLateCause, IsDesign, IsOverflow, fault_of, lacks_columns, late_fault, rows_fault, terms_fault, used_fault}
 use Rattle.design_matrix.specs.Lists.{each}
 use Rattle.design_matrix.specs.Parts.{Part, column_name, columns_in, columns_of, term_columns}
 use Rattle.design_matrix.proofs.Firsts.{or_first, or_second}
 use Rattle.design_matrix.proofs.Lengths.{filtered_below, filtered_fewer, terms_part}
 use Rattle.design_matrix.proofs.Usable.{terms_usable}
 
-made_is : (table : Table) (model : Formula) (coding : Coding) (columns : List (List Part)) (records : List ℕ) (response : Column) (d : Design)
-    → columns ≡ columns_of table model coding → records ≡ kept table model → response ≡ column_of table model.response
-    → d.names ≡ map column_name columns → map exact_row d.rows ≡ each (row_of response columns) 0 records → d.dropped ≡ table.records - length records
-    → exact_design d ≡ design_of table model coding
+made_is : (table : Table) (model : Formula) (coding : Coding) (weights : Option Column) (records : List ℕ) (columns : List (List Part)) (response : Column) (d : Design)
+    → columns ≡ columns_of table model coding records → response ≡ column_of table model.response
+    → d.names ≡ map column_name columns → map exact_row d.rows ≡ each (row_of response weights columns) 0 records → d.dropped ≡ table.records - length records
+    → exact_design d ≡ design_of table model coding weights records
 unfolding design_of
-made_is table model coding columns records response d p q r e f g =
+made_is table model coding weights records columns response d p r e f g =
     let names = e ∙ ap (map column_name) p in
     let rows = f
-    ∙ ap (λ x. each (row_of x columns) 0 records) r
-    ∙ ap (λ x. each (row_of (column_of table model.response) x) 0 records) p
-    ∙ ap (λ x. each (row_of (column_of table model.response) (columns_of table model coding)) 0 x) q in
-    let dropped = g ∙ ap (λ x. table.records - length x) q in
-    λ i. record { names = names i; rows = rows i; dropped = dropped i }
+    ∙ ap (λ x. each (row_of x weights columns) 0 records) r
+    ∙ ap (λ x. each (row_of (column_of table model.response) weights x) 0 records) p in
+    λ i. record { names = names i; rows = rows i; dropped = g i }
 
-pub made : (table : Table) (model : Formula) (coding : Coding) (columns : List (List Part)) (records : List ℕ) (response : Column) (d : Design)
-    → columns ≡ columns_of table model coding → records ≡ kept table model → response ≡ column_of table model.response
-    → d.names ≡ map column_name columns → map exact_row d.rows ≡ each (row_of response columns) 0 records → d.dropped ≡ table.records - length records
-    → AllFit columns records → HasDesign table model coding d
-made table model coding columns records response d p q r e f g fits =
+pub made : (table : Table) (model : Formula) (coding : Coding) (weights : Option Column) (records : List ℕ) (columns : List (List Part)) (response : Column) (d : Design)
+    → columns ≡ columns_of table model coding records → response ≡ column_of table model.response
+    → d.names ≡ map column_name columns → map exact_row d.rows ≡ each (row_of response weights columns) 0 records → d.dropped ≡ table.records - length records
+    → AllFit columns records → HasDesign table model coding weights records d
+made table model coding weights records columns response d p r e f g fits =
     let P : List (List Part) → Type 0 = λ x. AllFit x records in
-    let Q : List ℕ → Type 0 = λ x. AllFit (columns_of table model coding) x in
-    record { exact = made_is table model coding columns records response d p q r e f g; fits = subst Q q (subst P p fits) }
+    record { exact = made_is table model coding weights records columns response d p r e f g; fits = subst P p fits }
 
-pub overflowed : (table : Table) (model : Formula) (coding : Coding) (columns : List (List Part)) (records : List ℕ) (fault : DesignFault) (s : Spill Frac128)
-    → columns ≡ columns_of table model coding → records ≡ kept table model → fault ≡ Overflow s → OverflowsFirst columns records s
-    → IsOverflow table model coding fault
-overflowed table model coding columns records fault s p q e o =
+pub overflowed : (table : Table) (model : Formula) (coding : Coding) (records : List ℕ) (columns : List (List Part)) (fault : DesignFault) (s : Spill Frac128)
+    → columns ≡ columns_of table model coding records → fault ≡ Overflow s → OverflowsFirst columns records s
+    → IsOverflow table model coding records fault
+overflowed table model coding records columns fault s p e o =
     let P : List (List Part) → Type 0 = λ x. OverflowsFirst x records s in
-    let Q : List ℕ → Type 0 = λ x. OverflowsFirst (columns_of table model coding) x s in
-    record { spill = s; is = e; first = subst Q q (subst P p o) }
+    record { spill = s; is = e; first = subst P p o }
 
-pub seen_columns : (table : Table) (model : Formula) (coding : Coding) (columns : List (List Part)) (terms : List (List Coded))
-    → columns ≡ columns_in model.intercept terms → terms ≡ coded_terms table model coding → columns ≡ columns_of table model coding
+pub seen_columns : (table : Table) (model : Formula) (coding : Coding) (records : List ℕ) (columns : List (List Part)) (terms : List (List Coded))
+    → columns ≡ columns_in model.intercept terms → terms ≡ coded_terms table model coding records → columns ≡ columns_of table model coding records
 unfolding columns_of
-seen_columns table model coding columns terms e f = e ∙ ap (columns_in model.intercept) f
+seen_columns table model coding records columns terms e f = e ∙ ap (columns_in model.intercept) f
 
--- the faults of the columns
+pub coded_from : (table : Table) (model : Formula) (coding : Coding) (records : List ℕ) (terms : List (List Coded))
+    → terms ≡ each (coded_term table model coding records) 0 model.terms → terms ≡ coded_terms table model coding records
+unfolding coded_terms
+coded_from table model coding records terms e = e
 
-pub late_terms : (table : Table) (model : Formula) (coding : Coding) (terms : List (List Coded)) (fault : DesignFault)
-    → terms ≡ coded_terms table model coding → terms_fault terms ≡ Some fault → late_fault table model coding ≡ Some fault
-unfolding late_fault
-late_terms table model coding terms fault e f = or_first _ _ _ (ap terms_fault (sym e) ∙ f)
+-- the faults of the design's columns
 
-pub late_empty : (table : Table) (model : Formula) (coding : Coding) (terms : List (List Coded))
-    → terms ≡ coded_terms table model coding → terms_fault terms ≡ None → lacks_columns model ≡ true → late_fault table model coding ≡ Some NoColumns
-unfolding late_fault
-late_empty table model coding terms e f h =
-    or_second _ _ _ (ap terms_fault (sym e) ∙ f) (or_first _ _ _ (ap (λ b. cond b (Some NoColumns) None) h))
+module _ (table : Table) (model : Formula) (coding : Coding) (records : List ℕ) (terms : List (List Coded)) (same : terms ≡ coded_terms table model coding records) where
+  pub late_terms : (fault : DesignFault) → terms_fault terms ≡ Some fault → late_fault table model coding records ≡ Some fault
+  unfolding late_fault
+  late_terms fault f = or_first _ _ _ (ap terms_fault (sym same) ∙ f)
 
-pub late_many : (table : Table) (model : Formula) (coding : Coding) (terms : List (List Coded))
-    → terms ≡ coded_terms table model coding → terms_fault terms ≡ None → lacks_columns model ≡ false
-    → 128 < length (columns_in model.intercept terms) → late_fault table model coding ≡ Some TooManyColumns
-unfolding late_fault
-late_many table model coding terms e f h k =
-    let n : length (columns_in model.intercept terms) ≡ length (columns_of table model coding) = ap length (seen_columns table model coding _ terms refl e) in
-    or_second _ _ _ (ap terms_fault (sym e) ∙ f)
-    (or_second _ _ _ (ap (λ b. cond b (Some NoColumns) None) h)
-    (ap (λ b. cond b (Some TooManyColumns) None) (lt-ltb 128 (length (columns_of table model coding)) (omega arith))))
+  pub late_empty : terms_fault terms ≡ None → lacks_columns model ≡ true → late_fault table model coding records ≡ Some NoColumns
+  unfolding late_fault
+  late_empty f h = or_second _ _ _ (ap terms_fault (sym same) ∙ f) (or_first _ _ _ (ap (λ b. cond b (Some NoColumns) None) h))
 
-pub late_none : (table : Table) (model : Formula) (coding : Coding) (terms : List (List Coded))
-    → terms ≡ coded_terms table model coding → terms_fault terms ≡ None → lacks_columns model ≡ false
-    → length (columns_in model.intercept terms) ≤ 128 → late_fault table model coding ≡ None
-unfolding late_fault
-late_none table model coding terms e f h k =
-    let n : length (columns_in model.intercept terms) ≡ length (columns_of table model coding) = ap length (seen_columns table model coding _ terms refl e) in
-    or_second _ _ _ (ap terms_fault (sym e) ∙ f)
-    (or_second _ _ _ (ap (λ b. cond b (Some NoColumns) None) h)
-    (ap (λ b. cond b (Some TooManyColumns) None) (le-ltb 128 (length (columns_of table model coding)) (omega arith))))
+  pub late_many : terms_fault terms ≡ None → lacks_columns model ≡ false → 128 < length (columns_in model.intercept terms)
+      → late_fault table model coding records ≡ Some TooManyColumns
+  unfolding late_fault
+  late_many f h k =
+      let n : length (columns_in model.intercept terms) ≡ length (columns_of table model coding records) = ap length (seen_columns table model coding records _ terms refl same) in
+      or_second _ _ _ (ap terms_fault (sym same) ∙ f)
+      (or_second _ _ _ (ap (λ b. cond b (Some NoColumns) None) h)
+      (ap (λ b. cond b (Some TooManyColumns) None) (lt-ltb 128 (length (columns_of table model coding records)) (omega arith))))
 
--- the faults of the columns come last
+  pub late_none : terms_fault terms ≡ None → lacks_columns model ≡ false → length (columns_in model.intercept terms) ≤ 128
+      → late_fault table model coding records ≡ None
+  unfolding late_fault
+  late_none f h k =
+      let n : length (columns_in model.intercept terms) ≡ length (columns_of table model coding records) = ap length (seen_columns table model coding records _ terms refl same) in
+      or_second _ _ _ (ap terms_fault (sym same) ∙ f)
+      (or_second _ _ _ (ap (λ b. cond b (Some NoColumns) None) h)
+      (ap (λ b. cond b (Some TooManyColumns) None) (le-ltb 128 (length (columns_of table model coding records)) (omega arith))))
 
-pub fault_response : (table : Table) (model : Formula) (coding : Coding) (response : Column) → response ≡ column_of table model.response
-    → is_text response ≡ true → fault_of table model coding ≡ Some ResponseNotNumeric
-unfolding fault_of
-fault_response table model coding response e f =
-    or_first _ _ _ (ap (λ x. response_fault x) (sym e) ∙ ap (λ b. cond b (Some ResponseNotNumeric) None) f)
-
-sound_response : (table : Table) (model : Formula) (response : Column) → response ≡ column_of table model.response
-    → is_text response ≡ false → response_fault (column_of table model.response) ≡ None
-sound_response table model response e f = ap (λ x. response_fault x) (sym e) ∙ ap (λ b. cond b (Some ResponseNotNumeric) None) f
-
-pub fault_width : (table : Table) (model : Formula) (coding : Coding) (response : Column) (names : List Text) (fault : DesignFault)
-    → response ≡ column_of table model.response → is_text response ≡ false → names ≡ used_names model → widths_fault table names ≡ Some fault
-    → fault_of table model coding ≡ Some fault
-unfolding fault_of
-fault_width table model coding response names fault e f g h =
-    or_second _ _ _ (sound_response table model response e f) (or_first _ _ _ (ap (widths_fault table) (sym g) ∙ h))
-
-pub fault_rows : (table : Table) (model : Formula) (coding : Coding) (response : Column) (names : List Text) (records : List ℕ)
-    → response ≡ column_of table model.response → is_text response ≡ false → names ≡ used_names model → widths_fault table names ≡ None
-    → records ≡ kept table model → length records ≡ 0 → fault_of table model coding ≡ Some NoRows
-unfolding fault_of
-fault_rows table model coding response names records e f g h p q =
-    or_second _ _ _ (sound_response table model response e f)
-    (or_second _ _ _ (ap (widths_fault table) (sym g) ∙ h)
-    (or_first _ _ _ (ap rows_fault (sym p) ∙ ap (λ b. cond b (Some NoRows) None) (eq-eqb (length records) 0 q))))
+-- the faults of the columns that are used come first, and those of the design's columns last
 
 not_zero : (n : ℕ) → (n ≡ 0 → ⊥) → nat_eq n 0 ≡ false
 not_zero n h = at (nat_eq n 0) refl
@@ -129,21 +102,58 @@ not_zero n h = at (nat_eq n 0) refl
     at true e = absurd (h (eqb-true n 0 e))
     at false e = e
 
-pub fault_late : (table : Table) (model : Formula) (coding : Coding) (response : Column) (names : List Text) (records : List ℕ) (late : Option DesignFault)
-    → response ≡ column_of table model.response → is_text response ≡ false → names ≡ used_names model → widths_fault table names ≡ None
-    → records ≡ kept table model → (length records ≡ 0 → ⊥) → late_fault table model coding ≡ late → fault_of table model coding ≡ late
-unfolding fault_of
-fault_late table model coding response names records late e f g h p q l =
-    or_second _ _ _ (sound_response table model response e f)
-    (or_second _ _ _ (ap (widths_fault table) (sym g) ∙ h)
-    (or_second _ _ _ (ap rows_fault (sym p) ∙ ap (λ b. cond b (Some NoRows) None) (not_zero (length records) q)) l))
+module _ (table : Table) (model : Formula) (coding : Coding) (weights : Option Text) where
+  pub fault_used : (fault : DesignFault) → used_fault table model weights ≡ Some fault → fault_of table model coding weights ≡ Some fault
+  unfolding fault_of
+  fault_used fault h = or_first _ _ _ h
 
--- what the steps before know
+  module _ (sound : used_fault table model weights ≡ None) (records : List ℕ) (here : records ≡ kept table model weights) where
+    pub fault_rows : length records ≡ 0 → fault_of table model coding weights ≡ Some NoRows
+    unfolding fault_of
+    fault_rows q =
+        or_second _ _ _ sound
+        (or_first _ _ _ (ap rows_fault (sym here) ∙ ap (λ b. cond b (Some NoRows) None) (eq-eqb (length records) 0 q)))
 
-pub coded_from : (table : Table) (model : Formula) (coding : Coding) (terms : List (List Coded)) (records : List ℕ)
-    → terms ≡ each (coded_term table model coding records) 0 model.terms → records ≡ kept table model → terms ≡ coded_terms table model coding
-unfolding coded_terms
-coded_from table model coding terms records e f = e ∙ ap (λ r. each (coded_term table model coding r) 0 model.terms) f
+    pub fault_late : (late : Option DesignFault) → (length records ≡ 0 → ⊥) → late_fault table model coding records ≡ late
+        → fault_of table model coding weights ≡ late
+    unfolding fault_of
+    fault_late late q l =
+        or_second _ _ _ sound
+        (or_second _ _ _ (ap rows_fault (sym here) ∙ ap (λ b. cond b (Some NoRows) None) (not_zero (length records) q))
+        (ap (late_fault table model coding) (sym here) ∙ l))
+
+-- the kept records by the columns that are used
+pub kept_from : (table : Table) (model : Formula) (weights : Option Text) (used : Used) (records : List ℕ) (n : ℕ)
+    → AreUsed table model weights used → n ≡ table.records
+    → records ≡ filter (is_kept (map lent_column used.columns.items) (weights_seen used.weights)) (range_with_len 0 n) → records ≡ kept table model weights
+unfolding kept
+kept_from table model weights used records n are g h =
+    h
+    ∙ ap (λ c. filter (is_kept c (weights_seen used.weights)) (range_with_len 0 n)) are.columns
+    ∙ ap (λ w. filter (is_kept (map (column_of table) (used_names model weights)) w) (range_with_len 0 n)) are.weights_are
+    ∙ ap (λ m. filter (is_kept (map (column_of table) (used_names model weights)) (weights_in table weights)) (range_with_len 0 m)) g
+
+-- the design, and the cause of a fault, by what the columns that are used give
+module _ (table : Table) (model : Formula) (coding : Coding) (weights : Option Text) {records : List ℕ} (here : records ≡ kept table model weights) where
+  pub designed : {used : Used} {design : Design} → AreUsed table model weights used → (length records ≡ 0 → ⊥) → used_fault table model weights ≡ None
+      → late_fault table model coding records ≡ None → HasDesign table model coding (weights_seen used.weights) records design
+      → IsDesign table model coding weights design
+  designed {used} {design} are some sound late has =
+      let P : Option Column → Type 0 = λ w. HasDesign table model coding w records design in
+      let Q : List ℕ → Type 0 = λ r. HasDesign table model coding (weights_in table weights) r design in
+      record { sound = fault_late table model coding weights sound records here None some late; design_is = subst Q here (subst P are.weights_are has) }
+
+  pub caused : {fault : DesignFault} → (length records ≡ 0 → ⊥) → used_fault table model weights ≡ None → HasLateCause table model coding records fault
+      → HasCause table model coding weights fault
+  caused {fault} some sound cause =
+      let P : List ℕ → Type 0 = λ r. IsOverflow table model coding r fault in
+      elim cause [
+        | inl memory ↦ inl memory
+        | inr rest ↦ elim rest [
+          | inl late ↦ inr (inl (fault_late table model coding weights sound records here (Some fault) some late))
+          | inr both ↦ inr (inr (fault_late table model coding weights sound records here None some both.0, subst P here both.1))
+        ]
+      ]
 
 pub usable_from : (terms : List (Vec Held Global)) (intercept : Bool) → terms_fault (terms_seen terms) ≡ None
     → length (columns_in intercept (terms_seen terms)) ≤ 128 → All (λ vs. All IsUsable vs.items) terms
@@ -151,15 +161,6 @@ unfolding terms_fault
 usable_from terms intercept e h =
     let part : length (flat_map term_columns (terms_seen terms)) ≤ length (columns_in intercept (terms_seen terms)) = terms_part intercept (terms_seen terms) in
     terms_usable terms e (omega arith)
-
-pub kept_from : (table : Table) (model : Formula) (columns : List Column) (names : List Text) (records : List ℕ) (n : ℕ)
-    → columns ≡ map (column_of table) names → names ≡ used_names model → n ≡ table.records
-    → records ≡ filter (is_complete columns) (range_with_len 0 n) → records ≡ kept table model
-unfolding kept
-kept_from table model columns names records n e f g h =
-    h
-    ∙ ap (λ c. filter (is_complete c) (range_with_len 0 n)) (e ∙ ap (map (column_of table)) f)
-    ∙ ap (λ m. filter (is_complete (map (column_of table) (used_names model))) (range_with_len 0 m)) g
 
 pub numbered_from : (test : ℕ → Bool) (n : ℕ) (records : List ℕ) → records ≡ filter test (range_with_len 0 n) → n < 2 ^ 32
     → All (λ i. i + 1 < 2 ^ 32) records

@@ -12,3 +12,4 @@ pub mod Building
 pub mod Ascending
 pub mod Shapes
 pub mod Chosen
+pub mod Weighed

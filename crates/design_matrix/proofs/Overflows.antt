@@ -27,7 +27,7 @@ first_row columns records place index s h e fits o =
     let P : ℕ → Type 0 = λ r. OverflowsInRow columns place (r + 1) s in
     record { place = place; there = h; row = subst P e o; before = fits }
 
-pub any_default : (xs : List ℕ) (i d e : ℕ) → i < length xs → get_or xs i d ≡ get_or xs i e
+pub any_default : {A : Type 0} (xs : List A) (i : ℕ) (d e : A) → i < length xs → get_or xs i d ≡ get_or xs i e
 any_default [] i d e h = absurd (omega arith)
 any_default (x ∷ xs) zero d e h = refl
 any_default (x ∷ xs) (suc i) d e h = any_default xs i d e (omega arith)

@@ -37,7 +37,7 @@ pub keeps : (test : ℕ → Bool) (n : ℕ) (old new : List ℕ) → old ≡ fil
     → new ≡ filter test (range_with_len 0 (n + 1))
 keeps test n old new e f t = f ∙ ap (λ l. l ++ (n ∷ [])) e ∙ sym (filter_more test n true t)
 
-append_nothing : {A : Type 0} (xs : List A) → xs ++ [] ≡ xs
+pub append_nothing : {A : Type 0} (xs : List A) → xs ++ [] ≡ xs
 append_nothing [] = refl
 append_nothing (x ∷ xs) = ap (λ l. x ∷ l) (append_nothing xs)
 

@@ -1,7 +1,10 @@
--- Stated. The columns that a formula uses, and the records that are kept. Records are counted from 0 here.
-use Rattle.std.specs.Prelude.{ℕ, ◌++◌, Bool, false, List, [], ◌∷◌, Option, None, is_some, map, pos, filter, slice_index_or, unwrap_or}
+-- Stated. The columns that a formula and weights use, and the records that are kept. Records are counted from 0 here.
+use Rattle.std.specs.Prelude.{ℕ, ◌++◌, ◌&&◌, Bool, false, List, [], ◌∷◌, Option, Some, None, is_some, map, option_map, option_to_list, pos, filter, slice_index_or, unwrap_or}
 use Rattle.std.specs.List.{filter_map, flat_map, list_all, range_with_len}
 use Rattle.std.specs.Option.{option_map_or}
+use Rattle.std.specs.Ordering.{is_ne}
+use Rattle.std.specs.declared.cmp.Ordering.{Ordering}
+use Rattle.exact_algebra.specs.Order.{cmp_ℚ}
 use Rattle.exact_algebra.specs.Rational.{ℚ, whole}
 use Rattle.frac_core.specs.declared.frac128.Frac128.{Frac128}
 use Rattle.data_frame.specs.Cells.{ColumnOf, numbers, factor, too_wide}
@@ -46,15 +49,36 @@ number_at (too_wide rec) i = whole (pos 0)
 abbrev pub present : {K : Type 0} → List (Option K) → List ℕ → List K
 present cells records = filter_map (cell_of cells) records
 
--- the names of the columns that are used: the response, the variables by terms and then by variables, and the smooths
-unfoldable pub used_names : Formula → List Text
-used_names model =
-    model.response ∷ (flat_map (λ t. map (λ v. v.name) t.variables) model.terms ++ map (λ s. s.name) model.smooths)
+-- the names of the columns that are used: the response, the weights, the variables by terms and then by variables, and
+-- the smooths
+unfoldable pub used_names : Formula → Option Text → List Text
+used_names model weights =
+    model.response
+    ∷ option_to_list weights
+    ++ (flat_map (λ t. map (λ v. v.name) t.variables) model.terms ++ map (λ s. s.name) model.smooths)
+
+-- the column of the weights, where there are weights
+abbrev pub weights_in : Table → Option Text → Option Column
+weights_in table weights = option_map (column_of table) weights
+
+-- the weight of a record, which is 1 without weights
+abbrev pub weight_at : Option Column → ℕ → ℚ
+weight_at None i = whole (pos 1)
+weight_at (Some column) i = number_at column i
+
+-- how it compares with 0
+abbrev pub weight_sign : Option Column → ℕ → Ordering
+weight_sign weights i = cmp_ℚ (weight_at weights i) (whole (pos 0))
 
 -- none of these columns misses the cell of the record
 abbrev pub is_complete : List Column → ℕ → Bool
 is_complete columns i = list_all (λ column. is_present column i) columns
 
--- the records that are kept: those of which no used cell is missing
-unfoldable pub kept : Table → Formula → List ℕ
-kept table model = filter (is_complete (map (column_of table) (used_names model))) (range_with_len 0 table.records)
+-- so it is kept, unless its weight is 0
+abbrev pub is_kept : List Column → Option Column → ℕ → Bool
+is_kept columns weights i = is_complete columns i && is_ne (weight_sign weights i)
+
+-- the records that are kept
+unfoldable pub kept : Table → Formula → Option Text → List ℕ
+kept table model weights =
+    filter (is_kept (map (column_of table) (used_names model weights)) (weights_in table weights)) (range_with_len 0 table.records)

@@ -14,7 +14,7 @@ use Rattle.formula_parser.specs.declared.formula.Variable.{Variable}
 use Rattle.formula_parser.specs.declared.formula.Term.{Term}
 use Rattle.formula_parser.specs.declared.formula.Formula.{Formula}
 use Rattle.design_matrix.specs.Lists.{each}
-use Rattle.design_matrix.specs.Cells.{Column, Table, column_of, kept, number_in, present}
+use Rattle.design_matrix.specs.Cells.{Column, Table, column_of, number_in, present}
 use Rattle.design_matrix.specs.Levels.{level_of, levels_of, number_order, number_text, text_order}
 
 -- what a variable is at the kept records: numbers, or a factor by the texts of its levels and the level of each record
@@ -111,8 +111,8 @@ coded_term table model contrasts records number t =
     each (coded_variable table model contrasts records number t.variables) 0 t.variables
 
 -- the terms of a formula, variable by variable
-unfoldable pub coded_terms : Table → Formula → Coding → List (List Coded)
-coded_terms table model contrasts = each (coded_term table model contrasts (kept table model)) 0 model.terms
+unfoldable pub coded_terms : Table → Formula → Coding → List ℕ → List (List Coded)
+coded_terms table model contrasts records = each (coded_term table model contrasts records) 0 model.terms
 
 -- the number of a variable's columns
 abbrev pub width_in : Coding → Values → ℕ

@@ -1,5 +1,5 @@
 -- Stated. The design of a table and a formula.
-use Rattle.std.specs.Prelude.{◌<◌, ◌≤◌, ℕ, ◌+◌, ◌-◌, ◌^◌, List, [], length, map, pos, All, slice_index_or, take}
+use Rattle.std.specs.Prelude.{◌<◌, ◌≤◌, ℕ, ◌+◌, ◌-◌, ◌^◌, List, [], Option, length, map, pos, All, slice_index_or, take}
 use Rattle.exact_algebra.specs.Rational.{ℚ, whole}
 use Rattle.contrasts.specs.declared.Coding.{Coding}
 use Rattle.frac_core.specs.declared.exact.OpKind.TheVariants.{Mul}
@@ -14,7 +14,7 @@ use Rattle.formula_parser.specs.declared.formula.Formula.{Formula}
 use Rattle.design_matrix.specs.declared.design.Design.{Design}
 use Rattle.design_matrix.specs.declared.design.DesignRow.{DesignRow}
 use Rattle.design_matrix.specs.Lists.{each}
-use Rattle.design_matrix.specs.Cells.{Column, Table, column_of, kept, number_at}
+use Rattle.design_matrix.specs.Cells.{Column, Table, column_of, number_at, weight_at}
 use Rattle.design_matrix.specs.Parts.{Part, column_name, columns_of, factors}
 use Rattle.design_matrix.specs.Products.{Fits, FitUpTo, product, value}
 
@@ -32,20 +32,20 @@ pub record DesignOf : Type 0 where
   pub dropped : ℕ
 
 -- the row of a kept record, at its place among those
-abbrev pub row_of : Column → List (List Part) → ℕ → ℕ → RowOf
-row_of response columns place i = record {
+abbrev pub row_of : Column → Option Column → List (List Part) → ℕ → ℕ → RowOf
+row_of response weights columns place i = record {
   rec = i + 1;
   x = map (λ column. product (factors column place)) columns;
   y = number_at response i;
-  weight = whole (pos 1);
+  weight = weight_at weights i;
 }
 
--- the design of a table and a formula under a coding
-unfoldable pub design_of : Table → Formula → Coding → DesignOf
-design_of table model coding = record {
-  names = map column_name (columns_of table model coding);
-  rows = each (row_of (column_of table model.response) (columns_of table model coding)) 0 (kept table model);
-  dropped = table.records - length (kept table model);
+-- the design of a table and a formula under a coding, with these weights, where these records are kept
+unfoldable pub design_of : Table → Formula → Coding → Option Column → List ℕ → DesignOf
+design_of table model coding weights records = record {
+  names = map column_name (columns_of table model coding records);
+  rows = each (row_of (column_of table model.response) weights (columns_of table model coding records)) 0 records;
+  dropped = table.records - length records;
 }
 
 -- a design with the values of its numbers

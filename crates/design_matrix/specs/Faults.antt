@@ -1,24 +1,31 @@
--- Stated. Why a table and a formula have no design: the faults in the order in which they are looked for.
-use Rattle.std.specs.Prelude.{◌≡◌, ◌⊎◌, ◌==◌, ◌&&◌, ℕ, not, Bool, List, Option, Some, None, length, nat_lt, if◌then◌else◌}
+-- Stated. Why a table, a formula and weights have no design: the faults in the order in which they are looked for.
+use Rattle.std.specs.Prelude.{◌≡◌, ◌⊎◌, ◌==◌, ◌&&◌, ◌+◌, ℕ, not, Bool, List, Option, Some, None, is_some, length, option_and_then, nat_lt, if◌then◌else◌}
+use Rattle.std.specs.List.{range_with_len}
 use Rattle.std.specs.Option.{option_or}
+use Rattle.std.specs.Ordering.{is_lt}
 use Rattle.contrasts.specs.declared.Coding.{Coding}
 use Rattle.frac_core.specs.declared.frac128.Frac128.{Frac128}
 use Rattle.loss_model.specs.declared.spill.Spill.{Spill}
 use Rattle.data_frame.specs.Cells.{numbers, factor, too_wide}
 use Rattle.data_frame.specs.Records.{Text}
+use Rattle.data_frame.specs.Tables.{column_named}
 use Rattle.formula_parser.specs.declared.formula.Formula.{Formula}
 use Rattle.design_matrix.specs.declared.design.Design.{Design}
 use Rattle.design_matrix.specs.declared.fault.DesignFault.{DesignFault}
-use Rattle.design_matrix.specs.declared.fault.DesignFault.TheVariants.{OutOfMemory, ResponseNotNumeric, NumberTooWide, NoRows, OneLevel, NoColumns, TooManyColumns, Overflow}
-use Rattle.design_matrix.specs.Cells.{Column, Table, column_of, kept, used_names}
+use Rattle.design_matrix.specs.declared.fault.DesignFault.TheVariants.{OutOfMemory, UnknownWeights, ResponseNotNumeric, WeightNotNumeric, NumberTooWide, NegativeWeight, NoRows, OneLevel, NoColumns, TooManyColumns, Overflow}
+use Rattle.design_matrix.specs.Cells.{Column, Table, column_of, kept, used_names, weight_sign, weights_in}
 use Rattle.design_matrix.specs.Coded.{Coded, coded_terms, is_text, width}
 use Rattle.design_matrix.specs.Designs.{AllFit, OverflowsFirst, design_of, exact_design}
 use Rattle.design_matrix.specs.Lists.{first_some}
 use Rattle.design_matrix.specs.Parts.{columns_of}
 
--- the response is a factor
-abbrev pub response_fault : Column → Option DesignFault
-response_fault column = if is_text column then Some ResponseNotNumeric else None
+-- no column has the name of the weights
+abbrev pub name_fault : Table → Text → Option DesignFault
+name_fault table name = if is_some (column_named name table) then None else Some UnknownWeights
+
+-- a column of numbers, the response or the weights, is a factor
+abbrev pub factor_fault : DesignFault → Column → Option DesignFault
+factor_fault fault column = if is_text column then Some fault else None
 
 -- a column has a number that is too wide
 abbrev pub wide_fault : Text → Column → Option DesignFault
@@ -29,6 +36,22 @@ wide_fault name (too_wide rec) = Some (NumberTooWide rec name)
 -- the first of these columns with a number that is too wide
 unfoldable pub widths_fault : Table → List Text → Option DesignFault
 widths_fault table names = first_some (λ name. wide_fault name (column_of table name)) names
+
+-- the weight of a record is below 0
+abbrev pub weight_fault : Option Column → ℕ → Option DesignFault
+weight_fault weights i = if is_lt (weight_sign weights i) then Some (NegativeWeight (i + 1)) else None
+
+-- the first such record of so many, kept or not
+unfoldable pub weights_fault : Option Column → ℕ → Option DesignFault
+weights_fault weights records = first_some (weight_fault weights) (range_with_len 0 records)
+
+-- the first fault of the columns that are used
+unfoldable pub used_fault : Table → Formula → Option Text → Option DesignFault
+used_fault table model weights =
+    option_or (option_and_then (name_fault table) weights)
+    (option_or (factor_fault ResponseNotNumeric (column_of table model.response))
+    (option_or (option_and_then (factor_fault WeightNotNumeric) (weights_in table weights))
+    (option_or (widths_fault table (used_names model weights)) (weights_fault (weights_in table weights) table.records))))
 
 -- no record is kept
 abbrev pub rows_fault : List ℕ → Option DesignFault
@@ -58,42 +81,44 @@ empty_fault model = if lacks_columns model then Some NoColumns else None
 abbrev pub columns_fault : ℕ → Option DesignFault
 columns_fault columns = if nat_lt 128 columns then Some TooManyColumns else None
 
--- the first fault of the columns
-unfoldable pub late_fault : Table → Formula → Coding → Option DesignFault
-late_fault table model coding =
-    option_or (terms_fault (coded_terms table model coding))
-    (option_or (empty_fault model) (columns_fault (length (columns_of table model coding))))
+-- the first fault of the design's columns, at the records that are kept
+unfoldable pub late_fault : Table → Formula → Coding → List ℕ → Option DesignFault
+late_fault table model coding records =
+    option_or (terms_fault (coded_terms table model coding records))
+    (option_or (empty_fault model) (columns_fault (length (columns_of table model coding records))))
 
 -- the first fault but for products that overflow
-unfoldable pub fault_of : Table → Formula → Coding → Option DesignFault
-fault_of table model coding =
-    option_or (response_fault (column_of table model.response))
-    (option_or (widths_fault table (used_names model)) (option_or (rows_fault (kept table model)) (late_fault table model coding)))
+unfoldable pub fault_of : Table → Formula → Coding → Option Text → Option DesignFault
+fault_of table model coding weights =
+    option_or (used_fault table model weights)
+    (option_or (rows_fault (kept table model weights)) (late_fault table model coding (kept table model weights)))
 
 -- a product overflows: the first by record, by column and by the number of its factors
-pub record IsOverflow (table : Table) (model : Formula) (coding : Coding) (fault : DesignFault) : Type 0 where
+pub record IsOverflow (table : Table) (model : Formula) (coding : Coding) (records : List ℕ) (fault : DesignFault) : Type 0 where
   pub spill : Spill Frac128
   pub is : fault ≡ Overflow spill
-  pub first : OverflowsFirst (columns_of table model coding) (kept table model) spill
+  pub first : OverflowsFirst (columns_of table model coding records) records spill
 
--- the design is that of the table and the formula, and no product overflows
-pub record HasDesign (table : Table) (model : Formula) (coding : Coding) (design : Design) : Type 0 where
-  pub exact : exact_design design ≡ design_of table model coding
-  pub fits : AllFit (columns_of table model coding) (kept table model)
+-- the design is that of these records with these weights, and no product overflows
+pub record HasDesign (table : Table) (model : Formula) (coding : Coding) (weights : Option Column) (records : List ℕ) (design : Design) : Type 0 where
+  pub exact : exact_design design ≡ design_of table model coding weights records
+  pub fits : AllFit (columns_of table model coding records) records
 
--- and nothing is wrong with these
-pub record IsDesign (table : Table) (model : Formula) (coding : Coding) (design : Design) : Type 0 where
-  pub sound : fault_of table model coding ≡ None
-  pub design_is : HasDesign table model coding design
+-- the design is that of the table, the formula and the weights, and nothing is wrong with these
+pub record IsDesign (table : Table) (model : Formula) (coding : Coding) (weights : Option Text) (design : Design) : Type 0 where
+  pub sound : fault_of table model coding weights ≡ None
+  pub design_is : HasDesign table model coding (weights_in table weights) (kept table model weights) design
 
 -- Why there is no design. Want of memory has no cause here; an overflow is looked for last.
-abbrev pub HasCause : Table → Formula → Coding → DesignFault → Type 0
-HasCause table model coding fault =
+abbrev pub HasCause : Table → Formula → Coding → Option Text → DesignFault → Type 0
+HasCause table model coding weights fault =
     (fault ≡ OutOfMemory)
-    ⊎ ((fault_of table model coding ≡ Some fault) ⊎ ((fault_of table model coding ≡ None) × IsOverflow table model coding fault))
+    ⊎ ((fault_of table model coding weights ≡ Some fault)
+    ⊎ ((fault_of table model coding weights ≡ None) × IsOverflow table model coding (kept table model weights) fault))
 
--- the same where the faults before those of the columns are ruled out
-abbrev pub HasLateCause : Table → Formula → Coding → DesignFault → Type 0
-HasLateCause table model coding fault =
+-- the same where the faults before those of the design's columns are ruled out
+abbrev pub HasLateCause : Table → Formula → Coding → List ℕ → DesignFault → Type 0
+HasLateCause table model coding records fault =
     (fault ≡ OutOfMemory)
-    ⊎ ((late_fault table model coding ≡ Some fault) ⊎ ((late_fault table model coding ≡ None) × IsOverflow table model coding fault))
+    ⊎ ((late_fault table model coding records ≡ Some fault)
+    ⊎ ((late_fault table model coding records ≡ None) × IsOverflow table model coding records fault))

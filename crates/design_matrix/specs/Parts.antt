@@ -46,9 +46,9 @@ abbrev pub columns_in : Bool → List (List Coded) → List (List Part)
 columns_in true terms = [] ∷ flat_map term_columns terms
 columns_in false terms = flat_map term_columns terms
 
--- the columns of the design of a table and a formula
-unfoldable pub columns_of : Table → Formula → Coding → List (List Part)
-columns_of table model coding = columns_in model.intercept (coded_terms table model coding)
+-- the columns of the design of a table and a formula at the records that are kept
+unfoldable pub columns_of : Table → Formula → Coding → List ℕ → List (List Part)
+columns_of table model coding records = columns_in model.intercept (coded_terms table model coding records)
 
 -- the labels with colons between
 abbrev pub column_name : List Part → Text

@@ -1,11 +1,16 @@
 -- Inner. How contracts see what the code holds of variables and columns.
-use Rattle.std.specs.Prelude.{List, Vec, map}
+use Rattle.std.specs.Prelude.{◌≡◌, List, Option, Vec, map, option_map}
 use Rattle.std.specs.declared.alloc.Global.{Global}
 use Rattle.design_matrix.specs.declared.coded.Values.{Values as Held}
 use Rattle.design_matrix.specs.declared.coded.Values.TheVariants as held
 use Rattle.design_matrix.specs.declared.coded.Coded.{Coded as HeldCoded}
 use Rattle.design_matrix.specs.declared.part.Part.{Part as HeldPart}
-use Rattle.design_matrix.specs.Cells.{number_in}
+use Rattle.design_matrix.specs.declared.used.Used.{Used}
+use Rattle.design_matrix.specs.declared.weights.Weights.{Weights}
+use Rattle.data_frame.specs.Records.{Text}
+use Rattle.data_frame.specs.Views.{lent_column}
+use Rattle.formula_parser.specs.declared.formula.Formula.{Formula}
+use Rattle.design_matrix.specs.Cells.{Column, Table, column_of, number_in, used_names, weights_in}
 use Rattle.design_matrix.specs.Coded.{Coded, Values, categorical, numeric}
 use Rattle.design_matrix.specs.Parts.{Part, part_of}
 
@@ -29,3 +34,13 @@ terms_seen terms = map (λ vs. map coded_seen vs.items) terms
 -- the columns of the design, part by part
 abbrev pub columns_seen : List (Vec HeldPart Global) → List (List Part)
 columns_seen columns = map (λ parts. map part_seen parts.items) columns
+
+-- the column of the weights
+abbrev pub weights_seen : Weights → Option Column
+weights_seen weights = option_map lent_column weights.column
+
+-- these are the columns that the formula and the weights use
+pub record AreUsed (table : Table) (model : Formula) (weights : Option Text) (used : Used) : Type 0 where
+  pub response : lent_column used.response ≡ column_of table model.response
+  pub weights_are : weights_seen used.weights ≡ weights_in table weights
+  pub columns : map lent_column used.columns.items ≡ map (column_of table) (used_names model weights)

@@ -1,25 +1,25 @@
 //! From a table and a formula to their design.
 
-ghost use Rattle.std.specs.Prelude.{◌≡◌, ◌≤◌, ◌<◌, ◌+◌, ◌^◌, ◌⊎◌, None, All, IfErr, IfOk, IsNone, OnOk, length, map};
+ghost use Rattle.std.specs.Prelude.{◌≡◌, ◌≤◌, ◌<◌, ◌+◌, ◌^◌, ◌⊎◌, None, All, IfErr, IfOk, OnOk, length, map, option_copied};
 ghost use Rattle.data_frame.specs.Views.{lent_column};
-ghost use Rattle.design_matrix.specs.Cells.{column_of, kept};
+ghost use Rattle.design_matrix.specs.Cells.{column_of};
 ghost use Rattle.design_matrix.specs.Coded.{coded_terms};
 ghost use Rattle.design_matrix.specs.Faults.{HasCause, HasDesign, HasLateCause, IsDesign, IsOverflow, lacks_columns, late_fault};
 ghost use Rattle.design_matrix.specs.Parts.{column_name, columns_in};
 ghost use Rattle.design_matrix.specs.Shapes.{IsShaped};
-ghost use Rattle.design_matrix.specs.Views.{columns_seen, terms_seen};
+ghost use Rattle.design_matrix.specs.Views.{columns_seen, terms_seen, weights_seen};
 ghost use Rattle.design_matrix.specs.Widths.{IsUsable};
 
-use crate::cells::{column, kept_records};
 use crate::checks::check_terms;
-use crate::coded::{Coded, Coder, is_text};
+use crate::coded::{Coded, Coder};
+use crate::kept::kept_records;
 use crate::part::Part;
 use crate::parts::{column_count, design_columns, name_of};
 use crate::rows::design_rows;
-use crate::used::{names_used, used_columns};
+use crate::used::{Used, used_columns};
 use crate::{Design, DesignFault};
 use contrasts::Coding;
-use data_frame::{Column, Frame};
+use data_frame::Frame;
 use formula_parser::Formula;
 use frac_core::{List, Text};
 use std::alloc::{AllocError, Global};
@@ -52,25 +52,25 @@ fn has_no_columns(model: &Formula) -> bool
 fn design_from(
     alloc: Global,
     coder: &Coder<'_>,
-    response: &Column<'_>,
+    used: &Used<'_>,
     terms: &[Vec<Coded<'_>>],
 ) -> Result<Design, DesignFault>
-    requires kept { coder.now.records.now ≡ kept coder.now.frame.now coder.now.model.now }
     requires numbered { All (λ i. i + 1 < 2 ^ 32) coder.now.records.now }
     requires fewer { length coder.now.records.now ≤ coder.now.frame.now.records }
     requires counted { coder.now.frame.now.records < 2 ^ 32 }
-    requires response { lent_column response.now ≡ column_of coder.now.frame.now coder.now.model.now.response }
-    requires coded { terms_seen terms.now ≡ coded_terms coder.now.frame.now coder.now.model.now coder.now.contrasts }
+    requires response { lent_column used.now.response ≡ column_of coder.now.frame.now coder.now.model.now.response }
+    requires coded { terms_seen terms.now ≡ coded_terms coder.now.frame.now coder.now.model.now coder.now.contrasts coder.now.records.now }
     requires usable { All (λ vs. All IsUsable vs.items) terms.now }
     requires few { length (columns_in coder.now.model.now.intercept (terms_seen terms.now)) ≤ 128 }
     requires short { All (λ vs. length vs.items < 2 ^ 32) terms.now }
-    ensures design { IfOk result (HasDesign coder.now.frame.now coder.now.model.now coder.now.contrasts) }
+    ensures design { IfOk result (HasDesign coder.now.frame.now coder.now.model.now coder.now.contrasts
+        (weights_seen used.now.weights) coder.now.records.now) }
     ensures fault { IfErr result (λ e. (e ≡ DesignFault.OutOfMemory)
-        ⊎ IsOverflow coder.now.frame.now coder.now.model.now coder.now.contrasts e) }
+        ⊎ IsOverflow coder.now.frame.now coder.now.model.now coder.now.contrasts coder.now.records.now e) }
 {
     let columns = design_columns(alloc, coder.model.intercept, terms)?;
     let names = names_of(alloc, &columns)?;
-    let rows = design_rows(alloc, response, &columns, coder.records)?;
+    let rows = design_rows(alloc, used, &columns, coder.records)?;
     let dropped = coder.frame.records() - coder.records.len() as u32;
     Ok(Design {
         names: List::from(names),
@@ -80,20 +80,16 @@ fn design_from(
 }
 
 // The design of the records that a coder keeps.
-fn build_kept(
-    alloc: Global,
-    coder: &Coder<'_>,
-    response: &Column<'_>,
-) -> Result<Design, DesignFault>
-    requires kept { coder.now.records.now ≡ kept coder.now.frame.now coder.now.model.now }
+fn build_kept(alloc: Global, coder: &Coder<'_>, used: &Used<'_>) -> Result<Design, DesignFault>
     requires numbered { All (λ i. i + 1 < 2 ^ 32) coder.now.records.now }
     requires fewer { length coder.now.records.now ≤ coder.now.frame.now.records }
     requires counted { coder.now.frame.now.records < 2 ^ 32 }
-    requires response { lent_column response.now ≡ column_of coder.now.frame.now coder.now.model.now.response }
+    requires response { lent_column used.now.response ≡ column_of coder.now.frame.now coder.now.model.now.response }
     requires short { All (λ t. length t.variables < 2 ^ 32) coder.now.model.now.terms }
-    ensures sound { OnOk result (late_fault coder.now.frame.now coder.now.model.now coder.now.contrasts ≡ None) }
-    ensures design { IfOk result (HasDesign coder.now.frame.now coder.now.model.now coder.now.contrasts) }
-    ensures fault { IfErr result (HasLateCause coder.now.frame.now coder.now.model.now coder.now.contrasts) }
+    ensures sound { OnOk result (late_fault coder.now.frame.now coder.now.model.now coder.now.contrasts coder.now.records.now ≡ None) }
+    ensures design { IfOk result (HasDesign coder.now.frame.now coder.now.model.now coder.now.contrasts
+        (weights_seen used.now.weights) coder.now.records.now) }
+    ensures fault { IfErr result (HasLateCause coder.now.frame.now coder.now.model.now coder.now.contrasts coder.now.records.now) }
 {
     let terms = coder.terms(alloc)?;
     check_terms(alloc, &terms)?;
@@ -104,24 +100,29 @@ fn build_kept(
     if count > 128 {
         return Err(DesignFault::TooManyColumns);
     }
-    match design_from(alloc, coder, response, &terms) {
+    match design_from(alloc, coder, used, &terms) {
         Ok(design) => Ok(design),
         Err(fault) => Err(fault),
     }
 }
 
-/// Makes the design of a table by a formula.
+/// Makes the design of a table by a formula and weights.
+///
+/// The columns that are used are the response, the weights, those of the variables by terms and then
+/// by variables, and those of the smooths. A record is kept where none of their cells is missing and
+/// its weight isn't 0; the others are counted. Without weights each weight is 1.
 ///
 /// Want of memory may come at any step. Each other fault comes exactly where it is the first, in the
-/// order of `DesignFault`; an overflow is that of the first product by record, then by column, and
-/// then by the number of its factors. The table and the formula have a design exactly where none
-/// comes.
+/// order of `DesignFault`: `NumberTooWide` is that of the first used column with one, and
+/// `NegativeWeight` that of the first record with one, kept or not; an overflow is that of the first
+/// product by record, then by column, and then by the number of its factors. The table, the formula
+/// and the weights have a design exactly where none comes.
 ///
 /// A design has a row, in each row an entry for each name and a weight above 0, and at most 128
 /// columns; where the formula has no smooths it has a column.
 ///
-/// There are no weights: each is 1. A name in the formula that is no column of the table counts as a
-/// factor whose cells are all missing.
+/// A name in the formula that is no column of the table counts as a factor whose cells are all
+/// missing.
 pub fn build(
     alloc: Global,
     frame: &Frame,
@@ -129,19 +130,13 @@ pub fn build(
     coding: Coding,
     weights: Option<&str>,
 ) -> Result<Design, DesignFault>
-    requires unweighted { IsNone weights }
     requires short { All (λ t. length t.variables < 2 ^ 32) model.now.terms }
-    ensures design { IfOk result (IsDesign frame.now model.now coding) }
+    ensures design { IfOk result (IsDesign frame.now model.now coding (option_copied weights.entry)) }
     ensures shape { IfOk result (IsShaped model.now) }
-    ensures fault { IfErr result (HasCause frame.now model.now coding) }
+    ensures fault { IfErr result (HasCause frame.now model.now coding (option_copied weights.entry)) }
 {
-    let response = column(frame, model.response.as_str());
-    if is_text(&response) {
-        return Err(DesignFault::ResponseNotNumeric);
-    }
-    let names = names_used(alloc, model)?;
-    let columns = used_columns(alloc, frame, &names)?;
-    let records = kept_records(alloc, &columns, frame.records())?;
+    let used = used_columns(alloc, frame, model, weights)?;
+    let records = kept_records(alloc, &used, frame.records())?;
     let kept = records.as_slice();
     if kept.is_empty() {
         return Err(DesignFault::NoRows);
@@ -152,7 +147,7 @@ pub fn build(
         contrasts: coding,
         records: kept,
     };
-    match build_kept(alloc, &coder, &response) {
+    match build_kept(alloc, &coder, &used) {
         Ok(design) => Ok(design),
         Err(fault) => Err(fault),
     }

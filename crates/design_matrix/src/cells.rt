@@ -1,13 +1,11 @@
-//! The columns that a formula uses, and the records that are kept.
+//! Columns and their cells.
 
-ghost use Rattle.std.specs.Prelude.{◌≡◌, ◌<◌, IfOk, filter, is_some, length, map, option_map};
-ghost use Rattle.std.specs.List.{list_all, range_with_len};
+ghost use Rattle.std.specs.Prelude.{◌≡◌, is_some, option_map};
 ghost use Rattle.data_frame.specs.Views.{exact, lent_column};
-ghost use Rattle.design_matrix.specs.Cells.{cell_of, column_of, is_complete, is_present, number_at, number_in};
+ghost use Rattle.design_matrix.specs.Cells.{cell_of, column_of, is_present, number_at, number_in};
 
 use data_frame::{Column, Frame};
 use frac_core::{Exact, Frac128};
-use std::alloc::{AllocError, Global};
 
 /// The column of a name; one that the table hasn't is a factor without cells.
 #[tactic(auto, unfolding(crate::specs::Cells::column_of))]
@@ -30,7 +28,8 @@ pub(crate) fn cell<'a, T>(cells: &'a [Option<T>], index: u32) -> Option<&'a T>
     }
 }
 
-fn has_value(column: &Column<'_>, index: u32) -> bool
+/// Whether the cell of a record isn't missing.
+pub(crate) fn has_value(column: &Column<'_>, index: u32) -> bool
     ensures { result ≡ is_present (lent_column column.now) index }
 {
     match *column {
@@ -48,30 +47,6 @@ pub(crate) fn number(cells: &[Option<Frac128>], index: u32) -> Frac128
         Some(number) => *number,
         None => Frac128::zero(),
     }
-}
-
-fn is_whole(columns: &[Column<'_>], index: u32) -> bool
-    ensures { result ≡ list_all (λ column. is_present (lent_column column) index) columns.now }
-{
-    columns.iter().all(|column| has_value(column, index))
-}
-
-/// The records of which no cell is missing in these columns, counted from 0.
-pub(crate) fn kept_records(
-    alloc: Global,
-    columns: &[Column<'_>],
-    records: u32,
-) -> Result<Vec<u32>, AllocError>
-    ensures { IfOk result (λ kept. kept.items
-        ≡ filter (is_complete (map lent_column columns.now)) (range_with_len 0 records)) }
-{
-    let mut kept = Vec::new(alloc);
-    for index in 0..records {
-        if is_whole(columns, index) {
-            kept.push(index)?;
-        }
-    }
-    Ok(kept)
 }
 
 /// The number of a record in a column, and 0 where there is none.

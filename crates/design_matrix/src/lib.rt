@@ -1,9 +1,10 @@
-//! Designs: the rows of a regression from a table and a formula.
+//! Designs: the rows of a regression from a table, a formula and weights.
 //!
-//! The columns that a formula uses are its response, those of its variables and those of its
-//! smooths. A record is kept where none of their cells is missing, and gives a row. A variable is a
-//! factor where its column is, or where `factor` was written; its levels are the distinct cells of
-//! the kept records, by bytes, or by value in a column of numbers.
+//! The columns that are used are the response, the weights, those of the formula's variables and
+//! those of its smooths. A record is kept where none of their cells is missing and its weight isn't
+//! 0, and gives a row; without weights each weight is 1. A variable is a factor where its column is,
+//! or where `factor` was written; its levels are the distinct cells of the kept records, by bytes, or
+//! by value in a column of numbers.
 //!
 //! A factor is coded by contrasts where the model has the columns that those of its levels add up
 //! to, and else by an indicator for each level. These are: for a factor that is a whole term the
@@ -15,9 +16,10 @@
 //! of a column of each of its variables, those of the first variable varying fastest. Their entries
 //! are products from the left, and their names are joined by `:`.
 //!
-//! The crate's one contract: `build` gives the design that `specs/Designs.antt` defines, with the
-//! coding rule of `specs/Coded.antt` and the columns of `specs/Parts.antt`, or the first fault by
-//! `specs/Faults.antt`. That levels are the distinct cells in ascending order is a law, in `laws`.
+//! The crate's one contract: `build` gives the design that `specs/Designs.antt` defines, of the
+//! records that `specs/Cells.antt` keeps, with the coding rule of `specs/Coded.antt` and the columns
+//! of `specs/Parts.antt`, or the first fault by `specs/Faults.antt`. That levels are the distinct
+//! cells in ascending order is a law, in `laws`.
 //!
 //! It stands on `data_frame` for tables, on `formula_parser` for formulas, on `contrasts` for
 //! codings, and on `loss_model` for the place of an operation that overflows.
@@ -30,12 +32,14 @@ mod checks;
 mod coded;
 mod design;
 mod fault;
+mod kept;
 pub mod laws;
 mod levels;
 mod part;
 mod parts;
 mod rows;
 mod used;
+mod weights;
 
 pub use builder::build;
 pub use design::{Design, DesignRow};

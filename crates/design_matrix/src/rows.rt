@@ -9,13 +9,13 @@ ghost use Rattle.design_matrix.specs.Designs.{AllFit, OverflowsFirst, OverflowsI
 ghost use Rattle.design_matrix.specs.Lists.{each};
 ghost use Rattle.design_matrix.specs.Parts.{factors};
 ghost use Rattle.design_matrix.specs.Products.{Fits, product, value};
-ghost use Rattle.design_matrix.specs.Views.{columns_seen, part_seen};
+ghost use Rattle.design_matrix.specs.Views.{columns_seen, part_seen, weights_seen};
 ghost use Rattle.frac_core.specs.declared.frac128.Frac128.{Frac128 as Fraction128};
 
 use crate::cells::number_of;
 use crate::part::Part;
+use crate::used::Used;
 use crate::{DesignFault, DesignRow};
-use data_frame::Column;
 use frac_core::{Exact, Frac128, List, OpKind};
 use loss_model::{Quantity, Site, Spill, times_at};
 use std::alloc::Global;
@@ -92,7 +92,7 @@ fn entries_of(
 /// The rows of these records.
 pub(crate) fn design_rows(
     alloc: Global,
-    response: &Column<'_>,
+    used: &Used<'_>,
     columns: &[Vec<Part<'_, '_>>],
     records: &[u32],
 ) -> Result<Vec<DesignRow>, DesignFault>
@@ -100,7 +100,7 @@ pub(crate) fn design_rows(
     requires few { length columns.now < 2 ^ 32 }
     requires short { All (λ parts. length parts.items < 2 ^ 32) columns.now }
     ensures exact { IfOk result (λ rows. map exact_row rows.items
-        ≡ each (row_of (lent_column response.now) (columns_seen columns.now)) 0 records.now) }
+        ≡ each (row_of (lent_column used.now.response) (weights_seen used.now.weights) (columns_seen columns.now)) 0 records.now) }
     ensures fits { OnOk result (AllFit (columns_seen columns.now) records.now) }
     ensures fault { IfErr result (λ e. (e ≡ DesignFault.OutOfMemory)
         ⊎ ((s : Spilt Fraction128) × (e ≡ DesignFault.Overflow s)
@@ -113,8 +113,8 @@ pub(crate) fn design_rows(
         rows.push(DesignRow {
             rec,
             x: List::from(entries),
-            y: number_of(response, *index),
-            weight: Frac128::one(),
+            y: number_of(&used.response, *index),
+            weight: used.weights.weight(*index),
         })?;
     }
     Ok(rows)

@@ -1,45 +1,72 @@
-//! The columns that a formula uses.
+//! The columns that a formula and weights use.
 
-ghost use Rattle.std.specs.Prelude.{◌≡◌, ◌⊎◌, ◌++◌, None, Some, IfErr, IfOk, OnOk, map};
+ghost use Rattle.std.specs.Prelude.{◌≡◌, ◌⊎◌, ◌++◌, None, Some, IfErr, IfOk, OnOk, map, option_and_then, option_copied, option_to_list};
 ghost use Rattle.data_frame.specs.Views.{lent_column};
-ghost use Rattle.design_matrix.specs.Cells.{column_of, used_names};
-ghost use Rattle.design_matrix.specs.Faults.{wide_fault, widths_fault};
+ghost use Rattle.design_matrix.specs.Cells.{column_of, used_names, weights_in};
+ghost use Rattle.design_matrix.specs.Faults.{name_fault, used_fault, wide_fault, widths_fault};
+ghost use Rattle.design_matrix.specs.Views.{AreUsed, weights_seen};
 
 use crate::DesignFault;
 use crate::cells::column;
+use crate::coded::is_text;
+use crate::weights::{Weights, check_weights};
 use data_frame::{Column, Frame};
 use formula_parser::{Formula, Smooth, Term};
 use frac_core::Text;
 use std::alloc::{AllocError, Global};
 
-fn push_variables<'a>(names: &mut Vec<&'a Text>, term: &'a Term) -> Result<(), AllocError>
+/// The columns that a formula and weights use.
+#[derive(Drop)]
+pub(crate) struct Used<'a> {
+    pub(crate) response: Column<'a>,
+    pub(crate) weights: Weights<'a>,
+    /// All of them, in their order.
+    pub(crate) columns: Vec<Column<'a>>,
+}
+
+fn push_weights<'a>(names: &mut Vec<&'a str>, weights: Option<&'a str>) -> Result<(), AllocError>
+    ensures { OnOk result (map (λ n. n.now) names.new.items
+        ≡ map (λ n. n.now) names.old.items ++ option_to_list (option_copied weights.entry)) }
+{
+    if let Some(name) = weights {
+        names.push(name)?;
+    }
+    Ok(())
+}
+
+fn push_variables<'a>(names: &mut Vec<&'a str>, term: &'a Term) -> Result<(), AllocError>
     ensures { OnOk result (map (λ n. n.now) names.new.items
         ≡ map (λ n. n.now) names.old.items ++ map (λ v. v.name) term.now.variables) }
 {
     let variables = term.variables.as_slice();
     for variable in variables {
-        names.push(&variable.name)?;
+        names.push(variable.name.as_str())?;
     }
     Ok(())
 }
 
-fn push_smooths<'a>(names: &mut Vec<&'a Text>, smooths: &'a [Smooth]) -> Result<(), AllocError>
+fn push_smooths<'a>(names: &mut Vec<&'a str>, smooths: &'a [Smooth]) -> Result<(), AllocError>
     ensures { OnOk result (map (λ n. n.now) names.new.items
         ≡ map (λ n. n.now) names.old.items ++ map (λ s. s.name) smooths.now) }
 {
     for smooth in smooths {
-        names.push(&smooth.name)?;
+        names.push(smooth.name.as_str())?;
     }
     Ok(())
 }
 
-/// The names of the columns that a formula uses.
+// The names of the columns that are used.
 #[tactic(auto, unfolding(crate::specs::Cells::used_names))]
-pub(crate) fn names_used<'a>(alloc: Global, model: &'a Formula) -> Result<Vec<&'a Text>, AllocError>
-    ensures { IfOk result (λ names. map (λ n. n.now) names.items ≡ used_names model.now) }
+fn names_used<'a>(
+    alloc: Global,
+    model: &'a Formula,
+    weights: Option<&'a str>,
+) -> Result<Vec<&'a str>, AllocError>
+    ensures { IfOk result (λ names. map (λ n. n.now) names.items ≡ used_names model.now (option_copied weights.entry)) }
 {
     let mut names = Vec::new(alloc);
-    names.push(&model.response)?;
+    names.push(model.response.as_str())?;
+    push_weights(&mut names, weights)?;
     let terms = model.terms.as_slice();
     for term in terms {
         push_variables(&mut names, term)?;
@@ -65,11 +92,11 @@ fn narrow_column<'a>(alloc: Global, frame: &'a Frame, name: &str) -> Result<Colu
     }
 }
 
-/// The columns of these names, unless a number in one of them is too wide.
-pub(crate) fn used_columns<'a>(
+// The columns of these names, unless a number in one of them is too wide.
+fn narrow_columns<'a>(
     alloc: Global,
     frame: &'a Frame,
-    names: &[&Text],
+    names: &[&str],
 ) -> Result<Vec<Column<'a>>, DesignFault>
     ensures columns { IfOk result (λ columns. map lent_column columns.items
         ≡ map (column_of frame.now) (map (λ n. n.now) names.now)) }
@@ -79,7 +106,56 @@ pub(crate) fn used_columns<'a>(
 {
     let mut columns = Vec::with_capacity(alloc, names.len())?;
     for name in names {
-        columns.push(narrow_column(alloc, frame, name.as_str())?)?;
+        columns.push(narrow_column(alloc, frame, *name)?)?;
     }
     Ok(columns)
+}
+
+// The column of the weights, which the table must have.
+fn weights_column<'a>(frame: &'a Frame, weights: Option<&str>) -> Result<Weights<'a>, DesignFault>
+    ensures weights { IfOk result (λ w. weights_seen w ≡ weights_in frame.now (option_copied weights.entry)) }
+    ensures sound { OnOk result (option_and_then (name_fault frame.now) (option_copied weights.entry) ≡ None) }
+    ensures fault { IfErr result (λ e. option_and_then (name_fault frame.now) (option_copied weights.entry) ≡ Some e) }
+{
+    let Some(name) = weights else {
+        return Ok(Weights { column: None });
+    };
+    match frame.column(name) {
+        Some(column) => Ok(Weights {
+            column: Some(column),
+        }),
+        None => Err(DesignFault::UnknownWeights),
+    }
+}
+
+/// The columns that are used, unless something is wrong with them: the weights are unknown, the
+/// response or the weights are a factor, a number is too wide, or a weight is below 0.
+#[tactic(auto, unfolding(crate::specs::Faults::used_fault))]
+pub(crate) fn used_columns<'a>(
+    alloc: Global,
+    frame: &'a Frame,
+    model: &Formula,
+    weights: Option<&str>,
+) -> Result<Used<'a>, DesignFault>
+    ensures used { IfOk result (AreUsed frame.now model.now (option_copied weights.entry)) }
+    ensures sound { OnOk result (used_fault frame.now model.now (option_copied weights.entry) ≡ None) }
+    ensures fault { IfErr result (λ e. (e ≡ DesignFault.OutOfMemory)
+        ⊎ (used_fault frame.now model.now (option_copied weights.entry) ≡ Some e)) }
+{
+    let weighing = weights_column(frame, weights)?;
+    let response = column(frame, model.response.as_str());
+    if is_text(&response) {
+        return Err(DesignFault::ResponseNotNumeric);
+    }
+    if weighing.is_text() {
+        return Err(DesignFault::WeightNotNumeric);
+    }
+    let names = names_used(alloc, model, weights)?;
+    let columns = narrow_columns(alloc, frame, &names)?;
+    check_weights(&weighing, frame.records())?;
+    Ok(Used {
+        response,
+        weights: weighing,
+        columns,
+    })
 }

@@ -1,1 +1,12 @@
+-- identities of rings
+pub mod Polynomials
+-- the laws of the field of fractions, of its inverses and of its order
+pub mod RationalLaws
+pub mod Inverses
+pub mod Quotients
+pub mod OrderLaws
+-- whole numbers among the fractions
+pub mod WholeNumbers
+-- sums by index
 pub mod IntegerSumLaws
+pub mod RationalSumLaws

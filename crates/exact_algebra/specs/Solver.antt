@@ -16,7 +16,8 @@
 --     identity (x ∷ y ∷ []) ((v0 ⊞ v1) ⊠ (v0 ⊟ v1)) (v0 ⊠ v0 ⊟ v1 ⊠ v1) refl
 --     from1 (x ∷ y ∷ z ∷ []) (v0 ⊠ v2) (v1 ⊠ v2) v2 v0 v1 refl h
 --
--- `specs.Polynomials` does the same over any commutative ring, and `specs.Rational` over ℚ.
+-- It stands among the definitions since the sum and the product of ℚ are defined with proofs by it.
+-- `proofs.Polynomials` does the same over any commutative ring, and `proofs.RationalLaws` over ℚ.
 use Rattle.std.specs.Prelude.{◌≡◌, ℕ, Bool, true, false, cond, ◌&&◌, ltb, eqb, List, [], ◌∷◌, get_or, ℤ, pos, negsuc, ◌+ℤ◌, ◌-ℤ◌, ◌*ℤ◌, neg_ℤ}
 use Rattle.std.proofs.Common.{arith, refl, sym, ap, ◌∙◌}
 use Rattle.std.proofs.lemmas.Int.{ints}

@@ -1,4 +1,4 @@
--- Stated. The inverse of a basis, and the order of its rows.
+-- Inner. The inverse of a basis, and the order of its rows.
 use Rattle.std.specs.Prelude.{◌≡◌, ℕ, ◌<◌, List, length, slice_index}
 use Rattle.exact_algebra.specs.Fraction.{Fraction}
 use Rattle.loss_model.specs.declared.problem.Problem.{Problem}

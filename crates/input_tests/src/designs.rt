@@ -1,4 +1,4 @@
-//! Whole designs of one table under all codings, and faults.
+//! Whole designs of one table under all codings, designs with weights, and faults.
 //!
 //! The table has the numeric columns y, x and z and the factors f and g; record 4 misses z, and
 //! record 6 misses g. What each design is was worked out apart from this program, from the tables of
@@ -11,7 +11,7 @@ use contrasts::Coding;
 use data_frame::read_table;
 use design_matrix::{Design, DesignFault, DesignRow, build};
 use formula_parser::{Formula, Term, Variable};
-use frac_core::{List, Text};
+use frac_core::{Exact, Frac128, List, Text};
 use std::alloc::Global;
 use std::process::Abort;
 use std::test::Fail;
@@ -327,6 +327,143 @@ static HOSTILE: [Hostile; 14] = [
     },
 ];
 
+/// A table, the terms of a formula, the name of the weights, and the design or why there is none.
+#[derive(Clone, Copy)]
+struct Weighted {
+    table: &'static [u8],
+    terms: &'static str,
+    weights: &'static str,
+    answer: &'static str,
+}
+
+static WEIGHTED: [Weighted; 20] = [
+    Weighted {
+        table: b"y,w\n1,1\n2,3\n",
+        terms: "1",
+        weights: "w",
+        answer: "(Intercept) | 1: 1 | 2*3: 1",
+    },
+    // A record of weight 0 is dropped, with the level that it alone has.
+    Weighted {
+        table: b"y,w\n1,1\n2,3\n9,0\n",
+        terms: "1",
+        weights: "w",
+        answer: "(Intercept) | 1: 1 | 2*3: 1",
+    },
+    Weighted {
+        table: b"y,w\n1,0\n2,0.0\n3,-0\n4,0/7\n",
+        terms: "1",
+        weights: "w",
+        answer: "NoRows",
+    },
+    Weighted {
+        table: b"y,f,w\n1,a,1\n2,b,0\n",
+        terms: "1 f",
+        weights: "w",
+        answer: "OneLevel f",
+    },
+    Weighted {
+        table: b"y,f,w\n1,b,1/2\n2,a,0\n3,c,2.5\n",
+        terms: "0 f",
+        weights: "w",
+        answer: "fb,fc | 1*1/2: 1 0 | 3*5/2: 0 1",
+    },
+    // So is one that misses its weight.
+    Weighted {
+        table: b"y,w\n1,NA\n2,1/2\n,3\n",
+        terms: "1",
+        weights: "w",
+        answer: "(Intercept) | 2*1/2: 1",
+    },
+    Weighted {
+        table: b"y,x,w\n1,NA,2\n3,4,5\n6,7, \n",
+        terms: "1 x",
+        weights: "w",
+        answer: "(Intercept),x | 2*5: 1 4",
+    },
+    // The weights may be a variable too, or the response.
+    Weighted {
+        table: b"y,w\n1,2\n3,4\n",
+        terms: "1 w",
+        weights: "w",
+        answer: "(Intercept),w | 1*2: 1 2 | 2*4: 1 4",
+    },
+    Weighted {
+        table: b"y\n1\n2\n",
+        terms: "1",
+        weights: "y",
+        answer: "(Intercept) | 1: 1 | 2*2: 1",
+    },
+    // The first negative weight, kept or not.
+    Weighted {
+        table: b"y,w\n1,1\n2,3\n9,-1\n",
+        terms: "1",
+        weights: "w",
+        answer: "NegativeWeight 3",
+    },
+    Weighted {
+        table: b"y,w\n1,1\nNA,-1/2\n2,-3\n",
+        terms: "1",
+        weights: "w",
+        answer: "NegativeWeight 2",
+    },
+    // The faults in their order.
+    Weighted {
+        table: b"y,w\na,1\n",
+        terms: "1",
+        weights: "v",
+        answer: "UnknownWeights",
+    },
+    Weighted {
+        table: b"y,w\n1,1\n",
+        terms: "1",
+        weights: "",
+        answer: "UnknownWeights",
+    },
+    Weighted {
+        table: b"y,w\na,b\n",
+        terms: "1",
+        weights: "w",
+        answer: "ResponseNotNumeric",
+    },
+    Weighted {
+        table: b"y,w\n1e99,b\n",
+        terms: "1",
+        weights: "w",
+        answer: "WeightNotNumeric",
+    },
+    Weighted {
+        table: b"y,x,w\n1e99,1,1e99\n",
+        terms: "1 x",
+        weights: "w",
+        answer: "NumberTooWide 1 y",
+    },
+    Weighted {
+        table: b"y,x,w\n1,1e99,1\n2,1,1e99\n",
+        terms: "1 x",
+        weights: "w",
+        answer: "NumberTooWide 2 w",
+    },
+    Weighted {
+        table: b"y,x,w\n1,1,-1\n2,1e99,1\n",
+        terms: "1 x",
+        weights: "w",
+        answer: "NumberTooWide 2 x",
+    },
+    Weighted {
+        table: b"y,w\nNA,1\n,-1\n",
+        terms: "1",
+        weights: "w",
+        answer: "NegativeWeight 2",
+    },
+    Weighted {
+        table: b"y,x,z,w\n1,1e38,1e38,0\n2,1e38,1e38,1\n",
+        terms: "1 x:z",
+        weights: "w",
+        answer: "Overflow 2 1 1",
+    },
+];
+
 fn variable(alloc: Global, word: &str) -> Result<Variable, Fail> {
     let inner = word
         .strip_prefix("factor(")
@@ -360,7 +497,7 @@ fn formula(alloc: Global, text: &str) -> Result<Formula, Fail> {
     })
 }
 
-fn are_short(terms: &[Term]) -> bool
+pub(crate) fn are_short(terms: &[Term]) -> bool
     ensures { IsTrue result → All (λ t. length t.variables < 2 ^ 32) terms.now }
 {
     for term in terms {
@@ -371,9 +508,14 @@ fn are_short(terms: &[Term]) -> bool
     true
 }
 
+// A row by the number of its record, its weight where that isn't 1, and its entries.
 fn tell_row(alloc: Global, told: &mut String, row: &DesignRow) -> Result<(), Fail> {
     told.push_str(" | ")?;
     told.push_str(row.rec.to_string(alloc)?.as_str())?;
+    if row.weight != Frac128::one() {
+        told.push('*')?;
+        push_number(told, alloc, row.weight)?;
+    }
     told.push(':')?;
     for entry in row.x.as_slice() {
         told.push(' ')?;
@@ -403,6 +545,9 @@ fn tell(alloc: Global, design: &Design) -> Result<String, Fail> {
 
 fn tell_fault(alloc: Global, fault: &DesignFault) -> Result<String, Fail> {
     Ok(match fault {
+        DesignFault::UnknownWeights => String::from_str(alloc, "UnknownWeights")?,
+        DesignFault::WeightNotNumeric => String::from_str(alloc, "WeightNotNumeric")?,
+        DesignFault::NegativeWeight { rec } => format!(in alloc; "NegativeWeight {rec}")?,
         DesignFault::ResponseNotNumeric => String::from_str(alloc, "ResponseNotNumeric")?,
         DesignFault::NumberTooWide { rec, column } => {
             let name = column.as_str();
@@ -422,7 +567,13 @@ fn tell_fault(alloc: Global, fault: &DesignFault) -> Result<String, Fail> {
     })
 }
 
-fn answer(alloc: Global, table: &[u8], terms: &str, coding: Coding) -> Result<String, Fail> {
+fn answer(
+    alloc: Global,
+    table: &[u8],
+    terms: &str,
+    coding: Coding,
+    weights: Option<&str>,
+) -> Result<String, Fail> {
     if table.len() > 1 << 26 {
         return Err(Fail::from("too long"));
     }
@@ -433,7 +584,7 @@ fn answer(alloc: Global, table: &[u8], terms: &str, coding: Coding) -> Result<St
     if !are_short(model.terms.as_slice()) {
         return Err(Fail::from("a long term"));
     }
-    match build(alloc, &frame, &model, coding, None) {
+    match build(alloc, &frame, &model, coding, weights) {
         Ok(design) => tell(alloc, &design),
         Err(fault) => tell_fault(alloc, &fault),
     }
@@ -442,7 +593,7 @@ fn answer(alloc: Global, table: &[u8], terms: &str, coding: Coding) -> Result<St
 #[test]
 fn designs_of_all_codings(rt: HostRuntime) -> Result<(), Fail> {
     for case in &CASES {
-        let told = answer(rt.alloc(), TABLE, case.terms, case.coding)?;
+        let told = answer(rt.alloc(), TABLE, case.terms, case.coding, None)?;
         assert!(rt;
             told.as_str() == case.design,
             "{} {:?}: {told}",
@@ -456,8 +607,24 @@ fn designs_of_all_codings(rt: HostRuntime) -> Result<(), Fail> {
 #[test]
 fn hostile_tables(rt: HostRuntime) -> Result<(), Fail> {
     for case in &HOSTILE {
-        let told = answer(rt.alloc(), case.table, case.terms, Coding::Treatment)?;
+        let told = answer(rt.alloc(), case.table, case.terms, Coding::Treatment, None)?;
         expect_answer(&rt, told.as_str(), case.answer, case.terms);
+    }
+    Ok(())
+}
+
+#[test]
+fn weights_and_their_faults(rt: HostRuntime) -> Result<(), Fail> {
+    for case in &WEIGHTED {
+        let weights = Some(case.weights);
+        let told = answer(
+            rt.alloc(),
+            case.table,
+            case.terms,
+            Coding::Treatment,
+            weights,
+        )?;
+        expect_answer(&rt, told.as_str(), case.answer, case.answer);
     }
     Ok(())
 }

@@ -1,5 +1,6 @@
 //! Tests of what reads input: words (`rq_words`), tables (`data_frame`), formulas (`formula_grammar`
-//! and `formula_parser`), and the designs of a table and a formula (`design_matrix`).
+//! and `formula_parser`), the designs of a table and a formula (`design_matrix`),
+//! and what smooths add to them (`tv_penalty`).
 //!
 //! What is tested is that the definitions say what was meant: each answer was worked out apart from
 //! the program.
@@ -13,6 +14,8 @@ mod formulas;
 mod helpers;
 #[cfg(test)]
 mod readings;
+#[cfg(test)]
+mod smooths;
 #[cfg(test)]
 mod tables;
 #[cfg(test)]

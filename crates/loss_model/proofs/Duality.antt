@@ -3,15 +3,17 @@ use Rattle.std.specs.Prelude.{◌≡◌, ℕ, ◌<◌, Bool, true, false, cond, 
 use Rattle.std.proofs.Common.{refl, sym, ap, subst, ◌∙◌}
 use Rattle.exact_algebra.specs.Solver.{number, negated, ◌⊞◌, ◌⊟◌, ◌⊠◌, v0, v1, v2, v3, v4}
 use Rattle.exact_algebra.specs.Rational.{ℚ, ◌+ℚ◌, ◌-ℚ◌, ◌*ℚ◌, neg_ℚ, whole, ◌≤ℚ◌, le_ℚ}
-use Rattle.exact_algebra.proofs.RationalLaws.{ring_ℚ, ≤ℚ_refl, ≤ℚ_add, ≤ℚ_mul, ≤ℚ_antisym}
+use Rattle.exact_algebra.proofs.RationalLaws.{ring_ℚ, ≤ℚ_refl, ≤ℚ_add, ≤ℚ_mul, ≤ℚ_antisym, ≤ℚ_total}
 use Rattle.exact_algebra.specs.RationalSums.{sum_ℚ, positive_ℚ, negative_ℚ}
 use Rattle.exact_algebra.proofs.RationalSumLaws.{parts_ℚ, ≤ℚ_add2, sum_ℚ-same, sum_ℚ-le, sum_ℚ-zero, sum_ℚ-mix, sum_ℚ-scale, sum_ℚ-swap}
+use Rattle.exact_algebra.proofs.OrderLaws.{not_le}
 use Rattle.loss_model.specs.declared.vertex.Side.{Side}
 use Rattle.loss_model.specs.declared.vertex.Side.TheVariants.{Up, Down, Basic}
 use Rattle.loss_model.specs.Sample.{Sample, up_cost, down_cost, fitted, residual, row_loss, loss}
 use Rattle.loss_model.specs.Dual.{IsFeasible, dual_objective, IsDual}
+use Rattle.loss_model.specs.Complements.{residual_change}
 use Rattle.loss_model.specs.Vertex.{value_of_side, IsOn}
-use Rattle.loss_model.specs.Laws.{WeakDuality, DualsShowMinimum, DualsAreGreatest, SidesShowDuals}
+use Rattle.loss_model.specs.Laws.{WeakDuality, DualsShowMinimum, DualsAreGreatest, ComplementsShowDuals, ResidualsMove, SidesShowDuals}
 
 abbrev IsBalanced : Sample → (ℕ → ℚ) → Type 0
 IsBalanced p e = (k : ℕ) → k < p.columns → sum_ℚ p.rows (λ i. e i *ℚ p.x i k) ≡ whole (pos 0)
@@ -118,3 +120,25 @@ on_side p theta b e i Basic h k =
 
 pub sides : SidesShowDuals
 sides p theta b e side f each = slack p theta b e f (λ i l. on_side p theta b e i (side i) (each i l).0 (each i l).1)
+
+pub complements : ComplementsShowDuals
+complements p theta b e f c = slack p theta b e f (λ i l. above i l (le_ℚ (residual p b i) (whole (pos 0))) refl)
+  where
+    on : (i : ℕ) (s : Side) → IsOn s (residual p b i) → e i ≡ value_of_side p theta e i s → e i *ℚ residual p b i ≡ row_loss p theta b i
+    on = on_side p theta b e
+
+    below : (i : ℕ) → i < p.rows → residual p b i ≤ℚ whole (pos 0) → (t : Bool) → le_ℚ (whole (pos 0)) (residual p b i) ≡ t → e i *ℚ residual p b i ≡ row_loss p theta b i
+    below i l h true at = on i Basic (≤ℚ_antisym (residual p b i) (whole (pos 0)) h (record { le = at })) refl
+    below i l h false at = on i Down h (c.below i l (not_le (whole (pos 0)) (residual p b i) at))
+
+    above : (i : ℕ) → i < p.rows → (t : Bool) → le_ℚ (residual p b i) (whole (pos 0)) ≡ t → e i *ℚ residual p b i ≡ row_loss p theta b i
+    above i l true at = below i l (record { le = at }) (le_ℚ (whole (pos 0)) (residual p b i)) refl
+    above i l false at = on i Up (≤ℚ_total (residual p b i) (whole (pos 0)) at) (c.above i l (not_le (residual p b i) (whole (pos 0)) at))
+
+pub moved : ResidualsMove
+moved p b d t i =
+    ap (λ z. p.y i -ℚ z)
+    (sum_ℚ-same p.columns (λ k. p.x i k *ℚ (b k +ℚ (t *ℚ d k))) (λ k. (whole (pos 1) *ℚ (p.x i k *ℚ b k)) +ℚ (t *ℚ (p.x i k *ℚ d k)))
+    (λ k m. ring_ℚ (p.x i k ∷ b k ∷ t ∷ d k ∷ []) (v0 ⊠ (v1 ⊞ v2 ⊠ v3)) (number (pos 1) ⊠ (v0 ⊠ v1) ⊞ v2 ⊠ (v0 ⊠ v3)) refl)
+    ∙ sum_ℚ-mix p.columns (whole (pos 1)) t (λ k. p.x i k *ℚ b k) (λ k. p.x i k *ℚ d k))
+    ∙ ring_ℚ (p.y i ∷ fitted p b i ∷ t ∷ fitted p d i ∷ []) (v0 ⊟ (number (pos 1) ⊠ v1 ⊞ v2 ⊠ v3)) ((v0 ⊟ v1) ⊞ v2 ⊠ negated v3) refl

@@ -1,6 +1,6 @@
 -- Law. What the laws of quantile regression say; each is the contract of a function (Koenker 2005, chapter 6).
 use Rattle.std.specs.Prelude.{◌≡◌, ℕ, ◌+◌, ◌<◌, ◌≤◌, List, length, slice_get, Some, pos}
-use Rattle.exact_algebra.specs.Rational.{ℚ, whole, ◌≤ℚ◌}
+use Rattle.exact_algebra.specs.Rational.{ℚ, ◌+ℚ◌, ◌*ℚ◌, whole, ◌≤ℚ◌}
 use Rattle.exact_algebra.specs.Fraction.{Fraction, rational}
 use Rattle.loss_model.specs.declared.problem.Problem.{Problem}
 use Rattle.loss_model.specs.declared.vertex.Side.{Side}
@@ -8,6 +8,7 @@ use Rattle.loss_model.specs.declared.vertex.Side.TheVariants.{Up, Down}
 use Rattle.loss_model.specs.declared.vertex.Vertex.{Vertex}
 use Rattle.loss_model.specs.Sample.{Sample, residual, loss, Minimises}
 use Rattle.loss_model.specs.Dual.{IsFeasible, dual_objective, IsDual, mix, IsDataRow, rankscore}
+use Rattle.loss_model.specs.Complements.{IsComplementary, residual_change}
 use Rattle.loss_model.specs.Vertex.{value_of_side, IsOn, dual_value}
 use Rattle.loss_model.specs.Segment.{Segments, Covers}
 use Rattle.loss_model.specs.Problem.{value_at, sample}
@@ -27,6 +28,17 @@ abbrev pub DualsAreGreatest : Type 0
 DualsAreGreatest =
     (p : Sample) (theta : ℚ) (b e other : ℕ → ℚ) → IsDual p theta b e → IsFeasible p theta other
     → dual_objective p other ≤ℚ dual_objective p e
+
+-- feasible dual values are of equal cost where they complement the residuals
+abbrev pub ComplementsShowDuals : Type 0
+ComplementsShowDuals =
+    (p : Sample) (theta : ℚ) (b e : ℕ → ℚ) → IsFeasible p theta e → IsComplementary p theta (residual p b) e → IsDual p theta b e
+
+-- and residuals change by t times their change along d, as the coefficients move by t times d
+abbrev pub ResidualsMove : Type 0
+ResidualsMove =
+    (p : Sample) (b d : ℕ → ℚ) (t : ℚ) (i : ℕ)
+    → residual p (λ k. b k +ℚ (t *ℚ d k)) i ≡ residual p b i +ℚ (t *ℚ residual_change p d i)
 
 -- feasible dual values are of equal cost where each row has the value of a side on which its
 -- residual lies

@@ -1,5 +1,7 @@
 pub mod Sample
+pub mod Strict
 pub mod Dual
+pub mod Complements
 pub mod Problem
 pub mod Vertex
 pub mod Segment

@@ -1,10 +1,12 @@
--- Stated. What an operation is that overflows, quantities as sums of products, and those of the loss.
-use Rattle.std.specs.Prelude.{◌≡◌, ◌⊎◌, ℕ, ◌+◌, ◌<◌, cond, pos}
+-- Stated. What an operation is that overflows; quantities as operations one after the other and as sums of
+-- products; and those of the loss.
+use Rattle.std.specs.Prelude.{◌≡◌, ◌⊎◌, ℕ, suc, ◌+◌, ◌<◌, List, [], ◌∷◌, cond, pos}
 use Rattle.exact_algebra.specs.Rational.{ℚ, ◌+ℚ◌, ◌*ℚ◌, neg_ℚ, whole, le_ℚ, ◌≤ℚ◌}
 use Rattle.exact_algebra.specs.RationalSums.{sum_ℚ}
 use Rattle.exact_algebra.specs.Fraction.{Fraction, rational}
 use Rattle.frac_core.specs.Overflow.{Overflows}
-use Rattle.frac_core.specs.declared.exact.OpKind.TheVariants.{Add, Mul}
+use Rattle.frac_core.specs.declared.exact.OpKind.{OpKind}
+use Rattle.frac_core.specs.declared.exact.OpKind.TheVariants.{Add, Sub, Mul, Div}
 use Rattle.loss_model.specs.declared.spill.Quantity.{Quantity}
 use Rattle.loss_model.specs.declared.spill.Quantity.TheVariants.{Residual, CostValue, Loss}
 use Rattle.loss_model.specs.declared.spill.Site.{Site}
@@ -21,6 +23,31 @@ pub record IsOperation {F : Type 0} (value : F → Fraction) (range : ℕ) (site
   pub is_left : rational (value s.left) ≡ left
   pub is_right : rational (value s.right) ≡ right
   pub overflows : Overflows range site.kind (value s.left) (value s.right)
+
+-- an operation of a quantity, by its operands
+pub record Operation : Type 0 where
+  pub kind : OpKind
+  pub left : ℚ
+  pub right : ℚ
+
+abbrev pub addition : ℚ → ℚ → Operation
+addition left right = record { kind = Add; left = left; right = right }
+
+abbrev pub subtraction : ℚ → ℚ → Operation
+subtraction left right = record { kind = Sub; left = left; right = right }
+
+abbrev pub multiplication : ℚ → ℚ → Operation
+multiplication left right = record { kind = Mul; left = left; right = right }
+
+abbrev pub division : ℚ → ℚ → Operation
+division left right = record { kind = Div; left = left; right = right }
+
+-- one of a list of operations overflows; they bear this term and those after it, in order
+abbrev pub IsAmong : {F : Type 0} → (F → Fraction) → ℕ → Site → ℕ → List Operation → Spill F → Type 0
+IsAmong value range site term [] s = ⊥
+IsAmong value range site term (o ∷ os) s =
+    IsOperation value range (record site { term = term; kind = o.kind }) o.left o.right s
+    ⊎ IsAmong value range site (suc term) os s
 
 -- a value plus a product: the product overflows, or its addition does, and both bear the term after the site's
 pub data IsTermSpill {F : Type 0} (value : F → Fraction) (range : ℕ) (site : Site) (first left right : ℚ) (s : Spill F) : Type 0 where

@@ -1,6 +1,6 @@
 //! The laws of losses and dual values. No function here does anything: its contract is the law.
 
-ghost use Rattle.loss_model.specs.Laws.{WeakDuality, DualsShowMinimum, DualsAreGreatest, SidesShowDuals, VertexIsDual, MixIsDual, IntervalIsMixes, MinimisesBetween, CoversEveryValue, RankscoresAreBounded, AboveScoresOne, BelowScoresZero, SidesAreScores};
+ghost use Rattle.loss_model.specs.Laws.{WeakDuality, DualsShowMinimum, DualsAreGreatest, ComplementsShowDuals, ResidualsMove, SidesShowDuals, VertexIsDual, MixIsDual, IntervalIsMixes, MinimisesBetween, CoversEveryValue, RankscoresAreBounded, AboveScoresOne, BelowScoresZero, SidesAreScores};
 
 use crate::problem::Problem;
 use crate::vertex::Vertex;
@@ -14,10 +14,12 @@ pub fn duality()
     ensures greatest { DualsAreGreatest }
 {}
 
-/// Complementary slackness: feasible dual values that agree with the sides of the residuals are of
-/// equal cost.
+/// Complementary slackness: feasible dual values that complement the residuals, or agree with their
+/// sides, are of equal cost. Along a direction of the coefficients the residuals are affine.
 pub fn complementary_slackness()
-    ensures { SidesShowDuals }
+    ensures complements { ComplementsShowDuals }
+    ensures sides { SidesShowDuals }
+    ensures moved { ResidualsMove }
 {}
 
 /// The same at a vertex, with the dual values of its basic rows.

@@ -9,6 +9,7 @@
 
 pub mod full_rank;
 pub mod greedy;
+mod interval;
 pub mod laws;
 mod loss;
 mod problem;
@@ -18,6 +19,7 @@ mod spill;
 mod stop;
 mod vertex;
 
+pub use interval::{Beyond, Bound, End, Interval, IntervalProof};
 pub use loss::{down_cost_at, loss_at, residual_at, up_cost_at};
 pub use problem::{Problem, Row};
 pub use process::{Exchange, Process, Segment, Trail};

@@ -2,6 +2,7 @@ pub mod Among
 pub mod Bounds
 pub mod Sides
 pub mod Optimal
+pub mod Weighed
 pub mod Entering
 pub mod Passing
 pub mod Unique

@@ -91,12 +91,16 @@ module _ (p : Sample) (at : ℕ → ℕ) (a : ℕ → ℕ → ℚ) where
             (ap (residual p (coefficient p at a)) (sym place.2) ∙ fits place.0 place.1)
         by false e = subst (λ s. IsOn s (residual p (coefficient p at a) i)) (sym (side_outside i e)) (on_outside i)
 
-    -- the dual value of a row of the basis is that of its position
-    pub dual_basic : (theta : ℚ) (i : ℕ) → is_basic p at a i ≡ true → dual p at a theta i ≡ held_coordinate p.columns at (dual_value p at a theta) i
-    dual_basic theta i e = ap (value_of_side p theta (held_coordinate p.columns at (dual_value p at a theta)) i) (side_basic i e)
+    -- of any values of the positions, that of a row of the basis is that of its position
+    pub held_at : (value : ℕ → ℚ) (j : ℕ) → j < p.columns → held_coordinate p.columns at value (at j) ≡ value j
+    held_at value j lj = held_coordinate-at p.columns at value j basis.distinct.apart lj
 
-    pub held_dual : (theta : ℚ) (j : ℕ) → j < p.columns → held_coordinate p.columns at (dual_value p at a theta) (at j) ≡ dual_value p at a theta j
-    held_dual theta j lj = held_coordinate-at p.columns at (dual_value p at a theta) j basis.distinct.apart lj
+    pub value_inside : (theta : ℚ) (value : ℕ → ℚ) (i : ℕ) → is_basic p at a i ≡ true → value_of_side p theta (held_coordinate p.columns at value) i (side_at p at a i) ≡ held_coordinate p.columns at value i
+    value_inside theta value i e = ap (value_of_side p theta (held_coordinate p.columns at value) i) (side_basic i e)
+
+    -- so it is of the dual values
+    pub dual_basic : (theta : ℚ) (i : ℕ) → is_basic p at a i ≡ true → dual p at a theta i ≡ held_coordinate p.columns at (dual_value p at a theta) i
+    dual_basic theta = value_inside theta (dual_value p at a theta)
 
     pub dual_at : (theta : ℚ) (j : ℕ) → j < p.columns → dual p at a theta (at j) ≡ dual_value p at a theta j
-    dual_at theta j lj = dual_basic theta (at j) (among_at at p.columns j lj) ∙ held_dual theta j lj
+    dual_at theta j lj = dual_basic theta (at j) (among_at at p.columns j lj) ∙ held_at (dual_value p at a theta) j lj

@@ -1,15 +1,11 @@
 -- Stated. The costs at theta, and the dual values that stand at a basis.
 use Rattle.std.specs.Prelude.{ℕ, ◌<◌, pos}
 use Rattle.exact_algebra.specs.Rational.{ℚ, ◌+ℚ◌, whole, ◌≤ℚ◌}
+pub use Rattle.loss_model.specs.Strict.{◌<ℚ◌}
 use Rattle.loss_model.specs.Sample.{Sample, up_cost, down_cost}
 use Rattle.loss_model.specs.Vertex.{value_of_side}
 use Rattle.basis_model.specs.Perturbed.{held_coordinate}
 use Rattle.basis_model.specs.Basis.{side_at, dual_value}
-
--- x is less than y
-infix 50 ◌<ℚ◌
-abbrev pub ◌<ℚ◌ : ℚ → ℚ → Type 0
-x <ℚ y = ¬ (y ≤ℚ x)
 
 -- at theta the costs of each row are not negative, and their sum is positive
 pub record HasCosts (p : Sample) (theta : ℚ) : Type 0 where

@@ -1,9 +1,8 @@
--- Stated. The operations of a rankscore: the dual value over the weight, that plus 1, and that minus theta
--- (Gutenbrunner and Jurečková 1992).
-use Rattle.std.specs.Prelude.{◌⊎◌, ℕ, ◌<◌, List, Contains, pos}
+-- Stated. The operations of a rankscore (Gutenbrunner and Jurečková 1992).
+use Rattle.std.specs.Prelude.{◌⊎◌, ℕ, ◌<◌, List, [], ◌∷◌, Contains, pos}
 use Rattle.exact_algebra.specs.Fraction.{Fraction, rational}
 use Rattle.exact_algebra.specs.Rational.{ℚ, ◌+ℚ◌, ◌*ℚ◌, inverse, whole}
-use Rattle.frac_core.specs.declared.exact.OpKind.TheVariants.{Add, Sub, Div}
+use Rattle.frac_core.specs.declared.exact.OpKind.TheVariants.{Div}
 use Rattle.loss_model.specs.declared.problem.Problem.{Problem}
 use Rattle.loss_model.specs.declared.process.Segment.{Segment}
 use Rattle.loss_model.specs.declared.spill.Quantity.TheVariants.{Score}
@@ -11,7 +10,7 @@ use Rattle.loss_model.specs.declared.spill.Site.{Site}
 use Rattle.loss_model.specs.declared.spill.Spill.{Spill}
 use Rattle.loss_model.specs.declared.vertex.Vertex.{Vertex}
 use Rattle.loss_model.specs.Problem.{sample}
-use Rattle.loss_model.specs.Spill.{IsOperation}
+use Rattle.loss_model.specs.Spill.{Operation, addition, subtraction, division, IsAmong}
 use Rattle.loss_model.specs.Vertex.{dual_value}
 
 -- the score of a row at the low end, 0, or the high end, 1, of the segment of this number
@@ -19,12 +18,15 @@ abbrev pub score_site : ℕ → ℕ → ℕ → Site
 score_site row end number =
     record { quantity = Score; first = row; second = end; third = number; term = 1; kind = Div }
 
--- one of the three operations overflows
+-- the dual value over the weight, that plus 1, and that minus theta
+abbrev pub score_operations : ℚ → ℚ → ℚ → List Operation
+score_operations dual weight theta =
+    division dual weight ∷ addition (dual *ℚ inverse weight) (whole (pos 1))
+    ∷ subtraction ((dual *ℚ inverse weight) +ℚ whole (pos 1)) theta ∷ []
+
+-- one of them overflows
 abbrev pub IsScoreSpill : {F : Type 0} → (F → Fraction) → ℕ → Site → ℚ → ℚ → ℚ → Spill F → Type 0
-IsScoreSpill value range site dual weight theta s =
-    IsOperation value range (record site { term = 1; kind = Div }) dual weight s
-    ⊎ (IsOperation value range (record site { term = 2; kind = Add }) (dual *ℚ inverse weight) (whole (pos 1)) s
-    ⊎ IsOperation value range (record site { term = 3; kind = Sub }) ((dual *ℚ inverse weight) +ℚ whole (pos 1)) theta s)
+IsScoreSpill value range site dual weight theta s = IsAmong value range site 1 (score_operations dual weight theta) s
 
 -- of the score of a basic row at an end of the segment of this number; the first n rows are data
 -- rows, and no other row has a score

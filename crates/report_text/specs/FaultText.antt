@@ -13,6 +13,8 @@ use Rattle.design_matrix.specs.declared.fault.DesignFault.{DesignFault}
 use Rattle.design_matrix.specs.declared.fault.DesignFault.TheVariants as designs
 use Rattle.rq_program.specs.declared.fault.ProgramFault.{ProgramFault}
 use Rattle.rq_program.specs.declared.fault.ProgramFault.TheVariants as programs
+use Rattle.tv_penalty.specs.declared.fault.PenaltyFault.{PenaltyFault}
+use Rattle.tv_penalty.specs.declared.fault.PenaltyFault.TheVariants as penalties
 use Rattle.rq_words.specs.declared.job.WordFault.{WordFault}
 use Rattle.rq_words.specs.declared.job.WordFault.TheVariants as words
 use Rattle.report_text.specs.Names.{name_bytes}
@@ -23,7 +25,7 @@ use Rattle.report_text.specs.declared.quantity.PrintedIndices.TheVariants.{One, 
 use Rattle.report_text.specs.declared.report.Place.{Place}
 use Rattle.report_text.specs.declared.report.Place.TheVariants.{Process}
 use Rattle.report_text.specs.declared.report.Refusal.{Refusal}
-use Rattle.report_text.specs.declared.report.Refusal.TheVariants.{TooLong, Table, Formula, Design, Program, Dependent}
+use Rattle.report_text.specs.declared.report.Refusal.TheVariants.{TooLong, Table, Formula, RankWithPenalty, Design, Penalty, Program, Dependent}
 use Rattle.report_text.specs.declared.report.Halt.{Halt}
 use Rattle.report_text.specs.declared.report.Halt.TheVariants.{Refused, OutOfMemory, PivotLimit, Overflow, NotBuilt}
 use Rattle.report_text.specs.declared.report.Fault.{Fault}
@@ -148,6 +150,14 @@ design_line designs.TooManyColumns = line (codes "design") (codes "TooManyColumn
 design_line (designs.Overflow spill) = line (codes "design") (codes "Overflow") (spill_text spill ∷ [])
 design_line designs.OutOfMemory = memory_line
 
+-- smooths that add nothing to a design
+unfoldable pub penalty_line : PenaltyFault → List ℕ
+penalty_line (penalties.NotNumeric name) = line (codes "penalty") (codes "NotNumeric") (text (codes "name") name ∷ [])
+penalty_line (penalties.TooFewKnots name) = line (codes "penalty") (codes "TooFewKnots") (text (codes "name") name ∷ [])
+penalty_line (penalties.Overflow spill) = line (codes "penalty") (codes "Overflow") (spill_text spill ∷ [])
+penalty_line penalties.TooManyColumns = line (codes "penalty") (codes "TooManyColumns") []
+penalty_line penalties.OutOfMemory = memory_line
+
 -- a design that is too large
 unfoldable pub program_line : ProgramFault → List ℕ
 program_line programs.TooManyRows = line (codes "program") (codes "TooManyRows") []
@@ -159,7 +169,9 @@ abbrev pub refusal_line : Refusal → List ℕ
 refusal_line TooLong = line (codes "input") (codes "TooLong") []
 refusal_line (Table fault) = table_line fault
 refusal_line (Formula fault) = formula_line fault
+refusal_line RankWithPenalty = line (codes "rank") (codes "RankWithPenalty") []
 refusal_line (Design fault) = design_line fault
+refusal_line (Penalty fault) = penalty_line fault
 refusal_line (Program fault) = program_line fault
 refusal_line (Dependent combination) = line (codes "solver") (codes "Dependent") (fractions (codes "combination") combination ∷ [])
 

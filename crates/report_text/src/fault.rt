@@ -1,6 +1,6 @@
 //! What the line of each fault says: its group, its name and its fields.
 ghost use Rattle.std.specs.Prelude.{◌≡◌, ◌++◌, IfOk, OnOk};
-ghost use Rattle.report_text.specs.FaultText.{design_line, formula_line, halt_line, place_name as place_name_of, program_line, refusal_line, table_line, usage_line, fault_line as line_of};
+ghost use Rattle.report_text.specs.FaultText.{design_line, formula_line, halt_line, penalty_line, place_name as place_name_of, program_line, refusal_line, table_line, usage_line, fault_line as line_of};
 
 use crate::line::Field::{Fractions, Name, Number, Position, Spill, Word};
 use crate::page::Page;
@@ -12,6 +12,7 @@ use frac_core::OutOfMemory;
 use rq_program::ProgramFault;
 use rq_words::WordFault;
 use std::alloc::Global;
+use tv_penalty::PenaltyFault;
 
 /// The line of a failing source.
 pub const SOURCE_LINE: &[u8] = b"quantreg: source: SourceFault\n";
@@ -153,6 +154,23 @@ impl Page {
         }
     }
 
+    #[tactic(auto, unfolding(crate::specs::FaultText::penalty_line))]
+    fn penalty_line(&mut self, fault: &PenaltyFault) -> Result<(), OutOfMemory>
+        ensures { OnOk result (self.new ≡ self.old ++ penalty_line fault.now) }
+    {
+        match fault {
+            PenaltyFault::NotNumeric { name } => {
+                self.line(b"penalty", b"NotNumeric", &[Name(b"name", name)])
+            }
+            PenaltyFault::TooFewKnots { name } => {
+                self.line(b"penalty", b"TooFewKnots", &[Name(b"name", name)])
+            }
+            PenaltyFault::Overflow(spill) => self.line(b"penalty", b"Overflow", &[Spill(spill)]),
+            PenaltyFault::TooManyColumns => self.line(b"penalty", b"TooManyColumns", &[]),
+            PenaltyFault::OutOfMemory => self.put(MEMORY_LINE),
+        }
+    }
+
     #[tactic(auto, unfolding(crate::specs::FaultText::program_line))]
     fn program_line(&mut self, fault: &ProgramFault) -> Result<(), OutOfMemory>
         ensures { OnOk result (self.new ≡ self.old ++ program_line fault.now) }
@@ -171,7 +189,9 @@ impl Page {
             Refusal::TooLong => self.line(b"input", b"TooLong", &[]),
             Refusal::Table(fault) => self.table_line(fault),
             Refusal::Formula(fault) => self.formula_line(fault),
+            Refusal::RankWithPenalty => self.line(b"rank", b"RankWithPenalty", &[]),
             Refusal::Design(fault) => self.design_line(fault),
+            Refusal::Penalty(fault) => self.penalty_line(fault),
             Refusal::Program(fault) => self.program_line(fault),
             Refusal::Dependent { combination } => {
                 self.line(

@@ -7,6 +7,7 @@ use loss_model::{Problem, Process, Spill, Trail};
 use rankscores::ScorePair;
 use rq_program::ProgramFault;
 use rq_words::WordFault;
+use tv_penalty::PenaltyFault;
 
 /// A fitted model: how many records were kept and dropped, the names of its columns, its rows, of
 /// which the first `data_rows` are data rows, the process, and for each segment the rankscores of
@@ -37,8 +38,12 @@ pub enum Refusal {
     Table(TableFault),
     /// The formula is none over the names of the table.
     Formula(FormulaFault),
+    /// The formula has a smooth, and ranks or rank intervals are asked for.
+    RankWithPenalty,
     /// The table has no design by the formula.
     Design(DesignFault),
+    /// The smooths of the formula add nothing to the design.
+    Penalty(PenaltyFault),
     /// The design has no problem.
     Program(ProgramFault),
     /// The columns are dependent: this combination of them, which isn't all 0, is 0 in every row.

@@ -1,5 +1,5 @@
 -- The quantile of a job that the words ask for lies in 0 to 1.
-use Rattle.std.proofs.Common.{◌≡◌, ℕ, ◌^◌, ◌-◌, ◌<◌, Bool, true, false, not, ◌&&◌, eqb, int_eq, length, List, pos, refl, subst, sym}
+use Rattle.std.proofs.Common.{◌≡◌, ℕ, ◌^◌, ◌-◌, ◌<◌, Bool, true, false, not, ◌&&◌, eqb, int_eq, is_some, length, List, None, Option, pos, Some, refl, subst, sym}
 use Rattle.std.proofs.lemmas.Bool.{eqb-true}
 use Rattle.std.proofs.lemmas.Bool.Decides.{Decides-int_eq}
 use Rattle.exact_algebra.specs.Fraction.{rational}
@@ -30,6 +30,11 @@ pub tested_quantile : (x y : Frac128) → not (int_eq x.num y.num && eqb x.den y
 tested_quantile x y h =
     let parts = both (int_eq x.num y.num) (eqb x.den y.den) h in
     sym (same_quantile x y ((Decides-int_eq x.num y.num).0 parts.0) (eqb-true x.den y.den parts.1))
+
+-- what isn't there is none
+pub no_rank : {A : Type 0} (o : Option A) → is_some o ≡ false → o ≡ None
+no_rank None h = refl
+no_rank (Some x) h = absurd (cc h)
 
 -- the quantile lies in 0 to 1
 pub point_range : (words : List (List ℕ)) (fit : FitJob) → IsJobOf words (Process fit) → IsPoint fit → (whole (pos 0) ≤ℚ rational (value fit.lo)) × (rational (value fit.lo) ≤ℚ whole (pos 1))

@@ -1,19 +1,15 @@
 -- Stated. The job that is done today: a fit at one quantile.
-use Rattle.std.specs.Prelude.{◌≡◌, ℕ, Bool, true, ◌&&◌, List, is_none, Ok}
+use Rattle.std.specs.Prelude.{◌≡◌, ℕ, List, None, Ok}
 use Rattle.rq_words.specs.Requests.{request_of}
 use Rattle.rq_words.specs.Words.{words_of}
 use Rattle.rq_words.specs.declared.job.FitJob.{FitJob}
 use Rattle.rq_words.specs.declared.job.Job.{Job}
 use Rattle.rq_words.specs.declared.job.Job.TheVariants.{Process}
 
--- neither weights nor rank intervals are asked for
-abbrev pub is_plain : FitJob → Bool
-is_plain fit = is_none fit.weights && is_none fit.rank
-
--- the range is one quantile
+-- the range is one quantile, and no rank intervals are asked for
 pub record IsPoint (fit : FitJob) : Type 0 where
   pub same : fit.hi ≡ fit.lo
-  pub plain : is_plain fit ≡ true
+  pub plain : fit.rank ≡ None
 
 -- the job is one that this version does
 abbrev pub IsBuilt : Job → Type 0

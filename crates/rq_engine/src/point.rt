@@ -1,21 +1,14 @@
 //! The job that is done today: a fit at one quantile.
 ghost use Rattle.std.specs.Prelude.{◌≡◌, IfSome, IfNone, IsTrue, ◌↔◌};
 ghost use Rattle.rq_words.specs.declared.job.Job.TheVariants.{Process};
-ghost use Rattle.rq_engine.specs.Point.{is_plain as is_plain_of, IsPoint, IsBuilt};
+ghost use Rattle.rq_engine.specs.Point.{IsPoint, IsBuilt};
 
 use rq_words::{FitJob, Job};
-
-// Whether neither weights nor rank intervals are asked for.
-fn is_plain(fit: &FitJob) -> bool
-    ensures { result ≡ is_plain_of fit.now }
-{
-    fit.weights.is_none() & fit.rank.is_none()
-}
 
 fn is_point(fit: &FitJob) -> bool
     ensures { IsTrue result ↔ IsPoint fit.now }
 {
-    if !is_plain(fit) || fit.lo != fit.hi {
+    if fit.rank.is_some() || fit.lo != fit.hi {
         return false;
     }
     true
@@ -33,8 +26,8 @@ pub(crate) fn point_of(job: &Job) -> Option<&FitJob>
     }
 }
 
-/// Whether this version does the job: it is a process at one quantile, without weights and without
-/// rank intervals. It takes no memory.
+/// Whether this version does the job: it is a process at one quantile, without rank intervals. It takes
+/// no memory.
 pub fn is_built(job: &Job) -> bool
     ensures { IsTrue result ↔ IsBuilt job.now }
 {

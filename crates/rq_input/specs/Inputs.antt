@@ -25,7 +25,7 @@ use Rattle.rq_input.specs.declared.input.Input.{Input}
 
 -- ---- the input
 
--- the input has the design of the table by the formula of the job, and its problem
+-- the input has the design of the table by the formula and the weights of the job, and its problem
 pub record IsTableInput (job : FitJob) (table : Table) (input : Input) : Type 0 where
   pub model : Formula
   pub designed : IsDesigned job table model input.design
@@ -53,12 +53,12 @@ pub record HasSmooth (job : FitJob) (table : Table) : Type 0 where
   pub parsed : IsParsed job.formula table.names model
   pub smooth : 1 ≤ length model.smooths
 
--- the table has no design by the formula, for this fault
+-- the table has no design by the formula and the weights, for this fault
 pub record LacksDesign (job : FitJob) (table : Table) (fault : DesignFault) : Type 0 where
   pub model : Formula
   pub stated : IsModel job table model
   pub named : fault ≢ designs.OutOfMemory
-  pub cause : HasDesignCause table model job.coding fault
+  pub cause : HasDesignCause table model job.coding job.weights fault
 
 -- the design has no problem, for this fault
 pub record LacksProblem (job : FitJob) (table : Table) (fault : ProgramFault) : Type 0 where

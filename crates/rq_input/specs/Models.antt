@@ -20,10 +20,10 @@ pub record IsModel (job : FitJob) (table : Table) (model : Formula) : Type 0 whe
   pub parsed : IsParsed job.formula table.names model
   pub plain : length model.smooths ≡ 0
 
--- and this is its design
+-- and this is its design, with the weights of the job
 pub record IsDesigned (job : FitJob) (table : Table) (model : Formula) (design : Design) : Type 0 where
   pub stated : IsModel job table model
-  pub built : IsDesign table model job.coding design
+  pub built : IsDesign table model job.coding job.weights design
 
 -- the problem has the design's rows, with their costs
 pub record IsProblemOf (design : Design) (problem : Problem Frac128) : Type 0 where

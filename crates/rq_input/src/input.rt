@@ -1,5 +1,5 @@
 //! An input, step by step: the table, its model, the design, and the problem.
-ghost use Rattle.std.specs.Prelude.{◌≡◌, ◌≤◌, ◌<◌, ◌^◌, All, length, is_none, true, IfOk, IfErr};
+ghost use Rattle.std.specs.Prelude.{◌≡◌, ◌≤◌, ◌<◌, ◌^◌, All, length, option_copied, IfOk, IfErr};
 ghost use Rattle.rq_input.specs.Inputs.{HasDataRows, HasInputCause, HasTableCause, IsInput, IsTableInput};
 ghost use Rattle.rq_input.specs.Models.{IsModel};
 
@@ -14,20 +14,20 @@ use report_text::Halt;
 use rq_words::FitJob;
 use std::alloc::Global;
 
-/// What the bytes of a job say: the design of their table by the job's formula, and its problem.
+/// What the bytes of a job say: the design of their table by the job's formula and weights, and its
+/// problem.
 #[derive(Drop)]
 pub struct Input {
     pub design: Design,
     pub problem: Problem<Frac128>,
 }
 
-/// The input of a job without weights, from at most 2^26 bytes. All rows of its problem are data rows.
+/// The input of a job, from at most 2^26 bytes. All rows of its problem are data rows.
 ///
 /// `Refused` is the first fault: of the bytes as a table, of the formula over the table's names, of
 /// the design, or of its problem. `NotBuilt` has part 3, exactly where the formula has a smooth.
 /// `OutOfMemory` may come at any step, and no other halt comes.
 pub fn read_input(alloc: Global, job: &FitJob, bytes: &[u8]) -> Result<Input, Halt>
-    requires unweighted { is_none job.now.weights ≡ true }
     requires long { length job.now.formula < 2 ^ 31 }
     requires short { length bytes.now ≤ 2 ^ 26 }
     ensures is { IfOk result (IsInput job.now bytes.now) }
@@ -58,6 +58,16 @@ fn table_input(alloc: Global, job: &FitJob, frame: &Frame) -> Result<Input, Halt
     model_input(alloc, job, frame, &model)
 }
 
+// The name of the job's weights.
+fn weights_of(job: &FitJob) -> Option<&str>
+    ensures { option_copied result ≡ job.now.weights }
+{
+    match &job.weights {
+        Some(name) => Some(name.as_str()),
+        None => None,
+    }
+}
+
 // The input of a table by a model without smooths.
 fn model_input(alloc: Global, job: &FitJob, frame: &Frame, model: &Formula) -> Result<Input, Halt>
     requires stated { IsModel job.now frame.now model.now }
@@ -66,7 +76,7 @@ fn model_input(alloc: Global, job: &FitJob, frame: &Frame, model: &Formula) -> R
     ensures data { IfOk result HasDataRows }
     ensures cause { IfErr result (HasTableCause job.now frame.now) }
 {
-    let design = match build(alloc, frame, model, job.coding, None) {
+    let design = match build(alloc, frame, model, job.coding, weights_of(job)) {
         Ok(design) => design,
         Err(fault) => return Err(design_halt(fault)),
     };

@@ -1,6 +1,6 @@
 -- The rows of a design in its problem: where they stand, and what they cost.
-use Rattle.std.proofs.Common.{◌≡◌, ◌<◌, ◌+◌, ℕ, Some, List, [], ◌∷◌, All, length, map, zip, get_or, slice_get, pos, inl, inr, arith, refl, sym, ap, subst, ◌∙◌}
-use Rattle.std.proofs.lemmas.List.{get_or_append_left, get_or-map, length-map}
+use Rattle.std.proofs.Common.{◌≡◌, ◌<◌, ◌≤◌, ◌+◌, ◌-◌, ℕ, Some, List, [], ◌∷◌, All, length, map, zip, get_or, slice_get, pos, inl, inr, arith, refl, sym, ap, subst, ◌∙◌}
+use Rattle.std.proofs.lemmas.List.{get_or_append_left, get_or-append_right, get_or-map, length-map}
 use Rattle.std.proofs.lemmas.Option.{get_or_from_slice_get, slice_get_cases}
 use Rattle.std.proofs.lemmas.Slice.Zip.{get_or-zip, length-zip}
 use Rattle.std.specs.Option.{option_map_or}
@@ -18,9 +18,10 @@ use Rattle.loss_model.specs.Problem.{of_row, sample}
 use Rattle.loss_model.specs.Sample.{Sample, up_cost, down_cost}
 use Rattle.design_matrix.specs.declared.design.Design.{Design}
 use Rattle.design_matrix.specs.declared.design.DesignRow.{DesignRow}
+use Rattle.tv_penalty.specs.declared.PenaltyRow.{PenaltyRow}
 use Rattle.tv_penalty.specs.declared.Smoothing.{Smoothing}
 use Rattle.rq_program.specs.Programs.{RowOf, exact_row, data_row, penalty_row, rows_of}
-use Rattle.rq_program.specs.Costs.{CostsBy, HasDataRows, value}
+use Rattle.rq_program.specs.Costs.{CostsBy, HasDataRows, IsPenaltyRow, value}
 use Rattle.rq_program.specs.Faults.{row_count}
 use Rattle.rq_program.proofs.Rows.{length-rows_of}
 
@@ -86,6 +87,32 @@ module _ (design : Design) (smoothing : Smoothing) (p : Problem Frac128) (lists 
         down1 = ap (λ o. option_map_or (λ z. exact z.down1) o (whole (pos 0))) q.1 ∙ ap (λ z. z.down1) same;
       }
 
+  front : length (map data_row (zip design.rows smoothing.columns)) ≡ length design.rows
+  front = omega (arith, length-map (zip design.rows smoothing.columns) data_row, length-zip design.rows smoothing.columns, lists)
+
+  -- the row of the problem for a penalty
+  penalty_is : (i : ℕ) (q : Row Frac128) (r : PenaltyRow) → length design.rows ≤ i → i < length p.rows → get_or p.rows i q ≡ q → get_or smoothing.rows (i - length design.rows) r ≡ r → exact_row q ≡ penalty_row (length design.names) r
+  penalty_is i q r behind within at_q at_r =
+      sym (ap exact_row at_q)
+      ∙ sym (get_or-map exact_row p.rows i q (exact_row q) within)
+      ∙ ap (λ zs. get_or zs i (exact_row q)) rows
+      ∙ get_or-append_right (map data_row (zip design.rows smoothing.columns)) (map (penalty_row (length design.names)) smoothing.rows) (length design.rows) i (exact_row q) front behind
+      ∙ get_or-map (penalty_row (length design.names)) smoothing.rows (i - length design.rows) r (exact_row q) (omega (arith, count))
+      ∙ ap (penalty_row (length design.names)) at_r
+
+  penalised : (i : ℕ) (r : PenaltyRow) → length design.rows ≤ i → i < row_count design smoothing → get_or smoothing.rows (i - length design.rows) r ≡ r → cmp_ℚ (whole (pos 0)) (exact r.lambda) ≡ Less → IsPenaltyRow (sample value p) i
+  penalised i r behind within at_r above =
+      let q = item_at p.rows i (omega (arith, count)) in
+      let same = penalty_is i q.0 r behind (omega (arith, count)) q.2 at_r in
+      let up0 = ap (λ o. option_map_or (λ z. exact z.up0) o (whole (pos 0))) q.1 ∙ ap (λ z. z.up0) same in
+      record {
+        weighted = ap (cmp_ℚ (whole (pos 0))) up0 ∙ above;
+        up1 = ap (λ o. option_map_or (λ z. exact z.up1) o (whole (pos 0))) q.1 ∙ ap (λ z. z.up1) same;
+        down0 = ap (λ o. option_map_or (λ z. exact z.down0) o (whole (pos 0))) q.1 ∙ ap (λ z. z.down0) same ∙ sym up0;
+        down1 = ap (λ o. option_map_or (λ z. exact z.down1) o (whole (pos 0))) q.1 ∙ ap (λ z. z.down1) same;
+        y = ap (λ o. option_map_or (λ z. exact z.y) o (whole (pos 0))) q.1 ∙ ap (λ z. z.y) same;
+      }
+
   pub has_data_rows : HasDataRows design smoothing p
   has_data_rows = record {
     count = count;
@@ -93,4 +120,7 @@ module _ (design : Design) (smoothing : Smoothing) (p : Problem Frac128) (lists 
     are_data = λ above i l.
         let r = item_at design.rows i l in
         is_data_row (exact r.0.weight) (sample value p) i (costed i r.0 l r.2) (subst (λ z. cmp_ℚ (whole (pos 0)) (exact z.weight) ≡ Less) r.2 (above i r.0 l));
+    are_penalties = λ above i behind within.
+        let r = item_at smoothing.rows (i - length design.rows) (omega arith) in
+        penalised i r.0 behind within r.2 (subst (λ z. cmp_ℚ (whole (pos 0)) (exact z.lambda) ≡ Less) r.2 (above (i - length design.rows) r.0 (omega arith)));
   }

@@ -16,4 +16,6 @@ mod streams;
 #[cfg(test)]
 mod tables;
 #[cfg(test)]
+mod weights;
+#[cfg(test)]
 mod words;

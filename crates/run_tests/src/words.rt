@@ -127,7 +127,7 @@ static COMMANDS: [(&str, u8, &str); 21] = [
         "quantreg: build: NotBuilt part=1\n",
     ),
     (
-        "process|--formula|y ~ 1|--lo|1/2|--hi|1/2|--weights|w",
+        "process|--formula|y ~ 1|--lo|0|--hi|1|--weights|w",
         9,
         "quantreg: build: NotBuilt part=1\n",
     ),

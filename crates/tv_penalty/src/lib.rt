@@ -1,11 +1,34 @@
 //! Smooths of a formula: piecewise linear functions of a column, whose changes of slope are
 //! penalised by their total variation (Koenker, Ng and Portnoy 1994).
 //!
-//! The types here are what smooths give a problem: the columns that they add to a design, and the
-//! rows by which they are penalised. It stands on `frac_core` for fractions, texts and lists.
+//! The knots of a smooth are the distinct numbers of its column at the records of a design. The
+//! function's values at the knots are the coefficients; beside an intercept its value at the first
+//! knot is 0 and has no column. For each inner knot there is a penalty row: the change of slope
+//! there. A lambda of 0 has no rows.
+//!
+//! The one contract: `knots`, `qss_columns` and `qss_rows` give the knots, the columns and the penalty
+//! rows as `specs/Knots.antt` and `specs/Smoothings.antt` define them, or the first fault by
+//! `specs/Faults.antt`; and `l1_rows` gives rows that penalise single coefficients. What the rows are
+//! for is a law, in `laws`: the penalty of a coefficient vector is lambda times the total variation
+//! of the slope of the function through the knots.
+//!
+//! It stands on `design_matrix` for designs and columns, on `data_frame` and `formula_parser` for
+//! tables and smooths, and on `loss_model` for the place of an operation that overflows.
 #![tactic(auto)]
 
+mod assembly;
+mod bends;
+mod fault;
+mod knot;
+pub mod laws;
+mod parts;
+mod rows;
+
+pub use assembly::{qss_columns, qss_rows};
+pub use fault::PenaltyFault;
 use frac_core::{Frac128, List, Text};
+pub use knot::knots;
+pub use rows::l1_rows;
 
 /// A penalty: `lambda` times the absolute value of a combination of coefficients.
 #[derive(Drop)]

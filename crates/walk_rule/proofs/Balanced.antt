@@ -1,29 +1,26 @@
 -- The dual values of a basis weigh what the family asks for, and they are the only ones with the
 -- bounds of its sides.
 use Rattle.std.specs.Prelude.{◌≡◌, ℕ, ◌<◌, Bool, true, false, if◌then◌else◌, [], ◌∷◌, pos}
-use Rattle.std.specs.declared.cmp.Ordering.{Ordering}
-use Rattle.std.specs.declared.cmp.Ordering.TheVariants.{Less, Equal, Greater}
 use Rattle.std.proofs.Common.{refl, sym, ap, ap₂, ◌∙◌}
 use Rattle.exact_algebra.specs.Solver.{number, negated, ◌⊞◌, ◌⊠◌, v0, v1, v2, v3}
 use Rattle.exact_algebra.specs.Rational.{ℚ, ◌+ℚ◌, ◌*ℚ◌, neg_ℚ, whole}
 use Rattle.exact_algebra.proofs.RationalLaws.{ring_ℚ, ring_by_ℚ}
 use Rattle.exact_algebra.specs.RationalSums.{sum_ℚ}
-use Rattle.exact_algebra.proofs.RationalSumLaws.{sum_ℚ-same, sum_ℚ-zero, sum_ℚ-add, sum_ℚ-scale, sum_ℚ-swap, sum_ℚ-mix}
+use Rattle.exact_algebra.proofs.RationalSumLaws.{sum_ℚ-same, sum_ℚ-scale, sum_ℚ-swap, sum_ℚ-mix}
 use Rattle.exact_matrices.specs.Terms.{delta}
 use Rattle.exact_matrices.proofs.TermLaws.{sum_ℚ-delta}
 use Rattle.exact_matrices.specs.Matrices.{coordinate}
 use Rattle.exact_matrices.proofs.MatrixLaws.{sum_ℚ-coordinate}
-use Rattle.exact_matrices.specs.Selections.{among, is_among}
+use Rattle.exact_matrices.specs.Selections.{is_among}
 use Rattle.exact_matrices.proofs.SelectionLaws.{sum_ℚ-among, sum_ℚ-split}
-use Rattle.loss_model.specs.declared.vertex.Side.TheVariants.{Basic}
-use Rattle.loss_model.specs.Sample.{Sample, up_cost, down_cost}
+use Rattle.loss_model.specs.Sample.{Sample}
 use Rattle.loss_model.specs.Vertex.{value_of_side}
-use Rattle.basis_model.specs.Perturbed.{side_of, held_coordinate}
-use Rattle.basis_model.proofs.PerturbedLaws.{held_coordinate-at}
+use Rattle.basis_model.specs.Perturbed.{held_coordinate}
 use Rattle.basis_model.specs.Basis.{IsBasis, coord, dual_value}
-use Rattle.pivot_rule.proofs.Among.{among_at, among_place}
+use Rattle.pivot_rule.proofs.Among.{among_place}
 use Rattle.pivot_rule.proofs.Bounds.{dual_is, is_basic, bound}
-use Rattle.pivot_rule.proofs.Sides.{sign, side_basic, side_outside}
+use Rattle.pivot_rule.proofs.Sides.{side_basic, value_inside}
+use Rattle.pivot_rule.proofs.Weighed.{solved, of_position, outside, weigh}
 use Rattle.walk_rule.specs.Families.{Family, theta_of, basic_at, dual_in}
 
 module _ (f : Family) (at : ℕ → ℕ) (a : ℕ → ℕ → ℚ) (basis : IsBasis f.sample at a) (t : ℚ) where
@@ -37,82 +34,33 @@ module _ (f : Family) (at : ℕ → ℕ) (a : ℕ → ℕ → ℚ) (basis : IsBa
   abbrev pub held : ℕ → ℚ
   held = held_coordinate p.columns at (basic_at f at a t)
 
-  pub held_at : (j : ℕ) → j < p.columns → held (at j) ≡ basic_at f at a t j
-  held_at j lj = held_coordinate-at p.columns at (basic_at f at a t) j basis.distinct.apart lj
-
   -- of a row of the basis it is that of its position
   pub dual_basic : (i : ℕ) → is_basic p at a i ≡ true → dual_in f at a t i ≡ held i
-  dual_basic i e = ap (value_of_side p th held i) (side_basic p at a i e)
+  dual_basic = value_inside p at a basis th (basic_at f at a t)
 
   pub dual_at : (j : ℕ) → j < p.columns → dual_in f at a t (at j) ≡ basic_at f at a t j
-  dual_at j lj = dual_basic (at j) (among_at at p.columns j lj) ∙ held_at j lj
+  dual_at = of_position p at a basis th (basic_at f at a t)
 
   -- a dual value outside is the bound of its side
   pub dual_outside : (i : ℕ) → is_basic p at a i ≡ false → dual_in f at a t i ≡ bound p at a th i
-  dual_outside i e = ap (value_of_side p th held i) (side_outside p at a i e) ∙ by (sign p at a i) ∙ sym (ap (value_of_side p th (λ i. whole (pos 0)) i) (side_outside p at a i e))
-    where
-      by : (o : Ordering) → value_of_side p th held i (side_of o) ≡ value_of_side p th (λ i. whole (pos 0)) i (side_of o)
-      by Greater = refl
-      by Less = refl
-      by Equal = refl
-
-  -- a product with a dual value, as one of a row of the basis and one with a bound
-  parts : (i : ℕ) (x : ℚ) → dual_in f at a t i *ℚ x ≡ (if is_basic p at a i then held i *ℚ x else whole (pos 0)) +ℚ (bound p at a th i *ℚ x)
-  parts i x = by (is_basic p at a i)
-    where
-      outside : (o : Ordering) → value_of_side p th held i (side_of o) *ℚ x ≡ whole (pos 0) +ℚ (value_of_side p th (λ i. whole (pos 0)) i (side_of o) *ℚ x)
-      outside Greater = ring_ℚ (up_cost p th i ∷ x ∷ []) (v0 ⊠ v1) (number (pos 0) ⊞ v0 ⊠ v1) refl
-      outside Less = ring_ℚ (down_cost p th i ∷ x ∷ []) (negated v0 ⊠ v1) (number (pos 0) ⊞ negated v0 ⊠ v1) refl
-      outside Equal = ring_ℚ (down_cost p th i ∷ x ∷ []) (negated v0 ⊠ v1) (number (pos 0) ⊞ negated v0 ⊠ v1) refl
-
-      by : (s : Bool) → value_of_side p th held i (if s then Basic else side_of (sign p at a i)) *ℚ x ≡ (if s then held i *ℚ x else whole (pos 0)) +ℚ (value_of_side p th (λ i. whole (pos 0)) i (if s then Basic else side_of (sign p at a i)) *ℚ x)
-      by true = ring_ℚ (held i ∷ x ∷ []) (v0 ⊠ v1) (v0 ⊠ v1 ⊞ number (pos 0) ⊠ v1) refl
-      by false = outside (sign p at a i)
+  dual_outside = outside p at a basis th (basic_at f at a t)
 
   -- the rows of the basis balance the others up to the right side
   pub balanced : (l : ℕ) → l < p.columns → sum_ℚ p.rows (λ i. dual_in f at a t i *ℚ p.x i l) ≡ f.right l *ℚ t
-  balanced l ll =
-      sum_ℚ-same p.rows (λ i. dual_in f at a t i *ℚ p.x i l) (λ i. among at p.columns h i +ℚ g i) (λ i li. parts i (p.x i l))
-      ∙ sum_ℚ-add p.rows (among at p.columns h) g
-      ∙ ap (λ z. z +ℚ sum_ℚ p.rows g) (sum_ℚ-among at p.columns p.rows h basis.distinct ∙ moved)
-      ∙ ring_ℚ (sum_ℚ p.rows (λ i. neg_ℚ (bound p at a th i) *ℚ p.x i l) ∷ (f.right l *ℚ t) ∷ sum_ℚ p.rows g ∷ []) ((v0 ⊞ v1) ⊞ v2) (v1 ⊞ (v0 ⊞ v2)) refl
-      ∙ ap (λ z. (f.right l *ℚ t) +ℚ z) (sym (sum_ℚ-add p.rows (λ i. neg_ℚ (bound p at a th i) *ℚ p.x i l) g)
-      ∙ sum_ℚ-same p.rows (λ i. (neg_ℚ (bound p at a th i) *ℚ p.x i l) +ℚ g i) (λ i. whole (pos 0)) (λ i li. ring_ℚ (bound p at a th i ∷ p.x i l ∷ []) (negated v0 ⊠ v1 ⊞ v0 ⊠ v1) (number (pos 0)) refl)
-      ∙ sum_ℚ-zero p.rows)
-      ∙ ring_ℚ ((f.right l *ℚ t) ∷ []) (v0 ⊞ number (pos 0)) v0 refl
+  balanced l ll = weigh p at a basis th (basic_at f at a t) l (f.right l *ℚ t) more
     where
-      h : ℕ → ℚ
-      h i = held i *ℚ p.x i l
-
-      g : ℕ → ℚ
-      g i = bound p at a th i *ℚ p.x i l
-
       u : ℕ → ℚ
       u j = dual_value p at a th j *ℚ p.x (at j) l
 
       w : ℕ → ℚ
       w j = coordinate p.columns a f.right j *ℚ p.x (at j) l
 
-      solved : sum_ℚ p.columns u ≡ sum_ℚ p.rows (λ i. neg_ℚ (bound p at a th i) *ℚ p.x i l)
-      solved =
-          sum_ℚ-same p.columns u (λ j. sum_ℚ p.rows (λ i. neg_ℚ (p.x (at j) l) *ℚ (bound p at a th i *ℚ coord p a i j)))
-          (λ j lj. ap (λ z. z *ℚ p.x (at j) l) (dual_is p at a th j)
-          ∙ ring_ℚ (sum_ℚ p.rows (λ i. bound p at a th i *ℚ coord p a i j) ∷ p.x (at j) l ∷ []) (negated v0 ⊠ v1) (negated v1 ⊠ v0) refl
-          ∙ sym (sum_ℚ-scale p.rows (neg_ℚ (p.x (at j) l)) (λ i. bound p at a th i *ℚ coord p a i j)))
-          ∙ sum_ℚ-swap p.columns p.rows (λ j i. neg_ℚ (p.x (at j) l) *ℚ (bound p at a th i *ℚ coord p a i j))
-          ∙ sum_ℚ-same p.rows (λ i. sum_ℚ p.columns (λ j. neg_ℚ (p.x (at j) l) *ℚ (bound p at a th i *ℚ coord p a i j))) (λ i. neg_ℚ (bound p at a th i) *ℚ p.x i l)
-          (λ i li. sum_ℚ-same p.columns (λ j. neg_ℚ (p.x (at j) l) *ℚ (bound p at a th i *ℚ coord p a i j)) (λ j. neg_ℚ (bound p at a th i) *ℚ (coord p a i j *ℚ p.x (at j) l))
-          (λ j lj. ring_ℚ (p.x (at j) l ∷ bound p at a th i ∷ coord p a i j ∷ []) (negated v0 ⊠ (v1 ⊠ v2)) (negated v1 ⊠ (v2 ⊠ v0)) refl)
-          ∙ sum_ℚ-scale p.columns (neg_ℚ (bound p at a th i)) (λ j. coord p a i j *ℚ p.x (at j) l)
-          ∙ ap (λ z. neg_ℚ (bound p at a th i) *ℚ z) (sum_ℚ-coordinate p.columns (λ j k. p.x (at j) k) a basis.inverse (p.x i) l ll))
-
-      moved : sum_ℚ p.columns (λ j. h (at j)) ≡ sum_ℚ p.rows (λ i. neg_ℚ (bound p at a th i) *ℚ p.x i l) +ℚ (f.right l *ℚ t)
-      moved =
-          sum_ℚ-same p.columns (λ j. h (at j)) (λ j. (whole (pos 1) *ℚ u j) +ℚ (t *ℚ w j))
-          (λ j lj. ap (λ z. z *ℚ p.x (at j) l) (held_at j lj)
-          ∙ ring_ℚ (dual_value p at a th j ∷ coordinate p.columns a f.right j ∷ t ∷ p.x (at j) l ∷ []) ((v0 ⊞ v1 ⊠ v2) ⊠ v3) (number (pos 1) ⊠ (v0 ⊠ v3) ⊞ v2 ⊠ (v1 ⊠ v3)) refl)
+      more : sum_ℚ p.columns (λ j. basic_at f at a t j *ℚ p.x (at j) l) ≡ sum_ℚ p.rows (λ i. neg_ℚ (bound p at a th i) *ℚ p.x i l) +ℚ (f.right l *ℚ t)
+      more =
+          sum_ℚ-same p.columns (λ j. basic_at f at a t j *ℚ p.x (at j) l) (λ j. (whole (pos 1) *ℚ u j) +ℚ (t *ℚ w j))
+          (λ j lj. ring_ℚ (dual_value p at a th j ∷ coordinate p.columns a f.right j ∷ t ∷ p.x (at j) l ∷ []) ((v0 ⊞ v1 ⊠ v2) ⊠ v3) (number (pos 1) ⊠ (v0 ⊠ v3) ⊞ v2 ⊠ (v1 ⊠ v3)) refl)
           ∙ sum_ℚ-mix p.columns (whole (pos 1)) t u w
-          ∙ ap₂ (λ y z. (whole (pos 1) *ℚ y) +ℚ (t *ℚ z)) solved (sum_ℚ-coordinate p.columns (λ j k. p.x (at j) k) a basis.inverse f.right l ll)
+          ∙ ap₂ (λ y z. (whole (pos 1) *ℚ y) +ℚ (t *ℚ z)) (solved p at a basis th l ll) (sum_ℚ-coordinate p.columns (λ j k. p.x (at j) k) a basis.inverse f.right l ll)
           ∙ ring_ℚ (sum_ℚ p.rows (λ i. neg_ℚ (bound p at a th i) *ℚ p.x i l) ∷ t ∷ f.right l ∷ []) (number (pos 1) ⊠ v0 ⊞ v1 ⊠ v2) (v0 ⊞ v2 ⊠ v1) refl
 
   -- values that weigh the same, and have the bounds of the sides outside the basis, are its dual values

@@ -20,6 +20,7 @@ use Rattle.exact_matrices.proofs.MatrixLaws.{coordinate-delta}
 use Rattle.loss_model.specs.declared.vertex.Side.{Side}
 use Rattle.loss_model.specs.declared.vertex.Side.TheVariants.{Up, Down, Basic}
 use Rattle.loss_model.specs.Sample.{Sample, up_cost, down_cost, fitted}
+use Rattle.loss_model.specs.Complements.{IsComplementary, residual_change}
 use Rattle.loss_model.specs.Vertex.{value_of_side}
 use Rattle.basis_model.specs.Perturbed.{side_of}
 use Rattle.pivot_rule.specs.declared.direction.Direction.{Direction}
@@ -34,7 +35,7 @@ use Rattle.pivot_rule.proofs.Sides.{sign, side_outside}
 use Rattle.pivot_rule.proofs.Passing.{no}
 use Rattle.walk_rule.specs.Families.{by_weight, Family, rising_value, falling_value, basic_at, dual_in, slope_in, slope_part}
 use Rattle.walk_rule.specs.Walks.{Crosses}
-use Rattle.walk_rule.specs.Rays.{IsRay, ray_up, ray_down}
+use Rattle.walk_rule.specs.Rays.{ray_up, ray_down}
 use Rattle.walk_rule.proofs.Lines.{positive_neg, negative_neg, le_by}
 use Rattle.walk_rule.proofs.Lists.{inverse_above}
 use Rattle.walk_rule.proofs.Slopes.{crossing}
@@ -58,11 +59,11 @@ module _ (g x : ℚ) (above : whole (pos 0) <ℚ g) where
   g_least : whole (pos 0) ≤ℚ g
   g_least = le_from_not (whole (pos 0)) g above
 
-  rising_from : neg_ℚ (x *ℚ g) <ℚ whole (pos 0) → whole (pos 0) <ℚ x
-  rising_from h k = h (le_by (g *ℚ x) (g *ℚ whole (pos 0)) (whole (pos 0)) (neg_ℚ (x *ℚ g)) (≤ℚ_mul x (whole (pos 0)) g g_least k) (ring_ℚ (g ∷ x ∷ []) (v0 ⊠ number (pos 0) ⊟ v0 ⊠ v1) (negated (v1 ⊠ v0) ⊟ number (pos 0)) refl))
+  rising_from : whole (pos 0) <ℚ (x *ℚ g) → whole (pos 0) <ℚ x
+  rising_from h k = h (le_by (g *ℚ x) (g *ℚ whole (pos 0)) (x *ℚ g) (whole (pos 0)) (≤ℚ_mul x (whole (pos 0)) g g_least k) (ring_ℚ (g ∷ x ∷ []) (v0 ⊠ number (pos 0) ⊟ v0 ⊠ v1) (number (pos 0) ⊟ v1 ⊠ v0) refl))
 
-  falling_from : whole (pos 0) <ℚ neg_ℚ (x *ℚ g) → x <ℚ whole (pos 0)
-  falling_from h k = h (le_by (g *ℚ whole (pos 0)) (g *ℚ x) (neg_ℚ (x *ℚ g)) (whole (pos 0)) (≤ℚ_mul (whole (pos 0)) x g g_least k) (ring_ℚ (g ∷ x ∷ []) (v0 ⊠ v1 ⊟ v0 ⊠ number (pos 0)) (number (pos 0) ⊟ negated (v1 ⊠ v0)) refl))
+  falling_from : (x *ℚ g) <ℚ whole (pos 0) → x <ℚ whole (pos 0)
+  falling_from h k = h (le_by (g *ℚ whole (pos 0)) (g *ℚ x) (whole (pos 0)) (x *ℚ g) (≤ℚ_mul (whole (pos 0)) x g g_least k) (ring_ℚ (g ∷ x ∷ []) (v0 ⊠ v1 ⊟ v0 ⊠ number (pos 0)) (v1 ⊠ v0 ⊟ number (pos 0)) refl))
 
 module _ (p : Sample) (tau : ℚ) (right : ℕ → ℚ) (at : ℕ → ℕ) (a : ℕ → ℕ → ℚ) (basis : IsBasis p at a) (t : ℚ) (j : ℕ) (lj : j < p.columns) where
   abbrev f : Family
@@ -72,7 +73,7 @@ module _ (p : Sample) (tau : ℚ) (right : ℕ → ℚ) (at : ℕ → ℕ) (a : 
   e = dual_in f at a t
 
   module _ (d : Direction) (meets : slope_in f at a t j d ≡ whole (pos 0)) (stuck : (i : ℕ) → i < p.rows → moves p at a j d i ≡ false)
-      (dir : ℕ → ℚ) (g : ℚ) (above : whole (pos 0) <ℚ g) (fits : (i : ℕ) → fitted p dir i ≡ neg_ℚ (change p at a j d i *ℚ g)) where
+      (dir : ℕ → ℚ) (g : ℚ) (above : whole (pos 0) <ℚ g) (changes : (i : ℕ) → residual_change p dir i ≡ change p at a j d i *ℚ g) where
     value : (i : ℕ) (s : Side) → side_at p at a i ≡ s → e i ≡ value_of_side p tau (held f at a basis t) i s
     value i s h = ap (value_of_side p tau (held f at a basis t) i) h
 
@@ -134,11 +135,11 @@ module _ (p : Sample) (tau : ℚ) (right : ℕ → ℚ) (at : ℕ → ℕ) (a : 
                 ap e (sym there) ∙ dual_at f at a basis t j lj ∙ left_down d meets (subst (λ i. change p at a j d i <ℚ whole (pos 0)) (sym there) h) ∙ ap (λ i. neg_ℚ (down_cost p tau i)) there
             by false q = absurd (h (subst (λ z. whole (pos 0) ≤ℚ z) (sym (still k lk (eqb-false k j q) d) ∙ ap (change p at a j d) here) zero_le))
 
-    pub ray : IsRay p tau dir e
+    pub ray : IsComplementary p tau (residual_change p dir) e
     ray =
         record {
-          falls = λ i li h. above_is i li (rising_from g (change p at a j d i) above (subst (λ z. z <ℚ whole (pos 0)) (fits i) h)) (side_at p at a i) refl;
-          rises = λ i li h. below_is i li (falling_from g (change p at a j d i) above (subst (λ z. whole (pos 0) <ℚ z) (fits i) h)) (side_at p at a i) refl;
+          above = λ i li h. above_is i li (rising_from g (change p at a j d i) above (subst (λ z. whole (pos 0) <ℚ z) (changes i) h)) (side_at p at a i) refl;
+          below = λ i li h. below_is i li (falling_from g (change p at a j d i) above (subst (λ z. z <ℚ whole (pos 0)) (changes i) h)) (side_at p at a i) refl;
         }
 
 -- ---- the two walks
@@ -156,33 +157,34 @@ module _ (p : Sample) (tau : ℚ) (c : ℕ) (at : ℕ → ℕ) (a : ℕ → ℕ 
       ∙ sum_ℚ-scale p.columns (neg_ℚ (inverse (a c j))) (λ k. p.x i k *ℚ a k j)
       ∙ ring_ℚ (inverse (a c j) ∷ coord p a i j ∷ []) (negated v0 ⊠ v1) (negated (v1 ⊠ v0)) refl
 
-  rising_ray : (d : Direction) → Crosses (rising_value p tau c) at a t j d → ((i : ℕ) → i < p.rows → moves p at a j d i ≡ false) → IsRay p tau (ray_up a c j) (dual_in (rising_value p tau c) at a t)
+  rising_ray : (d : Direction) → Crosses (rising_value p tau c) at a t j d → ((i : ℕ) → i < p.rows → moves p at a j d i ≡ false) → IsComplementary p tau (residual_change p (ray_up a c j)) (dual_in (rising_value p tau c) at a t)
   rising_ray d cross stuck = by d cross stuck (((crossing (rising_value p tau c) at a j d t).0 cross).0)
     where
-      by : (d : Direction) → Crosses (rising_value p tau c) at a t j d → ((i : ℕ) → i < p.rows → moves p at a j d i ≡ false) → slope_part (rising_value p tau c) at a Linear j d <ℚ whole (pos 0) → IsRay p tau (ray_up a c j) (dual_in (rising_value p tau c) at a t)
+      by : (d : Direction) → Crosses (rising_value p tau c) at a t j d → ((i : ℕ) → i < p.rows → moves p at a j d i ≡ false) → slope_part (rising_value p tau c) at a Linear j d <ℚ whole (pos 0) → IsComplementary p tau (residual_change p (ray_up a c j)) (dual_in (rising_value p tau c) at a t)
       by Upward cross stuck falls =
           let below : a c j <ℚ whole (pos 0) = subst (λ z. z <ℚ whole (pos 0)) (ring_ℚ (coordinate p.columns a (λ k. neg_ℚ (delta c k)) j ∷ []) (number (pos 0) ⊟ (number (pos 0) ⊞ v0)) (negated v0) refl ∙ ap neg_ℚ (negated_entry p tau c at a j lc) ∙ ring_ℚ (a c j ∷ []) (negated (negated v0)) v0 refl) falls in
           ray p tau (λ k. neg_ℚ (delta c k)) at a basis t j lj Upward cross.meets stuck (ray_up a c j) (inverse (neg_ℚ (a c j))) (inverse_above (neg_ℚ (a c j)) (positive_neg (a c j) below))
-          (λ i. fit_up i ∙ ring_ℚ (coord p a i j ∷ inverse (a c j) ∷ []) (v0 ⊠ v1) (negated (v0 ⊠ negated v1)) refl ∙ ap (λ z. neg_ℚ (coord p a i j *ℚ z)) (sym (inverse-neg (a c j))))
+          (λ i. ap neg_ℚ (fit_up i) ∙ ring_ℚ (coord p a i j ∷ inverse (a c j) ∷ []) (negated (v0 ⊠ v1)) (v0 ⊠ negated v1) refl ∙ ap (λ z. coord p a i j *ℚ z) (sym (inverse-neg (a c j))))
       by Downward cross stuck falls =
           let above : whole (pos 0) <ℚ a c j = negative_neg (a c j) (subst (λ z. z <ℚ whole (pos 0)) (ring_ℚ (coordinate p.columns a (λ k. neg_ℚ (delta c k)) j ∷ []) (number (pos 0) ⊞ (number (pos 0) ⊞ v0)) v0 refl ∙ negated_entry p tau c at a j lc) falls) in
           ray p tau (λ k. neg_ℚ (delta c k)) at a basis t j lj Downward cross.meets stuck (ray_up a c j) (inverse (a c j)) (inverse_above (a c j) above)
-          (λ i. fit_up i ∙ ring_ℚ (coord p a i j ∷ inverse (a c j) ∷ []) (v0 ⊠ v1) (negated (negated v0 ⊠ v1)) refl)
+          (λ i. ap neg_ℚ (fit_up i) ∙ ring_ℚ (coord p a i j ∷ inverse (a c j) ∷ []) (negated (v0 ⊠ v1)) (negated v0 ⊠ v1) refl)
 
-  pub rising_end : (d : Direction) → Crosses (rising_value p tau c) at a t j d → ((i : ℕ) → i < p.rows → moves p at a j d i ≡ false) → IsRay p tau (ray_up a c j) (dual_in (rising_value p tau c) at a t)
+  pub rising_end : (d : Direction) → Crosses (rising_value p tau c) at a t j d → ((i : ℕ) → i < p.rows → moves p at a j d i ≡ false) → IsComplementary p tau (residual_change p (ray_up a c j)) (dual_in (rising_value p tau c) at a t)
   rising_end = rising_ray
 
-  pub falling_end : (d : Direction) → Crosses (falling_value p tau c) at a t j d → ((i : ℕ) → i < p.rows → moves p at a j d i ≡ false) → IsRay p tau (ray_down a c j) (dual_in (falling_value p tau c) at a t)
+  pub falling_end : (d : Direction) → Crosses (falling_value p tau c) at a t j d → ((i : ℕ) → i < p.rows → moves p at a j d i ≡ false) → IsComplementary p tau (residual_change p (ray_down a c j)) (dual_in (falling_value p tau c) at a t)
   falling_end d cross stuck = by d cross stuck (((crossing (falling_value p tau c) at a j d t).0 cross).0)
     where
-      by : (d : Direction) → Crosses (falling_value p tau c) at a t j d → ((i : ℕ) → i < p.rows → moves p at a j d i ≡ false) → slope_part (falling_value p tau c) at a Linear j d <ℚ whole (pos 0) → IsRay p tau (ray_down a c j) (dual_in (falling_value p tau c) at a t)
+      by : (d : Direction) → Crosses (falling_value p tau c) at a t j d → ((i : ℕ) → i < p.rows → moves p at a j d i ≡ false) → slope_part (falling_value p tau c) at a Linear j d <ℚ whole (pos 0) → IsComplementary p tau (residual_change p (ray_down a c j)) (dual_in (falling_value p tau c) at a t)
       by Upward cross stuck falls =
           let above : whole (pos 0) <ℚ a c j = negative_neg (a c j) (subst (λ z. z <ℚ whole (pos 0)) (ring_ℚ (coordinate p.columns a (delta c) j ∷ []) (number (pos 0) ⊟ (number (pos 0) ⊞ v0)) (negated v0) refl ∙ ap neg_ℚ (coordinate-delta p.columns a c j lc)) falls) in
-          ray p tau (delta c) at a basis t j lj Upward cross.meets stuck (ray_down a c j) (inverse (a c j)) (inverse_above (a c j) above) fit_down
+          ray p tau (delta c) at a basis t j lj Upward cross.meets stuck (ray_down a c j) (inverse (a c j)) (inverse_above (a c j) above)
+          (λ i. ap neg_ℚ (fit_down i) ∙ ring_ℚ (coord p a i j ∷ inverse (a c j) ∷ []) (negated (negated (v0 ⊠ v1))) (v0 ⊠ v1) refl)
       by Downward cross stuck falls =
           let below : a c j <ℚ whole (pos 0) = subst (λ z. z <ℚ whole (pos 0)) (ring_ℚ (coordinate p.columns a (delta c) j ∷ []) (number (pos 0) ⊞ (number (pos 0) ⊞ v0)) v0 refl ∙ coordinate-delta p.columns a c j lc) falls in
           ray p tau (delta c) at a basis t j lj Downward cross.meets stuck (ray_down a c j) (inverse (neg_ℚ (a c j))) (inverse_above (neg_ℚ (a c j)) (positive_neg (a c j) below))
-          (λ i. fit_down i ∙ ring_ℚ (coord p a i j ∷ inverse (a c j) ∷ []) (negated (v0 ⊠ v1)) (negated (negated v0 ⊠ negated v1)) refl ∙ ap (λ z. neg_ℚ (neg_ℚ (coord p a i j) *ℚ z)) (sym (inverse-neg (a c j))))
+          (λ i. ap neg_ℚ (fit_down i) ∙ ring_ℚ (coord p a i j ∷ inverse (a c j) ∷ []) (negated (negated (v0 ⊠ v1))) (negated v0 ⊠ negated v1) refl ∙ ap (λ z. neg_ℚ (coord p a i j) *ℚ z) (sym (inverse-neg (a c j))))
 
   -- a slope that falls has an entry that is not 0
   entry_some : (right : ℕ → ℚ) (d : Direction) → slope_part (record { sample = p; parameter = by_weight tau; right = right }) at a Linear j d <ℚ whole (pos 0) → coordinate p.columns a right j ≢ whole (pos 0)

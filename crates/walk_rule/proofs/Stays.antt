@@ -1,31 +1,27 @@
 -- What a walking step keeps: every dual value, and that the basis is optimal.
 use Rattle.std.specs.Prelude.{◌≡◌, ◌≢◌, ℕ, ◌<◌, Bool, true, false, ◌==◌, [], ◌∷◌, pos, negsuc}
-use Rattle.std.specs.declared.cmp.Ordering.{Ordering}
-use Rattle.std.specs.declared.cmp.Ordering.TheVariants.{Less, Equal, Greater}
 use Rattle.std.proofs.Common.{refl, sym, ap, subst, ◌∙◌}
 use borrow.Author.Tests.{eqb-true, eqb-false}
 use Rattle.exact_algebra.specs.Solver.{number, negated, ◌⊞◌, ◌⊟◌, v0, v1}
 use Rattle.exact_algebra.specs.Rational.{ℚ, ◌+ℚ◌, ◌-ℚ◌, neg_ℚ, whole, ◌≤ℚ◌}
 use Rattle.exact_algebra.proofs.RationalLaws.{ring_ℚ, ring_by_ℚ, ≤ℚ_refl}
-use Rattle.exact_algebra.proofs.RationalSumLaws.{≤ℚ_from}
 use Rattle.exact_algebra.proofs.OrderLaws.{≤ℚ-minus}
 use Rattle.loss_model.specs.declared.vertex.Side.{Side}
 use Rattle.loss_model.specs.declared.vertex.Side.TheVariants.{Up, Down, Basic}
 use Rattle.loss_model.specs.Sample.{Sample, up_cost, down_cost, residual}
+use Rattle.loss_model.specs.Complements.{IsComplementary}
 use Rattle.loss_model.specs.Vertex.{value_of_side, IsOn}
-use Rattle.basis_model.specs.Perturbed.{side_of}
 use Rattle.pivot_rule.specs.declared.direction.Direction.{Direction}
 use Rattle.pivot_rule.specs.declared.direction.Direction.TheVariants.{Upward, Downward}
 use Rattle.basis_model.specs.Basis.{IsBasis, coefficient, side_at}
 use Rattle.pivot_rule.specs.Duals.{HasCosts, ◌<ℚ◌}
-use Rattle.pivot_rule.proofs.Among.{among_at, among_place}
+use Rattle.pivot_rule.proofs.Among.{among_at}
 use Rattle.pivot_rule.proofs.Bounds.{is_basic, bound}
-use Rattle.pivot_rule.proofs.Sides.{sign, side_outside, on_side}
+use Rattle.pivot_rule.proofs.Sides.{on_side}
 use Rattle.pivot_rule.proofs.Passing.{no}
-use Rattle.pivot_rule.proofs.Optimal.{wide}
+use Rattle.pivot_rule.proofs.Weighed.{IsWithin, between, within}
 use Rattle.walk_rule.specs.Families.{Family, theta_of, IsFeasibleIn, basic_at, dual_in, slope_in, IsOptimalIn}
 use Rattle.walk_rule.specs.Walks.{IsFirstMover, side_towards, AreExchanged}
-use Rattle.walk_rule.specs.Complements.{AreComplementary}
 use Rattle.walk_rule.proofs.Balanced.{held, dual_at, dual_outside, balanced, only}
 use Rattle.walk_rule.proofs.Joint.{next_same, stays_in, sides_stay, side_left}
 
@@ -38,40 +34,16 @@ module _ (f : Family) (at : ℕ → ℕ) (a : ℕ → ℕ → ℚ) (basis : IsBa
   abbrev th : ℚ
   th = theta_of f t
 
-  abbrev IsWithin : ℕ → ℚ → Type 0
-  IsWithin i e = (neg_ℚ (down_cost p th i) ≤ℚ e) × (e ≤ℚ up_cost p th i)
-
   pub feasible : HasCosts p th → IsOptimalIn f at a t → IsFeasibleIn f t (dual_in f at a t)
   feasible costs stop =
-      record { lower = λ i li. (within i li).0; upper = λ i li. (within i li).1; balanced = balanced f at a basis t }
+      record { lower = λ i li. (all_within i li).0; upper = λ i li. (all_within i li).1; balanced = balanced f at a basis t }
     where
-      at_position : (j : ℕ) → j < p.columns → IsWithin (at j) (basic_at f at a t j)
-      at_position j lj = (
-        ≤ℚ_from (neg_ℚ (down_cost p th (at j))) (basic_at f at a t j) (subst (λ z. whole (pos 0) ≤ℚ z) (ring_ℚ (down_cost p th (at j) ∷ basic_at f at a t j ∷ []) (v0 ⊞ v1) (v1 ⊟ negated v0) refl) (stop j Downward lj)),
-        ≤ℚ_from (basic_at f at a t j) (up_cost p th (at j)) (stop j Upward lj),
-      )
+      all_within : (i : ℕ) → i < p.rows → IsWithin p at a basis th i (dual_in f at a t i)
+      all_within =
+          within p at a basis th (basic_at f at a t) costs
+          (λ j lj. between p at a basis th (at j) (basic_at f at a t j) (stop j Upward lj) (stop j Downward lj))
 
-      within : (i : ℕ) → i < p.rows → IsWithin i (dual_in f at a t i)
-      within i li = by (is_basic p at a i) refl
-        where
-          between : neg_ℚ (down_cost p th i) ≤ℚ up_cost p th i
-          between = wide (up_cost p th i) (down_cost p th i) (costs.up i li) (costs.down i li)
-
-          outside : (o : Ordering) → IsWithin i (value_of_side p th (λ i. whole (pos 0)) i (side_of o))
-          outside Greater = (between, ≤ℚ_refl (up_cost p th i))
-          outside Less = (≤ℚ_refl (neg_ℚ (down_cost p th i)), between)
-          outside Equal = (≤ℚ_refl (neg_ℚ (down_cost p th i)), between)
-
-          by : (s : Bool) → is_basic p at a i ≡ s → IsWithin i (dual_in f at a t i)
-          by true e =
-              let place : (j : ℕ) × (j < p.columns) × (at j ≡ i) = among_place at p.columns i e in
-              subst (λ i. IsWithin i (dual_in f at a t i)) place.2
-              (subst (IsWithin (at place.0)) (sym (dual_at f at a basis t place.0 place.1)) (at_position place.0 place.1))
-          by false e =
-              subst (IsWithin i) (sym (dual_outside f at a basis t i e))
-              (subst (λ s. IsWithin i (value_of_side p th (λ i. whole (pos 0)) i s)) (sym (side_outside p at a i e)) (outside (sign p at a i)))
-
-  pub complementary : AreComplementary p th (coefficient p at a) (dual_in f at a t)
+  pub complementary : IsComplementary p th (residual p (coefficient p at a)) (dual_in f at a t)
   complementary =
       record {
         above = λ i li h. rise i h (side_at p at a i) refl (on_side p at a basis i);
@@ -152,9 +124,9 @@ module _ (f : Family) (at next : ℕ → ℕ) (a b : ℕ → ℕ → ℚ) (t : �
   pub optimal_stays : HasCosts q tq → IsOptimalIn f at a t → IsOptimalIn f next b t
   optimal_stays costs stop = optimal_from f next b after t (dual_in f at a t) (feasible f at a basis t costs stop) duals_stay
 
-  pub both_complement : AreComplementary q tq (coefficient q at a) (dual_in f at a t) × AreComplementary q tq (coefficient q next b) (dual_in f at a t)
+  pub both_complement : IsComplementary q tq (residual q (coefficient q at a)) (dual_in f at a t) × IsComplementary q tq (residual q (coefficient q next b)) (dual_in f at a t)
   both_complement =
-      let own : AreComplementary q tq (coefficient q next b) (dual_in f next b t) = complementary f next b after t in (
+      let own : IsComplementary q tq (residual q (coefficient q next b)) (dual_in f next b t) = complementary f next b after t in (
         complementary f at a basis t,
         record {
           above = λ i li h. sym (duals_stay i li) ∙ own.above i li h;

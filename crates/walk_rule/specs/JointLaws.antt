@@ -4,6 +4,7 @@ use Rattle.std.specs.Prelude.{◌≡◌, ◌≢◌, ℕ, ◌<◌, List, length, 
 use Rattle.exact_algebra.specs.Rational.{ℚ, ◌+ℚ◌, ◌-ℚ◌, ◌*ℚ◌, inverse, whole}
 use Rattle.exact_matrices.specs.Exchange.{exchanged}
 use Rattle.loss_model.specs.Sample.{Sample, residual}
+use Rattle.loss_model.specs.Complements.{IsComplementary}
 use Rattle.basis_model.specs.declared.part.Part.{Part}
 use Rattle.basis_model.specs.Basis.{IsBasis, coord, coefficient, bound_part, nonbasic_total, side_at}
 use Rattle.pivot_rule.specs.declared.direction.Direction.{Direction}
@@ -11,7 +12,6 @@ use Rattle.pivot_rule.specs.Duals.{HasCosts}
 use Rattle.pivot_rule.specs.Trails.{EndsAt}
 use Rattle.walk_rule.specs.Families.{Family, theta_of, IsFeasibleIn, dual_in, slope_in, IsOptimalIn}
 use Rattle.walk_rule.specs.Walks.{IsFirstMover, side_towards, AreExchanged, IsJoint}
-use Rattle.walk_rule.specs.Complements.{AreComplementary}
 
 -- in a list of rows by position an exchange is a new item
 abbrev pub ListIsExchanged : Type 0
@@ -49,15 +49,15 @@ OptimalStays =
 abbrev pub BasisComplements : Type 0
 BasisComplements =
     (f : Family) (at : ℕ → ℕ) (a : ℕ → ℕ → ℚ) (t : ℚ) → IsBasis f.sample at a → HasCosts f.sample (theta_of f t) → IsOptimalIn f at a t
-    → IsFeasibleIn f t (dual_in f at a t) × AreComplementary f.sample (theta_of f t) (coefficient f.sample at a) (dual_in f at a t)
+    → IsFeasibleIn f t (dual_in f at a t) × IsComplementary f.sample (theta_of f t) (residual f.sample (coefficient f.sample at a)) (dual_in f at a t)
 
 -- those of a joint complement the coefficients before and after
 abbrev pub JointComplementsBoth : Type 0
 JointComplementsBoth =
     (f : Family) (at next : ℕ → ℕ) (a b : ℕ → ℕ → ℚ) (t : ℚ) (j r : ℕ) (d : Direction) → IsJoint f.sample at next a b j r d
     → slope_in f at a t j d ≡ whole (pos 0)
-    → AreComplementary f.sample (theta_of f t) (coefficient f.sample at a) (dual_in f at a t)
-    × AreComplementary f.sample (theta_of f t) (coefficient f.sample next b) (dual_in f at a t)
+    → IsComplementary f.sample (theta_of f t) (residual f.sample (coefficient f.sample at a)) (dual_in f at a t)
+    × IsComplementary f.sample (theta_of f t) (residual f.sample (coefficient f.sample next b)) (dual_in f at a t)
 
 -- coefficients change by a multiple of the residual of the row that enters
 abbrev pub CoefficientsChange : Type 0

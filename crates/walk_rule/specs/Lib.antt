@@ -4,7 +4,6 @@ pub mod WalkTrails
 pub mod Stays
 pub mod Underway
 pub mod Rays
-pub mod Complements
 pub mod WalkSpills
 pub mod SlopeLaws
 pub mod BreakLaws

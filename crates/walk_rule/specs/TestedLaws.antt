@@ -3,12 +3,13 @@ use Rattle.std.specs.Prelude.{◌≡◌, ◌≢◌, ℕ, ◌<◌, Bool, false, p
 use Rattle.exact_algebra.specs.Rational.{ℚ, ◌+ℚ◌, ◌*ℚ◌, neg_ℚ, whole}
 use Rattle.exact_algebra.specs.RationalSums.{sum_ℚ}
 use Rattle.loss_model.specs.Sample.{Sample}
+use Rattle.loss_model.specs.Complements.{IsComplementary, residual_change}
 use Rattle.basis_model.specs.Basis.{IsBasis, dual_value}
 use Rattle.pivot_rule.specs.declared.direction.Direction.{Direction}
 use Rattle.pivot_rule.specs.Steps.{slope, moves}
 use Rattle.walk_rule.specs.Families.{Family, rising_value, falling_value, IsFeasibleIn, basic_at, dual_in, slope_in, IsOptimalIn}
 use Rattle.walk_rule.specs.Walks.{IsEndOf, Crosses, IsNextBreak, IsWalkingStep}
-use Rattle.walk_rule.specs.Rays.{IsRay, ray_up, ray_down}
+use Rattle.walk_rule.specs.Rays.{ray_up, ray_down}
 
 -- at 0 slopes are those of the pivot at the quantile
 abbrev pub TestedAsSolved : Type 0
@@ -57,12 +58,13 @@ TestedEnd =
     × (IsOptimalIn (falling_value p tau c) at a from → ((t : ℚ) (j r : ℕ) → ¬ IsWalkingStep (falling_value p tau c) at a reach from t j r)
     → IsEndOf (falling_value p tau c) at a reach from)
 
--- and where no row moves, the direction of the position is a ray, scaled at the column
+-- and where no row moves, the dual values complement how the residuals change along the direction of the
+-- position, scaled at the column
 abbrev pub StuckIsRay : Type 0
 StuckIsRay =
     (p : Sample) (tau t : ℚ) (c j : ℕ) (d : Direction) (at : ℕ → ℕ) (a : ℕ → ℕ → ℚ) → IsBasis p at a → c < p.columns → j < p.columns
     → ((i : ℕ) → i < p.rows → moves p at a j d i ≡ false)
     → (Crosses (rising_value p tau c) at a t j d
-    → IsRay p tau (ray_up a c j) (dual_in (rising_value p tau c) at a t) × (ray_up a c j c ≡ whole (pos 1)))
+    → IsComplementary p tau (residual_change p (ray_up a c j)) (dual_in (rising_value p tau c) at a t) × (ray_up a c j c ≡ whole (pos 1)))
     × (Crosses (falling_value p tau c) at a t j d
-    → IsRay p tau (ray_down a c j) (dual_in (falling_value p tau c) at a t) × (ray_down a c j c ≡ neg_ℚ (whole (pos 1))))
+    → IsComplementary p tau (residual_change p (ray_down a c j)) (dual_in (falling_value p tau c) at a t) × (ray_down a c j c ≡ neg_ℚ (whole (pos 1))))

@@ -1,15 +1,14 @@
--- Fractions over a common denominator: what holds of all vectors of whole numbers over one holds of all vectors of fractions.
+-- Fractions over a common denominator: every vector of them is one of whole numbers over one.
 use Rattle.std.specs.Prelude.{◌≡◌, ℕ, zero, suc, ◌*◌, ◌<◌, ◌≤◌, Bool, true, false, cond, ltb, [], ◌∷◌, ℤ, pos, ◌*ℤ◌}
 use Rattle.std.proofs.Common.{arith, refl, sym, ap, ◌∙◌}
 use Rattle.std.proofs.Math.Nat.{mul-pos}
 use Rattle.std.proofs.lemmas.Bool.{ltb-false}
 use borrow.Author.Tests.{ltb-true}
-use mathlib.Core.HLevel.{Π_prop}
-use Rattle.exact_algebra.proofs.Quotients.{by_quotient}
 use Rattle.exact_algebra.specs.Solver.{◌⊠◌, v0, v1, v2}
 use Rattle.exact_algebra.specs.Rational.{ℚ, ◌*ℚ◌, whole}
 use Rattle.exact_algebra.proofs.RationalLaws.{whole-mul, ring_ℚ}
 use Rattle.loss_model.proofs.Quotients.{whole-quotient}
+use Rattle.whole_model.proofs.LowestTerms.{lowest_of}
 
 -- c/d is v in each of the first n places
 pub record IsOver (n : ℕ) (c : ℕ → ℤ) (d : ℕ) (v : ℕ → ℚ) : Type 0 where
@@ -21,9 +20,9 @@ one_le a b h k = let p : zero < a * b = mul-pos (omega arith) (omega arith) in o
 pub whole-times : (a b : ℕ) → whole (pos (a * b)) ≡ whole (pos a) *ℚ whole (pos b)
 whole-times a b = whole-mul (pos a) (pos b)
 
--- a fraction may be taken as m/d
-by_value : (P : Type 0) → IsProp P → (x : ℚ) → ((m : ℤ) (d : ℕ) → 1 ≤ d → whole m ≡ whole (pos d) *ℚ x → P) → P
-by_value P prop = by_quotient (λ x. ((m : ℤ) (d : ℕ) → 1 ≤ d → whole m ≡ whole (pos d) *ℚ x → P) → P) (λ x. Π_prop (λ f. prop)) (λ n d h f. f n d h (whole-quotient n d h))
+-- over a product of two denominators
+pub over_product : (n : ℕ) (c : ℕ → ℤ) (d g : ℕ) (v : ℕ → ℚ) → IsOver n c (d * g) v → (k : ℕ) → k < n → whole (c k) ≡ (whole (pos d) *ℚ whole (pos g)) *ℚ v k
+over_product n c d g v over k l = over.each k l ∙ ap (λ z. z *ℚ v k) (whole-times d g)
 
 -- c/d in the first n places, and m/b in the next
 abbrev extended : ℕ → (ℕ → ℤ) → ℕ → ℤ → ℕ → ℕ → ℤ
@@ -42,8 +41,21 @@ extended_is n c d m b v over e = record { each = λ k l. by k l (ltb k n) refl }
         ∙ ring_ℚ (whole (pos d) ∷ whole (pos b) ∷ v n ∷ []) ((v1 ⊠ v2) ⊠ v0) ((v0 ⊠ v1) ⊠ v2) refl
         ∙ ap (λ z. z *ℚ v n) (sym (whole-times d b)) ∙ ap (λ i. whole (pos (d * b)) *ℚ v i) last
 
--- the first n places of a vector of fractions may be taken as c/d
-pub by_vector : (n : ℕ) (P : Type 0) → IsProp P → (v : ℕ → ℚ) → ((c : ℕ → ℤ) (d : ℕ) → 1 ≤ d → IsOver n c d v → P) → P
-by_vector zero P prop v f = f (λ k. pos 0) 1 (omega arith) (record { each = λ k l. absurd (omega arith) })
-by_vector (suc n) P prop v f =
-    by_value P prop (v n) (λ m b hb e. by_vector n P prop v (λ c d hd over. f (extended n c d m b) (d * b) (one_le d b hd hb) (extended_is n c d m b v over e)))
+-- the first n places of a vector of fractions over one denominator
+pub record CommonDenominator (n : ℕ) (v : ℕ → ℚ) : Type 0 where
+  pub c : ℕ → ℤ
+  pub d : ℕ
+  pub positive : 1 ≤ d
+  pub over : IsOver n c d v
+
+pub common_denominator : (n : ℕ) (v : ℕ → ℚ) → CommonDenominator n v
+common_denominator zero v = record { c = λ k. pos 0; d = 1; positive = omega arith; over = record { each = λ k l. absurd (omega arith) } }
+common_denominator (suc n) v =
+    let before = common_denominator n v in
+    let last = lowest_of (v n) in
+    record {
+      c = extended n before.c before.d last.v.num last.v.den;
+      d = before.d * last.v.den;
+      positive = one_le before.d last.v.den before.positive last.is.positive;
+      over = extended_is n before.c before.d last.v.num last.v.den v before.over (whole-quotient last.v.num last.v.den last.is.positive ∙ ap (λ z. whole (pos last.v.den) *ℚ z) last.is.is);
+    }

@@ -1,14 +1,13 @@
 -- Minima and dual values in fractions and in whole numbers.
-use Rattle.std.specs.Prelude.{◌≡◌, ◌↔◌, ℕ, ◌+◌, ◌*◌, ◌<◌, ◌≤◌, true, [], ◌∷◌, ℤ, pos, ◌+ℤ◌, ◌*ℤ◌, ◌≤ℤ◌, neg_ℤ}
+use Rattle.std.specs.Prelude.{◌≡◌, ◌↔◌, ℕ, ◌+◌, ◌*◌, ◌<◌, ◌≤◌, [], ◌∷◌, ℤ, pos, ◌+ℤ◌, ◌*ℤ◌, ◌≤ℤ◌, neg_ℤ}
 use Rattle.std.proofs.Common.{arith, refl, sym, ap, subst, ◌∙◌}
-use mathlib.Core.Bool.{Bool-set}
 use Rattle.exact_algebra.specs.IntegerSums.{sum_to}
 use Rattle.exact_algebra.specs.Solver.{number, negated, ◌⊞◌, ◌⊠◌, v0, v1, v2, v3, v4, v5, v6, v7}
-use Rattle.exact_algebra.specs.Rational.{ℚ, ◌+ℚ◌, ◌*ℚ◌, neg_ℚ, inverse, quotient, whole, ◌≤ℚ◌, le_ℚ}
-use Rattle.exact_algebra.proofs.RationalLaws.{whole-add, whole-mul, one-*ℚ, ring_ℚ, ring_by_ℚ, ≤ℚ_mul}
+use Rattle.exact_algebra.specs.Rational.{ℚ, ◌+ℚ◌, ◌*ℚ◌, neg_ℚ, inverse, quotient, whole, ◌≤ℚ◌}
+use Rattle.exact_algebra.proofs.RationalLaws.{whole-add, whole-mul, one-*ℚ, ring_ℚ, ring_by_ℚ}
 use Rattle.exact_algebra.specs.RationalSums.{sum_ℚ}
 use Rattle.exact_algebra.proofs.RationalSumLaws.{sum_ℚ-same, sum_ℚ-scale}
-use Rattle.exact_algebra.proofs.WholeNumbers.{whole-le, le_from_whole, same_from_whole, whole-neg, whole-sum}
+use Rattle.exact_algebra.proofs.WholeNumbers.{whole-neg, whole-sum}
 use Rattle.exact_algebra.specs.Fraction.{Fraction, rational}
 use Rattle.exact_algebra.proofs.Quotients.{quotient_from}
 use Rattle.loss_model.specs.Sample.{Sample}
@@ -17,24 +16,12 @@ use Rattle.loss_model.specs.Dual.{mix}
 use Rattle.loss_model.specs.Dual as exact_dual
 use Rattle.whole_model.specs.Scaled.{Scaled, up_cost, down_cost, loss, Minimises, IsFeasible, IsDual, between, mixed}
 use Rattle.whole_model.specs.Laws.{DualsShowMinimumInIntegers, MixIsDualInIntegers}
-use Rattle.loss_model.proofs.Quotients.{inverse_of, whole-quotient, cancel_whole, cancel_whole_le, whole_not_negative}
-use Rattle.whole_model.proofs.CommonDenominators.{IsOver, one_le, whole-times, by_vector}
+use Rattle.loss_model.proofs.Quotients.{inverse_of, whole-quotient}
+use Rattle.whole_model.proofs.CommonDenominators.{IsOver, over_product, one_le, whole-times, common_denominator}
+use Rattle.whole_model.proofs.Units.{positive_whole, order_of, equation_of}
 use Rattle.whole_model.proofs.Scales.{Scales, up_scaled, down_scaled, loss_scaled}
 use Rattle.loss_model.proofs.Duality.{minimum}
 use Rattle.loss_model.proofs.Mixes as mixes
-
--- an order of fractions is that of the whole numbers which they are in units of 1/n
-order_of : (n : ℕ) (a b : ℤ) (x y : ℚ) → 1 ≤ n → whole a ≡ whole (pos n) *ℚ x → whole b ≡ whole (pos n) *ℚ y → (x ≤ℚ y) ↔ (a ≤ℤ b)
-order_of n a b x y h e f = (
-  λ le. le_from_whole a b (subst (λ z. z ≤ℚ whole b) (sym e) (subst (λ z. (whole (pos n) *ℚ x) ≤ℚ z) (sym f) (≤ℚ_mul x y (whole (pos n)) (whole_not_negative n) le))),
-  λ le. cancel_whole_le n x y h (subst (λ z. z ≤ℚ (whole (pos n) *ℚ y)) e (subst (λ z. whole a ≤ℚ z) f (whole-le a b le))),
-)
-
-equation_of : (n : ℕ) (a b : ℤ) (x y : ℚ) → 1 ≤ n → whole a ≡ whole (pos n) *ℚ x → whole b ≡ whole (pos n) *ℚ y → (x ≡ y) ↔ (a ≡ b)
-equation_of n a b x y h e f = (
-  λ same. same_from_whole a b (e ∙ ap (λ z. whole (pos n) *ℚ z) same ∙ sym f),
-  λ same. cancel_whole n x y h (sym e ∙ ap whole same ∙ f),
-)
 
 whole-3 : (a b c : ℕ) → whole (pos (a * (b * c))) ≡ whole (pos a) *ℚ (whole (pos b) *ℚ whole (pos c))
 whole-3 a b c = whole-times a (b * c) ∙ ap (λ z. whole (pos a) *ℚ z) (whole-times b c)
@@ -51,8 +38,8 @@ module _ (q : ℕ) (p : Sample) (w : Scaled) (s : Scales q p w) (qp : 1 ≤ q) (
     losses : (c' : ℕ → ℤ) (d' : ℕ) (v' : ℕ → ℚ) → 1 ≤ d' → IsOver p.columns c' d' v'
         → (exact.loss p (rational theta) v ≤ℚ exact.loss p (rational theta) v') ↔ ((loss w theta c d *ℤ pos d') ≤ℤ (loss w theta c' d' *ℤ pos d))
     losses c' d' v' dp' vector' =
-        order_of ((q * (theta.den * q)) * (d * d')) (loss w theta c d *ℤ pos d') (loss w theta c' d' *ℤ pos d) (exact.loss p (rational theta) v) (exact.loss p (rational theta) v')
-        (one_le (q * (theta.den * q)) (d * d') (one_le q (theta.den * q) qp (one_le theta.den q tp qp)) (one_le d d' dp dp'))
+        order_of (whole (pos ((q * (theta.den * q)) * (d * d')))) (loss w theta c d *ℤ pos d') (loss w theta c' d' *ℤ pos d) (exact.loss p (rational theta) v) (exact.loss p (rational theta) v')
+        (positive_whole ((q * (theta.den * q)) * (d * d')) (one_le (q * (theta.den * q)) (d * d') (one_le q (theta.den * q) qp (one_le theta.den q tp qp)) (one_le d d' dp dp')))
         (whole-mul (loss w theta c d) (pos d') ∙ ap (λ z. z *ℚ whole (pos d')) (loss_scaled q p w s theta tp c d v vector)
         ∙ ring_ℚ (Q ∷ t ∷ whole (pos d) ∷ whole (pos d') ∷ exact.loss p (rational theta) v ∷ []) ((((v0 ⊠ v1) ⊠ (v0 ⊠ v2)) ⊠ v4) ⊠ v3) (((v0 ⊠ (v1 ⊠ v0)) ⊠ (v2 ⊠ v3)) ⊠ v4) refl
         ∙ ap (λ z. z *ℚ exact.loss p (rational theta) v) (sym unit_is))
@@ -68,25 +55,21 @@ module _ (q : ℕ) (p : Sample) (w : Scaled) (s : Scales q p w) (qp : 1 ≤ q) (
     pub minima : exact.Minimises p (rational theta) v ↔ Minimises w theta c d
     minima = (
       λ least c' d' dp'. (losses c' d' (λ k. quotient (c' k) d') dp' (record { each = λ k l. whole-quotient (c' k) d' dp' })).0 (least (λ k. quotient (c' k) d')),
-      λ least v'. record {
-        le = by_vector p.columns (le_ℚ (exact.loss p (rational theta) v) (exact.loss p (rational theta) v') ≡ true) (Bool-set _ _) v'
-            (λ c' d' dp' vector'. ((losses c' d' v' dp' vector').1 (least c' d' dp')).le);
-      },
+      λ least v'.
+          let over = common_denominator p.columns v' in
+          (losses over.c over.d v' over.positive over.over).1 (least over.c over.d over.positive),
     )
 
   module _ (e : ℕ → ℤ) (g : ℕ) (f : ℕ → ℚ) (gp : 1 ≤ g) (over : IsOver p.rows e (q * g) f) where
     abbrev G : ℚ
     G = whole (pos g)
 
-    value_is : (i : ℕ) → i < p.rows → whole (e i) ≡ (Q *ℚ G) *ℚ f i
-    value_is i l = over.each i l ∙ ap (λ z. z *ℚ f i) (whole-times q g)
-
     bound_unit : 1 ≤ theta.den * (q * g)
     bound_unit = one_le theta.den (q * g) tp (one_le q g qp gp)
 
     value_at_unit : (i : ℕ) → i < p.rows → whole (pos theta.den *ℤ e i) ≡ whole (pos (theta.den * (q * g))) *ℚ f i
     value_at_unit i l =
-        whole-mul (pos theta.den) (e i) ∙ ap (λ z. t *ℚ z) (value_is i l)
+        whole-mul (pos theta.den) (e i) ∙ ap (λ z. t *ℚ z) (over_product p.rows e q g f over i l)
         ∙ ring_ℚ (t ∷ Q ∷ G ∷ f i ∷ []) (v0 ⊠ ((v1 ⊠ v2) ⊠ v3)) ((v0 ⊠ (v1 ⊠ v2)) ⊠ v3) refl ∙ ap (λ z. z *ℚ f i) (sym (whole-3 theta.den q g))
 
     cost_at_unit : (z : ℤ) (x : ℚ) → whole z ≡ (Q *ℚ t) *ℚ x → whole (z *ℤ pos g) ≡ whole (pos (theta.den * (q * g))) *ℚ x
@@ -97,15 +80,15 @@ module _ (q : ℕ) (p : Sample) (w : Scaled) (s : Scales q p w) (qp : 1 ≤ q) (
     negated_at_unit : (z : ℤ) (x : ℚ) → whole z ≡ whole (pos (theta.den * (q * g))) *ℚ x → whole (neg_ℤ z) ≡ whole (pos (theta.den * (q * g))) *ℚ neg_ℚ x
     negated_at_unit z x h = whole-neg z ∙ ap neg_ℚ h ∙ ring_ℚ (whole (pos (theta.den * (q * g))) ∷ x ∷ []) (negated (v0 ⊠ v1)) (v0 ⊠ negated v1) refl
 
-    lower_of : (i : ℕ) → i < p.rows → (neg_ℚ (exact.down_cost p (rational theta) i) ≤ℚ f i) ↔ (neg_ℤ (down_cost w theta i *ℤ pos g) ≤ℤ (pos theta.den *ℤ e i))
+    pub lower_of : (i : ℕ) → i < p.rows → (neg_ℚ (exact.down_cost p (rational theta) i) ≤ℚ f i) ↔ (neg_ℤ (down_cost w theta i *ℤ pos g) ≤ℤ (pos theta.den *ℤ e i))
     lower_of i l =
-        order_of (theta.den * (q * g)) (neg_ℤ (down_cost w theta i *ℤ pos g)) (pos theta.den *ℤ e i) (neg_ℚ (exact.down_cost p (rational theta) i)) (f i) bound_unit
+        order_of (whole (pos (theta.den * (q * g)))) (neg_ℤ (down_cost w theta i *ℤ pos g)) (pos theta.den *ℤ e i) (neg_ℚ (exact.down_cost p (rational theta) i)) (f i) (positive_whole (theta.den * (q * g)) bound_unit)
         (negated_at_unit (down_cost w theta i *ℤ pos g) (exact.down_cost p (rational theta) i) (cost_at_unit (down_cost w theta i) (exact.down_cost p (rational theta) i) (down_scaled q p w s theta tp i)))
         (value_at_unit i l)
 
-    upper_of : (i : ℕ) → i < p.rows → (f i ≤ℚ exact.up_cost p (rational theta) i) ↔ ((pos theta.den *ℤ e i) ≤ℤ (up_cost w theta i *ℤ pos g))
+    pub upper_of : (i : ℕ) → i < p.rows → (f i ≤ℚ exact.up_cost p (rational theta) i) ↔ ((pos theta.den *ℤ e i) ≤ℤ (up_cost w theta i *ℤ pos g))
     upper_of i l =
-        order_of (theta.den * (q * g)) (pos theta.den *ℤ e i) (up_cost w theta i *ℤ pos g) (f i) (exact.up_cost p (rational theta) i) bound_unit
+        order_of (whole (pos (theta.den * (q * g)))) (pos theta.den *ℤ e i) (up_cost w theta i *ℤ pos g) (f i) (exact.up_cost p (rational theta) i) (positive_whole (theta.den * (q * g)) bound_unit)
         (value_at_unit i l)
         (cost_at_unit (up_cost w theta i) (exact.up_cost p (rational theta) i) (up_scaled q p w s theta tp i))
 
@@ -115,11 +98,12 @@ module _ (q : ℕ) (p : Sample) (w : Scaled) (s : Scales q p w) (qp : 1 ≤ q) (
         whole-sum w.rows a ∙ ap (λ n. sum_ℚ n (λ i. whole (a i))) s.rows
         ∙ sum_ℚ-same p.rows (λ i. whole (a i)) (λ i. (Q *ℚ (Q *ℚ G)) *ℚ x i) each ∙ sum_ℚ-scale p.rows (Q *ℚ (Q *ℚ G)) x
 
-    balanced_of : (k : ℕ) → (sum_ℚ p.rows (λ i. f i *ℚ p.x i k) ≡ whole (pos 0)) ↔ (sum_to w.rows (λ i. e i *ℤ w.x i k) ≡ pos 0)
+    pub balanced_of : (k : ℕ) → (sum_ℚ p.rows (λ i. f i *ℚ p.x i k) ≡ whole (pos 0)) ↔ (sum_to w.rows (λ i. e i *ℤ w.x i k) ≡ pos 0)
     balanced_of k =
-        equation_of (q * (q * g)) (sum_to w.rows (λ i. e i *ℤ w.x i k)) (pos 0) (sum_ℚ p.rows (λ i. f i *ℚ p.x i k)) (whole (pos 0)) (one_le q (q * g) qp (one_le q g qp gp))
+        equation_of (whole (pos (q * (q * g)))) (sum_to w.rows (λ i. e i *ℤ w.x i k)) (pos 0) (sum_ℚ p.rows (λ i. f i *ℚ p.x i k)) (whole (pos 0))
+        (positive_whole (q * (q * g)) (one_le q (q * g) qp (one_le q g qp gp)))
         (sum_is (λ i. e i *ℤ w.x i k) (λ i. f i *ℚ p.x i k)
-        (λ i l. whole-mul (e i) (w.x i k) ∙ ap (λ z. z *ℚ whole (w.x i k)) (value_is i l) ∙ ap (λ z. ((Q *ℚ G) *ℚ f i) *ℚ z) (s.x i k)
+        (λ i l. whole-mul (e i) (w.x i k) ∙ ap (λ z. z *ℚ whole (w.x i k)) (over_product p.rows e q g f over i l) ∙ ap (λ z. ((Q *ℚ G) *ℚ f i) *ℚ z) (s.x i k)
         ∙ ring_ℚ (Q ∷ G ∷ f i ∷ p.x i k ∷ []) (((v0 ⊠ v1) ⊠ v2) ⊠ (v0 ⊠ v3)) ((v0 ⊠ (v0 ⊠ v1)) ⊠ (v2 ⊠ v3)) refl)
         ∙ ap (λ z. z *ℚ sum_ℚ p.rows (λ i. f i *ℚ p.x i k)) (sym (whole-3 q q g)))
         (ring_ℚ (whole (pos (q * (q * g))) ∷ []) (number (pos 0)) (v0 ⊠ number (pos 0)) refl)
@@ -144,15 +128,15 @@ module _ (q : ℕ) (p : Sample) (w : Scaled) (s : Scales q p w) (qp : 1 ≤ q) (
 
       equal_of : (exact.loss p (rational theta) v ≡ exact_dual.dual_objective p f) ↔ (loss w theta c d *ℤ pos g ≡ (pos theta.den *ℤ pos d) *ℤ sum_to w.rows (λ i. w.y i *ℤ e i))
       equal_of =
-          equation_of ((theta.den * d) * (q * (q * g))) (loss w theta c d *ℤ pos g) ((pos theta.den *ℤ pos d) *ℤ sum_to w.rows (λ i. w.y i *ℤ e i)) (exact.loss p (rational theta) v) (exact_dual.dual_objective p f)
-          (one_le (theta.den * d) (q * (q * g)) (one_le theta.den d tp dp) (one_le q (q * g) qp (one_le q g qp gp)))
+          equation_of (whole (pos ((theta.den * d) * (q * (q * g))))) (loss w theta c d *ℤ pos g) ((pos theta.den *ℤ pos d) *ℤ sum_to w.rows (λ i. w.y i *ℤ e i)) (exact.loss p (rational theta) v) (exact_dual.dual_objective p f)
+          (positive_whole ((theta.den * d) * (q * (q * g))) (one_le (theta.den * d) (q * (q * g)) (one_le theta.den d tp dp) (one_le q (q * g) qp (one_le q g qp gp))))
           (whole-mul (loss w theta c d) (pos g) ∙ ap (λ z. z *ℚ G) (loss_scaled q p w s theta tp c d v vector)
           ∙ ring_ℚ (Q ∷ t ∷ D ∷ G ∷ exact.loss p (rational theta) v ∷ []) ((((v0 ⊠ v1) ⊠ (v0 ⊠ v2)) ⊠ v4) ⊠ v3) (((v1 ⊠ v2) ⊠ (v0 ⊠ (v0 ⊠ v3))) ⊠ v4) refl
           ∙ ap (λ z. z *ℚ exact.loss p (rational theta) v) (sym unit_is))
           (whole-mul (pos theta.den *ℤ pos d) (sum_to w.rows (λ i. w.y i *ℤ e i)) ∙ ap (λ z. z *ℚ whole (sum_to w.rows (λ i. w.y i *ℤ e i))) (whole-mul (pos theta.den) (pos d))
           ∙ ap (λ z. (t *ℚ D) *ℚ z)
           (sum_is (λ i. w.y i *ℤ e i) (λ i. p.y i *ℚ f i)
-          (λ i l. whole-mul (w.y i) (e i) ∙ ap (λ z. z *ℚ whole (e i)) (s.y i) ∙ ap (λ z. (Q *ℚ p.y i) *ℚ z) (value_is i l)
+          (λ i l. whole-mul (w.y i) (e i) ∙ ap (λ z. z *ℚ whole (e i)) (s.y i) ∙ ap (λ z. (Q *ℚ p.y i) *ℚ z) (over_product p.rows e q g f over i l)
           ∙ ring_ℚ (Q ∷ G ∷ f i ∷ p.y i ∷ []) ((v0 ⊠ v3) ⊠ ((v0 ⊠ v1) ⊠ v2)) ((v0 ⊠ (v0 ⊠ v1)) ⊠ (v3 ⊠ v2)) refl))
           ∙ ring_ℚ (Q ∷ t ∷ D ∷ G ∷ exact_dual.dual_objective p f ∷ []) ((v1 ⊠ v2) ⊠ ((v0 ⊠ (v0 ⊠ v3)) ⊠ v4)) (((v1 ⊠ v2) ⊠ (v0 ⊠ (v0 ⊠ v3))) ⊠ v4) refl
           ∙ ap (λ z. z *ℚ exact_dual.dual_objective p f) (sym unit_is))

@@ -3,7 +3,7 @@ use Rattle.std.specs.Prelude.{◌≡◌, ◌↔◌, ℕ, ◌<◌, ◌≤◌, [],
 use Rattle.std.proofs.Common.{refl, sym, ap, subst, ◌∙◌}
 use Rattle.exact_algebra.specs.IntegerSums.{sum_to}
 use Rattle.exact_algebra.specs.Solver.{number, ◌⊠◌, v0, v1, v2, v3}
-use Rattle.exact_algebra.specs.Rational.{ℚ, ℚ_set, ◌*ℚ◌, whole}
+use Rattle.exact_algebra.specs.Rational.{ℚ, ◌*ℚ◌, whole}
 use Rattle.exact_algebra.proofs.RationalLaws.{whole-mul, ring_ℚ}
 use Rattle.exact_algebra.specs.RationalSums.{sum_ℚ}
 use Rattle.exact_algebra.proofs.RationalSumLaws.{sum_ℚ-same, sum_ℚ-scale}
@@ -13,7 +13,7 @@ use Rattle.whole_model.specs.Scaled.{Scaled}
 use Rattle.whole_model.specs.Scaled as integers
 use Rattle.loss_model.specs.FullRank.{HasFullRank}
 use Rattle.loss_model.proofs.Quotients.{cancel_whole}
-use Rattle.whole_model.proofs.CommonDenominators.{IsOver, by_vector}
+use Rattle.whole_model.proofs.CommonDenominators.{IsOver, common_denominator}
 use Rattle.whole_model.proofs.Scales.{Scales}
 
 module _ (q : ℕ) (p : Sample) (w : Scaled) (s : Scales q p w) (some : 1 ≤ q) where
@@ -33,7 +33,9 @@ module _ (q : ℕ) (p : Sample) (w : Scaled) (s : Scales q p w) (some : 1 ≤ q)
   pub full_ranks : HasFullRank p ↔ integers.HasFullRank w
   full_ranks = (
     λ full c gone k l. same_from_whole (c k) (pos 0) (full (λ k. whole (c k)) (λ i li. row c gone i li) k (subst (λ n. k < n) s.columns l)),
-    λ full b gone k l. by_vector p.columns (b k ≡ whole (pos 0)) (ℚ_set (b k) (whole (pos 0))) b (λ c d hd over. entry full b gone k l c d hd over),
+    λ full b gone k l.
+        let over = common_denominator p.columns b in
+        entry full b gone k l over.c over.d over.positive over.over,
   )
     where
       ones : (c : ℕ → ℤ) → IsOver p.columns c 1 (λ k. whole (c k))

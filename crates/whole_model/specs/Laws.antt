@@ -1,6 +1,6 @@
 -- Law. What leads from fractions to whole numbers and back, and what dual values in whole numbers say.
 use Rattle.std.specs.Prelude.{◌≡◌, ◌↔◌, ℕ, ◌+◌, ◌*◌, ◌<◌, ◌≤◌, List, map, ℤ, pos}
-use Rattle.exact_algebra.specs.Rational.{◌*ℚ◌, whole, quotient}
+use Rattle.exact_algebra.specs.Rational.{ℚ, ◌*ℚ◌, whole, quotient}
 use Rattle.exact_algebra.specs.Fraction.{Fraction, rational, common}
 use Rattle.loss_model.specs.declared.problem.Problem.{Problem}
 use Rattle.loss_model.specs.Sample.{loss, Minimises}
@@ -9,6 +9,10 @@ use Rattle.loss_model.specs.FullRank.{HasFullRank}
 use Rattle.loss_model.specs.Problem.{value_at, sample}
 use Rattle.whole_model.specs.Scaled.{Scaled, unit, scaled, over_at, between, mixed}
 use Rattle.whole_model.specs.Scaled as integers
+use Rattle.whole_model.specs.WholeRanks as whole_ranks
+use Rattle.loss_model.specs.declared.interval.Bound.{Bound}
+use Rattle.rank_law.specs.Restricted.{IsProjection, squared_length, Holds}
+use Rattle.rank_law.specs.Bounds.{IsAtLeast, IsAtMost, IsHighEnd, IsLowEnd}
 
 -- the loss in whole numbers at c/d and s/t is that in fractions, in units of 1/(Q*t * Q*d)
 abbrev pub LossInIntegers : {F : Type 0} → (F → Fraction) → Problem F → Type 0
@@ -56,3 +60,19 @@ MixIsDualInIntegers =
     → 1 ≤ lo.den → 1 ≤ hi.den → 1 ≤ d → 1 ≤ g → 1 ≤ h → 0 < m + n
     → integers.IsDual p lo c d e g → integers.IsDual p hi c d f h
     → integers.IsDual p (between m n lo hi) c d (mixed m n e g f h) ((m + n) * (g * h))
+
+-- a tested value holds among fractions exactly where it does among whole numbers
+abbrev pub HoldsInIntegers : {F : Type 0} → (F → Fraction) → Problem F → Type 0
+HoldsInIntegers value p =
+    (j : ℕ) (tau crit xi : Fraction) → j < p.columns → 1 ≤ tau.den → 1 ≤ crit.den → 1 ≤ xi.den
+    → Holds (sample value p) j (rational tau) (rational crit) (rational xi) ↔ whole_ranks.Holds (scaled value p) j tau crit xi
+
+-- so the ends of an interval bound exactly the values that hold among whole numbers
+abbrev pub ExactIntervalInIntegers : {F : Type 0} → (F → Fraction) → Problem F → Type 0
+ExactIntervalInIntegers value p =
+    (j : ℕ) (tau crit : Fraction) (start : ℚ) (c : ℕ → ℚ) (low high : Bound ℚ) → j < p.columns → 1 ≤ tau.den → 1 ≤ crit.den
+    → IsProjection (sample value p) j c
+    → IsLowEnd (sample value p) j (rational tau) (rational crit) (squared_length (sample value p) j c) start low
+    → IsHighEnd (sample value p) j (rational tau) (rational crit) (squared_length (sample value p) j c) start high
+    → (xi : Fraction) → 1 ≤ xi.den
+    → (IsAtLeast low (rational xi) × IsAtMost high (rational xi)) ↔ whole_ranks.Holds (scaled value p) j tau crit xi

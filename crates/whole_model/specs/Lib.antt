@@ -1,2 +1,4 @@
 pub mod Scaled
+pub mod WholeRanks
 pub mod Laws
+pub mod Repeated

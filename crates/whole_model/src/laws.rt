@@ -1,6 +1,10 @@
-//! The laws of the regression in whole numbers. No function here does anything: its contract is the law.
+//! The laws of the regression in whole numbers, and of whole weights. No function here does anything: its
+//! contract is the law.
 
-ghost use Rattle.whole_model.specs.Laws.{DualsShowMinimumInIntegers, MixIsDualInIntegers, LossInIntegers, MinimisesInIntegers, DualsInIntegers, FullRankInIntegers, ListIsOver};
+ghost use Rattle.whole_model.specs.Laws.{DualsShowMinimumInIntegers, MixIsDualInIntegers, LossInIntegers, MinimisesInIntegers, DualsInIntegers, FullRankInIntegers, ListIsOver, HoldsInIntegers, ExactIntervalInIntegers};
+ghost use Rattle.std.specs.Prelude.{ℕ, List};
+ghost use Rattle.exact_algebra.specs.Rational.{ℚ};
+ghost use Rattle.whole_model.specs.Repeated.{Observation, WholeWeightsCount};
 
 use frac_core::Exact;
 use loss_model::Problem;
@@ -29,4 +33,19 @@ pub fn full_rank_in_integers<F: Exact>(problem: &Problem<F>)
 /// A list of fractions is a vector of whole numbers over the product of its denominators.
 pub fn vector_in_integers<F: Exact>(values: &[F])
     ensures { ListIsOver F.value values.now }
+{}
+
+/// A tested value of a coefficient holds among fractions exactly where it does among whole numbers, and
+/// so the ends of a rank interval bound the values that hold there (Koenker 2005, section 3.5).
+pub fn ranks_in_integers<F: Exact>(problem: &Problem<F>)
+    ensures holds { HoldsInIntegers F.value problem.now }
+    ensures exact { ExactIntervalInIntegers F.value problem.now }
+{}
+
+/// A record of a whole weight counts as so many records of weight 1: in the losses, and so in what
+/// minimises.
+pub fn whole_weights_count()
+    ensures {
+        (columns : ℕ) (records : List (ℕ × Observation)) (theta : ℚ) (b : ℕ → ℚ) → WholeWeightsCount columns records theta b
+    }
 {}

@@ -36,9 +36,9 @@ design_rows-requires c =
 
 pub returns-clause-design : goal.returns-clause-design
 returns-clause-design c =
-    made _ _ _ (columns_seen c.deref-2.result.now) c.args.coder.now.records.now _ _
-    (ap columns_seen c.deref-2.ensures.value ∙ seen_columns _ _ _ _ _ c.in_ok-columns.ensures.columns c.requires.coded)
-    c.requires.kept c.requires.response
+    made _ _ _ _ c.args.coder.now.records.now (columns_seen c.deref-2.result.now) _ _
+    (ap columns_seen c.deref-2.ensures.value ∙ seen_columns _ _ _ _ _ _ c.in_ok-columns.ensures.columns c.requires.coded)
+    c.requires.response
     (c.from.ensures ∙ c.in_ok-names.ensures ∙ ap (λ l. map column_name (columns_seen l)) (c.deref.ensures.value ∙ sym c.deref-2.ensures.value))
     (ap (map exact_row) c.from-2.ensures ∙ c.in_ok-rows.ensures.exact)
     (ap (λ n. n - length c.args.coder.now.records.now) c.records.ensures)
@@ -49,7 +49,7 @@ returns-in_err-rows-clause-fault c =
     let p = err_from_is_err_and c.from_residual-in_err-rows.result c.from_residual-in_err-rows.ensures.1 in
     rw (p.1, p.2) (elim c.in_err-rows.ensures.fault [
       | inl memory ↦ inl memory
-      | inr spilt ↦ inr (overflowed _ _ _ (columns_seen c.deref-2.result.now) c.args.coder.now.records.now _ spilt.0
-          (ap columns_seen c.deref-2.ensures.value ∙ seen_columns _ _ _ _ _ c.in_ok-columns.ensures.columns c.requires.coded)
-          c.requires.kept spilt.1 spilt.2)
+      | inr spilt ↦ inr (overflowed _ _ _ c.args.coder.now.records.now (columns_seen c.deref-2.result.now) _ spilt.0
+          (ap columns_seen c.deref-2.ensures.value ∙ seen_columns _ _ _ _ _ _ c.in_ok-columns.ensures.columns c.requires.coded)
+          spilt.1 spilt.2)
     ])

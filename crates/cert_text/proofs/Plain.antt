@@ -1,0 +1,51 @@
+-- No certificate has a float.
+use Rattle.std.proofs.Common.{◌≡◌, false, List, [], ◌∷◌, map, refl}
+use Rattle.frac_core.specs.declared.frac128.Frac128.{Frac128}
+use Rattle.loss_model.specs.declared.problem.Row.{Row}
+use Rattle.loss_model.specs.declared.process.Segment.{Segment}
+use Rattle.loss_model.specs.declared.interval.Bound.{Bound}
+use Rattle.loss_model.specs.declared.interval.Bound.TheVariants.{Finite, Infinite}
+use Rattle.loss_model.specs.declared.interval.Beyond.{Beyond}
+use Rattle.loss_model.specs.declared.interval.Beyond.TheVariants.{Outside, Ray}
+use Rattle.loss_model.specs.declared.interval.End.{End}
+use Rattle.loss_model.specs.declared.interval.IntervalProof.{IntervalProof}
+use Rattle.serde_json.specs.Data.{Data, Members}
+use Rattle.serde_json.specs.View.{items_of}
+use Rattle.serde_json.specs.Written.{has_float, items_have_float, members_have_float}
+use Rattle.cert_text.specs.Trees.{fraction_tree, fractions_tree, row_tree, segment_tree, value_member, beyond_members, end_tree, interval_tree, cert_tree}
+use Rattle.cert_text.specs.declared.cert.Cert.{Cert}
+
+items_plain : {A : Type 0} (tree : A → Data) → ((a : A) → has_float (tree a) ≡ false) → (xs : List A) → items_have_float (items_of (map tree xs)) ≡ false
+items_plain tree plain [] = refl
+items_plain tree plain (x ∷ xs) = rw (plain x) (items_plain tree plain xs)
+
+numbers_plain : (xs : List Frac128) → has_float (fractions_tree xs) ≡ false
+numbers_plain = items_plain fraction_tree (λ x. refl)
+
+row_plain : (r : Row Frac128) → has_float (row_tree r) ≡ false
+unfolding row_tree
+row_plain r = rw (numbers_plain r.x) refl
+
+segment_plain : (s : Segment Frac128) → has_float (segment_tree s) ≡ false
+unfolding segment_tree
+segment_plain s = rw (numbers_plain s.basic_hi, numbers_plain s.basic_lo, numbers_plain s.vertex.coef) refl
+
+value_plain : (b : Bound Frac128) → members_have_float (value_member b) ≡ false
+value_plain (Finite x) = refl
+value_plain Infinite = refl
+
+beyond_plain : (b : Beyond Frac128) (ms : Members) → members_have_float ms ≡ false → members_have_float (beyond_members b ms) ≡ false
+beyond_plain (Outside xs) ms h = rw (numbers_plain xs, h) refl
+beyond_plain (Ray xs) ms h = rw (numbers_plain xs, h) refl
+
+end_plain : (e : End Frac128) → has_float (end_tree e) ≡ false
+unfolding end_tree
+end_plain e = rw (numbers_plain e.vertex.coef, numbers_plain e.inside, beyond_plain e.beyond _ (value_plain e.bound)) refl
+
+interval_plain : (t : IntervalProof Frac128) → has_float (interval_tree t) ≡ false
+unfolding interval_tree
+interval_plain t = rw (end_plain t.high, end_plain t.low, numbers_plain t.projection) refl
+
+pub cert_plain : (c : Cert) → has_float (cert_tree c) ≡ false
+unfolding cert_tree
+cert_plain c = rw (items_plain interval_tree interval_plain c.intervals, items_plain row_tree row_plain c.problem.rows, items_plain segment_tree segment_plain c.segments) refl

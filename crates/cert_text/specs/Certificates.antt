@@ -1,0 +1,209 @@
+-- Law. The certificate that bytes are, or their first fault.
+use Rattle.std.specs.Prelude.{ℕ, List, [], ◌∷◌, ◌==◌, ◌||◌, ◌^◌, Bool, true, false, Option, Some, None, Ok, Err, codes, length, nat_lt, option_and_then, option_map, ⊤, if◌then◌else◌}
+use Rattle.std.specs.Str.{is_utf8, bytes_eq}
+use Rattle.exact_algebra.specs.Rational.{ℚ}
+use Rattle.loss_model.specs.declared.problem.Row.{Row}
+use Rattle.loss_model.specs.declared.vertex.Side.{Side}
+use Rattle.loss_model.specs.declared.vertex.Side.TheVariants.{Up, Down, Basic}
+use Rattle.loss_model.specs.declared.vertex.Vertex.{Vertex}
+use Rattle.loss_model.specs.declared.process.Segment.{Segment}
+use Rattle.loss_model.specs.declared.interval.Bound.TheVariants.{Finite, Infinite}
+use Rattle.loss_model.specs.declared.interval.Beyond.TheVariants.{Outside, Ray}
+use Rattle.loss_model.specs.declared.interval.End.{End}
+use Rattle.loss_model.specs.declared.interval.IntervalProof.{IntervalProof}
+use Rattle.serde_json.specs.Data.{Data, Members}
+use Rattle.serde_json.specs.Find.{as_number, as_u64, as_str, as_object, get}
+use Rattle.serde_json.specs.Read.{read}
+use Rattle.cert_text.specs.Contents.{Content}
+use Rattle.cert_text.specs.Kept.{basic_rows}
+use Rattle.cert_text.specs.Paths.{key_step}
+use Rattle.cert_text.specs.Reading.{Reading, Reader, on_read, under, or_shape, fraction, count, list, field, closed, object_of}
+use Rattle.cert_text.specs.declared.fault.CertFault.TheVariants.{NotJson, Version, TooLarge}
+
+abbrev pub fractions : Reader (List ℚ)
+fractions = list fraction
+
+-- ---- rows
+
+-- the keys of a row
+unfoldable pub row_members : Members → Reading (Row ℚ)
+row_members ms =
+    on_read (field (codes "down0") fraction ms) (λ down0.
+    on_read (field (codes "down1") fraction down0.1) (λ down1.
+    on_read (field (codes "up0") fraction down1.1) (λ up0.
+    on_read (field (codes "up1") fraction up0.1) (λ up1.
+    on_read (field (codes "x") fractions up1.1) (λ x.
+    on_read (field (codes "y") fraction x.1) (λ y.
+    on_read (closed y.1) (λ _.
+    Ok (record { x = x.0; y = y.0; up0 = up0.0; up1 = up1.0; down0 = down0.0; down1 = down1.0 }))))))))
+
+unfoldable pub row : Reader (Row ℚ)
+row = object_of row_members
+
+-- ---- sides and vertices
+
+-- a side by its sign: above the fit, below it, or on it
+abbrev pub side_of : ℕ → Option Side
+side_of b = if b == 43 then Some Up else (if b == 45 then Some Down else (if b == 42 then Some Basic else None))
+
+-- a side for each sign, if each is one of the three
+abbrev pub sides_of : List ℕ → Option (List Side)
+sides_of [] = Some []
+sides_of (b ∷ bs) = option_and_then (λ side. option_map (λ more. side ∷ more) (sides_of bs)) (side_of b)
+
+-- a string of signs
+unfoldable pub sides : Reader (List Side)
+sides d = or_shape (option_and_then sides_of (as_str d))
+
+-- the vertex with these sides, whose basis lists the Basic rows
+abbrev pub vertex_of : List Side → List ℚ → Vertex ℚ
+vertex_of signs coef = record { basis = record { rows = basic_rows signs }; sides = signs; coef = coef }
+
+-- ---- segments
+
+-- the keys of a segment
+unfoldable pub segment_members : Members → Reading (Segment ℚ)
+segment_members ms =
+    on_read (field (codes "basic_hi") fractions ms) (λ basic_hi.
+    on_read (field (codes "basic_lo") fractions basic_hi.1) (λ basic_lo.
+    on_read (field (codes "coef") fractions basic_lo.1) (λ coef.
+    on_read (field (codes "hi") fraction coef.1) (λ hi.
+    on_read (field (codes "lo") fraction hi.1) (λ lo.
+    on_read (field (codes "loss_hi") fraction lo.1) (λ loss_hi.
+    on_read (field (codes "loss_lo") fraction loss_hi.1) (λ loss_lo.
+    on_read (field (codes "sides") sides loss_lo.1) (λ signs.
+    on_read (closed signs.1) (λ _.
+    Ok (record {
+      lo = lo.0;
+      hi = hi.0;
+      vertex = vertex_of signs.0 coef.0;
+      basic_lo = basic_lo.0;
+      basic_hi = basic_hi.0;
+      loss_lo = loss_lo.0;
+      loss_hi = loss_hi.0;
+    }))))))))))
+
+unfoldable pub segment : Reader (Segment ℚ)
+segment = object_of segment_members
+
+-- ---- intervals
+
+abbrev pub finite_by_name : List ℕ → Option Bool
+finite_by_name s = if bytes_eq s (codes "finite") then Some true else (if bytes_eq s (codes "infinite") then Some false else None)
+
+-- whether an end is finite
+unfoldable pub end_kind : Reader Bool
+end_kind d = or_shape (option_and_then finite_by_name (as_str d))
+
+-- the keys of a finite end behind its kind
+unfoldable pub finite_members : List ℚ → List ℚ → Members → Reading (End ℚ)
+finite_members coef inside ms =
+    on_read (field (codes "outside") fractions ms) (λ outside.
+    on_read (field (codes "sides") sides outside.1) (λ signs.
+    on_read (field (codes "value") fraction signs.1) (λ value.
+    on_read (closed value.1) (λ _.
+    Ok (record { bound = Finite value.0; vertex = vertex_of signs.0 coef; inside = inside; beyond = Outside outside.0 })))))
+
+-- the keys of an infinite end behind its kind
+unfoldable pub infinite_members : List ℚ → List ℚ → Members → Reading (End ℚ)
+infinite_members coef inside ms =
+    on_read (field (codes "ray") fractions ms) (λ ray.
+    on_read (field (codes "sides") sides ray.1) (λ signs.
+    on_read (closed signs.1) (λ _.
+    Ok (record { bound = Infinite; vertex = vertex_of signs.0 coef; inside = inside; beyond = Ray ray.0 }))))
+
+-- the keys of an end
+unfoldable pub end_members : Members → Reading (End ℚ)
+end_members ms =
+    on_read (field (codes "coef") fractions ms) (λ coef.
+    on_read (field (codes "inside") fractions coef.1) (λ inside.
+    on_read (field (codes "kind") end_kind inside.1) (λ is_finite.
+    if is_finite.0 then finite_members coef.0 inside.0 is_finite.1 else infinite_members coef.0 inside.0 is_finite.1)))
+
+unfoldable pub end_of : Reader (End ℚ)
+end_of = object_of end_members
+
+-- the keys of an interval behind its ends
+unfoldable pub projected_members : ℕ → ℚ → End ℚ → End ℚ → Members → Reading (IntervalProof ℚ)
+projected_members column crit high low ms =
+    on_read (field (codes "projection") fractions ms) (λ projection.
+    on_read (field (codes "tau") fraction projection.1) (λ tau.
+    on_read (closed tau.1) (λ _.
+    Ok (record { column = column; tau = tau.0; crit = crit; low = low; high = high; projection = projection.0 }))))
+
+-- the keys of an interval
+unfoldable pub interval_members : Members → Reading (IntervalProof ℚ)
+interval_members ms =
+    on_read (field (codes "column") count ms) (λ column.
+    on_read (field (codes "crit") fraction column.1) (λ crit.
+    on_read (field (codes "high") end_of crit.1) (λ high.
+    on_read (field (codes "low") end_of high.1) (λ low.
+    projected_members column.0 crit.0 high.0 low.0 low.1))))
+
+unfoldable pub interval : Reader (IntervalProof ℚ)
+interval = object_of interval_members
+
+-- ---- the certificate
+
+abbrev pub if_certificate : List ℕ → Option ⊤
+if_certificate s = if bytes_eq s (codes "quantreg-certificate") then Some tt else None
+
+-- the kind of the text
+unfoldable pub kind : Reader ⊤
+kind d = or_shape (option_and_then if_certificate (as_str d))
+
+-- the version is looked at before all else
+abbrev pub anything : Reader ⊤
+anything d = Ok tt
+
+-- the keys of the top
+unfoldable pub top_members : Members → Reading Content
+top_members ms =
+    on_read (field (codes "columns") count ms) (λ columns.
+    on_read (field (codes "hi") fraction columns.1) (λ hi.
+    on_read (field (codes "intervals") (list interval) hi.1) (λ intervals.
+    on_read (field (codes "kind") kind intervals.1) (λ kind.
+    on_read (field (codes "lo") fraction kind.1) (λ lo.
+    on_read (field (codes "rows") (list row) lo.1) (λ rows.
+    on_read (field (codes "segments") (list segment) rows.1) (λ segments.
+    on_read (field (codes "version") anything segments.1) (λ version.
+    on_read (closed version.1) (λ _.
+    Ok (record {
+      problem = record { columns = columns.0; rows = rows.0 };
+      lo = lo.0;
+      hi = hi.0;
+      segments = segments.0;
+      intervals = intervals.0;
+    }))))))))))
+
+abbrev pub is_too_large : Content → Bool
+is_too_large c =
+    nat_lt 128 c.problem.columns || (nat_lt 16384 (length c.problem.rows)
+    || (nat_lt (2 ^ 20) (length c.segments) || nat_lt 8192 (length c.intervals)))
+
+-- at most 128 columns, 16,384 rows, 2^20 segments and 8,192 intervals
+abbrev pub within_limits : Content → Reading Content
+within_limits c = if is_too_large c then Err TooLarge else Ok c
+
+-- the version, which stands in the top as an unsigned number
+unfoldable pub version_of : Data → Reading ℕ
+version_of d = under (key_step (codes "version")) (or_shape (option_and_then as_u64 (option_and_then as_number (get (codes "version") d))))
+
+-- first the top and its version, then every key, and then the limits
+unfoldable pub cert_of_data : Data → Reading Content
+cert_of_data d =
+    on_read (or_shape (as_object d)) (λ ms.
+    on_read (version_of d) (λ n.
+    if n == 1 then on_read (top_members ms) within_limits else Err Version))
+
+-- the JSON that bytes are
+unfoldable pub json_of : List ℕ → Option Data
+json_of bytes = if is_utf8 bytes then read bytes else None
+
+abbrev pub or_not_json : Option Data → Reading Data
+or_not_json (Some d) = Ok d
+or_not_json None = Err NotJson
+
+-- the certificate that bytes are, or their first fault
+unfoldable pub cert_of : List ℕ → Reading Content
+cert_of bytes = on_read (or_not_json (json_of bytes)) cert_of_data

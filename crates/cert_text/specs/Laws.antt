@@ -1,0 +1,15 @@
+-- Law. What is written is read back as the same certificate.
+use Rattle.std.specs.Prelude.{◌≡◌, Ok}
+use Rattle.cert_text.specs.Certificates.{cert_of_data}
+use Rattle.cert_text.specs.Contents.{content}
+use Rattle.cert_text.specs.Limits.{IsWithinLimits}
+use Rattle.cert_text.specs.Trees.{cert_tree}
+use Rattle.cert_text.specs.declared.cert.Cert.{Cert}
+
+-- the tree of a certificate within the limits says what the certificate says
+abbrev pub TreeReadsBack : Type 0
+TreeReadsBack = (c : Cert) → IsWithinLimits c → cert_of_data (cert_tree c) ≡ Ok (content c)
+
+-- certificates that say the same are the same
+abbrev pub SameContent : Type 0
+SameContent = (a b : Cert) → content a ≡ content b → a ≡ b

@@ -1,0 +1,104 @@
+-- Law. The text of a certificate: compact JSON and a line feed.
+use Rattle.std.specs.Prelude.{ℕ, List, [], ◌∷◌, ◌++◌, codes, map}
+use Rattle.exact_algebra.specs.Fraction.{Fraction}
+use Rattle.frac_core.specs.NumberText.{number_text_of}
+use Rattle.frac_core.specs.declared.frac128.Frac128.{Frac128}
+use Rattle.loss_model.specs.declared.problem.Row.{Row}
+use Rattle.loss_model.specs.declared.vertex.Side.{Side}
+use Rattle.loss_model.specs.declared.vertex.Side.TheVariants.{Up, Down, Basic}
+use Rattle.loss_model.specs.declared.process.Segment.{Segment}
+use Rattle.loss_model.specs.declared.interval.Bound.{Bound}
+use Rattle.loss_model.specs.declared.interval.Bound.TheVariants.{Finite, Infinite}
+use Rattle.loss_model.specs.declared.interval.Beyond.{Beyond}
+use Rattle.loss_model.specs.declared.interval.Beyond.TheVariants.{Outside, Ray}
+use Rattle.loss_model.specs.declared.interval.End.{End}
+use Rattle.loss_model.specs.declared.interval.IntervalProof.{IntervalProof}
+use Rattle.serde_json.specs.Data.{Data, number, unsigned, string, array, object, Members, no_members, member}
+use Rattle.serde_json.specs.View.{items_of}
+use Rattle.serde_json.specs.Written.{compact_text}
+use Rattle.cert_text.specs.declared.cert.Cert.{Cert}
+
+-- a fraction is its canonical number text
+abbrev pub fraction_tree : Frac128 → Data
+fraction_tree x = string (number_text_of (record { num = x.num; den = x.den }))
+
+abbrev pub list_tree : {A : Type 0} → (A → Data) → List A → Data
+list_tree tree xs = array (items_of (map tree xs))
+
+abbrev pub fractions_tree : List Frac128 → Data
+fractions_tree = list_tree fraction_tree
+
+-- a plus above the fit, a minus below it, and a star on it
+abbrev pub sign_of : Side → ℕ
+sign_of Up = 43
+sign_of Down = 45
+sign_of Basic = 42
+
+abbrev pub sides_tree : List Side → Data
+sides_tree signs = string (map sign_of signs)
+
+unfoldable pub row_tree : Row Frac128 → Data
+row_tree r = object
+    (member (codes "down0") (fraction_tree r.down0)
+    (member (codes "down1") (fraction_tree r.down1)
+    (member (codes "up0") (fraction_tree r.up0)
+    (member (codes "up1") (fraction_tree r.up1)
+    (member (codes "x") (fractions_tree r.x)
+    (member (codes "y") (fraction_tree r.y)
+    no_members))))))
+
+unfoldable pub segment_tree : Segment Frac128 → Data
+segment_tree s = object
+    (member (codes "basic_hi") (fractions_tree s.basic_hi)
+    (member (codes "basic_lo") (fractions_tree s.basic_lo)
+    (member (codes "coef") (fractions_tree s.vertex.coef)
+    (member (codes "hi") (fraction_tree s.hi)
+    (member (codes "lo") (fraction_tree s.lo)
+    (member (codes "loss_hi") (fraction_tree s.loss_hi)
+    (member (codes "loss_lo") (fraction_tree s.loss_lo)
+    (member (codes "sides") (sides_tree s.vertex.sides)
+    no_members))))))))
+
+-- the value of a finite end
+abbrev pub value_member : Bound Frac128 → Members
+value_member (Finite x) = member (codes "value") (fraction_tree x) no_members
+value_member Infinite = no_members
+
+-- the kind, and what lies beyond the end
+abbrev pub beyond_members : Beyond Frac128 → Members → Members
+beyond_members (Outside xs) more = member (codes "kind") (string (codes "finite")) (member (codes "outside") (fractions_tree xs) more)
+beyond_members (Ray xs) more = member (codes "kind") (string (codes "infinite")) (member (codes "ray") (fractions_tree xs) more)
+
+unfoldable pub end_tree : End Frac128 → Data
+end_tree e = object
+    (member (codes "coef") (fractions_tree e.vertex.coef)
+    (member (codes "inside") (fractions_tree e.inside)
+    (beyond_members e.beyond
+    (member (codes "sides") (sides_tree e.vertex.sides)
+    (value_member e.bound)))))
+
+unfoldable pub interval_tree : IntervalProof Frac128 → Data
+interval_tree t = object
+    (member (codes "column") (number (unsigned t.column))
+    (member (codes "crit") (fraction_tree t.crit)
+    (member (codes "high") (end_tree t.high)
+    (member (codes "low") (end_tree t.low)
+    (member (codes "projection") (fractions_tree t.projection)
+    (member (codes "tau") (fraction_tree t.tau)
+    no_members))))))
+
+unfoldable pub cert_tree : Cert → Data
+cert_tree c = object
+    (member (codes "columns") (number (unsigned c.problem.columns))
+    (member (codes "hi") (fraction_tree c.hi)
+    (member (codes "intervals") (list_tree interval_tree c.intervals)
+    (member (codes "kind") (string (codes "quantreg-certificate"))
+    (member (codes "lo") (fraction_tree c.lo)
+    (member (codes "rows") (list_tree row_tree c.problem.rows)
+    (member (codes "segments") (list_tree segment_tree c.segments)
+    (member (codes "version") (number (unsigned 1))
+    no_members))))))))
+
+-- the text
+abbrev pub cert_text : Cert → List ℕ
+cert_text c = compact_text (cert_tree c) ++ 10 ∷ []

@@ -1,0 +1,27 @@
+//! Certificates as text: one JSON object, written and read.
+//!
+//! The one contract: `write_cert` gives the text of a certificate as `specs/Trees.antt` writes it, and
+//! `read_cert` gives the certificate of the bytes, or their first fault, as `specs/Certificates.antt`
+//! reads them; a text that was written, within the limits, is read as the same certificate. It stands on
+//! `loss_model`, whose types a certificate holds, and on `serde_json`.
+#![tactic(auto)]
+
+mod cert;
+mod fault;
+mod interval;
+mod json;
+mod keys;
+mod laws;
+mod numbers;
+mod path;
+mod read;
+mod row;
+mod segment;
+mod vertex;
+mod write;
+
+pub use cert::Cert;
+pub use fault::CertFault;
+pub use laws::{same_content, tree_reads_back};
+pub use read::read_cert;
+pub use write::write_cert;

@@ -1,0 +1,166 @@
+//! From bytes to the certificate that they are.
+
+ghost use Rattle.std.specs.Prelude.{◌≡◌, ◌≢◌, Ok, Err, Some, None, All, ⊤, codes, option_and_then, IfOk, IfErr};
+ghost use Rattle.serde_json.specs.Find.{get, as_number, as_u64};
+ghost use Rattle.serde_json.specs.View.{view, members_view};
+ghost use Rattle.cert_text.specs.Certificates.{kind, anything, top_members, within_limits, version_of, cert_of_data, json_of, cert_of};
+ghost use Rattle.cert_text.specs.Contents.{Content, content};
+ghost use Rattle.cert_text.specs.Limits.{IsWithinLimits};
+ghost use Rattle.cert_text.specs.declared.fault.CertFault.TheVariants.{NotJson};
+
+use crate::cert::Cert;
+use crate::fault::CertFault;
+use crate::json::FromJson;
+use crate::keys::{closed, field, members};
+use crate::path::{under_key, wrong_kind};
+use frac_core::{Frac128, List};
+use loss_model::{IntervalProof, Problem, Row, Segment};
+use serde_json::{Category, Value};
+use std::alloc::Global;
+use std::collections::btree_map::Iter;
+
+// The name of the kind of text.
+#[derive(Clone, Copy)]
+struct Kind;
+
+impl FromJson for Kind {
+    ghost Content = { ⊤ };
+
+    ghost content = { λ _. tt };
+
+    ghost reader = { kind };
+
+    #[tactic(auto, unfolding(crate::specs::Certificates::kind))]
+    fn from_json(alloc: Global, value: &Value) -> Result<Kind, CertFault> {
+        let Some(name) = value.as_str() else {
+            return Err(wrong_kind(alloc));
+        };
+        if name == "quantreg-certificate" {
+            Ok(Kind)
+        } else {
+            Err(wrong_kind(alloc))
+        }
+    }
+}
+
+// A value that was looked at before.
+#[derive(Clone, Copy)]
+struct Seen;
+
+impl FromJson for Seen {
+    ghost Content = { ⊤ };
+
+    ghost content = { λ _. tt };
+
+    ghost reader = { anything };
+
+    fn from_json(_alloc: Global, _value: &Value) -> Result<Seen, CertFault> {
+        Ok(Seen)
+    }
+}
+
+#[tactic(auto, unfolding(crate::specs::Certificates::top_members))]
+fn top_of(alloc: Global, rest: &mut Iter<'_, String, Value>) -> Result<Cert, CertFault>
+    ensures ok { IfOk result (λ cert. top_members (members_view rest.old) ≡ Ok (content cert)) }
+    ensures err { IfErr result (λ e. e ≢ CertFault.OutOfMemory → top_members (members_view rest.old) ≡ Err e) }
+{
+    let columns = field(alloc, "columns", rest)?;
+    let hi = field(alloc, "hi", rest)?;
+    let intervals = field(alloc, "intervals", rest)?;
+    let _kind: Kind = field(alloc, "kind", rest)?;
+    let lo = field(alloc, "lo", rest)?;
+    let rows = field(alloc, "rows", rest)?;
+    let segments = field(alloc, "segments", rest)?;
+    let _version: Seen = field(alloc, "version", rest)?;
+    closed(alloc, rest)?;
+    Ok(Cert {
+        problem: Problem { columns, rows },
+        lo,
+        hi,
+        segments,
+        intervals,
+    })
+}
+
+// The certificate, unless it is beyond a limit.
+fn limited(cert: Cert) -> Result<Cert, CertFault>
+    ensures ok { IfOk result (λ c. within_limits (content cert) ≡ Ok (content c)) }
+    ensures err { IfErr result (λ e. within_limits (content cert) ≡ Err e) }
+{
+    if cert.problem.columns > 128 {
+        return Err(CertFault::TooLarge);
+    }
+    if cert.problem.rows.as_slice().len() > 16_384 {
+        return Err(CertFault::TooLarge);
+    }
+    if cert.segments.as_slice().len() > 1 << 20 {
+        return Err(CertFault::TooLarge);
+    }
+    if cert.intervals.as_slice().len() > 8_192 {
+        return Err(CertFault::TooLarge);
+    }
+    Ok(cert)
+}
+
+#[tactic(auto, unfolding(crate::specs::Certificates::version_of))]
+fn version_of(alloc: Global, value: &Value) -> Result<u64, CertFault>
+    ensures ok { IfOk result (λ n. version_of (view value.now) ≡ Ok n) }
+    ensures err { IfErr result (λ e. e ≢ CertFault.OutOfMemory → version_of (view value.now) ≡ Err e) }
+{
+    match value.get("version").and_then(Value::as_u64) {
+        Some(version) => Ok(version),
+        None => Err(under_key(alloc, "version", wrong_kind(alloc))),
+    }
+}
+
+#[tactic(auto, unfolding(crate::specs::Certificates::cert_of_data))]
+fn cert_of_value(alloc: Global, value: &Value) -> Result<Cert, CertFault>
+    ensures ok { IfOk result (λ cert. cert_of_data (view value.now) ≡ Ok (content cert)) }
+    ensures err { IfErr result (λ e. e ≢ CertFault.OutOfMemory → cert_of_data (view value.now) ≡ Err e) }
+{
+    let found = members(alloc, value)?;
+    let version = version_of(alloc, value)?;
+    if version != 1 {
+        return Err(CertFault::Version);
+    }
+    let cert = top_of(alloc, &mut found.iter())?;
+    limited(cert)
+}
+
+#[tactic(auto, unfolding(crate::specs::Certificates::json_of))]
+fn parse(alloc: Global, bytes: &[u8]) -> Result<Value, CertFault>
+    ensures ok { IfOk result (λ v. json_of bytes.now ≡ Some (view v)) }
+    ensures err { IfErr result (λ e. e ≢ CertFault.OutOfMemory → (e ≡ NotJson) × (json_of bytes.now ≡ None)) }
+{
+    let Ok(text) = std::str::from_utf8(bytes) else {
+        return Err(CertFault::NotJson);
+    };
+    match Value::from_str(alloc, text) {
+        Ok(value) => Ok(value),
+        Err(error) => {
+            if error.classify() == Category::Memory {
+                return Err(CertFault::OutOfMemory);
+            }
+            Err(CertFault::NotJson)
+        }
+    }
+}
+
+/// Reads the text of a certificate.
+///
+/// The faults are looked for in this order. `NotJson` comes exactly where the bytes are no JSON in UTF-8, by
+/// `serde_json`, which takes at most 128 levels of nesting and the last value of a key that stands twice.
+/// `Shape` comes with an empty path where the top is no object, and with the path `/version` where it has no
+/// unsigned number there; `Version` where that isn't 1. Then every object is gone through key by key, in the
+/// order of their bytes, and every list item by item, and what a key has comes before the next key: `Shape`
+/// comes at the first key that is missing or unknown or whose value is of another kind, and `Number` at the
+/// first string that is no number text of `frac_core`, or too wide. At last `TooLarge` comes where there are
+/// more than 128 columns, 16,384 rows, 2^20 segments or 8,192 intervals.
+#[tactic(auto, unfolding(crate::specs::Certificates::cert_of))]
+pub fn read_cert(alloc: Global, bytes: &[u8]) -> Result<Cert, CertFault>
+    ensures ok { IfOk result (λ cert. cert_of bytes.now ≡ Ok (content cert)) }
+    ensures err { IfErr result (λ e. e ≢ CertFault.OutOfMemory → cert_of bytes.now ≡ Err e) }
+{
+    let value = parse(alloc, bytes)?;
+    cert_of_value(alloc, &value)
+}

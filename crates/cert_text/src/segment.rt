@@ -1,0 +1,88 @@
+//! Segments of a process.
+
+ghost use Rattle.std.specs.Prelude.{◌≡◌, ◌≢◌, Ok, Err, IfOk, IfErr};
+ghost use Rattle.exact_algebra.specs.Rational.{ℚ};
+ghost use Rattle.loss_model.specs.declared.process.Segment.{Segment as segment_type};
+ghost use Rattle.serde_json.specs.View.{view, members_view};
+ghost use Rattle.cert_text.specs.Contents.{exact_segment};
+ghost use Rattle.cert_text.specs.Kept.{IsKeptSegment};
+ghost use Rattle.cert_text.specs.Certificates.{segment_members, segment};
+ghost use Rattle.cert_text.specs.Trees.{segment_tree};
+
+use crate::fault::CertFault;
+use crate::json::{FromJson, ToJson, put};
+use crate::keys::{closed, field, members};
+use crate::vertex::{Signs, vertex};
+use frac_core::Frac128;
+use loss_model::Segment;
+use serde_json::{Map, Value};
+use std::alloc::{AllocError, Global};
+use std::collections::btree_map::Iter;
+
+#[tactic(auto, unfolding(crate::specs::Certificates::segment_members))]
+fn segment_of(
+    alloc: Global,
+    rest: &mut Iter<'_, String, Value>,
+) -> Result<Segment<Frac128>, CertFault>
+    ensures ok { IfOk result (λ segment. segment_members (members_view rest.old) ≡ Ok (exact_segment segment)) }
+    ensures kept { IfOk result IsKeptSegment }
+    ensures err { IfErr result (λ e. e ≢ CertFault.OutOfMemory → segment_members (members_view rest.old) ≡ Err e) }
+{
+    let basic_hi = field(alloc, "basic_hi", rest)?;
+    let basic_lo = field(alloc, "basic_lo", rest)?;
+    let coef = field(alloc, "coef", rest)?;
+    let hi = field(alloc, "hi", rest)?;
+    let lo = field(alloc, "lo", rest)?;
+    let loss_hi = field(alloc, "loss_hi", rest)?;
+    let loss_lo = field(alloc, "loss_lo", rest)?;
+    let sides = field(alloc, "sides", rest)?;
+    closed(alloc, rest)?;
+    Ok(Segment {
+        lo,
+        hi,
+        vertex: vertex(alloc, sides, coef)?,
+        basic_lo,
+        basic_hi,
+        loss_lo,
+        loss_hi,
+    })
+}
+
+impl FromJson for Segment<Frac128> {
+    ghost Content = { segment_type ℚ };
+
+    ghost content = { exact_segment };
+
+    ghost reader = { segment };
+
+    ghost IsKept = { IsKeptSegment };
+
+    #[tactic(auto, unfolding(crate::specs::Certificates::segment))]
+    fn from_json(alloc: Global, value: &Value) -> Result<Segment<Frac128>, CertFault> {
+        let found = members(alloc, value)?;
+        segment_of(alloc, &mut found.iter())
+    }
+}
+
+impl ToJson for Segment<Frac128> {
+    ghost tree = { segment_tree };
+
+    #[tactic(auto, unfolding(crate::specs::Trees::segment_tree))]
+    fn to_json(&self, alloc: Global) -> Result<Value, AllocError> {
+        let mut object = Map::new(alloc);
+        put(alloc, &mut object, "basic_hi", &self.basic_hi)?;
+        put(alloc, &mut object, "basic_lo", &self.basic_lo)?;
+        put(alloc, &mut object, "coef", &self.vertex.coef)?;
+        put(alloc, &mut object, "hi", &self.hi)?;
+        put(alloc, &mut object, "lo", &self.lo)?;
+        put(alloc, &mut object, "loss_hi", &self.loss_hi)?;
+        put(alloc, &mut object, "loss_lo", &self.loss_lo)?;
+        put(
+            alloc,
+            &mut object,
+            "sides",
+            &Signs(self.vertex.sides.as_slice()),
+        )?;
+        Ok(Value::Object(object))
+    }
+}

@@ -1,0 +1,73 @@
+//! From a certificate to its text.
+
+ghost use Rattle.std.specs.Prelude.{◌≡◌, ◌≤◌, ◌^◌, ◌++◌, ◌∷◌, [], false, All, Ok, Some, length, IfOk};
+ghost use Rattle.json.specs.Tree.{HasNumbers};
+ghost use Rattle.serde_json.specs.Data.{depth};
+ghost use Rattle.serde_json.specs.Read.{max_depth};
+ghost use Rattle.serde_json.specs.View.{view};
+ghost use Rattle.serde_json.specs.Written.{has_float, outline, compact_text};
+ghost use Rattle.cert_text.specs.Certificates.{json_of, cert_of};
+ghost use Rattle.cert_text.specs.Contents.{content};
+ghost use Rattle.cert_text.specs.Limits.{IsWithinLimits};
+ghost use Rattle.cert_text.specs.Trees.{cert_tree, cert_text};
+
+use crate::cert::Cert;
+use crate::json::{Name, put};
+use frac_core::OutOfMemory;
+use serde_json::{Map, Value};
+use std::alloc::{AllocError, Global};
+
+const VERSION: u32 = 1;
+
+#[tactic(auto, unfolding(crate::specs::Trees::cert_tree))]
+fn to_json(alloc: Global, cert: &Cert) -> Result<Value, AllocError>
+    ensures { IfOk result (λ v. view v ≡ cert_tree cert.now) }
+{
+    let mut object = Map::new(alloc);
+    put(alloc, &mut object, "columns", &cert.problem.columns)?;
+    put(alloc, &mut object, "hi", &cert.hi)?;
+    put(alloc, &mut object, "intervals", &cert.intervals)?;
+    put(alloc, &mut object, "kind", &Name("quantreg-certificate"))?;
+    put(alloc, &mut object, "lo", &cert.lo)?;
+    put(alloc, &mut object, "rows", &cert.problem.rows)?;
+    put(alloc, &mut object, "segments", &cert.segments)?;
+    put(alloc, &mut object, "version", &VERSION)?;
+    Ok(Value::Object(object))
+}
+
+// A value without a float as compact text, and a line feed.
+fn line_of(alloc: Global, value: &Value) -> Result<Vec<u8>, AllocError>
+    ensures back { IfOk result (λ bytes. has_float (view value.now) ≡ false → HasNumbers (outline (view value.now))
+        → depth (view value.now) ≤ max_depth → json_of bytes.items ≡ Some (view value.now)) }
+    ensures text { IfOk result (λ bytes. has_float (view value.now) ≡ false
+        → bytes.items ≡ compact_text (view value.now) ++ 10 ∷ []) }
+{
+    let mut bytes = value.to_vec(alloc)?;
+    bytes.push(b'\n')?;
+    Ok(bytes)
+}
+
+#[tactic(auto, using(crate::proofs::Plain::cert_plain))]
+fn bytes_of(alloc: Global, cert: &Cert) -> Result<Vec<u8>, AllocError>
+    ensures back { cert.now.problem.columns ≤ 128 → IfOk result (λ bytes. json_of bytes.items ≡ Some (cert_tree cert.now)) }
+    ensures text { IfOk result (λ bytes. bytes.items ≡ cert_text cert.now) }
+{
+    let value = to_json(alloc, cert)?;
+    match line_of(alloc, &value) {
+        Ok(bytes) => Ok(bytes),
+        Err(error) => Err(error),
+    }
+}
+
+/// The text of a certificate: one JSON object on a line, with its keys in the order of their bytes and its
+/// fractions as canonical number text. Where the certificate is within the limits of `read_cert`, the text
+/// is read as that certificate. It refuses only for memory.
+pub fn write_cert(alloc: Global, cert: &Cert) -> Result<Vec<u8>, OutOfMemory>
+    ensures text { IfOk result (λ bytes. bytes.items ≡ cert_text cert.now) }
+    ensures back { IsWithinLimits cert.now → IfOk result (λ bytes. cert_of bytes.items ≡ Ok (content cert.now)) }
+{
+    match bytes_of(alloc, cert) {
+        Ok(bytes) => Ok(bytes),
+        Err(_) => Err(OutOfMemory),
+    }
+}

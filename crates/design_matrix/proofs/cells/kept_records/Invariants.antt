@@ -1,8 +1,0 @@
-use Rattle.std.proofs.Common.{◌≡◌, filter, map}
-use Rattle.std.specs.List.{range_with_len}
-use Rattle.data_frame.specs.Views.{lent_column}
-use Rattle.design_matrix.specs.Cells.{is_complete}
-use Rattle.design_matrix.proofs.cells.kept_records.Given as goal
-
-abbrev pub invariant-loop-index : goal.invariant-loop-index
-invariant-loop-index l = l.kept.items ≡ filter (is_complete (map lent_column l.columns)) (range_with_len 0 l.index)

@@ -1,0 +1,31 @@
+-- What the inverse of the Gram matrix gives.
+use Rattle.std.specs.Prelude.{◌≡◌, ◌≢◌, ℕ, ◌<◌, pos}
+use Rattle.std.proofs.Common.{sym, subst, ◌∙◌}
+use Rattle.exact_algebra.specs.Fraction.{Fraction, rational}
+use Rattle.exact_algebra.specs.Rational.{ℚ, inverse, whole, ◌≤ℚ◌}
+use Rattle.exact_algebra.proofs.RationalLaws.{≤ℚ_refl}
+use Rattle.exact_matrices.specs.Matrices.{AreInverse}
+use Rattle.loss_model.specs.Strict.{◌<ℚ◌}
+use Rattle.loss_model.specs.Sample.{Sample}
+use Rattle.rank_law.specs.Restricted.{IsProjection, squared_length}
+use Rattle.rank_law.specs.Gram.{gram, projection_of}
+use Rattle.rank_law.proofs.Grams.{projects}
+use Rattle.rank_law.proofs.Lengths.{by_entries}
+
+module _ (p : Sample) (j : ℕ) (a : ℕ → ℕ → ℚ) (within : j < p.columns) (inv : AreInverse p.columns (gram p) a) where
+  -- the diagonal entry isn't 0
+  pub some : a j j ≢ whole (pos 0)
+  some e = (projects p j a within inv).2 (subst (λ z. z ≤ℚ whole (pos 0)) (sym e) (≤ℚ_refl (whole (pos 0))))
+
+  module _ (c : ℕ → ℚ) (each : (k : ℕ) → k < p.columns → c k ≡ projection_of a j k) where
+    pub is_projection : IsProjection p j c
+    is_projection = (by_entries p j (projection_of a j) c within each (projects p j a within inv).0).0
+
+    pub length_is : inverse (a j j) ≡ squared_length p j c
+    length_is =
+        sym ((by_entries p j (projection_of a j) c within each (projects p j a within inv).0).1 ∙ (projects p j a within inv).1)
+
+    pub positive : whole (pos 0) <ℚ squared_length p j c
+    positive =
+        subst (λ z. whole (pos 0) <ℚ z) (sym (by_entries p j (projection_of a j) c within each (projects p j a within inv).0).1)
+        (projects p j a within inv).3

@@ -1,0 +1,7 @@
+mod Values
+mod Distinct
+mod Overflowing
+mod Lists
+mod Looked
+mod Variations
+mod Widths

@@ -1,0 +1,8 @@
+use Rattle.std.proofs.Common.{◌≡◌, ◌++◌, map, take}
+use Rattle.data_frame.specs.Views.{exact}
+use Rattle.tv_penalty.specs.Smoothings.{knot_entry}
+use Rattle.tv_penalty.proofs.parts.Part.put_entries.Given as goal
+
+abbrev pub invariant-loop-knot : goal.invariant-loop-knot
+invariant-loop-knot l =
+    map exact l.entries.items ≡ map exact l.initial.entries.items ++ map (knot_entry (exact l.number)) (take l.knot-index l.knot-items)
