@@ -220,6 +220,7 @@ module _ {F : Type 0} (value : F → Fraction) (task : Task F) (lo hi : ℚ) whe
 
     -- and its segment is the last one
     pub walk_done : (s : Segment F) (segments : List (Segment F)) → IsSegmentHere value (here_of value w) (now_of value w) hi s → segments ≡ w.segments ++ s ∷ [] → IsWalkDone value task lo hi limit (record { segments = segments; trail = w.reached.trail })
+    unfolding lawful_of
     walk_done s segments seg e =
         record {
           basis = (here_of value w).rows;

@@ -1,4 +1,4 @@
-use Rattle.std.proofs.Common.{◌≡◌, ◌≤◌, ◌+◌, length, refl, ap, arith, ◌∙◌}
+use Rattle.std.proofs.Common.{◌≡◌, ◌≤◌, ◌+◌, length, sym, ap, arith, ◌∙◌}
 use Rattle.std.proofs.lemmas.List.{length_push}
 use Rattle.exact_algebra.specs.Fraction.{rational}
 use Rattle.tableau_model.specs.Questions.{walking}
@@ -6,6 +6,11 @@ use Rattle.tableau.specs.Walking.{now_of, here_of}
 use Rattle.tableau.proofs.Halts.{refusal_kept}
 use Rattle.tableau.proofs.Walks.{costs_here, optimal_now, goes_on, walk_refused, limit_walked}
 use Rattle.tableau.proofs.walking.walk_over.Goals as goal
+
+pub loop-init : goal.loop-init
+loop-init g c =
+    let size = ap length c.as_slice.ensures in
+    record { walking = c.requires.begun; counted = sym size; short = omega (arith, size, c.requires.short) }
 
 pub advance-requires-clause-costs : goal.advance-requires-clause-costs
 advance-requires-clause-costs g c κs within =
@@ -82,6 +87,7 @@ loop-preserved g c =
     record {
       walking = goes_on value task lo hi w c.advance.new.self c.requires.costs_lo c.requires.costs_hi h k;
       counted = omega (arith, longer, c.loop.invariant.counted);
+      short = omega (arith, c.loop-test.true);
     }
 
 pub returns-in-Ok-None-clause-end : goal.returns-in-Ok-None-clause-end
@@ -93,7 +99,7 @@ returns-in-Ok-None-clause-end g c =
     let w = c.loop.walk in
     let h = c.loop.invariant.walking in
     let still = rw c.in-Ok-None.field-0-is at (c.in-Ok-None.ensures {u = tt}).step in
-    record { walking = h; still = still; short = omega (arith, c.loop.invariant.counted, c.loop-test.false, c.loop.auto.counter-end) }
+    record { walking = h; still = still; short = omega (arith, c.loop.invariant.counted, c.loop-test.false, c.loop.invariant.short) }
 
 pub returns-in-Ok-Some-clause-halted : goal.returns-in-Ok-Some-clause-halted
 returns-in-Ok-Some-clause-halted g c =
@@ -104,7 +110,7 @@ returns-in-Ok-Some-clause-halted g c =
     let w = c.loop.walk in
     let h = c.loop.invariant.walking in
     let step = rw c.in-Ok-Some.field-0-is at (c.in-Ok-Some.ensures {u = tt}).step in
-    limit_walked value task lo hi c.args.limit w c.in-Ok-Some.field-0-0 h (omega (arith, c.loop.invariant.counted, c.loop-test.false, c.loop.auto.counter-end)) step
+    limit_walked value task lo hi c.args.limit w c.in-Ok-Some.field-0-0 h (omega (arith, c.loop.invariant.counted, c.loop-test.false, c.loop.invariant.short)) step
 
 pub returns-clause-halted : goal.returns-clause-halted
 returns-clause-halted g c =
@@ -116,5 +122,5 @@ returns-clause-halted g c =
     let h = c.loop.invariant.walking in
     let asked = walking (now_of value w) hi in
     walk_refused value task lo hi g.F.Exact.range c.args.limit w w.reached.trail c.in-Err-walking_step.refused c.halted-in-Err-walking_step.result h
-    (omega (arith, c.loop.invariant.counted, c.loop-test.false, c.loop.auto.counter-end))
+    (omega (arith, c.loop.invariant.counted, c.loop-test.false, c.loop.invariant.short))
     (refusal_kept value g.F.Exact.range (here_of value w) asked w.reached.trail c.in-Err-walking_step.refused (c.in-Err-walking_step.ensures {u = tt}).refused) c.halted-in-Err-walking_step.ensures
