@@ -1,7 +1,7 @@
 use Rattle.std.proofs.Common.{◌≡◌, ◌≤◌, ◌∷◌, [], ◌++◌, All, length, sym, subst, arith}
 use Rattle.std.proofs.lemmas.List.Elements.{All-push}
 use Rattle.cert_text.proofs.Lists.{value_read, value_fails, values_read}
-use Rattle.cert_text.proofs.json.items.Goals as goal
+use Rattle.cert_text.proofs.parts.items.Goals as goal
 
 pub loop-i-preserved : goal.loop-i-preserved
 loop-i-preserved g c =

@@ -3,7 +3,7 @@ use Rattle.serde_json.specs.Data.{array}
 use Rattle.serde_json.specs.View.{view, items_of}
 use Rattle.serde_json.proofs.Views.{view-Array}
 use Rattle.cert_text.proofs.Lists.{value_written, all_taken}
-use Rattle.cert_text.proofs.json.ListToJson.to_json.Goals as goal
+use Rattle.cert_text.proofs.parts.ListToJson.to_json.Goals as goal
 
 pub loop-item-preserved : goal.loop-item-preserved
 loop-item-preserved g c =

@@ -1,7 +1,7 @@
 use Rattle.std.proofs.Common.{◌≡◌, map, drop, All}
 use Rattle.serde_json.specs.View.{items_view}
 use Rattle.cert_text.proofs.Lists.{IsReadUpTo}
-use Rattle.cert_text.proofs.json.items.Given as goal
+use Rattle.cert_text.proofs.parts.items.Given as goal
 
 abbrev pub invariant-loop-i : goal.invariant-loop-i
 invariant-loop-i g l =
