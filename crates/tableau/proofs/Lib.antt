@@ -1,2 +1,3 @@
 pub mod Trails
 pub mod Halts
+pub mod Walks

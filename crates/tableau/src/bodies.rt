@@ -1,19 +1,20 @@
 //! A basis as one of its bodies keeps it, and what the loops ask of it.
 ghost use Rattle.std.specs.Prelude.{◌≡◌, ◌≢◌, ◌<◌, ℕ, IfOk, IfErr, OnOk, length, slice_set, pos};
 ghost use Rattle.exact_algebra.specs.Fraction.{rational};
-ghost use Rattle.exact_algebra.specs.Rational.{whole};
+ghost use Rattle.exact_algebra.specs.Rational.{ℚ, whole};
 ghost use Rattle.basis_model.specs.Basis.{coord};
 ghost use Rattle.pivot_rule.specs.Duals.{HasCosts};
 ghost use Rattle.tableau_model.specs.Places.{IsPlace, sample_of};
-ghost use Rattle.tableau_model.specs.Questions.{Question, solving, IsStepOf};
+ghost use Rattle.tableau_model.specs.Questions.{Question, solving, walking, IsStepOf};
 ghost use Rattle.tableau_model.specs.Refusals.{IsRefusalAt, IsRefusedOf};
 ghost use Rattle.tableau_model.specs.Answers.{IsOptimalAt, IsSolvingAnswer, IsFitted};
+ghost use Rattle.tableau_model.specs.WalkAnswers.{IsOptimalFrom, IsWalkingAnswer, IsSegmentTo, IsSegmentHere};
 ghost use Rattle.tableau.specs.Bodies.{place_of, IsTaken};
 
 use basis_inverse::Inverse;
 use fraction_tableau::FractionTableau;
 use frac_core::Exact;
-use loss_model::Basis;
+use loss_model::{Basis, Exchange, Segment};
 use tableau_model::{Fitted, Refused, Step};
 
 /// A basis of a problem, as its body keeps it.
@@ -54,6 +55,25 @@ impl<'a, F: Exact> Tableau<'a, F> {
         ensures refused { (asked : Question) → IsStepOf F.value (place_of F.value self.old) asked step.position step.row → IfErr result (IsRefusedOf (IsRefusalAt F.value F.range (place_of F.value self.old) asked)) }
     {
         self.body.exchange(step)
+    }
+
+    /// The walking step from `from` on that is left below hi, or none.
+    pub fn walking_step(&self, from: F, hi: F) -> Result<Option<Exchange<F>>, Refused<F>>
+        requires costs { HasCosts (sample_of F.value (place_of F.value self.now)) (rational (F.value hi)) }
+        requires optimal { IsOptimalFrom F.value (place_of F.value self.now) (rational (F.value from)) }
+        ensures step { IfOk result (IsWalkingAnswer F.value (place_of F.value self.now) (rational (F.value from)) (rational (F.value hi))) }
+        ensures refused { IfErr result (IsRefusedOf (IsRefusalAt F.value F.range (place_of F.value self.now) (walking (rational (F.value from)) (rational (F.value hi))))) }
+    {
+        self.body.walking_step(from, hi)
+    }
+
+    /// The segment of the basis from one quantile to another. What is refused is refused to each walk of
+    /// which this is a segment.
+    pub fn segment(&self, from: F, to: F) -> Result<Segment<F>, Refused<F>>
+        ensures segment { IfOk result (IsSegmentHere F.value (place_of F.value self.now) (rational (F.value from)) (rational (F.value to))) }
+        ensures refused { (hi : ℚ) → IsSegmentTo F.value (place_of F.value self.now) (rational (F.value from)) hi (rational (F.value to)) → IfErr result (IsRefusedOf (IsRefusalAt F.value F.range (place_of F.value self.now) (walking (rational (F.value from)) hi))) }
+    {
+        self.body.segment(from, to)
     }
 
     /// The basis by position, and the inverse of its rows.

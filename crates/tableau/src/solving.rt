@@ -54,7 +54,7 @@ fn full_start(alloc: Global, rows: &[u32]) -> Result<List<Option<u32>>, OutOfMem
 }
 
 /// The halt of a loop for what refused its next step.
-fn halted<F: Exact>(refused: Refused<F>, trail: Trail<F>) -> Halt<F>
+pub(crate) fn halted<F: Exact>(refused: Refused<F>, trail: Trail<F>) -> Halt<F>
     ensures { IsHaltOf refused trail result }
 {
     match refused {

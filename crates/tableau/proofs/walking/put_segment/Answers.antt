@@ -1,0 +1,24 @@
+use Rattle.std.specs.Ordering.{is_lt}
+use Rattle.std.proofs.Common.{inl, inr, refl, ◌∙◌, sym, ap}
+use Rattle.exact_algebra.specs.Fraction.{rational}
+use Rattle.walk_rule.proofs.Trails.{below_from}
+use Rattle.tableau.proofs.Walks.{same_from_test}
+use Rattle.tableau.proofs.walking.put_segment.Goals as goal
+
+pub returns-then-not-is_lt-clause-segments : goal.returns-then-not-is_lt-clause-segments
+returns-then-not-is_lt-clause-segments g c =
+    let from = rational (g.F.Exact.value c.args.from) in
+    let to = rational (g.F.Exact.value c.args.to) in
+    inr (same_from_test from to (sym (ap is_lt c.compare.ensures) ∙ sym c.is_lt.ensures ∙ c.if-not-is_lt.true) c.requires, refl)
+
+pub returns-in-Ok-push_segment-clause-segments : goal.returns-in-Ok-push_segment-clause-segments
+returns-in-Ok-push_segment-clause-segments g c =
+    let from = rational (g.F.Exact.value c.args.from) in
+    let to = rational (g.F.Exact.value c.args.to) in
+    inl (c.in-Ok.segment, below_from from to (sym (ap is_lt c.compare.ensures) ∙ sym c.is_lt.ensures ∙ c.if-not-is_lt.false), (c.in-Ok.ensures {u = tt}).segment, (c.in-Ok-push_segment.ensures {u = tt}).pushed)
+
+pub returns-clause-refused : goal.returns-clause-refused
+returns-clause-refused g c = λ hi stay.
+    let from = rational (g.F.Exact.value c.args.from) in
+    let to = rational (g.F.Exact.value c.args.to) in
+    (c.in-Err-segment.ensures {u = tt}).refused hi (record { stay = stay; reported = inl (below_from from to (sym (ap is_lt c.compare.ensures) ∙ sym c.is_lt.ensures ∙ c.if-not-is_lt.false)) })

@@ -1,0 +1,208 @@
+//! The walk over quantiles, from an optimal basis.
+ghost use Rattle.std.specs.Prelude.{◌≡◌, ◌++◌, ◌∷◌, [], ℕ, ◌≤◌, length, IfOk, IfErr, OnOk};
+ghost use Rattle.exact_algebra.specs.Fraction.{rational};
+ghost use Rattle.exact_algebra.specs.Rational.{ℚ, ◌≤ℚ◌};
+ghost use Rattle.pivot_rule.specs.Duals.{HasCosts};
+ghost use Rattle.walk_rule.specs.WalkSpills.{IsStayEnd};
+ghost use Rattle.tableau_model.specs.declared.refusal.Refused.TheVariants.{OutOfMemory};
+ghost use Rattle.tableau_model.specs.Places.{at_of, sample_of};
+ghost use Rattle.tableau_model.specs.Questions.{walking};
+ghost use Rattle.tableau_model.specs.Refusals.{IsRefusalAt, IsRefusedOf};
+ghost use Rattle.tableau_model.specs.WalkAnswers.{IsOptimalFrom, IsStepTo};
+ghost use Rattle.tableau.specs.Bodies.{place_of};
+ghost use Rattle.tableau.specs.Solving.{IsRefusal, IsSolved};
+ghost use Rattle.tableau.specs.Walking.{AreSegmentsAfter, IsWalked, IsWalkedOrStill, IsWalking, IsWalkedOut, IsWalkDone, IsWalkHalted, now_of, here_of};
+
+use crate::bodies::Tableau;
+use crate::solving::{Halt, Reached, halted};
+use frac_core::{Exact, List};
+use loss_model::{Exchange, Process, Segment};
+use std::alloc::Global;
+use tableau_model::{Refused, Step};
+
+/// A walk in its midst: the basis and the trail that leads to it, the segments so far, and the quantile at
+/// which it stands.
+#[derive(Drop)]
+pub struct Walk<'a, F: Exact> {
+    pub reached: Reached<'a, F>,
+    pub segments: List<Segment<F>>,
+    pub now: F,
+}
+
+/// Puts a segment to the others.
+fn push_segment<F: Exact>(
+    segments: &mut List<Segment<F>>,
+    segment: Segment<F>,
+) -> Result<(), Refused<F>>
+    ensures pushed { OnOk result (segments.new ≡ segments.old ++ segment ∷ []) }
+    ensures memory { IfErr result (λ r. r ≡ OutOfMemory) }
+{
+    match segments.push(segment) {
+        Ok(()) => Ok(()),
+        Err(_) => Err(Refused::OutOfMemory),
+    }
+}
+
+/// Puts the segment of a stay to the others, where its ends differ. What is refused is refused to each walk
+/// of which this is a stay.
+fn put_segment<'a, F: Exact>(
+    tableau: &Tableau<'a, F>,
+    segments: &mut List<Segment<F>>,
+    from: F,
+    to: F,
+) -> Result<(), Refused<F>>
+    requires after { rational (F.value from) ≤ℚ rational (F.value to) }
+    ensures segments { OnOk result (AreSegmentsAfter F.value (place_of F.value tableau.now) (rational (F.value from)) (rational (F.value to)) segments.old segments.new) }
+    ensures refused { let h = place_of F.value tableau.now in
+        (hi : ℚ) → IsStayEnd (sample_of F.value h) (at_of h) h.inverse (rational (F.value from)) hi (rational (F.value to))
+        → IfErr result (IsRefusedOf (IsRefusalAt F.value F.range h (walking (rational (F.value from)) hi))) }
+{
+    if !from.compare(to).is_lt() {
+        return Ok(());
+    }
+    match tableau.segment(from, to) {
+        Ok(segment) => match push_segment(segments, segment) {
+            Ok(()) => Ok(()),
+            Err(refused) => Err(refused),
+        },
+        Err(refused) => Err(refused),
+    }
+}
+
+impl<'a, F: Exact> Walk<'a, F> {
+    /// Makes a walking step. After a refusal the trail is as before.
+    fn make_step(&mut self, step: Exchange<F>, hi: F) -> Result<(), Refused<F>>
+        requires step { IsStepTo F.value (here_of F.value self.old) (now_of F.value self.old) (rational (F.value hi)) step }
+        ensures walked { OnOk result (IsWalked F.value (rational (F.value hi)) self.old self.new) }
+        ensures refused { IfErr result (IsRefusedOf (IsRefusal F.value F.range (here_of F.value self.old) (walking (now_of F.value self.old) (rational (F.value hi))) self.old.reached.trail self.new.reached.trail)) }
+    {
+        let _hi = hi;
+        match put_segment(&self.reached.tableau, &mut self.segments, self.now, step.theta) {
+            Ok(()) => {}
+            Err(refused) => return Err(refused),
+        }
+        let exchanged = Step {
+            position: step.position,
+            row: step.row,
+        };
+        match self.reached.tableau.exchange(exchanged) {
+            Ok(()) => {}
+            Err(refused) => return Err(refused),
+        }
+        self.now = step.theta;
+        match self.reached.trail.steps.push(step) {
+            Ok(()) => Ok(()),
+            Err(_) => Err(Refused::OutOfMemory),
+        }
+    }
+
+    /// Makes the walking step that is left below hi, and tells whether there was one. After a refusal the
+    /// trail is as before.
+    fn advance(&mut self, hi: F) -> Result<bool, Refused<F>>
+        requires costs { HasCosts (sample_of F.value (here_of F.value self.old)) (rational (F.value hi)) }
+        requires optimal { IsOptimalFrom F.value (here_of F.value self.old) (now_of F.value self.old) }
+        ensures next { IfOk result (IsWalkedOrStill F.value (rational (F.value hi)) self.old self.new) }
+        ensures refused { IfErr result (IsRefusedOf (IsRefusal F.value F.range (here_of F.value self.old) (walking (now_of F.value self.old) (rational (F.value hi))) self.old.reached.trail self.new.reached.trail)) }
+    {
+        match self.reached.tableau.walking_step(self.now, hi) {
+            Ok(None) => Ok(false),
+            Ok(Some(step)) => match self.make_step(step, hi) {
+                Ok(()) => Ok(true),
+                Err(refused) => Err(refused),
+            },
+            Err(refused) => Err(refused),
+        }
+    }
+}
+
+/// Walks up to hi. The limit counts all steps of the trail.
+fn walk_over<'a, F: Exact>(
+    from: Walk<'a, F>,
+    lo: F,
+    hi: F,
+    limit: u32,
+) -> Result<Walk<'a, F>, Halt<F>>
+    requires costs_lo { HasCosts (sample_of F.value (here_of F.value from)) (rational (F.value lo)) }
+    requires costs_hi { HasCosts (sample_of F.value (here_of F.value from)) (rational (F.value hi)) }
+    requires begun { IsWalking F.value (here_of F.value from).task (rational (F.value lo)) (rational (F.value hi)) from }
+    requires short { length from.reached.trail.steps ≤ limit }
+    ensures end { IfOk result (IsWalkedOut F.value (here_of F.value from.entry).task (rational (F.value lo)) (rational (F.value hi)) limit) }
+    ensures halted { IfErr result (IsWalkHalted F.value F.range (here_of F.value from.entry).task (rational (F.value lo)) (rational (F.value hi)) limit) }
+{
+    let _lo = lo;
+    let mut walk = from;
+    let made = walk.reached.trail.steps.as_slice().len() as u32;
+    for _ in made..limit {
+        match walk.advance(hi) {
+            Ok(true) => {}
+            Ok(false) => return Ok(walk),
+            Err(refused) => return Err(halted(refused, walk.reached.trail)),
+        }
+    }
+    match walk.reached.tableau.walking_step(walk.now, hi) {
+        Ok(None) => Ok(walk),
+        Ok(Some(_)) => Err(Halt::PivotLimit {
+            trail: walk.reached.trail,
+        }),
+        Err(refused) => Err(halted(refused, walk.reached.trail)),
+    }
+}
+
+/// The process of a walk that is at its end, with the segment up to hi.
+fn end_walk<'a, F: Exact>(
+    walk: Walk<'a, F>,
+    lo: F,
+    hi: F,
+    limit: u32,
+) -> Result<Process<F>, Halt<F>>
+    requires costs { HasCosts (sample_of F.value (here_of F.value walk)) (rational (F.value hi)) }
+    requires out { IsWalkedOut F.value (here_of F.value walk).task (rational (F.value lo)) (rational (F.value hi)) limit walk }
+    ensures done { IfOk result (IsWalkDone F.value (here_of F.value walk.entry).task (rational (F.value lo)) (rational (F.value hi)) limit) }
+    ensures halted { IfErr result (IsWalkHalted F.value F.range (here_of F.value walk.entry).task (rational (F.value lo)) (rational (F.value hi)) limit) }
+{
+    let _lo = lo;
+    let _limit = limit;
+    let Walk {
+        reached,
+        segments,
+        now,
+    } = walk;
+    let mut all = segments;
+    match reached.tableau.segment(now, hi) {
+        Ok(segment) => match all.push(segment) {
+            Ok(()) => Ok(Process {
+                segments: all,
+                trail: reached.trail,
+            }),
+            Err(_) => Err(Halt::OutOfMemory),
+        },
+        Err(refused) => Err(halted(refused, reached.trail)),
+    }
+}
+
+/// Walks from an optimal basis at lo up to hi, and gives the segments with the whole trail. The limit counts
+/// the steps of the solve and of the walk together.
+pub fn walk_range<'a, F: Exact>(
+    alloc: Global,
+    from: Reached<'a, F>,
+    lo: F,
+    hi: F,
+    limit: u32,
+) -> Result<Process<F>, Halt<F>>
+    requires ordered { rational (F.value lo) ≤ℚ rational (F.value hi) }
+    requires costs_lo { HasCosts (sample_of F.value (place_of F.value from.tableau)) (rational (F.value lo)) }
+    requires costs_hi { HasCosts (sample_of F.value (place_of F.value from.tableau)) (rational (F.value hi)) }
+    requires solved { IsSolved F.value (place_of F.value from.tableau).task (rational (F.value lo)) limit from }
+    ensures done { IfOk result (IsWalkDone F.value (place_of F.value from.entry.tableau).task (rational (F.value lo)) (rational (F.value hi)) limit) }
+    ensures halted { IfErr result (IsWalkHalted F.value F.range (place_of F.value from.entry.tableau).task (rational (F.value lo)) (rational (F.value hi)) limit) }
+{
+    let begun = Walk {
+        reached: from,
+        segments: List::new(alloc),
+        now: lo,
+    };
+    match walk_over(begun, lo, hi, limit) {
+        Ok(walk) => end_walk(walk, lo, hi, limit),
+        Err(halt) => Err(halt),
+    }
+}

@@ -1,0 +1,3 @@
+pub mod Processes
+pub mod Stops
+pub mod Answers
