@@ -1,0 +1,11 @@
+//! The process over a range of quantiles: from the optimal basis at its low end, breakpoint by
+//! breakpoint, to its high end (Koenker and d'Orey 1987, AS 229).
+//!
+//! The one contract for the layers above: `process` gives closed segments that cover the range, each
+//! optimal at both of its ends, and the lawful trail that leads through their bases; where it stops
+//! without them, it says what it had to stop for.
+#![tactic(auto)]
+
+mod range;
+
+pub use range::process;
