@@ -1,19 +1,13 @@
--- Stated. The job that is done today: a fit at one quantile.
+-- Stated. The jobs that are done today: fits over a range of quantiles.
 use Rattle.std.specs.Prelude.{◌≡◌, ℕ, List, None, Ok}
 use Rattle.rq_words.specs.Requests.{request_of}
 use Rattle.rq_words.specs.Words.{words_of}
-use Rattle.rq_words.specs.declared.job.FitJob.{FitJob}
 use Rattle.rq_words.specs.declared.job.Job.{Job}
 use Rattle.rq_words.specs.declared.job.Job.TheVariants.{Process}
 
--- the range is one quantile, and no rank intervals are asked for
-pub record IsPoint (fit : FitJob) : Type 0 where
-  pub same : fit.hi ≡ fit.lo
-  pub plain : fit.rank ≡ None
-
--- the job is one that this version does
+-- the job is one that this version does: a fit for which no rank intervals are asked
 abbrev pub IsBuilt : Job → Type 0
-IsBuilt (Process fit) = IsPoint fit
+IsBuilt (Process fit) = fit.rank ≡ None
 IsBuilt _ = ⊥
 
 -- these words ask for the job
