@@ -41,10 +41,7 @@ fn all_scores<F: Exact>(
     let mut all = List::new(alloc);
     for (number, segment) in segments.iter().enumerate() {
         let pairs = scores(alloc, problem, data_rows, segment, number as u32)?;
-        match all.push(pairs) {
-            Ok(()) => {}
-            Err(_) => return Err(Short::OutOfMemory),
-        }
+        all.add(pairs)?;
     }
     Ok(all)
 }

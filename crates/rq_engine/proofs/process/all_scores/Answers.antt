@@ -14,5 +14,5 @@ returns-in_err-pairs-clause-spilled g c =
 
 pub loop-number-preserved : goal.loop-number-preserved
 loop-number-preserved g c =
-    zip_more (IsScored g.F.Exact.value c.args.problem.now (length c.args.problem.now.rows)) c.args.segments.now c.loop-number.number c.index-segments-number.result c.loop-number.all c.push.new.self
-    c.in_ok-pairs.pairs c.loop-number-test.true c.index-segments-number.is c.loop-number.invariant (rw c.as_slice.ensures at (c.in_ok-pairs.ensures {u = tt}).scored) c.in-Ok.ensures.pushed
+    zip_more (IsScored g.F.Exact.value c.args.problem.now (length c.args.problem.now.rows)) c.args.segments.now c.loop-number.number c.index-segments-number.result c.loop-number.all c.add.new.self
+    c.in_ok-pairs.pairs c.loop-number-test.true c.index-segments-number.is c.loop-number.invariant (rw c.as_slice.ensures at (c.in_ok-pairs.ensures {u = tt}).scored) (c.in_ok-add.ensures {u = tt}).added

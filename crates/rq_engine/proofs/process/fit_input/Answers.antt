@@ -45,8 +45,7 @@ pub returns-in-Ok-all_scores-clause-printable : goal.returns-in-Ok-all_scores-cl
 returns-in-Ok-all_scores-clause-printable c =
     let p = c.args.input.problem in
     let under = c.fit_of.ensures.under in
-    let each = zip_length (IsScored value p (length p.rows)) c.in-Ok.walked.segments c.in-Ok-all_scores.scores (rw c.as_slice.ensures at c.in-Ok-all_scores.ensures.scored) in
-    (
+    let each = zip_length (IsScored value p (length p.rows)) c.in-Ok.walked.segments c.in-Ok-all_scores.scores (rw c.as_slice.ensures at c.in-Ok-all_scores.ensures.scored) in (
       ap length c.fit_of.ensures.scores ∙ each ∙ sym (ap (λ q. length q.segments) c.fit_of.ensures.process),
       omega (arith, under.data_rows, c.requires.data.size, ap (λ p. length p.rows) under.problem_is),
     )
