@@ -71,24 +71,27 @@ fn expect_trail<F: Exact>(rt: &impl Abort, trail: &Trail<F>, count: usize) {
     assert!(rt; trail.rise.as_slice().is_empty() && trail.fall.as_slice().is_empty());
 }
 
+/// Under a limit that is too low, the trail has so many steps.
+fn expect_limit<F: Exact>(rt: &impl Abort, alloc: Global, three: &Problem<F>, limit: u32) {
+    let answer = walk(rt, alloc, three, (F::zero(), F::one()), limit);
+    let Err(
+        Stop::PivotLimit {
+            limit: shown,
+            trail,
+        },
+    ) = answer
+    else {
+        panic!(rt; "a step is left");
+    };
+    assert!(rt; shown == limit);
+    expect_trail(rt, &trail, limit as usize);
+}
+
 fn expect_three<F: Exact>(rt: &impl Abort, alloc: Global) -> Result<(), AllocError> {
     let three = problem::<F>(rt, alloc, 2, 1, THREE.as_slice())?;
-    let range = (F::zero(), F::one());
-    for limit in 0..2 {
-        match walk(rt, alloc, &three, range, limit) {
-            Err(
-                Stop::PivotLimit {
-                    limit: shown,
-                    trail,
-                },
-            ) => {
-                assert!(rt; shown == limit);
-                expect_trail(rt, &trail, limit as usize);
-            }
-            _ => panic!(rt; "a step is left"),
-        }
-    }
-    let Ok(done) = walk(rt, alloc, &three, range, 2) else {
+    expect_limit(rt, alloc, &three, 0);
+    expect_limit(rt, alloc, &three, 1);
+    let Ok(done) = walk(rt, alloc, &three, (F::zero(), F::one()), 2) else {
         panic!(rt; "two steps suffice");
     };
     expect_trail(rt, &done.trail, 2);
