@@ -1,7 +1,7 @@
 #!/usr/bin/env bash
-# Times the program from bytes to bytes at the median: on stackloss, and on generated tables of 4, 5 and 9 regressors.
-# Prints for each the best of three runs, in seconds that passed and in seconds of a processor, the status, and the pivots, or
-# the line of the fault.
+# Times the program from bytes to bytes, at the median and over all quantiles: on stackloss, and on generated tables.
+# Prints for each the best of three runs, in seconds that passed and in seconds of a processor, the most memory that one of them
+# held, the status, and the pivots and the segments, or the line of the fault.
 #
 # usage: run.sh PROGRAM
 set -eu
@@ -10,29 +10,52 @@ here=$(cd "$(dirname "$0")" && pwd)
 work=$(mktemp -d)
 trap 'rm -rf "$work"' EXIT
 
-# The least number of a file.
+# The least and the greatest number of a file.
 least() { sort -g "$1" | head -1; }
+greatest() { sort -g "$1" | tail -1; }
 
-# One case: its name, the formula, and the table.
-measure() {
-  local status pivots
-  : > "$work/elapsed"
-  : > "$work/processor"
-  for _ in 1 2 3; do
-    status=0
-    /usr/bin/time -q -o "$work/time" -f '%e %U' "$program" process --formula "$2" --lo 1/2 --hi 1/2 \
-      < "$3" > "$work/out" 2> "$work/err" || status=$?
-    cut -d ' ' -f 1 "$work/time" >> "$work/elapsed"
-    cut -d ' ' -f 2 "$work/time" >> "$work/processor"
-  done
-  pivots=$(grep '^pivots ' "$work/out" || cat "$work/err")
-  printf '%-24s %5s s, of a processor %5s s, status %s, %s\n' "$1" "$(least "$work/elapsed")" "$(least "$work/processor")" \
-    "$status" "$pivots"
+# What a run came to.
+outcome() {
+  if [ -s "$work/err" ]; then
+    cat "$work/err"
+  else
+    printf '%s, segments %s\n' "$(grep '^pivots ' "$work/out")" "$(grep -c '^segment ' "$work/out")"
+  fi
 }
 
-measure "stackloss" "stack.loss ~ ." "$here/../../examples/stackloss.csv"
+# One case: its name, the range of quantiles, the formula, and the table.
+measure() {
+  local status lo hi
+  read -r lo hi <<< "$2"
+  : > "$work/elapsed"
+  : > "$work/processor"
+  : > "$work/memory"
+  for _ in 1 2 3; do
+    status=0
+    /usr/bin/time -q -o "$work/time" -f '%e %U %M' "$program" process --formula "$3" --lo "$lo" --hi "$hi" \
+      < "$4" > "$work/out" 2> "$work/err" || status=$?
+    cut -d ' ' -f 1 "$work/time" >> "$work/elapsed"
+    cut -d ' ' -f 2 "$work/time" >> "$work/processor"
+    cut -d ' ' -f 3 "$work/time" >> "$work/memory"
+  done
+  printf '%-24s %s to %s: %5s s, of a processor %5s s, %s kB, status %s, %s\n' "$1" "$lo" "$hi" "$(least "$work/elapsed")" \
+    "$(least "$work/processor")" "$(greatest "$work/memory")" "$status" "$(outcome)"
+}
+
+# A generated table of so many rows and regressors, over a range of quantiles.
+measure_generated() {
+  awk -v number=1 -v rows="$1" -v columns="$2" -f "$here/make_table.awk" > "$work/table.csv"
+  measure "$1 rows, $(($2 + 1)) columns" "$3" "y ~ ." "$work/table.csv"
+}
+
+for range in "1/2 1/2" "0 1"; do
+  measure "stackloss" "$range" "stack.loss ~ ." "$here/../../examples/stackloss.csv"
+done
 for size in "1000 4" "1000 5" "4000 4" "16384 4" "16384 9"; do
   read -r rows columns <<< "$size"
-  awk -v number=1 -v rows="$rows" -v columns="$columns" -f "$here/make_table.awk" > "$work/table.csv"
-  measure "$rows rows, $((columns + 1)) columns" "y ~ ." "$work/table.csv"
+  measure_generated "$rows" "$columns" "1/2 1/2"
+done
+for size in "1000 2" "1000 4" "4000 2"; do
+  read -r rows columns <<< "$size"
+  measure_generated "$rows" "$columns" "0 1"
 done

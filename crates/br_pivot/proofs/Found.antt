@@ -38,7 +38,7 @@ module _ {F : Type 0} (value : F → Fraction) (theta : ℚ) (limit : ℕ) (s : 
   found task same costs h t =
       let under = h.solved.underway in
       let optimal = vertex_is_optimal value p theta (place_of value s.reached.tableau).rows (place_of value s.reached.tableau).inverse s.fitted.vertex s.fitted.basic under.is_place.size under.is_place.is_basis
-          h.fitted.vertex h.fitted.basic (subst (λ (x : Task F). HasCosts (sample value x.problem) theta) (sym same) costs) h.solved.stop in
+      h.fitted.vertex h.fitted.basic (subst (λ (x : Task F). HasCosts (sample value x.problem) theta) (sym same) costs) h.solved.stop in
       subst (λ (x : Task F). IsSolution value x.problem theta made) same
       (record {
         minimises = minimum (sample value p) theta (value_at value s.fitted.vertex.coef) _ optimal;

@@ -13,8 +13,8 @@ ghost use Rattle.cert_text.specs.Certificates.{end_kind, finite_members, infinit
 ghost use Rattle.cert_text.specs.Trees.{end_tree, interval_tree};
 
 use crate::fault::CertFault;
-use crate::json::{FromJson, Name, ToJson, put};
 use crate::keys::{closed, field, members};
+use crate::parts::{FromJson, Name, ToJson, put};
 use crate::path::wrong_kind;
 use crate::vertex::{Signs, vertex};
 use frac_core::{Frac128, List};

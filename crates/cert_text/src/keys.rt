@@ -7,7 +7,7 @@ ghost use Rattle.cert_text.specs.Reading.{or_shape, next, field, closed};
 ghost use Rattle.cert_text.specs.declared.fault.CertFault.TheVariants.{OutOfMemory};
 
 use crate::fault::CertFault;
-use crate::json::FromJson;
+use crate::parts::FromJson;
 use crate::path::{under_key, wrong_key, wrong_kind};
 use serde_json::{Map, Value};
 use std::alloc::Global;

@@ -9,10 +9,10 @@
 mod cert;
 mod fault;
 mod interval;
-mod json;
 mod keys;
 mod laws;
 mod numbers;
+mod parts;
 mod path;
 mod read;
 mod row;

@@ -8,7 +8,7 @@ ghost use Rattle.cert_text.specs.Reading.{fraction, count};
 ghost use Rattle.cert_text.specs.Trees.{fraction_tree};
 
 use crate::fault::CertFault;
-use crate::json::{FromJson, ToJson};
+use crate::parts::{FromJson, ToJson};
 use crate::path::{wrong_kind, wrong_number};
 use frac_core::{Frac128, number_text, read_number};
 use serde_json::Value;

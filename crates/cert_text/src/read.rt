@@ -10,8 +10,8 @@ ghost use Rattle.cert_text.specs.declared.fault.CertFault.TheVariants.{NotJson};
 
 use crate::cert::Cert;
 use crate::fault::CertFault;
-use crate::json::FromJson;
 use crate::keys::{closed, field, members};
+use crate::parts::FromJson;
 use crate::path::{under_key, wrong_kind};
 use frac_core::{Frac128, List};
 use loss_model::{IntervalProof, Problem, Row, Segment};

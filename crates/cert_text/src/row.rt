@@ -9,8 +9,8 @@ ghost use Rattle.cert_text.specs.Certificates.{row_members, row};
 ghost use Rattle.cert_text.specs.Trees.{row_tree};
 
 use crate::fault::CertFault;
-use crate::json::{FromJson, ToJson, put};
 use crate::keys::{closed, field, members};
+use crate::parts::{FromJson, ToJson, put};
 use frac_core::Frac128;
 use loss_model::Row;
 use serde_json::{Map, Value};

@@ -10,8 +10,8 @@ ghost use Rattle.cert_text.specs.Certificates.{segment_members, segment};
 ghost use Rattle.cert_text.specs.Trees.{segment_tree};
 
 use crate::fault::CertFault;
-use crate::json::{FromJson, ToJson, put};
 use crate::keys::{closed, field, members};
+use crate::parts::{FromJson, ToJson, put};
 use crate::vertex::{Signs, vertex};
 use frac_core::Frac128;
 use loss_model::Segment;

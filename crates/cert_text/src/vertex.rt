@@ -8,7 +8,7 @@ ghost use Rattle.cert_text.specs.Certificates.{sides, sides_of, side_of};
 ghost use Rattle.cert_text.specs.Trees.{sign_of, sides_tree};
 
 use crate::fault::CertFault;
-use crate::json::{FromJson, ToJson};
+use crate::parts::{FromJson, ToJson};
 use crate::path::wrong_kind;
 use frac_core::{Frac128, List, OutOfMemory};
 use loss_model::{Basis, Side, Vertex};

@@ -12,7 +12,7 @@ ghost use Rattle.cert_text.specs.Limits.{IsWithinLimits};
 ghost use Rattle.cert_text.specs.Trees.{cert_tree, cert_text};
 
 use crate::cert::Cert;
-use crate::json::{Name, put};
+use crate::parts::{Name, put};
 use frac_core::OutOfMemory;
 use serde_json::{Map, Value};
 use std::alloc::{AllocError, Global};

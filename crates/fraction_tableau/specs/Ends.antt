@@ -1,16 +1,13 @@
 -- Inner. The two ends of a segment.
-use Rattle.std.specs.Prelude.{◌≡◌, ◌⊎◌, ℕ, ◌<◌, Bool, true, false, List, length, if◌then◌else◌}
+use Rattle.std.specs.Prelude.{◌≡◌, ◌⊎◌, ℕ, ◌<◌, List, length}
 use Rattle.exact_algebra.specs.Fraction.{Fraction, rational}
 use Rattle.exact_algebra.specs.Rational.{ℚ}
-use Rattle.loss_model.specs.declared.spill.Quantity.{Quantity}
-use Rattle.loss_model.specs.declared.spill.Quantity.TheVariants.{Loss}
 use Rattle.loss_model.specs.declared.spill.Spill.{Spill}
-use Rattle.loss_model.specs.Sample.{Sample, loss}
-use Rattle.loss_model.specs.Spill.{AtSome, IsRowSpill, IsSpillOf, site_of, loss_products}
-use Rattle.loss_model.specs.Problem.{value_at}
+use Rattle.loss_model.specs.Sample.{loss}
+use Rattle.basis_model.specs.Basis.{coefficient}
 use Rattle.basis_model.specs.BasisSpills.{IsBasisSpill}
 use Rattle.walk_rule.specs.WalkSpills.{IsEndSpill}
-use Rattle.tableau_model.specs.Places.{Place, sample_of}
+use Rattle.tableau_model.specs.Places.{Place, at_of, sample_of}
 use Rattle.fraction_tableau.specs.declared.view.BasisView.{BasisView}
 use Rattle.fraction_tableau.specs.declared.ends.End.{End}
 use Rattle.fraction_tableau.specs.declared.ends.End.TheVariants.{Low, High}
@@ -19,34 +16,18 @@ use Rattle.fraction_tableau.specs.Inverses.{HasValueAt}
 use Rattle.fraction_tableau.specs.Standing.{AreDuals}
 use Rattle.fraction_tableau.specs.Views.{sample_at, rows_at, entries_at}
 
--- the quantity is a loss
-abbrev pub is_loss : Quantity → Bool
-is_loss Loss = true
-is_loss _ = false
-
 -- the number of an end in the site of its loss
 abbrev pub end_number : End → ℕ
 end_number Low = 0
 end_number High = 1
 
--- the spill of a loss bears the number of its end
-abbrev pub at_end : {F : Type 0} → End → Spill F → Spill F
-at_end Low s = s
-at_end High s = if is_loss s.site.quantity then record s { site = record s.site { first = 1 } } else s
-
--- at a row, or at the sum of the losses at this end
-abbrev pub IsEndLossSpill : {F : Type 0} → (F → Fraction) → ℕ → Sample → ℚ → (ℕ → ℚ) → ℕ → Spill F → Type 0
-IsEndLossSpill value range p theta b end s =
-    AtSome p.rows (λ i. IsRowSpill value range p theta b i s)
-    ⊎ IsSpillOf value range (site_of Loss end 0 0) (loss_products p theta b) s
-
 -- the list has the dual values at theta of the rows of the basis, as sorted, and the loss is that there
-pub record IsEnded {F : Type 0} (value : F → Fraction) (h : Place F) (coef : List F) (theta : ℚ) (sorted : List ℕ) (e : Ended F) : Type 0 where
+pub record IsEnded {F : Type 0} (value : F → Fraction) (h : Place F) (theta : ℚ) (sorted : List ℕ) (e : Ended F) : Type 0 where
   pub duals : List F
   pub are_duals : AreDuals value h theta duals
   pub size : length e.basic ≡ length sorted
   pub each : (k : ℕ) → k < length sorted → HasValueAt value h.rows duals sorted e.basic k
-  pub loss : rational (value e.loss) ≡ loss (sample_of value h) theta (value_at value coef)
+  pub loss : rational (value e.loss) ≡ loss (sample_of value h) theta (coefficient (sample_of value h) (at_of h) h.inverse)
 
 -- at a quantity of the basis, or at the end
 abbrev pub IsEndedSpill : {F : Type 0} → (F → Fraction) → ℕ → BasisView F → ℚ → End → Spill F → Type 0

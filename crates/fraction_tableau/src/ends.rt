@@ -2,19 +2,20 @@
 ghost use Rattle.std.specs.Prelude.{◌≡◌, ℕ, ◌<◌, length, slice_index, Contains, IfOk, IfErr};
 ghost use Rattle.exact_algebra.specs.Fraction.{rational};
 ghost use Rattle.exact_algebra.specs.Rational.{ℚ};
-ghost use Rattle.loss_model.specs.Sample.{loss};
-ghost use Rattle.loss_model.specs.Problem.{value_at, sample, IsWellShaped};
+ghost use Rattle.loss_model.specs.Sample.{residual, loss};
+ghost use Rattle.loss_model.specs.Spill.{side_cost, abs_ℚ, IsSideCostSpill};
 ghost use Rattle.loss_model.specs.Quantities.{IsShortOf};
-ghost use Rattle.walk_rule.specs.WalkSpills.{IsSegmentEnd, IsStaySpill};
+ghost use Rattle.basis_model.specs.Basis.{coefficient};
+ghost use Rattle.walk_rule.specs.WalkSpills.{IsSegmentEnd, IsEndSpill, IsStaySpill};
 ghost use Rattle.fraction_tableau.specs.Kept.{place};
 ghost use Rattle.fraction_tableau.specs.Views.{IsView, sample_at, rows_at, entries_at};
-ghost use Rattle.fraction_tableau.specs.Ends.{is_loss as loss_test, end_number, at_end, IsEndLossSpill, IsEnded, IsEndedSpill};
+ghost use Rattle.fraction_tableau.specs.Ends.{end_number, IsEnded, IsEndedSpill};
 
 use crate::standing::duals_at;
 use crate::vertex::by_row;
 use crate::view::BasisView;
 use frac_core::{Exact, List};
-use loss_model::{Problem, Quantity, Short, Site, Spill, loss_at};
+use loss_model::{Quantity, Short, Site, Spill, plus_product};
 
 /// Which end of a segment.
 #[derive(Clone, Copy)]
@@ -37,59 +38,84 @@ pub struct Ends<F> {
     pub high: Ended<F>,
 }
 
-/// Whether a spill is one of a loss.
-fn is_loss(quantity: Quantity) -> bool
-    ensures { result ≡ loss_test quantity }
-{
-    match quantity {
-        Quantity::Loss => true,
-        _ => false,
-    }
+/// The price of a residual: the cost of the side on which it lies, and its size.
+#[derive(Clone, Copy)]
+struct Priced<F> {
+    cost: F,
+    size: F,
 }
 
-/// The spill of the loss at an end, by that of a loss.
-fn spill_at<F: Exact>(end: End, spill: Spill<F>) -> Spill<F>
-    ensures { result ≡ at_end end spill }
-{
-    match end {
-        End::Low => spill,
-        End::High => {
-            if is_loss(spill.site.quantity) {
-                Spill {
-                    site: Site {
-                        first: 1,
-                        ..spill.site
-                    },
-                    ..spill
-                }
-            } else {
-                spill
-            }
+impl End {
+    /// The number of the end in the site of its loss.
+    fn number(self) -> u32
+        ensures { result ≡ end_number self }
+    {
+        match self {
+            End::Low => 0,
+            End::High => 1,
         }
     }
 }
 
-/// The loss at an end, which is the first index of its site.
-fn end_loss<F: Exact>(problem: &Problem<F>, coef: &[F], theta: F, end: End) -> Result<F, Spill<F>>
-    requires shaped { IsWellShaped problem.now }
-    requires coefs { length coef.now ≡ problem.now.columns }
-    ensures exact { let p = sample F.value problem.now in let b = value_at F.value coef.now in
-        IfOk result (λ r. rational (F.value r) ≡ loss p (rational (F.value theta)) b) }
-    ensures spill { let p = sample F.value problem.now in let b = value_at F.value coef.now in
-        IfErr result (IsEndLossSpill F.value F.range p (rational (F.value theta)) b (end_number end)) }
-{
-    match loss_at(problem, coef, theta) {
-        Ok(loss) => Ok(loss),
-        Err(spill) => Err(spill_at(end, spill)),
-    }
-}
-
 impl<'a, F: Exact> BasisView<'a, F> {
+    /// The residual of a row.
+    fn residual(&self, row: u32) -> F
+        requires view { IsView F.value self.now }
+        requires row { row < length self.now.tableau.now.problem.rows }
+        ensures { let p = sample_at F.value self.now in let b = coefficient p (rows_at F.value self.now) (entries_at F.value self.now) in
+            rational (F.value result) ≡ residual p b row }
+    {
+        self.solution.residuals.as_slice()[row as usize]
+    }
+
+    /// The price of the residual of a row at a quantile.
+    fn price(&self, row: u32, theta: F) -> Result<Priced<F>, Spill<F>>
+        requires view { IsView F.value self.now }
+        requires row { row < length self.now.tableau.now.problem.rows }
+        ensures cost { let p = sample_at F.value self.now in let b = coefficient p (rows_at F.value self.now) (entries_at F.value self.now) in
+            IfOk result (λ r. rational (F.value r.cost) ≡ side_cost p (rational (F.value theta)) b row) }
+        ensures size { let p = sample_at F.value self.now in let b = coefficient p (rows_at F.value self.now) (entries_at F.value self.now) in
+            IfOk result (λ r. rational (F.value r.size) ≡ abs_ℚ (residual p b row)) }
+        ensures spill { let p = sample_at F.value self.now in let b = coefficient p (rows_at F.value self.now) (entries_at F.value self.now) in
+            IfErr result (IsSideCostSpill F.value F.range p (rational (F.value theta)) b row) }
+    {
+        let residual = self.residual(row);
+        if residual.sign() < 0 {
+            let cost = self.tableau.down_cost(row, theta)?;
+            let size = residual.neg();
+            Ok(Priced { cost, size })
+        } else {
+            let cost = self.tableau.up_cost(row, theta)?;
+            Ok(Priced {
+                cost,
+                size: residual,
+            })
+        }
+    }
+
+    /// The loss at an end, from the residuals.
+    fn loss_at(&self, theta: F, end: End) -> Result<F, Spill<F>>
+        requires view { IsView F.value self.now }
+        ensures exact { let p = sample_at F.value self.now in let b = coefficient p (rows_at F.value self.now) (entries_at F.value self.now) in
+            IfOk result (λ r. rational (F.value r) ≡ loss p (rational (F.value theta)) b) }
+        ensures spill { let p = sample_at F.value self.now in let at = rows_at F.value self.now in let a = entries_at F.value self.now in
+            IfErr result (IsEndSpill F.value F.range p at a (end_number end) (rational (F.value theta))) }
+    {
+        let rows = self.tableau.problem().rows.as_slice().len() as u32;
+        let mut total = F::zero();
+        for row in 0..rows {
+            let priced = self.price(row, theta)?;
+            let site = Site::new(Quantity::Loss, end.number(), 0, row);
+            total = plus_product(site, total, priced.cost, priced.size)?;
+        }
+        Ok(total)
+    }
+
     /// What stands at the end theta; `sorted` has the rows of the basis, ascending.
     fn end_at(&self, sorted: &[u32], theta: F, end: End) -> Result<Ended<F>, Short<F>>
         requires view { IsView F.value self.now }
         requires members { (k : ℕ) → k < length sorted.now → Contains self.now.tableau.now.rows (slice_index sorted.now k) }
-        ensures ended { IfOk result (IsEnded F.value (place F.value self.now.tableau.now) self.now.solution.now.coef (rational (F.value theta)) sorted.now) }
+        ensures ended { IfOk result (IsEnded F.value (place F.value self.now.tableau.now) (rational (F.value theta)) sorted.now) }
         ensures spill { IfErr result (IsShortOf (IsEndedSpill F.value F.range self.now (rational (F.value theta)) end)) }
     {
         let solution = self.solution;
@@ -101,8 +127,7 @@ impl<'a, F: Exact> BasisView<'a, F> {
         )?;
         let rows = self.tableau.basis().rows.as_slice();
         let basic = by_row(self.tableau.alloc(), rows, sorted, duals.as_slice())?;
-        let coef = solution.coef.as_slice();
-        let loss = end_loss(self.tableau.problem(), coef, theta, end)?;
+        let loss = self.loss_at(theta, end)?;
         Ok(Ended { basic, loss })
     }
 
@@ -111,8 +136,8 @@ impl<'a, F: Exact> BasisView<'a, F> {
     pub(crate) fn ends_at(&self, sorted: &[u32], from: F, to: F) -> Result<Ends<F>, Short<F>>
         requires view { IsView F.value self.now }
         requires members { (k : ℕ) → k < length sorted.now → Contains self.now.tableau.now.rows (slice_index sorted.now k) }
-        ensures low { IfOk result (λ ends. IsEnded F.value (place F.value self.now.tableau.now) self.now.solution.now.coef (rational (F.value from)) sorted.now ends.low) }
-        ensures high { IfOk result (λ ends. IsEnded F.value (place F.value self.now.tableau.now) self.now.solution.now.coef (rational (F.value to)) sorted.now ends.high) }
+        ensures low { IfOk result (λ ends. IsEnded F.value (place F.value self.now.tableau.now) (rational (F.value from)) sorted.now ends.low) }
+        ensures high { IfOk result (λ ends. IsEnded F.value (place F.value self.now.tableau.now) (rational (F.value to)) sorted.now ends.high) }
         ensures refused { let p = sample_at F.value self.now in let at = rows_at F.value self.now in let a = entries_at F.value self.now in
             (hi : ℚ) → IsSegmentEnd p at a (rational (F.value from)) hi (rational (F.value to))
             → IfErr result (IsShortOf (IsStaySpill F.value F.range p at a (rational (F.value from)) hi)) }

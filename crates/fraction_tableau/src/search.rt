@@ -44,11 +44,7 @@ fn pass<F: Exact>(line: &Line<F>, mover: Mover<F>, slope: F, passed: u32) -> Res
 }
 
 /// The row that enters: the one that takes the slope, which is negative, from below 0.
-pub fn entering<F: Exact>(
-    line: &Line<F>,
-    heap: &mut [Mover<F>],
-    slope: F,
-) -> Result<u32, Short<F>>
+pub fn entering<F: Exact>(line: &Line<F>, heap: &mut [Mover<F>], slope: F) -> Result<u32, Short<F>>
     requires descent { IsDescent F.value line.now }
     requires movers { AreMovers F.value line.now heap.old }
     requires slope { rational (F.value slope) ≡ first_slope F.value line.now }

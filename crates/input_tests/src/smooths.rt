@@ -311,7 +311,12 @@ fn lasso(alloc: Global, columns: u32, first: u32) -> Result<String, Fail> {
 #[test]
 fn rows_of_single_coefficients(rt: HostRuntime) -> Result<(), Fail> {
     let told = lasso(rt.alloc(), 3, 1)?;
-    expect_answer(&rt, told.as_str(), " 2: 0 1 0 2: 0 0 1", "from the second on");
+    expect_answer(
+        &rt,
+        told.as_str(),
+        " 2: 0 1 0 2: 0 0 1",
+        "from the second on",
+    );
     let told = lasso(rt.alloc(), 2, 2)?;
     expect_answer(&rt, told.as_str(), "", "none");
     Ok(())

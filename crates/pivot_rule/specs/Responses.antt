@@ -1,4 +1,4 @@
--- Law. Residuals for responses other than those of the problem. Each entry of a perturbed residual is one:
+-- Stated. Residuals for responses other than those of the problem. Each entry of a perturbed residual is one:
 -- the first for the problem's responses, and the one of row m for a response of 1 at row m alone.
 use Rattle.std.specs.Prelude.{ℕ, zero, suc, ◌==◌, if◌then◌else◌}
 use Rattle.exact_algebra.specs.Rational.{ℚ, ◌-ℚ◌, ◌*ℚ◌}

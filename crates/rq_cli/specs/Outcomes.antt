@@ -13,7 +13,7 @@ use Rattle.report_text.specs.declared.report.Refusal.TheVariants.{TooLong}
 use Rattle.report_text.specs.declared.report.Report.{Report}
 use Rattle.report_text.specs.declared.report.Halt.{Halt}
 use Rattle.report_text.specs.declared.report.Halt.TheVariants as halts
-use Rattle.rq_engine.specs.Point.{IsBuilt, IsJobOf}
+use Rattle.rq_engine.specs.Built.{IsBuilt, IsJobOf}
 use Rattle.rq_cli.specs.declared.outcome.Outcome.{Outcome}
 use Rattle.rq_cli.specs.declared.outcome.Outcome.TheVariants.{Done, Refused, Usage, SourceFault, SinkFault, OutOfMemory, PivotLimit, Overflow, NotBuilt}
 

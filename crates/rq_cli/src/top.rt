@@ -1,6 +1,6 @@
 //! The top call.
 ghost use Rattle.std.specs.Prelude.{◌≡◌, ◌≢◌, ◌⊎◌, ◌<◌, ◌≤◌, map, string_bytes, IfOk, IfErr, OnOk};
-ghost use Rattle.rq_engine.specs.Point.{IsBuilt, IsJobOf};
+ghost use Rattle.rq_engine.specs.Built.{IsBuilt, IsJobOf};
 ghost use Rattle.report_text.specs.ReportText.{report_text};
 ghost use Rattle.rq_cli.specs.Outcomes.{outcome_line, stream, AskBuilt, IsAnswered, IsFault, IsRun};
 ghost use Rattle.rq_cli.specs.Steps.{outcome_of, IsWordTrouble, WasTold, WasPrinted};

@@ -1,32 +1,39 @@
--- What is told of a solution is right, and what stops it has its cause.
-use Rattle.std.proofs.Common.{◌≡◌, ◌<◌, ◌≤◌, ℕ, List, [], ◌∷◌, All, length, get_or, slice_index, Contains, inl, inr, arith, refl, sym, ap, subst, ◌∙◌}
+-- What a process leaves is right, and what stops it has its cause.
+use Rattle.std.proofs.Common.{◌≡◌, ◌<◌, ◌≤◌, ◌+◌, ℕ, suc, Bool, true, false, if◌then◌else◌, filter, slice_set, List, [], ◌∷◌, All, length, Contains, Some, get_or, inl, inr, arith, refl, sym, ap, subst, ◌∙◌}
+use Rattle.std.specs.List.{AllZip}
+use Rattle.std.proofs.lemmas.List.{length-append}
+use Rattle.std.proofs.lemmas.Option.{slice_get-get_or}
 use Rattle.std.proofs.lemmas.List.Elements.{All-cons, All-nil}
 use Rattle.exact_algebra.specs.Fraction.{Fraction, rational}
-use Rattle.exact_algebra.specs.Rational.{ℚ}
+use Rattle.exact_algebra.specs.Rational.{ℚ, ◌≤ℚ◌}
 use Rattle.frac_core.specs.declared.frac128.Frac128.{Frac128}
 use Rattle.loss_model.specs.declared.problem.Problem.{Problem}
+use Rattle.loss_model.specs.declared.process.Exchange.{Exchange}
+use Rattle.loss_model.specs.declared.process.Process.{Process}
 use Rattle.loss_model.specs.declared.process.Segment.{Segment}
 use Rattle.loss_model.specs.declared.spill.Short.{Short}
 use Rattle.loss_model.specs.declared.spill.Short.TheVariants as shorts
 use Rattle.loss_model.specs.declared.stop.Stop.{Stop}
 use Rattle.loss_model.specs.declared.stop.Stop.TheVariants as stops
-use Rattle.loss_model.specs.declared.vertex.Vertex.{Vertex}
+use Rattle.loss_model.specs.Dual.{IsDual}
 use Rattle.loss_model.specs.Problem.{sample, value_at, IsWellShaped}
 use Rattle.loss_model.specs.Quantities.{IsShortOf}
 use Rattle.loss_model.specs.Sample.{loss}
-use Rattle.loss_model.specs.Segment.{Covers, segments_of}
-use Rattle.basis_inverse.specs.Square.{inverse_entry}
-use Rattle.basis_model.specs.Basis.{IsBasis}
-use Rattle.pivot_rule.specs.Duals.{HasCosts}
-use Rattle.pivot_rule.specs.Trails.{AtBasis}
+use Rattle.loss_model.specs.Segment.{dual_at}
+use Rattle.loss_model.specs.Vertex.{IsVertexOf}
+use Rattle.loss_model.proofs.Duality.{minimum}
+use Rattle.loss_model.proofs.Intervals.{mixes}
+use Rattle.loss_model.proofs.Mixes.{minimum_between, mixed}
+use Rattle.pivot_rule.specs.Trails.{basis_after}
 use Rattle.pivot_rule.proofs.Solved.{any_default}
-use Rattle.br_pivot.specs.declared.solve.Solved.{Solved}
-use Rattle.fraction_tableau.proofs.Inverses.{basis_of, ends_of}
-use Rattle.br_pivot.specs.Solutions.{IsSolution}
-use Rattle.br_pivot.specs.Solves.{IsSolveStop}
-use Rattle.br_pivot.proofs.Limits.{solution_limited}
+use Rattle.walk_rule.specs.Stays.{Stay, AreOptimalSegments, AreSegmentsOf, IsOptimalSegment, IsSegmentOf, is_reported, stays}
+use Rattle.walk_rule.specs.WalkTrails.{theta_value}
+use Rattle.tau_process.specs.Processes.{HasResults, IsProcess}
+use Rattle.tau_process.specs.Stops.{IsLimited, IsProcessStop}
+use Rattle.rankscores.specs.declared.pair.ScorePair.{ScorePair}
+use Rattle.rankscores.specs.Scores.{IsScored}
+use Rattle.rankscores.specs.Spills.{IsScoresSpill}
 use Rattle.rq_words.specs.declared.job.FitJob.{FitJob}
-use Rattle.rq_engine.specs.declared.process.Told.{Told}
 use Rattle.report_text.specs.declared.report.Fit.{Fit}
 use Rattle.report_text.specs.declared.report.Halt.{Halt}
 use Rattle.report_text.specs.declared.report.Halt.TheVariants.{Refused, OutOfMemory, PivotLimit, Overflow, NotBuilt}
@@ -34,98 +41,146 @@ use Rattle.report_text.specs.declared.report.Refusal.TheVariants.{TooLong, Depen
 use Rattle.report_text.specs.declared.report.Refusal.TheVariants as refusals
 use Rattle.rq_input.specs.Inputs.{HasInputCause, IsInput}
 use Rattle.rq_input.specs.declared.input.Input.{Input}
-use Rattle.rankscores.specs.Spills.{IsScoresSpill}
 use Rattle.rq_engine.specs.Answers.{HasFitCause}
-use Rattle.rq_engine.specs.Fit.{IsOptimalAt, IsRightSegment, IsSegmentAt, HasResults, IsRightFit}
+use Rattle.rq_engine.specs.Fit.{IsOptimalAt, IsOptimalWithin, IsRightFit, IsRightSegment, mixed_dual}
 use Rattle.rq_engine.specs.Halts.{short_halt, stop_halt}
-use Rattle.rq_engine.specs.Point.{IsPoint}
+use Rattle.rq_engine.specs.Scored.{IsScorable}
 use Rattle.report_text.specs.ReportText.{value}
-use Rattle.rq_engine.specs.Stops.{IsVertexSpill, HasProblemCause, most}
-use Rattle.rq_engine.specs.Told.{HasTold, IsPointSegment, IsTold, IsUntold}
+use Rattle.rq_engine.specs.Stops.{IsSegmentSpill, HasProblemCause, most}
 
-all_one : {X : Type 0} (P : X → Type 0) (x : X) → P x → All P (x ∷ [])
-all_one P x h = All-cons P x [] h (All-nil P)
+-- ---- the segments
 
-module _ {F : Type 0} (value : F → Fraction) (p : Problem F) (theta : F) (s : Solved F) (h : IsSolution value p (rational (value theta)) s) where
-  is_basis : IsBasis (sample value p) (slice_index s.basis.rows) (inverse_entry value s.inverse)
-  is_basis = basis_of value p s.basis.rows s.inverse h.inverse
+-- what a test leaves of one item and what it leaves behind it
+one_count : {A : Type 0} (b : Bool) (x : A) (rest : List A) (n : ℕ) → length rest ≤ n → length (if b then x ∷ rest else rest) ≤ suc n
+one_count true x rest n h = omega (arith, h)
+one_count false x rest n h = omega (arith, h)
 
-  at_basis : (Q : (ℕ → ℕ → ℚ) → Type 0) → Q (inverse_entry value s.inverse) → AtBasis (sample value p) s.basis.rows Q
-  at_basis Q holds =
-      record { size = h.inverse.size; a = inverse_entry value s.inverse; is_basis = is_basis; ends = ends_of value p s.basis.rows s.inverse h.inverse; holds = holds }
+-- a test passes no more items than there are
+filter_count : {A : Type 0} (test : A → Bool) (xs : List A) → length (filter test xs) ≤ length xs
+filter_count test [] = omega arith
+filter_count test (x ∷ xs) = one_count (test x) x (filter test xs) (length xs) (filter_count test xs)
 
-  -- the basic rows are rows of the problem
-  pub rows_inside : All (λ i. i < length p.rows) s.vertex.basis.rows
-  rows_inside k d l =
-      let i = get_or s.vertex.basis.rows k d in
-      let there : Contains s.basis.rows i = (h.vertex.rows i).0 (k, l, any_default s.vertex.basis.rows k i d l) in
-      subst (λ n. n < length p.rows) (any_default s.basis.rows there.0 0 i there.1 ∙ there.2)
-      (is_basis.distinct.within there.0 (omega (arith, there.1, h.inverse.size)))
+module _ {F : Type 0} (value : F → Fraction) (p : Problem F) where
+  module _ (stay : Stay) (s : Segment F) (is : IsSegmentOf value p stay s) where
+    shape : IsVertexOf p s.vertex
+    shape = is.vertex.holds.0.shape
 
-  pub same_size : length s.basic ≡ length s.vertex.basis.rows
-  same_size = h.basic.size ∙ sym h.vertex.shape.size
+    -- a list of the dual values of the basic rows is as long as these
+    same_size : (basic : List F) → length basic ≡ p.columns → length basic ≡ length s.vertex.basis.rows
+    same_size basic size = size ∙ sym shape.size
 
-  module _ (told : Segment F) (is : IsPointSegment value p theta s.vertex s.basic told) where
-    -- the segment by its parts
-    abbrev made : Segment F
-    made = record { lo = theta; hi = theta; vertex = s.vertex; basic_lo = s.basic; basic_hi = s.basic; loss_lo = told.loss_lo; loss_hi = told.loss_hi }
+    -- the basic rows are rows of the problem
+    rows_inside : All (λ i. i < length p.rows) s.vertex.basis.rows
+    rows_inside k d l =
+        let i = get_or s.vertex.basis.rows k d in
+        let there : Contains stay.basis i = (is.vertex.holds.0.rows i).0 (k, l, any_default s.vertex.basis.rows k i d l) in
+        subst (λ n. n < length p.rows) (any_default stay.basis there.0 0 i there.1 ∙ there.2)
+        (is.vertex.is_basis.distinct.within there.0 (omega (arith, there.1, is.vertex.size)))
 
-    same : told ≡ made
-    same = λ i. record { lo = is.lo i; hi = is.hi i; vertex = is.vertex i; basic_lo = is.basic_lo i; basic_hi = is.basic_hi i; loss_lo = told.loss_lo; loss_hi = told.loss_hi }
-
-    optimal : (cost : F) → rational (value cost) ≡ loss (sample value p) (rational (value theta)) (value_at value s.vertex.coef) → IsOptimalAt value p s.vertex (rational (value theta)) s.basic cost
-    optimal cost lost = record { basic = same_size; minimises = h.minimises; dual = h.dual; lost = lost }
-
-    pub right_segment : IsRightSegment value p told
-    right_segment =
-        subst (IsRightSegment value p) (sym same)
-        (record { vertex = h.vertex.shape; at_lo = optimal told.loss_lo is.lost_lo; at_hi = optimal told.loss_hi is.lost_hi })
-
-    pub segment_at : IsSegmentAt value p s.basis.rows (inverse_entry value s.inverse) told
-    segment_at =
-        subst (IsSegmentAt value p s.basis.rows (inverse_entry value s.inverse)) (sym same)
-        (record { vertex = h.vertex; basic_lo = h.basic; basic_hi = h.basic })
-
-    pub covers_point : Covers (length p.rows) (rational (value theta)) (rational (value theta)) (segments_of value p (told ∷ []))
-    covers_point =
+    scorable : IsScorable p s
+    scorable =
         record {
-          some = omega arith;
-          first = ap (λ t. rational (value t)) is.lo;
-          last = ap (λ t. rational (value t)) is.hi;
-          joined = λ j l. absurd (omega arith);
-          same = λ j i l m. absurd (omega arith);
-          proper = λ j l. inr (refl, refl);
+          vertex = shape;
+          inside = rows_inside;
+          lo = same_size s.basic_lo is.vertex.holds.1.size;
+          hi = same_size s.basic_hi is.vertex.holds.2.size;
         }
 
--- an operation of a score of such a segment is one of the vertex
-pub scores_untold : {F : Type 0} (value : F → Fraction) (p : Problem F) (theta : F) (v : Vertex F) (basic : List F) (s : Segment F) → IsPointSegment value p theta v basic s → (range : ℕ) (short : Short F)
-    → IsShortOf (IsScoresSpill value range p (length p.rows) 0 s) short → IsShortOf (IsUntold value p theta v basic range) short
-scores_untold {F} value p theta v basic s is range shorts.OutOfMemory h = tt
-scores_untold {F} value p theta v basic s is range (shorts.Overflow spill) h = inr (subst (λ t. IsScoresSpill value range p (length p.rows) 0 t spill) same h)
-  where
-    same : s ≡ record { lo = theta; hi = theta; vertex = v; basic_lo = basic; basic_hi = basic; loss_lo = s.loss_lo; loss_hi = s.loss_hi }
-    same = λ i. record { lo = is.lo i; hi = is.hi i; vertex = is.vertex i; basic_lo = is.basic_lo i; basic_hi = is.basic_hi i; loss_lo = s.loss_lo; loss_hi = s.loss_hi }
+    module _ (optimal : IsOptimalSegment value p s) where
+      abbrev coefficients : ℕ → ℚ
+      coefficients = value_at value s.vertex.coef
+
+      at_lo : IsOptimalAt value p s.vertex (rational (value s.lo)) s.basic_lo s.loss_lo
+      at_lo =
+          record {
+            basic = same_size s.basic_lo is.vertex.holds.1.size;
+            minimises = minimum (sample value p) (rational (value s.lo)) coefficients _ optimal.at_lo;
+            dual = optimal.at_lo;
+            lost = is.loss_lo ∙ ap (λ t. loss (sample value p) t coefficients) (sym is.lo);
+          }
+
+      at_hi : IsOptimalAt value p s.vertex (rational (value s.hi)) s.basic_hi s.loss_hi
+      at_hi =
+          record {
+            basic = same_size s.basic_hi is.vertex.holds.2.size;
+            minimises = minimum (sample value p) (rational (value s.hi)) coefficients _ optimal.at_hi;
+            dual = optimal.at_hi;
+            lost = is.loss_hi ∙ ap (λ t. loss (sample value p) t coefficients) (sym is.hi);
+          }
+
+      within : 1 ≤ (value s.lo).den → 1 ≤ (value s.hi).den → (theta : Fraction) → 1 ≤ theta.den → rational (value s.lo) ≤ℚ rational theta → rational theta ≤ℚ rational (value s.hi)
+          → IsOptimalWithin value p s (rational theta)
+      within low high theta positive after before =
+          let parts = mixes (value s.lo) (value s.hi) theta low high positive after before in
+          let at_mix = mixed (sample value p) (rational (value s.lo)) (rational (value s.hi)) coefficients (dual_at value p s.vertex s.basic_lo s.lo) (dual_at value p s.vertex s.basic_hi s.hi) parts.0 parts.1 parts.2 optimal.at_lo optimal.at_hi in
+          record {
+            minimises = minimum_between (sample value p) (rational (value s.lo)) (rational (value s.hi)) (rational theta) coefficients _ _ optimal.at_lo optimal.at_hi after before;
+            m = parts.0;
+            n = parts.1;
+            some = parts.2;
+            mixed = parts.3;
+            dual = subst (λ t. IsDual (sample value p) t coefficients (mixed_dual value p s parts.0 parts.1)) (sym parts.3) at_mix;
+          }
+
+      right_segment : ((x : F) → 1 ≤ (value x).den) → IsRightSegment value p s
+      right_segment positive = record { vertex = shape; at_lo = at_lo; at_hi = at_hi; within = within (positive s.lo) (positive s.hi) }
+
+  -- all of them
+  pub right_segments : ((x : F) → 1 ≤ (value x).den) → (stays : List Stay) (segments : List (Segment F)) → AreSegmentsOf value p stays segments → AreOptimalSegments value p segments → All (IsRightSegment value p) segments
+  right_segments positive [] [] are optimal = All-nil (IsRightSegment value p)
+  right_segments positive [] (s ∷ segments) are optimal = absurd are
+  right_segments positive (x ∷ stays) [] are optimal = absurd are
+  right_segments positive (x ∷ stays) (s ∷ segments) are optimal =
+      All-cons (IsRightSegment value p) s segments (right_segment x s are.0 optimal.0 positive) (right_segments positive stays segments are.1 optimal.1)
+
+  pub scorable_segments : (stays : List Stay) (segments : List (Segment F)) → AreSegmentsOf value p stays segments → All (IsScorable p) segments
+  scorable_segments [] [] are = All-nil (IsScorable p)
+  scorable_segments [] (s ∷ segments) are = absurd are
+  scorable_segments (x ∷ stays) [] are = absurd are
+  scorable_segments (x ∷ stays) (s ∷ segments) are = All-cons (IsScorable p) s segments (scorable x s are.0) (scorable_segments stays segments are.1)
+
+  segment_count : (stays : List Stay) (segments : List (Segment F)) → AreSegmentsOf value p stays segments → length segments ≡ length stays
+  segment_count [] [] are = refl
+  segment_count [] (s ∷ segments) are = absurd are
+  segment_count (x ∷ stays) [] are = absurd are
+  segment_count (x ∷ stays) (s ∷ segments) are = ap suc (segment_count stays segments are.1)
+
+  stay_count : (hi from : ℚ) (basis : List ℕ) (steps : List (Exchange F)) → length (stays (theta_value value) hi from basis steps) ≡ suc (length steps)
+  stay_count hi from basis [] = refl
+  stay_count hi from basis (s ∷ steps) = ap suc (stay_count hi (rational (value s.theta)) (slice_set basis s.position s.row) steps)
+
+  -- there is at most one segment more than steps
+  pub few_segments : (lo hi : ℚ) (q : Process F) → HasResults value p lo hi q → length q.segments ≤ length q.trail.steps + 1
+  few_segments lo hi q h =
+      let start = basis_after h.lawful.first h.lawful.solving in
+      let all = stays (theta_value value) hi lo start h.lawful.walking in
+      omega (
+        arith,
+        segment_count (filter (is_reported lo hi) all) q.segments h.segments,
+        filter_count (is_reported lo hi) all,
+        stay_count hi lo start h.lawful.walking,
+        ap length h.lawful.all,
+        length-append h.lawful.solving h.lawful.walking,
+      )
+
+  pub process_scorable : (lo hi : ℚ) (q : Process F) → HasResults value p lo hi q → All (IsScorable p) q.segments
+  process_scorable lo hi q h =
+      scorable_segments (filter (is_reported lo hi) (stays (theta_value value) hi lo (basis_after h.lawful.first h.lawful.solving) h.lawful.walking)) q.segments h.segments
+
+  pub process_right : ((x : F) → 1 ≤ (value x).den) → (lo hi : ℚ) (q : Process F) → IsProcess value p lo hi q → All (IsRightSegment value p) q.segments
+  process_right positive lo hi q h =
+      let results = h.results in
+      right_segments positive (filter (is_reported lo hi) (stays (theta_value value) hi lo (basis_after results.lawful.first results.lawful.solving) results.lawful.walking))
+      q.segments results.segments h.optimal
 
 -- ---- the fit
 
-module _ (job : FitJob) (p : Problem Frac128) (s : Solved Frac128) (told : Told Frac128) (point : IsPoint job) (shaped : IsWellShaped p)
-    (h : IsSolution value p (rational (value job.lo)) s) (costs : HasCosts (sample value p) (rational (value job.lo)))
-    (short : length s.trail.steps ≤ job.limit) (is : IsTold value p job.lo s.vertex s.basic told) where
-  results : HasResults value p (rational (value job.lo)) job.limit (record { segments = told.segment ∷ []; trail = s.trail })
-  results =
-      record {
-        basis = s.basis.rows;
-        lawful = h.lawful;
-        short = short;
-        one = refl;
-        last = at_basis value p job.lo s h _ (h.stop, all_one (IsSegmentAt value p s.basis.rows (inverse_entry value s.inverse)) told.segment (segment_at value p job.lo s h told.segment is.segment));
-        unlimited = solution_limited value p (rational (value job.lo)) job.limit s costs h short;
-      }
+module _ (job : FitJob) (p : Problem Frac128) (q : Process Frac128) (scores : List (List (ScorePair Frac128))) where
+  abbrev lo : ℚ
+  lo = rational (value job.lo)
 
-  covers : Covers (length p.rows) (rational (value job.lo)) (rational (value job.hi)) (segments_of value p (told.segment ∷ []))
-  covers =
-      subst (λ t. Covers (length p.rows) (rational (value job.lo)) (rational (value t)) (segments_of value p (told.segment ∷ []))) (sym point.same)
-      (covers_point value p job.lo s h told.segment is.segment)
+  abbrev hi : ℚ
+  hi = rational (value job.hi)
 
   -- a fit by its parts
   abbrev whole_fit : Fit → Fit
@@ -136,18 +191,22 @@ module _ (job : FitJob) (p : Problem Frac128) (s : Solved Frac128) (told : Told 
         names = fit.names;
         data_rows = length p.rows;
         problem = p;
-        process = record { segments = told.segment ∷ []; trail = s.trail };
-        scores = told.scores ∷ [];
+        process = q;
+        scores = scores;
       }
 
-  pub right_fit : (fit : Fit) → HasTold told s.trail fit → fit.problem ≡ p → fit.data_rows ≡ length p.rows → IsRightFit value job fit
-  right_fit fit has problem data_rows =
+  pub right_fit : IsWellShaped p → IsProcess value p lo hi q → length q.trail.steps ≤ job.limit → ¬ IsLimited {F = Frac128} value (sample value p) lo hi job.limit
+      → AllZip (IsScored value p (length p.rows)) q.segments scores
+      → (fit : Fit) → fit.process ≡ q → fit.scores ≡ scores → fit.problem ≡ p → fit.data_rows ≡ length p.rows → IsRightFit value job fit
+  right_fit shaped is short unlimited scored fit process told problem data_rows =
       subst (IsRightFit value job) (sym same) (record {
         shaped = shaped;
-        covers = covers;
-        segments = all_one (IsRightSegment value p) told.segment (right_segment value p job.lo s h told.segment is.segment);
-        scores = (is.scores, tt);
-        results = results;
+        covers = is.covers;
+        segments = process_right value p (λ x. x.within.positive) lo hi q is;
+        scores = scored;
+        results = is.results;
+        short = short;
+        unlimited = unlimited;
       })
     where
       same : fit ≡ whole_fit fit
@@ -157,28 +216,29 @@ module _ (job : FitJob) (p : Problem Frac128) (s : Solved Frac128) (told : Told 
         names = fit.names;
         data_rows = data_rows i;
         problem = problem i;
-        process = record { segments = has.segments i; trail = has.trail i };
-        scores = has.scores i;
+        process = process i;
+        scores = told i;
       }
 
 -- ---- stops
 
-pub stop_cause : (job : FitJob) (p : Problem Frac128) (stop : Stop Frac128) → IsSolveStop value most p (rational (value job.lo)) job.limit stop → HasProblemCause job p (stop_halt stop)
+pub stop_cause : (job : FitJob) (p : Problem Frac128) (stop : Stop Frac128) → IsProcessStop value most p (rational (value job.lo)) (rational (value job.hi)) job.limit stop → HasProblemCause job p (stop_halt stop)
 stop_cause job p stops.OutOfMemory h = tt
 stop_cause job p (stops.PivotLimit limit trail) h = h
 stop_cause job p (stops.Overflow trail spill) h = inl h
 stop_cause job p (stops.Dependent combination) h = h
 
-pub short_cause : (job : FitJob) (p : Problem Frac128) (s : Solved Frac128) → IsSolution value p (rational (value job.lo)) s → length s.trail.steps ≤ job.limit → (short : Short Frac128) → IsShortOf (IsUntold value p job.lo s.vertex s.basic most) short → HasProblemCause job p (short_halt short s.trail)
-short_cause job p s h short shorts.OutOfMemory untold = tt
-short_cause job p s h short (shorts.Overflow spill) untold =
-    inr (record {
-      basis = s.basis.rows;
-      lawful = h.lawful;
-      short = short;
-      here = at_basis value p job.lo s h (λ a. IsVertexSpill value most p (rational (value job.lo)) s.basis.rows a spill)
-          (record { stop = h.stop; vertex = s.vertex; basic = s.basic; is = h.vertex; duals = h.basic; operation = untold });
-    })
+pub short_cause : (job : FitJob) (p : Problem Frac128) (q : Process Frac128) → HasResults value p (rational (value job.lo)) (rational (value job.hi)) q → length q.trail.steps ≤ job.limit → (short : Short Frac128)
+    → IsShortOf (IsSegmentSpill value most p q.segments) short → HasProblemCause job p (short_halt short q.trail)
+short_cause job p q results short shorts.OutOfMemory unscored = tt
+short_cause job p q results short (shorts.Overflow spill) unscored = inr (record { segments = q.segments; results = results; short = short; operation = unscored })
+
+-- an operation of the scores of the segment at k is one of the segments
+pub segment_unscored : {F : Type 0} (value : F → Fraction) (range : ℕ) (p : Problem F) (segments : List (Segment F)) (k : ℕ) (s : Segment F) → k < length segments → s ≡ get_or segments k s → (short : Short F)
+    → IsShortOf (IsScoresSpill value range p (length p.rows) k s) short → IsShortOf (IsSegmentSpill value range p segments) short
+segment_unscored value range p segments k s within here shorts.OutOfMemory unscored = tt
+segment_unscored value range p segments k s within here (shorts.Overflow spill) unscored =
+    record { number = k; segment = s; there = slice_get-get_or segments k s within ∙ ap Some (sym here); operation = unscored }
 
 -- why there is no input is why there is no fit
 pub input_cause : (job : FitJob) (bytes : List ℕ) (halt : Halt) → HasInputCause job bytes halt → HasFitCause job bytes halt

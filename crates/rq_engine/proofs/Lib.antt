@@ -1,3 +1,4 @@
+pub mod Asked
 pub mod Costs
 pub mod Fits
-pub mod Points
+pub mod Scores

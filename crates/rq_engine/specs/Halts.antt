@@ -17,7 +17,7 @@ stop_halt (stops.PivotLimit limit trail) = PivotLimit Process limit trail
 stop_halt (stops.Overflow trail spill) = Overflow Process trail spill
 stop_halt (stops.Dependent combination) = Refused (Dependent combination)
 
--- after the solve the trail is whole
+-- after the walk the trail is whole
 abbrev pub short_halt : Short Frac128 → Trail Frac128 → Halt
 short_halt shorts.OutOfMemory trail = OutOfMemory
 short_halt (shorts.Overflow spill) trail = Overflow Process trail spill

@@ -1,6 +1,6 @@
 pub mod Answers
+pub mod Built
 pub mod Fit
 pub mod Halts
-pub mod Point
+pub mod Scored
 pub mod Stops
-pub mod Told

@@ -1,49 +1,43 @@
 -- Stated. Why a problem has no fit.
-use Rattle.std.specs.Prelude.{◌≡◌, ◌⊎◌, ℕ, ◌^◌, ◌-◌, ◌≤◌, List, length, slice_index, ⊤}
+use Rattle.std.specs.Prelude.{◌≡◌, ◌⊎◌, ℕ, ◌^◌, ◌-◌, ◌≤◌, List, length, slice_get, Some, ⊤}
 use Rattle.exact_algebra.specs.Fraction.{Fraction, rational}
 use Rattle.exact_algebra.specs.Rational.{ℚ}
 use Rattle.frac_core.specs.declared.frac128.Frac128.{Frac128}
 use Rattle.loss_model.specs.declared.problem.Problem.{Problem}
+use Rattle.loss_model.specs.declared.process.Segment.{Segment}
 use Rattle.loss_model.specs.declared.process.Trail.{Trail}
 use Rattle.loss_model.specs.declared.spill.Spill.{Spill}
-use Rattle.loss_model.specs.declared.vertex.Vertex.{Vertex}
-use Rattle.loss_model.specs.Problem.{sample, value_at}
-use Rattle.loss_model.specs.Spill.{IsLossSpill}
-use Rattle.loss_model.specs.StartStop.{IsStartSpill, IsDependent}
-use Rattle.pivot_rule.specs.Results.{IsVertexAt, AreBasicDuals}
-use Rattle.pivot_rule.specs.Steps.{HasNoNegativeSlope}
-use Rattle.pivot_rule.specs.Trails.{AtBasis, IsSolvingTrail, ReachesLimit}
-use Rattle.br_pivot.specs.Solves.{IsSolveSpill}
+use Rattle.loss_model.specs.Problem.{sample}
+use Rattle.loss_model.specs.StartStop.{IsDependent}
+use Rattle.walk_rule.specs.WalkTrails.{ReachesProcessLimit}
+use Rattle.tau_process.specs.Processes.{HasResults}
+use Rattle.tau_process.specs.Stops.{IsProcessSpill}
 use Rattle.rq_words.specs.declared.job.FitJob.{FitJob}
 use Rattle.report_text.specs.declared.report.Refusal.TheVariants.{Dependent}
 use Rattle.report_text.specs.declared.report.Halt.{Halt}
 use Rattle.report_text.specs.declared.report.Halt.TheVariants.{Refused, OutOfMemory, PivotLimit, Overflow}
 use Rattle.report_text.specs.ReportText.{value}
-use Rattle.rankscores.specs.Spills.{IsEndSpill}
+use Rattle.rankscores.specs.Spills.{IsScoresSpill}
 
-module _ {F : Type 0} (value : F → Fraction) (range : ℕ) (p : Problem F) (theta : ℚ) where
-  -- at the vertex of a basis an operation of its loss overflows, or one of a rankscore
-  pub record IsVertexSpill (basis : List ℕ) (a : ℕ → ℕ → ℚ) (spill : Spill F) : Type 0 where
-    pub stop : HasNoNegativeSlope (sample value p) (slice_index basis) a theta
-    pub vertex : Vertex F
-    pub basic : List F
-    pub is : IsVertexAt value p basis a vertex
-    pub duals : AreBasicDuals value p theta basis a vertex basic
-    pub operation : IsLossSpill value range (sample value p) theta (value_at value vertex.coef) spill
-        ⊎ (IsEndSpill value range p (length p.rows) 0 0 vertex basic theta spill ⊎ IsEndSpill value range p (length p.rows) 0 1 vertex basic theta spill)
+module _ {F : Type 0} (value : F → Fraction) (range : ℕ) (p : Problem F) where
+  -- an operation of a rankscore of one of the segments overflows; its site has the segment's number
+  pub record IsSegmentSpill (segments : List (Segment F)) (spill : Spill F) : Type 0 where
+    pub number : ℕ
+    pub segment : Segment F
+    pub there : slice_get segments number ≡ Some segment
+    pub operation : IsScoresSpill value range p (length p.rows) number segment spill
 
-  -- after the solve: the lawful trail leads, within the limit, to an optimal basis with such a vertex
-  pub record IsResultSpill (limit : ℕ) (trail : Trail F) (spill : Spill F) : Type 0 where
-    pub basis : List ℕ
-    pub lawful : IsSolvingTrail value (sample value p) theta trail basis
+  -- after the walk: the lawful trail is at its end within the limit, and such an operation is of its segments
+  pub record IsResultSpill (lo hi : ℚ) (limit : ℕ) (trail : Trail F) (spill : Spill F) : Type 0 where
+    pub segments : List (Segment F)
+    pub results : HasResults value p lo hi (record { segments = segments; trail = trail })
     pub short : length trail.steps ≤ limit
-    pub here : AtBasis (sample value p) basis (λ a. IsVertexSpill basis a spill)
+    pub operation : IsSegmentSpill segments spill
 
-  -- in the start, at the last basis of the solve, or after the solve
-  abbrev pub IsFitSpill : ℕ → Trail F → Spill F → Type 0
-  IsFitSpill limit trail spill =
-      (IsStartSpill value range p trail spill ⊎ IsSolveSpill value range p theta limit trail spill)
-      ⊎ IsResultSpill limit trail spill
+  -- in the start, in the solve at lo, in the walk, or after it
+  abbrev pub IsFitSpill : ℚ → ℚ → ℕ → Trail F → Spill F → Type 0
+  IsFitSpill lo hi limit trail spill =
+      IsProcessSpill value range p lo hi limit trail spill ⊎ IsResultSpill lo hi limit trail spill
 
 -- the greatest number of 128 bits with a sign
 abbrev pub most : ℕ
@@ -56,7 +50,7 @@ HasProblemCause job p (Refused (Dependent combination)) = IsDependent value p co
 HasProblemCause job p (Refused _) = ⊥
 HasProblemCause job p OutOfMemory = ⊤
 HasProblemCause job p (PivotLimit place limit trail) =
-    (limit ≡ job.limit) × ReachesLimit value (sample value p) (rational (value job.lo)) job.limit trail
+    (limit ≡ job.limit) × ReachesProcessLimit value (sample value p) (rational (value job.lo)) (rational (value job.hi)) job.limit trail
 HasProblemCause job p (Overflow place trail spill) =
-    IsFitSpill value most p (rational (value job.lo)) job.limit trail spill
+    IsFitSpill value most p (rational (value job.lo)) (rational (value job.hi)) job.limit trail spill
 HasProblemCause job p _ = ⊥

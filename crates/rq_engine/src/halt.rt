@@ -25,7 +25,7 @@ pub(crate) fn stop_halt(stop: Stop<Frac128>) -> Halt
     }
 }
 
-/// The halt after the solve, whose trail is whole.
+/// The halt after the walk, whose trail is whole.
 pub(crate) fn short_halt(short: Short<Frac128>, trail: Trail<Frac128>) -> Halt
     ensures { result ≡ short_halt_of short trail }
 {

@@ -2,9 +2,9 @@
 ghost use Rattle.std.specs.Prelude.{◌≤◌, ◌^◌, ℕ, List, length, IfOk, IfErr};
 ghost use Rattle.report_text.specs.ReportText.{IsPrintable};
 ghost use Rattle.rq_engine.specs.Answers.{HasCause, IsRight};
-ghost use Rattle.rq_engine.specs.Point.{IsBuilt, IsJobOf};
+ghost use Rattle.rq_engine.specs.Built.{IsBuilt, IsJobOf};
 
-use crate::point::point_of;
+use crate::built::built_fit;
 use crate::process::fit_bytes;
 use report_text::{Halt, Report};
 use rq_words::Job;
@@ -17,8 +17,8 @@ use std::thread::Threads;
 /// the design, or of its problem; or `Dependent`, only where the columns of the problem are
 /// dependent. `NotBuilt` has part 3, exactly where the formula has a smooth. `PivotLimit` comes only
 /// where the lawful trail of the problem has as many pivots as the job's limit says and one more is
-/// left, and `Overflow` only where an operation of the solve, of the loss or of a rankscore
-/// overflows. `OutOfMemory` may come at any step.
+/// left, and `Overflow` only where an operation of the solve at the low end, of the walk or of a
+/// rankscore overflows. `OutOfMemory` may come at any step.
 pub fn answer<R: Threads + Sync>(
     _rt: &R,
     alloc: Global,
@@ -32,7 +32,7 @@ pub fn answer<R: Threads + Sync>(
     ensures printable { IfOk result IsPrintable }
     ensures cause { IfErr result (HasCause job.now bytes.now) }
 {
-    let fit_job = point_of(job).unwrap();
+    let fit_job = built_fit(job).unwrap();
     match fit_bytes(alloc, fit_job, bytes) {
         Ok(fit) => Ok(Report::Process(fit)),
         Err(halt) => Err(halt),

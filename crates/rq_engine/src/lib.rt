@@ -4,15 +4,15 @@
 //! with its cause, as `specs/Answers.antt` defines both. `is_built` tells which jobs this version
 //! does; each has a module of its own.
 //!
-//! It stands on `rq_input` for what the bytes say, on `br_pivot` for the solve, on `loss_model` for
-//! losses, on `rankscores`, and on `report_text` for the types that it answers with.
+//! It stands on `rq_input` for what the bytes say, on `tau_process` for the segments and the trail, on
+//! `rankscores`, and on `report_text` for the types that it answers with.
 //! Its tests are those of whole runs, in the crate `run_tests`.
 #![tactic(auto)]
 
+mod built;
 mod halt;
 mod job;
-mod point;
 mod process;
 
+pub use built::is_built;
 pub use job::answer;
-pub use point::is_built;

@@ -8,6 +8,8 @@ mod helpers;
 #[cfg(test)]
 mod medians;
 #[cfg(test)]
+mod ranges;
+#[cfg(test)]
 mod rows;
 #[cfg(test)]
 mod stops;

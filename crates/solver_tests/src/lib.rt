@@ -1,5 +1,6 @@
 //! Tests of the solver: inverses of bases (`basis_inverse`), the order of ties (`lex_rule`), basic
-//! solutions (`basic_solution`), and pivots at one quantile (`br_pivot`).
+//! solutions (`basic_solution`), pivots at one quantile (`br_pivot`), and walks over a range
+//! (`tau_process`).
 //!
 //! Cases worked by hand stand beside drawn ones, which are compared with a plain computation that is
 //! no part of the program.
@@ -17,3 +18,5 @@ mod least_loss;
 mod pivots;
 #[cfg(test)]
 mod ties;
+#[cfg(test)]
+mod walks;

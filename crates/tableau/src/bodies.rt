@@ -12,8 +12,8 @@ ghost use Rattle.tableau_model.specs.WalkAnswers.{IsOptimalFrom, IsWalkingAnswer
 ghost use Rattle.tableau.specs.Bodies.{place_of, IsTaken};
 
 use basis_inverse::Inverse;
-use fraction_tableau::FractionTableau;
 use frac_core::Exact;
+use fraction_tableau::FractionTableau;
 use loss_model::{Basis, Exchange, Segment};
 use tableau_model::{Fitted, Refused, Step};
 

@@ -12,8 +12,8 @@ ghost use Rattle.tableau.specs.Bodies.{place_of};
 ghost use Rattle.tableau.specs.Solving.{IsBegun, IsUnderway, IsAdvance, IsAdvanceOrEnd, IsRefusal, IsSolved, IsSolution, IsHalted, IsHaltOf};
 
 use crate::bodies::Tableau;
-use fraction_tableau::FractionTableau;
 use frac_core::{Exact, List, OutOfMemory};
+use fraction_tableau::FractionTableau;
 use loss_model::{Exchange, Problem, Stop, Trail};
 use std::alloc::Global;
 use tableau_model::{Fitted, Refusal, Refused, Step};
@@ -36,8 +36,13 @@ pub struct Solution<'a, F: Exact> {
 #[derive(Drop)]
 pub enum Halt<F> {
     OutOfMemory,
-    PivotLimit { trail: Trail<F> },
-    Refused { trail: Trail<F>, refusal: Refusal<F> },
+    PivotLimit {
+        trail: Trail<F>,
+    },
+    Refused {
+        trail: Trail<F>,
+        refusal: Refusal<F>,
+    },
 }
 
 /// The rows of a basis as a start in which every position holds one.
@@ -151,7 +156,11 @@ pub fn solve_over<'a, F: Exact>(
 }
 
 /// The solution at a basis at which no slope is negative.
-fn finish<'a, F: Exact>(at: Reached<'a, F>, theta: F, limit: u32) -> Result<Solution<'a, F>, Halt<F>>
+fn finish<'a, F: Exact>(
+    at: Reached<'a, F>,
+    theta: F,
+    limit: u32,
+) -> Result<Solution<'a, F>, Halt<F>>
     requires costs { HasCosts (sample_of F.value (place_of F.value at.tableau)) (rational (F.value theta)) }
     requires solved { IsSolved F.value (place_of F.value at.tableau).task (rational (F.value theta)) limit at }
     ensures solution { IfOk result (IsSolution F.value (place_of F.value at.entry.tableau).task (rational (F.value theta)) limit) }

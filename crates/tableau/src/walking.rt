@@ -77,7 +77,12 @@ impl<'a, F: Exact> Walk<'a, F> {
         ensures refused { IfErr result (IsRefusedOf (IsRefusal F.value F.range (here_of F.value self.old) (walking (now_of F.value self.old) (rational (F.value hi))) self.old.reached.trail self.new.reached.trail)) }
     {
         let _hi = hi;
-        match put_segment(&self.reached.tableau, &mut self.segments, self.now, step.theta) {
+        match put_segment(
+            &self.reached.tableau,
+            &mut self.segments,
+            self.now,
+            step.theta,
+        ) {
             Ok(()) => {}
             Err(refused) => return Err(refused),
         }

@@ -1,4 +1,4 @@
--- Inner. What a process over a range of quantiles gives (Koenker and d'Orey 1987, AS 229).
+-- Stated. What a process over a range of quantiles gives (Koenker and d'Orey 1987, AS 229).
 use Rattle.std.specs.Prelude.{ℕ, List, length, filter}
 use Rattle.exact_algebra.specs.Fraction.{Fraction}
 use Rattle.exact_algebra.specs.Rational.{ℚ}

@@ -1,4 +1,4 @@
--- Inner. Why a process over a range of quantiles stops.
+-- Stated. Why a process over a range of quantiles stops.
 use Rattle.std.specs.Prelude.{◌≡◌, ◌⊎◌, ℕ, ◌≤◌, List, length, slice_index}
 use Rattle.exact_algebra.specs.Fraction.{Fraction}
 use Rattle.exact_algebra.specs.Rational.{ℚ}

@@ -1,6 +1,5 @@
--- Law. What the columns and the penalty rows of smooths are for (Koenker, Ng and Portnoy 1994): the columns give a piecewise
--- linear function's value at a record's number, and the penalty of a coefficient vector is lambda times the total variation
--- of that function's slope.
+-- Law. What the penalty rows of smooths are for (Koenker, Ng and Portnoy 1994): the penalty of a coefficient vector is
+-- lambda times the total variation of the slope of the piecewise linear function through the knots.
 use Rattle.std.specs.Prelude.{◌≡◌, All, ℕ, zero, suc, ◌+◌, ◌-◌, Bool, true, false, List, [], ◌∷◌, length, map, pos}
 use Rattle.exact_algebra.specs.Rational.{ℚ, ◌+ℚ◌, ◌-ℚ◌, ◌*ℚ◌, inverse, whole, ◌≤ℚ◌}
 use Rattle.exact_algebra.specs.RationalSums.{sum_ℚ}

@@ -1,4 +1,4 @@
--- Law. Dual values over a parameter t that rises. The rows, by their dual values, weigh `right k * t` in
+-- Stated. Dual values over a parameter t that rises. The rows, by their dual values, weigh `right k * t` in
 -- column k.
 --
 -- Over quantiles the parameter is the quantile of the costs, and no column is to weigh anything. For a

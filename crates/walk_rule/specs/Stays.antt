@@ -1,4 +1,4 @@
--- Law. What a walk over quantiles leaves: the bases at which it stood, and the segments of those whose ends
+-- Stated. What a walk over quantiles leaves: the bases at which it stood, and the segments of those whose ends
 -- differ.
 use Rattle.std.specs.Prelude.{◌≡◌, ℕ, Bool, true, List, [], ◌∷◌, slice_set, if◌then◌else◌}
 use Rattle.std.specs.Ordering.{is_lt}

@@ -1,4 +1,4 @@
--- Inner. The operations of a walk where one overflows, over quantiles and of a tested value: their operands
+-- Stated. The operations of a walk where one overflows, over quantiles and of a tested value: their operands
 -- at the basis and the value at which the walk stands.
 use Rattle.std.specs.Prelude.{◌≡◌, ◌≢◌, ◌⊎◌, ℕ, ◌<◌, Bool, true, pos}
 use Rattle.exact_algebra.specs.Fraction.{Fraction}

@@ -1,4 +1,4 @@
--- Law. Lawful walks, and the lawful trails of a process and of an interval (Koenker and d'Orey 1987, AS 229).
+-- Stated. Lawful walks, and the lawful trails of a process and of an interval (Koenker and d'Orey 1987, AS 229).
 use Rattle.std.specs.Prelude.{◌≡◌, ◌⊎◌, ℕ, Bool, List, [], ◌∷◌, ◌++◌, ◌+◌, length, map, slice_index, slice_set, Some, pos}
 use Rattle.std.specs.Ordering.{is_lt}
 use Rattle.exact_algebra.specs.Fraction.{Fraction, rational}

@@ -1,4 +1,4 @@
--- Law. The steps of a walk (Koenker and d'Orey 1987, AS 229): where the next breakpoint is, which row
+-- Stated. The steps of a walk (Koenker and d'Orey 1987, AS 229): where the next breakpoint is, which row
 -- leaves there, and which row takes its place.
 use Rattle.std.specs.Prelude.{◌≡◌, ◌≢◌, ℕ, ◌⊎◌, ◌<◌, Bool, true, false, pos}
 use Rattle.exact_algebra.specs.Rational.{ℚ, neg_ℚ, whole, ◌≤ℚ◌}

@@ -45,7 +45,5 @@ pub fn ranks_in_integers<F: Exact>(problem: &Problem<F>)
 /// A record of a whole weight counts as so many records of weight 1: in the losses, and so in what
 /// minimises.
 pub fn whole_weights_count()
-    ensures {
-        (columns : ℕ) (records : List (ℕ × Observation)) (theta : ℚ) (b : ℕ → ℚ) → WholeWeightsCount columns records theta b
-    }
+    ensures { (columns : ℕ) (records : List (ℕ × Observation)) (theta : ℚ) (b : ℕ → ℚ) → WholeWeightsCount columns records theta b }
 {}

@@ -1,43 +1,56 @@
-use Rattle.std.proofs.Common.{arith, length, ap, sym, ◌∙◌}
+use Rattle.std.proofs.Common.{arith, length, pos, ap, sym, ◌∙◌}
 use Rattle.exact_algebra.specs.Fraction.{rational}
+use Rattle.exact_algebra.specs.Rational.{whole}
+use Rattle.exact_algebra.proofs.RationalLaws.{≤ℚ_trans}
 use Rattle.loss_model.specs.Problem.{sample}
 use Rattle.report_text.specs.ReportText.{value}
-use Rattle.rq_engine.proofs.Costs.{data_costs, weight_not_zero}
-use Rattle.rq_engine.proofs.Fits.{right_fit, rows_inside, same_size, short_cause, stop_cause}
+use Rattle.rankscores.specs.Scores.{IsScored}
+use Rattle.rq_engine.proofs.Costs.{data_costs}
+use Rattle.rq_engine.proofs.Fits.{few_segments, process_scorable, right_fit, short_cause, stop_cause}
+use Rattle.rq_engine.proofs.Scores.{zip_length}
 use Rattle.rq_engine.proofs.process.fit_input.Goals as goal
 
-pub solve_at-requires-clause-costs : goal.solve_at-requires-clause-costs
-solve_at-requires-clause-costs c κs = data_costs (sample value c.args.input.problem) (rational (value c.args.job.now.lo)) c.requires.low c.requires.high c.requires.data.each
+pub process-requires-clause-costs_lo : goal.process-requires-clause-costs_lo
+process-requires-clause-costs_lo c κs =
+    let lo = rational (value c.args.job.now.lo) in
+    data_costs (sample value c.args.input.problem) lo c.requires.low (≤ℚ_trans lo (rational (value c.args.job.now.hi)) (whole (pos 1)) c.requires.ordered c.requires.high) c.requires.data.each
+
+pub process-requires-clause-costs_hi : goal.process-requires-clause-costs_hi
+process-requires-clause-costs_hi c κs =
+    let hi = rational (value c.args.job.now.hi) in
+    data_costs (sample value c.args.input.problem) hi (≤ℚ_trans (whole (pos 0)) (rational (value c.args.job.now.lo)) hi c.requires.low c.requires.ordered) c.requires.high c.requires.data.each
 
 pub returns-in-Err-clause-cause : goal.returns-in-Err-clause-cause
 returns-in-Err-clause-cause c = rw c.stop_halt.ensures (stop_cause c.args.job.now c.args.input.problem c.in-Err.stop c.in-Err.ensures.stopped)
 
-pub tell-requires-clause-inside : goal.tell-requires-clause-inside
-tell-requires-clause-inside c κs = rows_inside value c.args.input.problem c.args.job.now.lo c.in-Ok.solved c.in-Ok.ensures.solution
+pub all_scores-requires-clause-scorable : goal.all_scores-requires-clause-scorable
+all_scores-requires-clause-scorable c κs =
+    rw c.as_slice.ensures (process_scorable value c.args.input.problem (rational (value c.args.job.now.lo)) (rational (value c.args.job.now.hi)) c.in-Ok.walked c.in-Ok.ensures.process.results)
 
-pub tell-requires-clause-size : goal.tell-requires-clause-size
-tell-requires-clause-size c κs = same_size value c.args.input.problem c.args.job.now.lo c.in-Ok.solved c.in-Ok.ensures.solution
+pub all_scores-requires-clause-few : goal.all_scores-requires-clause-few
+all_scores-requires-clause-few c κs =
+    let few = few_segments value c.args.input.problem (rational (value c.args.job.now.lo)) (rational (value c.args.job.now.hi)) c.in-Ok.walked c.in-Ok.ensures.process.results in
+    omega (arith, ap length c.as_slice.ensures, few, c.in-Ok.ensures.short)
 
-pub tell-requires-clause-weighted : goal.tell-requires-clause-weighted
-tell-requires-clause-weighted c κs = λ i l. weight_not_zero (sample value c.args.input.problem) i (c.requires.data.each i l)
-
-pub returns-in-Err-tell-clause-cause : goal.returns-in-Err-tell-clause-cause
-returns-in-Err-tell-clause-cause c =
-    rw c.short_halt.ensures (short_cause c.args.job.now c.args.input.problem c.in-Ok.solved c.in-Ok.ensures.solution c.in-Ok.ensures.short c.in-Err-tell.short c.in-Err-tell.ensures.spilled)
-
-pub returns-in-Ok-fit_of-clause-right : goal.returns-in-Ok-fit_of-clause-right
-returns-in-Ok-fit_of-clause-right c =
-    let theta = rational (value c.args.job.now.lo) in
-    let under = c.in-Ok-fit_of.ensures.under in
+pub returns-in-Ok-all_scores-clause-right : goal.returns-in-Ok-all_scores-clause-right
+returns-in-Ok-all_scores-clause-right c =
+    let under = c.fit_of.ensures.under in
     record {
       under = under;
-      right = right_fit c.args.job.now c.args.input.problem c.in-Ok.solved c.in-Ok-tell.told c.requires.point c.requires.data.shaped c.in-Ok.ensures.solution
-          (data_costs (sample value c.args.input.problem) theta c.requires.low c.requires.high c.requires.data.each) c.in-Ok.ensures.short c.in-Ok-tell.ensures.told c.in-Ok-fit_of.fit
-          c.in-Ok-fit_of.ensures.told under.problem_is (under.data_rows ∙ sym c.requires.data.size);
+      right = right_fit c.args.job.now c.args.input.problem c.in-Ok.walked c.in-Ok-all_scores.scores c.requires.data.shaped c.in-Ok.ensures.process c.in-Ok.ensures.short (λ some. c.in-Ok.ensures.limited some)
+          (rw c.as_slice.ensures at c.in-Ok-all_scores.ensures.scored) c.fit_of.result c.fit_of.ensures.process c.fit_of.ensures.scores under.problem_is (under.data_rows ∙ sym c.requires.data.size);
     }
 
-pub returns-in-Ok-fit_of-clause-printable : goal.returns-in-Ok-fit_of-clause-printable
-returns-in-Ok-fit_of-clause-printable c =
-    let told = c.in-Ok-fit_of.ensures.told in
-    let under = c.in-Ok-fit_of.ensures.under in
-    (ap length told.scores ∙ sym (ap length told.segments), omega (arith, under.data_rows, c.requires.data.size, ap (λ p. length p.rows) under.problem_is))
+pub returns-in-Ok-all_scores-clause-printable : goal.returns-in-Ok-all_scores-clause-printable
+returns-in-Ok-all_scores-clause-printable c =
+    let p = c.args.input.problem in
+    let under = c.fit_of.ensures.under in
+    let each = zip_length (IsScored value p (length p.rows)) c.in-Ok.walked.segments c.in-Ok-all_scores.scores (rw c.as_slice.ensures at c.in-Ok-all_scores.ensures.scored) in (
+      ap length c.fit_of.ensures.scores ∙ each ∙ sym (ap (λ q. length q.segments) c.fit_of.ensures.process),
+      omega (arith, under.data_rows, c.requires.data.size, ap (λ p. length p.rows) under.problem_is),
+    )
+
+pub returns-in-Err-all_scores-clause-cause : goal.returns-in-Err-all_scores-clause-cause
+returns-in-Err-all_scores-clause-cause c =
+    rw c.short_halt.ensures
+    (short_cause c.args.job.now c.args.input.problem c.in-Ok.walked c.in-Ok.ensures.process.results c.in-Ok.ensures.short c.in-Err-all_scores.short (rw c.as_slice.ensures at c.in-Err-all_scores.ensures.spilled))

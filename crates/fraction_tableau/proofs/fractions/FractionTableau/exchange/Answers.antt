@@ -40,5 +40,5 @@ returns-in-Err-clause-refused g c =
     rw (← c.self.view_is)
     (λ (asked : Question) step. short_refused value range h asked (λ s. IsExchangeSpill value range (length xs) a (value_at value xs) c.args.step.row c.args.step.position s) c.in-Err.short c.refused.result refl
     (λ s k. exchange_spill value range h asked c.args.step.position c.args.step.row s step
-        (at_read value p c.args.step.row c.index-as_slice-step.result xs read (λ n f. IsExchangeSpill value range n a f c.args.step.row c.args.step.position s) k))
+    (at_read value p c.args.step.row c.index-as_slice-step.result xs read (λ n f. IsExchangeSpill value range n a f c.args.step.row c.args.step.position s) k))
     (c.in-Err.ensures {u = tt}).spill c.refused.ensures)

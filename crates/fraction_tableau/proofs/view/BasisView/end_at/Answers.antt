@@ -6,7 +6,7 @@ use Rattle.fraction_tableau.specs.Next.{IsDualFault}
 use Rattle.fraction_tableau.specs.Ends.{end_number, IsEndedSpill}
 use Rattle.fraction_tableau.specs.Kept.{place}
 use Rattle.fraction_tableau.proofs.Places.{kept_is_place}
-use Rattle.fraction_tableau.proofs.EndSpills.{duals_fault, loss_fault}
+use Rattle.fraction_tableau.proofs.EndSpills.{duals_fault}
 use Rattle.fraction_tableau.proofs.NextSteps.{duals_here}
 use Rattle.fraction_tableau.proofs.Refusals.{short_weaker}
 use Rattle.fraction_tableau.proofs.view.BasisView.end_at.Goals as goal
@@ -29,12 +29,8 @@ by_row-requires-clause-members g c κs within = rw (c.as_slice-rows.ensures, c.b
 
 pub returns-in_err-loss-clause-spill : goal.returns-in_err-loss-clause-spill
 returns-in_err-loss-clause-spill g c =
-    let value = g.F.Exact.value in
-    let view = c.args.self.now in
     let returned = err_from_is_err_and c.from_residual-in_err-loss.result c.from_residual-in_err-loss.ensures.1 in
-    rw (returned.1, returned.2)
-    (loss_fault value (place value view.tableau.now) view.solution.now (kept_is_place value view.tableau.now c.requires.view.kept) c.requires.view.solution g.F.Exact.range (rational (value c.args.theta)) (end_number c.args.end) _
-    (rw (c.problem.ensures, c.as_slice-coef.ensures) at (c.in_err-loss.ensures {u = tt}).spill))
+    rw (returned.1, returned.2) (inr (c.in_err-loss.ensures {u = tt}).spill)
 
 pub returns-clause-ended : goal.returns-clause-ended
 returns-clause-ended g c =
@@ -47,5 +43,5 @@ returns-clause-ended g c =
       are_duals = duals_here value (place value view.tableau.now) (rational (value c.args.theta)) view.solution.now c.requires.view.solution c.in_ok-duals.duals made.size made.each;
       size = values.size;
       each = values.each;
-      loss = rw (c.problem.ensures, c.as_slice-coef.ensures) at (c.in_ok-loss.ensures {u = tt}).exact;
+      loss = (c.in_ok-loss.ensures {u = tt}).exact;
     }

@@ -1,0 +1,15 @@
+-- Stated. The jobs that are done today: fits over a range of quantiles.
+use Rattle.std.specs.Prelude.{◌≡◌, ℕ, List, None, Ok}
+use Rattle.rq_words.specs.Requests.{request_of}
+use Rattle.rq_words.specs.Words.{words_of}
+use Rattle.rq_words.specs.declared.job.Job.{Job}
+use Rattle.rq_words.specs.declared.job.Job.TheVariants.{Process}
+
+-- the job is one that this version does: a fit for which no rank intervals are asked
+abbrev pub IsBuilt : Job → Type 0
+IsBuilt (Process fit) = fit.rank ≡ None
+IsBuilt _ = ⊥
+
+-- these words ask for the job
+abbrev pub IsJobOf : List (List ℕ) → Job → Type 0
+IsJobOf words job = words_of words ≡ Ok (request_of job)
