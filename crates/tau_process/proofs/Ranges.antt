@@ -30,6 +30,11 @@ use Rattle.tau_process.specs.Processes.{IsProcess}
 use Rattle.tau_process.specs.Stops.{IsWalkSpill, IsLimited}
 
 module _ {F : Type 0} (value : F → Fraction) (p : Problem F) (lo hi : ℚ) (limit : ℕ) where
+  -- what is done for a task that is the problem in fractions, is done for this
+  pub done_here : (task : Task F) (q : Process F) → task ≡ record { problem = p; body = in_fractions } → IsWalkDone value task lo hi limit q
+      → IsWalkDone value (record { problem = p; body = in_fractions }) lo hi limit q
+  done_here task q same h = subst (λ (x : Task F). IsWalkDone value x lo hi limit q) same h
+
   module _ (costs : HasCosts (sample value p) lo) (costs' : HasCosts (sample value p) hi) (q : Process F) (h : IsWalkDone value (record { problem = p; body = in_fractions }) lo hi limit q) where
     ended : IsWalkEnd (theta_value value) (over_quantiles (sample value p)) (is_below hi)
         (value_after (theta_value value) (over_quantiles (sample value p)) (is_below hi) lo h.lawful.walking) (basis_after (basis_after h.lawful.first h.lawful.solving) h.lawful.walking)
