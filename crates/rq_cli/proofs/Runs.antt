@@ -8,7 +8,7 @@ use Rattle.port_io.specs.Told.{AppendsPart}
 use Rattle.rq_engine.specs.Answers as engine
 use Rattle.report_text.specs.ReportText.{report_text}
 use Rattle.report_text.specs.declared.report.Report.{Report}
-use Rattle.report_text.specs.declared.report.Refusal.TheVariants.{TooLong, Table, Formula, Design, Program, Dependent}
+use Rattle.report_text.specs.declared.report.Refusal.TheVariants.{TooLong, Table, Formula, RankWithPenalty, Design, Penalty, Program, Dependent}
 use Rattle.report_text.specs.declared.report.Halt.{Halt}
 use Rattle.report_text.specs.declared.report.Halt.TheVariants as halts
 use Rattle.rq_cli.specs.Outcomes.{Stream, OnDone, OnFault, outcome_line, WereRead, HasCause, IsAnswered, IsErrorFault, IsFault, WasTried, IsRun}
@@ -35,7 +35,9 @@ pub halt_cause : (words : List (List ℕ)) (source source' : Stream) (job : Job)
 halt_cause words source source' job bytes read (halts.Refused TooLong) cause = absurd (never_long job bytes cause)
 halt_cause words source source' job bytes read (halts.Refused (Table fault)) cause = record { job = job; bytes = bytes; read = read; cause = cause }
 halt_cause words source source' job bytes read (halts.Refused (Formula fault)) cause = record { job = job; bytes = bytes; read = read; cause = cause }
+halt_cause words source source' job bytes read (halts.Refused RankWithPenalty) cause = record { job = job; bytes = bytes; read = read; cause = cause }
 halt_cause words source source' job bytes read (halts.Refused (Design fault)) cause = record { job = job; bytes = bytes; read = read; cause = cause }
+halt_cause words source source' job bytes read (halts.Refused (Penalty fault)) cause = record { job = job; bytes = bytes; read = read; cause = cause }
 halt_cause words source source' job bytes read (halts.Refused (Program fault)) cause = record { job = job; bytes = bytes; read = read; cause = cause }
 halt_cause words source source' job bytes read (halts.Refused (Dependent combination)) cause = record { job = job; bytes = bytes; read = read; cause = cause }
 halt_cause words source source' job bytes read halts.OutOfMemory cause = tt
