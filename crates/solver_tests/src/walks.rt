@@ -23,6 +23,7 @@ use std::test::Fail;
 static THREE: [Data; 3] = [([1, 0, 0], 0, 1), ([1, 1, 0], 2, 1), ([1, 3, 0], 3, 1)];
 
 /// A segment: its ends, its coefficients, its sides, and the dual values and the loss at both ends.
+#[derive(Clone, Copy)]
 struct Stretch {
     ends: [Ratio; 2],
     coef: [Ratio; 2],
@@ -97,8 +98,10 @@ fn expect_three<F: Exact>(rt: &impl Abort, alloc: Global) -> Result<(), AllocErr
     expect_trail(rt, &done.trail, 2);
     let segments = done.segments.as_slice();
     assert!(rt; segments.len() == 2);
-    expect_segment(rt, &segments[0], &FIRST);
-    expect_segment(rt, &segments[1], &SECOND);
+    let first = FIRST;
+    let second = SECOND;
+    expect_segment(rt, &segments[0], &first);
+    expect_segment(rt, &segments[1], &second);
     Ok(())
 }
 
