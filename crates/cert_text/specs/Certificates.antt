@@ -2,6 +2,7 @@
 use Rattle.std.specs.Prelude.{ℕ, List, [], ◌∷◌, ◌==◌, ◌||◌, ◌^◌, Bool, true, false, Option, Some, None, Ok, Err, codes, length, nat_lt, option_and_then, option_map, ⊤, if◌then◌else◌}
 use Rattle.std.specs.Str.{is_utf8, bytes_eq}
 use Rattle.exact_algebra.specs.Rational.{ℚ}
+use Rattle.frac_core.specs.Limits.{most_rows, most_columns}
 use Rattle.loss_model.specs.declared.problem.Row.{Row}
 use Rattle.loss_model.specs.declared.vertex.Side.{Side}
 use Rattle.loss_model.specs.declared.vertex.Side.TheVariants.{Up, Down, Basic}
@@ -16,6 +17,7 @@ use Rattle.serde_json.specs.Find.{as_number, as_u64, as_str, as_object, get}
 use Rattle.serde_json.specs.Read.{read}
 use Rattle.cert_text.specs.Contents.{Content}
 use Rattle.cert_text.specs.Kept.{basic_rows}
+use Rattle.cert_text.specs.Limits.{most_segments, most_intervals}
 use Rattle.cert_text.specs.Paths.{key_step}
 use Rattle.cert_text.specs.Reading.{Reading, Reader, on_read, under, or_shape, fraction, count, list, field, closed, object_of}
 use Rattle.cert_text.specs.declared.fault.CertFault.TheVariants.{NotJson, Version, TooLarge}
@@ -178,8 +180,8 @@ top_members ms =
 
 abbrev pub is_too_large : Content → Bool
 is_too_large c =
-    nat_lt 128 c.problem.columns || (nat_lt 16384 (length c.problem.rows)
-    || (nat_lt (2 ^ 20) (length c.segments) || nat_lt 8192 (length c.intervals)))
+    nat_lt most_columns c.problem.columns || (nat_lt most_rows (length c.problem.rows)
+    || (nat_lt most_segments (length c.segments) || nat_lt most_intervals (length c.intervals)))
 
 -- at most 128 columns, 16,384 rows, 2^20 segments and 8,192 intervals
 abbrev pub within_limits : Content → Reading Content

@@ -13,7 +13,7 @@ use crate::fault::CertFault;
 use crate::keys::{closed, field, members};
 use crate::parts::FromJson;
 use crate::path::{under_key, wrong_kind};
-use frac_core::{Frac128, List};
+use frac_core::{Frac128, List, MOST_COLUMNS, MOST_ROWS};
 use loss_model::{IntervalProof, Problem, Row, Segment};
 use serde_json::{Category, Value};
 use std::alloc::Global;
@@ -82,21 +82,25 @@ fn top_of(alloc: Global, rest: &mut Iter<'_, String, Value>) -> Result<Cert, Cer
     })
 }
 
+const MOST_SEGMENTS: usize = 1 << 20;
+
+const MOST_INTERVALS: usize = 8_192;
+
 // The certificate, unless it is beyond a limit.
 fn limited(cert: Cert) -> Result<Cert, CertFault>
     ensures ok { IfOk result (λ c. within_limits (content cert) ≡ Ok (content c)) }
     ensures err { IfErr result (λ e. within_limits (content cert) ≡ Err e) }
 {
-    if cert.problem.columns > 128 {
+    if cert.problem.columns > MOST_COLUMNS {
         return Err(CertFault::TooLarge);
     }
-    if cert.problem.rows.as_slice().len() > 16_384 {
+    if cert.problem.rows.as_slice().len() > MOST_ROWS as usize {
         return Err(CertFault::TooLarge);
     }
-    if cert.segments.as_slice().len() > 1 << 20 {
+    if cert.segments.as_slice().len() > MOST_SEGMENTS {
         return Err(CertFault::TooLarge);
     }
-    if cert.intervals.as_slice().len() > 8_192 {
+    if cert.intervals.as_slice().len() > MOST_INTERVALS {
         return Err(CertFault::TooLarge);
     }
     Ok(cert)

@@ -7,10 +7,8 @@ ghost use Rattle.data_frame.specs.Reading.{Finds, IsReading, TakesRow, left_of, 
 
 use crate::TableFault;
 use csv::{ErrorKind, Reader, ReaderBuilder, StringRecord};
+use frac_core::MOST_ROWS;
 use std::alloc::Global;
-
-// The most records under the header.
-pub(crate) const MOST_RECORDS: u32 = 16384;
 
 /// What stands next.
 #[derive(Clone, Copy)]
@@ -71,14 +69,14 @@ pub(crate) fn read_row(
 {
     match next_row(reader, row)? {
         Found::End => Ok(false),
-        Found::NotText => Err(if rec > MOST_RECORDS {
+        Found::NotText => Err(if rec > MOST_ROWS {
             TableFault::TooManyRows
         } else {
             TableFault::NotUtf8 { rec }
         }),
         Found::Row => {
             let found = row.len() as u32;
-            if rec > MOST_RECORDS {
+            if rec > MOST_ROWS {
                 Err(TableFault::TooManyRows)
             } else if found != wanted {
                 Err(TableFault::Ragged { rec, found, wanted })

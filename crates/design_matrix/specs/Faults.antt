@@ -5,6 +5,7 @@ use Rattle.std.specs.Option.{option_or}
 use Rattle.std.specs.Ordering.{is_lt}
 use Rattle.contrasts.specs.declared.Coding.{Coding}
 use Rattle.frac_core.specs.declared.frac128.Frac128.{Frac128}
+use Rattle.frac_core.specs.Limits.{most_columns}
 use Rattle.loss_model.specs.declared.spill.Spill.{Spill}
 use Rattle.data_frame.specs.Cells.{numbers, factor, too_wide}
 use Rattle.data_frame.specs.Records.{Text}
@@ -79,7 +80,7 @@ empty_fault model = if lacks_columns model then Some NoColumns else None
 
 -- there are more than 128 columns
 abbrev pub columns_fault : ℕ → Option DesignFault
-columns_fault columns = if nat_lt 128 columns then Some TooManyColumns else None
+columns_fault columns = if nat_lt most_columns columns then Some TooManyColumns else None
 
 -- the first fault of the design's columns, at the records that are kept
 unfoldable pub late_fault : Table → Formula → Coding → List ℕ → Option DesignFault

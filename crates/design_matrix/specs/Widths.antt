@@ -1,5 +1,6 @@
 -- Inner. How many columns and levels a variable has that the code holds.
 use Rattle.std.specs.Prelude.{◌≤◌, ℕ, length}
+use Rattle.frac_core.specs.Limits.{most_rows}
 use Rattle.contrasts.specs.declared.Coding.{Coding}
 use Rattle.contrasts.specs.Coding.{width_of}
 use Rattle.design_matrix.specs.declared.coded.Coded.{Coded}
@@ -19,4 +20,4 @@ width_held coding (Levels levels) = width_of coding (length levels.texts.items)
 -- a variable has a column, and not too many levels for a coding's table
 pub record IsUsable (v : Coded) : Type 0 where
   pub some : 1 ≤ width_held v.coding v.values
-  pub few : levels_held v.values ≤ 16384
+  pub few : levels_held v.values ≤ most_rows

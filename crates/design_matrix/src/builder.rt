@@ -1,6 +1,7 @@
 //! From a table and a formula to their design.
 
 ghost use Rattle.std.specs.Prelude.{◌≡◌, ◌≤◌, ◌<◌, ◌+◌, ◌^◌, ◌⊎◌, None, All, IfErr, IfOk, OnOk, length, map, option_copied};
+ghost use Rattle.frac_core.specs.Limits.{most_columns};
 ghost use Rattle.data_frame.specs.Views.{lent_column};
 ghost use Rattle.design_matrix.specs.Cells.{column_of};
 ghost use Rattle.design_matrix.specs.Coded.{coded_terms};
@@ -21,7 +22,7 @@ use crate::{Design, DesignFault};
 use contrasts::Coding;
 use data_frame::Frame;
 use formula_parser::Formula;
-use frac_core::{List, Text};
+use frac_core::{List, MOST_COLUMNS, Text};
 use std::alloc::{AllocError, Global};
 
 // What the columns are called.
@@ -61,7 +62,7 @@ fn design_from(
     requires response { lent_column used.now.response ≡ column_of coder.now.frame.now coder.now.model.now.response }
     requires coded { terms_seen terms.now ≡ coded_terms coder.now.frame.now coder.now.model.now coder.now.contrasts coder.now.records.now }
     requires usable { All (λ vs. All IsUsable vs.items) terms.now }
-    requires few { length (columns_in coder.now.model.now.intercept (terms_seen terms.now)) ≤ 128 }
+    requires few { length (columns_in coder.now.model.now.intercept (terms_seen terms.now)) ≤ most_columns }
     requires short { All (λ vs. length vs.items < 2 ^ 32) terms.now }
     ensures design { IfOk result (HasDesign coder.now.frame.now coder.now.model.now coder.now.contrasts
         (weights_seen used.now.weights) coder.now.records.now) }
@@ -97,7 +98,7 @@ fn build_kept(alloc: Global, coder: &Coder<'_>, used: &Used<'_>) -> Result<Desig
         return Err(DesignFault::NoColumns);
     }
     let count = column_count(coder.model.intercept, &terms);
-    if count > 128 {
+    if count > MOST_COLUMNS as usize {
         return Err(DesignFault::TooManyColumns);
     }
     match design_from(alloc, coder, used, &terms) {

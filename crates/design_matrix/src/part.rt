@@ -1,4 +1,5 @@
 ghost use Rattle.std.specs.Prelude.{◌<◌, ◌≤◌};
+ghost use Rattle.frac_core.specs.Limits.{most_rows};
 ghost use Rattle.design_matrix.specs.Widths.{levels_held, width_held};
 
 use crate::coded::Coded;
@@ -9,5 +10,5 @@ pub(crate) struct Part<'b, 'a> {
     pub(crate) variable: &'b Coded<'a>,
     pub(crate) column: u32,
     ghost there: { column < width_held variable.now.coding variable.now.values },
-    ghost few: { levels_held variable.now.values ≤ 16384 },
+    ghost few: { levels_held variable.now.values ≤ most_rows },
 }

@@ -2,6 +2,7 @@
 
 ghost use Rattle.std.specs.Prelude.{◌≡◌, ◌≤◌, ◌<◌, ◌^◌, ◌++◌, [], false, All, IfOk, OnOk, length, map, min, pos, slice_index_or, unsigned_abs};
 ghost use Rattle.exact_algebra.specs.Rational.{whole};
+ghost use Rattle.frac_core.specs.Limits.{most_rows, most_columns};
 ghost use Rattle.data_frame.specs.Views.{exact};
 ghost use Rattle.design_matrix.specs.Parts.{chosen, column_name, columns_in, count, term_columns};
 ghost use Rattle.design_matrix.specs.Views.{coded_seen, columns_seen, part_seen, terms_seen};
@@ -15,7 +16,7 @@ use std::alloc::{AllocError, Global};
 
 // The fraction of a small whole number.
 fn whole_number(number: i64) -> Frac128
-    requires { unsigned_abs number ≤ 16384 }
+    requires { unsigned_abs number ≤ most_rows }
     ensures { exact result ≡ whole number }
 {
     match Frac128::from_parts(i128::from(number), 1) {
@@ -139,7 +140,7 @@ fn push_columns<'b, 'a>(
     term: &'b [Coded<'a>],
 ) -> Result<(), AllocError>
     requires usable { All IsUsable term.now }
-    requires few { count (map coded_seen term.now) ≤ 128 }
+    requires few { count (map coded_seen term.now) ≤ most_columns }
     requires counted { length term.now < 2 ^ 32 }
     requires short { All (λ parts. length parts.items < 2 ^ 32) columns.old.items }
     ensures columns { OnOk result (columns_seen columns.new.items
@@ -176,7 +177,7 @@ pub(crate) fn design_columns<'b, 'a>(
     terms: &'b [Vec<Coded<'a>>],
 ) -> Result<Vec<Vec<Part<'b, 'a>>>, AllocError>
     requires usable { All (λ vs. All IsUsable vs.items) terms.now }
-    requires few { All (λ vs. count (map coded_seen vs.items) ≤ 128) terms.now }
+    requires few { All (λ vs. count (map coded_seen vs.items) ≤ most_columns) terms.now }
     requires short { All (λ vs. length vs.items < 2 ^ 32) terms.now }
     ensures columns { IfOk result (λ columns. columns_seen columns.items ≡ columns_in intercept (terms_seen terms.now)) }
     ensures short { IfOk result (λ columns. All (λ parts. length parts.items < 2 ^ 32) columns.items) }
