@@ -98,7 +98,8 @@ pub fn sides<F: Exact>(
 {
     let mut made = List::new(alloc);
     for row in 0..residuals.len() {
-        made.add(side_of_row(alloc, problem, inverse, basis, row as u32, residuals[row])?)?;
+        let side = side_of_row(alloc, problem, inverse, basis, row as u32, residuals[row])?;
+        made.add(side)?;
     }
     Ok(made)
 }

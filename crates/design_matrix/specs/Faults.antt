@@ -15,7 +15,7 @@ use Rattle.design_matrix.specs.declared.design.Design.{Design}
 use Rattle.design_matrix.specs.declared.fault.DesignFault.{DesignFault}
 use Rattle.design_matrix.specs.declared.fault.DesignFault.TheVariants.{OutOfMemory, UnknownWeights, ResponseNotNumeric, WeightNotNumeric, NumberTooWide, NegativeWeight, NoRows, OneLevel, NoColumns, TooManyColumns, Overflow}
 use Rattle.design_matrix.specs.Cells.{Column, Table, column_of, kept, used_names, weight_sign, weights_in}
-use Rattle.design_matrix.specs.Coded.{Coded, coded_terms, is_text, width}
+use Rattle.design_matrix.specs.CodedVariable.{CodedVariable, coded_terms, is_text, width}
 use Rattle.design_matrix.specs.Designs.{AllFit, OverflowsFirst, design_of, exact_design}
 use Rattle.design_matrix.specs.Lists.{first_some}
 use Rattle.design_matrix.specs.Parts.{columns_of}
@@ -59,15 +59,15 @@ abbrev pub rows_fault : List ℕ → Option DesignFault
 rows_fault records = if length records == 0 then Some NoRows else None
 
 -- a variable without a column: a factor of one level that is coded by contrasts
-abbrev pub level_fault : Coded → Option DesignFault
+abbrev pub level_fault : CodedVariable → Option DesignFault
 level_fault v = if width v == 0 then Some (OneLevel v.name) else None
 
 -- the first such variable, by terms and then by variables
-unfoldable pub levels_fault : List Coded → Option DesignFault
+unfoldable pub levels_fault : List CodedVariable → Option DesignFault
 levels_fault vs = first_some level_fault vs
 
 -- the first of all variables without a column
-unfoldable pub terms_fault : List (List Coded) → Option DesignFault
+unfoldable pub terms_fault : List (List CodedVariable) → Option DesignFault
 terms_fault terms = first_some levels_fault terms
 
 -- there is neither intercept nor terms nor smooths

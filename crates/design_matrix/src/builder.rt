@@ -4,7 +4,7 @@ ghost use Rattle.std.specs.Prelude.{◌≡◌, ◌≤◌, ◌<◌, ◌+◌, ◌^
 ghost use Rattle.frac_core.specs.Limits.{most_columns};
 ghost use Rattle.data_frame.specs.Views.{lent_column};
 ghost use Rattle.design_matrix.specs.Cells.{column_of};
-ghost use Rattle.design_matrix.specs.Coded.{coded_terms};
+ghost use Rattle.design_matrix.specs.CodedVariable.{coded_terms};
 ghost use Rattle.design_matrix.specs.Faults.{HasCause, HasDesign, HasLateCause, IsDesign, IsOverflow, lacks_columns, late_fault};
 ghost use Rattle.design_matrix.specs.Parts.{column_name, columns_in};
 ghost use Rattle.design_matrix.specs.Shapes.{IsShaped};
@@ -12,12 +12,12 @@ ghost use Rattle.design_matrix.specs.Views.{columns_seen, terms_seen, weights_se
 ghost use Rattle.design_matrix.specs.Widths.{IsUsable};
 
 use crate::checks::check_terms;
-use crate::coded::{Coded, Coder};
+use crate::coded::{CodedVariable, Coder};
 use crate::kept::kept_records;
 use crate::part::Part;
 use crate::parts::{column_count, design_columns, name_of};
 use crate::rows::design_rows;
-use crate::used::{Used, used_columns};
+use crate::used::{UsedColumns, used_columns};
 use crate::{Design, DesignFault};
 use contrasts::Coding;
 use data_frame::Frame;
@@ -53,8 +53,8 @@ fn has_no_columns(model: &Formula) -> bool
 fn design_from(
     alloc: Global,
     coder: &Coder<'_>,
-    used: &Used<'_>,
-    terms: &[Vec<Coded<'_>>],
+    used: &UsedColumns<'_>,
+    terms: &[Vec<CodedVariable<'_>>],
 ) -> Result<Design, DesignFault>
     requires numbered { All (λ i. i + 1 < 2 ^ 32) coder.now.records.now }
     requires fewer { length coder.now.records.now ≤ coder.now.frame.now.records }
@@ -81,7 +81,7 @@ fn design_from(
 }
 
 // The design of the records that a coder keeps.
-fn build_kept(alloc: Global, coder: &Coder<'_>, used: &Used<'_>) -> Result<Design, DesignFault>
+fn build_kept(alloc: Global, coder: &Coder<'_>, used: &UsedColumns<'_>) -> Result<Design, DesignFault>
     requires numbered { All (λ i. i + 1 < 2 ^ 32) coder.now.records.now }
     requires fewer { length coder.now.records.now ≤ coder.now.frame.now.records }
     requires counted { coder.now.frame.now.records < 2 ^ 32 }

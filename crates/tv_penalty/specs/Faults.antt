@@ -10,7 +10,7 @@ use Rattle.formula_parser.specs.declared.formula.Smooth.{Smooth}
 use Rattle.design_matrix.specs.declared.design.Design.{Design}
 use Rattle.design_matrix.specs.declared.design.DesignRow.{DesignRow}
 use Rattle.design_matrix.specs.Cells.{Table, column_of}
-use Rattle.design_matrix.specs.Coded.{is_text}
+use Rattle.design_matrix.specs.CodedVariable.{is_text}
 use Rattle.tv_penalty.specs.declared.fault.PenaltyFault.{PenaltyFault}
 use Rattle.tv_penalty.specs.declared.fault.PenaltyFault.TheVariants.{OutOfMemory, NotNumeric, TooFewKnots, Overflow, TooManyColumns}
 use Rattle.tv_penalty.specs.Knots.{knots_of}
