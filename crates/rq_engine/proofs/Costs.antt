@@ -2,15 +2,16 @@
 use Rattle.std.proofs.Common.{◌≡◌, ◌≢◌, ◌⊎◌, ◌<◌, ◌≤◌, ℕ, zero, suc, [], ◌∷◌, length, pos, arith, inl, inr, refl, sym, ap, subst, ◌∙◌}
 use Rattle.exact_algebra.proofs.OrderLaws.{cmp_ℚ-Less, le_from_not, ≤ℚ-minus}
 use Rattle.exact_algebra.specs.Rational.{ℚ, ◌+ℚ◌, ◌-ℚ◌, ◌*ℚ◌, whole, ◌≤ℚ◌}
-use Rattle.exact_algebra.proofs.RationalLaws.{≤ℚ_refl, ≤ℚ_mul, ring_ℚ}
+use Rattle.exact_algebra.proofs.RationalLaws.{≤ℚ_refl, ≤ℚ_trans, ring_ℚ}
 use Rattle.exact_algebra.specs.Solver.{number, negated, ◌⊞◌, ◌⊟◌, ◌⊠◌, v0, v1}
 use Rattle.loss_model.specs.Dual.{IsDataRow}
+use Rattle.loss_model.proofs.Quotients.{product_not_negative}
 use Rattle.loss_model.specs.Problem.{sample}
 use Rattle.loss_model.specs.Sample.{Sample, up_cost, down_cost}
 use Rattle.pivot_rule.specs.Duals.{HasCosts}
 use Rattle.report_text.specs.ReportText.{value}
 use Rattle.rq_program.specs.Costs.{IsPenaltyRow}
-use Rattle.rq_input.specs.Inputs.{HasRows}
+use Rattle.rq_input.specs.Rows.{HasRows}
 use Rattle.rq_input.specs.declared.input.Input.{Input}
 
 -- the weight of a data row is above 0
@@ -23,12 +24,6 @@ weight_not_zero p i row e = above_zero p i row (subst (λ z. z ≤ℚ whole (pos
 -- a number that is not below 0
 at_least_zero : (x : ℚ) → ¬ (x ≤ℚ whole (pos 0)) → whole (pos 0) ≤ℚ x
 at_least_zero x h = le_from_not (whole (pos 0)) x h
-
-times_zero : (w : ℚ) → w *ℚ whole (pos 0) ≡ whole (pos 0)
-times_zero w = ring_ℚ (w ∷ []) (v0 ⊠ number (pos 0)) (number (pos 0)) refl
-
-product_not_negative : (w x : ℚ) → whole (pos 0) ≤ℚ w → whole (pos 0) ≤ℚ x → whole (pos 0) ≤ℚ (w *ℚ x)
-product_not_negative w x hw hx = subst (λ z. z ≤ℚ (w *ℚ x)) (times_zero w) (≤ℚ_mul (whole (pos 0)) x w hw hx)
 
 module _ (p : Sample) (theta : ℚ) (i : ℕ) (row : IsDataRow p i) where
   up_is : up_cost p theta i ≡ p.up1 i *ℚ theta

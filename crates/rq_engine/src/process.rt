@@ -8,7 +8,7 @@ ghost use Rattle.loss_model.specs.Quantities.{IsShortOf};
 ghost use Rattle.rankscores.specs.Scores.{IsScored};
 ghost use Rattle.report_text.specs.ReportText.{value, IsPrintable};
 ghost use Rattle.report_text.specs.declared.report.Report.TheVariants as reports;
-ghost use Rattle.rq_input.specs.Inputs.{HasRows};
+ghost use Rattle.rq_input.specs.Rows.{HasRows};
 ghost use Rattle.rq_engine.specs.Answers.{HasFitCause, IsFitOf, IsFitOfBytes};
 ghost use Rattle.rq_engine.specs.Fit.{IsFitUnder};
 ghost use Rattle.rq_engine.specs.Scored.{IsScorable};

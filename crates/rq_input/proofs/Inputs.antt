@@ -21,8 +21,9 @@ use Rattle.rq_words.specs.declared.job.FitJob.{FitJob}
 use Rattle.report_text.specs.declared.report.Refusal.TheVariants as refusals
 use Rattle.report_text.specs.declared.report.Halt.{Halt}
 use Rattle.report_text.specs.declared.report.Halt.TheVariants.{Refused, OutOfMemory, PivotLimit, Overflow, NotBuilt}
-use Rattle.rq_input.specs.Inputs.{HasModelCause, HasRows, HasTableCause}
+use Rattle.rq_input.specs.Inputs.{HasModelCause, HasTableCause}
 use Rattle.rq_input.specs.Models.{IsModel}
+use Rattle.rq_input.specs.Rows.{HasRows}
 use Rattle.rq_input.specs.declared.input.Input.{Input}
 
 -- a design and what the smooths of its model add go together
@@ -35,9 +36,10 @@ together model design smoothing d s =
     some (suc n) many = let column = s.some (omega (arith, many)) in omega (arith, column)
 
 -- the rows of an input with weights and lambdas above 0
-pub has_rows : (input : Input) → IsWellShaped input.problem → HasDataRows input.design input.smoothing input.problem
+pub has_rows : (input : Input) → AreTogether input.design input.smoothing → IsWellShaped input.problem → HasDataRows input.design input.smoothing input.problem
     → All (λ r. cmp_ℚ (whole (pos 0)) (exact r.weight) ≡ Less) input.design.rows → All (λ r. cmp_ℚ (whole (pos 0)) (exact r.lambda) ≡ Less) input.smoothing.rows → HasRows input
-has_rows input shaped rows weights lambdas = record {
+has_rows input both shaped rows weights lambdas = record {
+  together = both;
   shaped = shaped;
   size = rows.count;
   are_data = rows.are_data weights;

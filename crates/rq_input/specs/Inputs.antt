@@ -1,5 +1,5 @@
 -- Stated. What the bytes of a job say, and why they say nothing that can be fitted.
-use Rattle.std.specs.Prelude.{◌≡◌, ◌≢◌, ◌≤◌, ◌<◌, ℕ, Bool, true, List, Ok, Err, length, ⊤}
+use Rattle.std.specs.Prelude.{◌≡◌, ◌≢◌, ◌≤◌, ℕ, Bool, true, List, Ok, Err, length, ⊤}
 use Rattle.data_frame.specs.Tables.{table_of}
 use Rattle.data_frame.specs.Views.{exact_table}
 use Rattle.formula_parser.specs.Parsed.{IsFault, IsParsed}
@@ -13,14 +13,10 @@ use Rattle.tv_penalty.specs.Faults.{HasCause as HasPenaltyCause}
 use Rattle.tv_penalty.specs.declared.Smoothing.{Smoothing}
 use Rattle.tv_penalty.specs.declared.fault.PenaltyFault.{PenaltyFault}
 use Rattle.tv_penalty.specs.declared.fault.PenaltyFault.TheVariants as penalties
-use Rattle.rq_program.specs.Costs.{IsPenaltyRow}
-use Rattle.rq_program.specs.Faults.{HasCause as HasProgramCause, row_count}
+use Rattle.rq_program.specs.Faults.{HasCause as HasProgramCause}
 use Rattle.rq_program.specs.declared.fault.ProgramFault.{ProgramFault}
 use Rattle.rq_program.specs.declared.fault.ProgramFault.TheVariants as programs
-use Rattle.loss_model.specs.Dual.{IsDataRow}
-use Rattle.loss_model.specs.Problem.{sample, IsWellShaped}
 use Rattle.rq_words.specs.declared.job.FitJob.{FitJob}
-use Rattle.report_text.specs.ReportText.{value}
 use Rattle.report_text.specs.declared.report.Refusal.TheVariants as refusals
 use Rattle.report_text.specs.declared.report.Halt.{Halt}
 use Rattle.report_text.specs.declared.report.Halt.TheVariants.{Refused, OutOfMemory, NotBuilt}
@@ -49,13 +45,6 @@ AreTable bytes table = table_of bytes ≡ Ok (exact_table table)
 -- the bytes are a table with this input
 abbrev pub IsInput : FitJob → Bool → List ℕ → Input → Type 0
 IsInput job ranked bytes input = (table : Table) × AreTable bytes table × IsTableInput job ranked table input
-
--- the problem has a data row for each row of the design, and then a penalty row for each of those that smooths add
-pub record HasRows (input : Input) : Type 0 where
-  pub shaped : IsWellShaped input.problem
-  pub size : length input.problem.rows ≡ row_count input.design input.smoothing
-  pub are_data : (i : ℕ) → i < length input.design.rows → IsDataRow (sample value input.problem) i
-  pub are_penalties : (i : ℕ) → length input.design.rows ≤ i → i < length input.problem.rows → IsPenaltyRow (sample value input.problem) i
 
 -- ---- why there is none
 

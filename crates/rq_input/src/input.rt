@@ -1,7 +1,7 @@
 //! An input, step by step: the table, its model, the design, what its smooths add, and the problem.
 ghost use Rattle.std.specs.Prelude.{◌≡◌, ◌≤◌, ◌<◌, ◌^◌, All, length, option_copied, true, IfOk, IfErr};
-ghost use Rattle.rq_input.specs.Inputs.{HasInputCause, HasModelCause, HasRows, HasTableCause, IsInput, IsModelInput, IsTableInput};
-ghost use Rattle.rq_input.specs.Models.{IsModel};
+ghost use Rattle.rq_input.specs.Inputs.{HasInputCause, HasModelCause, HasTableCause, IsInput, IsModelInput, IsTableInput};
+ghost use Rattle.rq_input.specs.Rows.{HasRows};
 
 use crate::halt::{design_halt, formula_halt, penalty_halt, program_halt, table_halt};
 use data_frame::{Frame, read_table};
