@@ -1,5 +1,5 @@
 -- The lambdas of a formula that was read are numbers, and none of them is negative.
-use Rattle.std.proofs.Common.{◌≡◌, ◌<◌, ◌+◌, ◌-◌, ◌^◌, ◌==◌, ◌++◌, ◌∷◌, [], ℕ, zero, suc, Bool, true, false, List, All, Option, Some, None, Ok, Err, is_some, bytes_eq, codes, pos, map,  length, take, drop, get_or, position, nat_le, refl, sym, ◌∙◌, ap, subst, append_assoc, arith, length-append, if◌then◌else◌, unsigned_abs, ◌&&◌, nat_eq}
+use Rattle.std.proofs.Common.{◌≡◌, ◌<◌, ◌+◌, ◌-◌, ◌^◌, ◌==◌, ◌++◌, ◌∷◌, [], ℕ, zero, suc, Bool, true, false, List, All, Option, Some, None, Ok, Err, is_some, bytes_eq, codes, pos, map, length, take, drop, get_or, position, nat_le, refl, sym, ◌∙◌, ap, subst, append_assoc, arith, length-append, if◌then◌else◌, unsigned_abs, ◌&&◌, nat_eq}
 use Rattle.std.proofs.Math.Seq.{take-append_seam, get_or-append_seam}
 use Rattle.std.proofs.lemmas.List.{drop-drop, length-take-le, take-append-drop}
 use Rattle.std.proofs.lemmas.Bool.Decides.{nat_tests}

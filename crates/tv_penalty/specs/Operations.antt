@@ -55,8 +55,8 @@ numbered_from site term (o ∷ os) =
 abbrev pub knot_operations : ℕ → ℕ → ℚ → ℚ → ℚ → List SitedOperation
 knot_operations smooth knot x y z =
     numbered_from (knot_site smooth knot 1 Sub) 1 (
-      subtraction y x ∷ subtraction z y ∷ division (whole (pos 1)) (y -ℚ x) ∷ division (whole (pos 1)) (z -ℚ y)
-      ∷ addition (inverse (y -ℚ x)) (inverse (z -ℚ y)) ∷ []
+    subtraction y x ∷ subtraction z y ∷ division (whole (pos 1)) (y -ℚ x) ∷ division (whole (pos 1)) (z -ℚ y)
+    ∷ addition (inverse (y -ℚ x)) (inverse (z -ℚ y)) ∷ []
     )
 
 -- those at the knot after knot k
