@@ -12,6 +12,8 @@ mod ranges;
 #[cfg(test)]
 mod rows;
 #[cfg(test)]
+mod smooths;
+#[cfg(test)]
 mod stops;
 #[cfg(test)]
 mod streams;
