@@ -1,1 +1,4 @@
+pub mod Halving
+pub mod Integrals
 pub mod Rankscores
+pub mod WilcoxonLaws

@@ -1,2 +1,5 @@
+pub mod Integrals
+pub mod Laws
 pub mod Scores
 pub mod Spills
+pub mod Wilcoxon
