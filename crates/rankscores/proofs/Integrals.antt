@@ -12,7 +12,8 @@ use Rattle.loss_model.specs.Dual.{mix}
 use Rattle.loss_model.specs.Strict.{◌<ℚ◌}
 use Rattle.loss_model.proofs.Quotients.{inverse_of, product_not_negative, whole_not_negative}
 use Rattle.rankscores.specs.Integrals.{line, IsArea, IsIntegral}
-use Rattle.rankscores.specs.Laws.{trapezoid, LineMixes, TrapezoidIsIntegral}
+use Rattle.rankscores.specs.Laws.{LineMixes, TrapezoidIsIntegral}
+use Rattle.rankscores.specs.Trapezoids.{trapezoid}
 use Rattle.rankscores.proofs.Halving.{double, double-next, double-zero, not_positive}
 
 -- 1/2

@@ -1,3 +1,4 @@
+pub mod Areas
 pub mod Halving
 pub mod Integrals
 pub mod Rankscores

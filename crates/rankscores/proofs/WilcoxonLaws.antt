@@ -1,5 +1,5 @@
 -- Wilcoxon scores as sums, their bounds, and their balance.
-use Rattle.std.specs.Prelude.{◌≡◌, ◌⊎◌, ℕ, zero, suc, ◌+◌, ◌-◌, ◌<◌, [], ◌∷◌, elim, inl, inr, pos}
+use Rattle.std.specs.Prelude.{◌≡◌, ◌⊎◌, ℕ, zero, suc, ◌+◌, ◌-◌, ◌<◌, [], ◌∷◌, inl, inr, pos}
 use Rattle.std.proofs.Common.{add-one, arith, refl, sym, ap, ap₂, subst, ◌∙◌}
 use Rattle.std.specs.declared.cmp.Ordering.TheVariants.{Less}
 use Rattle.exact_algebra.specs.Order.{cmp_ℚ}
@@ -17,7 +17,8 @@ use Rattle.loss_model.specs.Segment.{Covers, Segments}
 use Rattle.loss_model.specs.Strict.{◌<ℚ◌}
 use Rattle.loss_model.proofs.Quotients.{product_not_negative}
 use Rattle.rankscores.specs.Integrals.{line, IsIntegral}
-use Rattle.rankscores.specs.Laws.{score_area, trapezoid, AreFeasible, AreProper, ScoresAreBounded, WilcoxonIsBalanced, WilcoxonIsBounded, WilcoxonIsSum, WilcoxonSumsToZero}
+use Rattle.rankscores.specs.Laws.{AreFeasible, AreProper, ScoresAreBounded, WilcoxonIsBalanced, WilcoxonIsBounded, WilcoxonIsSum, WilcoxonSumsToZero}
+use Rattle.rankscores.specs.Trapezoids.{score_area, trapezoid}
 use Rattle.rankscores.specs.Wilcoxon.{half, score_along, IsWilcoxon}
 use Rattle.rankscores.proofs.Integrals.{h, length-one, sum_not_negative, trapezoid_at_least, trapezoid_at_most, trapezoid_is, two}
 
@@ -68,11 +69,10 @@ module _ (rows : ℕ) (s : Segments) where
 
   -- what a function gains along all segments, it gains over the range
   module _ (f : ℚ → ℚ) (lo hi : ℚ) (c : Covers rows lo hi s) where
-    gain : ℕ → ℚ
+    abbrev gain : ℕ → ℚ
     gain j = f (s.hi j) -ℚ f (s.lo j)
 
     gained : (n : ℕ) → n < s.count → sum_ℚ (suc n) gain ≡ f (s.hi n) -ℚ f (s.lo 0)
-    unfolding gain
     gained zero l = ring_ℚ (f (s.hi 0) ∷ f (s.lo 0) ∷ []) (number (pos 0) ⊞ (v0 ⊟ v1)) (v0 ⊟ v1) refl
     gained (suc n) l =
         ap₂ (λ x y. x +ℚ (f (s.hi (suc n)) -ℚ f y)) (gained n (omega (arith, l))) (ap s.lo (sym (add-one n)) ∙ sym (c.joined n (omega (arith, l))))
@@ -147,7 +147,6 @@ area_bounded bounded p s i c feasible within row = (
         (trapezoid_at_least (s.lo j) (s.hi j) _ _ (whole (pos 0)) (ordered j l) (bounded p (s.lo j) (s.at_lo j) i (feasible.at_lo j l) within row).0 (bounded p (s.hi j) (s.at_hi j) i (feasible.at_hi j l) within row).0)
 
     most : (j : ℕ) → j < s.count → score_area p s i j ≤ℚ gain p.rows s (λ t. t) (whole (pos 0)) (whole (pos 1)) c j
-    unfolding gain
     most j l =
         subst (λ z. score_area p s i j ≤ℚ z) (ring_ℚ (s.lo j ∷ s.hi j ∷ []) (number (pos 1) ⊠ (v1 ⊟ v0)) (v1 ⊟ v0) refl)
         (trapezoid_at_most (s.lo j) (s.hi j) _ _ (whole (pos 1)) (ordered j l) (bounded p (s.lo j) (s.at_lo j) i (feasible.at_lo j l) within row).1 (bounded p (s.hi j) (s.at_hi j) i (feasible.at_hi j l) within row).1)
@@ -189,7 +188,6 @@ module _ (p : Sample) (s : Segments) (x : ℕ → ℚ) (c : Covers p.rows (whole
       *ℚ-inverse (p.up1 i) (λ e. (cmp_ℚ-Less (whole (pos 0)) (p.up1 i)).0 (row i l).weighted (subst (λ z. z ≤ℚ whole (pos 0)) (sym e) (≤ℚ_refl (whole (pos 0)))))
 
   weighted_area : (i j : ℕ) → i < p.rows → p.up1 i *ℚ score_area p s i j ≡ (whole (pos 1) *ℚ part i j) +ℚ (p.up1 i *ℚ bent j)
-  unfolding gain
   weighted_area i j l =
       ring_by_ℚ (p.up1 i ∷ inverse (p.up1 i) ∷ s.lo j ∷ s.hi j ∷ s.at_lo j i ∷ s.at_hi j i ∷ h ∷ [])
       (v0 ⊠ (((v3 ⊟ v2) ⊠ (((v4 ⊠ v1 ⊞ number (pos 1)) ⊟ v2) ⊞ ((v5 ⊠ v1 ⊞ number (pos 1)) ⊟ v3))) ⊠ v6))

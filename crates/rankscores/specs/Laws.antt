@@ -1,19 +1,16 @@
 -- Law. What the laws of Wilcoxon scores say; each is the contract of a function (Gutenbrunner and Jurečková 1992).
 use Rattle.std.specs.Prelude.{◌≡◌, ◌≢◌, ◌↔◌, ℕ, ◌+◌, ◌<◌, pos}
-use Rattle.exact_algebra.specs.Rational.{ℚ, ◌+ℚ◌, ◌-ℚ◌, ◌*ℚ◌, neg_ℚ, inverse, whole, ◌≤ℚ◌}
+use Rattle.exact_algebra.specs.Rational.{ℚ, ◌+ℚ◌, ◌-ℚ◌, ◌*ℚ◌, neg_ℚ, whole, ◌≤ℚ◌}
 use Rattle.exact_algebra.specs.RationalSums.{sum_ℚ}
 use Rattle.loss_model.specs.Dual.{IsDataRow, IsFeasible, mix, rankscore}
 use Rattle.loss_model.specs.Sample.{Sample}
 use Rattle.loss_model.specs.Segment.{Covers, Segments}
 use Rattle.loss_model.specs.Strict.{◌<ℚ◌}
 use Rattle.rankscores.specs.Integrals.{line, IsIntegral}
+use Rattle.rankscores.specs.Trapezoids.{score_area, trapezoid}
 use Rattle.rankscores.specs.Wilcoxon.{half, score_along, IsWilcoxon}
 
--- the area of a trapezoid between lo and hi whose sides are a and b
-abbrev pub trapezoid : ℚ → ℚ → ℚ → ℚ → ℚ
-trapezoid lo hi a b = ((hi -ℚ lo) *ℚ (a +ℚ b)) *ℚ inverse (whole (pos 2))
-
--- the integral of an affine function is that area, and nothing else is
+-- the integral of an affine function is the area of the trapezoid below it, and nothing else is
 abbrev pub TrapezoidIsIntegral : Type 0
 TrapezoidIsIntegral =
     (lo hi a b x : ℚ) → lo <ℚ hi → IsIntegral (line lo hi a b) lo hi x ↔ (x ≡ trapezoid lo hi a b)
@@ -23,16 +20,11 @@ abbrev pub LineMixes : Type 0
 LineMixes =
     (lo hi a b : ℚ) (m n : ℕ) → lo <ℚ hi → 0 < m + n → line lo hi a b (mix m n lo hi) ≡ mix m n a b
 
--- the area below the rankscore of row i along segment j, by its scores at both ends
-abbrev pub score_area : Sample → Segments → ℕ → ℕ → ℚ
-score_area p s i j =
-    trapezoid (s.lo j) (s.hi j) (rankscore p (s.lo j) (s.at_lo j) i) (rankscore p (s.hi j) (s.at_hi j) i)
-
 -- each segment has two ends that differ
 abbrev pub AreProper : Segments → Type 0
 AreProper s = (j : ℕ) → j < s.count → s.lo j <ℚ s.hi j
 
--- so the Wilcoxon score is the sum of these areas minus 1/2
+-- so the Wilcoxon score is the sum of the areas below the rankscore, minus 1/2
 abbrev pub WilcoxonIsSum : Type 0
 WilcoxonIsSum =
     (p : Sample) (s : Segments) (i : ℕ) (x : ℚ) → AreProper s
