@@ -83,7 +83,7 @@ pub enum Halt {
         trail: Trail<Frac128>,
         spill: Spill<Frac128>,
     },
-    /// It asks for what this version does not do: part 1 is the job, part 3 a smooth in its formula.
+    /// It asks for a job that this version does not do, which is part 1.
     NotBuilt {
         part: u8,
     },

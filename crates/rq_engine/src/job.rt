@@ -14,11 +14,11 @@ use std::thread::Threads;
 /// The report of a job that this version does, from the bytes of its input.
 ///
 /// `Refused` is the first fault: of the bytes as a table, of the formula over the table's names, of
-/// the design, or of its problem; or `Dependent`, only where the columns of the problem are
-/// dependent. `NotBuilt` has part 3, exactly where the formula has a smooth. `PivotLimit` comes only
-/// where the lawful trail of the problem has as many pivots as the job's limit says and one more is
-/// left, and `Overflow` only where an operation of the solve at the low end, of the walk or of a
-/// rankscore overflows. `OutOfMemory` may come at any step.
+/// the design, of what its smooths add, or of the problem; or `Dependent`, only where the columns of
+/// the problem are dependent. `PivotLimit` comes only where the lawful trail of the problem has as
+/// many pivots as the job's limit says and one more is left, and `Overflow` only where an operation of
+/// the solve at the low end, of the walk or of a rankscore overflows. `OutOfMemory` may come at any
+/// step.
 pub fn answer<R: Threads + Sync>(
     _rt: &R,
     alloc: Global,
@@ -33,7 +33,7 @@ pub fn answer<R: Threads + Sync>(
     ensures cause { IfErr result (HasCause job.now bytes.now) }
 {
     let fit_job = built_fit(job).unwrap();
-    match fit_bytes(alloc, fit_job, bytes) {
+    match fit_bytes(alloc, fit_job, fit_job.rank.is_some(), bytes) {
         Ok(fit) => Ok(Report::Process(fit)),
         Err(halt) => Err(halt),
     }

@@ -14,6 +14,8 @@ mod ranks;
 #[cfg(test)]
 mod rows;
 #[cfg(test)]
+mod smooths;
+#[cfg(test)]
 mod stops;
 #[cfg(test)]
 mod streams;

@@ -4,7 +4,7 @@ use crate::helpers::{REPORT, TABLE, assert_printed, assert_refused, ran_on};
 use std::test::Fail;
 
 // Each case: formula, quantile, exit status and line.
-static FAULTS: [(&str, &str, u8, &str); 15] = [
+static FAULTS: [(&str, &str, u8, &str); 14] = [
     (
         "y ~ x",
         "1/2",
@@ -32,18 +32,12 @@ static FAULTS: [(&str, &str, u8, &str); 15] = [
         "quantreg: formula: NumberTooWide offset=11\n",
     ),
     (
-        "y ~ qss(y, 1)",
+        "y ~ 1 - qss(y, 1)",
         "1/2",
-        9,
-        "quantreg: build: NotBuilt part=3\n",
+        1,
+        "quantreg: formula: Syntax offset=8\n",
     ),
     ("y ~ 0", "1/2", 1, "quantreg: design: NoColumns\n"),
-    (
-        "y ~ 1 - 1 + qss(y, 1)",
-        "1/2",
-        9,
-        "quantreg: build: NotBuilt part=3\n",
-    ),
     ("y ~ 1", "2/1", 2, "quantreg: usage: BadRange\n"),
     ("y ~ 1", "1.0001", 2, "quantreg: usage: BadRange\n"),
     ("y ~ 1", "1/0", 2, "quantreg: usage: BadNumber option=lo\n"),

@@ -1,4 +1,4 @@
--- Law. Why smooths add nothing to a design: the faults in the order in which they are looked for, smooth by smooth.
+-- Stated. Why smooths add nothing to a design: the faults in the order in which they are looked for, smooth by smooth.
 use Rattle.std.specs.Prelude.{◌≡◌, ◌⊎◌, ℕ, ◌+◌, Bool, List, [], ◌∷◌, Option, Some, None, length, nat_lt, if◌then◌else◌}
 use Rattle.std.specs.Option.{option_or}
 use Rattle.data_frame.specs.Views.{exact}

@@ -1,4 +1,4 @@
--- Law. The operations of penalty rows, and the first of them that overflows.
+-- Stated. The operations of penalty rows, and the first of them that overflows.
 use Rattle.std.specs.Prelude.{ℕ, ◌+◌, ◌-◌, ◌^◌, ◌⊎◌, List, [], ◌∷◌, length, pos}
 use Rattle.std.specs.List.{flat_map, range_with_len}
 use Rattle.exact_algebra.specs.Rational.{ℚ, ◌-ℚ◌, inverse, whole}
