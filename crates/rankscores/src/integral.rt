@@ -1,5 +1,5 @@
 //! The Wilcoxon scores of the rows of a process.
-ghost use Rattle.std.specs.Prelude.{◌≡◌, ◌⊎◌, ℕ, ◌<◌, ◌≤◌, ◌^◌, All, Contains, length, slice_index, IfOk, IfErr, pos};
+ghost use Rattle.std.specs.Prelude.{◌≡◌, ◌⊎◌, ℕ, ◌<◌, ◌≤◌, ◌^◌, All, Contains, Some, length, slice_get, slice_index, IfOk, IfErr, pos};
 ghost use Rattle.std.specs.List.Sorted.{IsStrictlyIncreasing};
 ghost use Rattle.exact_algebra.specs.Fraction.{rational};
 ghost use Rattle.exact_algebra.specs.Rational.{◌+ℚ◌, ◌-ℚ◌, whole};
@@ -8,10 +8,10 @@ ghost use Rattle.loss_model.specs.Dual.{IsDataRow};
 ghost use Rattle.loss_model.specs.Problem.{sample};
 ghost use Rattle.loss_model.specs.Quantities.{IsShortOf};
 ghost use Rattle.loss_model.specs.Segment.{Covers, segments_of};
-ghost use Rattle.loss_model.specs.Spill.{IsAmong, IsOperation};
-ghost use Rattle.rankscores.specs.Rows.{segment_area, segment_operations, IsIntegrable, IsPartSpill};
-ghost use Rattle.rankscores.specs.Scores.{IsScorable};
-ghost use Rattle.rankscores.specs.Spills.{area_operations, wilcoxon_site as wilcoxon_site_of, IsIntegrationSpill, IsScoreSpillOf, IsWilcoxonSpill};
+ghost use Rattle.loss_model.specs.Spill.{IsAmong};
+ghost use Rattle.rankscores.specs.Rows.{segment_area, IsIntegrable, IsPartSpill};
+ghost use Rattle.rankscores.specs.Scores.{score, IsScorable};
+ghost use Rattle.rankscores.specs.Spills.{area_operations, wilcoxon_site as wilcoxon_site_of, IsIntegrationSpill, IsScoresSpill, IsScoreSpillOf, IsWilcoxonSpill};
 ghost use Rattle.rankscores.specs.Trapezoids.{score_area, trapezoid};
 ghost use Rattle.rankscores.specs.Wilcoxon.{half as half_of, AreWilcoxon};
 
@@ -87,21 +87,47 @@ fn plus_area<F: Exact>(
     ensures spilled { IfErr result (IsPartSpill F.value F.range problem.now segment.now site (rational (F.value before))) }
 {
     rankscores_outside(problem, &segment.vertex);
-    match segment.vertex.sides.as_slice()[site.first as usize] {
+    match side_of(segment, site.first) {
         Side::Down => Ok(before),
         Side::Up => plus_length(site, segment, before),
         Side::Basic => {
-            let rows = segment.vertex.basis.rows.as_slice();
-            let place = place_of(rows, site.first);
-            let data_rows = problem.rows.as_slice().len() as u32;
-            let pair = score_pair(problem, data_rows, segment, place, site.second)?;
+            let pair = basic_scores(problem, segment, site.first, site.second)?;
             plus_trapezoid(site, segment, pair, before)
         }
     }
 }
 
+// The side of a row.
+fn side_of<F>(segment: &Segment<F>, row: u32) -> Side
+    requires { row < length segment.now.vertex.sides }
+    ensures { slice_get segment.now.vertex.sides row ≡ Some result }
+{
+    segment.vertex.sides.as_slice()[row as usize]
+}
+
+// The rankscores of a row of the basis at both ends of the segment with this number.
+fn basic_scores<F: Exact>(
+    problem: &Problem<F>,
+    segment: &Segment<F>,
+    row: u32,
+    number: u32,
+) -> Result<ScorePair<F>, Spill<F>>
+    requires rows { length problem.now.rows ≤ 16384 }
+    requires inside { row < length problem.now.rows }
+    requires data { (i : ℕ) → i < length problem.now.rows → IsDataRow (sample F.value problem.now) i }
+    requires scorable { IsScorable problem.now segment.now }
+    requires basic { slice_get segment.now.vertex.sides row ≡ Some Side.Basic }
+    ensures at_lo { let s = segment.now in IfOk result (λ q. rational (F.value q.at_lo) ≡ score F.value problem.now s.vertex s.basic_lo s.lo row) }
+    ensures at_hi { let s = segment.now in IfOk result (λ q. rational (F.value q.at_hi) ≡ score F.value problem.now s.vertex s.basic_hi s.hi row) }
+    ensures spilled { IfErr result (IsScoresSpill F.value F.range problem.now (length problem.now.rows) number segment.now) }
+{
+    let data_rows = problem.rows.as_slice().len() as u32;
+    let place = place_of(segment.vertex.basis.rows.as_slice(), row);
+    score_pair(problem, data_rows, segment, place, number)
+}
+
 // `before` plus the length of a segment, which is the area below the score 1.
-#[tactic(auto, using(crate::proofs::Areas::length_added, crate::proofs::Areas::length_is))]
+#[tactic(auto, using(crate::proofs::Areas::length_added))]
 fn plus_length<F: Exact>(site: Site, segment: &Segment<F>, before: F) -> Result<F, Spill<F>>
     ensures exact { let s = segment.now in IfOk result (λ r. rational (F.value r) ≡ rational (F.value before) +ℚ trapezoid (rational (F.value s.lo)) (rational (F.value s.hi)) (whole (pos 1)) (whole (pos 1))) }
     ensures spilled { let s = segment.now in IfErr result (IsAmong F.value F.range site 1 (area_operations (rational (F.value s.lo)) (rational (F.value s.hi)) (whole (pos 1)) (whole (pos 1)) (rational (F.value before)))) }

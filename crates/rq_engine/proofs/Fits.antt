@@ -44,7 +44,7 @@ use Rattle.rq_input.specs.declared.input.Input.{Input}
 use Rattle.rq_engine.specs.Answers.{HasFitCause}
 use Rattle.rq_engine.specs.Fit.{IsOptimalAt, IsOptimalWithin, IsRightFit, IsRightSegment, mixed_dual}
 use Rattle.rq_engine.specs.Halts.{short_halt, stop_halt}
-use Rattle.rq_engine.specs.Scored.{IsScorable}
+use Rattle.rankscores.specs.Scores.{IsScorable}
 use Rattle.report_text.specs.ReportText.{value}
 use Rattle.rq_engine.specs.Stops.{IsSegmentSpill, HasProblemCause, most}
 
