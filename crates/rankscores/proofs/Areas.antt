@@ -1,17 +1,20 @@
 -- Areas below rankscores, one segment after another.
-use Rattle.std.proofs.Common.{◌≡◌, ◌⊎◌, ◌<◌, ◌≤◌, ℕ, Bool, true, false, nat_lt, MatchResult, List, Option, Some, Contains, Result, Ok, Err, IfErr, IfOk, IsOk, get_or, length, slice_get, slice_index, inl, inr, pos, arith, refl, sym, ap, ap₂, subst, ◌∙◌, [], ◌∷◌}
+use Rattle.std.proofs.Common.{◌≡◌, ◌⊎◌, ◌<◌, ◌≤◌, ◌+◌, ℕ, Bool, true, false, nat_lt, MatchResult, List, Option, Some, Contains, Result, Ok, Err, IfErr, IfOk, IsOk, get_or, length, slice_get, slice_index, inl, inr, pos, arith, refl, sym, ap, ap₂, subst, ◌∙◌, [], ◌∷◌}
 use Rattle.std.specs.List.Sorted.{IsBinarySearchResult, IsStrictlyIncreasing}
 use Rattle.std.specs.Ordering.{nat_cmp}
+use Rattle.std.proofs.lemmas.Bool.{ltb-false, ltb-true}
 use Rattle.std.proofs.lemmas.List.Sorted.{searched}
 use Rattle.std.proofs.lemmas.Option.{slice_get-get_or}
 use Rattle.std.specs.Option.{option_map_or}
-use Rattle.exact_algebra.specs.Solver.{number, ◌⊞◌, ◌⊟◌, ◌⊠◌, v0, v1, v2}
+use Rattle.exact_algebra.specs.Solver.{number, ◌⊞◌, ◌⊟◌, ◌⊠◌, v0, v1, v2, v3}
 use Rattle.exact_algebra.specs.Rational.{ℚ, ◌+ℚ◌, ◌-ℚ◌, ◌*ℚ◌, inverse, whole}
 use Rattle.exact_algebra.specs.Fraction.{Fraction, rational}
 use Rattle.exact_algebra.specs.RationalSums.{sum_ℚ}
 use Rattle.exact_algebra.proofs.RationalLaws.{ring_ℚ, ring_by_ℚ}
+use Rattle.exact_algebra.proofs.RationalSumLaws.{sum_ℚ-next}
 use Rattle.loss_model.specs.declared.problem.Problem.{Problem}
 use Rattle.loss_model.specs.declared.process.Segment.{Segment}
+use Rattle.loss_model.specs.declared.spill.Site.{Site}
 use Rattle.loss_model.specs.declared.spill.Spill.{Spill}
 use Rattle.loss_model.specs.declared.vertex.Side.TheVariants.{Up, Down}
 use Rattle.loss_model.specs.Dual.{rankscore, IsDataRow}
@@ -20,9 +23,9 @@ use Rattle.loss_model.specs.Problem.{sample}
 use Rattle.loss_model.specs.Segment.{dual_at, segments_of}
 use Rattle.loss_model.specs.Spill.{Operation, IsAmong}
 use Rattle.loss_model.proofs.Vertices.{ascending}
-use Rattle.rankscores.specs.Rows.{segment_area, segment_operations}
+use Rattle.rankscores.specs.Rows.{segment_area, segment_operations, IsPartSpill}
 use Rattle.rankscores.specs.Scores.{score}
-use Rattle.rankscores.specs.Spills.{area_operations, wilcoxon_site, IsAreaSpill}
+use Rattle.rankscores.specs.Spills.{area_operations, wilcoxon_site, IsAreaSpill, IsIntegrationSpill, IsScoreSpillOf}
 use Rattle.rankscores.specs.Trapezoids.{score_area, trapezoid}
 use Rattle.rankscores.proofs.Integrals.{h, two}
 
@@ -37,7 +40,7 @@ length_added before lo hi = ap (λ z. before +ℚ z) (length_is lo hi)
 module _ {F : Type 0} (value : F → Fraction) (p : Problem F) where
   -- a number of a segment, if there is one
   abbrev of : Option (Segment F) → (Segment F → ℚ) → ℚ
-  of o number = option_map_or number o (whole (pos 0))
+  of o part = option_map_or part o (whole (pos 0))
 
   abbrev low : Option (Segment F) → ℚ
   low o = of o (λ s. rational (value s.lo))
@@ -61,6 +64,25 @@ module _ {F : Type 0} (value : F → Fraction) (p : Problem F) where
     area_spill range before spill is among =
         subst (λ z. IsAmong value range (wilcoxon_site i j) 1 (area_operations (low (slice_get segments j)) (high (slice_get segments j)) (low_score (slice_get segments j) i) (high_score (slice_get segments j) i) z) spill) is
         (subst (λ o. IsAmong value range (wilcoxon_site i j) 1 (area_operations (low o) (high o) (low_score o i) (high_score o i) before) spill) (sym there) among)
+
+    -- one more segment
+    pub area_step : (site : Site) (before next : ℚ) → site ≡ wilcoxon_site i j → before ≡ sum_ℚ j (score_area (sample value p) (segments_of value p segments) i)
+        → next ≡ before +ℚ segment_area value p s site.first → next ≡ sum_ℚ (j + 1) (score_area (sample value p) (segments_of value p segments) i)
+    area_step site before next at is more =
+        more ∙ ap₂ (λ x y. x +ℚ y) is (ap (λ (o : Site). segment_area value p s o.first) at ∙ sym area_is)
+        ∙ sym (sum_ℚ-next j (score_area (sample value p) (segments_of value p segments) i))
+
+    -- an operation of the scores of the segment, or of the area below that of the row, is one of the row's Wilcoxon score
+    pub part_spill : j < length segments → (range : ℕ) (site : Site) (before : ℚ) (spill : Spill F) → site ≡ wilcoxon_site i j → before ≡ sum_ℚ j (score_area (sample value p) (segments_of value p segments) i)
+        → IsPartSpill value range p s site before spill
+        → IsScoreSpillOf value range p (length p.rows) segments spill ⊎ IsIntegrationSpill value range (sample value p) (segments_of value p segments) i spill
+    part_spill within range site before spill at is part =
+        by (subst (λ (o : Site). IsPartSpill value range p s o before spill) at part)
+      where
+        by : IsPartSpill value range p s (wilcoxon_site i j) before spill
+            → IsScoreSpillOf value range p (length p.rows) segments spill ⊎ IsIntegrationSpill value range (sample value p) (segments_of value p segments) i spill
+        by (inl scored) = inl (record { number = j; segment = s; there = there; operation = scored })
+        by (inr among) = inr (inl (j, within, area_spill range before spill is among))
 
 -- ---- a row outside the basis
 
@@ -104,8 +126,8 @@ not_after : (xs : List ℕ) → IsStrictlyIncreasing xs → (i j : ℕ) → i �
 not_after xs up i j le l = by (nat_lt i j) refl
   where
     by : (t : Bool) → nat_lt i j ≡ t → get_or xs i 0 ≤ get_or xs j 0
-    by true e = omega (arith, ascending xs up i j (omega (arith, e)) l)
-    by false e = let same : i ≡ j = omega (arith, e, le) in subst (λ k. get_or xs i 0 ≤ get_or xs k 0) same (omega arith)
+    by true e = omega (arith, ascending xs up i j (ltb-true i j e) l)
+    by false e = let same : i ≡ j = omega (arith, ltb-false i j e, le) in subst (λ k. get_or xs i 0 ≤ get_or xs k 0) same (omega arith)
 
 -- a row that is there is found
 pub search_finds : (xs : List ℕ) (x : ℕ) (r : Result ℕ ℕ) → IsStrictlyIncreasing xs → Contains xs x → IsBinarySearchResult (λ y. nat_cmp y x) xs r → IsOk r

@@ -3,3 +3,4 @@ pub mod Halving
 pub mod Integrals
 pub mod Rankscores
 pub mod WilcoxonLaws
+pub mod Wilcoxons

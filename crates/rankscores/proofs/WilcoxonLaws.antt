@@ -1,6 +1,6 @@
 -- Wilcoxon scores as sums, their bounds, and their balance.
-use Rattle.std.specs.Prelude.{◌≡◌, ◌⊎◌, ℕ, zero, suc, ◌+◌, ◌-◌, ◌<◌, [], ◌∷◌, inl, inr, pos}
-use Rattle.std.proofs.Common.{add-one, arith, refl, sym, ap, ap₂, subst, ◌∙◌}
+use Rattle.std.specs.Prelude.{◌≡◌, ◌⊎◌, ℕ, zero, suc, ◌+◌, ◌-◌, ◌<◌, [], ◌∷◌, pos}
+use Rattle.std.proofs.Common.{add-one, arith, inl, inr, refl, sym, ap, ap₂, subst, ◌∙◌}
 use Rattle.std.specs.declared.cmp.Ordering.TheVariants.{Less}
 use Rattle.exact_algebra.specs.Order.{cmp_ℚ}
 use Rattle.exact_algebra.specs.Solver.{number, negated, ◌⊞◌, ◌⊟◌, ◌⊠◌, v0, v1, v2, v3, v4, v5, v6}

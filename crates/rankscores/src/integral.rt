@@ -44,9 +44,10 @@ pub fn wilcoxon<F: Exact>(
     ensures scored { IfOk result (AreWilcoxon F.value problem.now process.now.segments) }
     ensures spilled { IfErr result (IsShortOf (IsWilcoxonSpill F.value F.range problem.now process.now.segments)) }
 {
+    let segments = process.segments.as_slice();
     let mut scores = List::new(alloc);
     for row in 0..problem.rows.as_slice().len() {
-        let score = wilcoxon_of(problem, process.segments.as_slice(), row as u32)?;
+        let score = wilcoxon_of(problem, segments, row as u32)?;
         scores.add(score)?;
     }
     Ok(scores)

@@ -5,13 +5,12 @@ ghost use Rattle.exact_algebra.specs.Fraction.{rational};
 ghost use Rattle.exact_algebra.specs.Rational.{◌≤ℚ◌, whole};
 ghost use Rattle.loss_model.specs.Problem.{sample};
 ghost use Rattle.loss_model.specs.Quantities.{IsShortOf};
-ghost use Rattle.rankscores.specs.Scores.{IsScored};
+ghost use Rattle.rankscores.specs.Scores.{IsScorable, IsScored};
 ghost use Rattle.report_text.specs.ReportText.{value, IsPrintable};
 ghost use Rattle.report_text.specs.declared.report.Report.TheVariants as reports;
 ghost use Rattle.rq_input.specs.Rows.{HasRows};
 ghost use Rattle.rq_engine.specs.Answers.{HasFitCause, IsFitOf, IsFitOfBytes};
 ghost use Rattle.rq_engine.specs.Fit.{IsFitUnder};
-ghost use Rattle.rankscores.specs.Scores.{IsScorable};
 ghost use Rattle.rq_engine.specs.Stops.{HasProblemCause, IsSegmentSpill};
 
 use crate::halt::{short_halt, stop_halt};

@@ -1,7 +1,7 @@
 //! Runs of the job `ranks`. What is wanted was worked out apart from the program: of an intercept alone
 //! as the centred rank over the number of records, and of other models by integrals over all bases.
 
-use crate::helpers::{assert_printed, ran_on};
+use crate::helpers::{assert_printed, assert_refused, ran_on};
 use std::str::from_utf8;
 use std::test::Fail;
 
@@ -246,5 +246,22 @@ fn scores_of_a_line_through_three_points(rt: HostRuntime) -> Result<(), Fail> {
     let line = "ranks|--formula|y ~ x";
     let left = ran_on(&rt, rt.alloc(), line, b"y,x\n0,0\n2,1\n3,3\n")?;
     assert_printed(&rt, &left, LINE_REPORT, line);
+    Ok(())
+}
+
+// The weights sum to W, which is 2^127 - 2. Record 1 is fitted from 0 to 1/W, with the scores 1 and 0, so
+// that the area below them is half of 1/W.
+#[test]
+fn an_area_overflows(rt: HostRuntime) -> Result<(), Fail> {
+    let line = "ranks|--formula|y ~ 1|--weights|w";
+    let table = "y,w\n1,1\n2,170141183460469231731687303715884105725\n";
+    let left = ran_on(&rt, rt.alloc(), line, table.as_bytes())?;
+    assert_refused(
+        &rt,
+        &left,
+        7,
+        "quantreg: solver: Overflow place=process quantity=wilcoxon at=1,1 term=4 op=div left=1/170141183460469231731687303715884105726 right=2\n",
+        line,
+    );
     Ok(())
 }
