@@ -200,13 +200,12 @@ module _ (lo hi a b : ℚ) where
         let grown_least = is.at_least u v low p q r (above u v) in
         let grown_most = is.at_most u v high p q r (under u v) in
         let least = trapezoid_at_least u v (f u) (f v) low q (above u v u (≤ℚ_refl u) q) (above u v v q (≤ℚ_refl v)) in
-        let most = trapezoid_at_most u v (f u) (f v) high q (under u v u (≤ℚ_refl u) q) (under u v v q (≤ℚ_refl v)) in
-        (
+        let most = trapezoid_at_most u v (f u) (f v) high q (under u v u (≤ℚ_refl u) q) (under u v v q (≤ℚ_refl v)) in (
           subst (λ z. more u v ≤ℚ z) (ring_ℚ (f u ∷ steep ∷ d ∷ []) ((v0 ⊞ v1 ⊠ v2) ⊠ v2 ⊟ (v0 ⊟ v1 ⊠ v2) ⊠ v2) ((v1 ⊞ v1) ⊠ (v2 ⊠ v2)) refl)
-          (≤ℚ_add2 (area v -ℚ area u) (high *ℚ d) (neg_ℚ (below u v)) (neg_ℚ (low *ℚ d)) grown_most (≤ℚ_neg (low *ℚ d) (below u v) least)),
+              (≤ℚ_add2 (area v -ℚ area u) (high *ℚ d) (neg_ℚ (below u v)) (neg_ℚ (low *ℚ d)) grown_most (≤ℚ_neg (low *ℚ d) (below u v) least)),
           subst (λ z. less u v ≤ℚ z) (ring_ℚ (f u ∷ steep ∷ d ∷ []) ((v0 ⊞ v1 ⊠ v2) ⊠ v2 ⊟ (v0 ⊟ v1 ⊠ v2) ⊠ v2) ((v1 ⊞ v1) ⊠ (v2 ⊠ v2)) refl)
-          (subst (λ z. z ≤ℚ ((high *ℚ d) -ℚ (low *ℚ d))) (ring_ℚ ((area v -ℚ area u) ∷ below u v ∷ []) (v1 ⊟ v0) (negated (v0 ⊟ v1)) refl)
-          (≤ℚ_add2 (below u v) (high *ℚ d) (neg_ℚ (area v -ℚ area u)) (neg_ℚ (low *ℚ d)) most (≤ℚ_neg (low *ℚ d) (area v -ℚ area u) grown_least))),
+              (subst (λ z. z ≤ℚ ((high *ℚ d) -ℚ (low *ℚ d))) (ring_ℚ ((area v -ℚ area u) ∷ below u v ∷ []) (v1 ⊟ v0) (negated (v0 ⊟ v1)) refl)
+              (≤ℚ_add2 (below u v) (high *ℚ d) (neg_ℚ (area v -ℚ area u)) (neg_ℚ (low *ℚ d)) most (≤ℚ_neg (low *ℚ d) (area v -ℚ area u) grown_least))),
         )
 
     same_area : lo <ℚ hi → area hi -ℚ area lo ≡ trapezoid lo hi a b

@@ -122,8 +122,7 @@ pub scores_bounded : RankscoresAreBounded → ScoresAreBounded
 scores_bounded bounded p s i j theta apart feasible within row l from to =
     let low = bounded p (s.lo j) (s.at_lo j) i (feasible.at_lo j l) within row in
     let high = bounded p (s.hi j) (s.at_hi j) i (feasible.at_hi j l) within row in
-    let is = along p s i j (apart j l) theta in
-    (
+    let is = along p s i j (apart j l) theta in (
       subst (λ z. whole (pos 0) ≤ℚ z) (sym is) (line_not_negative (s.lo j) (s.hi j) _ _ theta (apart j l) from to low.0 high.0),
       subst (λ z. z ≤ℚ whole (pos 1)) (sym is) (line_at_most_one (s.lo j) (s.hi j) _ _ theta (apart j l) from to low.1 high.1),
     )
@@ -155,13 +154,12 @@ pub wilcoxon_bounded : RankscoresAreBounded → WilcoxonIsBounded
 wilcoxon_bounded bounded p s i x c feasible within row w =
     let total = sum_ℚ s.count (score_area p s i) in
     let is = (is_sum p s i x (proper p.rows s c)).0 w in
-    let bounds = area_bounded bounded p s i c feasible within row in
-    (
+    let bounds = area_bounded bounded p s i c feasible within row in (
       subst (λ z. neg_ℚ half ≤ℚ z) (ring_ℚ (half ∷ total ∷ []) (negated v0 ⊞ v1) (v1 ⊟ v0) refl ∙ sym is)
-      (subst (λ z. z ≤ℚ (neg_ℚ half +ℚ total)) (ring_ℚ (half ∷ []) (negated v0 ⊞ number (pos 0)) (negated v0) refl) (≤ℚ_add (whole (pos 0)) total (neg_ℚ half) bounds.0)),
+          (subst (λ z. z ≤ℚ (neg_ℚ half +ℚ total)) (ring_ℚ (half ∷ []) (negated v0 ⊞ number (pos 0)) (negated v0) refl) (≤ℚ_add (whole (pos 0)) total (neg_ℚ half) bounds.0)),
       subst (λ z. z ≤ℚ half) (ring_ℚ (half ∷ total ∷ []) (negated v0 ⊞ v1) (v1 ⊟ v0) refl ∙ sym is)
-      (subst (λ z. (neg_ℚ half +ℚ total) ≤ℚ z) (ring_by_ℚ (h ∷ []) (negated (number (pos 1) ⊠ v0) ⊞ number (pos 1)) (number (pos 1) ⊠ v0) (negated (number (pos 1))) (number (pos 2) ⊠ v0) (number (pos 1)) refl two)
-      (≤ℚ_add total (whole (pos 1)) (neg_ℚ half) bounds.1)),
+          (subst (λ z. (neg_ℚ half +ℚ total) ≤ℚ z) (ring_by_ℚ (h ∷ []) (negated (number (pos 1) ⊠ v0) ⊞ number (pos 1)) (number (pos 1) ⊠ v0) (negated (number (pos 1))) (number (pos 2) ⊠ v0) (number (pos 1)) refl two)
+          (≤ℚ_add total (whole (pos 1)) (neg_ℚ half) bounds.1)),
     )
 
 -- ---- balance

@@ -7,12 +7,11 @@
 //! `loss_model`, whose dual values are scored.
 #![tactic(auto)]
 
-pub mod laws;
 mod integral;
+pub mod laws;
 mod pair;
 mod segment;
 
 pub use integral::wilcoxon;
 pub use pair::ScorePair;
 pub use segment::scores;
-

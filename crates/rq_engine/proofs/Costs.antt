@@ -99,6 +99,6 @@ input_costs input theta low high rows =
 
     costed : (i : ℕ) → i < length input.problem.rows → IsCosted p theta i
     costed i l = elim (below_or_not i (length input.design.rows)) [
-      inl before ↦ data_costs p theta i low high (rows.are_data i before)
+      | inl before ↦ data_costs p theta i low high (rows.are_data i before)
       | inr behind ↦ penalty_costs p theta i (rows.are_penalties i behind l)
     ]

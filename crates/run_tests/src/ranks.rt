@@ -232,7 +232,10 @@ fn scores_of_other_models_are_integrals(rt: HostRuntime) -> Result<(), Fail> {
         let left = ran_on(&rt, rt.alloc(), line, table.as_bytes())?;
         assert!(rt; left.status == 0, "{table}");
         let printed = from_utf8(left.printed.as_slice());
-        assert!(rt; left.printed.as_slice().ends_with(scores.as_bytes()), "{table}: {printed:?}");
+        assert!(rt;
+            left.printed.as_slice().ends_with(scores.as_bytes()),
+            "{table}: {printed:?}"
+        );
     }
     Ok(())
 }
