@@ -1,5 +1,5 @@
 -- Wilcoxon scores of many rows, one after another.
-use Rattle.std.proofs.Common.{◌≡◌, ◌+◌, ◌<◌, ℕ, zero, suc, Bool, true, false, nat_lt, List, [], ◌∷◌, ◌++◌, Some, length, slice_get, pos, arith, refl, sym, ap, subst, ◌∙◌}
+use Rattle.std.proofs.Common.{◌≡◌, ◌⊎◌, ◌+◌, ◌<◌, ℕ, zero, suc, Bool, true, false, nat_lt, List, [], ◌∷◌, ◌++◌, Some, length, slice_get, inl, inr, pos, arith, refl, sym, ap, subst, ◌∙◌}
 use Rattle.std.specs.Option.{option_map_or}
 use Rattle.std.proofs.lemmas.Bool.{ltb-false, ltb-true}
 use Rattle.std.proofs.lemmas.List.{length-append}
@@ -8,8 +8,10 @@ use Rattle.exact_algebra.specs.RationalSums.{sum_ℚ}
 use Rattle.exact_algebra.specs.Fraction.{Fraction, rational}
 use Rattle.loss_model.specs.declared.problem.Problem.{Problem}
 use Rattle.loss_model.specs.declared.process.Segment.{Segment}
+use Rattle.loss_model.specs.declared.spill.Spill.{Spill}
 use Rattle.loss_model.specs.Problem.{sample, value_at}
 use Rattle.loss_model.specs.Segment.{Covers, segments_of}
+use Rattle.rankscores.specs.Spills.{IsIntegrationSpill, IsScoreSpillOf, IsWilcoxonSpill}
 use Rattle.rankscores.specs.Trapezoids.{score_area}
 use Rattle.rankscores.specs.Wilcoxon.{half, AreWilcoxon, IsWilcoxon}
 use Rattle.rankscores.proofs.WilcoxonLaws.{is_sum, proper}
@@ -59,3 +61,10 @@ module _ {F : Type 0} (value : F → Fraction) (p : Problem F) (segments : List 
   pub first_all : (k : ℕ) (scores : List F) → k ≡ length p.rows → AreFirst k scores → AreWilcoxon value p segments scores
   first_all k scores end all =
       record { size = all.size ∙ end; each = subst (λ n. (i : ℕ) → i < n → IsWilcoxon (sample value p) (segments_of value p segments) i (value_at value scores i)) end all.each }
+
+-- an operation of the Wilcoxon score of a row is one of those of all rows
+pub row_spill : {F : Type 0} (value : F → Fraction) (range : ℕ) (p : Problem F) (segments : List (Segment F)) (i : ℕ) (spill : Spill F) → i < length p.rows
+    → IsScoreSpillOf value range p (length p.rows) segments spill ⊎ IsIntegrationSpill value range (sample value p) (segments_of value p segments) i spill
+    → IsWilcoxonSpill value range p segments spill
+row_spill value range p segments i spill within (inl scored) = inl scored
+row_spill value range p segments i spill within (inr integrated) = inr (i, within, integrated)
