@@ -1,5 +1,5 @@
 -- The lambdas of a formula that was read are numbers, and none of them is negative.
-use Rattle.std.proofs.Common.{◌≡◌, ◌<◌, ◌+◌, ◌-◌, ◌^◌, ◌==◌, ◌++◌, ◌∷◌, [], ℕ, zero, suc, Bool, true, false, List, All, Option, Some, None, Ok, Err, is_some, bytes_eq, codes, pos, map, option_map, ints, ◌||◌, length, take, drop, get_or, position, nat_le, refl, sym, ◌∙◌, ap, subst, append_assoc, arith, length-append, if◌then◌else◌, unsigned_abs, ◌&&◌, nat_eq}
+use Rattle.std.proofs.Common.{◌≡◌, ◌<◌, ◌+◌, ◌-◌, ◌^◌, ◌==◌, ◌++◌, ◌∷◌, [], ℕ, zero, suc, Bool, true, false, List, All, Option, Some, None, Ok, Err, is_some, bytes_eq, codes, pos, map, length, take, drop, get_or, position, nat_le, refl, sym, ◌∙◌, ap, subst, append_assoc, arith, length-append, if◌then◌else◌, unsigned_abs, ◌&&◌, nat_eq}
 use Rattle.std.proofs.Math.Seq.{take-append_seam, get_or-append_seam}
 use Rattle.std.proofs.lemmas.List.{drop-drop, length-take-le, take-append-drop}
 use Rattle.std.proofs.lemmas.Bool.Decides.{nat_tests}
@@ -8,14 +8,9 @@ use Rattle.std.specs.List.{list_all, prefix_len}
 use Rattle.std.specs.Char.{is_ascii_digit}
 use Rattle.std.specs.Str.{IsUtf8}
 use Rattle.std.proofs.lemmas.Str.{IsUtf8-from_ascii}
-use Rattle.std.specs.Str.Parse.{starts_with_minus, without_leading_sign}
 use Rattle.exact_algebra.specs.Fraction.{Fraction, rational}
-use Rattle.exact_algebra.specs.Rational.{ℚ, ◌≤ℚ◌, ◌*ℚ◌, inverse, whole}
-use Rattle.exact_algebra.specs.Solver.{number, ◌⊠◌, v0}
-use Rattle.exact_algebra.proofs.OrderLaws.{inverse_not_negative}
-use Rattle.exact_algebra.proofs.RationalLaws.{≤ℚ_mul, ring_ℚ}
-use Rattle.exact_algebra.proofs.WholeNumbers.{whole-le}
-use Rattle.frac_core.specs.NumberText.{decimal_form, decimal_of, in_range, is_number_text, is_slash, number_of, scaled, significand, with_exponent, with_sign, written, written_body, written_decimal, written_fraction}
+use Rattle.exact_algebra.specs.Rational.{◌≤ℚ◌, whole}
+use Rattle.frac_core.specs.NumberText.{decimal_of, in_range, is_number_text, number_of, significand, written, written_body}
 use Rattle.frac_core.specs.declared.number_reader.NumberFault.TheVariants.{TooWide}
 use Rattle.formula_grammar.specs.declared.token.Sign.TheVariants.{Plus}
 use Rattle.formula_grammar.specs.declared.token.Whole.TheVariants.{Zero, Unity, Longer}
@@ -39,6 +34,7 @@ use Rattle.formula_parser.specs.Laws.{LambdasAreNotNegative}
 use Rattle.formula_parser.specs.Parsed.{IsParsed, exact, lambda_text, meant_smooth, told_smooth}
 use Rattle.formula_parser.specs.declared.formula.Smooth.{Smooth as SmoothOf}
 use Rattle.formula_parser.specs.Spoken.{HasLambda}
+use Rattle.formula_parser.proofs.Signs.{unsigned_value}
 
 -- ---- where the lambdas stand among the tokens
 
@@ -311,69 +307,7 @@ lambdas_read text r h =
     let read : Each (HasLambda text) (smooths_of f.items) = each_mapped (Stands (tokens text)) (HasLambda text) (smooths_of f.items) (λ s. part_read text f s h.is) stand in
     subst (λ (ss : List SmoothPart). All (HasLambda text) ss) (sym (ap (λ (x : Reading). x.smooths) h.code)) (each_at (HasLambda text) (smooths_of f.items) read)
 
--- ---- a text without a sign writes no negative number
-
-not_negative : (n d : ℕ) → whole (pos 0) ≤ℚ rational (record { num = pos n; den = d })
-not_negative n d =
-    let below = inverse_not_negative (whole (pos d)) (whole-le (pos 0) (pos d) (omega (arith, ints))) in
-    subst (λ z. z ≤ℚ rational (record { num = pos n; den = d })) (ring_ℚ (whole (pos n) ∷ []) (v0 ⊠ number (pos 0)) (number (pos 0)) refl)
-    (≤ℚ_mul (whole (pos 0)) (inverse (whole (pos d))) (whole (pos n)) (whole-le (pos 0) (pos n) (omega (arith, ints))) below)
-
--- the numerator of what is written isn't negative
-HasNumerator : Option Fraction → Type 0
-HasNumerator None = Unit {0}
-HasNumerator (Some x) = (n : ℕ) × (x.num ≡ pos n)
-
-some_of_both : (t : Bool) (x y : Fraction) → HasNumerator (Some x) → HasNumerator (Some y) → HasNumerator (Some (if t then x else y))
-some_of_both true x y h k = h
-some_of_both false x y h k = k
-
-one_of_both : (t : Bool) (x y : Option Fraction) → HasNumerator x → HasNumerator y → HasNumerator (if t then x else y)
-one_of_both true x y h k = h
-one_of_both false x y h k = k
-
-scaled_numerator : (m up down : ℕ) → HasNumerator (Some (scaled m up down))
-unfolding HasNumerator
-scaled_numerator m up down = (_, refl)
-
-decimal_numerator : (front behind : Text) (up down : ℕ) → HasNumerator (Some (decimal_of front behind up down))
-unfolding decimal_of
-decimal_numerator front behind up down = some_of_both (significand (front ++ behind) == 0) _ _ (scaled_numerator _ _ _) (scaled_numerator _ _ _)
-
-form_numerator : (front behind exponent : Text) → HasNumerator (decimal_form front behind exponent)
-unfolding HasNumerator
-form_numerator front behind exponent =
-    one_of_both _ _ None (some_of_both (starts_with_minus exponent) _ _ (decimal_numerator front behind _ _) (decimal_numerator front behind _ _)) tt
-
-fraction_numerator : (above below : Text) → HasNumerator (written_fraction above below)
-unfolding HasNumerator
-fraction_numerator above below = one_of_both _ _ None (_, refl) tt
-
-body_numerator : (body : Text) → HasNumerator (written_body body)
-unfolding written_body
-body_numerator body = one_of_both (list_any is_slash body) _ _ (fraction_numerator _ _) (form_numerator _ _ _)
-
-no_minus : (q : Text) → is_signed q ≡ false → starts_with_minus q ≡ false
-no_minus [] h = refl
-no_minus (b ∷ bs) h = go (b == 45) h
-  where
-    go : (t : Bool) → (t || (b == 43)) ≡ false → t ≡ false
-    go true e = absurd (cc e)
-    go false e = refl
-
-unsigned_value : (range : ℕ) (q : Text) (v : ℚ) → is_signed q ≡ false → number_of range q ≡ Ok v → whole (pos 0) ≤ℚ v
-unfolding number_of written HasNumerator
-unsigned_value range q v h e = go (written_body (without_leading_sign q)) (body_numerator (without_leading_sign q)) (starts_with_minus q) (no_minus q h) e
-  where
-    tested : (x : Fraction) (t : Bool) → whole (pos 0) ≤ℚ rational x → (if t then Ok (rational x) else Err TooWide) ≡ Ok v → whole (pos 0) ≤ℚ v
-    tested x true least told = subst (λ z. whole (pos 0) ≤ℚ z) (cc told) least
-    tested x false least told = absurd (cc told)
-
-    go : (o : Option Fraction) → HasNumerator o → (t : Bool) → t ≡ false → in_range range (option_map (with_sign t) o) ≡ Ok v → whole (pos 0) ≤ℚ v
-    go None n t plain told = absurd (cc told)
-    go (Some x) n true plain told = absurd (cc plain)
-    go (Some x) n false plain told =
-        tested x (nat_le (unsigned_abs x.num) range && nat_le x.den range) (subst (λ z. whole (pos 0) ≤ℚ rational (record { num = z; den = x.den })) (sym n.1) (not_negative n.0 x.den)) told
+-- ---- none of them is negative
 
 unsigned_part : (text : Text) (s : SmoothPart) → Stands (tokens text) s → is_signed (lambda_text text s) ≡ false
 unfolding IsTrue

@@ -69,7 +69,7 @@ unfolding rows_of_loss row_of_loss
 loss_by_rows n [] theta b wide = refl
 loss_by_rows n (r ∷ rs) theta b wide =
     sum_front (length rs) (row_loss (sample value (record { columns = n; rows = r ∷ rs })) theta b)
-    ∙ ap₂ ◌+ℚ◌ (ap lost (sum_along n r.x b (sym (All-head wide)))) (loss_by_rows n rs theta b (All-tail wide))
+    ∙ ap₂ ◌+ℚ◌ (ap lost (sum_along n r.x b (sym (All-head (λ q. length q.x ≡ n) r rs wide)))) (loss_by_rows n rs theta b (All-tail (λ q. length q.x ≡ n) r rs wide))
   where
     -- by what is fitted
     lost : ℚ → ℚ
@@ -102,7 +102,7 @@ module _ (width : ℕ) (theta : ℚ) (b : ℕ → ℚ) where
   unfolding rows_of_loss
   data_losses [] smooth wide = refl
   data_losses (r ∷ rs) [] wide = refl
-  data_losses (r ∷ rs) (s ∷ smooth) wide = ap₂ ◌+ℚ◌ (data_loss r s (All-head wide)) (data_losses rs smooth (All-tail wide))
+  data_losses (r ∷ rs) (s ∷ smooth) wide = ap₂ ◌+ℚ◌ (data_loss r s (All-head (λ q. length q.x ≡ width) r rs wide)) (data_losses rs smooth (All-tail (λ q. length q.x ≡ width) r rs wide))
 
   -- ---- penalty rows
 

@@ -14,7 +14,7 @@ use Rattle.design_matrix.specs.CodedVariable.{is_text}
 use Rattle.tv_penalty.specs.declared.fault.PenaltyFault.{PenaltyFault}
 use Rattle.tv_penalty.specs.declared.fault.PenaltyFault.TheVariants.{OutOfMemory, NotNumeric, TooFewKnots, Overflow, TooManyColumns}
 use Rattle.tv_penalty.specs.Knots.{knots_of}
-use Rattle.tv_penalty.specs.Operations.{Operation, NoneOverflows, OverflowsFirst, smooth_operations}
+use Rattle.tv_penalty.specs.Operations.{SitedOperation, NoneOverflows, OverflowsFirst, smooth_operations}
 use Rattle.tv_penalty.specs.Smoothings.{has_rows, part_of, width}
 
 -- the column is a factor, or it has fewer than 3 values at the rows
@@ -44,7 +44,7 @@ abbrev pub smooth_fault : Setting → ℕ → Smooth → Option PenaltyFault
 smooth_fault at before s = option_or (knots_fault at.table at.rows s) (columns_fault (before + columns_in at s))
 
 -- the operations of a smooth's penalty rows
-abbrev pub operations_of : Setting → ℕ → Smooth → List Operation
+abbrev pub operations_of : Setting → ℕ → Smooth → List SitedOperation
 operations_of at number s =
     if has_rows at.penalised (exact s.lambda) then smooth_operations number (knots_of at.table at.rows s) else []
 
