@@ -1,5 +1,5 @@
 -- Areas below rankscores, one segment after another.
-use Rattle.std.proofs.Common.{◌≡◌, ◌⊎◌, ◌<◌, ◌≤◌, ◌+◌, ℕ, Bool, true, false, nat_lt, MatchResult, List, Option, Some, Contains, Result, Ok, Err, IfErr, IfOk, IsOk, get_or, length, slice_get, slice_index, inl, inr, pos, arith, refl, sym, ap, ap₂, subst, ◌∙◌, [], ◌∷◌}
+use Rattle.std.proofs.Common.{◌≡◌, ◌⊎◌, ◌<◌, ◌≤◌, ◌+◌, ℕ, Bool, true, false, nat_lt, MatchResult, List, Option, Some, Contains, Result, Ok, Err, IfErr, IfOk, IsOk, get_or, length, slice_get, inl, inr, pos, arith, refl, sym, ap, ap₂, subst, ◌∙◌, [], ◌∷◌}
 use Rattle.std.specs.List.Sorted.{IsBinarySearchResult, IsStrictlyIncreasing}
 use Rattle.std.specs.Ordering.{nat_cmp}
 use Rattle.std.proofs.lemmas.Bool.{ltb-false, ltb-true}
@@ -7,7 +7,7 @@ use Rattle.std.proofs.lemmas.List.Sorted.{searched}
 use Rattle.std.proofs.lemmas.Option.{slice_get-get_or}
 use Rattle.std.specs.Option.{option_map_or}
 use Rattle.exact_algebra.specs.Solver.{number, ◌⊞◌, ◌⊟◌, ◌⊠◌, v0, v1, v2, v3}
-use Rattle.exact_algebra.specs.Rational.{ℚ, ◌+ℚ◌, ◌-ℚ◌, ◌*ℚ◌, inverse, whole}
+use Rattle.exact_algebra.specs.Rational.{ℚ, ◌+ℚ◌, ◌-ℚ◌, whole}
 use Rattle.exact_algebra.specs.Fraction.{Fraction, rational}
 use Rattle.exact_algebra.specs.RationalSums.{sum_ℚ}
 use Rattle.exact_algebra.proofs.RationalLaws.{ring_ℚ, ring_by_ℚ}
@@ -21,7 +21,7 @@ use Rattle.loss_model.specs.Dual.{rankscore, IsDataRow}
 use Rattle.loss_model.specs.Laws.{SidesAreScores}
 use Rattle.loss_model.specs.Problem.{sample}
 use Rattle.loss_model.specs.Segment.{dual_at, segments_of}
-use Rattle.loss_model.specs.Spill.{Operation, IsAmong}
+use Rattle.loss_model.specs.Spill.{IsAmong}
 use Rattle.loss_model.proofs.Vertices.{ascending}
 use Rattle.rankscores.specs.Rows.{segment_area, segment_operations, IsPartSpill}
 use Rattle.rankscores.specs.Scores.{score}

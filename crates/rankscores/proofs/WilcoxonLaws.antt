@@ -1,5 +1,5 @@
 -- Wilcoxon scores as sums, their bounds, and their balance.
-use Rattle.std.specs.Prelude.{◌≡◌, ◌⊎◌, ℕ, zero, suc, ◌+◌, ◌-◌, ◌<◌, [], ◌∷◌, pos}
+use Rattle.std.specs.Prelude.{◌≡◌, ◌⊎◌, ℕ, zero, suc, ◌-◌, ◌<◌, [], ◌∷◌, pos}
 use Rattle.std.proofs.Common.{add-one, arith, inl, inr, refl, sym, ap, ap₂, subst, ◌∙◌}
 use Rattle.std.specs.declared.cmp.Ordering.TheVariants.{Less}
 use Rattle.exact_algebra.specs.Order.{cmp_ℚ}
@@ -9,7 +9,7 @@ use Rattle.exact_algebra.specs.RationalSums.{sum_ℚ}
 use Rattle.exact_algebra.proofs.Inverses.{one-zero}
 use Rattle.exact_algebra.proofs.OrderLaws.{cmp_ℚ-Less, inverse_not_negative, le_from_not, ≤ℚ-minus}
 use Rattle.exact_algebra.proofs.RationalLaws.{ring_ℚ, ring_by_ℚ, *ℚ-inverse, ≤ℚ_add, ≤ℚ_refl}
-use Rattle.exact_algebra.proofs.RationalSumLaws.{sum_ℚ-le, sum_ℚ-mix, sum_ℚ-same, sum_ℚ-scale, sum_ℚ-swap, sum_ℚ-zero, ≤ℚ_add2, ≤ℚ_from}
+use Rattle.exact_algebra.proofs.RationalSumLaws.{sum_ℚ-le, sum_ℚ-mix, sum_ℚ-same, sum_ℚ-scale, sum_ℚ-swap, sum_ℚ-zero, ≤ℚ_from}
 use Rattle.loss_model.specs.Dual.{IsDataRow, rankscore}
 use Rattle.loss_model.specs.Laws.{RankscoresAreBounded}
 use Rattle.loss_model.specs.Sample.{Sample}
@@ -18,7 +18,7 @@ use Rattle.loss_model.specs.Strict.{◌<ℚ◌}
 use Rattle.loss_model.proofs.Quotients.{product_not_negative}
 use Rattle.rankscores.specs.Integrals.{line, IsIntegral}
 use Rattle.rankscores.specs.Laws.{AreFeasible, AreProper, ScoresAreBounded, WilcoxonIsBalanced, WilcoxonIsBounded, WilcoxonIsSum, WilcoxonSumsToZero}
-use Rattle.rankscores.specs.Trapezoids.{score_area, trapezoid}
+use Rattle.rankscores.specs.Trapezoids.{score_area}
 use Rattle.rankscores.specs.Wilcoxon.{half, score_along, IsWilcoxon}
 use Rattle.rankscores.proofs.Integrals.{h, length-one, sum_not_negative, trapezoid_at_least, trapezoid_at_most, trapezoid_is, two}
 

@@ -1,7 +1,7 @@
 -- Inner. The area below the rankscore of a row along one segment of the program, and what is needed of a row and of
 -- the segments for its integral.
-use Rattle.std.specs.Prelude.{◌≡◌, ◌⊎◌, ℕ, ◌<◌, ◌≤◌, ◌^◌, List, All, length, pos}
-use Rattle.exact_algebra.specs.Rational.{ℚ, whole}
+use Rattle.std.specs.Prelude.{◌⊎◌, ℕ, ◌<◌, ◌≤◌, ◌^◌, List, All, length}
+use Rattle.exact_algebra.specs.Rational.{ℚ}
 use Rattle.exact_algebra.specs.Fraction.{Fraction, rational}
 use Rattle.loss_model.specs.declared.problem.Problem.{Problem}
 use Rattle.loss_model.specs.declared.process.Segment.{Segment}

@@ -1,5 +1,4 @@
 use Rattle.std.proofs.Common.{inl, inr, refl, ◌∙◌}
-use Rattle.exact_algebra.specs.Fraction.{rational}
 use Rattle.loss_model.proofs.Products.{refusal}
 use Rattle.rankscores.proofs.Areas.{length_is}
 use Rattle.rankscores.proofs.integral.plus_length.Goals as goal
