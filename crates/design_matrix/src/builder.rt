@@ -102,7 +102,7 @@ fn build_kept(
         return Err(DesignFault::NoColumns);
     }
     let count = column_count(coder.model.intercept, &terms);
-    if count > MOST_COLUMNS as u64 {
+    if count > u64::from(MOST_COLUMNS) {
         return Err(DesignFault::TooManyColumns);
     }
     match design_from(alloc, coder, used, &terms) {
