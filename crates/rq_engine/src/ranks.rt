@@ -30,7 +30,10 @@ fn ranks_input(alloc: Global, job: &FitJob, input: Input) -> Result<RanksFit, Ha
     };
     match wilcoxon(alloc, &fit.problem, &fit.process) {
         Ok(wilcoxon) => Ok(RanksFit { fit, wilcoxon }),
-        Err(short) => Err(short_halt(short, fit.process.trail)),
+        Err(short) => {
+            let process = fit.process;
+            Err(short_halt(short, process.trail))
+        }
     }
 }
 
