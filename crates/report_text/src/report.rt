@@ -23,10 +23,18 @@ pub struct Fit {
     pub scores: List<List<ScorePair<Frac128>>>,
 }
 
+/// A fitted model over 0 to 1, and the Wilcoxon score of each of its rows.
+#[derive(Drop)]
+pub struct RanksFit {
+    pub fit: Fit,
+    pub wilcoxon: List<Frac128>,
+}
+
 /// What a job found.
 #[derive(Drop)]
 pub enum Report {
     Process(Fit),
+    Ranks(RanksFit),
 }
 
 /// Why an input has no report. No fault in it is want of memory.

@@ -31,7 +31,7 @@ use Rattle.walk_rule.specs.WalkTrails.{theta_value}
 use Rattle.tau_process.specs.Processes.{HasResults, IsProcess}
 use Rattle.tau_process.specs.Stops.{IsLimited, IsProcessStop}
 use Rattle.rankscores.specs.declared.pair.ScorePair.{ScorePair}
-use Rattle.rankscores.specs.Scores.{IsScored}
+use Rattle.rankscores.specs.Scores.{IsScorable, IsScored}
 use Rattle.rankscores.specs.Spills.{IsScoresSpill}
 use Rattle.rq_words.specs.declared.job.FitJob.{FitJob}
 use Rattle.report_text.specs.declared.report.Fit.{Fit}
@@ -44,7 +44,6 @@ use Rattle.rq_input.specs.declared.input.Input.{Input}
 use Rattle.rq_engine.specs.Answers.{HasFitCause}
 use Rattle.rq_engine.specs.Fit.{IsOptimalAt, IsOptimalWithin, IsRightFit, IsRightSegment, mixed_dual}
 use Rattle.rq_engine.specs.Halts.{short_halt, stop_halt}
-use Rattle.rq_engine.specs.Scored.{IsScorable}
 use Rattle.report_text.specs.ReportText.{value}
 use Rattle.rq_engine.specs.Stops.{IsSegmentSpill, HasProblemCause, most}
 

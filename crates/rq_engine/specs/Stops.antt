@@ -1,4 +1,4 @@
--- Stated. Why a problem has no fit.
+-- Stated. Why a problem has no fit, and why it has no Wilcoxon scores.
 use Rattle.std.specs.Prelude.{◌≡◌, ◌⊎◌, ℕ, ◌^◌, ◌-◌, ◌≤◌, List, length, slice_get, Some, ⊤}
 use Rattle.exact_algebra.specs.Fraction.{Fraction, rational}
 use Rattle.exact_algebra.specs.Rational.{ℚ}
@@ -17,7 +17,7 @@ use Rattle.report_text.specs.declared.report.Refusal.TheVariants.{Dependent}
 use Rattle.report_text.specs.declared.report.Halt.{Halt}
 use Rattle.report_text.specs.declared.report.Halt.TheVariants.{Refused, OutOfMemory, PivotLimit, Overflow}
 use Rattle.report_text.specs.ReportText.{value}
-use Rattle.rankscores.specs.Spills.{IsScoresSpill}
+use Rattle.rankscores.specs.Spills.{IsScoresSpill, IsWilcoxonSpill}
 
 -- the first n rows are data rows
 module _ {F : Type 0} (value : F → Fraction) (range : ℕ) (p : Problem F) (n : ℕ) where
@@ -39,6 +39,14 @@ module _ {F : Type 0} (value : F → Fraction) (range : ℕ) (p : Problem F) (n 
   abbrev pub IsFitSpill : ℚ → ℚ → ℕ → Trail F → Spill F → Type 0
   IsFitSpill lo hi limit trail spill =
       IsProcessSpill value range p lo hi limit trail spill ⊎ IsResultSpill lo hi limit trail spill
+
+-- after the walk: the lawful trail is at its end within the limit, and an operation of the Wilcoxon scores over its
+-- segments overflows
+pub record IsScoringSpill {F : Type 0} (value : F → Fraction) (range : ℕ) (p : Problem F) (lo hi : ℚ) (limit : ℕ) (trail : Trail F) (spill : Spill F) : Type 0 where
+  pub segments : List (Segment F)
+  pub results : HasResults value p lo hi (record { segments = segments; trail = trail })
+  pub short : length trail.steps ≤ limit
+  pub operation : IsWilcoxonSpill value range p segments spill
 
 -- the greatest number of 128 bits with a sign
 abbrev pub most : ℕ

@@ -5,13 +5,12 @@ ghost use Rattle.exact_algebra.specs.Fraction.{rational};
 ghost use Rattle.exact_algebra.specs.Rational.{◌≤ℚ◌, whole};
 ghost use Rattle.loss_model.specs.Problem.{sample};
 ghost use Rattle.loss_model.specs.Quantities.{IsShortOf};
-ghost use Rattle.rankscores.specs.Scores.{IsScored};
+ghost use Rattle.rankscores.specs.Scores.{IsScorable, IsScored};
 ghost use Rattle.report_text.specs.ReportText.{value, IsPrintable};
 ghost use Rattle.report_text.specs.declared.report.Report.TheVariants as reports;
 ghost use Rattle.rq_input.specs.Rows.{HasRows};
 ghost use Rattle.rq_engine.specs.Answers.{HasFitCause, IsFitOf, IsFitOfBytes};
 ghost use Rattle.rq_engine.specs.Fit.{IsFitUnder};
-ghost use Rattle.rq_engine.specs.Scored.{IsScorable};
 ghost use Rattle.rq_engine.specs.Stops.{HasProblemCause, IsSegmentSpill};
 
 use crate::halt::{short_halt, stop_halt};
@@ -91,7 +90,7 @@ fn fit_of(
 //
 // `Dependent`, `PivotLimit` and an `Overflow` in the walk are those of `process`; an overflow of a
 // rankscore comes after it, with the whole trail.
-fn fit_input(alloc: Global, job: &FitJob, input: Input) -> Result<Fit, Halt>
+pub(crate) fn fit_input(alloc: Global, job: &FitJob, input: Input) -> Result<Fit, Halt>
     requires low { whole (pos 0) ≤ℚ rational (value job.now.lo) }
     requires ordered { rational (value job.now.lo) ≤ℚ rational (value job.now.hi) }
     requires high { rational (value job.now.hi) ≤ℚ whole (pos 1) }

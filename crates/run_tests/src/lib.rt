@@ -10,6 +10,8 @@ mod medians;
 #[cfg(test)]
 mod ranges;
 #[cfg(test)]
+mod ranks;
+#[cfg(test)]
 mod rows;
 #[cfg(test)]
 mod smooths;

@@ -64,7 +64,7 @@ fn other_formulas_and_quantiles_are_told(rt: HostRuntime) -> Result<(), Fail> {
 }
 
 // Each case: words that are refused, or that ask for what this version doesn't do.
-static COMMANDS: [(&str, u8, &str); 19] = [
+static COMMANDS: [(&str, u8, &str); 20] = [
     ("", 2, "quantreg: usage: NoJob\n"),
     ("fit", 2, "quantreg: usage: UnknownJob\n"),
     ("--help", 2, "quantreg: usage: UnknownJob\n"),
@@ -132,9 +132,14 @@ static COMMANDS: [(&str, u8, &str); 19] = [
         "quantreg: build: NotBuilt part=1\n",
     ),
     (
-        "ranks|--formula|y ~ 1",
-        9,
-        "quantreg: build: NotBuilt part=1\n",
+        "ranks|--formula|y ~ qss(y, 1)",
+        1,
+        "quantreg: rank: RankWithPenalty\n",
+    ),
+    (
+        "ranks|--formula|y ~ 1|--pivots|1",
+        6,
+        "quantreg: solver: PivotLimit place=process limit=1\n",
     ),
 ];
 
