@@ -6,6 +6,7 @@ from fractions import Fraction
 import matplotlib.pyplot as plt
 from matplotlib import colormaps
 
+from .designs import response_name
 from .numbers import as_fraction
 
 LINE, BAND, RUG = "#1f4e79", "#9ecae1", "#c0504d"
@@ -165,8 +166,7 @@ def plot_fit(fit, x=None, taus=None, *, units=None, width=6.4, height=4.6):
     axis.set_xlim(*ends)
     _label_lines(axis, labels)
     axis.set_xlabel(_named(units, x))
-    response = fit.formula.partition("~")[0].strip().strip("`")
-    axis.set_ylabel(_named(units, response))
+    axis.set_ylabel(_named(units, response_name(fit.formula)))
     return figure
 
 
