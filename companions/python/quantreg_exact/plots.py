@@ -123,7 +123,9 @@ def plot_process(report, columns=None, *, units=None, response="response", trim=
     for axis in axes:
         axis.set_xlabel("quantile", fontsize=8)
         axis.xaxis.set_tick_params(labelbottom=True)
-    figure.supxlabel(f"{len(report.segments):,} segments; {said}", fontsize=8, color="0.35")
+    at_taus = len({it.tau for it in report.intervals})
+    bands = f"; bands: rank intervals at {at_taus} quantiles" if at_taus else ""
+    figure.supxlabel(f"{len(report.segments):,} segments; {said}{bands}", fontsize=8, color="0.35")
     return figure
 
 
