@@ -24,13 +24,18 @@ fn ranks_input(alloc: Global, job: &FitJob, input: Input) -> Result<RanksFit, Ha
     ensures right { IfOk result (AreRanksOf job.now input) }
     ensures cause { IfErr result (HasScoringCause job.now input) }
 {
+    // A limit of 32 bits: there are no more segments than the site of a score can number.
+    let _limit = job.limit;
     let fit = match fit_input(alloc, job, input) {
         Ok(fit) => fit,
         Err(halt) => return Err(halt),
     };
     match wilcoxon(alloc, &fit.problem, &fit.process) {
         Ok(wilcoxon) => Ok(RanksFit { fit, wilcoxon }),
-        Err(short) => Err(short_halt(short, fit.process.trail)),
+        Err(short) => {
+            let process = fit.process;
+            Err(short_halt(short, process.trail))
+        }
     }
 }
 

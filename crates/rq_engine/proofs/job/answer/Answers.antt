@@ -4,27 +4,27 @@ use Rattle.rq_engine.proofs.Asked.{asked_formula, asked_range, asked_ranks, aske
 use Rattle.rq_engine.proofs.job.answer.Goals as goal
 
 pub fit_bytes-requires-clause-low : goal.fit_bytes-requires-clause-low
-fit_bytes-requires-clause-low g c κs =
-    (asked_range c.requires.asked.0 c.in-Process.fit_job.now (subst (IsJobOf c.requires.asked.0) c.in-Process.is c.requires.asked.1)).0
+fit_bytes-requires-clause-low g c =
+    (asked_range c.requires.asked.0 c.in-Process.fit_job (subst (IsJobOf c.requires.asked.0) c.in-Process.is c.requires.asked.1)).0
 
 pub fit_bytes-requires-clause-ordered : goal.fit_bytes-requires-clause-ordered
-fit_bytes-requires-clause-ordered g c κs =
-    (asked_range c.requires.asked.0 c.in-Process.fit_job.now (subst (IsJobOf c.requires.asked.0) c.in-Process.is c.requires.asked.1)).1
+fit_bytes-requires-clause-ordered g c =
+    (asked_range c.requires.asked.0 c.in-Process.fit_job (subst (IsJobOf c.requires.asked.0) c.in-Process.is c.requires.asked.1)).1
 
 pub fit_bytes-requires-clause-high : goal.fit_bytes-requires-clause-high
-fit_bytes-requires-clause-high g c κs =
-    (asked_range c.requires.asked.0 c.in-Process.fit_job.now (subst (IsJobOf c.requires.asked.0) c.in-Process.is c.requires.asked.1)).2
+fit_bytes-requires-clause-high g c =
+    (asked_range c.requires.asked.0 c.in-Process.fit_job (subst (IsJobOf c.requires.asked.0) c.in-Process.is c.requires.asked.1)).2
 
 pub fit_bytes-requires-clause-long : goal.fit_bytes-requires-clause-long
-fit_bytes-requires-clause-long g c κs = asked_formula c.requires.asked.0 c.in-Process.fit_job.now (subst (IsJobOf c.requires.asked.0) c.in-Process.is c.requires.asked.1)
+fit_bytes-requires-clause-long g c = asked_formula c.requires.asked.0 c.in-Process.fit_job (subst (IsJobOf c.requires.asked.0) c.in-Process.is c.requires.asked.1)
 
 pub ranks_bytes-requires-clause-low : goal.ranks_bytes-requires-clause-low
-ranks_bytes-requires-clause-low g c κs =
-    (asked_unit c.requires.asked.0 c.in-Ranks.fit_job.now (subst (IsJobOf c.requires.asked.0) c.in-Ranks.is c.requires.asked.1)).0
+ranks_bytes-requires-clause-low g c =
+    (asked_unit c.requires.asked.0 c.in-Ranks.fit_job (subst (IsJobOf c.requires.asked.0) c.in-Ranks.is c.requires.asked.1)).0
 
 pub ranks_bytes-requires-clause-high : goal.ranks_bytes-requires-clause-high
-ranks_bytes-requires-clause-high g c κs =
-    (asked_unit c.requires.asked.0 c.in-Ranks.fit_job.now (subst (IsJobOf c.requires.asked.0) c.in-Ranks.is c.requires.asked.1)).1
+ranks_bytes-requires-clause-high g c =
+    (asked_unit c.requires.asked.0 c.in-Ranks.fit_job (subst (IsJobOf c.requires.asked.0) c.in-Ranks.is c.requires.asked.1)).1
 
 pub ranks_bytes-requires-clause-long : goal.ranks_bytes-requires-clause-long
-ranks_bytes-requires-clause-long g c κs = asked_ranks c.requires.asked.0 c.in-Ranks.fit_job.now (subst (IsJobOf c.requires.asked.0) c.in-Ranks.is c.requires.asked.1)
+ranks_bytes-requires-clause-long g c = asked_ranks c.requires.asked.0 c.in-Ranks.fit_job (subst (IsJobOf c.requires.asked.0) c.in-Ranks.is c.requires.asked.1)

@@ -3,13 +3,13 @@ use Rattle.rq_engine.proofs.Scoring.{all_data, covers_unit, few_fit, few_rows, f
 use Rattle.rq_engine.proofs.ranks.ranks_input.Goals as goal
 
 pub fit_input-requires-clause-low : goal.fit_input-requires-clause-low
-fit_input-requires-clause-low c κs = from_zero c.args.job.now c.requires.low c.requires.high
+fit_input-requires-clause-low c = from_zero c.args.job.now c.requires.low c.requires.high
 
 pub fit_input-requires-clause-ordered : goal.fit_input-requires-clause-ordered
-fit_input-requires-clause-ordered c κs = in_order c.args.job.now c.requires.low c.requires.high
+fit_input-requires-clause-ordered c = in_order c.args.job.now c.requires.low c.requires.high
 
 pub fit_input-requires-clause-high : goal.fit_input-requires-clause-high
-fit_input-requires-clause-high c κs = to_one c.args.job.now c.requires.low c.requires.high
+fit_input-requires-clause-high c = to_one c.args.job.now c.requires.low c.requires.high
 
 pub returns-in-Err-clause-cause : goal.returns-in-Err-clause-cause
 returns-in-Err-clause-cause c = scoring_fit c.args.job.now c.args.input c.in-Err.halt c.in-Err.ensures.cause
