@@ -13,6 +13,11 @@ from fractions import Fraction
 from .numbers import is_number_text
 
 _BLANKS = " \t"
+# The tokens of a formula that matter here: names, with or without backticks, numbers, the dot of all columns, and what may open.
+_TOKEN = re.compile(
+    r"`(?P<quoted>[^`]*)`|(?P<name>(?:[A-Za-z]|\.[A-Za-z._])[A-Za-z0-9._]*)|(?:[0-9]+\.?[0-9]*|\.[0-9]+)(?:[eE][+-]?[0-9]+)?"
+    r"|(?P<dot>\.)|(?P<open>\()|[^\s]"
+)
 _KNOT = re.compile(r"qss\((?P<name>.*)\)\[(?P<knot>[^\]]*)\]", re.DOTALL)
 
 
@@ -47,7 +52,7 @@ class Table:
 
     def kept(self, fit, variables):
         """The records that were fitted, from 0."""
-        used = [_response_name(fit.formula), *variables, *([fit.weights] if fit.weights else [])]
+        used = [response_name(fit.formula), *variables, *([fit.weights] if fit.weights else [])]
         kept = [record for record in range(self.records) if self.has(record, used)]
         if fit.weights:
             kept = [record for record in kept if self.number(record, fit.weights) != 0]
@@ -56,7 +61,7 @@ class Table:
         return kept
 
     def response(self, fit):
-        name = _response_name(fit.formula)
+        name = response_name(fit.formula)
         return [self.number(record, name) for record in fit.meaning.kept]
 
 
@@ -68,8 +73,25 @@ def _is_numeric(cell):
     return is_number_text(cell.strip(_BLANKS))
 
 
-def _response_name(formula):
-    return formula.partition("~")[0].strip().strip("`")
+def response_name(formula):
+    """The name of a formula's response, without backticks."""
+    first = _TOKEN.search(formula)
+    return first["name"] or first["quoted"]
+
+
+def _variables(formula, names):
+    """What a formula's right side may name: the columns as they are, and those in `factor( )`."""
+    tokens = list(_TOKEN.finditer(formula))
+    plain, factors = set(), set()
+    for at, token in enumerate(tokens[2:], 2):
+        opens = at + 2 < len(tokens) and tokens[at + 1]["open"]
+        if token["dot"]:
+            plain |= set(names) - {response_name(formula)}
+        elif token["name"] == "factor" and opens:
+            factors.add(tokens[at + 2]["name"] or tokens[at + 2]["quoted"])
+        elif token["name"] or token["quoted"] is not None:
+            plain.add(token["name"] or token["quoted"])
+    return plain, factors
 
 
 @dataclass(frozen=True)
@@ -126,13 +148,13 @@ class Names:
 
     def _candidates(self):
         """Each variable that the formula may name, with the suffixes that its columns may have."""
-        right = re.sub(r"[\s`]", "", self.fit.formula.partition("~")[2])
+        plain, factors = _variables(self.fit.formula, self.table.cells)
         candidates = []
         for name in self.table.cells:
-            squeezed, is_number = re.sub(r"[\s`]", "", name), name in self.table.numeric
-            if f"factor({squeezed})" in right:
+            is_number = name in self.table.numeric
+            if name in factors:
                 candidates.append(self._candidate(_Variable(name, f"factor({name})", True, is_number)))
-            if squeezed in right or "." in right:
+            if name in plain:
                 candidates.append(self._candidate(_Variable(name, name, not is_number, is_number)))
         return candidates
 

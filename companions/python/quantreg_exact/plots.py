@@ -6,6 +6,7 @@ from fractions import Fraction
 import matplotlib.pyplot as plt
 from matplotlib import colormaps
 
+from .designs import response_name
 from .numbers import as_fraction
 
 LINE, BAND, RUG = "#1f4e79", "#9ecae1", "#c0504d"
@@ -122,7 +123,9 @@ def plot_process(report, columns=None, *, units=None, response="response", trim=
     for axis in axes:
         axis.set_xlabel("quantile", fontsize=8)
         axis.xaxis.set_tick_params(labelbottom=True)
-    figure.supxlabel(f"{len(report.segments):,} segments; {said}", fontsize=8, color="0.35")
+    at_taus = len({it.tau for it in report.intervals})
+    bands = f"; bands: rank intervals at {at_taus} quantiles" if at_taus else ""
+    figure.supxlabel(f"{len(report.segments):,} segments; {said}{bands}", fontsize=8, color="0.35")
     return figure
 
 
@@ -165,8 +168,7 @@ def plot_fit(fit, x=None, taus=None, *, units=None, width=6.4, height=4.6):
     axis.set_xlim(*ends)
     _label_lines(axis, labels)
     axis.set_xlabel(_named(units, x))
-    response = fit.formula.partition("~")[0].strip().strip("`")
-    axis.set_ylabel(_named(units, response))
+    axis.set_ylabel(_named(units, response_name(fit.formula)))
     return figure
 
 

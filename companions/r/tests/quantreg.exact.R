@@ -87,10 +87,9 @@ for (contrasts in c("treatment", "sas", "sum", "helmert")) {
 for (wrong in list(data.frame(y = 1:2, f = factor(1:2)), data.frame(y = c(1, Inf), f = 1:2))) {
     stopifnot(inherits(try(rq_exact(y ~ f, wrong), silent = TRUE), "try-error"))
 }
-# Whichever version of the program stands, it is right or says NotBuilt. The records 1 to 5 have the interval 2 to 4 for each critical
-# value from 1/5 to below 9/5, such as the square of qt(0.75, 4).
-found <- tryCatch(ranks_exact(y ~ x, three)$exact, quantreg_error = function(fault) fault$name)
-stopifnot(identical(found, "NotBuilt") || identical(found, c("-1/5", "3/10", "-1/10")))
+stopifnot(identical(ranks_exact(y ~ x, three)$exact, c("-1/5", "3/10", "-1/10")))
+# Whichever version of the program stands, its intervals are right or it says NotBuilt. The records 1 to 5 have the interval 2 to 4 for
+# each critical value from 1/5 to below 9/5, such as the square of qt(0.75, 4).
 found <- tryCatch(summary(rq_exact(y ~ 1, data.frame(y = 1:5)), alpha = 0.5)$tables[[1]], warning = conditionMessage)
 stopifnot(grepl("NotBuilt", found[1]) || identical(unname(found[1, ]), c(3, 2, 4)))
 
@@ -112,6 +111,24 @@ if (requireNamespace("quantreg", quietly = TRUE)) {
     # At 1/2 of two records any value between them has the same loss.
     two <- compare_rq(y ~ 1, data.frame(y = c(1, 2, 3, 4)))
     stopifnot(two$summary$verdict %in% c("same", "not unique: both losses agree"))
+    # rqss wants its own words on the path. Its lambda is twice ours: the fit at twice the number has our loss, to the digits
+    # of an interior point method.
+    suppressPackageStartupMessages(library(quantreg))
+    wave <- data.frame(x = rep(1:12, 2), y = c(3, 9, 4, 12, 7, 2, -5, -3, -9, -8, 1, -2, 5, 4, 8, 9, 9, 1, -4, -9, -6, -11, -3, 2))
+    smooth_loss <- function(values, lambda, tau) {
+        residuals <- wave$y - values[wave$x]
+        sum(residuals * (tau - (residuals < 0))) + lambda * sum(abs(diff(diff(values))))
+    }
+    for (lambda in c(0.2, 0.5, 1.5)) for (tau in c(0.25, 0.5)) {
+        ours <- fraction_value(rq_exact(stats::as.formula(sprintf("y ~ qss(x, %g)", lambda)), wave, tau)$exact_loss)
+        theirs <- vapply(1:2, function(times) {
+            fit <- rqss(y ~ qss(x, lambda = times * lambda), tau = tau, data = wave)
+            smooth_loss(fitted(fit)[match(1:12, wave$x)], lambda, tau)
+        }, 0)
+        stopifnot(abs(theirs[2] - ours) < 1e-5 * ours)
+        # The fit at the same number is another one.
+        if (tau == 0.25) stopifnot(theirs[1] > ours + 0.5)
+    }
 } else {
     cat("skipped: comparisons with rq, for R has no package quantreg\n")
 }
