@@ -1,0 +1,11 @@
+mod Spilled
+mod Decided
+mod Chains
+mod Steps
+mod Agrees
+mod Compared
+mod Priced
+mod Counts
+mod Extracts
+mod Worths
+mod Shown
