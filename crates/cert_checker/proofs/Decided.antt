@@ -131,11 +131,12 @@ rest_of f i zero =
     ([], ap (λ k. upto k f) same ∙ ap (λ l. upto i f ++ l) (sym (append-nil (f i))))
 rest_of f i (suc left) =
     let before = rest_of f i left in
-    let on : suc i + suc left ≡ suc (suc i + left) = omega arith in
-    (before.0 ++ f (suc i + left),
-    ap (λ k. upto k f) on ∙ ap (λ l. l ++ f (suc i + left)) before.1
-    ∙ append_assoc (upto i f) (f i ++ before.0) (f (suc i + left))
-    ∙ ap (λ l. upto i f ++ l) (append_assoc (f i) before.0 (f (suc i + left))))
+    let on : suc i + suc left ≡ suc (suc i + left) = omega arith in (
+      before.0 ++ f (suc i + left),
+      ap (λ k. upto k f) on ∙ ap (λ l. l ++ f (suc i + left)) before.1
+          ∙ append_assoc (upto i f) (f i ++ before.0) (f (suc i + left))
+          ∙ ap (λ l. upto i f ++ l) (append_assoc (f i) before.0 (f (suc i + left))),
+    )
 
 pub around : {A : Type 0} (f : ℕ → List A) (i n : ℕ) → i < n → (zs : List A) × (upto n f ≡ upto i f ++ (f i ++ zs))
 around f i n l =
@@ -177,6 +178,9 @@ module _ (at : Place) where
   pub behind_parts : (done n : ℕ) (xs ys : List Part) → DecidesParts at done xs (Ok n) → (r : Result ℕ Failure) → DecidesParts at n ys r → DecidesParts at done (xs ++ ys) r
   behind_parts done n xs ys k (Ok m) h = both_parts at done n m xs ys k h
   behind_parts done n xs ys k (Err e) h = later_parts at done n xs ys e k h
+
+  pub first_fits : (done : ℕ) (xs ys : List Part) → done + length (part_operations (xs ++ ys)) < 2 ^ 32 → done + length (part_operations xs) < 2 ^ 32
+  first_fits done xs ys h = let l = length_joined xs ys in omega (arith, h, l)
 
   pub second_fits : (done n : ℕ) (xs ys : List Part) → DecidesParts at done xs (Ok n) → done + length (part_operations (xs ++ ys)) < 2 ^ 32
       → n + length (part_operations ys) < 2 ^ 32

@@ -9,3 +9,4 @@ mod Counts
 mod Extracts
 mod Worths
 mod Shown
+mod All

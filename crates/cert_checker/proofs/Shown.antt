@@ -49,8 +49,8 @@ between a b lo hi theta h k at_lo at_hi = by (le_ℚ (whole (pos 0)) b) refl
         let falls : b ≤ℚ whole (pos 0) = ≤ℚ_total (whole (pos 0)) b e in
         let size : whole (pos 0) ≤ℚ neg_ℚ b = subst (λ z. z ≤ℚ neg_ℚ b) (ring_ℚ [] (negated (number (pos 0))) (number (pos 0)) refl) (≤ℚ_neg b (whole (pos 0)) falls) in
         let less : (b *ℚ hi) ≤ℚ (b *ℚ theta) = subst (λ z. z ≤ℚ (b *ℚ theta)) (ring_ℚ (b ∷ hi ∷ []) (negated (negated v0 ⊠ v1)) (v0 ⊠ v1) refl)
-                (subst (λ z. neg_ℚ (neg_ℚ b *ℚ hi) ≤ℚ z) (ring_ℚ (b ∷ theta ∷ []) (negated (negated v0 ⊠ v1)) (v0 ⊠ v1) refl)
-                (≤ℚ_neg (neg_ℚ b *ℚ theta) (neg_ℚ b *ℚ hi) (≤ℚ_mul theta hi (neg_ℚ b) size k))) in
+        (subst (λ z. neg_ℚ (neg_ℚ b *ℚ hi) ≤ℚ z) (ring_ℚ (b ∷ theta ∷ []) (negated (negated v0 ⊠ v1)) (v0 ⊠ v1) refl)
+        (≤ℚ_neg (neg_ℚ b *ℚ theta) (neg_ℚ b *ℚ hi) (≤ℚ_mul theta hi (neg_ℚ b) size k))) in
         ≤ℚ_trans (whole (pos 0)) (a +ℚ (b *ℚ hi)) (a +ℚ (b *ℚ theta)) at_hi (≤ℚ_add (b *ℚ hi) (b *ℚ theta) a less)
 
 wide : (u d : ℚ) → whole (pos 0) ≤ℚ u → whole (pos 0) ≤ℚ d → neg_ℚ d ≤ℚ u
@@ -109,7 +109,7 @@ row_dual p e i l =
     let at = there e.vertex.sides i l in
     let of = basic_value value128 e.vertex e.basic in
     subst (λ (o : Option Side). worth (dual_formula (sample value128 p) e.theta of i (option_map_or (λ side. side) o Basic))
-        ≡ option_map_or (value_of_side (sample value128 p) e.theta of i) o (whole (pos 0))) (sym at.1)
+    ≡ option_map_or (value_of_side (sample value128 p) e.theta of i) o (whole (pos 0))) (sym at.1)
     (by_side (sample value128 p) e.theta of i at.0)
 
 bounds_at : (condition j : ℕ) (p : Sample) (e : End) (i : ℕ) (s : Side) → side_in e.vertex i ≡ s → AreTrue (bound_test condition j p e i s) → s ≡ Basic
@@ -134,7 +134,7 @@ end_dual condition j p e stated sides costs bounds balanced loss_is objective_is
     let b = value_at value128 e.vertex.coef in
     let f = dual_at_row s e in
     let within = λ (i : ℕ) (l : i < length p.rows). on_side s e i (side_in e.vertex i) (costs i l).0 (costs i l).1
-            (λ g. bounds_at condition j s e i (side_in e.vertex i) refl (at (length p.rows) (λ i. bound_test condition j s e i (side_in e.vertex i)) bounds i l) g) in
+    (λ g. bounds_at condition j s e i (side_in e.vertex i) refl (at (length p.rows) (λ i. bound_test condition j s e i (side_in e.vertex i)) bounds i l) g) in
     IsDual-same s e.theta b (λ i. worth (f i)) (dual_value value128 p e.vertex e.basic e.theta)
     (λ i l. row_dual p e i (omega (arith, sides, l)))
     (record {
@@ -238,7 +238,7 @@ module _ (p : Problem Frac128) (from to : ℚ) (segments : List (Segment Frac128
         let here : j ≡ 0 = omega (arith, l, single) in
         let end : hi_at segments 0 ≡ to = last_at 0 (omega (arith, single)) in
         elim (less_or_same (lo_at segments 0) (hi_at segments 0) (ordered 0 some)) [
-          inl less ↦ inl (ap (λ k. cmp_ℚ (lo_at segments k) (hi_at segments k)) here ∙ less)
+          | inl less ↦ inl (ap (λ k. cmp_ℚ (lo_at segments k) (hi_at segments k)) here ∙ less)
           | inr same ↦ inr (single, sym first ∙ same ∙ end)
         ]
     proper_if false e j l = inl (is_below (eqb (length segments) 1) (lo_at segments j) (hi_at segments j) (order_of j l) e)

@@ -92,11 +92,12 @@ module _ (at : Place) (done : ℕ) (f : ℕ → Formula) where
   pub sum_around : (i n : ℕ) → i < n → (zs : List Operation) × (operations (sum n f) ≡ operations (sum i f) ++ (operations (f i) ++ zs)) × (i ≢ 0 → 1 ≤ length zs)
   sum_around i n l =
       let a = around (added f) i n l in
-      let t = term_operations i in
-      (t.0 ++ a.0,
-      sum_operations f n ∙ a.1 ∙ ap₂ (λ (b : List Operation) (c : List Operation). b ++ (c ++ a.0)) (sym (sum_operations f i)) t.1
-      ∙ ap (λ b. operations (sum i f) ++ b) (append_assoc (operations (f i)) t.0 a.0),
-      λ e. let m = t.2 e in let k = length-append t.0 a.0 in omega (arith, m, k))
+      let t = term_operations i in (
+        t.0 ++ a.0,
+        sum_operations f n ∙ a.1 ∙ ap₂ (λ (b : List Operation) (c : List Operation). b ++ (c ++ a.0)) (sym (sum_operations f i)) t.1
+            ∙ ap (λ b. operations (sum i f) ++ b) (append_assoc (operations (f i)) t.0 a.0),
+        λ e. let m = t.2 e in let k = length-append t.0 a.0 in omega (arith, m, k),
+      )
 
   pub term_spills : (i n middle : ℕ) (s : Spill Frac128) → i < n → middle ≡ done + length (operations (sum i f))
       → IsAmong value128 range128 (site_of at) (middle + 1) (operations (f i)) s → IsAmong value128 range128 (site_of at) (done + 1) (operations (sum n f)) s
@@ -161,11 +162,12 @@ module _ (at : Place) (done j : ℕ) (y : Formula) (f : ℕ → Formula) where
       let a = around (taken j y f) i n l in
       let on : i + 1 ≡ suc i = omega arith in
       let here : operations (less_others j y (i + 1) f) ≡ operations y ++ (upto i (taken j y f) ++ taken j y f i)
-              = ap (λ m. operations (less_others j y m f)) on ∙ less_operations j y f (suc i) in
-      (a.0,
-      less_operations j y f n ∙ ap (λ ops. operations y ++ ops) (a.1 ∙ sym (append_assoc (upto i (taken j y f)) (taken j y f i) a.0))
-      ∙ sym (append_assoc (operations y) (upto i (taken j y f) ++ taken j y f i) a.0)
-      ∙ ap (λ ops. ops ++ a.0) (sym here))
+      = ap (λ m. operations (less_others j y m f)) on ∙ less_operations j y f (suc i) in (
+        a.0,
+        less_operations j y f n ∙ ap (λ ops. operations y ++ ops) (a.1 ∙ sym (append_assoc (upto i (taken j y f)) (taken j y f i) a.0))
+            ∙ sym (append_assoc (operations y) (upto i (taken j y f) ++ taken j y f i) a.0)
+            ∙ ap (λ ops. ops ++ a.0) (sym here),
+      )
 
   pub less_spills : (i n : ℕ) (s : Spill Frac128) → i < n → IsAmong value128 range128 (site_of at) (done + 1) (operations (less_others j y (i + 1) f)) s
       → IsAmong value128 range128 (site_of at) (done + 1) (operations (less_others j y n f)) s
@@ -191,6 +193,13 @@ module _ (at : Place) (done j : ℕ) (y : Formula) (f : ℕ → Formula) where
       let whole = ap length a.1 in
       let one = length-append (operations (less_others j y (i + 1) f)) a.0 in
       let next : length (operations (less_others j y (i + 1) f)) ≡ length (operations (less_others j y i f)) + (length (operations (f i)) + 1)
-              = taken_off i (λ r. length (operations r) ≡ length (operations (less_others j y i f)) + (length (operations (f i)) + 1)) d
-              (length-append (operations (less_others j y i f)) (operations (f i) ++ _ ∷ []) ∙ ap (λ m. length (operations (less_others j y i f)) + m) (length-append (operations (f i)) (_ ∷ []))) in
+      = taken_off i (λ r. length (operations r) ≡ length (operations (less_others j y i f)) + (length (operations (f i)) + 1)) d
+      (length-append (operations (less_others j y i f)) (operations (f i) ++ _ ∷ []) ∙ ap (λ m. length (operations (less_others j y i f)) + m) (length-append (operations (f i)) (_ ∷ []))) in
       omega (arith, h, e, whole, one, next)
+
+  -- an operation of one more term
+  pub next_fails : (i : ℕ) (rest : Progress) (s : Spill Frac128) → i ≢ j → IsEvaluation (less_others j y i f) at done (Ok rest)
+      → IsAmong value128 range128 (site_of at) (rest.done + 1) (operations (f i)) s → IsAmong value128 range128 (site_of at) (done + 1) (operations (less_others j y (i + 1) f)) s
+  next_fails i rest s d a h =
+      taken_off i (λ r. IsAmong value128 range128 (site_of at) (done + 1) (operations r) s) d
+      (right_spills at (operations (less_others j y i f)) (operations (f i)) _ done s rest.done a.1 h)

@@ -1,4 +1,4 @@
--- Stated. The conditions on the segments of a certificate, as tests in their order: its form, the costs, the
+-- Law. The conditions on the segments of a certificate, as tests in their order: its form, the costs, the
 -- ends of the segments, the bounds of the dual values, their sums, the losses, and where segments meet
 -- (Koenker 2005, chapter 6; Koenker and d'Orey 1987).
 use Rattle.std.specs.Prelude.{ℕ, zero, suc, ◌+◌, List, [], ◌∷◌, ◌++◌, length, slice_get, eqb, cond, pos, if◌then◌else◌}
@@ -108,14 +108,17 @@ module _ (p : Sample) (e : End) where
 
 -- ---- condition 1: the form
 
--- a vertex has a coefficient for each column, a side for each row, and as many basic rows as columns
+-- a row has an entry for each column
 abbrev pub row_form : Problem Frac128 → ℕ → Row Frac128 → List Test
 row_form p i r = one 1 i 0 (count (length r.x)) Equal (count p.columns)
 
+-- a segment has a coefficient for each column, a side for each row, as many basic rows as columns, which a
+-- certificate lists in its basis, and a dual value for each of these at either end
 abbrev pub segment_form : Problem Frac128 → ℕ → Segment Frac128 → List Test
 segment_form p j s =
     one 1 j 1 (count (length s.vertex.coef)) Equal (count p.columns)
     ++ (one 1 j 2 (count (length s.vertex.sides)) Equal (count (length p.rows))
+    ++ (one 1 j 3 (count (length s.vertex.basis.rows)) Equal (count p.columns)
     ++ (one 1 j 4 (count (length s.basic_lo)) Equal (count p.columns)
     ++ one 1 j 5 (count (length s.basic_hi)) Equal (count p.columns))))
 
@@ -124,12 +127,14 @@ segment_form p j s =
 abbrev pub range_test : ℚ → ℚ → List Test
 range_test lo hi = one 2 0 0 (given lo) AtMost (given hi)
 
+-- neither cost of row i is negative at theta; the tests are numbered from here on
+abbrev pub cost_tests : Sample → ℚ → ℕ → ℕ → List Test
+cost_tests p theta i inner =
+    one 2 (i + 1) inner (up_formula p theta i) AtLeast zero_formula
+    ++ one 2 (i + 1) (inner + 1) (down_formula p theta i) AtLeast zero_formula
+
 abbrev pub row_costs : Sample → ℚ → ℚ → ℕ → List Test
-row_costs p lo hi i =
-    one 2 (i + 1) 1 (up_formula p lo i) AtLeast zero_formula
-    ++ (one 2 (i + 1) 2 (down_formula p lo i) AtLeast zero_formula
-    ++ (one 2 (i + 1) 3 (up_formula p hi i) AtLeast zero_formula
-    ++ one 2 (i + 1) 4 (down_formula p hi i) AtLeast zero_formula))
+row_costs p lo hi i = cost_tests p lo i 1 ++ cost_tests p hi i 3
 
 abbrev pub costs : Sample → ℚ → ℚ → List Test
 costs p lo hi = range_test lo hi ++ upto p.rows (row_costs p lo hi)
@@ -183,12 +188,14 @@ balances p j s = balance_tests p j 0 (low_of s) ++ balance_tests p j p.columns (
 
 -- ---- condition 7: the losses that are stated are those of the coefficients, and what the dual values come to
 
+-- at one end; the tests are numbered from here on
+abbrev pub loss_tests : Sample → ℕ → End → Frac128 → ℕ → List Test
+loss_tests p j e stated inner =
+    one 7 j inner (number stated) Equal (loss_formula p e.theta (value_at value128 e.vertex.coef))
+    ++ one 7 j (inner + 1) (number stated) Equal (objective p e)
+
 abbrev pub losses : Sample → ℕ → Segment Frac128 → List Test
-losses p j s =
-    one 7 j 1 (number s.loss_lo) Equal (loss_formula p (low_of s).theta (value_at value128 s.vertex.coef))
-    ++ (one 7 j 2 (number s.loss_lo) Equal (objective p (low_of s))
-    ++ (one 7 j 3 (number s.loss_hi) Equal (loss_formula p (high_of s).theta (value_at value128 s.vertex.coef))
-    ++ one 7 j 4 (number s.loss_hi) Equal (objective p (high_of s))))
+losses p j s = loss_tests p j (low_of s) s.loss_lo 1 ++ loss_tests p j (high_of s) s.loss_hi 3
 
 -- ---- condition 8: where two segments meet every row has one dual value
 

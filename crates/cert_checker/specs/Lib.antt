@@ -6,3 +6,4 @@ pub mod Relations
 pub mod Verdicts
 pub mod Conditions
 pub mod Views
+pub mod Certificates

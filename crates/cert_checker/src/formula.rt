@@ -36,7 +36,11 @@ fn subtract(at: Place, left: Progress, right: Progress) -> Result<Progress, Spil
 }
 
 // Their product.
-pub(crate) fn multiply(at: Place, left: Progress, right: Progress) -> Result<Progress, Spill<Frac128>>
+pub(crate) fn multiply(
+    at: Place,
+    left: Progress,
+    right: Progress,
+) -> Result<Progress, Spill<Frac128>>
     requires { right.done + 1 < 2 ^ 32 }
     ensures { IsStep OpKind.Mul ◌*ℚ◌ at left right result }
 {
@@ -74,7 +78,7 @@ impl Expression for Number {
 }
 
 // A count as a fraction.
-fn whole_number(number: u64) -> Frac128
+pub(crate) fn whole_number(number: u64) -> Frac128
     ensures { rational (value128 result) ≡ whole (pos number) }
 {
     match Frac128::from_parts(i128::from(number), 1) {
@@ -85,14 +89,14 @@ fn whole_number(number: u64) -> Frac128
 
 /// A count.
 #[derive(Clone, Copy)]
-pub(crate) struct Count(pub(crate) u64);
+pub(crate) struct Count(pub(crate) u32);
 
 impl Expression for Count {
     ghost formula = { λ x. given (whole (pos x.0)) };
 
     fn value(self, _at: Place, done: u32) -> Result<Progress, Spill<Frac128>> {
         Ok(Progress {
-            value: whole_number(self.0),
+            value: whole_number(u64::from(self.0)),
             done,
         })
     }

@@ -69,7 +69,7 @@ fn down_parts(problem: &Problem<Frac128>, row: usize) -> (Frac128, Frac128)
 }
 
 // The side of a row.
-fn side(vertex: &Vertex<Frac128>, row: usize) -> Side
+pub(crate) fn side(vertex: &Vertex<Frac128>, row: usize) -> Side
     ensures { result ≡ side_in vertex.now row }
 {
     match vertex.sides.as_slice().get(row) {
@@ -92,7 +92,10 @@ fn basis_place(rows: &[u32], row: usize) -> usize
 fn basic_number(vertex: &Vertex<Frac128>, basic: &List<Frac128>, row: usize) -> Frac128
     ensures { rational (value128 result) ≡ basic_value value128 vertex.now basic.now row }
 {
-    item_at(basic.as_slice(), basis_place(vertex.basis.rows.as_slice(), row))
+    item_at(
+        basic.as_slice(),
+        basis_place(vertex.basis.rows.as_slice(), row),
+    )
 }
 
 /// An item of a list of numbers.
@@ -248,7 +251,7 @@ impl Expression for DualValue<'_> {
 // ---- sums over rows and columns
 
 // The number of rows.
-fn rows(problem: &Problem<Frac128>) -> usize
+pub(crate) fn rows(problem: &Problem<Frac128>) -> usize
     ensures { result ≡ length problem.now.rows }
 {
     problem.rows.as_slice().len()

@@ -1,6 +1,8 @@
 //! The checker of certificates.
 #![tactic(auto)]
 
+mod check;
+mod form;
 mod formula;
 mod leaves;
 mod place;
@@ -9,4 +11,5 @@ mod segments;
 mod tests;
 mod verdict;
 
+pub use check::check_segments;
 pub use verdict::{CheckStop, Rejection, Verdict};

@@ -5,11 +5,11 @@ ghost use Rattle.std.specs.Option.{option_map_or};
 ghost use Rattle.exact_algebra.specs.Fraction.{rational};
 ghost use Rattle.frac_core.specs.declared.frac128.Frac128.{Frac128 as Fraction128};
 ghost use Rattle.loss_model.specs.declared.process.Segment.{Segment as Piece};
-ghost use Rattle.loss_model.specs.Problem.{sample, value_at};
+ghost use Rattle.loss_model.specs.Problem.{sample};
 ghost use Rattle.cert_checker.specs.Places.{value128};
 ghost use Rattle.cert_checker.specs.Formulas.{given};
-ghost use Rattle.cert_checker.specs.Tests.{Test, one};
-ghost use Rattle.cert_checker.specs.Conditions.{each, zero_formula, low_of, high_of, side_in, dual_at_row, up_formula, down_formula, loss_formula, objective, balance, bound_test, bounds, balances as balance_tests_of, losses as loss_tests, row_costs, lo_at, hi_at, first_end, order_of_ends, joint_end, joint_tests, joints};
+ghost use Rattle.cert_checker.specs.Tests.{Test, one, upto};
+ghost use Rattle.cert_checker.specs.Conditions.{each, zero_formula, low_of, high_of, side_in, dual_at_row, balance, bound_test, bounds, balances as balance_tests_of, losses as losses_of, loss_tests, cost_tests, row_costs, lo_at, hi_at, first_end, order_of_ends, joint_end, joint_tests, joints};
 ghost use Rattle.cert_checker.specs.Verdicts.{Decides};
 ghost use Rattle.cert_checker.specs.Views.{end_of};
 
@@ -22,7 +22,7 @@ use crate::place::{Place, Progress};
 use crate::relation::Relation;
 use crate::tests::{Both, Comparison, One, Tests, TestsOf, Then, decide_each};
 use crate::verdict::Failure;
-use frac_core::{Frac128, List};
+use frac_core::{Exact, Frac128, List};
 use loss_model::{Problem, Segment, Side, Spill};
 
 // ---- condition 2
@@ -40,8 +40,7 @@ impl CostRows<'_> {
     fn at(self, theta: Frac128, row: usize, inner: u32) -> Result<(), Failure>
         requires row { row < 16384 }
         requires inner { inner ≤ 3 }
-        ensures { let p = sample value128 self.problem.now in let t = rational (value128 theta) in
-            Decides (one 2 (row + 1) inner (up_formula p t row) Relation.AtLeast zero_formula ++ one 2 (row + 1) (inner + 1) (down_formula p t row) Relation.AtLeast zero_formula) result }
+        ensures { Decides (cost_tests (sample value128 self.problem.now) (rational (value128 theta)) row inner) result }
     {
         let problem = self.problem;
         let index = row as u32 + 1;
@@ -114,10 +113,7 @@ impl BoundRows<'_> {
     {
         let problem = self.end.problem;
         let theta = self.end.theta;
-        let dual = DualValue {
-            end: self.end,
-            row,
-        };
+        let dual = DualValue { end: self.end, row };
         let up = UpCost {
             problem,
             theta,
@@ -219,9 +215,7 @@ impl LossAt<'_> {
         requires rows { length self.end.problem.now.rows ≤ 16384 }
         requires columns { self.end.problem.now.columns ≤ 128 }
         requires inner { self.inner ≤ 3 }
-        ensures { let p = sample value128 self.end.problem.now in let e = end_of self.end in
-            Decides (one 7 self.index self.inner (given (rational (value128 self.stated))) Relation.Equal (loss_formula p e.theta (value_at value128 e.vertex.coef))
-            ++ one 7 self.index (self.inner + 1) (given (rational (value128 self.stated))) Relation.Equal (objective p e)) result }
+        ensures { Decides (loss_tests (sample value128 self.end.problem.now) self.index (end_of self.end) self.stated self.inner) result }
     {
         let loss = One {
             at: Place {
@@ -350,6 +344,15 @@ pub(crate) fn decide_segments<T: SegmentTests>(
     decide_each(count, Segments { list, of })
 }
 
+/// Tests all rows of a problem, one after the other.
+pub(crate) fn decide_rows<T: TestsOf>(problem: &Problem<Frac128>, of: T) -> Result<(), Failure>
+    requires { (i : ℕ) → i < length problem.now.rows → T.given_of of i }
+    ensures { Decides (upto (length problem.now.rows) (T.tests_of of)) result }
+{
+    let count = rows(problem);
+    decide_each(count, of)
+}
+
 /// Conditions 4 and 5: at the low ends, or at the high ends.
 #[derive(Clone, Copy)]
 pub(crate) struct Bounds<'a> {
@@ -363,7 +366,6 @@ impl SegmentTests for Bounds<'_> {
     ghost segment_given = { λ x. length x.problem.now.rows ≤ 16384 };
 
     fn decide_segment(self, index: u32, segment: &Segment<Frac128>) -> Result<(), Failure> {
-        let count = rows(self.problem);
         if self.high {
             let end = EndView {
                 problem: self.problem,
@@ -371,8 +373,8 @@ impl SegmentTests for Bounds<'_> {
                 vertex: &segment.vertex,
                 basic: &segment.basic_hi,
             };
-            return decide_each(
-                count,
+            return decide_rows(
+                self.problem,
                 BoundRows {
                     condition: 5,
                     index,
@@ -386,8 +388,8 @@ impl SegmentTests for Bounds<'_> {
             vertex: &segment.vertex,
             basic: &segment.basic_lo,
         };
-        decide_each(
-            count,
+        decide_rows(
+            self.problem,
             BoundRows {
                 condition: 4,
                 index,
@@ -448,7 +450,7 @@ pub(crate) struct Losses<'a> {
 }
 
 impl SegmentTests for Losses<'_> {
-    ghost segment_tests = { λ x j s. loss_tests (sample value128 x.problem.now) j s };
+    ghost segment_tests = { λ x j s. losses_of (sample value128 x.problem.now) j s };
 
     ghost segment_given = { λ x. (length x.problem.now.rows ≤ 16384) × (x.problem.now.columns ≤ 128) };
 
@@ -507,7 +509,7 @@ impl SegmentTests for Joints<'_> {
                     vertex: &next.vertex,
                     basic: &next.basic_lo,
                 };
-                decide_each(rows(self.problem), JointRows { index, high, low })
+                decide_rows(self.problem, JointRows { index, high, low })
             }
             None => Ok(()),
         }

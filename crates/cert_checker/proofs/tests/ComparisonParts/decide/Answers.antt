@@ -1,4 +1,4 @@
-use Rattle.std.proofs.Common.{◌≡◌, refl, sym, subst, IsTrue, [], ◌∷◌}
+use Rattle.std.proofs.Common.{true, ◌≡◌, refl, sym, subst, IsTrue, [], ◌∷◌}
 use Rattle.std.proofs.lemmas.Result.{err_from_is_err_and}
 use Rattle.cert_checker.specs.Formulas.{Formula}
 use Rattle.cert_checker.proofs.Compared.{left_overflows, right_overflows, compared, refused}
@@ -19,9 +19,9 @@ returns-in_err-right g c =
 pub returns-then-holds : goal.returns-then-holds
 returns-then-holds g c =
     compared c.args.at c.args.done (g.A.Expression.formula c.args.self.left) c.args.self.relation (g.B.Expression.formula c.args.self.right) c.in_ok-left.left c.in_ok-right.right
-    c.in_ok-left.ensures c.in_ok-right.ensures (c.if-holds.ensures.0 c.if-holds.true)
+    c.in_ok-left.ensures c.in_ok-right.ensures (c.if-holds.ensures.0 (refl {a = true}))
 
 pub returns : goal.returns
 returns g c =
     refused c.args.at c.args.done (g.A.Expression.formula c.args.self.left) c.args.self.relation (g.B.Expression.formula c.args.self.right) c.in_ok-left.left c.in_ok-right.right
-    c.in_ok-left.ensures c.in_ok-right.ensures (λ h. c.if-holds.false (c.if-holds.ensures.1 h)) c.rejection.result c.rejection.ensures
+    c.in_ok-left.ensures c.in_ok-right.ensures (λ h. absurd (cc (c.if-holds.ensures.1 h))) c.rejection.result c.rejection.ensures
