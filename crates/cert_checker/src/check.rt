@@ -8,7 +8,7 @@ ghost use Rattle.cert_checker.specs.Conditions.{costs, ends};
 ghost use Rattle.cert_checker.specs.Certificates.{first_tests, later_tests, segment_tests, IsVerdict, IsStop};
 ghost use Rattle.cert_checker.specs.Verdicts.{Decides};
 
-use crate::form::{Length, RowForm, SegmentForm};
+use crate::form::{RowForm, SegmentCount, SegmentForm};
 use crate::formula::{Count, Number};
 use crate::place::Place;
 use crate::relation::Relation;
@@ -53,7 +53,7 @@ fn decide_ends(segments: &List<Segment<Frac128>>, lo: Frac128, hi: Frac128) -> R
             inner: 0,
         },
         parts: Comparison {
-            left: Length { list: segments },
+            left: SegmentCount { list: segments },
             relation: Relation::AtLeast,
             right: Count(1),
         },

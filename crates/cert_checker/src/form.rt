@@ -9,6 +9,7 @@ ghost use Rattle.cert_checker.specs.Conditions.{count, row_form, segment_form};
 ghost use Rattle.cert_checker.specs.Verdicts.{Decides};
 
 use crate::formula::{Count, Expression, whole_number};
+use crate::leaves::rows;
 use crate::place::{Place, Progress};
 use crate::relation::Relation;
 use crate::segments::SegmentTests;
@@ -23,7 +24,41 @@ pub(crate) struct Length<'a, T> {
     pub(crate) list: &'a List<T>,
 }
 
-impl<T> Expression for Length<'_, T> {
+impl<T: Copy> Expression for Length<'_, T> {
+    ghost formula = { λ x. given (whole (pos (length x.list.now))) };
+
+    fn value(self, _at: Place, done: u32) -> Result<Progress, Spill<Frac128>> {
+        Ok(Progress {
+            value: whole_number(self.list.as_slice().len() as u64),
+            done,
+        })
+    }
+}
+
+/// The number of rows.
+#[derive(Clone, Copy)]
+pub(crate) struct RowCount<'a> {
+    pub(crate) problem: &'a Problem<Frac128>,
+}
+
+impl Expression for RowCount<'_> {
+    ghost formula = { λ x. given (whole (pos (length x.problem.now.rows))) };
+
+    fn value(self, _at: Place, done: u32) -> Result<Progress, Spill<Frac128>> {
+        Ok(Progress {
+            value: whole_number(rows(self.problem) as u64),
+            done,
+        })
+    }
+}
+
+/// The number of segments.
+#[derive(Clone, Copy)]
+pub(crate) struct SegmentCount<'a> {
+    pub(crate) list: &'a List<Segment<Frac128>>,
+}
+
+impl Expression for SegmentCount<'_> {
     ghost formula = { λ x. given (whole (pos (length x.list.now))) };
 
     fn value(self, _at: Place, done: u32) -> Result<Progress, Spill<Frac128>> {
@@ -73,7 +108,7 @@ pub(crate) struct SegmentForm<'a> {
 
 impl SegmentForm<'_> {
     // A list is as long as there are columns.
-    fn by_columns<T>(self, index: u32, inner: u32, list: &List<T>) -> Result<(), Failure>
+    fn by_columns<T: Copy>(self, index: u32, inner: u32, list: &List<T>) -> Result<(), Failure>
         ensures { Decides (one 1 index inner (count (length list.now)) Relation.Equal (count self.problem.now.columns)) result }
     {
         One {
@@ -104,8 +139,8 @@ impl SegmentForm<'_> {
             parts: Comparison {
                 left: Length { list: sides },
                 relation: Relation::Equal,
-                right: Length {
-                    list: &self.problem.rows,
+                right: RowCount {
+                    problem: self.problem,
                 },
             },
         }
