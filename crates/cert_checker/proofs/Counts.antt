@@ -5,15 +5,15 @@ use Rattle.std.proofs.lemmas.List.{length-append}
 use Rattle.exact_algebra.specs.Rational.{ℚ}
 use Rattle.loss_model.specs.declared.vertex.Side.{Side}
 use Rattle.loss_model.specs.declared.vertex.Side.TheVariants.{Up, Down, Basic}
-use Rattle.loss_model.specs.Spill.{Operation}
+use Rattle.loss_model.specs.Spill.{Operation, addition, subtraction, multiplication}
 use Rattle.loss_model.specs.Sample.{Sample}
 use Rattle.loss_model.specs.Vertex.{basic_value}
 use Rattle.cert_checker.specs.Places.{value128}
-use Rattle.cert_checker.specs.Formulas.{Formula, given, times, operations, sum, less_others}
+use Rattle.cert_checker.specs.Formulas.{Formula, given, negated, times, worth, operations, sum, less_others}
 use Rattle.cert_checker.specs.Tests.{upto, part, part_operations}
 use Rattle.cert_checker.specs.declared.relation.Relation.{Relation}
 use Rattle.cert_checker.specs.declared.relation.Relation.TheVariants.{Equal}
-use Rattle.cert_checker.specs.Conditions.{End, dual_formula, dual_at_row, side_in, zero_formula, number, bound_parts, balance, objective, residual_formula, loss_formula, row_loss_formula}
+use Rattle.cert_checker.specs.Conditions.{End, dual_formula, dual_at_row, side_in, zero_formula, up_formula, down_formula, bound_parts, balance, objective, residual_formula, loss_formula, row_loss_formula}
 use Rattle.cert_checker.proofs.Chains.{added, sum_operations, taken, taken_if, less_operations}
 use Rattle.cert_checker.proofs.Priced.{loss_length}
 
@@ -33,7 +33,7 @@ many_each (suc n) g h = let before = many_each n g h in let here = h n in let l 
 added_length : (f : ℕ → Formula) (k : ℕ) → ((i : ℕ) → length (operations (f i)) ≤ k) → (i : ℕ) → length (added f i) ≤ k + 1
 unfolding added
 added_length f k h zero = let here = h 0 in omega (arith, here)
-added_length f k h (suc i) = let here = h (suc i) in let l = length-append (operations (f (suc i))) (_ ∷ []) in omega (arith, here, l)
+added_length f k h (suc i) = let here = h (suc i) in let l = length-append (operations (f (suc i))) (addition (worth (sum (suc i) f)) (worth (f (suc i))) ∷ []) in omega (arith, here, l)
 
 dual_length : (p : Sample) (theta : ℚ) (basic : ℕ → ℚ) (i : ℕ) (s : Side) → length (operations (dual_formula p theta basic i s)) ≤ 2
 dual_length p theta basic i Up = omega arith
@@ -46,21 +46,21 @@ dual_is_short p e i = dual_length p e.theta (basic_value value128 e.vertex e.bas
 pub balance_is_short : (p : Sample) (e : End) (k : ℕ) → p.rows ≤ 16384 → length (operations (balance p e k)) ≤ 65536
 balance_is_short p e k few =
     let f = λ (i : ℕ). times (dual_at_row p e i) (given (p.x i k)) in
-    let all = four_each p.rows (added f) (added_length f 3 (λ i. let d = dual_is_short p e i in let l = length-append (operations (dual_at_row p e i)) ([] ++ _ ∷ []) in omega (arith, d, l))) in
+    let all = four_each p.rows (added f) (added_length f 3 (λ i. let d = dual_is_short p e i in let l = length-append (operations (dual_at_row p e i)) (multiplication (worth (dual_at_row p e i)) (p.x i k) ∷ []) in omega (arith, d, l))) in
     let same = ap length (sum_operations f p.rows) in
     omega (arith, few, all, same)
 
 pub objective_is_short : (p : Sample) (e : End) → p.rows ≤ 16384 → length (operations (objective p e)) ≤ 65536
 objective_is_short p e few =
     let f = λ (i : ℕ). times (given (p.y i)) (dual_at_row p e i) in
-    let all = four_each p.rows (added f) (added_length f 3 (λ i. let d = dual_is_short p e i in let l = length-append (operations (dual_at_row p e i)) (_ ∷ []) in omega (arith, d, l))) in
+    let all = four_each p.rows (added f) (added_length f 3 (λ i. let d = dual_is_short p e i in let l = length-append (operations (dual_at_row p e i)) (multiplication (p.y i) (worth (dual_at_row p e i)) ∷ []) in omega (arith, d, l))) in
     let same = ap length (sum_operations f p.rows) in
     omega (arith, few, all, same)
 
 taken_length : (j : ℕ) (y : Formula) (f : ℕ → Formula) (k : ℕ) (b : Bool) (n : ℕ) → length (operations (f n)) ≤ k → length (taken_if j y f b n) ≤ k + 1
 unfolding taken_if
 taken_length j y f k true n h = omega arith
-taken_length j y f k false n h = let l = length-append (operations (f n)) (_ ∷ []) in omega (arith, h, l)
+taken_length j y f k false n h = let l = length-append (operations (f n)) (subtraction (worth (less_others j y n f)) (worth (f n)) ∷ []) in omega (arith, h, l)
 
 pub residual_is_short : (p : Sample) (b : ℕ → ℚ) (i : ℕ) → p.columns ≤ 128 → length (operations (residual_formula p b i)) ≤ 256
 unfolding taken
@@ -106,6 +106,8 @@ joint_fits p q e f i =
 pub bound_fits : (p : Sample) (e : End) (i : ℕ) → length (part_operations (bound_parts p e i Basic)) < 2 ^ 32
 bound_fits p e i =
     let d = dual_is_short p e i in
-    let one = length-append (operations (dual_at_row p e i)) (_ ∷ _ ∷ (operations (dual_at_row p e i) ++ (_ ∷ _ ∷ []))) in
-    let two = length-append (operations (dual_at_row p e i)) (_ ∷ _ ∷ []) in
+    let up = up_formula p e.theta i in
+    let down = negated (down_formula p e.theta i) in
+    let one = length-append (operations (dual_at_row p e i)) (operations up ++ (operations (dual_at_row p e i) ++ (operations down ++ []))) in
+    let two = length-append (operations (dual_at_row p e i)) (operations down ++ []) in
     omega (arith, d, one, two)

@@ -5,6 +5,7 @@ mod Steps
 mod Agrees
 mod Compared
 mod Priced
+mod Places
 mod Counts
 mod Extracts
 mod Worths

@@ -8,7 +8,7 @@ use Rattle.exact_algebra.specs.Order.{sign_ℚ}
 use Rattle.exact_algebra.proofs.OrderLaws.{not_le, sign_ℚ-below}
 use Rattle.frac_core.specs.declared.frac128.Frac128.{Frac128}
 use Rattle.loss_model.specs.declared.spill.Spill.{Spill}
-use Rattle.loss_model.specs.Spill.{IsAmong}
+use Rattle.loss_model.specs.Spill.{IsAmong, multiplication}
 use Rattle.loss_model.specs.Sample.{Sample}
 use Rattle.cert_checker.specs.Formulas as formula
 use Rattle.cert_checker.specs.Formulas.{Formula, worth, operations}
@@ -46,9 +46,11 @@ module _ (p : Sample) (theta : ℚ) (b : ℕ → ℚ) (i : ℕ) where
   -- and there are as many
   pub loss_length : length (operations (row_loss_formula p theta b i)) ≡ length (operations (residual_formula p b i)) + 3
   loss_length =
-      let l = length-append (operations (residual_formula p b i)) (_ ∷ []) in
+      let r = residual_formula p b i in
+      let above = length-append (operations r) (multiplication (worth (up_formula p theta i)) (worth r) ∷ []) in
+      let below = length-append (operations r) (multiplication (worth (down_formula p theta i)) (neg_ℚ (worth r)) ∷ []) in
       chosen (le_ℚ (whole (pos 0)) (worth (residual_formula p b i))) _ _ (λ f. length (operations f) ≡ length (operations (residual_formula p b i)) + 3)
-      (λ _. omega (arith, l)) (λ _. omega (arith, l))
+      (λ _. omega (arith, above)) (λ _. omega (arith, below))
 
 -- the sign of a value is that of what it stands for
 pub not_below : (x r : ℚ) (s : ℤ) → x ≡ r → s ≡ sign_ℚ x → ¬ (s <ℤ pos 0) → whole (pos 0) ≤ℚ r

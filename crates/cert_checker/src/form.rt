@@ -7,6 +7,7 @@ ghost use Rattle.cert_checker.specs.Formulas.{given};
 ghost use Rattle.cert_checker.specs.Tests.{one};
 ghost use Rattle.cert_checker.specs.Conditions.{count, row_form, segment_form};
 ghost use Rattle.cert_checker.specs.Verdicts.{Decides};
+ghost use Rattle.cert_checker.specs.declared.relation.Relation.TheVariants.{Equal};
 
 use crate::formula::{Count, Expression, whole_number};
 use crate::leaves::rows;
@@ -109,7 +110,7 @@ pub(crate) struct SegmentForm<'a> {
 impl SegmentForm<'_> {
     // A list is as long as there are columns.
     fn by_columns<T: Copy>(self, index: u32, inner: u32, list: &List<T>) -> Result<(), Failure>
-        ensures { Decides (one 1 index inner (count (length list.now)) Relation.Equal (count self.problem.now.columns)) result }
+        ensures { Decides (one 1 index inner (count (length list.now)) Equal (count self.entry.problem.now.columns)) result }
     {
         One {
             at: Place {
@@ -128,7 +129,7 @@ impl SegmentForm<'_> {
 
     // There is a side for each row.
     fn by_rows(self, index: u32, sides: &List<Side>) -> Result<(), Failure>
-        ensures { Decides (one 1 index 2 (count (length sides.now)) Relation.Equal (count (length self.problem.now.rows))) result }
+        ensures { Decides (one 1 index 2 (count (length sides.now)) Equal (count (length self.entry.problem.now.rows))) result }
     {
         One {
             at: Place {

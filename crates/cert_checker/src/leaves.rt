@@ -1,6 +1,6 @@
 //! The numbers of a certificate that the conditions speak of, and the formulas over a row.
 
-ghost use Rattle.std.specs.Prelude.{◌≡◌, ◌==◌, ◌+◌, ◌<◌, ◌^◌, length, Ok};
+ghost use Rattle.std.specs.Prelude.{◌≡◌, ◌==◌, ◌+◌, ◌<◌, ◌^◌, length, position, Ok};
 ghost use Rattle.std.specs.List.{position_or_len};
 ghost use Rattle.exact_algebra.specs.Fraction.{rational};
 ghost use Rattle.loss_model.specs.Problem.{sample, value_at};
@@ -78,11 +78,18 @@ pub(crate) fn side(vertex: &Vertex<Frac128>, row: usize) -> Side
     }
 }
 
-// The place of a row among those of the basis.
+// The position of a row in the basis, if it is there.
+fn basis_position(rows: &[u32], row: usize) -> Option<usize>
+    ensures { result ≡ position (λ r. r == row) rows.now }
+{
+    rows.iter().position(|r| *r as usize == row)
+}
+
+// The same, or the length of the basis.
 fn basis_place(rows: &[u32], row: usize) -> usize
     ensures { result ≡ position_or_len (λ r. r == row) rows.now }
 {
-    match rows.iter().position(|r| *r as usize == row) {
+    match basis_position(rows, row) {
         Some(place) => place,
         None => rows.len(),
     }

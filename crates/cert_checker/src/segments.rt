@@ -12,6 +12,8 @@ ghost use Rattle.cert_checker.specs.Tests.{Test, one, upto};
 ghost use Rattle.cert_checker.specs.Conditions.{each, zero_formula, low_of, high_of, side_in, dual_at_row, balance, bound_test, bounds, balances as balance_tests_of, losses as losses_of, loss_tests, cost_tests, row_costs, lo_at, hi_at, first_end, order_of_ends, joint_end, joint_tests, joints};
 ghost use Rattle.cert_checker.specs.Verdicts.{Decides};
 ghost use Rattle.cert_checker.specs.Views.{end_of};
+ghost use Rattle.cert_checker.specs.declared.relation.Relation.TheVariants.{AtMost, Below, Equal};
+ghost use Rattle.loss_model.specs.declared.vertex.Side.TheVariants.{Basic};
 
 use crate::formula::{Count, Expression, Negation, Number};
 use crate::leaves::{
@@ -40,7 +42,7 @@ impl CostRows<'_> {
     fn at(self, theta: Frac128, row: usize, inner: u32) -> Result<(), Failure>
         requires row { row < 16384 }
         requires inner { inner ≤ 3 }
-        ensures { Decides (cost_tests (sample value128 self.problem.now) (rational (value128 theta)) row inner) result }
+        ensures { Decides (cost_tests (sample value128 self.entry.problem.now) (rational (value128 theta)) row inner) result }
     {
         let problem = self.problem;
         let index = row as u32 + 1;
@@ -109,7 +111,7 @@ impl BoundRows<'_> {
     // The dual value of a basic row is at most its up cost and at least its negated down cost.
     fn basic(self, row: usize) -> Result<(), Failure>
         requires { row < 16384 }
-        ensures { Decides (bound_test self.condition self.index (sample value128 self.end.problem.now) (end_of self.end) row Side.Basic) result }
+        ensures { Decides (bound_test self.entry.condition self.entry.index (sample value128 self.entry.end.problem.now) (end_of self.entry.end) row Basic) result }
     {
         let problem = self.end.problem;
         let theta = self.end.theta;
@@ -172,7 +174,7 @@ pub(crate) struct BalanceColumns<'a> {
 }
 
 impl TestsOf for BalanceColumns<'_> {
-    ghost tests_of = { λ x k. one 6 x.index (x.before + k + 1) (balance (sample value128 x.end.problem.now) (end_of x.end) k) Relation.Equal zero_formula };
+    ghost tests_of = { λ x k. one 6 x.index (x.before + k + 1) (balance (sample value128 x.end.problem.now) (end_of x.end) k) Equal zero_formula };
 
     ghost given_of = { λ x k. (k < 128) × (x.before ≤ 128) × (length x.end.problem.now.rows ≤ 16384) };
 
@@ -215,7 +217,7 @@ impl LossAt<'_> {
         requires rows { length self.end.problem.now.rows ≤ 16384 }
         requires columns { self.end.problem.now.columns ≤ 128 }
         requires inner { self.inner ≤ 3 }
-        ensures { Decides (loss_tests (sample value128 self.end.problem.now) self.index (end_of self.end) self.stated self.inner) result }
+        ensures { Decides (loss_tests (sample value128 self.entry.end.problem.now) self.entry.index (end_of self.entry.end) self.entry.stated self.entry.inner) result }
     {
         let loss = One {
             at: Place {
@@ -268,7 +270,7 @@ pub(crate) struct JointRows<'a> {
 }
 
 impl TestsOf for JointRows<'_> {
-    ghost tests_of = { λ x i. one 8 x.index (i + 1) (dual_at_row (sample value128 x.high.problem.now) (end_of x.high) i) Relation.Equal (dual_at_row (sample value128 x.low.problem.now) (end_of x.low) i) };
+    ghost tests_of = { λ x i. one 8 x.index (i + 1) (dual_at_row (sample value128 x.high.problem.now) (end_of x.high) i) Equal (dual_at_row (sample value128 x.low.problem.now) (end_of x.low) i) };
 
     ghost given_of = { λ x i. i < 16384 };
 
@@ -585,7 +587,7 @@ pub(crate) struct Ends<'a> {
 impl Ends<'_> {
     // The first segment begins where the range does.
     fn first(self, segment: usize) -> Result<(), Failure>
-        ensures { Decides (first_end self.list.now (rational (value128 self.lo)) segment) result }
+        ensures { Decides (first_end self.entry.list.now (rational (value128 self.entry.lo)) segment) result }
     {
         if segment != 0 {
             return Ok(());
@@ -611,7 +613,7 @@ impl Ends<'_> {
     // A segment has a length, but for a single one.
     fn order(self, segment: usize) -> Result<(), Failure>
         requires { segment < 2 ^ 20 }
-        ensures { Decides (order_of_ends self.list.now segment) result }
+        ensures { Decides (order_of_ends self.entry.list.now segment) result }
     {
         let relation = order_in(self.list.as_slice().len());
         One {
@@ -638,7 +640,7 @@ impl Ends<'_> {
     // It ends where the next one begins, or where the range does.
     fn joint(self, segment: usize) -> Result<(), Failure>
         requires { segment < 2 ^ 20 }
-        ensures { Decides (joint_end self.list.now (rational (value128 self.hi)) segment) result }
+        ensures { Decides (joint_end self.entry.list.now (rational (value128 self.entry.hi)) segment) result }
     {
         let index = segment as u32 + 1;
         let left = HighEnd {
@@ -681,7 +683,7 @@ impl Ends<'_> {
 
 // How the ends of a segment stand to each other, where there are so many segments.
 fn order_in(count: usize) -> Relation
-    ensures { result ≡ (if eqb count 1 then Relation.AtMost else Relation.Below) }
+    ensures { result ≡ (if eqb count 1 then AtMost else Below) }
 {
     if count == 1 {
         return Relation::AtMost;

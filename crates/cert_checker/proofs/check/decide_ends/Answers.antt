@@ -19,7 +19,7 @@ returns-in_err-decide c =
     rw (p.1, p.2) (front (one 3 0 0 (count (length list)) AtLeast (count 1)) (upto (length list) f) _ c.in_err-decide.ensures)
 
 pub decide_each-requires : goal.decide_each-requires
-decide_each-requires c = λ i l. let e = c.count-len.ensures in let few = c.requires in omega (arith, l, e, few)
+decide_each-requires c = λ i l. let e = c.as_slice-count.ensures in let few = c.requires in omega (arith, l, e, few)
 
 pub returns : goal.returns
 returns c =
@@ -28,4 +28,4 @@ returns c =
     let hi = rational (value128 c.args.hi) in
     let f = λ (j : ℕ). first_end list lo j ++ (order_of_ends list j ++ joint_end list hi j) in
     behind (one 3 0 0 (count (length list)) AtLeast (count 1)) (upto (length list) f) c.in_ok-decide.ensures c.decide_each.result
-    (subst (λ (n : ℕ). Decides (upto n f) c.decide_each.result) c.count-len.ensures c.decide_each.ensures)
+    (subst (λ (n : ℕ). Decides (upto n f) c.decide_each.result) c.as_slice-count.ensures c.decide_each.ensures)

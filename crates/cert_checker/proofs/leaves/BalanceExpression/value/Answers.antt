@@ -11,10 +11,10 @@ pub value-requires : goal.value-requires
 value-requires c =
     let t = c.args.self.terms in
     let f = λ (i : ℕ). times (dual_at_row (sample value128 t.end.problem.now) (end_of t.end) i) (given ((sample value128 t.end.problem.now).x i t.column)) in
-    subst (λ (n : ℕ). c.args.done + length (operations (sum n f)) < 2 ^ 32) (sym c.count-rows.ensures) c.requires
+    subst (λ (n : ℕ). c.args.done + length (operations (sum n f)) < 2 ^ 32) (sym c.rows-count.ensures) c.requires
 
 pub returns : goal.returns
 returns c =
     let t = c.args.self.terms in
     let f = λ (i : ℕ). times (dual_at_row (sample value128 t.end.problem.now) (end_of t.end) i) (given ((sample value128 t.end.problem.now).x i t.column)) in
-    subst (λ (n : ℕ). IsEvaluation (sum n f) c.args.at c.args.done c.value.result) c.count-rows.ensures c.value.ensures
+    subst (λ (n : ℕ). IsEvaluation (sum n f) c.args.at c.args.done c.value.result) c.rows-count.ensures c.value.ensures

@@ -23,8 +23,8 @@ returns-in_err-size c =
     let p = err_from_is_err_and c.from_residual.result c.from_residual.ensures.1 in
     rw (p.1, p.2) (residual_spills (sample value128 t.problem.now) (rational (value128 t.theta)) (value_at value128 t.coef.now) c.args.i c.args.at c.args.done _ c.in_err-size.ensures)
 
-pub returns-then-sign-lt-0 : goal.returns-then-sign-lt-0
-returns-then-sign-lt-0 c =
+pub returns-then-sign-lt0 : goal.returns-then-sign-lt0
+returns-then-sign-lt0 c =
     let t = c.args.self in
     let p = sample value128 t.problem.now in
     let b = value_at value128 t.coef.now in
@@ -37,6 +37,6 @@ returns c =
     let t = c.args.self in
     let p = sample value128 t.problem.now in
     let b = value_at value128 t.coef.now in
-    up_loss p (rational (value128 t.theta)) b c.args.i (λ f. IsEvaluation f c.args.at c.args.done c.priced.result)
+    up_loss p (rational (value128 t.theta)) b c.args.i (λ f. IsEvaluation f c.args.at c.args.done c.priced-2.result)
     (not_below (rational (value128 c.in_ok-size.size.value)) _ _ c.in_ok-size.ensures.0 c.sign.ensures (omega (arith, ints)))
-    (c.priced.ensures (residual_formula p b c.args.i) c.in_ok-size.ensures)
+    (c.priced-2.ensures (residual_formula p b c.args.i) c.in_ok-size.ensures)
