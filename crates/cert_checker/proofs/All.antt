@@ -1,15 +1,13 @@
 -- What the conditions on segments show.
-use Rattle.std.specs.Prelude.{◌≡◌, ℕ, ◌+◌, List, ◌++◌, length, slice_get, Some, pos}
-use Rattle.std.proofs.Common.{refl, sym, ap, subst, ◌∙◌, arith}
+use Rattle.std.specs.Prelude.{List, length, pos}
+use Rattle.std.proofs.Common.{arith}
 use Rattle.std.proofs.lemmas.Int.{ints}
-use Rattle.exact_algebra.specs.Rational.{ℚ, whole}
 use Rattle.exact_algebra.specs.Fraction.{rational}
 use Rattle.exact_algebra.proofs.WholeNumbers.{same_from_whole}
 use Rattle.frac_core.specs.declared.frac128.Frac128.{Frac128}
 use Rattle.loss_model.specs.declared.problem.Problem.{Problem}
 use Rattle.loss_model.specs.declared.process.Segment.{Segment}
 use Rattle.loss_model.specs.Problem.{value_at, sample}
-use Rattle.loss_model.specs.Segment.{dual_at}
 use Rattle.loss_model.proofs.Mixes.{minimum_between}
 use Rattle.cert_checker.specs.Places.{value128}
 use Rattle.cert_checker.specs.Tests.{AreTrue}

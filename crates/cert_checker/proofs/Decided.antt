@@ -1,13 +1,12 @@
 -- What lists of comparisons and of tests come to, by their parts.
 use Rattle.std.specs.Prelude.{◌≡◌, ℕ, zero, suc, ◌+◌, ◌-◌, ◌<◌, ◌≤◌, ◌^◌, List, [], ◌∷◌, ◌++◌, length, Result, Ok, Err, ⊤}
-use Rattle.std.proofs.Common.{refl, sym, ap, ap₂, subst, ◌∙◌, arith, append_assoc, append-nil}
+use Rattle.std.proofs.Common.{refl, sym, ap, subst, ◌∙◌, arith, append_assoc, append-nil}
 use Rattle.std.proofs.lemmas.List.{length-append}
-use Rattle.frac_core.specs.declared.frac128.Frac128.{Frac128}
-use Rattle.loss_model.specs.Spill.{Operation, IsAmong}
-use Rattle.cert_checker.specs.Formulas.{Formula, worth, operations}
+use Rattle.loss_model.specs.Spill.{IsAmong}
+use Rattle.cert_checker.specs.Formulas.{operations}
 use Rattle.cert_checker.specs.Places.{value128, range128, site_of}
 use Rattle.cert_checker.specs.Tests.{Part, Test, ArePartsTrue, AreTrue, part_operations, upto}
-use Rattle.cert_checker.specs.Verdicts.{IsRefused, IsFirstFalse, IsTestSpill, DecidesParts, Decides}
+use Rattle.cert_checker.specs.Verdicts.{DecidesParts, Decides}
 use Rattle.cert_checker.specs.declared.place.Place.{Place}
 use Rattle.cert_checker.specs.declared.verdict.Failure.{Failure}
 use Rattle.cert_checker.specs.declared.verdict.Failure.TheVariants.{OutOfMemory, Rejected, Overflow}

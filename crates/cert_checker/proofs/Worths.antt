@@ -1,13 +1,13 @@
 -- What the formulas of the conditions come to.
-use Rattle.std.specs.Prelude.{◌≡◌, ◌≢◌, ℕ, zero, suc, ◌<◌, ◌≤◌, Bool, true, false, cond, eqb, [], ◌∷◌, pos, if◌then◌else◌}
-use Rattle.std.proofs.Common.{refl, sym, ap, ap₂, ◌∙◌, arith}
+use Rattle.std.specs.Prelude.{◌≡◌, ℕ, zero, suc, Bool, true, false, cond, eqb, [], ◌∷◌, pos, if◌then◌else◌}
+use Rattle.std.proofs.Common.{refl, sym, ap, ◌∙◌, arith}
 use Rattle.std.proofs.lemmas.Bool.{eqb-true}
-use Rattle.exact_algebra.specs.Solver.{number, negated, ◌⊞◌, ◌⊟◌, ◌⊠◌, v0, v1, v2, v3}
+use Rattle.exact_algebra.specs.Solver.{number, negated, ◌⊞◌, ◌⊟◌, ◌⊠◌, v0, v1, v2}
 use Rattle.exact_algebra.specs.Rational.{ℚ, ◌+ℚ◌, ◌-ℚ◌, ◌*ℚ◌, neg_ℚ, whole, le_ℚ}
 use Rattle.exact_algebra.specs.RationalSums.{sum_ℚ, positive_ℚ, negative_ℚ}
 use Rattle.exact_algebra.proofs.RationalLaws.{ring_ℚ, zero-+ℚ}
 use Rattle.exact_algebra.proofs.RationalSumLaws.{sum_ℚ-same}
-use Rattle.loss_model.specs.Sample.{Sample, up_cost, down_cost, fitted, residual, row_loss, loss}
+use Rattle.loss_model.specs.Sample.{Sample, up_cost, down_cost, residual, row_loss, loss}
 use Rattle.cert_checker.specs.Formulas as formula
 use Rattle.cert_checker.specs.Formulas.{Formula, worth, sum, less_others}
 use Rattle.cert_checker.specs.Conditions.{up_formula, down_formula, residual_formula, row_loss_formula, loss_formula}

@@ -5,7 +5,7 @@ use Rattle.exact_algebra.specs.Fraction.{rational}
 use Rattle.frac_core.specs.declared.frac128.Frac128.{Frac128}
 use Rattle.loss_model.specs.declared.problem.Problem.{Problem}
 use Rattle.loss_model.specs.declared.process.Segment.{Segment}
-use Rattle.loss_model.specs.Sample.{Sample, Minimises}
+use Rattle.loss_model.specs.Sample.{Minimises}
 use Rattle.loss_model.specs.Problem.{value_at, sample}
 use Rattle.loss_model.specs.Dual.{IsDual}
 use Rattle.loss_model.specs.Segment.{Covers, dual_at, segments_of}

@@ -1,10 +1,10 @@
 -- Law. The conditions on the segments of a certificate, as tests in their order: its form, the costs, the
 -- ends of the segments, the bounds of the dual values, their sums, the losses, and where segments meet
 -- (Koenker 2005, chapter 6; Koenker and d'Orey 1987).
-use Rattle.std.specs.Prelude.{ℕ, zero, suc, ◌+◌, List, [], ◌∷◌, ◌++◌, length, slice_get, eqb, cond, pos, if◌then◌else◌}
+use Rattle.std.specs.Prelude.{ℕ, zero, suc, ◌+◌, List, [], ◌++◌, length, slice_get, eqb, cond, pos, if◌then◌else◌}
 use Rattle.std.specs.Option.{option_map_or}
 use Rattle.exact_algebra.specs.Rational.{ℚ, whole, le_ℚ}
-use Rattle.exact_algebra.specs.Fraction.{Fraction, rational}
+use Rattle.exact_algebra.specs.Fraction.{rational}
 use Rattle.frac_core.specs.declared.frac128.Frac128.{Frac128}
 use Rattle.loss_model.specs.declared.problem.Problem.{Problem}
 use Rattle.loss_model.specs.declared.problem.Row.{Row}
@@ -13,13 +13,12 @@ use Rattle.loss_model.specs.declared.vertex.Side.{Side}
 use Rattle.loss_model.specs.declared.vertex.Side.TheVariants.{Up, Down, Basic}
 use Rattle.loss_model.specs.declared.vertex.Vertex.{Vertex}
 use Rattle.loss_model.specs.Sample.{Sample}
-use Rattle.loss_model.specs.Problem.{value_at, sample}
+use Rattle.loss_model.specs.Problem.{value_at}
 use Rattle.loss_model.specs.Vertex.{basic_value}
 use Rattle.loss_model.specs.Segment.{of_segment}
 use Rattle.cert_checker.specs.Places.{value128}
-use Rattle.cert_checker.specs.Formulas.{Formula, given, negated, plus, minus, times, worth, sum, less_others}
+use Rattle.cert_checker.specs.Formulas.{Formula, given, negated, plus, times, worth, sum, less_others}
 use Rattle.cert_checker.specs.Tests.{Part, Test, upto, part, test, one}
-use Rattle.cert_checker.specs.declared.relation.Relation.{Relation}
 use Rattle.cert_checker.specs.declared.relation.Relation.TheVariants.{AtMost, AtLeast, Below, Equal}
 
 abbrev pub zero_formula : Formula

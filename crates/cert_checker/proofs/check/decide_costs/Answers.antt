@@ -1,10 +1,9 @@
-use Rattle.std.proofs.Common.{◌<◌, ℕ, length, sym, subst, arith}
+use Rattle.std.proofs.Common.{arith}
 use Rattle.std.proofs.lemmas.Result.{err_from_is_err_and}
 use Rattle.exact_algebra.specs.Fraction.{rational}
 use Rattle.loss_model.specs.Problem.{sample}
 use Rattle.cert_checker.specs.Places.{value128}
 use Rattle.cert_checker.specs.Tests.{upto}
-use Rattle.cert_checker.specs.Verdicts.{Decides}
 use Rattle.cert_checker.specs.Conditions.{range_test, row_costs}
 use Rattle.cert_checker.proofs.Decided.{front, behind}
 use Rattle.cert_checker.proofs.check.decide_costs.Goals as goal

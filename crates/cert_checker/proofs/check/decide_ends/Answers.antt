@@ -1,4 +1,4 @@
-use Rattle.std.proofs.Common.{◌<◌, ◌++◌, ℕ, length, pos, sym, subst, arith}
+use Rattle.std.proofs.Common.{ap, ◌++◌, ℕ, length, subst, arith}
 use Rattle.std.proofs.lemmas.Result.{err_from_is_err_and}
 use Rattle.exact_algebra.specs.Fraction.{rational}
 use Rattle.cert_checker.specs.Places.{value128}
@@ -19,7 +19,7 @@ returns-in_err-decide c =
     rw (p.1, p.2) (front (one 3 0 0 (count (length list)) AtLeast (count 1)) (upto (length list) f) _ c.in_err-decide.ensures)
 
 pub decide_each-requires : goal.decide_each-requires
-decide_each-requires c = λ i l. let e = c.as_slice-count.ensures in let few = c.requires in omega (arith, l, e, few)
+decide_each-requires c = λ i l. let e = ap length c.as_slice-count.ensures in let few = c.requires in omega (arith, l, e, few)
 
 pub returns : goal.returns
 returns c =
@@ -28,4 +28,4 @@ returns c =
     let hi = rational (value128 c.args.hi) in
     let f = λ (j : ℕ). first_end list lo j ++ (order_of_ends list j ++ joint_end list hi j) in
     behind (one 3 0 0 (count (length list)) AtLeast (count 1)) (upto (length list) f) c.in_ok-decide.ensures c.decide_each.result
-    (subst (λ (n : ℕ). Decides (upto n f) c.decide_each.result) c.as_slice-count.ensures c.decide_each.ensures)
+    (subst (λ (n : ℕ). Decides (upto n f) c.decide_each.result) (ap length c.as_slice-count.ensures) c.decide_each.ensures)

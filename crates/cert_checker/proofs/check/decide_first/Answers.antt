@@ -1,11 +1,8 @@
-use Rattle.std.proofs.Common.{◌<◌, ◌++◌, ◌+◌, ℕ, [], List, length, slice_get, sym, subst, arith, Ok, Err}
-use Rattle.std.specs.Option.{option_map_or}
+use Rattle.std.proofs.Common.{◌++◌, arith}
 use Rattle.std.proofs.lemmas.Result.{err_from_is_err_and}
 use Rattle.exact_algebra.specs.Fraction.{rational}
 use Rattle.loss_model.specs.Problem.{sample}
 use Rattle.cert_checker.specs.Places.{value128}
-use Rattle.cert_checker.specs.Tests.{AreTrue, upto}
-use Rattle.cert_checker.specs.Verdicts.{Decides}
 use Rattle.cert_checker.specs.Conditions.{each, row_form, segment_form, costs, ends}
 use Rattle.cert_checker.specs.Certificates.{first_tests}
 use Rattle.cert_checker.proofs.Decided.{front, later, behind}

@@ -1,4 +1,4 @@
-use Rattle.std.proofs.Common.{◌<◌, ℕ, length, subst, arith}
+use Rattle.std.proofs.Common.{ℕ, subst, arith}
 use Rattle.cert_checker.specs.Tests.{upto}
 use Rattle.cert_checker.specs.Verdicts.{Decides}
 use Rattle.cert_checker.proofs.segments.decide_rows.Goals as goal

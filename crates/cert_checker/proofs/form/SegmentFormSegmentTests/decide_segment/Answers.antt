@@ -1,6 +1,6 @@
-use Rattle.std.proofs.Common.{◌++◌, List, length}
+use Rattle.std.proofs.Common.{◌++◌, length}
 use Rattle.std.proofs.lemmas.Result.{err_from_is_err_and}
-use Rattle.cert_checker.specs.Tests.{Test, one}
+use Rattle.cert_checker.specs.Tests.{one}
 use Rattle.cert_checker.specs.Conditions.{count}
 use Rattle.cert_checker.specs.declared.relation.Relation.TheVariants.{Equal}
 use Rattle.cert_checker.proofs.Decided.{front, later, behind}

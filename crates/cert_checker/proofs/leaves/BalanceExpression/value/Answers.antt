@@ -1,7 +1,7 @@
-use Rattle.std.proofs.Common.{◌≡◌, ◌<◌, ◌+◌, ◌^◌, ℕ, length, sym, subst}
+use Rattle.std.proofs.Common.{◌<◌, ◌+◌, ◌^◌, ℕ, length, sym, subst}
 use Rattle.loss_model.specs.Problem.{sample}
 use Rattle.cert_checker.specs.Places.{value128}
-use Rattle.cert_checker.specs.Formulas.{Formula, sum, operations, times, given}
+use Rattle.cert_checker.specs.Formulas.{sum, operations, times, given}
 use Rattle.cert_checker.specs.Evaluations.{IsEvaluation}
 use Rattle.cert_checker.specs.Conditions.{dual_at_row}
 use Rattle.cert_checker.specs.Views.{end_of}

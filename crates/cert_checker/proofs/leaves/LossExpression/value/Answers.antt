@@ -1,4 +1,4 @@
-use Rattle.std.proofs.Common.{◌≡◌, ◌<◌, ◌+◌, ◌^◌, ℕ, length, sym, subst}
+use Rattle.std.proofs.Common.{◌<◌, ◌+◌, ◌^◌, ℕ, length, sym, subst}
 use Rattle.exact_algebra.specs.Fraction.{rational}
 use Rattle.loss_model.specs.Problem.{sample, value_at}
 use Rattle.cert_checker.specs.Places.{value128}
