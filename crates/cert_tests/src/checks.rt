@@ -1,10 +1,10 @@
 //! What the checker finds in certificates of which one place is written anew. Each rejection was worked from
 //! the rules by a script that shares nothing with the program.
 
-use crate::helpers::LINE;
+use crate::helpers::{LINE, changed};
 use cert_checker::{CheckStop, Rejection, Verdict, check_segments};
 use cert_text::{Cert, CertFault, read_cert};
-use frac_core::{Exact, Frac128};
+use frac_core::{Exact, Frac128, OpKind};
 use std::alloc::Global;
 use std::process::Abort;
 use std::test::Fail;
@@ -218,5 +218,56 @@ fn each_change_is_rejected_by_its_first_false_test(rt: HostRuntime) -> Result<()
         };
         assert!(rt; right, "at {}: {}", change.0, change.2);
     }
+    Ok(())
+}
+
+#[test]
+fn a_dual_value_above_its_bound_is_rejected(rt: HostRuntime) -> Result<(), Fail> {
+    let old = "\"basic_lo\":[\"3/5\"";
+    let text = changed(rt.alloc(), LINE, old, "\"basic_lo\":[\"4/5\"")?;
+    let sides = ((4, 5), (3, 5));
+    assert!(rt; is_rejected(rt.alloc(), text.as_bytes(), (4, 2, 2), sides));
+    Ok(())
+}
+
+#[test]
+fn a_coefficient_of_another_loss_is_rejected(rt: HostRuntime) -> Result<(), Fail> {
+    let old = "\"coef\":[\"0\",\"1\"]";
+    let text = changed(rt.alloc(), LINE, old, "\"coef\":[\"0\",\"2\"]")?;
+    let sides = ((0, 1), (3, 1));
+    assert!(rt; is_rejected(rt.alloc(), text.as_bytes(), (7, 1, 1), sides));
+    Ok(())
+}
+
+// Whether the product of a number and the greatest one is named as the operation that overflows.
+fn overflows(alloc: Global, text: &[u8], term: u32, left: (i128, i128)) -> bool {
+    let cert = match read(alloc, text) {
+        Ok(cert) => cert,
+        Err(_) => return false,
+    };
+    let spill = match checked(&cert) {
+        Some(Err(CheckStop::Overflow(spill))) => spill,
+        _ => return false,
+    };
+    let site = spill.site;
+    if site.first != 6 || site.second != 1 || site.third != 3 {
+        return false;
+    }
+    if site.term != term || site.kind != OpKind::Mul {
+        return false;
+    }
+    is_fraction(spill.left, left) && is_fraction(spill.right, (i128::MAX, 1))
+}
+
+// At the high end of the first segment the dual values are -2/5, 3/5 and -1/5. The product of the second row
+// stands behind that of the first and the two operations of its cost.
+#[test]
+fn an_operation_that_overflows_bears_its_number(rt: HostRuntime) -> Result<(), Fail> {
+    let greatest = "\"x\":[\"170141183460469231731687303715884105727\",\"0\"]";
+    let first = changed(rt.alloc(), LINE, "\"x\":[\"1\",\"0\"]", greatest)?;
+    assert!(rt; overflows(rt.alloc(), first.as_bytes(), 1, (-2, 5)));
+    let greatest = "\"x\":[\"170141183460469231731687303715884105727\",\"1\"]";
+    let second = changed(rt.alloc(), LINE, "\"x\":[\"1\",\"1\"]", greatest)?;
+    assert!(rt; overflows(rt.alloc(), second.as_bytes(), 4, (3, 5)));
     Ok(())
 }
