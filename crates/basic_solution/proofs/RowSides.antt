@@ -2,7 +2,6 @@
 use Rattle.std.specs.Prelude.{◌≡◌, ◌≢◌, ℕ, zero, suc, ◌<◌, Bool, true, false, if◌then◌else◌, ◌==◌, ◌||◌, ◌+◌, ◌++◌, Result, Ok, Err, OnOk, List, [], ◌∷◌, length, slice_index, pos}
 use Rattle.std.specs.List.{list_any}
 use Rattle.std.specs.declared.cmp.Ordering.TheVariants.{Less, Greater}
-use Rattle.std.specs.Result.{is_err}
 use Rattle.std.proofs.Common.{arith, refl, sym, ap, ap₂, ◌∙◌, below_more}
 use Rattle.basic_solution.specs.Bases.{side_in}
 use borrow.Author.Tests.{eqb-true, eqb-false, eq-eqb, ne_eqb}
@@ -72,10 +71,6 @@ module _ (rows n : ℕ) (at : ℕ → ℕ) (u : Nonbasic) where
       sym (side-residual n at u (λ z. cc (sym e ∙ (cmp_ℚ-Equal u.residual (whole (pos 0))).1 z)) rows ∙ ap side_of e)
 
 -- ---- a list of sides that grows
-
-pub on_ok : {T E : Type 0} (r : Result T E) (P : Type 0) → OnOk r P → is_err r ≡ false → P
-on_ok (Ok v) P h e = h
-on_ok (Err x) P h e = absurd (cc e)
 
 side_kept : (made : List Side) (s : Side) (i : ℕ) → i < length made → side_in (made ++ s ∷ []) i ≡ side_in made i
 side_kept [] s i l = absurd (omega arith)

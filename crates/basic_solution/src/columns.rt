@@ -84,10 +84,7 @@ pub fn totals<F: Exact>(
 {
     let mut made = List::new(alloc);
     for column in 0..problem.columns {
-        let value = total(problem, sides, part, column)?;
-        if made.push(value).is_err() {
-            return Err(Short::OutOfMemory);
-        }
+        made.add(total(problem, sides, part, column)?)?;
     }
     Ok(made)
 }

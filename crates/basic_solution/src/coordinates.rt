@@ -51,10 +51,7 @@ pub fn coordinates_at<F: Exact>(
 {
     let mut made = List::new(alloc);
     for row in 0..problem.rows.as_slice().len() as u32 {
-        let value = coordinate(problem, inverse, row, position)?;
-        if made.push(value).is_err() {
-            return Err(Short::OutOfMemory);
-        }
+        made.add(coordinate(problem, inverse, row, position)?)?;
     }
     Ok(made)
 }
@@ -78,10 +75,7 @@ pub fn row_coordinates<F: Exact>(
 {
     let mut made = List::new(alloc);
     for position in 0..problem.columns {
-        let value = coordinate(problem, inverse, row, position)?;
-        if made.push(value).is_err() {
-            return Err(Short::OutOfMemory);
-        }
+        made.add(coordinate(problem, inverse, row, position)?)?;
     }
     Ok(made)
 }

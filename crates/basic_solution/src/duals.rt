@@ -63,10 +63,7 @@ pub fn balancing_values<F: Exact>(
 {
     let mut made = List::new(alloc);
     for position in 0..totals.len() {
-        let value = balancing_value(inverse, totals, part, position as u32)?;
-        if made.push(value).is_err() {
-            return Err(Short::OutOfMemory);
-        }
+        made.add(balancing_value(inverse, totals, part, position as u32)?)?;
     }
     Ok(made)
 }

@@ -57,10 +57,7 @@ pub fn coefficients<F: Exact>(
 {
     let mut made = List::new(alloc);
     for column in 0..problem.columns {
-        let value = coefficient(problem, inverse, basis, column)?;
-        if made.push(value).is_err() {
-            return Err(Short::OutOfMemory);
-        }
+        made.add(coefficient(problem, inverse, basis, column)?)?;
     }
     Ok(made)
 }
@@ -81,10 +78,7 @@ pub fn residuals<F: Exact>(
 {
     let mut made = List::new(alloc);
     for row in 0..problem.rows.as_slice().len() as u32 {
-        let value = residual_at(problem, row, coef)?;
-        if made.push(value).is_err() {
-            return Err(Short::OutOfMemory);
-        }
+        made.add(residual_at(problem, row, coef)?)?;
     }
     Ok(made)
 }

@@ -99,9 +99,7 @@ pub fn sides<F: Exact>(
     let mut made = List::new(alloc);
     for row in 0..residuals.len() {
         let side = side_of_row(alloc, problem, inverse, basis, row as u32, residuals[row])?;
-        if made.push(side).is_err() {
-            return Err(Short::OutOfMemory);
-        }
+        made.add(side)?;
     }
     Ok(made)
 }

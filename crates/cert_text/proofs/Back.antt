@@ -24,7 +24,7 @@ use Rattle.serde_json.specs.Data.{Data, Members, no_members, member, number, uns
 use Rattle.serde_json.specs.Find.{as_object}
 use Rattle.serde_json.specs.View.{items_of}
 use Rattle.cert_text.specs.Paths.{key_step, item_step}
-use Rattle.cert_text.specs.Reading.{Reading, Reader, on_read, under, or_shape, or_number, fraction, below_32, count, items_from, list, next, field, closed, object_of}
+use Rattle.cert_text.specs.Reading.{Reading, Reader, on_read, under, or_shape, or_number, fraction, below_32, count, items_from, list, next, field, no_more_keys, object_of}
 use Rattle.cert_text.specs.Contents.{Content, exact, exact_row, exact_vertex, exact_segment, exact_end, exact_interval, content}
 use Rattle.cert_text.specs.Kept.{IsListed, IsKeptSegment, IsKeptEnd, IsKeptInterval, is_finite, is_outside}
 use Rattle.cert_text.specs.Certificates.{fractions, row_members, row, side_of, sides_of, sides, vertex_of, segment_members, segment, end_kind, finite_members, infinite_members, end_members, end_of, interval_members, projected_members, interval, kind, anything, top_members, is_too_large, within_limits, version_of, cert_of_data}
@@ -97,7 +97,7 @@ vertex_back : (v : Vertex Frac128) → IsListed v → vertex_of v.sides (map exa
 vertex_back v listed = λ i. record { basis = record { rows = sym listed i }; sides = v.sides; coef = map exact v.coef }
 
 row_back : (r : Row Frac128) → row (row_tree r) ≡ Ok (exact_row r)
-unfolding row row_members row_tree closed
+unfolding row row_members row_tree no_more_keys
 row_back r =
     step (codes "down0") fraction _ _ (exact r.down0) _ (fraction_back r.down0)
     ∙ step (codes "down1") fraction _ _ (exact r.down1) _ (fraction_back r.down1)
@@ -107,7 +107,7 @@ row_back r =
     ∙ step (codes "y") fraction _ _ (exact r.y) _ (fraction_back r.y)
 
 segment_back : (s : Segment Frac128) → IsKeptSegment s → segment (segment_tree s) ≡ Ok (exact_segment s)
-unfolding segment segment_members segment_tree closed
+unfolding segment segment_members segment_tree no_more_keys
 segment_back s kept =
     step (codes "basic_hi") fractions _ _ (map exact s.basic_hi) _ (fractions_back s.basic_hi)
     ∙ step (codes "basic_lo") fractions _ _ (map exact s.basic_lo) _ (fractions_back s.basic_lo)
@@ -137,7 +137,7 @@ infinite_back = refl
 
 ends_back : (v : Vertex Frac128) (inside : List Frac128) (bound : Bound Frac128) (beyond : Beyond Frac128) → IsListed v → is_finite bound ≡ is_outside beyond
     → let e : End Frac128 = record { bound = bound; vertex = v; inside = inside; beyond = beyond } in end_of (end_tree e) ≡ Ok (exact_end e)
-unfolding end_of end_members finite_members infinite_members end_tree closed
+unfolding end_of end_members finite_members infinite_members end_tree no_more_keys
 ends_back v inside (Finite x) (Outside xs) listed h =
     step (codes "coef") fractions _ _ (map exact v.coef) _ (fractions_back v.coef)
     ∙ step (codes "inside") fractions _ _ (map exact inside) _ (fractions_back inside)
@@ -164,7 +164,7 @@ unfolding count
 count_back n l = ap (λ b. or_shape (if b then Some n else None)) (lt-ltb n (2 ^ 32) l)
 
 interval_back : (t : IntervalProof Frac128) → IsKeptInterval t → interval (interval_tree t) ≡ Ok (exact_interval t)
-unfolding interval interval_members projected_members interval_tree closed
+unfolding interval interval_members projected_members interval_tree no_more_keys
 interval_back t kept =
     step (codes "column") count _ _ t.column _ (count_back t.column kept.0)
     ∙ step (codes "crit") fraction _ _ (exact t.crit) _ (fraction_back t.crit)
@@ -184,7 +184,7 @@ unfolding version_of cert_tree
 version_back c = refl
 
 top_back : (c : Cert) → IsWithinLimits c → on_read (or_shape (as_object (cert_tree c))) top_members ≡ Ok (content c)
-unfolding cert_tree top_members closed
+unfolding cert_tree top_members no_more_keys
 top_back c within =
     step (codes "columns") count _ _ c.problem.columns _ (count_back c.problem.columns (omega (arith, within.columns)))
     ∙ step (codes "hi") fraction _ _ (exact c.hi) _ (fraction_back c.hi)

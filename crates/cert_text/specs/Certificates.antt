@@ -2,6 +2,7 @@
 use Rattle.std.specs.Prelude.{ℕ, List, [], ◌∷◌, ◌==◌, ◌||◌, ◌^◌, Bool, true, false, Option, Some, None, Ok, Err, codes, length, nat_lt, option_and_then, option_map, ⊤, if◌then◌else◌}
 use Rattle.std.specs.Str.{is_utf8, bytes_eq}
 use Rattle.exact_algebra.specs.Rational.{ℚ}
+use Rattle.frac_core.specs.Limits.{most_rows, most_columns}
 use Rattle.loss_model.specs.declared.problem.Row.{Row}
 use Rattle.loss_model.specs.declared.vertex.Side.{Side}
 use Rattle.loss_model.specs.declared.vertex.Side.TheVariants.{Up, Down, Basic}
@@ -16,8 +17,9 @@ use Rattle.serde_json.specs.Find.{as_number, as_u64, as_str, as_object, get}
 use Rattle.serde_json.specs.Read.{read}
 use Rattle.cert_text.specs.Contents.{Content}
 use Rattle.cert_text.specs.Kept.{basic_rows}
+use Rattle.cert_text.specs.Limits.{most_segments, most_intervals}
 use Rattle.cert_text.specs.Paths.{key_step}
-use Rattle.cert_text.specs.Reading.{Reading, Reader, on_read, under, or_shape, fraction, count, list, field, closed, object_of}
+use Rattle.cert_text.specs.Reading.{Reading, Reader, on_read, under, or_shape, fraction, count, list, field, no_more_keys, object_of}
 use Rattle.cert_text.specs.declared.fault.CertFault.TheVariants.{NotJson, Version, TooLarge}
 
 abbrev pub fractions : Reader (List ℚ)
@@ -34,7 +36,7 @@ row_members ms =
     on_read (field (codes "up1") fraction up0.1) (λ up1.
     on_read (field (codes "x") fractions up1.1) (λ x.
     on_read (field (codes "y") fraction x.1) (λ y.
-    on_read (closed y.1) (λ _.
+    on_read (no_more_keys y.1) (λ _.
     Ok (record { x = x.0; y = y.0; up0 = up0.0; up1 = up1.0; down0 = down0.0; down1 = down1.0 }))))))))
 
 unfoldable pub row : Reader (Row ℚ)
@@ -72,7 +74,7 @@ segment_members ms =
     on_read (field (codes "loss_hi") fraction lo.1) (λ loss_hi.
     on_read (field (codes "loss_lo") fraction loss_hi.1) (λ loss_lo.
     on_read (field (codes "sides") sides loss_lo.1) (λ signs.
-    on_read (closed signs.1) (λ _.
+    on_read (no_more_keys signs.1) (λ _.
     Ok (record {
       lo = lo.0;
       hi = hi.0;
@@ -101,7 +103,7 @@ finite_members coef inside ms =
     on_read (field (codes "outside") fractions ms) (λ outside.
     on_read (field (codes "sides") sides outside.1) (λ signs.
     on_read (field (codes "value") fraction signs.1) (λ value.
-    on_read (closed value.1) (λ _.
+    on_read (no_more_keys value.1) (λ _.
     Ok (record { bound = Finite value.0; vertex = vertex_of signs.0 coef; inside = inside; beyond = Outside outside.0 })))))
 
 -- the keys of an infinite end behind its kind
@@ -109,7 +111,7 @@ unfoldable pub infinite_members : List ℚ → List ℚ → Members → Reading 
 infinite_members coef inside ms =
     on_read (field (codes "ray") fractions ms) (λ ray.
     on_read (field (codes "sides") sides ray.1) (λ signs.
-    on_read (closed signs.1) (λ _.
+    on_read (no_more_keys signs.1) (λ _.
     Ok (record { bound = Infinite; vertex = vertex_of signs.0 coef; inside = inside; beyond = Ray ray.0 }))))
 
 -- the keys of an end
@@ -128,7 +130,7 @@ unfoldable pub projected_members : ℕ → ℚ → End ℚ → End ℚ → Membe
 projected_members column crit high low ms =
     on_read (field (codes "projection") fractions ms) (λ projection.
     on_read (field (codes "tau") fraction projection.1) (λ tau.
-    on_read (closed tau.1) (λ _.
+    on_read (no_more_keys tau.1) (λ _.
     Ok (record { column = column; tau = tau.0; crit = crit; low = low; high = high; projection = projection.0 }))))
 
 -- the keys of an interval
@@ -167,7 +169,7 @@ top_members ms =
     on_read (field (codes "rows") (list row) lo.1) (λ rows.
     on_read (field (codes "segments") (list segment) rows.1) (λ segments.
     on_read (field (codes "version") anything segments.1) (λ version.
-    on_read (closed version.1) (λ _.
+    on_read (no_more_keys version.1) (λ _.
     Ok (record {
       problem = record { columns = columns.0; rows = rows.0 };
       lo = lo.0;
@@ -178,8 +180,8 @@ top_members ms =
 
 abbrev pub is_too_large : Content → Bool
 is_too_large c =
-    nat_lt 128 c.problem.columns || (nat_lt 16384 (length c.problem.rows)
-    || (nat_lt (2 ^ 20) (length c.segments) || nat_lt 8192 (length c.intervals)))
+    nat_lt most_columns c.problem.columns || (nat_lt most_rows (length c.problem.rows)
+    || (nat_lt most_segments (length c.segments) || nat_lt most_intervals (length c.intervals)))
 
 -- at most 128 columns, 16,384 rows, 2^20 segments and 8,192 intervals
 abbrev pub within_limits : Content → Reading Content

@@ -80,9 +80,9 @@ unfoldable pub field : {A : Type 0} → List ℕ → Reader A → Members → Re
 field key read ms = on_read (next key ms) (λ p. on_read (under (key_step key) (read p.0)) (λ a. Ok (a, p.1)))
 
 -- no key is left
-unfoldable pub closed : Members → Reading ⊤
-closed no_members = Ok tt
-closed (member k d ms) = Err (Shape (key_step k))
+unfoldable pub no_more_keys : Members → Reading ⊤
+no_more_keys no_members = Ok tt
+no_more_keys (member k d ms) = Err (Shape (key_step k))
 
 -- an object, key by key
 abbrev pub object_of : {A : Type 0} → (Members → Reading A) → Reader A

@@ -13,7 +13,7 @@ ghost use Rattle.cert_text.specs.Certificates.{end_kind, finite_members, infinit
 ghost use Rattle.cert_text.specs.Trees.{end_tree, interval_tree};
 
 use crate::fault::CertFault;
-use crate::keys::{closed, field, members};
+use crate::keys::{no_more_keys, field, members};
 use crate::parts::{FromJson, Name, ToJson, put};
 use crate::path::wrong_kind;
 use crate::vertex::{Signs, vertex};
@@ -73,7 +73,7 @@ fn finite_end(
     let outside = field(alloc, "outside", rest)?;
     let sides = field(alloc, "sides", rest)?;
     let value = field(alloc, "value", rest)?;
-    closed(alloc, rest)?;
+    no_more_keys(alloc, rest)?;
     Ok(End {
         bound: Bound::Finite(value),
         vertex: vertex(alloc, sides, solution.coef)?,
@@ -96,7 +96,7 @@ fn infinite_end(
 {
     let ray = field(alloc, "ray", rest)?;
     let sides = field(alloc, "sides", rest)?;
-    closed(alloc, rest)?;
+    no_more_keys(alloc, rest)?;
     Ok(End {
         bound: Bound::Infinite,
         vertex: vertex(alloc, sides, solution.coef)?,
@@ -139,7 +139,7 @@ impl FromJson for End<Frac128> {
 
 // An interval without the factors that project its column.
 #[derive(Drop)]
-struct Tested {
+struct IntervalHead {
     column: u32,
     crit: Frac128,
     low: End<Frac128>,
@@ -149,7 +149,7 @@ struct Tested {
 #[tactic(auto, unfolding(crate::specs::Certificates::projected_members))]
 fn projected(
     alloc: Global,
-    t: Tested,
+    t: IntervalHead,
     rest: &mut Iter<'_, String, Value>,
 ) -> Result<IntervalProof<Frac128>, CertFault>
     requires kept { IsKeptEnd t.low × IsKeptEnd t.high }
@@ -161,7 +161,7 @@ fn projected(
 {
     let projection = field(alloc, "projection", rest)?;
     let tau = field(alloc, "tau", rest)?;
-    closed(alloc, rest)?;
+    no_more_keys(alloc, rest)?;
     Ok(IntervalProof {
         column: t.column,
         tau,
@@ -185,7 +185,7 @@ fn interval_of(
     let crit = field(alloc, "crit", rest)?;
     let high = field(alloc, "high", rest)?;
     let low = field(alloc, "low", rest)?;
-    let tested = Tested {
+    let tested = IntervalHead {
         column,
         crit,
         low,

@@ -3,7 +3,7 @@
 ghost use Rattle.std.specs.Prelude.{◌≡◌, ◌≢◌, Ok, Err, IfOk, IfErr};
 ghost use Rattle.serde_json.specs.Find.{as_object};
 ghost use Rattle.serde_json.specs.View.{view, members_view};
-ghost use Rattle.cert_text.specs.Reading.{or_shape, next, field, closed};
+ghost use Rattle.cert_text.specs.Reading.{or_shape, next, field, no_more_keys};
 ghost use Rattle.cert_text.specs.declared.fault.CertFault.TheVariants.{OutOfMemory};
 
 use crate::fault::CertFault;
@@ -67,10 +67,10 @@ pub(crate) fn field<T: FromJson>(
 }
 
 /// No key is left.
-#[tactic(auto, unfolding(crate::specs::Reading::closed))]
-pub(crate) fn closed(alloc: Global, rest: &mut Iter<'_, String, Value>) -> Result<(), CertFault>
-    ensures ok { IfOk result (λ _. closed (members_view rest.old) ≡ Ok tt) }
-    ensures err { IfErr result (λ e. e ≢ OutOfMemory → closed (members_view rest.old) ≡ Err e) }
+#[tactic(auto, unfolding(crate::specs::Reading::no_more_keys))]
+pub(crate) fn no_more_keys(alloc: Global, rest: &mut Iter<'_, String, Value>) -> Result<(), CertFault>
+    ensures ok { IfOk result (λ _. no_more_keys (members_view rest.old) ≡ Ok tt) }
+    ensures err { IfErr result (λ e. e ≢ OutOfMemory → no_more_keys (members_view rest.old) ≡ Err e) }
 {
     match rest.next() {
         None => Ok(()),

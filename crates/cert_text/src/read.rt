@@ -10,10 +10,10 @@ ghost use Rattle.cert_text.specs.declared.fault.CertFault.TheVariants.{NotJson};
 
 use crate::cert::Cert;
 use crate::fault::CertFault;
-use crate::keys::{closed, field, members};
+use crate::keys::{no_more_keys, field, members};
 use crate::parts::FromJson;
 use crate::path::{under_key, wrong_kind};
-use frac_core::{Frac128, List};
+use frac_core::{Frac128, List, MOST_COLUMNS, MOST_ROWS};
 use loss_model::{IntervalProof, Problem, Row, Segment};
 use serde_json::{Category, Value};
 use std::alloc::Global;
@@ -45,17 +45,17 @@ impl FromJson for Kind {
 
 // A value that was looked at before.
 #[derive(Clone, Copy)]
-struct Seen;
+struct AnyValue;
 
-impl FromJson for Seen {
+impl FromJson for AnyValue {
     ghost Content = { ⊤ };
 
     ghost content = { λ _. tt };
 
     ghost reader = { anything };
 
-    fn from_json(_alloc: Global, _value: &Value) -> Result<Seen, CertFault> {
-        Ok(Seen)
+    fn from_json(_alloc: Global, _value: &Value) -> Result<AnyValue, CertFault> {
+        Ok(AnyValue)
     }
 }
 
@@ -71,8 +71,8 @@ fn top_of(alloc: Global, rest: &mut Iter<'_, String, Value>) -> Result<Cert, Cer
     let lo = field(alloc, "lo", rest)?;
     let rows = field(alloc, "rows", rest)?;
     let segments = field(alloc, "segments", rest)?;
-    let _version: Seen = field(alloc, "version", rest)?;
-    closed(alloc, rest)?;
+    let _version: AnyValue = field(alloc, "version", rest)?;
+    no_more_keys(alloc, rest)?;
     Ok(Cert {
         problem: Problem { columns, rows },
         lo,
@@ -82,21 +82,25 @@ fn top_of(alloc: Global, rest: &mut Iter<'_, String, Value>) -> Result<Cert, Cer
     })
 }
 
+const MOST_SEGMENTS: usize = 1 << 20;
+
+const MOST_INTERVALS: usize = 8_192;
+
 // The certificate, unless it is beyond a limit.
-fn limited(cert: Cert) -> Result<Cert, CertFault>
+fn within(cert: Cert) -> Result<Cert, CertFault>
     ensures ok { IfOk result (λ c. within_limits (content cert) ≡ Ok (content c)) }
     ensures err { IfErr result (λ e. within_limits (content cert) ≡ Err e) }
 {
-    if cert.problem.columns > 128 {
+    if cert.problem.columns > MOST_COLUMNS {
         return Err(CertFault::TooLarge);
     }
-    if cert.problem.rows.as_slice().len() > 16_384 {
+    if cert.problem.rows.as_slice().len() > MOST_ROWS as usize {
         return Err(CertFault::TooLarge);
     }
-    if cert.segments.as_slice().len() > 1 << 20 {
+    if cert.segments.as_slice().len() > MOST_SEGMENTS {
         return Err(CertFault::TooLarge);
     }
-    if cert.intervals.as_slice().len() > 8_192 {
+    if cert.intervals.as_slice().len() > MOST_INTERVALS {
         return Err(CertFault::TooLarge);
     }
     Ok(cert)
@@ -124,7 +128,7 @@ fn cert_of_value(alloc: Global, value: &Value) -> Result<Cert, CertFault>
         return Err(CertFault::Version);
     }
     let cert = top_of(alloc, &mut found.iter())?;
-    limited(cert)
+    within(cert)
 }
 
 #[tactic(auto, unfolding(crate::specs::Certificates::json_of))]

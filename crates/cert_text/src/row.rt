@@ -9,7 +9,7 @@ ghost use Rattle.cert_text.specs.Certificates.{row_members, row};
 ghost use Rattle.cert_text.specs.Trees.{row_tree};
 
 use crate::fault::CertFault;
-use crate::keys::{closed, field, members};
+use crate::keys::{no_more_keys, field, members};
 use crate::parts::{FromJson, ToJson, put};
 use frac_core::Frac128;
 use loss_model::Row;
@@ -28,7 +28,7 @@ fn row_of(alloc: Global, rest: &mut Iter<'_, String, Value>) -> Result<Row<Frac1
     let up1 = field(alloc, "up1", rest)?;
     let x = field(alloc, "x", rest)?;
     let y = field(alloc, "y", rest)?;
-    closed(alloc, rest)?;
+    no_more_keys(alloc, rest)?;
     Ok(Row {
         x,
         y,

@@ -10,7 +10,7 @@ ghost use Rattle.cert_text.specs.Certificates.{segment_members, segment};
 ghost use Rattle.cert_text.specs.Trees.{segment_tree};
 
 use crate::fault::CertFault;
-use crate::keys::{closed, field, members};
+use crate::keys::{no_more_keys, field, members};
 use crate::parts::{FromJson, ToJson, put};
 use crate::vertex::{Signs, vertex};
 use frac_core::Frac128;
@@ -36,7 +36,7 @@ fn segment_of(
     let loss_hi = field(alloc, "loss_hi", rest)?;
     let loss_lo = field(alloc, "loss_lo", rest)?;
     let sides = field(alloc, "sides", rest)?;
-    closed(alloc, rest)?;
+    no_more_keys(alloc, rest)?;
     Ok(Segment {
         lo,
         hi,

@@ -1,6 +1,7 @@
 //! From a certificate to its text.
 
 ghost use Rattle.std.specs.Prelude.{◌≡◌, ◌≤◌, ◌^◌, ◌++◌, ◌∷◌, [], false, All, Ok, Some, length, IfOk};
+ghost use Rattle.frac_core.specs.Limits.{most_columns};
 ghost use Rattle.json.specs.Tree.{HasNumbers};
 ghost use Rattle.serde_json.specs.Data.{depth};
 ghost use Rattle.serde_json.specs.Read.{max_depth};
@@ -49,7 +50,7 @@ fn line_of(alloc: Global, value: &Value) -> Result<Vec<u8>, AllocError>
 
 #[tactic(auto, using(crate::proofs::Plain::cert_plain))]
 fn bytes_of(alloc: Global, cert: &Cert) -> Result<Vec<u8>, AllocError>
-    ensures back { cert.now.problem.columns ≤ 128 → IfOk result (λ bytes. json_of bytes.items ≡ Some (cert_tree cert.now)) }
+    ensures back { cert.now.problem.columns ≤ most_columns → IfOk result (λ bytes. json_of bytes.items ≡ Some (cert_tree cert.now)) }
     ensures text { IfOk result (λ bytes. bytes.items ≡ cert_text cert.now) }
 {
     let value = to_json(alloc, cert)?;

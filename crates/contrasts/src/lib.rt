@@ -11,6 +11,7 @@
 #![tactic(auto)]
 
 ghost use Rattle.std.specs.Prelude.{◌≡◌, ◌<◌, ◌≤◌, ◌^◌, ◌++◌, length, IfOk, decimal, string_bytes};
+ghost use Rattle.frac_core.specs.Limits.{most_rows};
 ghost use Rattle.contrasts.specs.Coding.{width_of, entry_of, label_of};
 
 use frac_core::{OutOfMemory, Text};
@@ -47,7 +48,7 @@ pub fn width(coding: Coding, levels: u32) -> u32
 
 /// The entry of a column at a level, for a coding of so many levels.
 pub fn entry(coding: Coding, levels: u32, level: u32, column: u32) -> i64
-    requires few { levels ≤ 16384 }
+    requires few { levels ≤ most_rows }
     requires is_level { level < levels }
     requires is_column { column < width_of coding levels }
     ensures { result ≡ entry_of coding levels level column }

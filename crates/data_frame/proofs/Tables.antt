@@ -13,7 +13,7 @@ use Rattle.data_frame.specs.Cells.{ColumnOf, column_of}
 use Rattle.data_frame.specs.Tables.{table_of_records, table_under}
 use Rattle.data_frame.specs.declared.fault.TableFault.{TableFault}
 use Rattle.data_frame.specs.declared.fault.TableFault.TheVariants.{NoHeader, NotUtf8, TooManyColumns}
-use Rattle.data_frame.specs.declared.column.Stored.{Stored}
+use Rattle.data_frame.specs.declared.column.ColumnCells.{ColumnCells}
 use Rattle.data_frame.specs.Views.{exact_column, stored_column}
 use Rattle.data_frame.proofs.Faults.{good_is_early, none_first, none_second}
 use Rattle.data_frame.proofs.Naming.{too_wide_header}
@@ -83,7 +83,7 @@ columns_short columns rows first count e few k d lt =
     omega arith
 
 -- there is a column for each name
-pub named_columns : (stored : List Stored) (columns : List CsvRow) (rows : List Row) (header : Row) (names : List Text) (wanted first : ℕ)
+pub named_columns : (stored : List ColumnCells) (columns : List CsvRow) (rows : List Row) (header : Row) (names : List Text) (wanted first : ℕ)
     → map (λ s. exact_column (stored_column s)) stored ≡ map column_of (map fields_of columns)
     → map fields_of columns ≡ columns_from rows first (wanted - first) → names ≡ names_of header → wanted ≡ length header → first ≡ set_aside header
     → length stored ≡ length names
@@ -94,7 +94,7 @@ named_columns stored columns rows header names wanted first shown cells named w 
     n ∙ m ∙ rw (w, f) (sym (length-drop (set_aside header) header)) ∙ sym (ap length named)
 
 -- what is stored is what the cells are
-pub stored_columns : (stored : List Stored) (columns : List CsvRow) (rows : List Row) (header : Row) (wanted first : ℕ)
+pub stored_columns : (stored : List ColumnCells) (columns : List CsvRow) (rows : List Row) (header : Row) (wanted first : ℕ)
     → map (λ s. exact_column (stored_column s)) stored ≡ map column_of (map fields_of columns)
     → map fields_of columns ≡ columns_from rows first (wanted - first) → wanted ≡ length header → first ≡ set_aside header
     → map exact_column (map stored_column stored) ≡ map column_of (columns_from rows (set_aside header) (length header - set_aside header))

@@ -3,6 +3,7 @@ use Rattle.std.specs.Prelude.{ℕ, ◌+◌, ◌==◌, not, Bool, true, false, Li
 use Rattle.std.specs.List.{list_any}
 use Rattle.std.specs.Option.{option_or}
 use Rattle.std.specs.Str.{bytes_eq}
+use Rattle.frac_core.specs.Limits.{most_rows}
 use Rattle.data_frame.specs.Records.{Row, Text, are_text}
 use Rattle.data_frame.specs.declared.fault.TableFault.{TableFault}
 use Rattle.data_frame.specs.declared.fault.TableFault.TheVariants.{NoHeader, NotUtf8, Ragged, DoubleName, EmptyName, TooManyColumns, TooManyRows}
@@ -42,7 +43,7 @@ header_fault header =
 -- the fault of the record of this number, which should have so many fields
 unfoldable pub row_fault : ℕ → ℕ → Row → Option TableFault
 row_fault wanted rec row =
-    if nat_lt 16384 rec then Some TooManyRows
+    if nat_lt most_rows rec then Some TooManyRows
     else if not (are_text row) then Some (NotUtf8 rec)
     else if length row == wanted then None else Some (Ragged rec (length row) wanted)
 

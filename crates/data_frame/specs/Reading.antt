@@ -6,8 +6,8 @@ use Rattle.csv.specs.declared.reader.Reader.{Reader}
 use Rattle.csv.specs.declared.reader.Trim.TheVariants as trim
 use Rattle.csv.specs.declared.parser.State.{State}
 use Rattle.data_frame.specs.Records.{Row, are_text}
-use Rattle.data_frame.specs.declared.records.Found.{Found}
-use Rattle.data_frame.specs.declared.records.Found.TheVariants as found
+use Rattle.data_frame.specs.declared.records.NextRecord.{NextRecord}
+use Rattle.data_frame.specs.declared.records.NextRecord.TheVariants as found
 
 -- a reader over bytes in memory
 abbrev pub Records : Type 0
@@ -46,7 +46,7 @@ pub record TakesRow (old new : Records) (fields : Row) : Type 0 where
   pub shorter : length (unread new) ≤ length (unread old) - 1
 
 -- what a read found: the next record into `fields`, one that is no text, or the end
-abbrev pub Finds : Records → Records → Row → Found → Type 0
+abbrev pub Finds : Records → Records → Row → NextRecord → Type 0
 Finds old new fields found.Row = TakesRow old new fields
 Finds old new fields found.NotText =
     (row : Row) × (rest : List Row) × (left_of old ≡ row ∷ rest) × (are_text row ≡ false)

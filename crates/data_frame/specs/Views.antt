@@ -5,8 +5,8 @@ use Rattle.exact_algebra.specs.Rational.{ℚ}
 use Rattle.frac_core.specs.declared.frac128.Frac128.{Frac128}
 use Rattle.data_frame.specs.Cells.{ColumnOf, numbers, factor, too_wide}
 use Rattle.data_frame.specs.Tables.{TableOf}
-use Rattle.data_frame.specs.declared.column.Stored.{Stored}
-use Rattle.data_frame.specs.declared.column.Stored.TheVariants as stored
+use Rattle.data_frame.specs.declared.column.ColumnCells.{ColumnCells}
+use Rattle.data_frame.specs.declared.column.ColumnCells.TheVariants as stored
 use Rattle.data_frame.specs.declared.column.Column.{Column}
 use Rattle.data_frame.specs.declared.column.Column.TheVariants as lent
 
@@ -25,7 +25,7 @@ abbrev pub exact_table : TableOf Frac128 → TableOf ℚ
 exact_table table = record { names = table.names; records = table.records; columns = map exact_column table.columns }
 
 -- a column that is stored
-abbrev pub stored_column : Stored → ColumnOf Frac128
+abbrev pub stored_column : ColumnCells → ColumnOf Frac128
 stored_column (stored.Numbers values) = numbers values.items
 stored_column (stored.Factor texts) = factor texts.items
 stored_column (stored.TooWide rec) = too_wide rec

@@ -1,5 +1,6 @@
 -- Law. Which records are a table.
 use Rattle.std.specs.Prelude.{◌≡◌, ◌≢◌, ◌≤◌, true, List, [], ◌∷◌, All, AllPairs, length}
+use Rattle.frac_core.specs.Limits.{most_rows}
 use Rattle.data_frame.specs.Records.{Row, Text, are_text}
 use Rattle.data_frame.specs.Faults.{names_of}
 
@@ -14,7 +15,7 @@ pub record IsWellFormed (header : Row) (rows : List Row) : Type 0 where
   pub text : All (λ row. are_text row ≡ true) (header ∷ rows)
   pub narrow : length header ≤ 1024
   pub names : AreNames (names_of header)
-  pub short : length rows ≤ 16384
+  pub short : length rows ≤ most_rows
   pub even : All (λ row. length row ≡ length header) rows
 
 -- there is a header, and all is as it should be

@@ -23,20 +23,20 @@ pub enum Column<'a> {
 
 /// A column that is stored.
 #[derive(Drop)]
-pub(crate) enum Stored {
+pub(crate) enum ColumnCells {
     Numbers(Vec<Option<Frac128>>),
     Factor(Vec<Option<Text>>),
     TooWide { rec: u32 },
 }
 
-impl Stored {
+impl ColumnCells {
     pub(crate) fn lend(&self) -> Column<'_>
         ensures { lent_column result ≡ stored_column self.now }
     {
         match self {
-            Stored::Numbers(values) => Column::Numbers(values.as_slice()),
-            Stored::Factor(texts) => Column::Factor(texts.as_slice()),
-            Stored::TooWide { rec } => Column::TooWide { rec: *rec },
+            ColumnCells::Numbers(values) => Column::Numbers(values.as_slice()),
+            ColumnCells::Factor(texts) => Column::Factor(texts.as_slice()),
+            ColumnCells::TooWide { rec } => Column::TooWide { rec: *rec },
         }
     }
 }
@@ -54,7 +54,7 @@ fn are_numeric(cells: &StringRecord, from: usize) -> bool
 }
 
 // The column of these cells where it is numeric.
-fn read_numbers(alloc: Global, cells: &StringRecord) -> Result<Option<Stored>, AllocError>
+fn read_numbers(alloc: Global, cells: &StringRecord) -> Result<Option<ColumnCells>, AllocError>
     requires { length (fields_of cells.now) < 2 ^ 32 - 1 }
     ensures { IfOk result (λ found. MatchOption found
         (list_all is_numeric (fields_of cells.now) ≡ false)
@@ -67,11 +67,11 @@ fn read_numbers(alloc: Global, cells: &StringRecord) -> Result<Option<Stored>, A
             Err(NumberFault::NotANumber) => return Ok(None),
             Err(NumberFault::TooWide) => {
                 let rec = i as u32 + 1;
-                return Ok(are_numeric(cells, i + 1).then_some(Stored::TooWide { rec }));
+                return Ok(are_numeric(cells, i + 1).then_some(ColumnCells::TooWide { rec }));
             }
         }
     }
-    Ok(Some(Stored::Numbers(values)))
+    Ok(Some(ColumnCells::Numbers(values)))
 }
 
 // The cell as it stands, and none where it is missing.
@@ -98,13 +98,13 @@ fn read_texts(alloc: Global, cells: &StringRecord) -> Result<Vec<Option<Text>>, 
 }
 
 // The column of these cells.
-pub(crate) fn read_column(alloc: Global, cells: &StringRecord) -> Result<Stored, AllocError>
+pub(crate) fn read_column(alloc: Global, cells: &StringRecord) -> Result<ColumnCells, AllocError>
     requires { length (fields_of cells.now) < 2 ^ 32 - 1 }
     ensures { IfOk result (λ column.
         exact_column (stored_column column) ≡ column_of (fields_of cells.now)) }
 {
     match read_numbers(alloc, cells)? {
         Some(column) => Ok(column),
-        None => Ok(Stored::Factor(read_texts(alloc, cells)?)),
+        None => Ok(ColumnCells::Factor(read_texts(alloc, cells)?)),
     }
 }

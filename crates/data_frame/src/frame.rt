@@ -8,9 +8,9 @@ ghost use Rattle.data_frame.specs.WellFormed.{AreTable};
 ghost use Rattle.data_frame.specs.Views.{exact_column, exact_table, lent_column, stored_column};
 
 use crate::TableFault;
-use crate::column::{Column, Stored, read_column};
+use crate::column::{Column, ColumnCells, read_column};
 use crate::header::{Names, read_names, set_aside};
-use crate::records::{Found, next_row, open};
+use crate::records::{NextRecord, next_row, open};
 use crate::rows::read_rows;
 use csv::{Reader, StringRecord};
 use frac_core::Text;
@@ -23,7 +23,7 @@ use std::marker::Model;
 pub struct Frame {
     names: Names,
     records: u32,
-    columns: Vec<Stored>,
+    columns: Vec<ColumnCells>,
 }
 
 impl Model for Frame {
@@ -70,7 +70,7 @@ impl Frame {
 }
 
 // The columns of these cells, which are let go one after the other.
-fn read_columns(alloc: Global, columns: Vec<StringRecord>) -> Result<Vec<Stored>, AllocError>
+fn read_columns(alloc: Global, columns: Vec<StringRecord>) -> Result<Vec<ColumnCells>, AllocError>
     requires { All (λ cells. length (fields_of cells) < 2 ^ 32 - 1) columns.items }
     ensures { IfOk result (λ stored. map (λ s. exact_column (stored_column s)) stored.items
         ≡ map column_of (map fields_of columns.items)) }
@@ -93,9 +93,9 @@ fn read_frame(alloc: Global, reader: &mut Reader<&[u8]>) -> Result<Frame, TableF
 {
     let mut header = StringRecord::new(alloc);
     match next_row(reader, &mut header)? {
-        Found::End => return Err(TableFault::NoHeader),
-        Found::NotText => return Err(TableFault::NotUtf8 { rec: 0 }),
-        Found::Row => {}
+        NextRecord::End => return Err(TableFault::NoHeader),
+        NextRecord::NotText => return Err(TableFault::NotUtf8 { rec: 0 }),
+        NextRecord::Row => {}
     }
     let names = read_names(alloc, &header)?;
     let body = read_rows(alloc, reader, header.len() as u32, set_aside(&header))?;

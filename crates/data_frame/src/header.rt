@@ -85,9 +85,7 @@ fn add_name(
         return Err(TableFault::DoubleName { column });
     }
     let text = Text::new(alloc, name)?;
-    if texts.push(text).is_err() {
-        return Err(TableFault::OutOfMemory);
-    }
+    texts.add(text)?;
     Ok(())
 }
 

@@ -7,14 +7,12 @@ ghost use Rattle.data_frame.specs.Reading.{Finds, IsReading, TakesRow, left_of, 
 
 use crate::TableFault;
 use csv::{ErrorKind, Reader, ReaderBuilder, StringRecord};
+use frac_core::MOST_ROWS;
 use std::alloc::Global;
-
-// The most records under the header.
-pub(crate) const MOST_RECORDS: u32 = 16384;
 
 /// What stands next.
 #[derive(Clone, Copy)]
-pub(crate) enum Found {
+pub(crate) enum NextRecord {
     End,
     NotText,
     Row,
@@ -37,16 +35,16 @@ pub(crate) fn open(alloc: Global, bytes: &[u8]) -> Reader<&[u8]>
 pub(crate) fn next_row(
     reader: &mut Reader<&[u8]>,
     row: &mut StringRecord,
-) -> Result<Found, TableFault>
+) -> Result<NextRecord, TableFault>
     requires { IsReading reader.old }
     ensures finds { IfOk result (Finds reader.old reader.new (fields_of row.new)) }
     ensures memory { IfErr result (λ e. e ≡ TableFault.OutOfMemory) }
 {
     match reader.read_record(row) {
-        Ok(true) => Ok(Found::Row),
-        Ok(false) => Ok(Found::End),
+        Ok(true) => Ok(NextRecord::Row),
+        Ok(false) => Ok(NextRecord::End),
         Err(e) => match e.kind() {
-            ErrorKind::Utf8 { .. } => Ok(Found::NotText),
+            ErrorKind::Utf8 { .. } => Ok(NextRecord::NotText),
             _ => Err(TableFault::OutOfMemory),
         },
     }
@@ -70,15 +68,15 @@ pub(crate) fn read_row(
         ⊎ (rows_fault wanted rec (left_of reader.old) ≡ Some e)) }
 {
     match next_row(reader, row)? {
-        Found::End => Ok(false),
-        Found::NotText => Err(if rec > MOST_RECORDS {
+        NextRecord::End => Ok(false),
+        NextRecord::NotText => Err(if rec > MOST_ROWS {
             TableFault::TooManyRows
         } else {
             TableFault::NotUtf8 { rec }
         }),
-        Found::Row => {
+        NextRecord::Row => {
             let found = row.len() as u32;
-            if rec > MOST_RECORDS {
+            if rec > MOST_ROWS {
                 Err(TableFault::TooManyRows)
             } else if found != wanted {
                 Err(TableFault::Ragged { rec, found, wanted })

@@ -5,8 +5,9 @@ ghost use Rattle.data_frame.specs.Faults.{rows_fault};
 ghost use Rattle.data_frame.specs.Reading.{IsReading, left_of, unread};
 
 use crate::TableFault;
-use crate::records::{MOST_RECORDS, read_row, text_at};
+use crate::records::{read_row, text_at};
 use csv::{Reader, StringRecord};
+use frac_core::MOST_ROWS;
 use std::alloc::{AllocError, Global};
 
 /// The cells of the records under a header, column by column. A column's cells are kept one behind
@@ -67,7 +68,7 @@ pub(crate) fn read_rows(
 {
     let mut columns = empty_columns(alloc, wanted as usize - first)?;
     let mut row = StringRecord::new(alloc);
-    for records in 0..MOST_RECORDS + 1 {
+    for records in 0..MOST_ROWS + 1 {
         if !read_row(reader, &mut row, wanted, records + 1)? {
             return Ok(Body { columns, records });
         }

@@ -13,9 +13,9 @@ use Rattle.design_matrix.specs.declared.design.Design.{Design}
 use Rattle.design_matrix.specs.declared.fault.DesignFault.{DesignFault}
 use Rattle.design_matrix.specs.declared.fault.DesignFault.TheVariants.{NoRows, NoColumns, TooManyColumns, Overflow}
 use Rattle.design_matrix.specs.Cells.{Column, Table, column_of, is_kept, kept, used_names, weights_in}
-use Rattle.design_matrix.specs.Coded.{Coded, coded_term, coded_terms}
-use Rattle.design_matrix.specs.declared.coded.Coded.{Coded as Held}
-use Rattle.design_matrix.specs.declared.used.Used.{Used}
+use Rattle.design_matrix.specs.CodedVariable.{CodedVariable, coded_term, coded_terms}
+use Rattle.design_matrix.specs.declared.coded.CodedVariable.{CodedVariable as Held}
+use Rattle.design_matrix.specs.declared.used.UsedColumns.{UsedColumns}
 use Rattle.data_frame.specs.Views.{lent_column}
 use Rattle.design_matrix.specs.Views.{AreUsed, terms_seen, weights_seen}
 use Rattle.design_matrix.specs.Widths.{IsUsable}
@@ -54,19 +54,19 @@ overflowed table model coding records columns fault s p e o =
     let P : List (List Part) → Type 0 = λ x. OverflowsFirst x records s in
     record { spill = s; is = e; first = subst P p o }
 
-pub seen_columns : (table : Table) (model : Formula) (coding : Coding) (records : List ℕ) (columns : List (List Part)) (terms : List (List Coded))
+pub seen_columns : (table : Table) (model : Formula) (coding : Coding) (records : List ℕ) (columns : List (List Part)) (terms : List (List CodedVariable))
     → columns ≡ columns_in model.intercept terms → terms ≡ coded_terms table model coding records → columns ≡ columns_of table model coding records
 unfolding columns_of
 seen_columns table model coding records columns terms e f = e ∙ ap (columns_in model.intercept) f
 
-pub coded_from : (table : Table) (model : Formula) (coding : Coding) (records : List ℕ) (terms : List (List Coded))
+pub coded_from : (table : Table) (model : Formula) (coding : Coding) (records : List ℕ) (terms : List (List CodedVariable))
     → terms ≡ each (coded_term table model coding records) 0 model.terms → terms ≡ coded_terms table model coding records
 unfolding coded_terms
 coded_from table model coding records terms e = e
 
 -- the faults of the design's columns
 
-module _ (table : Table) (model : Formula) (coding : Coding) (records : List ℕ) (terms : List (List Coded)) (same : terms ≡ coded_terms table model coding records) where
+module _ (table : Table) (model : Formula) (coding : Coding) (records : List ℕ) (terms : List (List CodedVariable)) (same : terms ≡ coded_terms table model coding records) where
   pub late_terms : (fault : DesignFault) → terms_fault terms ≡ Some fault → late_fault table model coding records ≡ Some fault
   unfolding late_fault
   late_terms fault f = or_first _ _ _ (ap terms_fault (sym same) ∙ f)
@@ -123,7 +123,7 @@ module _ (table : Table) (model : Formula) (coding : Coding) (weights : Option T
         (ap (late_fault table model coding) (sym here) ∙ l))
 
 -- the kept records by the columns that are used
-pub kept_from : (table : Table) (model : Formula) (weights : Option Text) (used : Used) (records : List ℕ) (n : ℕ)
+pub kept_from : (table : Table) (model : Formula) (weights : Option Text) (used : UsedColumns) (records : List ℕ) (n : ℕ)
     → AreUsed table model weights used → n ≡ table.records
     → records ≡ filter (is_kept (map lent_column used.columns.items) (weights_seen used.weights)) (range_with_len 0 n) → records ≡ kept table model weights
 unfolding kept
@@ -135,7 +135,7 @@ kept_from table model weights used records n are g h =
 
 -- the design, and the cause of a fault, by what the columns that are used give
 module _ (table : Table) (model : Formula) (coding : Coding) (weights : Option Text) {records : List ℕ} (here : records ≡ kept table model weights) where
-  pub designed : {used : Used} {design : Design} → AreUsed table model weights used → (length records ≡ 0 → ⊥) → used_fault table model weights ≡ None
+  pub designed : {used : UsedColumns} {design : Design} → AreUsed table model weights used → (length records ≡ 0 → ⊥) → used_fault table model weights ≡ None
       → late_fault table model coding records ≡ None → HasDesign table model coding (weights_seen used.weights) records design
       → IsDesign table model coding weights design
   designed {used} {design} are some sound late has =

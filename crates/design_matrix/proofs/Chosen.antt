@@ -1,15 +1,15 @@
 -- The choice of a column goes on from variable to variable.
 use Rattle.std.proofs.Common.{◌≡◌, ◌<◌, ℕ, ◌+◌, ◌/◌, ◌%◌, List, [], ◌∷◌, ◌++◌, length, map, take, get_or, sym, ap, ◌∙◌, append_assoc}
 use Rattle.std.proofs.lemmas.List.{map-append}
-use Rattle.design_matrix.specs.Coded.{Coded, width}
+use Rattle.design_matrix.specs.CodedVariable.{CodedVariable, width}
 use Rattle.design_matrix.specs.Parts.{Part, chosen, part_of}
 use Rattle.design_matrix.proofs.Puts.{first_item}
 
 -- the step of a loop that takes the digit of the variable at i
-pub chosen_more : {X V : Type 0} (told : X → Part) (seen : V → Coded) (vs : List V) (i number rest w : ℕ) (v : V) (old new : List X) (p : X)
+pub chosen_more : {X V : Type 0} (told : X → Part) (seen : V → CodedVariable) (vs : List V) (i number rest w : ℕ) (v : V) (old new : List X) (p : X)
     → i < length vs → v ≡ get_or vs i v → w ≡ width (seen v) → told p ≡ part_of (seen v) (rest % w) → new ≡ old ++ (p ∷ [])
-    → ((more : List Coded) → map told old ++ chosen more rest ≡ chosen (map seen (take i vs) ++ more) number)
-    → (more : List Coded) → map told new ++ chosen more (rest / w) ≡ chosen (map seen (take (i + 1) vs) ++ more) number
+    → ((more : List CodedVariable) → map told old ++ chosen more rest ≡ chosen (map seen (take i vs) ++ more) number)
+    → (more : List CodedVariable) → map told new ++ chosen more (rest / w) ≡ chosen (map seen (take (i + 1) vs) ++ more) number
 chosen_more told seen vs i number rest w v old new p within here w_is p_is new_is goes_on more =
     ap (λ l. map told l ++ chosen more (rest / w)) new_is
     ∙ ap (λ l. l ++ chosen more (rest / w)) (map-append told old (p ∷ []))

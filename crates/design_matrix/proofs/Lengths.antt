@@ -5,7 +5,7 @@ use Rattle.std.specs.declared.alloc.Global.{Global}
 use Rattle.std.proofs.lemmas.List.{length-map}
 use Rattle.std.proofs.lemmas.List.Elements.{All-filter, All-push}
 use Rattle.std.proofs.lemmas.List.FromFn.{get_or-range_with_len, length-range_with_len}
-use Rattle.design_matrix.specs.Coded.{Coded}
+use Rattle.design_matrix.specs.CodedVariable.{CodedVariable}
 use Rattle.design_matrix.specs.Lists.{each}
 use Rattle.design_matrix.specs.Parts.{Part, chosen, columns_in, term_columns}
 
@@ -13,14 +13,14 @@ length-each : {A B : Type 0} (f : ℕ → A → B) (k : ℕ) (xs : List A) → l
 length-each f k [] = refl
 length-each f k (x ∷ xs) = ap suc (length-each f (k + 1) xs)
 
-length-chosen : (vs : List Coded) (n : ℕ) → length (chosen vs n) ≡ length vs
+length-chosen : (vs : List CodedVariable) (n : ℕ) → length (chosen vs n) ≡ length vs
 length-chosen [] n = refl
 length-chosen (v ∷ vs) n = ap suc (length-chosen vs _)
 
 pub each_length : {X A B : Type 0} (told : X → B) (f : ℕ → A → B) (xs : List X) (ys : List A) → map told xs ≡ each f 0 ys → length xs ≡ length ys
 each_length told f xs ys e = sym (length-map xs told) ∙ ap length e ∙ length-each f 0 ys
 
-pub chosen_length : {X V : Type 0} (told : X → Part) (seen : V → Coded) (parts : List X) (vs : List V) (n : ℕ) → map told parts ≡ chosen (map seen vs) n
+pub chosen_length : {X V : Type 0} (told : X → Part) (seen : V → CodedVariable) (parts : List X) (vs : List V) (n : ℕ) → map told parts ≡ chosen (map seen vs) n
     → length parts ≡ length vs
 chosen_length told seen parts vs n e = sym (length-map parts told) ∙ ap length e ∙ length-chosen (map seen vs) n ∙ length-map vs seen
 
@@ -54,6 +54,6 @@ filtered_fewer test n =
     let few : length (filter test (range_with_len 0 n)) ≤ length (range_with_len 0 n) = length-filter-le test (range_with_len 0 n) in
     omega arith
 
-pub terms_part : (b : Bool) (terms : List (List Coded)) → length (flat_map term_columns terms) ≤ length (columns_in b terms)
+pub terms_part : (b : Bool) (terms : List (List CodedVariable)) → length (flat_map term_columns terms) ≤ length (columns_in b terms)
 terms_part true terms = omega arith
 terms_part false terms = omega arith

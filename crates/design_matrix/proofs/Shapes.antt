@@ -18,7 +18,7 @@ use Rattle.formula_parser.specs.declared.formula.Formula.{Formula}
 use Rattle.design_matrix.specs.declared.design.Design.{Design}
 use Rattle.design_matrix.specs.declared.fault.DesignFault.TheVariants.{NegativeWeight, NoColumns, OneLevel, ResponseNotNumeric, TooManyColumns, WeightNotNumeric}
 use Rattle.design_matrix.specs.Cells.{Column, Table, column_of, is_complete, is_kept, kept, used_names, weight_at, weight_sign, weights_in}
-use Rattle.design_matrix.specs.Coded.{Coded, coded_term, coded_terms, width}
+use Rattle.design_matrix.specs.CodedVariable.{CodedVariable, coded_term, coded_terms, width}
 use Rattle.design_matrix.specs.Designs.{design_of, exact_row, row_of}
 use Rattle.design_matrix.specs.Faults.{IsDesign, columns_fault, empty_fault, factor_fault, fault_of, lacks_columns, late_fault, level_fault, levels_fault, name_fault, rows_fault, terms_fault, used_fault, weight_fault, weights_fault, widths_fault}
 use Rattle.design_matrix.specs.Lists.{each, first_some}
@@ -124,7 +124,7 @@ kept_above table model coding weights sound =
 
 -- columns
 
-wide : (v : Coded) → level_fault v ≡ None → 1 ≤ width v
+wide : (v : CodedVariable) → level_fault v ≡ None → 1 ≤ width v
 wide v h = by (width v) (if_none (width v == 0) (OneLevel v.name) h)
   where
     by : (n : ℕ) → (n == 0) ≡ false → 1 ≤ n
@@ -136,14 +136,14 @@ product_some zero b h k = absurd (omega arith)
 product_some (suc a) zero h k = absurd (omega arith)
 product_some (suc a) (suc b) h k = omega arith
 
-count_some : (vs : List Coded) → levels_fault vs ≡ None → 1 ≤ count vs
+count_some : (vs : List CodedVariable) → levels_fault vs ≡ None → 1 ≤ count vs
 unfolding levels_fault
 count_some [] h = omega arith
 count_some (v ∷ vs) h =
     let first = first_none (level_fault v) (first_some level_fault vs) h in
     product_some (width v) (count vs) (wide v first.0) (count_some vs first.1)
 
-term_some : (t : List Coded) (ts : List (List Coded)) → terms_fault (t ∷ ts) ≡ None → 1 ≤ length (flat_map term_columns (t ∷ ts))
+term_some : (t : List CodedVariable) (ts : List (List CodedVariable)) → terms_fault (t ∷ ts) ≡ None → 1 ≤ length (flat_map term_columns (t ∷ ts))
 unfolding terms_fault
 term_some t ts h =
     let some = count_some t (first_none (levels_fault t) (first_some levels_fault ts) h).0 in

@@ -9,10 +9,10 @@ use Rattle.std.specs.declared.alloc.Global.{Global}
 use Rattle.contrasts.specs.declared.Coding.{Coding}
 use Rattle.contrasts.specs.declared.Coding.TheVariants.{Treatment, Sas, Sum, Helmert, Indicator}
 use Rattle.contrasts.specs.Coding.{width_of}
-use Rattle.design_matrix.specs.declared.coded.Coded.{Coded as Held}
+use Rattle.design_matrix.specs.declared.coded.CodedVariable.{CodedVariable as Held}
 use Rattle.design_matrix.specs.declared.coded.Values.{Values}
 use Rattle.design_matrix.specs.declared.coded.Values.TheVariants.{Numbers, Levels}
-use Rattle.design_matrix.specs.Coded.{Coded, width, width_in}
+use Rattle.design_matrix.specs.CodedVariable.{CodedVariable, width, width_in}
 use Rattle.design_matrix.specs.declared.fault.DesignFault.TheVariants.{OneLevel}
 use Rattle.design_matrix.specs.Faults.{level_fault, levels_fault}
 use Rattle.design_matrix.specs.Lists.{first_some}
@@ -29,17 +29,17 @@ none_right : {B : Type 0} (a b : Option B) → option_or a b ≡ None → b ≡ 
 none_right None b e = e
 none_right (Some x) b e = absurd (cc e)
 
-pub level_found : (v : Coded) (name : List ℕ) → width v ≡ 0 → name ≡ v.name → level_fault v ≡ Some (OneLevel name)
+pub level_found : (v : CodedVariable) (name : List ℕ) → width v ≡ 0 → name ≡ v.name → level_fault v ≡ Some (OneLevel name)
 level_found v name e f = ap (λ b. cond b (Some (OneLevel v.name)) None) (eq-eqb (width v) 0 e) ∙ ap (λ n. Some (OneLevel n)) (sym f)
 
-pub level_none : (v : Coded) → (width v ≡ 0 → ⊥) → level_fault v ≡ None
+pub level_none : (v : CodedVariable) → (width v ≡ 0 → ⊥) → level_fault v ≡ None
 level_none v h = at (nat_eq (width v) 0) refl
   where
     at : (b : Bool) → nat_eq (width v) 0 ≡ b → level_fault v ≡ None
     at true e = absurd (h (eqb-true (width v) 0 e))
     at false e = ap (λ b. cond b (Some (OneLevel v.name)) None) e
 
-has_width : (v : Coded) → level_fault v ≡ None → 1 ≤ width v
+has_width : (v : CodedVariable) → level_fault v ≡ None → 1 ≤ width v
 has_width v e = at (nat_eq (width v) 0) refl
   where
     at : (b : Bool) → nat_eq (width v) 0 ≡ b → 1 ≤ width v
@@ -70,7 +70,7 @@ product_left a b n h k = let p : a * 1 ≤ a * b = mul-le-mul_left a h in omega 
 product_right : (a b n : ℕ) → 1 ≤ a → a * b ≤ n → b ≤ n
 product_right a b n h k = let p : b * 1 ≤ b * a = mul-le-mul_left b h in omega arith
 
-count_some : (vs : List Coded) → first_some level_fault vs ≡ None → 1 ≤ count vs
+count_some : (vs : List CodedVariable) → first_some level_fault vs ≡ None → 1 ≤ count vs
 count_some [] e = omega arith
 count_some (v ∷ vs) e =
     product_some (width v) (count vs) (has_width v (none_left (level_fault v) (first_some level_fault vs) e))
@@ -93,7 +93,7 @@ term_usable : (vs : List Held) → levels_fault (map coded_seen vs) ≡ None →
 unfolding levels_fault
 term_usable vs e h = variables_usable vs e h
 
-columns_left : (vs : List Coded) (rest : List (List Coded)) → length (flat_map term_columns (vs ∷ rest)) ≡ count vs + length (flat_map term_columns rest)
+columns_left : (vs : List CodedVariable) (rest : List (List CodedVariable)) → length (flat_map term_columns (vs ∷ rest)) ≡ count vs + length (flat_map term_columns rest)
 columns_left vs rest =
     length-append (term_columns vs) (flat_map term_columns rest) ∙ ap (λ n. n + length (flat_map term_columns rest)) (length-term_columns vs)
 

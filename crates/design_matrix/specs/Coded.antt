@@ -23,7 +23,7 @@ pub data Values : Type 0 where
   categorical : List Text → List ℕ → Values
 
 -- a variable of a term: its name as it is printed, its values, and the coding of a factor
-pub record Coded : Type 0 where
+pub record CodedVariable : Type 0 where
   pub name : Text
   pub coding : Coding
   pub values : Values
@@ -98,7 +98,7 @@ coding_of table model contrasts number vs place =
     if is_spanned table model number vs place then contrasts else Indicator
 
 -- a variable at a place of the term of this number
-unfoldable pub coded_variable : Table → Formula → Coding → List ℕ → ℕ → List Variable → ℕ → Variable → Coded
+unfoldable pub coded_variable : Table → Formula → Coding → List ℕ → ℕ → List Variable → ℕ → Variable → CodedVariable
 coded_variable table model contrasts records number vs place v = record {
   name = printed_name v.as_factor v.name;
   coding = coding_of table model contrasts number vs place;
@@ -106,12 +106,12 @@ coded_variable table model contrasts records number vs place v = record {
 }
 
 -- the variables of the term of this number, each at its place
-abbrev pub coded_term : Table → Formula → Coding → List ℕ → ℕ → Term → List Coded
+abbrev pub coded_term : Table → Formula → Coding → List ℕ → ℕ → Term → List CodedVariable
 coded_term table model contrasts records number t =
     each (coded_variable table model contrasts records number t.variables) 0 t.variables
 
 -- the terms of a formula, variable by variable
-unfoldable pub coded_terms : Table → Formula → Coding → List ℕ → List (List Coded)
+unfoldable pub coded_terms : Table → Formula → Coding → List ℕ → List (List CodedVariable)
 coded_terms table model contrasts records = each (coded_term table model contrasts records) 0 model.terms
 
 -- the number of a variable's columns
@@ -120,5 +120,5 @@ width_in coding (numeric xs) = 1
 width_in coding (categorical texts places) = width_of coding (length texts)
 
 -- the number of columns of a coded variable
-abbrev pub width : Coded → ℕ
+abbrev pub width : CodedVariable → ℕ
 width v = width_in v.coding v.values

@@ -5,6 +5,7 @@ use Rattle.std.specs.Option.{option_or}
 use Rattle.std.specs.Ordering.{is_lt}
 use Rattle.contrasts.specs.declared.Coding.{Coding}
 use Rattle.frac_core.specs.declared.frac128.Frac128.{Frac128}
+use Rattle.frac_core.specs.Limits.{most_columns}
 use Rattle.loss_model.specs.declared.spill.Spill.{Spill}
 use Rattle.data_frame.specs.Cells.{numbers, factor, too_wide}
 use Rattle.data_frame.specs.Records.{Text}
@@ -14,7 +15,7 @@ use Rattle.design_matrix.specs.declared.design.Design.{Design}
 use Rattle.design_matrix.specs.declared.fault.DesignFault.{DesignFault}
 use Rattle.design_matrix.specs.declared.fault.DesignFault.TheVariants.{OutOfMemory, UnknownWeights, ResponseNotNumeric, WeightNotNumeric, NumberTooWide, NegativeWeight, NoRows, OneLevel, NoColumns, TooManyColumns, Overflow}
 use Rattle.design_matrix.specs.Cells.{Column, Table, column_of, kept, used_names, weight_sign, weights_in}
-use Rattle.design_matrix.specs.Coded.{Coded, coded_terms, is_text, width}
+use Rattle.design_matrix.specs.CodedVariable.{CodedVariable, coded_terms, is_text, width}
 use Rattle.design_matrix.specs.Designs.{AllFit, OverflowsFirst, design_of, exact_design}
 use Rattle.design_matrix.specs.Lists.{first_some}
 use Rattle.design_matrix.specs.Parts.{columns_of}
@@ -58,15 +59,15 @@ abbrev pub rows_fault : List ℕ → Option DesignFault
 rows_fault records = if length records == 0 then Some NoRows else None
 
 -- a variable without a column: a factor of one level that is coded by contrasts
-abbrev pub level_fault : Coded → Option DesignFault
+abbrev pub level_fault : CodedVariable → Option DesignFault
 level_fault v = if width v == 0 then Some (OneLevel v.name) else None
 
 -- the first such variable, by terms and then by variables
-unfoldable pub levels_fault : List Coded → Option DesignFault
+unfoldable pub levels_fault : List CodedVariable → Option DesignFault
 levels_fault vs = first_some level_fault vs
 
 -- the first of all variables without a column
-unfoldable pub terms_fault : List (List Coded) → Option DesignFault
+unfoldable pub terms_fault : List (List CodedVariable) → Option DesignFault
 terms_fault terms = first_some levels_fault terms
 
 -- there is neither intercept nor terms nor smooths
@@ -79,7 +80,7 @@ empty_fault model = if lacks_columns model then Some NoColumns else None
 
 -- there are more than 128 columns
 abbrev pub columns_fault : ℕ → Option DesignFault
-columns_fault columns = if nat_lt 128 columns then Some TooManyColumns else None
+columns_fault columns = if nat_lt most_columns columns then Some TooManyColumns else None
 
 -- the first fault of the design's columns, at the records that are kept
 unfoldable pub late_fault : Table → Formula → Coding → List ℕ → Option DesignFault

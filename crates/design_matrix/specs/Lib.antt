@@ -2,7 +2,7 @@ pub mod Lists
 pub mod Cells
 pub mod Levels
 pub mod Laws
-pub mod Coded
+pub mod CodedVariable
 pub mod Parts
 pub mod Products
 pub mod Designs

@@ -7,7 +7,7 @@ use Rattle.contrasts.specs.Coding.{entry_of, label_of}
 use Rattle.data_frame.specs.Records.{Text}
 use Rattle.formula_parser.specs.declared.formula.Formula.{Formula}
 use Rattle.design_matrix.specs.Cells.{Table}
-use Rattle.design_matrix.specs.Coded.{Coded, Values, numeric, categorical, coded_terms, width}
+use Rattle.design_matrix.specs.CodedVariable.{CodedVariable, Values, numeric, categorical, coded_terms, width}
 
 -- one of a variable's columns: what it is called, and its entry at each kept record
 pub record Part : Type 0 where
@@ -23,26 +23,26 @@ part_in name coding (categorical texts places) j = record {
 }
 
 -- column j of a variable
-abbrev pub part_of : Coded → ℕ → Part
+abbrev pub part_of : CodedVariable → ℕ → Part
 part_of v j = part_in v.name v.coding v.values j
 
 -- One column of each variable. The number n is read with a digit for each: the first variable's is the remainder by the
 -- number of its columns, and the quotient has the digits of the others.
-abbrev pub chosen : List Coded → ℕ → List Part
+abbrev pub chosen : List CodedVariable → ℕ → List Part
 chosen [] n = []
 chosen (v ∷ vs) n = part_of v (n % width v) ∷ chosen vs (n / width v)
 
 -- how many such numbers there are
-abbrev pub count : List Coded → ℕ
+abbrev pub count : List CodedVariable → ℕ
 count [] = 1
 count (v ∷ vs) = width v * count vs
 
 -- the columns of a term, each as the parts that it is the product of
-abbrev pub term_columns : List Coded → List (List Part)
+abbrev pub term_columns : List CodedVariable → List (List Part)
 term_columns vs = map (chosen vs) (range_with_len 0 (count vs))
 
 -- the columns of a design: the intercept, which is a product of nothing, and those of the terms
-abbrev pub columns_in : Bool → List (List Coded) → List (List Part)
+abbrev pub columns_in : Bool → List (List CodedVariable) → List (List Part)
 columns_in true terms = [] ∷ flat_map term_columns terms
 columns_in false terms = flat_map term_columns terms
 

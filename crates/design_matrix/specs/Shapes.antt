@@ -3,6 +3,7 @@ use Rattle.std.specs.Prelude.{◌≡◌, ◌≤◌, All, length, pos}
 use Rattle.std.specs.declared.cmp.Ordering.TheVariants.{Less}
 use Rattle.exact_algebra.specs.Order.{cmp_ℚ}
 use Rattle.exact_algebra.specs.Rational.{whole}
+use Rattle.frac_core.specs.Limits.{most_columns}
 use Rattle.data_frame.specs.Views.{exact}
 use Rattle.formula_parser.specs.declared.formula.Formula.{Formula}
 use Rattle.design_matrix.specs.declared.design.Design.{Design}
@@ -14,4 +15,4 @@ pub record IsShaped (model : Formula) (design : Design) : Type 0 where
   pub entries : All (λ r. length r.x ≡ length design.names) design.rows
   pub weighted : All (λ r. cmp_ℚ (whole (pos 0)) (exact r.weight) ≡ Less) design.rows
   pub some : length model.smooths ≡ 0 → 1 ≤ length design.names
-  pub few : length design.names ≤ 128
+  pub few : length design.names ≤ most_columns

@@ -1,8 +1,9 @@
 -- Inner. How many columns and levels a variable has that the code holds.
 use Rattle.std.specs.Prelude.{◌≤◌, ℕ, length}
+use Rattle.frac_core.specs.Limits.{most_rows}
 use Rattle.contrasts.specs.declared.Coding.{Coding}
 use Rattle.contrasts.specs.Coding.{width_of}
-use Rattle.design_matrix.specs.declared.coded.Coded.{Coded}
+use Rattle.design_matrix.specs.declared.coded.CodedVariable.{CodedVariable}
 use Rattle.design_matrix.specs.declared.coded.Values.{Values}
 use Rattle.design_matrix.specs.declared.coded.Values.TheVariants.{Numbers, Levels}
 
@@ -17,6 +18,6 @@ width_held coding (Numbers cells records) = 1
 width_held coding (Levels levels) = width_of coding (length levels.texts.items)
 
 -- a variable has a column, and not too many levels for a coding's table
-pub record IsUsable (v : Coded) : Type 0 where
+pub record IsUsable (v : CodedVariable) : Type 0 where
   pub some : 1 ≤ width_held v.coding v.values
-  pub few : levels_held v.values ≤ 16384
+  pub few : levels_held v.values ≤ most_rows

@@ -1,9 +1,10 @@
 //! From a table and a formula to their design.
 
 ghost use Rattle.std.specs.Prelude.{◌≡◌, ◌≤◌, ◌<◌, ◌+◌, ◌^◌, ◌⊎◌, None, All, IfErr, IfOk, OnOk, length, map, option_copied};
+ghost use Rattle.frac_core.specs.Limits.{most_columns};
 ghost use Rattle.data_frame.specs.Views.{lent_column};
 ghost use Rattle.design_matrix.specs.Cells.{column_of};
-ghost use Rattle.design_matrix.specs.Coded.{coded_terms};
+ghost use Rattle.design_matrix.specs.CodedVariable.{coded_terms};
 ghost use Rattle.design_matrix.specs.Faults.{HasCause, HasDesign, HasLateCause, IsDesign, IsOverflow, lacks_columns, late_fault};
 ghost use Rattle.design_matrix.specs.Parts.{column_name, columns_in};
 ghost use Rattle.design_matrix.specs.Shapes.{IsShaped};
@@ -11,17 +12,17 @@ ghost use Rattle.design_matrix.specs.Views.{columns_seen, terms_seen, weights_se
 ghost use Rattle.design_matrix.specs.Widths.{IsUsable};
 
 use crate::checks::check_terms;
-use crate::coded::{Coded, Coder};
+use crate::coded::{CodedVariable, Coder};
 use crate::kept::kept_records;
 use crate::part::Part;
 use crate::parts::{column_count, design_columns, name_of};
 use crate::rows::design_rows;
-use crate::used::{Used, used_columns};
+use crate::used::{UsedColumns, used_columns};
 use crate::{Design, DesignFault};
 use contrasts::Coding;
 use data_frame::Frame;
 use formula_parser::Formula;
-use frac_core::{List, Text};
+use frac_core::{List, MOST_COLUMNS, Text};
 use std::alloc::{AllocError, Global};
 
 // What the columns are called.
@@ -52,8 +53,8 @@ fn has_no_columns(model: &Formula) -> bool
 fn design_from(
     alloc: Global,
     coder: &Coder<'_>,
-    used: &Used<'_>,
-    terms: &[Vec<Coded<'_>>],
+    used: &UsedColumns<'_>,
+    terms: &[Vec<CodedVariable<'_>>],
 ) -> Result<Design, DesignFault>
     requires numbered { All (λ i. i + 1 < 2 ^ 32) coder.now.records.now }
     requires fewer { length coder.now.records.now ≤ coder.now.frame.now.records }
@@ -61,7 +62,7 @@ fn design_from(
     requires response { lent_column used.now.response ≡ column_of coder.now.frame.now coder.now.model.now.response }
     requires coded { terms_seen terms.now ≡ coded_terms coder.now.frame.now coder.now.model.now coder.now.contrasts coder.now.records.now }
     requires usable { All (λ vs. All IsUsable vs.items) terms.now }
-    requires few { length (columns_in coder.now.model.now.intercept (terms_seen terms.now)) ≤ 128 }
+    requires few { length (columns_in coder.now.model.now.intercept (terms_seen terms.now)) ≤ most_columns }
     requires short { All (λ vs. length vs.items < 2 ^ 32) terms.now }
     ensures design { IfOk result (HasDesign coder.now.frame.now coder.now.model.now coder.now.contrasts
         (weights_seen used.now.weights) coder.now.records.now) }
@@ -80,7 +81,7 @@ fn design_from(
 }
 
 // The design of the records that a coder keeps.
-fn build_kept(alloc: Global, coder: &Coder<'_>, used: &Used<'_>) -> Result<Design, DesignFault>
+fn build_kept(alloc: Global, coder: &Coder<'_>, used: &UsedColumns<'_>) -> Result<Design, DesignFault>
     requires numbered { All (λ i. i + 1 < 2 ^ 32) coder.now.records.now }
     requires fewer { length coder.now.records.now ≤ coder.now.frame.now.records }
     requires counted { coder.now.frame.now.records < 2 ^ 32 }
@@ -97,7 +98,7 @@ fn build_kept(alloc: Global, coder: &Coder<'_>, used: &Used<'_>) -> Result<Desig
         return Err(DesignFault::NoColumns);
     }
     let count = column_count(coder.model.intercept, &terms);
-    if count > 128 {
+    if count > MOST_COLUMNS as usize {
         return Err(DesignFault::TooManyColumns);
     }
     match design_from(alloc, coder, used, &terms) {

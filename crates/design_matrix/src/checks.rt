@@ -5,12 +5,12 @@ ghost use Rattle.design_matrix.specs.Faults.{levels_fault, terms_fault};
 ghost use Rattle.design_matrix.specs.Views.{coded_seen, terms_seen};
 
 use crate::DesignFault;
-use crate::coded::Coded;
+use crate::coded::CodedVariable;
 use frac_core::Text;
 use std::alloc::Global;
 
 // Refuses a variable without a column.
-fn check_variables(alloc: Global, term: &[Coded<'_>]) -> Result<(), DesignFault>
+fn check_variables(alloc: Global, term: &[CodedVariable<'_>]) -> Result<(), DesignFault>
     ensures sound { OnOk result (levels_fault (map coded_seen term.now) ≡ None) }
     ensures fault { IfErr result (λ e. (e ≡ DesignFault.OutOfMemory)
         ⊎ (levels_fault (map coded_seen term.now) ≡ Some e)) }
@@ -26,7 +26,7 @@ fn check_variables(alloc: Global, term: &[Coded<'_>]) -> Result<(), DesignFault>
 }
 
 /// Refuses terms of which a factor that is coded by contrasts has one level.
-pub(crate) fn check_terms(alloc: Global, terms: &[Vec<Coded<'_>>]) -> Result<(), DesignFault>
+pub(crate) fn check_terms(alloc: Global, terms: &[Vec<CodedVariable<'_>>]) -> Result<(), DesignFault>
     ensures sound { OnOk result (terms_fault (terms_seen terms.now) ≡ None) }
     ensures fault { IfErr result (λ e. (e ≡ DesignFault.OutOfMemory)
         ⊎ (terms_fault (terms_seen terms.now) ≡ Some e)) }

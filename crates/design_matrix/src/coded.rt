@@ -4,7 +4,7 @@ ghost use Rattle.std.specs.Prelude.{◌≡◌, ◌<◌, ◌^◌, All, IfOk, leng
 ghost use Rattle.std.specs.List.{list_all, list_any};
 ghost use Rattle.data_frame.specs.Views.{lent_column};
 ghost use Rattle.design_matrix.specs.Cells.{column_of};
-ghost use Rattle.design_matrix.specs.Coded.{coded_term, coded_variable, coding_of, is_factor, is_in_model, is_spanned, is_text, is_whole_factor, printed_name, same_bool, same_variable, same_variables, values_in, width, without};
+ghost use Rattle.design_matrix.specs.CodedVariable.{coded_term, coded_variable, coding_of, is_factor, is_in_model, is_spanned, is_text, is_whole_factor, printed_name, same_bool, same_variable, same_variables, values_in, width, without};
 ghost use Rattle.design_matrix.specs.Lists.{each};
 ghost use Rattle.design_matrix.specs.Views.{coded_seen, values_seen};
 
@@ -26,7 +26,7 @@ pub(crate) enum Values<'a> {
 
 /// A variable of a term.
 #[derive(Drop)]
-pub(crate) struct Coded<'a> {
+pub(crate) struct CodedVariable<'a> {
     /// The name as it is printed.
     pub(crate) name: Text,
     /// The coding, where the variable is a factor.
@@ -34,7 +34,7 @@ pub(crate) struct Coded<'a> {
     pub(crate) values: Values<'a>,
 }
 
-impl Coded<'_> {
+impl CodedVariable<'_> {
     /// The number of the variable's columns.
     pub(crate) fn width(&self) -> u32
         ensures { result ≡ width (coded_seen self.now) }
@@ -92,7 +92,7 @@ pub(crate) fn is_text(column: &Column<'_>) -> bool
     }
 }
 
-#[tactic(auto, unfolding(crate::specs::Coded::is_factor))]
+#[tactic(auto, unfolding(crate::specs::CodedVariable::is_factor))]
 fn is_factor(frame: &Frame, variable: &Variable) -> bool
     ensures { result ≡ is_factor frame.now variable.now }
 {
@@ -155,7 +155,7 @@ fn are_without(whole: &[Variable], place: usize, rest: &[Variable]) -> bool
     are_same(&whole[place + 1..], &rest[place..])
 }
 
-#[tactic(auto, unfolding(crate::specs::Coded::is_in_model))]
+#[tactic(auto, unfolding(crate::specs::CodedVariable::is_in_model))]
 fn is_in_model(terms: &[Term], whole: &[Variable], place: usize) -> bool
     requires { place < length whole.now }
     ensures { result ≡ is_in_model terms.now (without place whole.now) }
@@ -205,7 +205,7 @@ impl<'a> Coder<'a> {
     }
 
     // A variable, which stands at a place of the term of this number.
-    #[tactic(auto, unfolding(crate::specs::Coded::coded_variable))]
+    #[tactic(auto, unfolding(crate::specs::CodedVariable::coded_variable))]
     fn variable(
         &self,
         alloc: Global,
@@ -213,7 +213,7 @@ impl<'a> Coder<'a> {
         variables: &[Variable],
         place: usize,
         variable: &Variable,
-    ) -> Result<Coded<'a>, AllocError>
+    ) -> Result<CodedVariable<'a>, AllocError>
         requires counted { length self.now.records.now < 2 ^ 32 }
         requires inside { number < length self.now.model.now.terms }
         requires there { place < length variables.now }
@@ -224,7 +224,7 @@ impl<'a> Coder<'a> {
         let coding = self.coding(number, variables, place);
         let found = column(self.frame, variable.name.as_str());
         let values = values_of(alloc, variable.as_factor, found, self.records)?;
-        Ok(Coded {
+        Ok(CodedVariable {
             name,
             coding,
             values,
@@ -232,7 +232,7 @@ impl<'a> Coder<'a> {
     }
 
     // The term of this number.
-    fn term(&self, alloc: Global, number: usize, term: &Term) -> Result<Vec<Coded<'a>>, AllocError>
+    fn term(&self, alloc: Global, number: usize, term: &Term) -> Result<Vec<CodedVariable<'a>>, AllocError>
         requires counted { length self.now.records.now < 2 ^ 32 }
         requires inside { number < length self.now.model.now.terms }
         ensures coded { IfOk result (λ vs. map coded_seen vs.items ≡ coded_term self.now.frame.now
@@ -248,7 +248,7 @@ impl<'a> Coder<'a> {
     }
 
     /// The terms of the model, variable by variable.
-    pub(crate) fn terms(&self, alloc: Global) -> Result<Vec<Vec<Coded<'a>>>, AllocError>
+    pub(crate) fn terms(&self, alloc: Global) -> Result<Vec<Vec<CodedVariable<'a>>>, AllocError>
         requires counted { length self.now.records.now < 2 ^ 32 }
         requires short { All (λ t. length t.variables < 2 ^ 32) self.now.model.now.terms }
         ensures coded { IfOk result (λ ts. map (λ vs. map coded_seen vs.items) ts.items

@@ -7,7 +7,7 @@ ghost use Rattle.design_matrix.specs.Cells.{is_kept, is_present};
 ghost use Rattle.design_matrix.specs.Views.{weights_seen};
 
 use crate::cells::has_value;
-use crate::used::Used;
+use crate::used::UsedColumns;
 use data_frame::Column;
 use std::alloc::{AllocError, Global};
 
@@ -17,7 +17,7 @@ fn is_complete(columns: &[Column<'_>], index: u32) -> bool
     columns.iter().all(|column| has_value(column, index))
 }
 
-fn is_kept(used: &Used<'_>, index: u32) -> bool
+fn is_kept(used: &UsedColumns<'_>, index: u32) -> bool
     ensures { result ≡ is_kept (map lent_column used.now.columns.items) (weights_seen used.now.weights) index }
 {
     is_complete(&used.columns, index) && used.weights.sign(index).is_ne()
@@ -26,7 +26,7 @@ fn is_kept(used: &Used<'_>, index: u32) -> bool
 /// The records of which no used cell is missing and whose weight isn't 0, counted from 0.
 pub(crate) fn kept_records(
     alloc: Global,
-    used: &Used<'_>,
+    used: &UsedColumns<'_>,
     records: u32,
 ) -> Result<Vec<u32>, AllocError>
     ensures { IfOk result (λ kept. kept.items

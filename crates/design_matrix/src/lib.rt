@@ -17,7 +17,7 @@
 //! are products from the left, and their names are joined by `:`.
 //!
 //! The crate's one contract: `build` gives the design that `specs/Designs.antt` defines, of the
-//! records that `specs/Cells.antt` keeps, with the coding rule of `specs/Coded.antt` and the columns
+//! records that `specs/Cells.antt` keeps, with the coding rule of `specs/CodedVariable.antt` and the columns
 //! of `specs/Parts.antt`, or the first fault by `specs/Faults.antt`. That levels are the distinct
 //! cells in ascending order is a law, in `laws`.
 //!

@@ -2,20 +2,21 @@
 
 ghost use Rattle.std.specs.Prelude.{◌≡◌, ◌≤◌, ◌<◌, ◌^◌, ◌++◌, [], false, All, IfOk, OnOk, length, map, min, pos, slice_index_or, unsigned_abs};
 ghost use Rattle.exact_algebra.specs.Rational.{whole};
+ghost use Rattle.frac_core.specs.Limits.{most_rows, most_columns};
 ghost use Rattle.data_frame.specs.Views.{exact};
 ghost use Rattle.design_matrix.specs.Parts.{chosen, column_name, columns_in, count, term_columns};
 ghost use Rattle.design_matrix.specs.Views.{coded_seen, columns_seen, part_seen, terms_seen};
 ghost use Rattle.design_matrix.specs.Widths.{IsUsable};
 
 use crate::cells::number;
-use crate::coded::{Coded, Values};
+use crate::coded::{CodedVariable, Values};
 use crate::part::Part;
 use frac_core::{Exact, Frac128, Text};
 use std::alloc::{AllocError, Global};
 
 // The fraction of a small whole number.
 fn whole_number(number: i64) -> Frac128
-    requires { unsigned_abs number ≤ 16384 }
+    requires { unsigned_abs number ≤ most_rows }
     ensures { exact result ≡ whole number }
 {
     match Frac128::from_parts(i128::from(number), 1) {
@@ -76,7 +77,7 @@ fn capped(columns: u64) -> u64
 }
 
 // The columns of a term, or 129 where it has more.
-fn count_of(term: &[Coded<'_>]) -> u64
+fn count_of(term: &[CodedVariable<'_>]) -> u64
     ensures { result ≡ min (count (map coded_seen term.now)) 129 }
 {
     let mut columns: u64 = 1;
@@ -87,7 +88,7 @@ fn count_of(term: &[Coded<'_>]) -> u64
 }
 
 // The columns of terms, or 129 where they have more.
-fn count_all(terms: &[Vec<Coded<'_>>]) -> u64
+fn count_all(terms: &[Vec<CodedVariable<'_>>]) -> u64
     ensures { result ≡ min (length (columns_in false (terms_seen terms.now))) 129 }
 {
     let mut columns: u64 = 0;
@@ -98,7 +99,7 @@ fn count_all(terms: &[Vec<Coded<'_>>]) -> u64
 }
 
 /// The columns of a design, or 129 where it has more.
-pub(crate) fn column_count(intercept: bool, terms: &[Vec<Coded<'_>>]) -> u64
+pub(crate) fn column_count(intercept: bool, terms: &[Vec<CodedVariable<'_>>]) -> u64
     ensures { result ≡ min (length (columns_in intercept (terms_seen terms.now))) 129 }
 {
     let columns = count_all(terms);
@@ -112,7 +113,7 @@ pub(crate) fn column_count(intercept: bool, terms: &[Vec<Coded<'_>>]) -> u64
 // One column of each variable of a term, by the digits of a number.
 fn chosen_parts<'b, 'a>(
     alloc: Global,
-    term: &'b [Coded<'a>],
+    term: &'b [CodedVariable<'a>],
     number: u32,
 ) -> Result<Vec<Part<'b, 'a>>, AllocError>
     requires { All IsUsable term.now }
@@ -136,10 +137,10 @@ fn chosen_parts<'b, 'a>(
 fn push_columns<'b, 'a>(
     alloc: Global,
     columns: &mut Vec<Vec<Part<'b, 'a>>>,
-    term: &'b [Coded<'a>],
+    term: &'b [CodedVariable<'a>],
 ) -> Result<(), AllocError>
     requires usable { All IsUsable term.now }
-    requires few { count (map coded_seen term.now) ≤ 128 }
+    requires few { count (map coded_seen term.now) ≤ most_columns }
     requires counted { length term.now < 2 ^ 32 }
     requires short { All (λ parts. length parts.items < 2 ^ 32) columns.old.items }
     ensures columns { OnOk result (columns_seen columns.new.items
@@ -173,10 +174,10 @@ fn push_intercept<'b, 'a>(
 pub(crate) fn design_columns<'b, 'a>(
     alloc: Global,
     intercept: bool,
-    terms: &'b [Vec<Coded<'a>>],
+    terms: &'b [Vec<CodedVariable<'a>>],
 ) -> Result<Vec<Vec<Part<'b, 'a>>>, AllocError>
     requires usable { All (λ vs. All IsUsable vs.items) terms.now }
-    requires few { All (λ vs. count (map coded_seen vs.items) ≤ 128) terms.now }
+    requires few { All (λ vs. count (map coded_seen vs.items) ≤ most_columns) terms.now }
     requires short { All (λ vs. length vs.items < 2 ^ 32) terms.now }
     ensures columns { IfOk result (λ columns. columns_seen columns.items ≡ columns_in intercept (terms_seen terms.now)) }
     ensures short { IfOk result (λ columns. All (λ parts. length parts.items < 2 ^ 32) columns.items) }

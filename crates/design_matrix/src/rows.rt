@@ -14,7 +14,7 @@ ghost use Rattle.frac_core.specs.declared.frac128.Frac128.{Frac128 as Fraction12
 
 use crate::cells::number_of;
 use crate::part::Part;
-use crate::used::Used;
+use crate::used::UsedColumns;
 use crate::{DesignFault, DesignRow};
 use frac_core::{Exact, Frac128, List, OpKind};
 use loss_model::{Quantity, Site, Spill, times_at};
@@ -92,7 +92,7 @@ fn entries_of(
 /// The rows of these records.
 pub(crate) fn design_rows(
     alloc: Global,
-    used: &Used<'_>,
+    used: &UsedColumns<'_>,
     columns: &[Vec<Part<'_, '_>>],
     records: &[u32],
 ) -> Result<Vec<DesignRow>, DesignFault>

@@ -17,7 +17,7 @@ use std::alloc::{AllocError, Global};
 
 /// The columns that a formula and weights use.
 #[derive(Drop)]
-pub(crate) struct Used<'a> {
+pub(crate) struct UsedColumns<'a> {
     pub(crate) response: Column<'a>,
     pub(crate) weights: Weights<'a>,
     /// All of them, in their order.
@@ -136,7 +136,7 @@ pub(crate) fn used_columns<'a>(
     frame: &'a Frame,
     model: &Formula,
     weights: Option<&str>,
-) -> Result<Used<'a>, DesignFault>
+) -> Result<UsedColumns<'a>, DesignFault>
     ensures used { IfOk result (AreUsed frame.now model.now (option_copied weights.entry)) }
     ensures sound { OnOk result (used_fault frame.now model.now (option_copied weights.entry) ≡ None) }
     ensures fault { IfErr result (λ e. (e ≡ DesignFault.OutOfMemory)
@@ -153,7 +153,7 @@ pub(crate) fn used_columns<'a>(
     let names = names_used(alloc, model, weights)?;
     let columns = narrow_columns(alloc, frame, &names)?;
     check_weights(&weighing, frame.records())?;
-    Ok(Used {
+    Ok(UsedColumns {
         response,
         weights: weighing,
         columns,

@@ -415,9 +415,7 @@ impl Reader {
     {
         match kind {
             Kind::Close => {
-                if self.smooths.push(smooth).is_err() {
-                    return Err(OutOfMemory);
-                }
+                self.smooths.add(smooth)?;
                 self.phase = Phase::BehindItem;
                 Ok(true)
             }

@@ -1,5 +1,6 @@
 pub mod Gcd
 pub mod GcdLaws
+pub mod Limits
 pub mod Overflow
 pub mod Lowest
 pub mod Parts

@@ -10,7 +10,7 @@ use Rattle.basic_solution.specs.Solutions.{IsSolution}
 use Rattle.pivot_rule.specs.Results.{IsVertexAt, AreBasicDuals}
 use Rattle.tableau_model.specs.Places.{Place, at_of, sample_of, IsPlace}
 use Rattle.tableau_model.specs.WalkAnswers.{IsSegmentHere}
-use Rattle.fraction_tableau.specs.declared.ends.Ended.{Ended}
+use Rattle.fraction_tableau.specs.declared.ends.EndValues.{EndValues}
 use Rattle.fraction_tableau.specs.declared.standing.Standing.{Standing}
 use Rattle.fraction_tableau.specs.Ends.{IsEnded}
 use Rattle.fraction_tableau.specs.Standing.{Stands}
@@ -20,7 +20,7 @@ use Rattle.fraction_tableau.proofs.Vertices.{is_vertex, basic_duals}
 
 module _ {F : Type 0} (value : F → Fraction) (h : Place F) (sol : BasicSolution F) (is_place : IsPlace value h) (is : IsSolution value (sample_of value h) (at_of h) h.inverse sol)
     (sorted : List ℕ) (increasing : IsStrictlyIncreasing sorted) (size : length sorted ≡ length h.rows) (same : (i : ℕ) → Contains sorted i ↔ Contains h.rows i) where
-  module _ (theta : ℚ) (e : Ended F) (ended : IsEnded value h theta sorted e) where
+  module _ (theta : ℚ) (e : EndValues F) (ended : IsEnded value h theta sorted e) where
     abbrev standing : Standing F
     standing = record { coef = sol.coef; sides = sol.sides; duals = ended.duals }
 
@@ -33,7 +33,7 @@ module _ {F : Type 0} (value : F → Fraction) (h : Place F) (sol : BasicSolutio
     duals_here : AreBasicDuals value h.task.problem theta h.rows h.inverse (record { basis = record { rows = sorted }; sides = sol.sides; coef = sol.coef }) e.basic
     duals_here = basic_duals value h theta standing sorted e.basic is_place stands increasing size same ended.size ended.each
 
-  pub segment_here : (from to : F) (low high : Ended F) → IsEnded value h (rational (value from)) sorted low → IsEnded value h (rational (value to)) sorted high
+  pub segment_here : (from to : F) (low high : EndValues F) → IsEnded value h (rational (value from)) sorted low → IsEnded value h (rational (value to)) sorted high
       → IsSegmentHere value h (rational (value from)) (rational (value to))
       (record { lo = from; hi = to; vertex = record { basis = record { rows = sorted }; sides = sol.sides; coef = sol.coef }; basic_lo = low.basic; basic_hi = high.basic; loss_lo = low.loss; loss_hi = high.loss })
   segment_here from to low high l k =

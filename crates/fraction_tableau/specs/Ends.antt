@@ -11,7 +11,7 @@ use Rattle.tableau_model.specs.Places.{Place, at_of, sample_of}
 use Rattle.fraction_tableau.specs.declared.view.BasisView.{BasisView}
 use Rattle.fraction_tableau.specs.declared.ends.End.{End}
 use Rattle.fraction_tableau.specs.declared.ends.End.TheVariants.{Low, High}
-use Rattle.fraction_tableau.specs.declared.ends.Ended.{Ended}
+use Rattle.fraction_tableau.specs.declared.ends.EndValues.{EndValues}
 use Rattle.fraction_tableau.specs.Inverses.{HasValueAt}
 use Rattle.fraction_tableau.specs.Standing.{AreDuals}
 use Rattle.fraction_tableau.specs.Views.{sample_at, rows_at, entries_at}
@@ -22,7 +22,7 @@ end_number Low = 0
 end_number High = 1
 
 -- the list has the dual values at theta of the rows of the basis, as sorted, and the loss is that there
-pub record IsEnded {F : Type 0} (value : F → Fraction) (h : Place F) (theta : ℚ) (sorted : List ℕ) (e : Ended F) : Type 0 where
+pub record IsEnded {F : Type 0} (value : F → Fraction) (h : Place F) (theta : ℚ) (sorted : List ℕ) (e : EndValues F) : Type 0 where
   pub duals : List F
   pub are_duals : AreDuals value h theta duals
   pub size : length e.basic ≡ length sorted

@@ -26,7 +26,7 @@ pub enum End {
 
 /// What stands at an end: the dual values of the basis by ascending row, and the loss.
 #[derive(Drop)]
-pub struct Ended<F> {
+pub struct EndValues<F> {
     pub basic: List<F>,
     pub loss: F,
 }
@@ -34,13 +34,13 @@ pub struct Ended<F> {
 /// What stands at both ends.
 #[derive(Drop)]
 pub struct Ends<F> {
-    pub low: Ended<F>,
-    pub high: Ended<F>,
+    pub low: EndValues<F>,
+    pub high: EndValues<F>,
 }
 
 /// The price of a residual: the cost of the side on which it lies, and its size.
 #[derive(Clone, Copy)]
-struct Priced<F> {
+struct SidePrice<F> {
     cost: F,
     size: F,
 }
@@ -69,7 +69,7 @@ impl<'a, F: Exact> BasisView<'a, F> {
     }
 
     /// The price of the residual of a row at a quantile.
-    fn price(&self, row: u32, theta: F) -> Result<Priced<F>, Spill<F>>
+    fn price(&self, row: u32, theta: F) -> Result<SidePrice<F>, Spill<F>>
         requires view { IsView F.value self.now }
         requires row { row < length self.now.tableau.now.problem.rows }
         ensures cost { let p = sample_at F.value self.now in let b = coefficient p (rows_at F.value self.now) (entries_at F.value self.now) in
@@ -83,10 +83,10 @@ impl<'a, F: Exact> BasisView<'a, F> {
         if residual.sign() < 0 {
             let cost = self.tableau.down_cost(row, theta)?;
             let size = residual.neg();
-            Ok(Priced { cost, size })
+            Ok(SidePrice { cost, size })
         } else {
             let cost = self.tableau.up_cost(row, theta)?;
-            Ok(Priced {
+            Ok(SidePrice {
                 cost,
                 size: residual,
             })
@@ -112,7 +112,7 @@ impl<'a, F: Exact> BasisView<'a, F> {
     }
 
     /// What stands at the end theta; `sorted` has the rows of the basis, ascending.
-    fn end_at(&self, sorted: &[u32], theta: F, end: End) -> Result<Ended<F>, Short<F>>
+    fn end_at(&self, sorted: &[u32], theta: F, end: End) -> Result<EndValues<F>, Short<F>>
         requires view { IsView F.value self.now }
         requires members { (k : ℕ) → k < length sorted.now → Contains self.now.tableau.now.rows (slice_index sorted.now k) }
         ensures ended { IfOk result (IsEnded F.value (place F.value self.now.tableau.now) (rational (F.value theta)) sorted.now) }
@@ -128,7 +128,7 @@ impl<'a, F: Exact> BasisView<'a, F> {
         let rows = self.tableau.basis().rows.as_slice();
         let basic = by_row(self.tableau.alloc(), rows, sorted, duals.as_slice())?;
         let loss = self.loss_at(theta, end)?;
-        Ok(Ended { basic, loss })
+        Ok(EndValues { basic, loss })
     }
 
     /// What stands at both ends of a segment from one quantile to another. What is refused is refused to

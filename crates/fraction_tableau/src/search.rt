@@ -2,6 +2,7 @@
 ghost use Rattle.std.specs.Prelude.{◌≡◌, ℕ, ◌+◌, ◌<◌, ◌≤◌, length, IfOk, IfErr};
 ghost use Rattle.exact_algebra.specs.Fraction.{rational};
 ghost use Rattle.exact_algebra.specs.Rational.{◌+ℚ◌};
+ghost use Rattle.frac_core.specs.Limits.{most_rows};
 ghost use Rattle.loss_model.specs.Quantities.{IsShortOf};
 ghost use Rattle.pivot_rule.specs.Spills.{direction_number};
 ghost use Rattle.fraction_tableau.specs.Lines.{IsMover, AreMovers};
@@ -30,7 +31,7 @@ fn pass<F: Exact>(line: &Line<F>, mover: Mover<F>, slope: F, passed: u32) -> Res
     requires mover { IsMover F.value line.now mover }
     requires slope { rational (F.value slope) ≡ slope_until F.value line.now mover.row }
     requires passed { passed ≡ passed_until F.value line.now mover.row }
-    requires few { passed ≤ 16384 }
+    requires few { passed ≤ most_rows }
     ensures exact { IfOk result (λ next. rational (F.value next) ≡ rational (F.value slope) +ℚ passing_of F.value line.now mover.row) }
     ensures spill { IfErr result (IsDescentSpill F.value F.range line.now) }
 {

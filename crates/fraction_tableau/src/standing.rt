@@ -2,6 +2,7 @@
 ghost use Rattle.std.specs.Prelude.{◌≡◌, ℕ, ◌<◌, ◌≤◌, length, slice_index, IfOk, IfErr};
 ghost use Rattle.exact_algebra.specs.Fraction.{rational};
 ghost use Rattle.exact_algebra.specs.Rational.{◌+ℚ◌, ◌*ℚ◌};
+ghost use Rattle.frac_core.specs.Limits.{most_columns};
 ghost use Rattle.loss_model.specs.Problem.{value_at, sample};
 ghost use Rattle.loss_model.specs.Quantities.{IsShortOf};
 ghost use Rattle.basis_inverse.specs.Square.{inverse_entry};
@@ -49,17 +50,14 @@ pub(crate) fn duals_at<F: Exact>(
     theta: F,
 ) -> Result<List<F>, Short<F>>
     requires same { length linear.now ≡ length constant.now }
-    requires few { length constant.now ≤ 128 }
+    requires few { length constant.now ≤ most_columns }
     ensures size { IfOk result (λ made. length made ≡ length constant.now) }
     ensures each { IfOk result (λ made. (j : ℕ) → j < length constant.now → value_at F.value made j ≡ value_at F.value constant.now j +ℚ (value_at F.value linear.now j *ℚ rational (F.value theta))) }
     ensures spill { IfErr result (IsShortOf (IsDualFault F.value F.range (length constant.now) (value_at F.value constant.now) (value_at F.value linear.now) (rational (F.value theta)))) }
 {
     let mut made = List::new(alloc);
     for position in 0..constant.len() {
-        let value = dual_value(position as u32, constant[position], linear[position], theta)?;
-        if made.push(value).is_err() {
-            return Err(Short::OutOfMemory);
-        }
+        made.add(dual_value(position as u32, constant[position], linear[position], theta)?)?;
     }
     Ok(made)
 }

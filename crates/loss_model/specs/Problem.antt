@@ -3,6 +3,7 @@ use Rattle.std.specs.Prelude.{◌≡◌, ℕ, ◌≤◌, List, length, slice_get
 use Rattle.std.specs.Option.{option_map_or}
 use Rattle.exact_algebra.specs.Rational.{ℚ, whole}
 use Rattle.exact_algebra.specs.Fraction.{Fraction, rational}
+use Rattle.frac_core.specs.Limits.{most_rows, most_columns}
 use Rattle.loss_model.specs.declared.problem.Row.{Row}
 use Rattle.loss_model.specs.declared.problem.Problem.{Problem}
 use Rattle.loss_model.specs.Sample.{Sample}
@@ -32,6 +33,6 @@ sample value p =
 -- 1 to 128 columns, at most 16,384 rows, and one entry per column in each
 pub record IsWellShaped {F : Type 0} (p : Problem F) : Type 0 where
   pub some : 1 ≤ p.columns
-  pub columns : p.columns ≤ 128
-  pub rows : length p.rows ≤ 16384
+  pub columns : p.columns ≤ most_columns
+  pub rows : length p.rows ≤ most_rows
   pub entries : All (λ r. length r.x ≡ p.columns) p.rows

@@ -2,7 +2,7 @@ ghost use Rattle.std.specs.Prelude.{◌≡◌, ℕ, ◌+◌, ◌^◌, ◌<◌, �
 ghost use Rattle.std.specs.Io.{ReadsAtMost};
 ghost use Rattle.std.specs.Io.KnownBytes.{ReadConsumes};
 ghost use Rattle.port_io.specs.Counts.{CountsFaults, Rose};
-ghost use Rattle.port_io.specs.Told.{TakesAll, TakesFirst, TakesSome};
+ghost use Rattle.port_io.specs.Told.{most_bytes, TakesAll, TakesFirst, TakesSome};
 
 use crate::{Failed, Source};
 use std::alloc::{AllocError, Global};
@@ -19,7 +19,7 @@ pub enum ReadFault {
 }
 
 // The most bytes that are handed on.
-const LIMIT: usize = 1 << 26;
+const MOST_BYTES: usize = 1 << 26;
 
 // The least room that is made at once.
 const PIECE: usize = 1 << 16;
@@ -33,9 +33,9 @@ const PIECE: usize = 1 << 16;
 pub fn read_all<S: Source>(alloc: Global, source: &mut S) -> Result<Vec<u8>, ReadFault>
     ensures whole { IfOk result
         (λ bytes. TakesAll (S.left source.old) (S.left source.new) bytes.items) }
-    ensures short { IfOk result (λ bytes. length bytes.items ≤ 2 ^ 26) }
+    ensures short { IfOk result (λ bytes. length bytes.items ≤ most_bytes) }
     ensures too_long { IsErrOf result ReadFault.TooLong
-        → TakesFirst (S.left source.old) (S.left source.new) (2 ^ 26 + 1) }
+        → TakesFirst (S.left source.old) (S.left source.new) (most_bytes + 1) }
     ensures err { OnErr result (TakesSome (S.left source.old) (S.left source.new)) }
 
     ensures failed { IsErrOf result ReadFault.Failed
@@ -45,7 +45,7 @@ pub fn read_all<S: Source>(alloc: Global, source: &mut S) -> Result<Vec<u8>, Rea
 {
     let mut bytes = Vec::new(alloc);
     let mut filled = 0;
-    while filled <= LIMIT {
+    while filled <= MOST_BYTES {
         if make_room(&mut bytes, filled).is_err() {
             return Err(ReadFault::OutOfMemory);
         }
@@ -82,16 +82,16 @@ fn read_behind<S: Source>(
 // one byte more than the limit, and that byte shows that too many came.
 fn make_room(bytes: &mut Vec<u8>, filled: usize) -> Result<(), AllocError>
     requires filled { filled ≤ vec_len bytes.old }
-    requires few { filled ≤ 2 ^ 26 }
-    requires limit { vec_len bytes.old ≤ 2 ^ 26 + 1 }
+    requires few { filled ≤ most_bytes }
+    requires limit { vec_len bytes.old ≤ most_bytes + 1 }
     ensures kept { take filled bytes.new.items ≡ take filled bytes.old.items }
     ensures room { OnOk result (filled < vec_len bytes.new) }
-    ensures limit { vec_len bytes.new ≤ 2 ^ 26 + 1 }
+    ensures limit { vec_len bytes.new ≤ most_bytes + 1 }
 {
     if filled < bytes.len() {
         return Ok(());
     }
-    let len = (2 * filled).max(PIECE).min(LIMIT + 1);
+    let len = (2 * filled).max(PIECE).min(MOST_BYTES + 1);
     bytes.reserve_exact(len - filled)?;
     bytes.resize(len, 0)
 }

@@ -2,7 +2,7 @@
 use Rattle.std.specs.Prelude.{◌≡◌, ℕ, ◌^◌, ◌<◌, ◌≤◌, ◌+◌, ◌⊎◌, List, [], Option, Err, length, ⊤}
 use Rattle.std.specs.Io.KnownBytes.{Appends, Keeps}
 use Rattle.port_io.specs.Counts.{Rose}
-use Rattle.port_io.specs.Told.{TakesAll, TakesFirst, AppendsPart}
+use Rattle.port_io.specs.Told.{most_bytes, TakesAll, TakesFirst, AppendsPart}
 use Rattle.rq_words.specs.Words.{words_of}
 use Rattle.rq_words.specs.declared.job.Job.{Job}
 use Rattle.rq_engine.specs.Answers as engine
@@ -54,7 +54,7 @@ pub record WereRead (words : List (List ℕ)) (before now : Stream) (job : Job) 
   pub asked : IsJobOf words job
   pub built : IsBuilt job
   pub whole : TakesAll before.bytes now.bytes bytes
-  pub short : length bytes ≤ 2 ^ 26
+  pub short : length bytes ≤ most_bytes
 
 -- the report is right for the job of the words and for the bytes of the source
 pub record IsAnswered (words : List (List ℕ)) (before now : Stream) (report : Report) : Type 0 where
@@ -81,7 +81,7 @@ pub record IsTooLong (words : List (List ℕ)) (before now : Stream) : Type 0 wh
   pub job : Job
   pub asked : IsJobOf words job
   pub built : IsBuilt job
-  pub came : TakesFirst before.bytes now.bytes (2 ^ 26 + 1)
+  pub came : TakesFirst before.bytes now.bytes (most_bytes + 1)
 
 -- the words ask for a job that is done
 pub record AskBuilt (words : List (List ℕ)) : Type 0 where

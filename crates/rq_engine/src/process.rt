@@ -3,6 +3,7 @@ ghost use Rattle.std.specs.Prelude.{◌≡◌, ◌≢◌, ℕ, ◌<◌, ◌≤�
 ghost use Rattle.std.specs.List.{AllZip};
 ghost use Rattle.exact_algebra.specs.Fraction.{rational};
 ghost use Rattle.exact_algebra.specs.Rational.{◌≤ℚ◌, whole};
+ghost use Rattle.frac_core.specs.Limits.{most_rows};
 ghost use Rattle.loss_model.specs.Problem.{sample};
 ghost use Rattle.loss_model.specs.Quantities.{IsShortOf};
 ghost use Rattle.rankscores.specs.Scores.{IsScored};
@@ -30,7 +31,7 @@ fn all_scores<F: Exact>(
     problem: &Problem<F>,
     segments: &[Segment<F>],
 ) -> Result<List<List<ScorePair<F>>>, Short<F>>
-    requires rows { length problem.now.rows ≤ 16384 }
+    requires rows { length problem.now.rows ≤ most_rows }
     requires scorable { All (IsScorable problem.now) segments.now }
     requires few { length segments.now ≤ 2 ^ 32 }
     requires weighted { (i : ℕ) → i < length problem.now.rows → (sample F.value problem.now).up1 i ≢ whole (pos 0) }

@@ -9,14 +9,10 @@ ghost use Rattle.rq_program.specs.Faults.{row_count, HasCause};
 
 use crate::fault::ProgramFault;
 use design_matrix::{Design, DesignRow};
-use frac_core::{Exact, Frac128, List};
+use frac_core::{Exact, Frac128, List, MOST_COLUMNS, MOST_ROWS};
 use loss_model::{Problem, Row};
 use std::alloc::Global;
 use tv_penalty::{PenaltyRow, Smoothing};
-
-const MOST_ROWS: usize = 16_384;
-
-const MOST_COLUMNS: usize = 128;
 
 /// The problem of a design and of what the smooths of its formula add to it.
 ///
@@ -43,10 +39,10 @@ pub fn problem(
     let width = design.names.as_slice().len();
     let columns = width + smoothing.names.as_slice().len();
     let count = design.rows.as_slice().len() + smoothing.rows.as_slice().len();
-    if count > MOST_ROWS {
+    if count > MOST_ROWS as usize {
         return Err(ProgramFault::TooManyRows);
     }
-    if columns > MOST_COLUMNS {
+    if columns > MOST_COLUMNS as usize {
         return Err(ProgramFault::TooManyColumns);
     }
     let mut rows = Vec::with_capacity(alloc, count)?;

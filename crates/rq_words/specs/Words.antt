@@ -8,6 +8,7 @@ use Rattle.std.specs.Str.Parse.{digits_value}
 use Rattle.clap.specs.Words.{Row, Text, first_of}
 use Rattle.exact_algebra.specs.Rational.{ℚ, le_ℚ, whole}
 use Rattle.frac_core.specs.NumberText.{are_digits, number_of}
+use Rattle.frac_core.specs.Limits.{most_rows}
 use Rattle.contrasts.specs.declared.Coding.{Coding}
 use Rattle.contrasts.specs.declared.Coding.TheVariants.{Treatment, Sas, Sum, Helmert}
 use Rattle.rq_words.specs.Commands.{found_in, kind_of}
@@ -89,7 +90,7 @@ numbers_of found =
     number_option found (codes "rank-at") None (given quantiles) >>= (λ taus.
     number_option found (codes "pivots") 100000 (count 8 0 10000000) >>= (λ limit.
     number_option found (codes "number") 0 (count 10 0 (2 ^ 32 - 1)) >>= (λ number.
-    number_option found (codes "rows") 0 (count 5 1 16384) >>= (λ rows.
+    number_option found (codes "rows") 0 (count 5 1 most_rows) >>= (λ rows.
     number_option found (codes "columns") 0 (count 3 1 100) >>= (λ columns.
     Ok (record {
       lo = lo;

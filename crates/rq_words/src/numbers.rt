@@ -8,7 +8,7 @@ ghost use Rattle.rq_words.specs.Words.{count, given, has_digits, number_option, 
 
 use crate::WordFault;
 use crate::options::Options;
-use frac_core::{Exact, Frac128, List, OutOfMemory, Text, read_number};
+use frac_core::{Exact, Frac128, List, MOST_ROWS, OutOfMemory, Text, read_number};
 use std::alloc::Global;
 
 /// The numbers of the options; where one isn't given, what stands for it.
@@ -47,7 +47,7 @@ const NUMBER: Bounds = Bounds {
 const ROWS: Bounds = Bounds {
     places: 5,
     least: 1,
-    most: 16_384,
+    most: MOST_ROWS,
 };
 
 const COLUMNS: Bounds = Bounds {
@@ -124,9 +124,7 @@ fn quantiles(alloc: Global, text: &str) -> Result<Option<List<Frac128>>, OutOfMe
         let Some(tau) = fraction(piece) else {
             return Ok(None);
         };
-        if taus.push(tau).is_err() {
-            return Err(OutOfMemory);
-        }
+        taus.add(tau)?;
     }
     Ok(Some(taus))
 }

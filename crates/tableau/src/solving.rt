@@ -51,9 +51,7 @@ fn full_start(alloc: Global, rows: &[u32]) -> Result<List<Option<u32>>, OutOfMem
 {
     let mut start = List::new(alloc);
     for row in rows {
-        if start.push(Some(*row)).is_err() {
-            return Err(OutOfMemory);
-        }
+        start.add(Some(*row))?;
     }
     Ok(start)
 }

@@ -17,7 +17,7 @@ use Rattle.formula_parser.specs.declared.formula.Smooth.{Smooth}
 use Rattle.design_matrix.specs.declared.design.Design.{Design}
 use Rattle.design_matrix.specs.declared.design.DesignRow.{DesignRow}
 use Rattle.design_matrix.specs.Cells.{Table, column_of, number_in}
-use Rattle.design_matrix.specs.Coded.{is_text}
+use Rattle.design_matrix.specs.CodedVariable.{is_text}
 use Rattle.design_matrix.specs.Lists.{each}
 use Rattle.tv_penalty.specs.declared.fault.PenaltyFault.{PenaltyFault}
 use Rattle.tv_penalty.specs.declared.fault.PenaltyFault.TheVariants.{NotNumeric, TooFewKnots}

@@ -3,13 +3,14 @@ use Rattle.std.specs.Prelude.{◌≡◌, ◌⊎◌, ℕ, ◌+◌, Bool, List, []
 use Rattle.std.specs.Option.{option_or}
 use Rattle.data_frame.specs.Views.{exact}
 use Rattle.frac_core.specs.declared.frac128.Frac128.{Frac128}
+use Rattle.frac_core.specs.Limits.{most_columns}
 use Rattle.loss_model.specs.declared.spill.Spill.{Spill}
 use Rattle.formula_parser.specs.declared.formula.Formula.{Formula}
 use Rattle.formula_parser.specs.declared.formula.Smooth.{Smooth}
 use Rattle.design_matrix.specs.declared.design.Design.{Design}
 use Rattle.design_matrix.specs.declared.design.DesignRow.{DesignRow}
 use Rattle.design_matrix.specs.Cells.{Table, column_of}
-use Rattle.design_matrix.specs.Coded.{is_text}
+use Rattle.design_matrix.specs.CodedVariable.{is_text}
 use Rattle.tv_penalty.specs.declared.fault.PenaltyFault.{PenaltyFault}
 use Rattle.tv_penalty.specs.declared.fault.PenaltyFault.TheVariants.{OutOfMemory, NotNumeric, TooFewKnots, Overflow, TooManyColumns}
 use Rattle.tv_penalty.specs.Knots.{knots_of}
@@ -25,7 +26,7 @@ knots_fault table rows s =
 
 -- there are more than 128 columns
 abbrev pub columns_fault : ℕ → Option PenaltyFault
-columns_fault columns = if nat_lt 128 columns then Some TooManyColumns else None
+columns_fault columns = if nat_lt most_columns columns then Some TooManyColumns else None
 
 -- what smooths are looked at by: whether they are penalised, whether there is an intercept, the table, and the rows
 pub record Setting : Type 0 where

@@ -4,7 +4,7 @@ ghost use Rattle.std.specs.Prelude.{◌≡◌, ◌≤◌, ◌⊎◌, ◌-◌, le
 ghost use Rattle.std.specs.List.{filter_map};
 ghost use Rattle.data_frame.specs.Views.{exact};
 ghost use Rattle.design_matrix.specs.Cells.{cell_of, column_of, number_in};
-ghost use Rattle.design_matrix.specs.Coded.{is_text};
+ghost use Rattle.design_matrix.specs.CodedVariable.{is_text};
 ghost use Rattle.design_matrix.specs.Levels.{levels_of, number_order};
 ghost use Rattle.tv_penalty.specs.Faults.{HasKnotsCause, knots_fault};
 ghost use Rattle.tv_penalty.specs.Knots.{cell_at, cells_of, knots_in, knots_of as knots_of_smooth, numbers_of};

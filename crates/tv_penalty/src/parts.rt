@@ -8,6 +8,7 @@ ghost use Rattle.tv_penalty.specs.Smoothings.{bends_of, has_rows as has_rows_of,
 ghost use Rattle.tv_penalty.specs.Views.{AreAscending, bend_seen, part_seen, setting_seen};
 ghost use Rattle.loss_model.specs.declared.spill.Spill.{Spill as Spilt};
 ghost use Rattle.frac_core.specs.declared.frac128.Frac128.{Frac128 as Fraction128};
+ghost use Rattle.frac_core.specs.Limits.{most_columns};
 
 use crate::PenaltyFault;
 use crate::bends::{Bend, bends};
@@ -15,7 +16,7 @@ use crate::knot::smooth_knots;
 use data_frame::Frame;
 use design_matrix::DesignRow;
 use formula_parser::Smooth;
-use frac_core::{Exact, Frac128};
+use frac_core::{Exact, Frac128, MOST_COLUMNS};
 use std::alloc::Global;
 
 /// A smooth with its knots and its penalty rows.
@@ -91,13 +92,13 @@ impl<'a> Setting<'a> {
         requires { before < 2 ^ 63 }
         ensures seen { IfOk result (λ p. part_seen p ≡ part_of self.now.penalised self.now.frame.now self.now.rows.now smooth.now) }
         ensures many { IfOk result (λ p. 3 ≤ length p.knots.items) }
-        ensures few { IfOk result (λ p. before + length (with_columns_of self.now.intercept p.knots.items) ≤ 128) }
+        ensures few { IfOk result (λ p. before + length (with_columns_of self.now.intercept p.knots.items) ≤ most_columns) }
         ensures sound { OnOk result (IsSoundSmooth (setting_seen self.now) number before smooth.now) }
         ensures fault { IfErr result (λ e. (e ≡ PenaltyFault.OutOfMemory) ⊎ IsSmoothFault (setting_seen self.now) number before smooth.now e) }
     {
         let found = smooth_knots(alloc, self.frame, self.rows, smooth)?;
         let columns = with_columns(self.intercept, &found.knots).len();
-        if before + columns > 128 {
+        if before + columns > MOST_COLUMNS as usize {
             return Err(PenaltyFault::TooManyColumns);
         }
         let penalised = has_rows(self.penalised, smooth.lambda);

@@ -1,7 +1,7 @@
 use Rattle.std.proofs.Common.{◌≡◌, ◌<◌, ◌≤◌, ◌∙◌, All, List, Vec, ap, arith, inl, inr, length, subst, sym}
 use Rattle.std.specs.declared.alloc.Global.{Global}
 use Rattle.std.proofs.lemmas.Result.{err_from_is_err_and}
-use Rattle.design_matrix.specs.declared.coded.Coded.{Coded as Held}
+use Rattle.design_matrix.specs.declared.coded.CodedVariable.{CodedVariable as Held}
 use Rattle.design_matrix.specs.Faults.{terms_fault}
 use Rattle.design_matrix.specs.Parts.{columns_in}
 use Rattle.design_matrix.specs.Views.{terms_seen}

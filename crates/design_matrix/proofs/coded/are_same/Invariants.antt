@@ -1,5 +1,5 @@
 use Rattle.std.proofs.Common.{◌≡◌, drop}
-use Rattle.design_matrix.specs.Coded.{same_variables}
+use Rattle.design_matrix.specs.CodedVariable.{same_variables}
 use Rattle.design_matrix.proofs.coded.are_same.Given as goal
 
 abbrev pub invariant-loop-place : goal.invariant-loop-place

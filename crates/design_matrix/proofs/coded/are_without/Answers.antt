@@ -1,5 +1,5 @@
 use Rattle.std.proofs.Common.{ap, drop, ◌∙◌, ◌+◌, take, length, ◌-◌}
-use Rattle.design_matrix.specs.Coded.{same_variables}
+use Rattle.design_matrix.specs.CodedVariable.{same_variables}
 use Rattle.design_matrix.proofs.Same.{without_apart, without_no, without_yes}
 use Rattle.design_matrix.proofs.Steps.{rest_is}
 use Rattle.design_matrix.proofs.coded.are_without.Goals as goal

@@ -1,6 +1,6 @@
 use Rattle.std.proofs.Common.{ap, length, ◌∙◌}
 use Rattle.std.specs.List.{list_all}
-use Rattle.design_matrix.specs.Coded.{is_factor, is_whole_factor}
+use Rattle.design_matrix.specs.CodedVariable.{is_factor, is_whole_factor}
 use Rattle.design_matrix.proofs.Steps.{one_no, one_yes}
 use Rattle.design_matrix.proofs.coded.is_whole_factor.Goals as goal
 

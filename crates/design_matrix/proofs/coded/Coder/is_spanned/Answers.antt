@@ -1,6 +1,6 @@
 use Rattle.std.proofs.Common.{ap, sym, take, ◌∙◌}
 use Rattle.std.specs.List.{list_any}
-use Rattle.design_matrix.specs.Coded.{is_in_model, is_spanned, is_whole_factor, without}
+use Rattle.design_matrix.specs.CodedVariable.{is_in_model, is_spanned, is_whole_factor, without}
 use Rattle.design_matrix.proofs.Steps.{elsewhere, spanned_later, spanned_now}
 use Rattle.design_matrix.proofs.coded.Coder.is_spanned.Goals as goal
 

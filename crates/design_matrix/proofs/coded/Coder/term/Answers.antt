@@ -1,5 +1,5 @@
 use Rattle.std.proofs.Common.{ap, length, ◌∙◌}
-use Rattle.design_matrix.specs.Coded.{coded_variable}
+use Rattle.design_matrix.specs.CodedVariable.{coded_variable}
 use Rattle.design_matrix.specs.Lists.{each}
 use Rattle.design_matrix.specs.Views.{coded_seen}
 use Rattle.design_matrix.proofs.Lengths.{each_length}

@@ -1,6 +1,6 @@
 use Rattle.std.proofs.Common.{◌≡◌, ◌<◌, ◌^◌, ap, arith, length, map, subst, sym, ◌∙◌, get_or}
 use Rattle.formula_parser.specs.declared.formula.Term.{Term}
-use Rattle.design_matrix.specs.Coded.{coded_term}
+use Rattle.design_matrix.specs.CodedVariable.{coded_term}
 use Rattle.design_matrix.specs.Lists.{each}
 use Rattle.design_matrix.specs.Views.{coded_seen}
 use Rattle.design_matrix.proofs.Lengths.{short_push}

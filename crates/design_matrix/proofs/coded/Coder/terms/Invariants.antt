@@ -1,5 +1,5 @@
 use Rattle.std.proofs.Common.{◌≡◌, map, take}
-use Rattle.design_matrix.specs.Coded.{coded_term}
+use Rattle.design_matrix.specs.CodedVariable.{coded_term}
 use Rattle.design_matrix.specs.Lists.{each}
 use Rattle.design_matrix.specs.Views.{coded_seen}
 use Rattle.design_matrix.proofs.Lengths.{AreShort}
