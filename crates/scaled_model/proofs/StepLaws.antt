@@ -56,11 +56,11 @@ module _ (p q : Sample) (s : ℕ → ℚ) (ly lc : ℚ) (h : IsScaled p q s ly l
       ap (λ n. ratio q.rows n at j (outside_row q at a i) m) h.columns
       ∙ ap (λ k. ratio k p.columns at j (outside_row q at a i) m) h.rows
       ∙ ap (λ o. ratio_on o p.columns at j (outside_row q at a i) m)
-        (perturbed_side-same p.columns at (outside_row q at a i) (raised i) refl (residual-scaled p q s ly lc h a at within i li) (λ j lj. coord-scaled p q s ly lc h a i j li) p.rows
-        ∙ perturbed_side-positive p.rows p.columns at ly i (residual p (coefficient p at (unscaled s a)) i) (coord p (unscaled s a) i) py)
+      (perturbed_side-same p.columns at (outside_row q at a i) (raised i) refl (residual-scaled p q s ly lc h a at within i li) (λ j lj. coord-scaled p q s ly lc h a i j li) p.rows
+      ∙ perturbed_side-positive p.rows p.columns at ly i (residual p (coefficient p at (unscaled s a)) i) (coord p (unscaled s a) i) py)
       ∙ ap₂ (λ x c. turned (perturbed_side p.rows p.columns at (outside_row p at (unscaled s a) i)) (x *ℚ inverse (abs_ℚ c)))
-        (perturbed-same p.columns at (outside_row q at a i) (raised i) refl (residual-scaled p q s ly lc h a at within i li) (λ j lj. coord-scaled p q s ly lc h a i j li) m)
-        (coord-scaled p q s ly lc h a i j li)
+      (perturbed-same p.columns at (outside_row q at a i) (raised i) refl (residual-scaled p q s ly lc h a at within i li) (λ j lj. coord-scaled p q s ly lc h a i j li) m)
+      (coord-scaled p q s ly lc h a i j li)
 
   pub is_before-scaled : (j i r : ℕ) → j < p.columns → i < p.rows → r < p.rows → is_before q at a j i r ≡ is_before p at (unscaled s a) j i r
   is_before-scaled j i r lj li lr =
@@ -71,7 +71,7 @@ module _ (p q : Sample) (s : ℕ → ℚ) (ly lc : ℚ) (h : IsScaled p q s ly l
       first k lk =
           ratio_at k j zero lk lj
           ∙ ap (turned (perturbed_side p.rows p.columns at (outside_row p at (unscaled s a) k)))
-            (ring_ℚ (ly ∷ residual p (coefficient p at (unscaled s a)) k ∷ inverse (abs_ℚ (coord p (unscaled s a) k j)) ∷ []) ((v0 ⊠ v1) ⊠ v2) (v0 ⊠ (v1 ⊠ v2)) refl)
+          (ring_ℚ (ly ∷ residual p (coefficient p at (unscaled s a)) k ∷ inverse (abs_ℚ (coord p (unscaled s a) k j)) ∷ []) ((v0 ⊠ v1) ⊠ v2) (v0 ⊠ (v1 ⊠ v2)) refl)
           ∙ turned-mul (perturbed_side p.rows p.columns at (outside_row p at (unscaled s a) k)) ly (residual p (coefficient p at (unscaled s a)) k *ℚ inverse (abs_ℚ (coord p (unscaled s a) k j)))
 
       by : (m : ℕ) → cmp_ℚ (ratio q.rows q.columns at j (outside_row q at a i) m) (ratio q.rows q.columns at j (outside_row q at a r) m) ≡ cmp_ℚ (ratio p.rows p.columns at j (outside_row p at (unscaled s a) i) m) (ratio p.rows p.columns at j (outside_row p at (unscaled s a) r) m)

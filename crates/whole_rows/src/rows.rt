@@ -11,7 +11,7 @@ use crate::factor::{Factor, plain_factor, reduced_factor, whole_value};
 use frac_core::{Exact, List};
 use loss_model::{Problem, Row};
 use std::alloc::Global;
-use whole_inverse::Halted;
+use whole_inverse::Obstacle;
 
 /// A row in whole numbers.
 #[derive(Drop)]
@@ -35,13 +35,13 @@ pub struct WholeProblem {
 }
 
 /// A value times a factor.
-fn number<F: Exact>(v: F, factor: Factor) -> Result<i64, Halted>
+fn number<F: Exact>(v: F, factor: Factor) -> Result<i64, Obstacle>
     requires { IsPositive factor }
     ensures { IfOk result (λ r. whole r ≡ factor_value factor *ℚ rational (F.value v)) }
 {
     match whole_value(v, factor) {
         Some(r) => Ok(r),
-        None => Err(Halted::TooWide),
+        None => Err(Obstacle::TooWide),
     }
 }
 
@@ -50,7 +50,7 @@ fn whole_entries<F: Exact>(
     alloc: Global,
     x: &[F],
     factors: &[Factor],
-) -> Result<List<i64>, Halted>
+) -> Result<List<i64>, Obstacle>
     requires same { length factors.now ≡ length x.now }
     requires positive { All IsPositive factors.now }
     ensures size { IfOk result (λ made. length made ≡ length x.now) }
@@ -60,7 +60,7 @@ fn whole_entries<F: Exact>(
     for k in 0..x.len() {
         let entry = number(x[k], factors[k])?;
         if made.push(entry).is_err() {
-            return Err(Halted::OutOfMemory);
+            return Err(Obstacle::OutOfMemory);
         }
     }
     Ok(made)
@@ -73,7 +73,7 @@ fn whole_row<F: Exact>(
     factors: &[Factor],
     response: Factor,
     cost: Factor,
-) -> Result<WholeRow, Halted>
+) -> Result<WholeRow, Obstacle>
     requires same { length factors.now ≡ length row.now.x }
     requires positive { All IsPositive factors.now }
     requires response { IsPositive response }
@@ -103,7 +103,7 @@ fn whole_rows<F: Exact>(
     factors: &[Factor],
     response: Factor,
     cost: Factor,
-) -> Result<List<WholeRow>, Halted>
+) -> Result<List<WholeRow>, Obstacle>
     requires same { All (λ r. length r.x ≡ length factors.now) rows.now }
     requires positive { All IsPositive factors.now }
     requires response { IsPositive response }
@@ -115,20 +115,20 @@ fn whole_rows<F: Exact>(
     for i in 0..rows.len() {
         let row = whole_row(alloc, &rows[i], factors, response, cost)?;
         if made.push(row).is_err() {
-            return Err(Halted::OutOfMemory);
+            return Err(Obstacle::OutOfMemory);
         }
     }
     Ok(made)
 }
 
 /// The entries of a column.
-fn column_values<F: Exact>(alloc: Global, rows: &[Row<F>], k: usize) -> Result<List<F>, Halted>
+fn column_values<F: Exact>(alloc: Global, rows: &[Row<F>], k: usize) -> Result<List<F>, Obstacle>
     requires { All (λ r. k < length r.x) rows.now }
 {
     let mut values = List::new(alloc);
     for i in 0..rows.len() {
         if values.push(rows[i].x.as_slice()[k]).is_err() {
-            return Err(Halted::OutOfMemory);
+            return Err(Obstacle::OutOfMemory);
         }
     }
     Ok(values)
@@ -139,7 +139,7 @@ fn column_factors<F: Exact>(
     alloc: Global,
     rows: &[Row<F>],
     columns: u32,
-) -> Result<List<Factor>, Halted>
+) -> Result<List<Factor>, Obstacle>
     requires { All (λ r. length r.x ≡ columns) rows.now }
     ensures size { IfOk result (λ made. length made ≡ columns) }
     ensures positive { IfOk result (λ made. All IsPositive made) }
@@ -148,20 +148,20 @@ fn column_factors<F: Exact>(
     for k in 0..columns {
         let values = column_values(alloc, rows, k as usize)?;
         if made.push(reduced_factor(values.as_slice())).is_err() {
-            return Err(Halted::OutOfMemory);
+            return Err(Obstacle::OutOfMemory);
         }
     }
     Ok(made)
 }
 
 /// The factor of the responses.
-fn response_factor<F: Exact>(alloc: Global, rows: &[Row<F>]) -> Result<Factor, Halted>
+fn response_factor<F: Exact>(alloc: Global, rows: &[Row<F>]) -> Result<Factor, Obstacle>
     ensures { IfOk result IsPositive }
 {
     let mut values = List::new(alloc);
     for i in 0..rows.len() {
         if values.push(rows[i].y).is_err() {
-            return Err(Halted::OutOfMemory);
+            return Err(Obstacle::OutOfMemory);
         }
     }
     Ok(reduced_factor(values.as_slice()))
@@ -186,7 +186,7 @@ fn cost_factor<F: Exact>(rows: &[Row<F>]) -> Factor
 pub fn whole_problem<F: Exact>(
     alloc: Global,
     problem: &Problem<F>,
-) -> Result<WholeProblem, Halted>
+) -> Result<WholeProblem, Obstacle>
     requires shaped { IsWellShaped problem.now }
     ensures scaled { IfOk result (λ w. IsScaled (sample F.value problem.now) (whole_sample w) (factor_at w.factors) (factor_value w.response) (factor_value w.cost)) }
     ensures factors { IfOk result (λ w. (k : ℕ) → k < problem.now.columns → factor_at w.factors k ≢ whole (pos 0)) }

@@ -1,0 +1,4 @@
+pub mod Signs
+pub mod Movers
+pub mod Ties
+pub mod FirstLaws
