@@ -43,8 +43,8 @@ size_some : (c : ℤ) → c ≢ pos 0 → 1 ≤ unsigned_abs c
 size_some c h = omega (arith, ints)
 
 module _ (l : Line) (line : IsLine l) (i : ℕ) (li : i < length l.basis.now.rows.now) where
-  side_here : (s : Side) → s ≡ get_or l.sides.now i s → s ≡ side_at (model l) (at_of l) (inverse_at l) i
-  side_here s is = is ∙ side_read l.sides.now i s (omega (arith, line.all_sides, li)) ∙ line.sides i li
+  side_here : get_or l.sides.now i Up ≡ side_at (model l) (at_of l) (inverse_at l) i
+  side_here = side_read l.sides.now i Up (omega (arith, line.all_sides, li)) ∙ line.sides i li
 
   coord_here : share (get_or l.coords.now i (pos 0)) (over_of l) ≡ coord (model l) (inverse_at l) i l.position
   coord_here = share_read (over_of l) l.coords.now i (omega (arith, line.all_coords, li)) ∙ line.coords i li
@@ -52,11 +52,11 @@ module _ (l : Line) (line : IsLine l) (i : ℕ) (li : i < length l.basis.now.row
   pub residual_here : share (get_or l.residuals.now i (pos 0)) (over_of l) ≡ residual (model l) (coefficient (model l) (at_of l) (inverse_at l)) i
   residual_here = share_read (over_of l) l.residuals.now i (omega (arith, line.size, li)) ∙ line.residuals i li
 
-  pub moving_is : (s : Side) → s ≡ get_or l.sides.now i s → is_moving l i ≡ is_towards s (turned_by l.direction (share (get_or l.coords.now i (pos 0)) (over_of l)))
+  pub moving_is : is_moving l i ≡ is_towards (get_or l.sides.now i Up) (turned_by l.direction (share (get_or l.coords.now i (pos 0)) (over_of l)))
   unfolding is_moving
-  moving_is s is =
+  moving_is =
       ap (is_towards (side_at (model l) (at_of l) (inverse_at l) i)) (change_turned l.direction (model l) (at_of l) (inverse_at l) l.position i ∙ ap (turned_by l.direction) (sym coord_here))
-      ∙ ap (λ s. is_towards s (turned_by l.direction (share (get_or l.coords.now i (pos 0)) (over_of l)))) (sym (side_here s is))
+      ∙ ap (λ s. is_towards s (turned_by l.direction (share (get_or l.coords.now i (pos 0)) (over_of l)))) (sym side_here)
 
   moving_some : is_moving l i ≡ true → coord (model l) (inverse_at l) i l.position ≢ whole (pos 0)
   unfolding is_moving

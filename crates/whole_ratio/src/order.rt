@@ -31,7 +31,8 @@ impl<'a> Line<'a> {
     {
         let basis = self.basis;
         let rows = basis.rows;
-        let x = rows[row as usize].x.as_slice();
+        let chosen = &rows[row as usize];
+        let x = chosen.x.as_slice();
         let determinant = basis.inverse.determinant();
         let coords = basis.inverse.coordinates(x, basis.limit)?;
         let residuals = self.residuals;

@@ -40,13 +40,13 @@ module _ (n : ℕ) (at : ℕ → ℕ) (row : ℕ) (r : ℤ) (coords : List ℤ) 
   by_held k lk out zero next rows l =
       ap (λ z. side_of (cmp_ℚ (neg_ℚ z) (whole (pos 0)))) (share_read d coords k lk)
       ∙ at_held n at (outside_of row r coords d) k out (share_none r d zero)
-        (record {
-          within = next.within;
-          above = next.above;
-          below = next.below;
-          some = λ z. next.some (record { left = share_back d h coords k z.left; right = share_back d h coords k z.left });
-          least = between 0 (at k) next.least;
-        }) rows l
+      (record {
+        within = next.within;
+        above = next.above;
+        below = next.below;
+        some = λ z. next.some (record { left = share_back d h coords k z.left; right = share_back d h coords k z.left });
+        least = between 0 (at k) next.least;
+      }) rows l
 
   pub by_own : r ≡ pos 0 → AreZeroBetween n at (whole_at coords) (whole_at coords) 0 row → (rows : ℕ) → row < rows → Up ≡ perturbed_side rows n at (outside_of row r coords d)
   by_own zero z rows l = at_own n at (outside_of row r coords d) (share_none r d zero) (between 0 row z) rows l

@@ -6,7 +6,7 @@ use Rattle.exact_algebra.proofs.RationalLaws.{*ℚ_comm}
 use Rattle.exact_algebra.specs.RationalSums.{sum_ℚ}
 use Rattle.exact_algebra.proofs.RationalSumLaws.{sum_ℚ-same}
 use Rattle.loss_model.specs.declared.vertex.Side.{Side}
-use Rattle.loss_model.specs.Sample.{residual}
+use Rattle.loss_model.specs.Sample.{Sample, residual}
 use Rattle.basis_model.specs.declared.part.Part.{Part}
 use Rattle.basis_model.specs.Basis.{side_at, bound_part, nonbasic_total, balancing, basic_dual}
 use Rattle.whole_inverse.specs.Shares.{share_at, share_entries, whole_at}
@@ -34,3 +34,8 @@ module _ (n : ℕ) (rows : List WholeRow) (at : ℕ → ℕ) (a : ℕ → ℕ �
   duals_from j =
       sum_ℚ-same n (λ k. neg_ℚ (whole_at weights k) *ℚ a k j) (λ k. neg_ℚ (nonbasic_total (sample_of_rows n rows) (side_at (sample_of_rows n rows) at a) part k) *ℚ a k j)
       (λ k lk. ap (λ z. neg_ℚ z *ℚ a k j) (total_here k lk))
+
+-- coefficients that agree leave the same residuals
+pub residual_same : (p : Sample) (b b' : ℕ → ℚ) → ((k : ℕ) → k < p.columns → b k ≡ b' k) → (i : ℕ) → residual p b i ≡ residual p b' i
+residual_same p b b' h i =
+    ap (λ f. p.y i -ℚ f) (sum_ℚ-same p.columns (λ k. p.x i k *ℚ b k) (λ k. p.x i k *ℚ b' k) (λ k lk. ap (λ z. p.x i k *ℚ z) (h k lk)))

@@ -23,6 +23,7 @@ side_in sides i = unwrap_or (slice_get sides i) Basic
 pub record IsWholeBasis (b : WholeBasis) : Type 0 where
   pub size : length b.basis.now.rows ≡ length b.inverse.now.columns
   pub shape : IsWholeSquare b.inverse.now
+  pub few : length b.rows.now < 2 ^ 32
   pub wide : All (λ r. length r.x ≡ length b.inverse.now.columns) b.rows.now
   pub small : All (λ r. All (λ e. unsigned_abs e ≤ b.limit) r.x) b.rows.now
   pub distinct : AreDistinct (slice_index b.basis.now.rows) (length b.inverse.now.columns) (length b.rows.now)

@@ -50,7 +50,9 @@ pub fn bounds(
 {
     let mut made = List::new(alloc);
     for i in 0..rows.len() {
-        let number = bound(&rows[i], sides[i], part)?;
+        let row = &rows[i];
+        let side = sides[i];
+        let number = bound(row, side, part)?;
         if made.push(number).is_err() {
             return Err(Obstacle::OutOfMemory);
         }
@@ -59,11 +61,7 @@ pub fn bounds(
 }
 
 /// What rows weigh by their bounds in each column; `columns` has the entries of each.
-pub fn totals(
-    alloc: Global,
-    columns: &[List<i128>],
-    bounds: &[i64],
-) -> Result<List<i128>, Obstacle>
+pub fn totals(alloc: Global, columns: &[List<i128>], bounds: &[i64]) -> Result<List<i128>, Obstacle>
     requires long { All (λ xs. length xs ≡ length bounds.now) columns.now }
     ensures size { IfOk result (λ made. length made ≡ length columns.now) }
     ensures each { IfOk result (λ made. (d : ℤ) (k : ℕ) → k < length columns.now → share_at d made k ≡ sum_ℚ (length bounds.now) (λ i. whole_at bounds.now i *ℚ share_entries d columns.now k i)) }

@@ -18,7 +18,9 @@ fn column(alloc: Global, rows: &[WholeRow], k: u32) -> Result<List<i128>, Obstac
 {
     let mut made = List::new(alloc);
     for i in 0..rows.len() {
-        let entry = rows[i].x.as_slice()[k as usize];
+        let row = &rows[i];
+        let x = row.x.as_slice();
+        let entry = x[k as usize];
         if made.push(i128::from(entry)).is_err() {
             return Err(Obstacle::OutOfMemory);
         }

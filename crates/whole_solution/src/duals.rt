@@ -1,5 +1,5 @@
 //! The dual values of the rows of a basis, which balance what the others weigh.
-ghost use Rattle.std.specs.Prelude.{◌≡◌, ℕ, ℤ, ◌<◌, length, IfOk, All};
+ghost use Rattle.std.specs.Prelude.{◌≡◌, ℕ, ℤ, ◌<◌, ◌^◌, length, IfOk, All};
 ghost use Rattle.exact_algebra.specs.Rational.{neg_ℚ};
 ghost use Rattle.basis_model.specs.Basis.{balancing};
 ghost use Rattle.whole_inverse.specs.Shares.{share, share_at, shares, whole_at};
@@ -20,7 +20,11 @@ fn negated(n: i128) -> Result<i128, Obstacle>
 }
 
 /// The numerator of the value at a position that balances these totals.
-fn balancing_number(inverse: &WholeInverse, totals: &[i128], position: u32) -> Result<i128, Obstacle>
+fn balancing_number(
+    inverse: &WholeInverse,
+    totals: &[i128],
+    position: u32,
+) -> Result<i128, Obstacle>
     requires size { length totals.now ≡ length inverse.now.columns }
     requires square { All (λ c. length c ≡ length inverse.now.columns) inverse.now.columns }
     requires within { position < length inverse.now.columns }
@@ -37,6 +41,7 @@ pub fn balancing_numbers(
     totals: &[i128],
 ) -> Result<List<i128>, Obstacle>
     requires size { length totals.now ≡ length inverse.now.columns }
+    requires short { length totals.now < 2 ^ 32 }
     requires square { All (λ c. length c ≡ length inverse.now.columns) inverse.now.columns }
     ensures size { IfOk result (λ made. length made ≡ length totals.now) }
     ensures each { IfOk result (λ made. (d : ℤ) (j : ℕ) → j < length totals.now → share_at d made j ≡ balancing (length totals.now) (shares inverse.now.columns d) (whole_at totals.now) j) }

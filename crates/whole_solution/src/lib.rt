@@ -19,5 +19,5 @@ mod solution;
 
 pub use basis::WholeBasis;
 pub use columns::transposed;
-pub use products::products;
+pub use products::row_products;
 pub use solution::WholeSolution;

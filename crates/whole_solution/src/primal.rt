@@ -15,12 +15,7 @@ use whole_rows::WholeRow;
 use wide_int::sum_of_products;
 
 /// The numerators of a column at all positions.
-fn column_of(
-    alloc: Global,
-    inverse: &WholeInverse,
-    k: u32,
-    n: u32,
-) -> Result<List<i128>, Obstacle>
+fn column_of(alloc: Global, inverse: &WholeInverse, k: u32, n: u32) -> Result<List<i128>, Obstacle>
     requires size { length inverse.now.columns ≡ n }
     requires square { All (λ c. length c ≡ length inverse.now.columns) inverse.now.columns }
     requires within { k < n }

@@ -27,7 +27,8 @@ fn bounded_products(
 {
     let mut made = List::new(alloc);
     for i in 0..rows.len() {
-        let number = product_within(rows[i].x.as_slice(), column, limit);
+        let row = &rows[i];
+        let number = product_within(row.x.as_slice(), column, limit);
         if made.push(number).is_err() {
             return Err(Obstacle::OutOfMemory);
         }
@@ -36,7 +37,7 @@ fn bounded_products(
 }
 
 /// The numerators of the products of all rows, whose entries are within the limit, and a column of numerators.
-pub fn products(
+pub fn row_products(
     alloc: Global,
     rows: &[WholeRow],
     column: &[i128],

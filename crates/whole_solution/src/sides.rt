@@ -44,7 +44,8 @@ impl<'a> WholeBasis<'a> {
             return Ok(side_of_number(number));
         }
         let rows = self.rows;
-        let x = rows[row as usize].x.as_slice();
+        let chosen = &rows[row as usize];
+        let x = chosen.x.as_slice();
         let coords = self.inverse.coordinates(x, self.limit)?;
         Ok(perturbed_sign(number, coords.as_slice(), self.basis, row))
     }

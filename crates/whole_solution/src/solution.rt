@@ -11,7 +11,7 @@ use crate::basis::WholeBasis;
 use crate::bounds::{bounds, totals};
 use crate::duals::balancing_numbers;
 use crate::primal::{coefficients, residuals};
-use crate::products::products;
+use crate::products::row_products;
 use basis_model::Part;
 use frac_core::List;
 use loss_model::Side;
@@ -61,16 +61,17 @@ impl<'a> WholeBasis<'a> {
         ensures each { let s = self.now.inverse.now in let p = sample_of_rows (length s.columns) self.now.rows.now in
             IfOk result (λ made. (i : ℕ) → i < p.rows → share_at s.determinant made i ≡ residual p (share_at s.determinant coef.now) i) }
     {
-        let fits = products(alloc, self.rows, coef, self.limit)?;
-        residuals(alloc, self.rows, fits.as_slice(), self.inverse.determinant())
+        let fits = row_products(alloc, self.rows, coef, self.limit)?;
+        residuals(
+            alloc,
+            self.rows,
+            fits.as_slice(),
+            self.inverse.determinant(),
+        )
     }
 
     /// What stands at a basis; `columns` has the entries of the rows by column.
-    pub fn solution(
-        &self,
-        alloc: Global,
-        columns: &[List<i128>],
-    ) -> Result<WholeSolution, Obstacle>
+    pub fn solution(&self, alloc: Global, columns: &[List<i128>]) -> Result<WholeSolution, Obstacle>
         requires basis { IsWholeBasis self.now }
         requires columns { AreColumns (length self.now.inverse.now.columns) self.now.rows.now columns.now }
         ensures { let s = self.now.inverse.now in let p = sample_of_rows (length s.columns) self.now.rows.now in let at = slice_index self.now.basis.now.rows in

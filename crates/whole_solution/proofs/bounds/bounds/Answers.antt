@@ -1,6 +1,7 @@
 -- A row more.
 use Rattle.std.proofs.Common.{rules, ◌≡◌, ◌<◌, ◌++◌, ◌∷◌, [], ℕ, length, get_or, arith, sym, ap, ◌∙◌}
 use Rattle.exact_algebra.specs.Rational.{whole}
+use Rattle.loss_model.specs.declared.vertex.Side.TheVariants.{Up}
 use Rattle.basis_model.specs.Basis.{bound_part}
 use Rattle.whole_inverse.proofs.Lists.{length_pushed}
 use Rattle.whole_rows.specs.Wholes.{sample_of_rows}
@@ -14,7 +15,7 @@ loop-i-preserved c =
     let sides = c.args.sides.now in
     let i = c.loop-i.i in
     let r = c.index-rows-i.result in
-    let s = c.index-sides-i.result in
+    let s = get_or sides i Up in
     let made = c.loop-i.made in
     let x = c.in_ok-number.number in
     let grown : c.push.new.self ≡ made ++ x ∷ [] = search rules in
@@ -23,5 +24,5 @@ loop-i-preserved c =
     rw (grown) (record {
       size = length_pushed made x i c.loop-i.invariant.size;
       each = λ n. whole_pushed made x i (λ i. bound_part (sample_of_rows n rows) c.args.part i (side_in sides i)) c.loop-i.invariant.size (c.loop-i.invariant.each n)
-          (is ∙ ap (bound_of r c.args.part) (ap (λ z. z) (c.index-sides-i.is ∙ side_read sides i s here)) ∙ bound_read n rows i r c.args.part (side_in sides i) c.loop-i-test.true c.index-rows-i.is);
+          (is ∙ ap (bound_of r c.args.part) (side_read sides i Up here) ∙ bound_read n rows i r c.args.part (side_in sides i) c.loop-i-test.true c.index-rows-i.is);
     })

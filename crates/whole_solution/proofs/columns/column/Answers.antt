@@ -1,5 +1,5 @@
 -- An entry more.
-use Rattle.std.proofs.Common.{rules, ◌≡◌, ◌<◌, ◌++◌, ◌∷◌, [], ℕ, length, get_or, pos, ap, sym, ◌∙◌, to_z, of_z, w64}
+use Rattle.std.proofs.Common.{rules, ◌≡◌, ◌<◌, ◌++◌, ◌∷◌, [], ℕ, length, get_or, pos, ap, sym, subst, ◌∙◌, to_z, of_z, w64}
 use mir.Syntax.{w128}
 use Rattle.exact_algebra.specs.Rational.{whole}
 use Rattle.whole_inverse.specs.Shares.{whole_at}
@@ -17,7 +17,7 @@ loop-i-preserved c =
     let r = c.index-rows-i.result in
     let made = c.loop-i.made in
     let x = get_or r.x k (pos 0) in
-    let within : k < length r.x = c.requires i r c.loop-i-test.true in
+    let within : k < length r.x = subst (λ w. k < length w.x) (sym c.index-rows-i.is) (c.requires i r c.loop-i-test.true) in
     let grown : c.push.new.self ≡ made ++ x ∷ [] = search rules in
     rw (grown) (record {
       size = length_pushed made x i c.loop-i.invariant.size;

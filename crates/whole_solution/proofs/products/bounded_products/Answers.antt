@@ -19,7 +19,7 @@ loop-i-preserved c =
     let x = c.product_within-number.result in
     let plain : to_z w128 (of_z w128 x) ≡ x = search rules in
     let grown : c.push.new.self ≡ made ++ x ∷ [] = search rules in
-    let wide : length r.x ≡ length column = ap length c.as_slice.ensures ∙ c.product_within-number.requires.same in
+    let wide : length r.x ≡ length column = ap (λ w. length w.x) c.index-rows-i.is ∙ c.requires.wide i r c.loop-i-test.true in
     rw (grown) (record {
       size = length_pushed made x i c.loop-i.invariant.size;
       each = λ d. share_pushed d made x i (λ i. sum_ℚ (length column) (λ k. of_whole rows (λ r. whole_at r.x k) i *ℚ share_at d column k)) c.loop-i.invariant.size (c.loop-i.invariant.each d)

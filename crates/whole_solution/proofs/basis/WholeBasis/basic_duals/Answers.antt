@@ -5,7 +5,7 @@ use Rattle.basis_model.specs.Basis.{side_at}
 use Rattle.whole_inverse.specs.Squares.{inverse_of}
 use Rattle.whole_rows.specs.Wholes.{sample_of_rows}
 use Rattle.whole_solution.proofs.Weights.{duals_from}
-use Rattle.whole_solution.proofs.solution.WholeBasis.basic_duals.Goals as goal
+use Rattle.whole_solution.proofs.basis.WholeBasis.basic_duals.Goals as goal
 
 pub returns-clause-each : goal.returns-clause-each
 returns-clause-each c =

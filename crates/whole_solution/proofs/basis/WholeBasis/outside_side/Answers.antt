@@ -12,7 +12,7 @@ use Rattle.whole_inverse.specs.Squares.{inverse_of}
 use Rattle.whole_rows.specs.Wholes.{sample_of_rows}
 use Rattle.whole_solution.proofs.Numbers.{share_some}
 use Rattle.whole_solution.proofs.Made.{side_made}
-use Rattle.whole_solution.proofs.sides.WholeBasis.outside_side.Goals as goal
+use Rattle.whole_solution.proofs.basis.WholeBasis.outside_side.Goals as goal
 
 pub returns-then-number-ne0 : goal.returns-then-number-ne0
 returns-then-number-ne0 c =
@@ -28,7 +28,7 @@ returns-then-number-ne0 c =
     ∙ sym (side-residual n at u (λ e. share_some c.args.number s.determinant positive some (c.requires.residual ∙ e)) (length b.rows.now))
 
 pub perturbed_sign-requires-clause-outside : goal.perturbed_sign-requires-clause-outside
-perturbed_sign-requires-clause-outside c κs within =
+perturbed_sign-requires-clause-outside c =
     rw (c.requires.basis.size) (record { apart = c.requires.basis.distinct.apart; outside = rw (c.requires.basis.size) at c.requires.outside })
 
 pub returns : goal.returns

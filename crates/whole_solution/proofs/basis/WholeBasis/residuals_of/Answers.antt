@@ -6,7 +6,7 @@ use Rattle.exact_algebra.specs.Rational.{◌-ℚ◌, ◌*ℚ◌, whole}
 use Rattle.exact_algebra.specs.RationalSums.{sum_ℚ}
 use Rattle.whole_inverse.specs.Shares.{share_at, whole_at}
 use Rattle.whole_rows.specs.Wholes.{of_whole}
-use Rattle.whole_solution.proofs.solution.WholeBasis.residuals_of.Goals as goal
+use Rattle.whole_solution.proofs.basis.WholeBasis.residuals_of.Goals as goal
 
 pub returns-clause-each : goal.returns-clause-each
 returns-clause-each c =

@@ -6,7 +6,7 @@ use Rattle.whole_inverse.specs.Squares.{inverse_of}
 use Rattle.whole_rows.specs.Wholes.{sample_of_rows}
 use Rattle.whole_solution.proofs.Numbers.{share_read}
 use Rattle.whole_solution.proofs.Reading.{side_pushed, size_pushed}
-use Rattle.whole_solution.proofs.sides.WholeBasis.sides.Goals as goal
+use Rattle.whole_solution.proofs.basis.WholeBasis.sides.Goals as goal
 
 pub loop-row-preserved : goal.loop-row-preserved
 loop-row-preserved c =
@@ -22,7 +22,7 @@ loop-row-preserved c =
     })
 
 pub side_of_row-requires-clause-residual : goal.side_of_row-requires-clause-residual
-side_of_row-requires-clause-residual c κs within =
+side_of_row-requires-clause-residual c =
     let xs = c.args.residuals.now in
     let i = c.loop-row.row in
     let plain : to_z w128 (of_z w128 (get_or xs i (pos 0))) ≡ get_or xs i (pos 0) = search rules in

@@ -3,7 +3,7 @@ use Rattle.basis_model.specs.Basis.{side_at}
 use Rattle.whole_inverse.specs.Squares.{inverse_of}
 use Rattle.whole_rows.specs.Wholes.{sample_of_rows}
 use Rattle.whole_solution.specs.Standing.{side_in}
-use Rattle.whole_solution.proofs.sides.WholeBasis.sides.Given as goal
+use Rattle.whole_solution.proofs.basis.WholeBasis.sides.Given as goal
 
 abbrev pub invariant-loop-row : goal.invariant-loop-row
 invariant-loop-row l =
