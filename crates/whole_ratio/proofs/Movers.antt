@@ -76,9 +76,9 @@ module _ (l : Line) (line : IsLine l) (i : ℕ) (li : i < length l.basis.now.row
         ratio_is =
             share-quotient (pos (unsigned_abs (get_or l.residuals.now i (pos 0)))) (pos (unsigned_abs (get_or l.coords.now i (pos 0)))) (over_of l) (nonzero (over_of l) line.held.shape.positive)
             ∙ ap₂ (λ x y. x *ℚ inverse y)
-              (sym (turned_share (get_or l.residuals.now i (pos 0)) (over_of l) (perturbed_side (model l).rows (model l).columns (at_of l) (outside_row (model l) (at_of l) (inverse_at l) i)) line.held.shape.positive
-                (λ some. by_residual some (λ e. share_some (get_or l.residuals.now i (pos 0)) (over_of l) line.held.shape.positive some (residual_here ∙ e))))
-              ∙ ap (turned (perturbed_side (model l).rows (model l).columns (at_of l) (outside_row (model l) (at_of l) (inverse_at l) i))) residual_here)
-              (sym (abs_share (get_or l.coords.now i (pos 0)) (over_of l) line.held.shape.positive) ∙ ap abs_ℚ coord_here)
+            (sym (turned_share (get_or l.residuals.now i (pos 0)) (over_of l) (perturbed_side (model l).rows (model l).columns (at_of l) (outside_row (model l) (at_of l) (inverse_at l) i)) line.held.shape.positive
+            (λ some. by_residual some (λ e. share_some (get_or l.residuals.now i (pos 0)) (over_of l) line.held.shape.positive some (residual_here ∙ e))))
+            ∙ ap (turned (perturbed_side (model l).rows (model l).columns (at_of l) (outside_row (model l) (at_of l) (inverse_at l) i))) residual_here)
+            (sym (abs_share (get_or l.coords.now i (pos 0)) (over_of l) line.held.shape.positive) ∙ ap abs_ℚ coord_here)
             ∙ sym (turned-times (perturbed_side (model l).rows (model l).columns (at_of l) (outside_row (model l) (at_of l) (inverse_at l) i)) (residual (model l) (coefficient (model l) (at_of l) (inverse_at l)) i) (inverse (abs_ℚ (coord (model l) (inverse_at l) i l.position))));
       }

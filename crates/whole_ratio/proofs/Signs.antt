@@ -3,7 +3,7 @@ use Rattle.std.specs.Prelude.{◌≡◌, ◌≢◌, ◌⊎◌, ℕ, zero, suc, �
 use Rattle.std.specs.Ordering.{is_lt, is_gt, nat_cmp, int_cmp, ordering_reverse}
 use Rattle.std.specs.declared.cmp.Ordering.{Ordering}
 use Rattle.std.specs.declared.cmp.Ordering.TheVariants.{Less, Equal, Greater}
-use Rattle.std.proofs.Common.{refl, sym, ap, ap₂, subst, ◌∙◌, arith, mul-pos}
+use Rattle.std.proofs.Common.{refl, sym, ap, ap₂, subst, ◌∙◌, arith}
 use Rattle.std.proofs.lemmas.Int.{ints}
 use Rattle.exact_algebra.specs.Solver.{number, negated, ◌⊠◌, v0, v1}
 use Rattle.exact_algebra.specs.Rational.{ℚ, ◌*ℚ◌, neg_ℚ, whole, inverse, quotient, ◌≤ℚ◌}
@@ -110,9 +110,12 @@ turned_share (negsuc n) d o h side =
     past : negsuc n ≡ pos 0 → ⊥
     past e = omega (arith, ints)
 
+natural_mul : (a b : ℕ) → pos a *ℤ pos b ≡ pos (a * b)
+natural_mul a b = refl
+
 natural_cmp : (a b : ℕ) → int_cmp (pos a) (pos b) ≡ nat_cmp a b
 natural_cmp a b = grind (arith, ints)
 
 -- two shares of sizes compare by cross products
 pub cross_compare : (r c s e : ℕ) → 1 ≤ c → 1 ≤ e → cmp_ℚ (share (pos r) (pos c)) (share (pos s) (pos e)) ≡ nat_cmp (r * e) (s * c)
-cross_compare r c s e hc he = cmp_ℚ-quotient (record { num = pos r; den = c }) (record { num = pos s; den = e }) hc he ∙ ap₂ int_cmp (mul-pos r e) (mul-pos s c) ∙ natural_cmp (r * e) (s * c)
+cross_compare r c s e hc he = cmp_ℚ-quotient (record { num = pos r; den = c }) (record { num = pos s; den = e }) hc he ∙ ap₂ int_cmp (natural_mul r e) (natural_mul s c) ∙ natural_cmp (r * e) (s * c)

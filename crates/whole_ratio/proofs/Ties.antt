@@ -18,7 +18,12 @@ use Rattle.pivot_rule.proofs.Passing.{mover_some, is_outside}
 use Rattle.whole_inverse.specs.Shares.{share}
 use Rattle.whole_ratio.specs.declared.line.Line.{Line}
 use Rattle.whole_ratio.specs.declared.line.Mover.{Mover}
-use Rattle.whole_ratio.specs.Lines.{model, at_of, inverse_at, IsLine, IsMover, is_moving, comes_before}
+use Rattle.exact_algebra.specs.Fraction.{Fraction, rational}
+use Rattle.loss_model.specs.Problem.{value_at}
+use Rattle.lex_rule.specs.declared.less.Ratio.{Ratio}
+use Rattle.lex_rule.specs.Compared.{of_ratio, IsRatioAt}
+use Rattle.whole_ratio.specs.declared.order.RowValues.{RowValues}
+use Rattle.whole_ratio.specs.Lines.{model, at_of, inverse_at, IsLine, IsMover, is_moving, comes_before, IsRowValues}
 use Rattle.whole_ratio.proofs.Signs.{cross_compare}
 
 bool_is : (b : Bool) (o : Ordering) → (IsTrue b ↔ (o ≡ Less)) → b ≡ is_lt o
@@ -57,16 +62,37 @@ module _ (l : Line) (line : IsLine l) where
   moving_coord i h = mover_some (model l) (at_of l) (inverse_at l) l.position l.direction i h
 
   pub tie_exact : (i k : ℕ) (u v : Nonbasic) (less : Bool) → i < (model l).rows → k < (model l).rows → IsRowOf l i u → IsRowOf l k v
-      → ((rows : ℕ) → u.row < rows → v.row < rows → IsTrue less ↔ (lex_cmp (suc rows) (ratio rows (model l).columns (at_of l) l.position u) (ratio rows (model l).columns (at_of l) l.position v) ≡ Less))
+      → (n : ℕ) → n ≡ (model l).columns → ((rows : ℕ) → u.row < rows → v.row < rows → IsTrue less ↔ (lex_cmp (suc rows) (ratio rows n (at_of l) l.position u) (ratio rows n (at_of l) l.position v) ≡ Less))
       → less ≡ comes_before l i k
   unfolding comes_before
-  tie_exact i k u v less li lk hu hv h =
-      bool_is less _ (h (model l).rows (subst (λ r. r < (model l).rows) (sym hu.row) li) (subst (λ r. r < (model l).rows) (sym hv.row) lk))
+  tie_exact i k u v less li lk hu hv n e h =
+      bool_is less _ ((subst Q e h) (model l).rows (subst (λ r. r < (model l).rows) (sym hu.row) li) (subst (λ r. r < (model l).rows) (sym hv.row) lk))
       ∙ ap is_lt (lex_cmp-agree (suc (model l).rows)
-        (ratio (model l).rows (model l).columns (at_of l) l.position u) (ratio (model l).rows (model l).columns (at_of l) l.position v)
-        (ratio (model l).rows (model l).columns (at_of l) l.position (outside_row (model l) (at_of l) (inverse_at l) i)) (ratio (model l).rows (model l).columns (at_of l) l.position (outside_row (model l) (at_of l) (inverse_at l) k))
-        (ratio-agree (model l).rows (model l).columns (at_of l) l.position u (outside_row (model l) (at_of l) (inverse_at l) i) line.position hu.row hu.residual hu.coord)
-        (ratio-agree (model l).rows (model l).columns (at_of l) l.position v (outside_row (model l) (at_of l) (inverse_at l) k) line.position hv.row hv.residual hv.coord))
+      (ratio (model l).rows (model l).columns (at_of l) l.position u) (ratio (model l).rows (model l).columns (at_of l) l.position v)
+      (ratio (model l).rows (model l).columns (at_of l) l.position (outside_row (model l) (at_of l) (inverse_at l) i)) (ratio (model l).rows (model l).columns (at_of l) l.position (outside_row (model l) (at_of l) (inverse_at l) k))
+      (ratio-agree (model l).rows (model l).columns (at_of l) l.position u (outside_row (model l) (at_of l) (inverse_at l) i) line.position hu.row hu.residual hu.coord)
+      (ratio-agree (model l).rows (model l).columns (at_of l) l.position v (outside_row (model l) (at_of l) (inverse_at l) k) line.position hv.row hv.residual hv.coord))
+    where
+      Q : ℕ → Type 0
+      Q n = (rows : ℕ) → u.row < rows → v.row < rows → IsTrue less ↔ (lex_cmp (suc rows) (ratio rows n (at_of l) l.position u) (ratio rows n (at_of l) l.position v) ≡ Less)
+
+  -- the row as it is handed to the comparison
+  pub row_of : {F : Type 0} (value : F → Fraction) (i : ℕ) (v : RowValues F) (u : Ratio F) → IsRowValues value l i v → u.row ≡ i → u.residual ≡ v.residual → u.coords.now ≡ v.coords → IsRowOf l i (of_ratio value u)
+  row_of {F} value i v u h row res co =
+      record {
+        row = row;
+        residual = ap (λ (r : F). rational (value r)) res ∙ h.residual;
+        coord = λ j lj. ap (λ xs. value_at value xs j) co ∙ h.coords j lj;
+      }
+
+  pub ratio_at : {F : Type 0} (value : F → Fraction) (i : ℕ) (v : RowValues F) (u : Ratio F) → is_moving l i ≡ true → IsRowValues value l i v → u.row ≡ i → u.coords.now ≡ v.coords → IsRatioAt value l.basis.now.basis.now.rows l.position u
+  ratio_at value i v u moves h row co =
+      record {
+        outside = subst (λ n. IsOutside n (at_of l) u.row) (sym line.held.size) (subst (IsOutside (model l).columns (at_of l)) (sym row) (moving_outside i moves));
+        same = ap length co ∙ h.size ∙ sym line.held.size;
+        within = subst (λ n. l.position < n) (sym line.held.size) line.position;
+        some = λ none. moving_coord i moves (sym (h.coords l.position line.position) ∙ ap (λ xs. value_at value xs l.position) (sym co) ∙ none);
+      }
 
   -- where the cross products differ they decide
   pub first_decides : (m n : Mover) (o : Ordering) → IsMover l m → IsMover l n → o ≡ nat_cmp (m.residual * n.coord) (n.residual * m.coord) → is_eq o ≡ false → is_lt o ≡ comes_before l m.row n.row
@@ -74,8 +100,8 @@ module _ (l : Line) (line : IsLine l) where
   first_decides m n o h g is differ =
       ap is_lt (is ∙ sym (cross_compare m.residual m.coord n.residual n.coord h.some g.some) ∙ ap₂ cmp_ℚ h.ratio_is g.ratio_is
       ∙ sym (lex_cmp-first (suc (model l).rows) 0
-        (ratio (model l).rows (model l).columns (at_of l) l.position (outside_row (model l) (at_of l) (inverse_at l) m.row))
-        (ratio (model l).rows (model l).columns (at_of l) l.position (outside_row (model l) (at_of l) (inverse_at l) n.row))
-        (omega arith) (λ i li. absurd (omega (arith, li)))
-        (λ e. not_equal o differ (is ∙ sym (cross_compare m.residual m.coord n.residual n.coord h.some g.some)
-          ∙ (cmp_ℚ-Equal (share (pos m.residual) (pos m.coord)) (share (pos n.residual) (pos n.coord))).1 (h.ratio_is ∙ e ∙ sym g.ratio_is)))))
+      (ratio (model l).rows (model l).columns (at_of l) l.position (outside_row (model l) (at_of l) (inverse_at l) m.row))
+      (ratio (model l).rows (model l).columns (at_of l) l.position (outside_row (model l) (at_of l) (inverse_at l) n.row))
+      (omega arith) (λ i li. absurd (omega (arith, li)))
+      (λ e. not_equal o differ (is ∙ sym (cross_compare m.residual m.coord n.residual n.coord h.some g.some)
+      ∙ (cmp_ℚ-Equal (share (pos m.residual) (pos m.coord)) (share (pos n.residual) (pos n.coord))).1 (h.ratio_is ∙ e ∙ sym g.ratio_is)))))

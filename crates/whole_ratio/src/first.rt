@@ -1,5 +1,5 @@
 //! The first of the rows that move.
-ghost use Rattle.std.specs.Prelude.{◌≡◌, ℕ, ◌<◌, length, true, IfOk};
+ghost use Rattle.std.specs.Prelude.{◌≡◌, ℕ, ◌+◌, ◌<◌, length, true, IfOk};
 ghost use Rattle.walk_rule.specs.Walks.{IsFirstMover};
 ghost use Rattle.whole_ratio.specs.Lines.{IsLine, IsMover, IsMoverAt, IsFirstBelow, IsEarlierMover, model, at_of, inverse_at, is_moving};
 
@@ -10,7 +10,12 @@ use whole_inverse::Obstacle;
 
 impl<'a> Line<'a> {
     /// The one of two movers that comes first.
-    fn earlier<F: Exact>(&self, alloc: Global, first: Mover, second: Mover) -> Result<Mover, Obstacle>
+    fn earlier<F: Exact>(
+        &self,
+        alloc: Global,
+        first: Mover,
+        second: Mover,
+    ) -> Result<Mover, Obstacle>
         requires line { IsLine self.now }
         requires first { IsMover self.now first }
         requires second { IsMover self.now second }
@@ -25,7 +30,12 @@ impl<'a> Line<'a> {
     }
 
     /// The first of the movers up to a row, from that of those before it.
-    fn one_more<F: Exact>(&self, alloc: Global, best: Option<Mover>, row: u32) -> Result<Option<Mover>, Obstacle>
+    fn one_more<F: Exact>(
+        &self,
+        alloc: Global,
+        best: Option<Mover>,
+        row: u32,
+    ) -> Result<Option<Mover>, Obstacle>
         requires line { IsLine self.now }
         requires row { row < length self.now.basis.now.rows.now }
         requires best { IsFirstBelow self.now row best }

@@ -75,7 +75,12 @@ impl<'a> Line<'a> {
 
     /// Whether the perturbed ratio of one mover is less than that of another. All entries of the ratios are looked at
     /// only where the first ones agree.
-    pub(crate) fn precedes<F: Exact>(&self, alloc: Global, left: Mover, right: Mover) -> Result<bool, Obstacle>
+    pub(crate) fn precedes<F: Exact>(
+        &self,
+        alloc: Global,
+        left: Mover,
+        right: Mover,
+    ) -> Result<bool, Obstacle>
         requires line { IsLine self.now }
         requires left { IsMover self.now left }
         requires right { IsMover self.now right }
