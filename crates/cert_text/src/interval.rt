@@ -13,7 +13,7 @@ ghost use Rattle.cert_text.specs.Certificates.{end_kind, finite_members, infinit
 ghost use Rattle.cert_text.specs.Trees.{end_tree, interval_tree};
 
 use crate::fault::CertFault;
-use crate::keys::{no_more_keys, field, members};
+use crate::keys::{field, members, no_more_keys};
 use crate::parts::{FromJson, Name, ToJson, put};
 use crate::path::wrong_kind;
 use crate::vertex::{Signs, vertex};

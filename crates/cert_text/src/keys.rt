@@ -68,7 +68,10 @@ pub(crate) fn field<T: FromJson>(
 
 /// No key is left.
 #[tactic(auto, unfolding(crate::specs::Reading::no_more_keys))]
-pub(crate) fn no_more_keys(alloc: Global, rest: &mut Iter<'_, String, Value>) -> Result<(), CertFault>
+pub(crate) fn no_more_keys(
+    alloc: Global,
+    rest: &mut Iter<'_, String, Value>,
+) -> Result<(), CertFault>
     ensures ok { IfOk result (λ _. no_more_keys (members_view rest.old) ≡ Ok tt) }
     ensures err { IfErr result (λ e. e ≢ OutOfMemory → no_more_keys (members_view rest.old) ≡ Err e) }
 {

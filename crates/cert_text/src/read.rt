@@ -10,7 +10,7 @@ ghost use Rattle.cert_text.specs.declared.fault.CertFault.TheVariants.{NotJson};
 
 use crate::cert::Cert;
 use crate::fault::CertFault;
-use crate::keys::{no_more_keys, field, members};
+use crate::keys::{field, members, no_more_keys};
 use crate::parts::FromJson;
 use crate::path::{under_key, wrong_kind};
 use frac_core::{Frac128, List, MOST_COLUMNS, MOST_ROWS};

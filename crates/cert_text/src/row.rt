@@ -9,7 +9,7 @@ ghost use Rattle.cert_text.specs.Certificates.{row_members, row};
 ghost use Rattle.cert_text.specs.Trees.{row_tree};
 
 use crate::fault::CertFault;
-use crate::keys::{no_more_keys, field, members};
+use crate::keys::{field, members, no_more_keys};
 use crate::parts::{FromJson, ToJson, put};
 use frac_core::Frac128;
 use loss_model::Row;

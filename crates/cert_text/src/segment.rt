@@ -10,7 +10,7 @@ ghost use Rattle.cert_text.specs.Certificates.{segment_members, segment};
 ghost use Rattle.cert_text.specs.Trees.{segment_tree};
 
 use crate::fault::CertFault;
-use crate::keys::{no_more_keys, field, members};
+use crate::keys::{field, members, no_more_keys};
 use crate::parts::{FromJson, ToJson, put};
 use crate::vertex::{Signs, vertex};
 use frac_core::Frac128;

@@ -81,7 +81,11 @@ fn design_from(
 }
 
 // The design of the records that a coder keeps.
-fn build_kept(alloc: Global, coder: &Coder<'_>, used: &UsedColumns<'_>) -> Result<Design, DesignFault>
+fn build_kept(
+    alloc: Global,
+    coder: &Coder<'_>,
+    used: &UsedColumns<'_>,
+) -> Result<Design, DesignFault>
     requires numbered { All (λ i. i + 1 < 2 ^ 32) coder.now.records.now }
     requires fewer { length coder.now.records.now ≤ coder.now.frame.now.records }
     requires counted { coder.now.frame.now.records < 2 ^ 32 }
@@ -98,7 +102,7 @@ fn build_kept(alloc: Global, coder: &Coder<'_>, used: &UsedColumns<'_>) -> Resul
         return Err(DesignFault::NoColumns);
     }
     let count = column_count(coder.model.intercept, &terms);
-    if count > MOST_COLUMNS as usize {
+    if count > u64::from(MOST_COLUMNS) {
         return Err(DesignFault::TooManyColumns);
     }
     match design_from(alloc, coder, used, &terms) {

@@ -26,7 +26,10 @@ fn check_variables(alloc: Global, term: &[CodedVariable<'_>]) -> Result<(), Desi
 }
 
 /// Refuses terms of which a factor that is coded by contrasts has one level.
-pub(crate) fn check_terms(alloc: Global, terms: &[Vec<CodedVariable<'_>>]) -> Result<(), DesignFault>
+pub(crate) fn check_terms(
+    alloc: Global,
+    terms: &[Vec<CodedVariable<'_>>],
+) -> Result<(), DesignFault>
     ensures sound { OnOk result (terms_fault (terms_seen terms.now) ≡ None) }
     ensures fault { IfErr result (λ e. (e ≡ DesignFault.OutOfMemory)
         ⊎ (terms_fault (terms_seen terms.now) ≡ Some e)) }

@@ -232,7 +232,12 @@ impl<'a> Coder<'a> {
     }
 
     // The term of this number.
-    fn term(&self, alloc: Global, number: usize, term: &Term) -> Result<Vec<CodedVariable<'a>>, AllocError>
+    fn term(
+        &self,
+        alloc: Global,
+        number: usize,
+        term: &Term,
+    ) -> Result<Vec<CodedVariable<'a>>, AllocError>
         requires counted { length self.now.records.now < 2 ^ 32 }
         requires inside { number < length self.now.model.now.terms }
         ensures coded { IfOk result (λ vs. map coded_seen vs.items ≡ coded_term self.now.frame.now

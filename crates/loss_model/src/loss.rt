@@ -55,7 +55,7 @@ pub fn down_cost_at<F: Exact>(problem: &Problem<F>, row: u32, theta: F) -> Resul
 
 // The cost of the side on which a residual lies, and the size of the residual.
 #[derive(Clone, Copy)]
-struct SidePrice<F> {
+struct Priced<F> {
     cost: F,
     size: F,
 }
@@ -66,7 +66,7 @@ fn price<F: Exact>(
     row: u32,
     coef: &[F],
     theta: F,
-) -> Result<SidePrice<F>, Spill<F>>
+) -> Result<Priced<F>, Spill<F>>
     requires shaped { IsWellShaped problem.now }
     requires coefs { length coef.now ≡ problem.now.columns }
     requires inside { row < length problem.now.rows }
@@ -81,10 +81,10 @@ fn price<F: Exact>(
     if residual.sign() < 0 {
         let cost = down_cost_at(problem, row, theta)?;
         let size = residual.neg();
-        Ok(SidePrice { cost, size })
+        Ok(Priced { cost, size })
     } else {
         let cost = up_cost_at(problem, row, theta)?;
-        Ok(SidePrice {
+        Ok(Priced {
             cost,
             size: residual,
         })

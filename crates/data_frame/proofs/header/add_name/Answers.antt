@@ -12,7 +12,7 @@ returns-then-not-is_new c =
 
 pub returns : goal.returns
 returns c =
-    let pushed = c.in_ok-add.ensures.added in
+    let pushed : c.add.new.self ≡ c.args.texts.now ++ c.args.name.now ∷ [] = search rules in
     let added = c.in_ok-is_new.ensures.added in (
       good_name c.args.column c.args.texts.now c.args.name.now c.in_ok-key.key c.args.places.now.keys c.in_ok-is_new.is_new
           (sym c.is_empty.ensures ∙ c.if-is_empty.false) c.in_ok-key.ensures.ok c.requires added c.if-not-is_new.false,

@@ -24,12 +24,12 @@ returns-then-has_no_columns-clause-fault c =
     let sound = ap (λ l. terms_fault (terms_seen l)) (sym c.deref.ensures.value) ∙ c.in_ok-check_terms.ensures.sound in
     inr (inl (late_empty _ _ _ _ _ coded sound (sym c.has_no_columns.ensures ∙ c.if-has_no_columns.true)))
 
-pub returns-then-count-gt128-clause-fault : goal.returns-then-count-gt128-clause-fault
-returns-then-count-gt128-clause-fault c =
+pub returns-then-count-from-clause-fault : goal.returns-then-count-from-clause-fault
+returns-then-count-from-clause-fault c =
     let sound = ap (λ l. terms_fault (terms_seen l)) (sym c.deref.ensures.value) ∙ c.in_ok-check_terms.ensures.sound in
     let same : length (columns_in c.args.coder.now.model.now.intercept (terms_seen c.deref-2.result.now)) ≡ length (columns_in c.args.coder.now.model.now.intercept (terms_seen c.in_ok-terms.terms.items)) =
     ap (λ l. length (columns_in c.args.coder.now.model.now.intercept (terms_seen l))) c.deref-2.ensures.value in
-    let many : 128 < length (columns_in c.args.coder.now.model.now.intercept (terms_seen c.in_ok-terms.terms.items)) = omega (arith, c.column_count-count.ensures, c.if-count-gt128.true) in
+    let many : 128 < length (columns_in c.args.coder.now.model.now.intercept (terms_seen c.in_ok-terms.terms.items)) = omega (arith, c.column_count-count.ensures, c.if-count-from.true) in
     let coded = coded_from _ _ _ _ (terms_seen c.in_ok-terms.terms.items) c.in_ok-terms.ensures.coded in
     inr (inl (late_many _ _ _ _ _ coded sound (sym c.has_no_columns.ensures ∙ c.if-has_no_columns.false) many))
 
@@ -42,7 +42,7 @@ design_from-requires-clause-usable c =
     let sound = ap (λ l. terms_fault (terms_seen l)) (sym c.deref.ensures.value) ∙ c.in_ok-check_terms.ensures.sound in
     let same : length (columns_in c.args.coder.now.model.now.intercept (terms_seen c.deref-2.result.now)) ≡ length (columns_in c.args.coder.now.model.now.intercept (terms_seen c.in_ok-terms.terms.items)) =
     ap (λ l. length (columns_in c.args.coder.now.model.now.intercept (terms_seen l))) c.deref-2.ensures.value in
-    let few : length (columns_in c.args.coder.now.model.now.intercept (terms_seen c.in_ok-terms.terms.items)) ≤ 128 = omega (arith, c.column_count-count.ensures, c.if-count-gt128.false) in
+    let few : length (columns_in c.args.coder.now.model.now.intercept (terms_seen c.in_ok-terms.terms.items)) ≤ 128 = omega (arith, c.column_count-count.ensures, c.if-count-from.false) in
     let P : List (Vec Held Global) → Type 0 = λ l. All (λ vs. All IsUsable vs.items) l in
     subst P (sym c.deref-3.ensures.value) (usable_from c.in_ok-terms.terms.items c.args.coder.now.model.now.intercept sound few)
 
@@ -51,7 +51,7 @@ returns-in-Ok-clause-sound c =
     let sound = ap (λ l. terms_fault (terms_seen l)) (sym c.deref.ensures.value) ∙ c.in_ok-check_terms.ensures.sound in
     let same : length (columns_in c.args.coder.now.model.now.intercept (terms_seen c.deref-2.result.now)) ≡ length (columns_in c.args.coder.now.model.now.intercept (terms_seen c.in_ok-terms.terms.items)) =
     ap (λ l. length (columns_in c.args.coder.now.model.now.intercept (terms_seen l))) c.deref-2.ensures.value in
-    let few : length (columns_in c.args.coder.now.model.now.intercept (terms_seen c.in_ok-terms.terms.items)) ≤ 128 = omega (arith, c.column_count-count.ensures, c.if-count-gt128.false) in
+    let few : length (columns_in c.args.coder.now.model.now.intercept (terms_seen c.in_ok-terms.terms.items)) ≤ 128 = omega (arith, c.column_count-count.ensures, c.if-count-from.false) in
     let coded = coded_from _ _ _ _ (terms_seen c.in_ok-terms.terms.items) c.in_ok-terms.ensures.coded in
     late_none _ _ _ _ _ coded sound (sym c.has_no_columns.ensures ∙ c.if-has_no_columns.false) few
 
@@ -60,7 +60,7 @@ returns-clause-fault c =
     let sound = ap (λ l. terms_fault (terms_seen l)) (sym c.deref.ensures.value) ∙ c.in_ok-check_terms.ensures.sound in
     let same : length (columns_in c.args.coder.now.model.now.intercept (terms_seen c.deref-2.result.now)) ≡ length (columns_in c.args.coder.now.model.now.intercept (terms_seen c.in_ok-terms.terms.items)) =
     ap (λ l. length (columns_in c.args.coder.now.model.now.intercept (terms_seen l))) c.deref-2.ensures.value in
-    let few : length (columns_in c.args.coder.now.model.now.intercept (terms_seen c.in_ok-terms.terms.items)) ≤ 128 = omega (arith, c.column_count-count.ensures, c.if-count-gt128.false) in
+    let few : length (columns_in c.args.coder.now.model.now.intercept (terms_seen c.in_ok-terms.terms.items)) ≤ 128 = omega (arith, c.column_count-count.ensures, c.if-count-from.false) in
     let coded = coded_from _ _ _ _ (terms_seen c.in_ok-terms.terms.items) c.in_ok-terms.ensures.coded in
     elim c.in-Err.ensures.fault [
       | inl memory ↦ inl memory

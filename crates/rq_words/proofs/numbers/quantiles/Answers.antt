@@ -22,7 +22,7 @@ returns-in_default c =
 pub loop-piece-preserved : goal.loop-piece-preserved
 loop-piece-preserved c =
     let turn = YieldsList-turn (YieldsList-from_str_split 44 c.args.text.now (lit< tt) (cc) (cc) (cc)) c.loop-piece.yielded _ c.loop-piece.yielded_by _ _ c.in-Some.piece c.in-Some.is c.next.ensures.steps in
-    let pushed = c.in_ok-add.ensures.added in
+    let pushed : c.add.new.self ≡ c.loop-piece.taus ++ c.in-Some-fraction.tau ∷ [] = search rules in
     let value : number_text c.in-Some.piece.now ≡ Some (number c.in-Some-fraction.tau) = search rules in
     let size = ap length c.as_slice.ensures in
     let more = length-append c.loop-piece.yielded (c.in-Some.piece ∷ []) in
