@@ -23,6 +23,7 @@ use Rattle.pivot_rule.specs.declared.direction.Direction.{Direction}
 use Rattle.pivot_rule.specs.declared.direction.Direction.TheVariants.{Upward, Downward}
 use Rattle.pivot_rule.specs.Duals.{◌<ℚ◌}
 use Rattle.pivot_rule.specs.Steps.{slope, HasNoNegativeSlope, is_towards, change, moves, is_before, passing, slope_before, IsLeaving, IsEntering, IsSolvingStep}
+use Rattle.walk_rule.specs.Walks.{IsFirstMover}
 use Rattle.scaled_model.specs.Scaled.{IsScaled, unscaled}
 use Rattle.scaled_model.proofs.ScalingLaws.{coord-scaled, residual-scaled, side_at-scaled, slope-scaled, perturbed_side-positive}
 
@@ -150,4 +151,14 @@ module _ (p q : Sample) (s : ℕ → ℚ) (ly lc : ℚ) (h : IsScaled p q s ly l
           turned = back (whole (pos 0)) (slope_before p at (unscaled s a) theta j d r +ℚ passing p at (unscaled s a) theta j r) (whole (pos 0)) (slope_before q at a theta j d r +ℚ passing q at a theta j r) zero_is
               (ap₂ (λ x y. x +ℚ y) before (passing-scaled theta j r lr) ∙ ring_ℚ (lc ∷ slope_before p at (unscaled s a) theta j d r ∷ passing p at (unscaled s a) theta j r ∷ []) (v0 ⊠ v1 ⊞ v0 ⊠ v2) (v0 ⊠ (v1 ⊞ v2)) refl) step.entering.turned;
         };
+      }
+
+  -- the row that enters first at the scaled problem does so at the problem
+  pub first_mover_back : (j : ℕ) (d : Direction) (r : ℕ) → j < p.columns → IsFirstMover q at a j d r → IsFirstMover p at (unscaled s a) j d r
+  first_mover_back j d r lj m =
+      let lr : r < p.rows = subst (λ n. r < n) h.rows m.row in
+      record {
+        row = lr;
+        mover = sym (moves-scaled j d r lr) ∙ m.mover;
+        least = λ i li moving other. sym (is_before-scaled j r i lj lr li) ∙ m.least i (subst (λ n. i < n) (sym h.rows) li) (moves-scaled j d i li ∙ moving) other;
       }

@@ -189,6 +189,7 @@ pub fn whole_problem<F: Exact>(
 ) -> Result<WholeProblem, Obstacle>
     requires shaped { IsWellShaped problem.now }
     ensures scaled { IfOk result (λ w. IsScaled (sample F.value problem.now) (whole_sample w) (factor_at w.factors) (factor_value w.response) (factor_value w.cost)) }
+    ensures wide { IfOk result (λ w. All (λ r. length r.x ≡ problem.now.columns) w.rows) }
     ensures factors { IfOk result (λ w. (k : ℕ) → k < problem.now.columns → factor_at w.factors k ≢ whole (pos 0)) }
     ensures response { IfOk result (λ w. ¬ (factor_value w.response ≤ℚ whole (pos 0))) }
     ensures cost { IfOk result (λ w. ¬ (factor_value w.cost ≤ℚ whole (pos 0))) }
