@@ -1,9 +1,9 @@
--- What whole numbers keep is a place.
-use Rattle.std.specs.Prelude.{◌≡◌, ◌≢◌, ◌⊎◌, ℕ, ℤ, ◌<◌, ◌≤◌, Bool, true, false, ◌==◌, if◌then◌else◌, List, [], ◌∷◌, length, slice_get, slice_index, slice_set, get_or, Option, Some, None, All, pos}
+-- What whole numbers keep is a basis.
+use Rattle.std.specs.Prelude.{◌≡◌, ◌≢◌, ◌⊎◌, ℕ, ◌<◌, ◌≤◌, Bool, true, false, ◌==◌, if◌then◌else◌, List, [], ◌∷◌, length, slice_index, slice_set, get_or, Option, pos}
 use Rattle.std.specs.Option.{option_map_or}
-use Rattle.std.proofs.Common.{arith, refl, sym, ap, subst, ◌∙◌, inl, inr, length-set}
+use Rattle.std.proofs.Common.{arith, refl, sym, ap, subst, ◌∙◌, inl, inr}
 use Rattle.std.proofs.lemmas.Bool.{cases_lt}
-use Rattle.std.proofs.lemmas.Option.{slice_get_past, slice_get_cases}
+use Rattle.std.proofs.lemmas.Option.{slice_get_past}
 use Rattle.exact_algebra.specs.Fraction.{Fraction}
 use Rattle.exact_algebra.specs.Solver.{number, ◌⊠◌, v0}
 use Rattle.exact_algebra.specs.Rational.{ℚ, ◌*ℚ◌, whole}
@@ -17,18 +17,15 @@ use Rattle.exact_matrices.proofs.MatrixLaws.{AreInverse-same}
 use Rattle.exact_matrices.specs.Exchange.{with_row}
 use Rattle.loss_model.specs.Problem.{sample}
 use Rattle.basis_model.specs.Basis.{IsBasis, coord}
-use Rattle.pivot_rule.specs.Trails.{EndsAt}
 use Rattle.pivot_rule.specs.Responses.{exchanged_rows}
 use Rattle.walk_rule.proofs.Trails.{list_exchanged}
-use Rattle.tableau_model.specs.Places.{IsPlace}
-use Rattle.whole_inverse.specs.Shares.{share, share_at, share_entries, whole_at}
-use Rattle.whole_inverse.specs.Squares.{WholeSquare, IsWholeSquare, inverse_of}
-use Rattle.scaled_model.specs.Scaled.{unscaled}
+use Rattle.whole_inverse.specs.Shares.{whole_at}
+use Rattle.whole_inverse.specs.Squares.{inverse_of}
 use Rattle.scaled_model.proofs.ScalingLaws.{unscaled_basis, coord-scaled}
 use Rattle.whole_rows.specs.declared.rows.WholeRow.{WholeRow}
-use Rattle.whole_rows.specs.Wholes.{factor_at, factor_value, of_whole, sample_of_rows}
+use Rattle.whole_rows.specs.Wholes.{factor_at, factor_value, sample_of_rows}
 use Rattle.whole_solution.proofs.Reading.{row_read}
-use Rattle.whole_tableau.specs.Kept.{Kept, IsKept, wholes_of, place}
+use Rattle.whole_tableau.specs.Kept.{Kept, IsKept, IsBasisOf, wholes_of, place}
 
 -- rows with an inverse are different rows of the problem
 pub basis_from : (n : ℕ) (rows : List WholeRow) (at : ℕ → ℕ) (a : ℕ → ℕ → ℚ) → AreInverse n (λ j k. (sample_of_rows n rows).x (at j) k) a → IsBasis (sample_of_rows n rows) at a
@@ -55,34 +52,16 @@ basis_from n rows at a inv = record { distinct = record { within = within; apart
         ∙ ap (λ i. sum_ℚ n (λ m. (sample_of_rows n rows).x i m *ℚ a m j)) same
         ∙ inv.left k j lk lj ∙ if-other k j (whole (pos 1)) (whole (pos 0)) other)
 
--- numerators are 0 outside
-entries_past : (d : ℤ) (lists : List (List ℤ)) (n : ℕ) → length lists ≡ n → All (λ xs. length xs ≡ n) lists → (j k : ℕ) → ¬ ((k < n) × (j < n)) → share_entries d lists j k ≡ whole (pos 0)
-entries_past d lists n size square j k out = by (slice_get_cases lists j).1
-  where
-    by : (((xs : List ℤ) × (j < length lists) × (slice_get lists j ≡ Some xs) × (get_or lists j xs ≡ xs)) ⊎ ((length lists ≤ j) × (slice_get lists j ≡ None))) → share_entries d lists j k ≡ whole (pos 0)
-    by (inr p) = ap (λ (o : Option (List ℤ)). option_map_or (λ xs. share_at d xs k) o (whole (pos 0))) p.1
-    by (inl p) =
-        let wide : length p.0 ≡ n = subst (λ xs. length xs ≡ n) p.3 (square j p.0 p.1) in
-        let lj : j < n = omega (arith, size, p.1) in
-        ap (λ (o : Option (List ℤ)). option_map_or (λ xs. share_at d xs k) o (whole (pos 0))) p.2
-        ∙ last wide (cases_lt k n) lj
-      where
-        last : length p.0 ≡ n → (k < n) ⊎ (n ≤ k) → j < n → share_at d p.0 k ≡ whole (pos 0)
-        last wide (inl lk) lj = absurd (out (lk, lj))
-        last wide (inr past) lj = ap (λ (o : Option ℤ). option_map_or (λ n. share n d) o (whole (pos 0))) (slice_get_past p.0 k (omega (arith, wide, past)))
-
 module _ {F : Type 0} (value : F → Fraction) (k : Kept F) (h : IsKept value k) where
   pub whole_basis : IsBasis (wholes_of k) (slice_index k.rows) (inverse_of k.square)
   whole_basis = basis_from k.problem.columns k.setting.wholes.rows (slice_index k.rows) (inverse_of k.square) h.inverse
 
-  pub kept_is_place : IsPlace value (place value k)
-  kept_is_place =
+  pub kept_is_basis : IsBasisOf value (place value k)
+  kept_is_basis =
       record {
         shaped = h.shaped;
         size = h.size;
         is_basis = unscaled_basis (sample value k.problem) (wholes_of k) (factor_at k.setting.wholes.factors) (factor_value k.setting.wholes.response) (factor_value k.setting.wholes.cost) h.setting.scaled (inverse_of k.square) (slice_index k.rows) h.setting.factors whole_basis;
-        ends = λ i j out. ap (λ z. factor_at k.setting.wholes.factors i *ℚ z) (entries_past k.square.determinant k.square.columns k.problem.columns h.square (rw (h.square) at h.shape.square) j i out)
-            ∙ ring_ℚ (factor_at k.setting.wholes.factors i ∷ []) (v0 ⊠ number (pos 0)) (number (pos 0)) refl;
       }
 
 -- the coordinate of a row that was read
@@ -102,7 +81,7 @@ pub inverse_after : (n : ℕ) (rows : List WholeRow) (basis : List ℕ) (a : ℕ
     → AreInverse n (λ m k. (sample_of_rows n rows).x (slice_index (slice_set basis j i) m) k) a
 inverse_after n rows basis a j i r size inside is inv =
     AreInverse-same n (with_row (λ j k. (sample_of_rows n rows).x (slice_index basis j) k) j (whole_at r.x)) (λ m k. (sample_of_rows n rows).x (slice_index (slice_set basis j i) m) k) a a inv
-    (λ m k lm lk. here m k ∙ ap (λ i. (sample_of_rows n rows).x i k) (sym (list_exchanged basis j i m (omega (arith, size, lm))))) (λ k m lk lm. refl)
+    (λ m k lm lk. sym (here m k ∙ ap (λ i. (sample_of_rows n rows).x i k) (sym (list_exchanged basis j i m (omega (arith, size, lm)))))) (λ k m lk lm. refl)
   where
     here : (m k : ℕ) → with_row (λ j k. (sample_of_rows n rows).x (slice_index basis j) k) j (whole_at r.x) m k ≡ (sample_of_rows n rows).x (exchanged_rows (slice_index basis) j i m) k
     here m k = by (m == j)

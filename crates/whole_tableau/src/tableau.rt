@@ -4,10 +4,9 @@ ghost use Rattle.exact_algebra.specs.Rational.{whole};
 ghost use Rattle.exact_matrices.specs.Matrices.{AreInverse};
 ghost use Rattle.loss_model.specs.Problem.{sample, IsWellShaped};
 ghost use Rattle.basis_model.specs.Basis.{coord};
-ghost use Rattle.tableau_model.specs.Places.{IsPlace};
 ghost use Rattle.whole_inverse.specs.Squares.{inverse_of};
 ghost use Rattle.whole_rows.specs.Wholes.{sample_of_rows};
-ghost use Rattle.whole_tableau.specs.Kept.{IsSetting, IsKept, place};
+ghost use Rattle.whole_tableau.specs.Kept.{IsSetting, IsKept, IsBasisOf, place};
 
 use crate::setting::Setting;
 use frac_core::Exact;
@@ -49,8 +48,8 @@ impl<'a, F: Exact> WholeTableau<'a, F> {
         requires square { length inverse.columns ≡ problem.now.columns }
         requires inverse { AreInverse problem.now.columns (λ j k. (sample_of_rows problem.now.columns setting.wholes.rows).x (slice_index basis.rows j) k) (inverse_of inverse) }
         ensures problem { result.problem ≡ problem.now }
-        ensures rows { result.rows ≡ basis.entry.rows }
-        ensures place { IsPlace F.value (place F.value result) }
+        ensures rows { result.rows ≡ basis.rows }
+        ensures basis { IsBasisOf F.value (place F.value result) }
     {
         WholeTableau {
             problem,
@@ -63,7 +62,7 @@ impl<'a, F: Exact> WholeTableau<'a, F> {
     /// The rows of the basis by position.
     pub fn basis(&self) -> &Basis
         ensures rows { result.now.rows ≡ self.now.rows }
-        ensures place { IsPlace F.value (place F.value self.now) }
+        ensures basis { IsBasisOf F.value (place F.value self.now) }
     {
         &self.basis
     }
@@ -73,7 +72,7 @@ impl<'a, F: Exact> WholeTableau<'a, F> {
         requires position { step.position < self.old.problem.columns }
         requires row { step.row < length self.old.problem.rows }
         requires some { coord (sample F.value self.old.problem) (place F.value self.old).inverse step.row step.position ≢ whole (pos 0) }
-        ensures place { OnOk result (IsPlace F.value (place F.value self.new)) }
+        ensures basis { OnOk result (IsBasisOf F.value (place F.value self.new)) }
         ensures problem { OnOk result (self.new.problem ≡ self.old.problem) }
         ensures rows { OnOk result (self.new.rows ≡ slice_set self.old.rows step.position step.row) }
     {

@@ -1,5 +1,5 @@
 -- The parts of a setting.
-use Rattle.std.proofs.Common.{rules, ◌≡◌, subst}
+use Rattle.std.proofs.Common.{subst}
 use Rattle.loss_model.specs.Problem.{sample}
 use Rattle.scaled_model.specs.Scaled.{IsScaled}
 use Rattle.whole_rows.specs.Wholes.{factor_at, factor_value, sample_of_rows}
