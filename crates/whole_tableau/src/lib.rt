@@ -5,8 +5,8 @@
 //! over it; none is yet. It stands on `whole_solution`, and on `scaled_model` for the way back to the problem.
 #![tactic(auto)]
 
+mod body;
 mod setting;
-mod tableau;
 
+pub use body::WholeTableau;
 pub use setting::{Setting, setting_of};
-pub use tableau::WholeTableau;

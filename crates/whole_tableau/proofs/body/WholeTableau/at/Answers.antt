@@ -1,6 +1,6 @@
 use Rattle.whole_tableau.specs.Kept.{Kept}
 use Rattle.whole_tableau.proofs.Places.{kept_is_basis}
-use Rattle.whole_tableau.proofs.tableau.WholeTableau.at.Goals as goal
+use Rattle.whole_tableau.proofs.body.WholeTableau.at.Goals as goal
 
 pub returns-clause-basis : goal.returns-clause-basis
 returns-clause-basis g c =

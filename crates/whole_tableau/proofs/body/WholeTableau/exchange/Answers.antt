@@ -7,7 +7,7 @@ use Rattle.whole_inverse.specs.Squares.{inverse_of}
 use Rattle.whole_rows.specs.Wholes.{sample_of_rows}
 use Rattle.whole_tableau.specs.Kept.{Kept}
 use Rattle.whole_tableau.proofs.Places.{kept_is_basis, coordinate_read, inverse_after}
-use Rattle.whole_tableau.proofs.tableau.WholeTableau.exchange.Goals as goal
+use Rattle.whole_tableau.proofs.body.WholeTableau.exchange.Goals as goal
 
 pub exchange-requires-clause-some : goal.exchange-requires-clause-some
 exchange-requires-clause-some g c =
