@@ -1,6 +1,9 @@
-//! Tests of certificates as text (`cert_text`): what is written, and every fault of what is read.
+//! Tests of certificates as text (`cert_text`): what is written, and every fault of what is read; and of what the
+//! checker (`cert_checker`) finds in them.
 #![tactic(auto)]
 
+#[cfg(test)]
+mod checks;
 #[cfg(test)]
 mod faults;
 #[cfg(test)]

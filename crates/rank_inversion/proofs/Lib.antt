@@ -1,1 +1,3 @@
+mod Operations
 mod Projections
+mod GramLaws

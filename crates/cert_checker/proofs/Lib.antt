@@ -1,0 +1,13 @@
+mod Spilled
+mod Decided
+mod Chains
+mod Steps
+mod Agrees
+mod Compared
+mod Priced
+mod Places
+mod Counts
+mod Extracts
+mod Worths
+mod Shown
+mod All

@@ -1,0 +1,704 @@
+//! The conditions on the segments of a certificate.
+
+ghost use Rattle.std.specs.Prelude.{◌≡◌, ◌≤◌, ◌<◌, ◌+◌, ◌^◌, ◌++◌, ℕ, List as list, [], length, slice_get, cond, eqb, if◌then◌else◌};
+ghost use Rattle.std.specs.Option.{option_map_or};
+ghost use Rattle.exact_algebra.specs.Fraction.{rational};
+ghost use Rattle.frac_core.specs.declared.frac128.Frac128.{Frac128 as Fraction128};
+ghost use Rattle.loss_model.specs.declared.process.Segment.{Segment as Piece};
+ghost use Rattle.loss_model.specs.Problem.{sample};
+ghost use Rattle.cert_checker.specs.Places.{value128};
+ghost use Rattle.cert_checker.specs.Formulas.{given};
+ghost use Rattle.cert_checker.specs.Tests.{Test, one, upto};
+ghost use Rattle.cert_checker.specs.Conditions.{each, zero_formula, low_of, high_of, side_in, dual_at_row, balance, bound_test, bounds, balances as balance_tests_of, losses as losses_of, loss_tests, cost_tests, row_costs, lo_at, hi_at, first_end, order_of_ends, joint_end, joint_tests, joints};
+ghost use Rattle.cert_checker.specs.Verdicts.{Decides};
+ghost use Rattle.cert_checker.specs.Views.{end_of};
+ghost use Rattle.cert_checker.specs.declared.relation.Relation.TheVariants.{AtMost, Below, Equal};
+ghost use Rattle.loss_model.specs.declared.vertex.Side.TheVariants.{Basic};
+
+use crate::formula::{Count, Expression, Negation, Number};
+use crate::leaves::{
+    Balance, BalanceTerms, DownCost, DualValue, EndView, Loss, LossTerms, Objective,
+    ObjectiveTerms, UpCost, rows, side,
+};
+use crate::place::{Place, Progress};
+use crate::relation::Relation;
+use crate::tests::{Both, Comparison, One, Tests, TestsOf, Then, decide_each};
+use crate::verdict::Failure;
+use frac_core::{Exact, Frac128, List};
+use loss_model::{Problem, Segment, Side, Spill};
+
+// ---- condition 2
+
+/// The costs of a row at both ends of the range.
+#[derive(Clone, Copy)]
+pub(crate) struct CostRows<'a> {
+    pub(crate) problem: &'a Problem<Frac128>,
+    pub(crate) lo: Frac128,
+    pub(crate) hi: Frac128,
+}
+
+impl CostRows<'_> {
+    // Neither cost is negative at a parameter; their tests begin with this number.
+    fn at(self, theta: Frac128, row: usize, inner: u32) -> Result<(), Failure>
+        requires row { row < 16384 }
+        requires inner { inner ≤ 3 }
+        ensures { Decides (cost_tests (sample value128 self.entry.problem.now) (rational (value128 theta)) row inner) result }
+    {
+        let problem = self.problem;
+        let index = row as u32 + 1;
+        let up = One {
+            at: Place {
+                condition: 2,
+                index,
+                inner,
+            },
+            parts: Comparison {
+                left: UpCost {
+                    problem,
+                    theta,
+                    row,
+                },
+                relation: Relation::AtLeast,
+                right: Count(0),
+            },
+        };
+        let down = One {
+            at: Place {
+                condition: 2,
+                index,
+                inner: inner + 1,
+            },
+            parts: Comparison {
+                left: DownCost {
+                    problem,
+                    theta,
+                    row,
+                },
+                relation: Relation::AtLeast,
+                right: Count(0),
+            },
+        };
+        Then {
+            first: up,
+            rest: down,
+        }
+        .decide()
+    }
+}
+
+impl TestsOf for CostRows<'_> {
+    ghost tests_of = { λ x i. row_costs (sample value128 x.problem.now) (rational (value128 x.lo)) (rational (value128 x.hi)) i };
+
+    ghost given_of = { λ x i. i < 16384 };
+
+    fn decide_of(self, i: usize) -> Result<(), Failure> {
+        self.at(self.lo, i, 1)?;
+        self.at(self.hi, i, 3)
+    }
+}
+
+// ---- conditions 4 and 5
+
+/// The bounds of the dual values of an end.
+#[derive(Clone, Copy)]
+pub(crate) struct BoundRows<'a> {
+    pub(crate) condition: u8,
+    pub(crate) index: u32,
+    pub(crate) end: EndView<'a>,
+}
+
+impl BoundRows<'_> {
+    // The dual value of a basic row is at most its up cost and at least its negated down cost.
+    fn basic(self, row: usize) -> Result<(), Failure>
+        requires { row < 16384 }
+        ensures { Decides (bound_test self.entry.condition self.entry.index (sample value128 self.entry.end.problem.now) (end_of self.entry.end) row Basic) result }
+    {
+        let problem = self.end.problem;
+        let theta = self.end.theta;
+        let dual = DualValue { end: self.end, row };
+        let up = UpCost {
+            problem,
+            theta,
+            row,
+        };
+        let down = DownCost {
+            problem,
+            theta,
+            row,
+        };
+        One {
+            at: Place {
+                condition: self.condition,
+                index: self.index,
+                inner: row as u32 + 1,
+            },
+            parts: Both {
+                first: Comparison {
+                    left: dual,
+                    relation: Relation::AtMost,
+                    right: up,
+                },
+                rest: Comparison {
+                    left: dual,
+                    relation: Relation::AtLeast,
+                    right: Negation(down),
+                },
+            },
+        }
+        .decide()
+    }
+}
+
+impl TestsOf for BoundRows<'_> {
+    ghost tests_of = { λ x i. bound_test x.condition x.index (sample value128 x.end.problem.now) (end_of x.end) i (side_in x.end.vertex.now i) };
+
+    ghost given_of = { λ x i. i < 16384 };
+
+    fn decide_of(self, i: usize) -> Result<(), Failure> {
+        match side(self.end.vertex, i) {
+            Side::Basic => self.basic(i),
+            Side::Up => Ok(()),
+            Side::Down => Ok(()),
+        }
+    }
+}
+
+// ---- condition 6
+
+/// The sums of dual value times entry at an end, whose tests are numbered behind so many others.
+#[derive(Clone, Copy)]
+pub(crate) struct BalanceColumns<'a> {
+    pub(crate) index: u32,
+    pub(crate) before: u32,
+    pub(crate) end: EndView<'a>,
+}
+
+impl TestsOf for BalanceColumns<'_> {
+    ghost tests_of = { λ x k. one 6 x.index (x.before + k + 1) (balance (sample value128 x.end.problem.now) (end_of x.end) k) Equal zero_formula };
+
+    ghost given_of = { λ x k. (k < 128) × (x.before ≤ 128) × (length x.end.problem.now.rows ≤ 16384) };
+
+    fn decide_of(self, i: usize) -> Result<(), Failure> {
+        One {
+            at: Place {
+                condition: 6,
+                index: self.index,
+                inner: self.before + i as u32 + 1,
+            },
+            parts: Comparison {
+                left: Balance {
+                    terms: BalanceTerms {
+                        end: self.end,
+                        column: i,
+                    },
+                },
+                relation: Relation::Equal,
+                right: Count(0),
+            },
+        }
+        .decide()
+    }
+}
+
+// ---- condition 7
+
+/// One end of a segment with the loss that is stated there; its tests begin with a number.
+#[derive(Clone, Copy)]
+pub(crate) struct LossAt<'a> {
+    pub(crate) index: u32,
+    pub(crate) inner: u32,
+    pub(crate) end: EndView<'a>,
+    pub(crate) stated: Frac128,
+}
+
+impl LossAt<'_> {
+    // The loss is that of the coefficients, and the sum of response times dual value.
+    fn decide(self) -> Result<(), Failure>
+        requires rows { length self.end.problem.now.rows ≤ 16384 }
+        requires columns { self.end.problem.now.columns ≤ 128 }
+        requires inner { self.inner ≤ 3 }
+        ensures { Decides (loss_tests (sample value128 self.entry.end.problem.now) self.entry.index (end_of self.entry.end) self.entry.stated self.entry.inner) result }
+    {
+        let loss = One {
+            at: Place {
+                condition: 7,
+                index: self.index,
+                inner: self.inner,
+            },
+            parts: Comparison {
+                left: Number(self.stated),
+                relation: Relation::Equal,
+                right: Loss {
+                    terms: LossTerms {
+                        problem: self.end.problem,
+                        theta: self.end.theta,
+                        coef: &self.end.vertex.coef,
+                    },
+                },
+            },
+        };
+        let objective = One {
+            at: Place {
+                condition: 7,
+                index: self.index,
+                inner: self.inner + 1,
+            },
+            parts: Comparison {
+                left: Number(self.stated),
+                relation: Relation::Equal,
+                right: Objective {
+                    terms: ObjectiveTerms { end: self.end },
+                },
+            },
+        };
+        Then {
+            first: loss,
+            rest: objective,
+        }
+        .decide()
+    }
+}
+
+// ---- condition 8
+
+/// The dual values where two segments meet.
+#[derive(Clone, Copy)]
+pub(crate) struct JointRows<'a> {
+    pub(crate) index: u32,
+    pub(crate) high: EndView<'a>,
+    pub(crate) low: EndView<'a>,
+}
+
+impl TestsOf for JointRows<'_> {
+    ghost tests_of = { λ x i. one 8 x.index (i + 1) (dual_at_row (sample value128 x.high.problem.now) (end_of x.high) i) Equal (dual_at_row (sample value128 x.low.problem.now) (end_of x.low) i) };
+
+    ghost given_of = { λ x i. i < 16384 };
+
+    fn decide_of(self, i: usize) -> Result<(), Failure> {
+        One {
+            at: Place {
+                condition: 8,
+                index: self.index,
+                inner: i as u32 + 1,
+            },
+            parts: Comparison {
+                left: DualValue {
+                    end: self.high,
+                    row: i,
+                },
+                relation: Relation::Equal,
+                right: DualValue {
+                    end: self.low,
+                    row: i,
+                },
+            },
+        }
+        .decide()
+    }
+}
+
+// ---- over all segments
+
+/// Tests of a segment, whose index counts from 1.
+pub(crate) trait SegmentTests: Copy {
+    /// The tests.
+    ghost segment_tests: { Self → ℕ → Piece Fraction128 → list Test };
+
+    /// What is known of the problem.
+    ghost segment_given: { Self → Type 0 };
+
+    /// Nothing where all are true.
+    fn decide_segment(self, index: u32, segment: &Segment<Frac128>) -> Result<(), Failure>
+        requires { segment_given self }
+        ensures { Decides (segment_tests self index segment.now) result };
+}
+
+/// The tests of all segments.
+#[derive(Clone, Copy)]
+pub(crate) struct Segments<'a, T> {
+    pub(crate) list: &'a List<Segment<Frac128>>,
+    pub(crate) of: T,
+}
+
+impl<T: SegmentTests> TestsOf for Segments<'_, T> {
+    ghost tests_of = { λ x j. option_map_or (T.segment_tests x.of (j + 1)) (slice_get x.list.now j) [] };
+
+    ghost given_of = { λ x j. (j < 2 ^ 20) × T.segment_given x.of };
+
+    fn decide_of(self, i: usize) -> Result<(), Failure> {
+        match self.list.as_slice().get(i) {
+            Some(segment) => self.of.decide_segment(i as u32 + 1, segment),
+            None => Ok(()),
+        }
+    }
+}
+
+/// Tests all segments, one after the other.
+pub(crate) fn decide_segments<T: SegmentTests>(
+    list: &List<Segment<Frac128>>,
+    of: T,
+) -> Result<(), Failure>
+    requires few { length list.now ≤ 2 ^ 20 }
+    requires given { T.segment_given of }
+    ensures { Decides (each list.now (T.segment_tests of)) result }
+{
+    let count = list.as_slice().len();
+    decide_each(count, Segments { list, of })
+}
+
+/// Tests all rows of a problem, one after the other.
+pub(crate) fn decide_rows<T: TestsOf>(problem: &Problem<Frac128>, of: T) -> Result<(), Failure>
+    requires { (i : ℕ) → i < length problem.now.rows → T.given_of of i }
+    ensures { Decides (upto (length problem.now.rows) (T.tests_of of)) result }
+{
+    let count = rows(problem);
+    decide_each(count, of)
+}
+
+/// Conditions 4 and 5: at the low ends, or at the high ends.
+#[derive(Clone, Copy)]
+pub(crate) struct Bounds<'a> {
+    pub(crate) problem: &'a Problem<Frac128>,
+    pub(crate) high: bool,
+}
+
+impl SegmentTests for Bounds<'_> {
+    ghost segment_tests = { λ x j s. cond x.high (bounds 5 (sample value128 x.problem.now) j (high_of s)) (bounds 4 (sample value128 x.problem.now) j (low_of s)) };
+
+    ghost segment_given = { λ x. length x.problem.now.rows ≤ 16384 };
+
+    fn decide_segment(self, index: u32, segment: &Segment<Frac128>) -> Result<(), Failure> {
+        if self.high {
+            let end = EndView {
+                problem: self.problem,
+                theta: segment.hi,
+                vertex: &segment.vertex,
+                basic: &segment.basic_hi,
+            };
+            return decide_rows(
+                self.problem,
+                BoundRows {
+                    condition: 5,
+                    index,
+                    end,
+                },
+            );
+        }
+        let end = EndView {
+            problem: self.problem,
+            theta: segment.lo,
+            vertex: &segment.vertex,
+            basic: &segment.basic_lo,
+        };
+        decide_rows(
+            self.problem,
+            BoundRows {
+                condition: 4,
+                index,
+                end,
+            },
+        )
+    }
+}
+
+/// Condition 6.
+#[derive(Clone, Copy)]
+pub(crate) struct Balances<'a> {
+    pub(crate) problem: &'a Problem<Frac128>,
+}
+
+impl SegmentTests for Balances<'_> {
+    ghost segment_tests = { λ x j s. balance_tests_of (sample value128 x.problem.now) j s };
+
+    ghost segment_given = { λ x. (length x.problem.now.rows ≤ 16384) × (x.problem.now.columns ≤ 128) };
+
+    fn decide_segment(self, index: u32, segment: &Segment<Frac128>) -> Result<(), Failure> {
+        let columns = self.problem.columns;
+        let low = EndView {
+            problem: self.problem,
+            theta: segment.lo,
+            vertex: &segment.vertex,
+            basic: &segment.basic_lo,
+        };
+        let high = EndView {
+            problem: self.problem,
+            theta: segment.hi,
+            vertex: &segment.vertex,
+            basic: &segment.basic_hi,
+        };
+        decide_each(
+            columns as usize,
+            BalanceColumns {
+                index,
+                before: 0,
+                end: low,
+            },
+        )?;
+        decide_each(
+            columns as usize,
+            BalanceColumns {
+                index,
+                before: columns,
+                end: high,
+            },
+        )
+    }
+}
+
+/// Condition 7.
+#[derive(Clone, Copy)]
+pub(crate) struct Losses<'a> {
+    pub(crate) problem: &'a Problem<Frac128>,
+}
+
+impl SegmentTests for Losses<'_> {
+    ghost segment_tests = { λ x j s. losses_of (sample value128 x.problem.now) j s };
+
+    ghost segment_given = { λ x. (length x.problem.now.rows ≤ 16384) × (x.problem.now.columns ≤ 128) };
+
+    fn decide_segment(self, index: u32, segment: &Segment<Frac128>) -> Result<(), Failure> {
+        let low = LossAt {
+            index,
+            inner: 1,
+            end: EndView {
+                problem: self.problem,
+                theta: segment.lo,
+                vertex: &segment.vertex,
+                basic: &segment.basic_lo,
+            },
+            stated: segment.loss_lo,
+        };
+        let high = LossAt {
+            index,
+            inner: 3,
+            end: EndView {
+                problem: self.problem,
+                theta: segment.hi,
+                vertex: &segment.vertex,
+                basic: &segment.basic_hi,
+            },
+            stated: segment.loss_hi,
+        };
+        low.decide()?;
+        high.decide()
+    }
+}
+
+/// Condition 8.
+#[derive(Clone, Copy)]
+pub(crate) struct Joints<'a> {
+    pub(crate) problem: &'a Problem<Frac128>,
+    pub(crate) list: &'a List<Segment<Frac128>>,
+}
+
+impl SegmentTests for Joints<'_> {
+    ghost segment_tests = { λ x j s. joints (sample value128 x.problem.now) x.list.now j s };
+
+    ghost segment_given = { λ x. length x.problem.now.rows ≤ 16384 };
+
+    fn decide_segment(self, index: u32, segment: &Segment<Frac128>) -> Result<(), Failure> {
+        match self.list.as_slice().get(index as usize) {
+            Some(next) => {
+                let high = EndView {
+                    problem: self.problem,
+                    theta: segment.hi,
+                    vertex: &segment.vertex,
+                    basic: &segment.basic_hi,
+                };
+                let low = EndView {
+                    problem: self.problem,
+                    theta: next.lo,
+                    vertex: &next.vertex,
+                    basic: &next.basic_lo,
+                };
+                decide_rows(self.problem, JointRows { index, high, low })
+            }
+            None => Ok(()),
+        }
+    }
+}
+
+// ---- condition 3
+
+// Where a segment of a list begins, and 0 beyond the last.
+fn low_at(list: &List<Segment<Frac128>>, place: usize) -> Frac128
+    ensures { rational (value128 result) ≡ lo_at list.now place }
+{
+    match list.as_slice().get(place) {
+        Some(segment) => segment.lo,
+        None => Frac128::zero(),
+    }
+}
+
+// Where it ends.
+fn high_at(list: &List<Segment<Frac128>>, place: usize) -> Frac128
+    ensures { rational (value128 result) ≡ hi_at list.now place }
+{
+    match list.as_slice().get(place) {
+        Some(segment) => segment.hi,
+        None => Frac128::zero(),
+    }
+}
+
+/// Where a segment of a list begins.
+#[derive(Clone, Copy)]
+pub(crate) struct LowEnd<'a> {
+    pub(crate) list: &'a List<Segment<Frac128>>,
+    pub(crate) place: usize,
+}
+
+impl Expression for LowEnd<'_> {
+    ghost formula = { λ x. given (lo_at x.list.now x.place) };
+
+    fn value(self, _at: Place, done: u32) -> Result<Progress, Spill<Frac128>> {
+        Ok(Progress {
+            value: low_at(self.list, self.place),
+            done,
+        })
+    }
+}
+
+/// Where it ends.
+#[derive(Clone, Copy)]
+pub(crate) struct HighEnd<'a> {
+    pub(crate) list: &'a List<Segment<Frac128>>,
+    pub(crate) place: usize,
+}
+
+impl Expression for HighEnd<'_> {
+    ghost formula = { λ x. given (hi_at x.list.now x.place) };
+
+    fn value(self, _at: Place, done: u32) -> Result<Progress, Spill<Frac128>> {
+        Ok(Progress {
+            value: high_at(self.list, self.place),
+            done,
+        })
+    }
+}
+
+/// The ends of the segments of a range.
+#[derive(Clone, Copy)]
+pub(crate) struct Ends<'a> {
+    pub(crate) list: &'a List<Segment<Frac128>>,
+    pub(crate) lo: Frac128,
+    pub(crate) hi: Frac128,
+}
+
+impl Ends<'_> {
+    // The first segment begins where the range does.
+    fn first(self, segment: usize) -> Result<(), Failure>
+        ensures { Decides (first_end self.entry.list.now (rational (value128 self.entry.lo)) segment) result }
+    {
+        if segment != 0 {
+            return Ok(());
+        }
+        One {
+            at: Place {
+                condition: 3,
+                index: 1,
+                inner: 1,
+            },
+            parts: Comparison {
+                left: LowEnd {
+                    list: self.list,
+                    place: 0,
+                },
+                relation: Relation::Equal,
+                right: Number(self.lo),
+            },
+        }
+        .decide()
+    }
+
+    // A segment has a length, but for a single one.
+    fn order(self, segment: usize) -> Result<(), Failure>
+        requires { segment < 2 ^ 20 }
+        ensures { Decides (order_of_ends self.entry.list.now segment) result }
+    {
+        let relation = order_in(self.list.as_slice().len());
+        One {
+            at: Place {
+                condition: 3,
+                index: segment as u32 + 1,
+                inner: 2,
+            },
+            parts: Comparison {
+                left: LowEnd {
+                    list: self.list,
+                    place: segment,
+                },
+                relation,
+                right: HighEnd {
+                    list: self.list,
+                    place: segment,
+                },
+            },
+        }
+        .decide()
+    }
+
+    // It ends where the next one begins, or where the range does.
+    fn joint(self, segment: usize) -> Result<(), Failure>
+        requires { segment < 2 ^ 20 }
+        ensures { Decides (joint_end self.entry.list.now (rational (value128 self.entry.hi)) segment) result }
+    {
+        let index = segment as u32 + 1;
+        let left = HighEnd {
+            list: self.list,
+            place: segment,
+        };
+        if segment + 1 == self.list.as_slice().len() {
+            return One {
+                at: Place {
+                    condition: 3,
+                    index,
+                    inner: 4,
+                },
+                parts: Comparison {
+                    left,
+                    relation: Relation::Equal,
+                    right: Number(self.hi),
+                },
+            }
+            .decide();
+        }
+        One {
+            at: Place {
+                condition: 3,
+                index,
+                inner: 3,
+            },
+            parts: Comparison {
+                left,
+                relation: Relation::Equal,
+                right: LowEnd {
+                    list: self.list,
+                    place: segment + 1,
+                },
+            },
+        }
+        .decide()
+    }
+}
+
+// How the ends of a segment stand to each other, where there are so many segments.
+fn order_in(count: usize) -> Relation
+    ensures { result ≡ (if eqb count 1 then AtMost else Below) }
+{
+    if count == 1 {
+        return Relation::AtMost;
+    }
+    Relation::Below
+}
+
+impl TestsOf for Ends<'_> {
+    ghost tests_of = { λ x j. first_end x.list.now (rational (value128 x.lo)) j ++ (order_of_ends x.list.now j ++ joint_end x.list.now (rational (value128 x.hi)) j) };
+
+    ghost given_of = { λ x j. j < 2 ^ 20 };
+
+    fn decide_of(self, i: usize) -> Result<(), Failure> {
+        self.first(i)?;
+        self.order(i)?;
+        self.joint(i)
+    }
+}

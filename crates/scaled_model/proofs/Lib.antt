@@ -1,0 +1,2 @@
+pub mod ScalingLaws
+pub mod StepLaws

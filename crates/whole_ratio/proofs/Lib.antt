@@ -1,0 +1,5 @@
+pub mod Signs
+pub mod Movers
+pub mod Ties
+pub mod FirstLaws
+pub mod ValueLists

@@ -1,0 +1,74 @@
+//! The first of the rows that move.
+ghost use Rattle.std.specs.Prelude.{◌≡◌, ℕ, ◌+◌, ◌<◌, length, true, IfOk};
+ghost use Rattle.walk_rule.specs.Walks.{IsFirstMover};
+ghost use Rattle.whole_ratio.specs.Lines.{IsLine, IsMover, IsMoverAt, IsFirstBelow, IsEarlierMover, model, at_of, inverse_at, is_moving};
+
+use crate::line::{Line, Mover};
+use frac_core::Exact;
+use std::alloc::Global;
+use whole_inverse::Obstacle;
+
+impl<'a> Line<'a> {
+    /// The one of two movers that comes first.
+    fn earlier<F: Exact>(
+        &self,
+        alloc: Global,
+        first: Mover,
+        second: Mover,
+    ) -> Result<Mover, Obstacle>
+        requires line { IsLine self.now }
+        requires first { IsMover self.now first }
+        requires second { IsMover self.now second }
+        requires after { first.row < second.row }
+        ensures { IfOk result (IsEarlierMover self.now first second) }
+    {
+        if self.precedes::<F>(alloc, second, first)? {
+            Ok(second)
+        } else {
+            Ok(first)
+        }
+    }
+
+    /// The first of the movers up to a row, from that of those before it.
+    fn one_more<F: Exact>(
+        &self,
+        alloc: Global,
+        best: Option<Mover>,
+        row: u32,
+    ) -> Result<Option<Mover>, Obstacle>
+        requires line { IsLine self.now }
+        requires row { row < length self.now.basis.now.rows.now }
+        requires best { IsFirstBelow self.now row best }
+        ensures { IfOk result (IsFirstBelow self.now (row + 1)) }
+    {
+        match self.mover_at(row) {
+            None => Ok(best),
+            Some(mover) => match best {
+                None => Ok(Some(mover)),
+                Some(first) => {
+                    let next = self.earlier::<F>(alloc, first, mover)?;
+                    Ok(Some(next))
+                }
+            },
+        }
+    }
+
+    /// The row that enters: the first of the rows that move.
+    pub fn first_mover<F: Exact>(&self, alloc: Global) -> Result<u32, Obstacle>
+        requires line { IsLine self.now }
+        requires some { (i : ℕ) × (i < length self.now.basis.now.rows.now) × (is_moving self.now i ≡ true) }
+        ensures { IfOk result (IsFirstMover (model self.now) (at_of self.now) (inverse_at self.now) self.now.position self.now.direction) }
+    {
+        let mut best = None;
+        for row in 0..self.sides.len() as u32 {
+            match self.one_more::<F>(alloc, best, row) {
+                Ok(next) => best = next,
+                Err(obstacle) => return Err(obstacle),
+            }
+        }
+        match best {
+            Some(mover) => Ok(mover.row),
+            None => unreachable!(),
+        }
+    }
+}

@@ -1,0 +1,14 @@
+//! The row that enters where a position leaves, in whole numbers: of the rows that move, the first by perturbed ratio.
+//!
+//! The one contract for the layers above: `Line::first_mover` gives that row, as it is defined in ℚ for the problem in
+//! whole numbers, or refuses. Ratios are compared by cross products, and where two agree, by all their entries, with the
+//! order of `lex_rule`. It stands on `whole_solution` for what stands at the basis.
+#![tactic(auto)]
+
+mod first;
+mod line;
+mod order;
+mod values;
+
+pub use line::Line;
+pub use values::{value_over, values_over};

@@ -1,0 +1,58 @@
+-- Inner. Rows in whole numbers, as the sample that they are.
+use Rattle.std.specs.Prelude.{◌≡◌, ℕ, ℤ, ◌<◌, ◌≤ℤ◌, List, length, slice_get, Option, Some, pos}
+use Rattle.std.specs.Option.{option_map_or}
+use Rattle.exact_algebra.specs.Fraction.{Fraction, rational}
+use Rattle.exact_algebra.specs.Rational.{ℚ, ◌*ℚ◌, whole}
+use Rattle.loss_model.specs.declared.problem.Row.{Row}
+use Rattle.loss_model.specs.Problem.{value_at}
+use Rattle.loss_model.specs.Sample.{Sample}
+use Rattle.whole_inverse.specs.Shares.{share, whole_at}
+use Rattle.whole_rows.specs.declared.factor.Factor.{Factor}
+use Rattle.whole_rows.specs.declared.rows.WholeRow.{WholeRow}
+use Rattle.whole_rows.specs.declared.rows.WholeProblem.{WholeProblem}
+
+abbrev pub factor_value : Factor → ℚ
+factor_value f = share f.over f.under
+
+pub record IsPositive (f : Factor) : Type 0 where
+  pub over : pos 1 ≤ℤ f.over
+  pub under : pos 1 ≤ℤ f.under
+
+-- factor k, or 1 beyond the last
+abbrev pub factor_at : List Factor → ℕ → ℚ
+factor_at fs k = option_map_or factor_value (slice_get fs k) (whole (pos 1))
+
+-- w is the row r with each entry times its factor, the response times fy, and the costs times fc
+pub record IsWholeRow {F : Type 0} (value : F → Fraction) (factors : List Factor) (fy fc : Factor) (r : Row F) (w : WholeRow) : Type 0 where
+  pub size : length w.x ≡ length r.x
+  pub x : (k : ℕ) → k < length r.x → whole_at w.x k ≡ factor_at factors k *ℚ value_at value r.x k
+  pub y : whole w.y ≡ factor_value fy *ℚ rational (value r.y)
+  pub up0 : whole w.up0 ≡ factor_value fc *ℚ rational (value r.up0)
+  pub up1 : whole w.up1 ≡ factor_value fc *ℚ rational (value r.up1)
+  pub down0 : whole w.down0 ≡ factor_value fc *ℚ rational (value r.down0)
+  pub down1 : whole w.down1 ≡ factor_value fc *ℚ rational (value r.down1)
+
+-- items of the same index are related
+abbrev pub ArePaired : {A B : Type 0} → (A → B → Type 0) → List A → List B → Type 0
+ArePaired {A} {B} R xs ys = (i : ℕ) (x : A) (y : B) → slice_get xs i ≡ Some x → slice_get ys i ≡ Some y → R x y
+
+-- a number of row i, or 0 beyond the last row
+abbrev pub of_whole : List WholeRow → (WholeRow → ℚ) → ℕ → ℚ
+of_whole rows number i = option_map_or number (slice_get rows i) (whole (pos 0))
+
+-- the sample that the rows are
+abbrev pub sample_of_rows : ℕ → List WholeRow → Sample
+sample_of_rows n rows =
+    record {
+      rows = length rows;
+      columns = n;
+      x = λ i k. of_whole rows (λ r. whole_at r.x k) i;
+      y = of_whole rows (λ r. whole r.y);
+      up0 = of_whole rows (λ r. whole r.up0);
+      up1 = of_whole rows (λ r. whole r.up1);
+      down0 = of_whole rows (λ r. whole r.down0);
+      down1 = of_whole rows (λ r. whole r.down1);
+    }
+
+abbrev pub whole_sample : WholeProblem → Sample
+whole_sample w = sample_of_rows w.columns w.rows

@@ -1,0 +1,8 @@
+pub mod Numbers
+pub mod Scanned
+pub mod Held
+pub mod Made
+pub mod Reading
+pub mod ShareProducts
+pub mod Balanced
+pub mod Weights

@@ -1,0 +1,88 @@
+-- Rows and items that were read.
+use Rattle.std.specs.Prelude.{◌≡◌, ℕ, zero, suc, ℤ, ◌+◌, ◌<◌, List, [], ◌∷◌, ◌++◌, length, get_or, slice_get, Option, Some, pos}
+use Rattle.std.specs.Option.{option_map_or}
+use Rattle.std.proofs.Common.{arith, refl, sym, ap, subst, ◌∙◌}
+use Rattle.std.proofs.lemmas.Option.{slice_get_read}
+use Rattle.exact_algebra.specs.Rational.{ℚ, ◌*ℚ◌, neg_ℚ, whole}
+use Rattle.exact_algebra.specs.RationalSums.{sum_ℚ}
+use Rattle.exact_algebra.proofs.RationalSumLaws.{sum_ℚ-same}
+use Rattle.std.specs.List.{All}
+use Rattle.std.proofs.lemmas.List.Elements.{All-append, All-cons, All-nil}
+use Rattle.whole_inverse.specs.Shares.{share, share_at, share_entries, whole_at}
+use Rattle.whole_solution.proofs.Balanced.{share_at-one}
+use Rattle.whole_rows.specs.declared.rows.WholeRow.{WholeRow}
+use Rattle.whole_rows.specs.Wholes.{of_whole, sample_of_rows}
+use Rattle.loss_model.specs.declared.vertex.Side.{Side}
+use Rattle.loss_model.specs.declared.vertex.Side.TheVariants.{Up, Down, Basic}
+use Rattle.basis_model.specs.declared.part.Part.{Part}
+use Rattle.basis_model.specs.declared.part.Part.TheVariants.{Constant, Linear}
+use Rattle.basis_model.specs.Basis.{bound_part}
+use Rattle.whole_solution.specs.Standing.{bound_of, side_in}
+
+-- a number of a row that was read
+pub row_read : (rows : List WholeRow) (i : ℕ) (r : WholeRow) (f : WholeRow → ℚ) → i < length rows → r ≡ get_or rows i r → of_whole rows f i ≡ f r
+row_read rows i r f l e = ap (λ (o : Option WholeRow). option_map_or f o (whole (pos 0))) (slice_get_read rows (length rows) i r refl l e)
+
+-- the product of a row that was read, and a column
+pub product_of_row : (rows : List WholeRow) (i : ℕ) (r : WholeRow) (column : List ℤ) (x d : ℤ) → i < length rows → r ≡ get_or rows i r → length r.x ≡ length column
+    → share x d ≡ sum_ℚ (length r.x) (λ k. whole_at r.x k *ℚ share_at d column k)
+    → share x d ≡ sum_ℚ (length column) (λ k. of_whole rows (λ r. whole_at r.x k) i *ℚ share_at d column k)
+product_of_row rows i r column x d l e wide h =
+    h ∙ ap (λ n. sum_ℚ n (λ k. whole_at r.x k *ℚ share_at d column k)) wide
+    ∙ sum_ℚ-same (length column) (λ k. whole_at r.x k *ℚ share_at d column k) (λ k. of_whole rows (λ r. whole_at r.x k) i *ℚ share_at d column k)
+    (λ k lk. ap (λ z. z *ℚ share_at d column k) (sym (row_read rows i r (λ r. whole_at r.x k) l e)))
+
+-- a part of the bound of a row that was read
+pub bound_read : (n : ℕ) (rows : List WholeRow) (i : ℕ) (r : WholeRow) (part : Part) (side : Side) → i < length rows → r ≡ get_or rows i r → bound_of r part side ≡ bound_part (sample_of_rows n rows) part i side
+bound_read n rows i r Constant Up l e = sym (row_read rows i r (λ r. whole r.up0) l e)
+bound_read n rows i r Constant Down l e = ap neg_ℚ (sym (row_read rows i r (λ r. whole r.down0) l e))
+bound_read n rows i r Constant Basic l e = refl
+bound_read n rows i r Linear Up l e = sym (row_read rows i r (λ r. whole r.up1) l e)
+bound_read n rows i r Linear Down l e = ap neg_ℚ (sym (row_read rows i r (λ r. whole r.down1) l e))
+bound_read n rows i r Linear Basic l e = refl
+
+-- the side that was read
+pub side_read : (sides : List Side) (i : ℕ) (d : Side) → i < length sides → get_or sides i d ≡ side_in sides i
+side_read [] i d l = absurd (omega arith)
+side_read (s ∷ sides) zero d l = refl
+side_read (s ∷ sides) (suc i) d l = side_read sides i d (omega arith)
+
+-- one whole number more at the end
+pub whole_pushed : (made : List ℤ) (x : ℤ) (n : ℕ) (f : ℕ → ℚ) → length made ≡ n → ((k : ℕ) → k < n → whole_at made k ≡ f k) → whole x ≡ f n → (k : ℕ) → k < n + 1 → whole_at (made ++ x ∷ []) k ≡ f k
+whole_pushed [] x zero f size h e zero l = e
+whole_pushed [] x zero f size h e (suc k) l = absurd (omega arith)
+whole_pushed [] x (suc n) f size h e k l = absurd (omega arith)
+whole_pushed (y ∷ made) x zero f size h e k l = absurd (omega arith)
+whole_pushed (y ∷ made) x (suc n) f size h e zero l = h 0 (omega arith)
+whole_pushed (y ∷ made) x (suc n) f size h e (suc k) l =
+    whole_pushed made x n (λ k. f (suc k)) (omega arith) (λ k l. h (suc k) (omega arith)) e k (omega arith)
+
+-- one side more at the end
+pub side_pushed : (made : List Side) (x : Side) (n : ℕ) (f : ℕ → Side) → length made ≡ n → ((k : ℕ) → k < n → side_in made k ≡ f k) → x ≡ f n → (k : ℕ) → k < n + 1 → side_in (made ++ x ∷ []) k ≡ f k
+side_pushed [] x zero f size h e zero l = e
+side_pushed [] x zero f size h e (suc k) l = absurd (omega arith)
+side_pushed [] x (suc n) f size h e k l = absurd (omega arith)
+side_pushed (y ∷ made) x zero f size h e k l = absurd (omega arith)
+side_pushed (y ∷ made) x (suc n) f size h e zero l = h 0 (omega arith)
+side_pushed (y ∷ made) x (suc n) f size h e (suc k) l =
+    side_pushed made x n (λ k. f (suc k)) (omega arith) (λ k l. h (suc k) (omega arith)) e k (omega arith)
+
+pub size_pushed : {X : Type 0} (made : List X) (x : X) (n : ℕ) → length made ≡ n → length (made ++ x ∷ []) ≡ n + 1
+size_pushed [] x n e = omega (arith, e)
+size_pushed (y ∷ made) x zero e = absurd (omega arith)
+size_pushed (y ∷ made) x (suc n) e =
+    let h = size_pushed made x n (omega arith) in
+    omega arith
+
+-- one column more at the end
+pub entries_pushed : (made : List (List ℤ)) (xs : List ℤ) (n m : ℕ) (f : ℕ → ℕ → ℚ) → length made ≡ n → ((k i : ℕ) → k < n → i < m → share_entries (pos 1) made k i ≡ f k i) → ((i : ℕ) → i < m → whole_at xs i ≡ f n i) → (k i : ℕ) → k < n + 1 → i < m → share_entries (pos 1) (made ++ xs ∷ []) k i ≡ f k i
+entries_pushed [] xs zero m f size h e zero i l li = share_at-one xs i ∙ e i li
+entries_pushed [] xs zero m f size h e (suc k) i l li = absurd (omega arith)
+entries_pushed [] xs (suc n) m f size h e k i l li = absurd (omega arith)
+entries_pushed (y ∷ made) xs zero m f size h e k i l li = absurd (omega arith)
+entries_pushed (y ∷ made) xs (suc n) m f size h e zero i l li = h 0 i (omega arith) li
+entries_pushed (y ∷ made) xs (suc n) m f size h e (suc k) i l li =
+    entries_pushed made xs n m (λ k. f (suc k)) (omega arith) (λ k i l. h (suc k) i (omega arith)) e k i (omega arith) li
+
+pub long_pushed : (made : List (List ℤ)) (xs : List ℤ) (m : ℕ) → All (λ xs. length xs ≡ m) made → length xs ≡ m → All (λ xs. length xs ≡ m) (made ++ xs ∷ [])
+long_pushed made xs m h e = All-append (λ xs. length xs ≡ m) made (xs ∷ []) h (All-cons (λ xs. length xs ≡ m) xs [] e (All-nil (λ xs. length xs ≡ m)))

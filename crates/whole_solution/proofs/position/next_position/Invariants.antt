@@ -1,0 +1,7 @@
+use Rattle.std.specs.Prelude.{slice_index}
+use Rattle.whole_inverse.specs.Shares.{whole_at}
+use Rattle.whole_solution.proofs.Scanned.{IsScanned}
+use Rattle.whole_solution.proofs.position.next_position.Given as goal
+
+abbrev pub invariant-loop-k : goal.invariant-loop-k
+invariant-loop-k l = IsScanned l.k (slice_index l.basis) (whole_at l.coords) (whole_at l.coords) 0 l.to l.end l.next

@@ -1,0 +1,148 @@
+//! The numerators of the coefficients at a basis, and of the residuals of all rows.
+ghost use Rattle.std.specs.Prelude.{◌≡◌, ℕ, ℤ, ◌<◌, ◌≤◌, ◌≤ℤ◌, All, length, slice_index, unsigned_abs, IfOk, IfSome, pos};
+ghost use Rattle.exact_algebra.specs.Rational.{◌-ℚ◌, ◌*ℚ◌, whole};
+ghost use Rattle.exact_algebra.specs.RationalSums.{sum_ℚ};
+ghost use Rattle.basis_model.specs.Basis.{coefficient};
+ghost use Rattle.whole_inverse.specs.Shares.{share, share_at, shares, whole_at};
+ghost use Rattle.whole_inverse.specs.Squares.{inverse_of};
+ghost use Rattle.whole_rows.specs.Wholes.{of_whole, sample_of_rows};
+
+use frac_core::List;
+use loss_model::Basis;
+use std::alloc::Global;
+use whole_inverse::{Obstacle, WholeInverse};
+use whole_rows::WholeRow;
+use wide_int::sum_of_products;
+
+/// The numerators of a column at all positions.
+fn column_of(alloc: Global, inverse: &WholeInverse, k: u32, n: u32) -> Result<List<i128>, Obstacle>
+    requires size { length inverse.now.columns ≡ n }
+    requires square { All (λ c. length c ≡ length inverse.now.columns) inverse.now.columns }
+    requires within { k < n }
+    ensures size { IfOk result (λ made. length made ≡ n) }
+    ensures each { IfOk result (λ made. (d : ℤ) (j : ℕ) → j < n → share_at d made j ≡ shares inverse.now.columns d k j) }
+{
+    let mut made = List::new(alloc);
+    for j in 0..n {
+        let column = inverse.numerators(j);
+        if made.push(column[k as usize]).is_err() {
+            return Err(Obstacle::OutOfMemory);
+        }
+    }
+    Ok(made)
+}
+
+/// The responses of the rows of a basis.
+fn responses(alloc: Global, rows: &[WholeRow], basis: &[u32]) -> Result<List<i128>, Obstacle>
+    requires { All (λ b. b < length rows.now) basis.now }
+    ensures size { IfOk result (λ made. length made ≡ length basis.now) }
+    ensures each { IfOk result (λ made. (j : ℕ) → j < length basis.now → whole_at made j ≡ of_whole rows.now (λ r. whole r.y) (slice_index basis.now j)) }
+{
+    let mut made = List::new(alloc);
+    for j in 0..basis.len() {
+        let row = &rows[basis[j] as usize];
+        if made.push(i128::from(row.y)).is_err() {
+            return Err(Obstacle::OutOfMemory);
+        }
+    }
+    Ok(made)
+}
+
+/// The numerator of the sum of the products of shares and whole numbers.
+pub fn product_of(column: &[i128], ys: &[i128]) -> Result<i128, Obstacle>
+    requires { length column.now ≡ length ys.now }
+    ensures { IfOk result (λ s. (d : ℤ) → share s d ≡ sum_ℚ (length column.now) (λ j. share_at d column.now j *ℚ whole_at ys.now j)) }
+{
+    match sum_of_products(column, ys) {
+        Some(s) => Ok(s),
+        None => Err(Obstacle::TooWide),
+    }
+}
+
+/// The numerator of a coefficient.
+fn coefficient_of(
+    alloc: Global,
+    inverse: &WholeInverse,
+    k: u32,
+    n: u32,
+    ys: &[i128],
+) -> Result<i128, Obstacle>
+    requires size { length inverse.now.columns ≡ n }
+    requires square { All (λ c. length c ≡ length inverse.now.columns) inverse.now.columns }
+    requires within { k < n }
+    requires same { length ys.now ≡ n }
+    ensures { IfOk result (λ s. (d : ℤ) → share s d ≡ sum_ℚ n (λ j. shares inverse.now.columns d k j *ℚ whole_at ys.now j)) }
+{
+    let column = column_of(alloc, inverse, k, n)?;
+    product_of(column.as_slice(), ys)
+}
+
+/// The numerators of all coefficients at a basis.
+pub fn coefficients(
+    alloc: Global,
+    inverse: &WholeInverse,
+    rows: &[WholeRow],
+    basis: &Basis,
+    n: u32,
+) -> Result<List<i128>, Obstacle>
+    requires size { length inverse.now.columns ≡ n }
+    requires square { All (λ c. length c ≡ length inverse.now.columns) inverse.now.columns }
+    requires basis { length basis.now.rows ≡ n }
+    requires within { All (λ b. b < length rows.now) basis.now.rows }
+    ensures size { IfOk result (λ made. length made ≡ n) }
+    ensures each { let p = sample_of_rows n rows.now in
+        IfOk result (λ made. (k : ℕ) → k < n → share_at inverse.now.determinant made k ≡ coefficient p (slice_index basis.now.rows) (inverse_of inverse.now) k) }
+{
+    let ys = responses(alloc, rows, basis.rows.as_slice())?;
+    let mut made = List::new(alloc);
+    for k in 0..n {
+        let number = coefficient_of(alloc, inverse, k, n, ys.as_slice())?;
+        if made.push(number).is_err() {
+            return Err(Obstacle::OutOfMemory);
+        }
+    }
+    Ok(made)
+}
+
+/// The numerator of what is left of a response, over the determinant over which the fit stands.
+fn residual_numerator(y: i64, fit: i128, determinant: i128) -> Option<i128>
+    requires { pos 1 ≤ℤ determinant }
+    ensures { IfSome result (λ r. share r determinant ≡ whole y -ℚ share fit determinant) }
+{
+    let level = i128::from(y).checked_mul(determinant)?;
+    let rest = level.checked_sub(fit)?;
+    Some(rest)
+}
+
+/// The numerator of a residual, or a refusal.
+fn residual_of(y: i64, fit: i128, determinant: i128) -> Result<i128, Obstacle>
+    requires { pos 1 ≤ℤ determinant }
+    ensures { IfOk result (λ r. share r determinant ≡ whole y -ℚ share fit determinant) }
+{
+    match residual_numerator(y, fit, determinant) {
+        Some(r) => Ok(r),
+        None => Err(Obstacle::TooWide),
+    }
+}
+
+/// The numerators of the residuals of all rows, from those of their fits.
+pub fn residuals(
+    alloc: Global,
+    rows: &[WholeRow],
+    fits: &[i128],
+    determinant: i128,
+) -> Result<List<i128>, Obstacle>
+    requires same { length fits.now ≡ length rows.now }
+    requires some { pos 1 ≤ℤ determinant }
+    ensures size { IfOk result (λ made. length made ≡ length rows.now) }
+    ensures each { IfOk result (λ made. (i : ℕ) → i < length rows.now → share_at determinant made i ≡ of_whole rows.now (λ r. whole r.y) i -ℚ share_at determinant fits.now i) }
+{
+    let mut made = List::new(alloc);
+    for i in 0..rows.len() {
+        let number = residual_of(rows[i].y, fits[i], determinant)?;
+        if made.push(number).is_err() {
+            return Err(Obstacle::OutOfMemory);
+        }
+    }
+    Ok(made)
+}

@@ -1,0 +1,44 @@
+//! The sign of a perturbed residual.
+ghost use Rattle.std.specs.Prelude.{◌≡◌, ℕ, ℤ, ◌<◌, ◌≤ℤ◌, length, slice_index, pos};
+ghost use Rattle.exact_algebra.specs.Rational.{neg_ℚ, whole};
+ghost use Rattle.exact_algebra.specs.Order.{cmp_ℚ};
+ghost use Rattle.basis_model.specs.Perturbed.{IsOutside, perturbed_side, side_of};
+ghost use Rattle.whole_inverse.specs.Shares.{share};
+ghost use Rattle.whole_solution.specs.Outside.{outside_of};
+
+use crate::position::next_position;
+use loss_model::{Basis, Side};
+
+/// The side of a number over any positive one.
+#[tactic(auto, using(crate::proofs::Numbers::side_above, crate::proofs::Numbers::side_below))]
+pub fn side_of_number(r: i128) -> Side
+    ensures { (d : ℤ) → pos 1 ≤ℤ d → result ≡ side_of (cmp_ℚ (share r d) (whole (pos 0))) }
+{
+    if r > 0 { Side::Up } else { Side::Down }
+}
+
+/// The side of a negated number over any positive one.
+#[tactic(auto, using(crate::proofs::Numbers::negated_above, crate::proofs::Numbers::negated_below))]
+fn side_of_negated(r: i128) -> Side
+    ensures { (d : ℤ) → pos 1 ≤ℤ d → result ≡ side_of (cmp_ℚ (neg_ℚ (share r d)) (whole (pos 0))) }
+{
+    if r < 0 { Side::Up } else { Side::Down }
+}
+
+/// The side of a row outside the basis, by the numerators of its residual and of its coordinates over
+/// any positive determinant: that of the residual, or where it is 0 that of the negated coordinate at
+/// the first row of the basis, in the order of the rows, which has one.
+pub fn perturbed_sign(residual: i128, coords: &[i128], basis: &Basis, row: u32) -> Side
+    requires same { length coords.now ≡ length basis.now.rows }
+    requires outside { IsOutside (length basis.now.rows) (slice_index basis.now.rows) row }
+    ensures { let n = length basis.now.rows in let at = slice_index basis.now.rows in
+        (d : ℤ) → pos 1 ≤ℤ d → (rows : ℕ) → row < rows → result ≡ perturbed_side rows n at (outside_of row residual coords.now d) }
+{
+    if residual != 0 {
+        return side_of_number(residual);
+    }
+    match next_position(basis.rows.as_slice(), coords, row) {
+        Some(k) => side_of_negated(coords[k]),
+        None => Side::Up,
+    }
+}

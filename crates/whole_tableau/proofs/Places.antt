@@ -1,0 +1,91 @@
+-- What whole numbers keep is a basis.
+use Rattle.std.specs.Prelude.{◌≡◌, ◌≢◌, ◌⊎◌, ℕ, ◌<◌, ◌≤◌, Bool, true, false, ◌==◌, if◌then◌else◌, List, [], ◌∷◌, length, slice_index, slice_set, get_or, Option, pos}
+use Rattle.std.specs.Option.{option_map_or}
+use Rattle.std.proofs.Common.{arith, refl, sym, ap, subst, ◌∙◌, inl, inr}
+use Rattle.std.proofs.lemmas.Bool.{cases_lt}
+use Rattle.std.proofs.lemmas.Option.{slice_get_past}
+use Rattle.exact_algebra.specs.Fraction.{Fraction}
+use Rattle.exact_algebra.specs.Solver.{number, ◌⊠◌, v0}
+use Rattle.exact_algebra.specs.Rational.{ℚ, ◌*ℚ◌, whole}
+use Rattle.exact_algebra.proofs.RationalLaws.{ring_ℚ}
+use Rattle.exact_algebra.proofs.RationalSumLaws.{sum_ℚ-same, sum_ℚ-zero}
+use Rattle.exact_algebra.specs.RationalSums.{sum_ℚ}
+use Rattle.exact_algebra.proofs.Inverses.{one-zero}
+use Rattle.exact_matrices.proofs.TermLaws.{if-same, if-other}
+use Rattle.exact_matrices.specs.Matrices.{AreInverse, coordinate}
+use Rattle.exact_matrices.proofs.MatrixLaws.{AreInverse-same}
+use Rattle.exact_matrices.specs.Exchange.{with_row}
+use Rattle.loss_model.specs.Problem.{sample}
+use Rattle.basis_model.specs.Basis.{IsBasis, coord}
+use Rattle.pivot_rule.specs.Responses.{exchanged_rows}
+use Rattle.walk_rule.proofs.Trails.{list_exchanged}
+use Rattle.whole_inverse.specs.Shares.{whole_at}
+use Rattle.whole_inverse.specs.Squares.{inverse_of}
+use Rattle.scaled_model.proofs.ScalingLaws.{unscaled_basis, coord-scaled}
+use Rattle.whole_rows.specs.declared.rows.WholeRow.{WholeRow}
+use Rattle.whole_rows.specs.Wholes.{factor_at, factor_value, sample_of_rows}
+use Rattle.whole_solution.proofs.Reading.{row_read}
+use Rattle.whole_tableau.specs.Kept.{Kept, IsKept, IsBasisOf, wholes_of, place}
+
+-- rows with an inverse are different rows of the problem
+pub basis_from : (n : ℕ) (rows : List WholeRow) (at : ℕ → ℕ) (a : ℕ → ℕ → ℚ) → AreInverse n (λ j k. (sample_of_rows n rows).x (at j) k) a → IsBasis (sample_of_rows n rows) at a
+basis_from n rows at a inv = record { distinct = record { within = within; apart = apart }; inverse = inv }
+  where
+    within : (j : ℕ) → j < n → at j < length rows
+    within j lj = by (cases_lt (at j) (length rows))
+      where
+        by : (at j < length rows) ⊎ (length rows ≤ at j) → at j < length rows
+        by (inl l) = l
+        by (inr past) =
+            absurd (one-zero (
+            sym (if-same j j (whole (pos 1)) (whole (pos 0)) refl) ∙ sym (inv.left j j lj lj)
+            ∙ sum_ℚ-same n (λ k. (sample_of_rows n rows).x (at j) k *ℚ a k j) (λ k. whole (pos 0))
+            (λ k lk. ap (λ (o : Option WholeRow). option_map_or (λ r. whole_at r.x k) o (whole (pos 0)) *ℚ a k j) (slice_get_past rows (at j) past) ∙ ring_ℚ (a k j ∷ []) (number (pos 0) ⊠ v0) (number (pos 0)) refl)
+            ∙ sum_ℚ-zero n))
+
+    apart : (j k : ℕ) → j < k → k < n → at j ≢ at k
+    apart j k ljk lk same =
+        let lj : j < n = omega arith in
+        let other : k ≢ j = λ e. omega arith in
+        one-zero (
+        sym (if-same j j (whole (pos 1)) (whole (pos 0)) refl) ∙ sym (inv.left j j lj lj)
+        ∙ ap (λ i. sum_ℚ n (λ m. (sample_of_rows n rows).x i m *ℚ a m j)) same
+        ∙ inv.left k j lk lj ∙ if-other k j (whole (pos 1)) (whole (pos 0)) other)
+
+module _ {F : Type 0} (value : F → Fraction) (k : Kept F) (h : IsKept value k) where
+  pub whole_basis : IsBasis (wholes_of k) (slice_index k.rows) (inverse_of k.square)
+  whole_basis = basis_from k.problem.columns k.setting.wholes.rows (slice_index k.rows) (inverse_of k.square) h.inverse
+
+  pub kept_is_basis : IsBasisOf value (place value k)
+  kept_is_basis =
+      record {
+        shaped = h.shaped;
+        size = h.size;
+        is_basis = unscaled_basis (sample value k.problem) (wholes_of k) (factor_at k.setting.wholes.factors) (factor_value k.setting.wholes.response) (factor_value k.setting.wholes.cost) h.setting.scaled (inverse_of k.square) (slice_index k.rows) h.setting.factors whole_basis;
+      }
+
+-- the coordinate of a row that was read
+pub coordinate_read : {F : Type 0} (value : F → Fraction) (k : Kept F) → IsKept value k → (i j : ℕ) (r : WholeRow) → i < length k.problem.rows → r ≡ get_or k.setting.wholes.rows i r
+    → coordinate (length r.x) (inverse_of k.square) (whole_at r.x) j ≡ coord (sample value k.problem) (place value k).inverse i j
+coordinate_read value k h i j r li is =
+    let inside : i < length k.setting.wholes.rows = subst (λ n. i < n) (sym h.setting.scaled.rows) li in
+    let wide : length r.x ≡ k.problem.columns = ap (λ (w : WholeRow). length w.x) is ∙ h.setting.wide i r inside in
+    ap (λ n. coordinate n (inverse_of k.square) (whole_at r.x) j) wide
+    ∙ sum_ℚ-same k.problem.columns (λ m. whole_at r.x m *ℚ inverse_of k.square m j) (λ m. (wholes_of k).x i m *ℚ inverse_of k.square m j)
+    (λ m lm. ap (λ z. z *ℚ inverse_of k.square m j) (sym (row_read k.setting.wholes.rows i r (λ r. whole_at r.x m) inside is)))
+    ∙ coord-scaled (sample value k.problem) (wholes_of k) (factor_at k.setting.wholes.factors) (factor_value k.setting.wholes.response) (factor_value k.setting.wholes.cost) h.setting.scaled (inverse_of k.square) i j li
+
+-- the inverse after a row has taken a position
+pub inverse_after : (n : ℕ) (rows : List WholeRow) (basis : List ℕ) (a : ℕ → ℕ → ℚ) (j i : ℕ) (r : WholeRow) → length basis ≡ n → i < length rows → r ≡ get_or rows i r
+    → AreInverse n (with_row (λ j k. (sample_of_rows n rows).x (slice_index basis j) k) j (whole_at r.x)) a
+    → AreInverse n (λ m k. (sample_of_rows n rows).x (slice_index (slice_set basis j i) m) k) a
+inverse_after n rows basis a j i r size inside is inv =
+    AreInverse-same n (with_row (λ j k. (sample_of_rows n rows).x (slice_index basis j) k) j (whole_at r.x)) (λ m k. (sample_of_rows n rows).x (slice_index (slice_set basis j i) m) k) a a inv
+    (λ m k lm lk. sym (here m k ∙ ap (λ i. (sample_of_rows n rows).x i k) (sym (list_exchanged basis j i m (omega (arith, size, lm)))))) (λ k m lk lm. refl)
+  where
+    here : (m k : ℕ) → with_row (λ j k. (sample_of_rows n rows).x (slice_index basis j) k) j (whole_at r.x) m k ≡ (sample_of_rows n rows).x (exchanged_rows (slice_index basis) j i m) k
+    here m k = by (m == j)
+      where
+        by : (t : Bool) → (if t then whole_at r.x k else (sample_of_rows n rows).x (slice_index basis m) k) ≡ (sample_of_rows n rows).x (if t then i else slice_index basis m) k
+        by true = sym (row_read rows i r (λ r. whole_at r.x k) inside is)
+        by false = refl
