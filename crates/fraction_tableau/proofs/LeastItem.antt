@@ -83,12 +83,17 @@ module _ {F : Type 0} (value : F → Fraction) (l : Line F) where
   unfolding IsLineSpill
   order_fault range e h = h
 
-  -- where some row moves, there are movers
-  pub some_mover : (xs : List (Mover F)) → AreMovers value l xs → (i : ℕ) × (i < length l.tableau.now.problem.rows) × (moves (model value l) (at_of value l) (inverse_of value l) l.position l.direction i ≡ true) → 0 < length xs
+  -- where there are no movers, no row moves
+  pub none_moves : (xs : List (Mover F)) → AreMovers value l xs → length xs ≡ 0 → (i : ℕ) → i < length l.tableau.now.problem.rows → moves (model value l) (at_of value l) (inverse_of value l) l.position l.direction i ≡ false
   unfolding is_moving
-  some_mover xs h (i, li, moving) =
-      let found : (k : ℕ) × (k < length xs) × (row_at xs k ≡ i) = h.all i li moving in
-      omega (arith, found.1)
+  none_moves xs h empty i li = by (moves (model value l) (at_of value l) (inverse_of value l) l.position l.direction i) refl
+    where
+      by : (t : Bool) → moves (model value l) (at_of value l) (inverse_of value l) l.position l.direction i ≡ t → t ≡ false
+      by false e = refl
+      by true e =
+          let found : (k : ℕ) × (k < length xs) × (row_at xs k ≡ i) = h.all i li e in
+          let none : ⊥ = omega (arith, found.1, empty) in
+          absurd none
 
 -- a coordinate of a row at the position overflows
 pub column_fault : {F : Type 0} (value : F → Fraction) (range : ℕ) (p : Sample) (at : ℕ → ℕ) (a : ℕ → ℕ → ℚ) (j : ℕ) (d : Direction) (e : Short F) → j < p.columns → IsShortOf (IsColumnSpill value range p a j) e → IsShortOf (IsOrderSpill value range p at a j d) e

@@ -2,7 +2,7 @@ pub mod Inverses
 pub mod Places
 pub mod Refusals
 pub mod Lists
-pub mod Ascending
+pub mod AscendingRows
 pub mod Vertices
 pub mod HeapLaws
 pub mod Items

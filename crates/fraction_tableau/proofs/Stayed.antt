@@ -28,10 +28,10 @@ module _ {F : Type 0} (value : F → Fraction) (h : Place F) (sol : BasicSolutio
     stands = standing_by value h theta sol is ended.duals ended.are_duals
 
     vertex_here : IsVertexAt value h.task.problem h.rows h.inverse (record { basis = record { rows = sorted }; sides = sol.sides; coef = sol.coef })
-    vertex_here = is_vertex value h theta standing sorted e.basic is_place stands increasing size same ended.size ended.each
+    vertex_here = is_vertex value h theta standing sorted is_place stands increasing size same
 
     duals_here : AreBasicDuals value h.task.problem theta h.rows h.inverse (record { basis = record { rows = sorted }; sides = sol.sides; coef = sol.coef }) e.basic
-    duals_here = basic_duals value h theta standing sorted e.basic is_place stands increasing size same ended.size ended.each
+    duals_here = basic_duals value h theta standing sorted is_place stands increasing size same e.basic ended.size ended.each
 
   pub segment_here : (from to : F) (low high : EndValues F) → IsEnded value h (rational (value from)) sorted low → IsEnded value h (rational (value to)) sorted high
       → IsSegmentHere value h (rational (value from)) (rational (value to))

@@ -37,10 +37,9 @@ outside_side Less h = absurd (cc h)
 outside_side Equal h = absurd (cc h)
 outside_side Greater h = absurd (cc h)
 
-module _ {F : Type 0} (value : F → Fraction) (h : Place F) (theta : ℚ) (st : Standing F) (sorted : List ℕ) (basic : List F)
+module _ {F : Type 0} (value : F → Fraction) (h : Place F) (theta : ℚ) (st : Standing F) (sorted : List ℕ)
     (is_place : IsPlace value h) (stands : Stands value h theta st)
-    (increasing : IsStrictlyIncreasing sorted) (size : length sorted ≡ length h.rows) (same : (i : ℕ) → Contains sorted i ↔ Contains h.rows i)
-    (wide : length basic ≡ length sorted) (each : (k : ℕ) → k < length sorted → HasValueAt value h.rows st.duals sorted basic k) where
+    (increasing : IsStrictlyIncreasing sorted) (size : length sorted ≡ length h.rows) (same : (i : ℕ) → Contains sorted i ↔ Contains h.rows i) where
   basic_here : (i : ℕ) → slice_get st.sides i ≡ Some Basic → slice_get st.sides i ≡ Some (side_at (sample_of value h) (at_of h) h.inverse i) → Contains sorted i
   basic_here i b e = by (is_among (at_of h) h.task.problem.columns i) refl
     where
@@ -69,8 +68,9 @@ module _ {F : Type 0} (value : F → Fraction) (h : Place F) (theta : ℚ) (st :
         coef = stands.coef.each;
       }
 
-  pub basic_duals : AreBasicDuals value h.task.problem theta h.rows h.inverse (record { basis = record { rows = sorted }; sides = st.sides; coef = st.coef }) basic
-  basic_duals =
+  pub basic_duals : (basic : List F) → length basic ≡ length sorted → ((k : ℕ) → k < length sorted → HasValueAt value h.rows st.duals sorted basic k)
+      → AreBasicDuals value h.task.problem theta h.rows h.inverse (record { basis = record { rows = sorted }; sides = st.sides; coef = st.coef }) basic
+  basic_duals basic wide each =
       record {
         size = wide ∙ size ∙ is_place.size;
         each = λ j lj.

@@ -25,7 +25,7 @@ pub struct Affine<F> {
     pub linear: F,
 }
 
-/// The quantile at which a position leaves, and the direction.
+/// The value of a walk's parameter at which a position leaves, and the direction.
 #[derive(Clone, Copy)]
 pub struct Breakpoint<F> {
     pub theta: F,
@@ -97,7 +97,7 @@ fn meeting<F: Exact>(
 }
 
 /// The breakpoint of the two that comes first, and the first of equal ones.
-fn sooner<F: Exact>(
+pub fn sooner<F: Exact>(
     first: Option<Breakpoint<F>>,
     second: Option<Breakpoint<F>>,
 ) -> Option<Breakpoint<F>>

@@ -4,7 +4,7 @@ ghost use Rattle.exact_algebra.specs.Fraction.{rational};
 ghost use Rattle.exact_algebra.specs.Rational.{whole};
 ghost use Rattle.loss_model.specs.Sample.{up_cost, down_cost};
 ghost use Rattle.loss_model.specs.Spill.{IsUpCostSpill, IsDownCostSpill};
-ghost use Rattle.loss_model.specs.Quantities.{IsShortOf, IsCoordinatesSpill};
+ghost use Rattle.loss_model.specs.Quantities.{IsShortOf, IsCoordinatesSpill, IsExchangeSpill};
 ghost use Rattle.loss_model.specs.Problem.{sample, value_at, IsWellShaped};
 ghost use Rattle.loss_model.specs.Greedy.{IsGreedyBasis};
 ghost use Rattle.loss_model.specs.StartStop.{IsStartStop};
@@ -74,20 +74,38 @@ impl<'a, F: Exact> FractionTableau<'a, F> {
         })
     }
 
+    /// The basis of these rows, by position, with the inverse of them.
+    pub fn over(
+        alloc: Global,
+        problem: &'a Problem<F>,
+        basis: Basis,
+        inverse: Inverse<F>,
+    ) -> FractionTableau<'a, F>
+        requires kept { IsKept F.value (record { problem = problem.now; rows = basis.rows; square = inverse }) }
+        ensures { result ≡ record { problem = problem.now; rows = basis.rows; square = inverse } }
+    {
+        FractionTableau {
+            alloc,
+            problem,
+            basis,
+            inverse,
+        }
+    }
+
     /// Where its lists are made.
-    pub(crate) fn alloc(&self) -> Global {
+    pub fn alloc(&self) -> Global {
         self.alloc
     }
 
     /// The problem.
-    pub(crate) fn problem(&self) -> &Problem<F>
+    pub fn problem(&self) -> &Problem<F>
         ensures { result.now ≡ self.now.problem }
     {
         self.problem
     }
 
     /// How many columns the problem has.
-    pub(crate) fn columns(&self) -> u32
+    pub fn columns(&self) -> u32
         ensures kept { IsKept F.value self.now }
         ensures columns { result ≡ self.now.problem.columns }
     {
@@ -102,8 +120,16 @@ impl<'a, F: Exact> FractionTableau<'a, F> {
         &self.basis
     }
 
+    /// The inverse of the rows of the basis.
+    pub fn inverse(&self) -> &Inverse<F>
+        ensures kept { IsKept F.value self.now }
+        ensures inverse { result.now ≡ self.now.square }
+    {
+        &self.inverse
+    }
+
     /// The row at a position.
-    pub(crate) fn row_at(&self, position: u32) -> u32
+    pub fn row_at(&self, position: u32) -> u32
         requires { position < self.now.problem.columns }
         ensures row { result ≡ slice_index self.now.rows position }
         ensures within { result < length self.now.problem.rows }
@@ -112,7 +138,7 @@ impl<'a, F: Exact> FractionTableau<'a, F> {
     }
 
     /// The up cost of a row at theta.
-    pub(crate) fn up_cost(&self, row: u32, theta: F) -> Result<F, Spill<F>>
+    pub fn up_cost(&self, row: u32, theta: F) -> Result<F, Spill<F>>
         requires { row < length self.now.problem.rows }
         ensures exact { IfOk result (λ c. rational (F.value c) ≡ up_cost (sample F.value self.now.problem) (rational (F.value theta)) row) }
         ensures spill { IfErr result (IsUpCostSpill F.value F.range (sample F.value self.now.problem) (rational (F.value theta)) row) }
@@ -121,7 +147,7 @@ impl<'a, F: Exact> FractionTableau<'a, F> {
     }
 
     /// The down cost of a row at theta.
-    pub(crate) fn down_cost(&self, row: u32, theta: F) -> Result<F, Spill<F>>
+    pub fn down_cost(&self, row: u32, theta: F) -> Result<F, Spill<F>>
         requires { row < length self.now.problem.rows }
         ensures exact { IfOk result (λ c. rational (F.value c) ≡ down_cost (sample F.value self.now.problem) (rational (F.value theta)) row) }
         ensures spill { IfErr result (IsDownCostSpill F.value F.range (sample F.value self.now.problem) (rational (F.value theta)) row) }
@@ -151,7 +177,7 @@ impl<'a, F: Exact> FractionTableau<'a, F> {
     }
 
     /// The basic solution.
-    pub(crate) fn solution(&self) -> Result<BasicSolution<F>, Short<F>>
+    pub fn solution(&self) -> Result<BasicSolution<F>, Short<F>>
         ensures kept { IsKept F.value self.now }
         ensures solution { IfOk result (IsSolution F.value (sample F.value self.now.problem) (slice_index self.now.rows) (inverse_entry F.value self.now.square)) }
         ensures spill { IfErr result (IsShortOf (IsBasisSpill F.value F.range (sample F.value self.now.problem) (slice_index self.now.rows) (inverse_entry F.value self.now.square))) }
@@ -159,8 +185,27 @@ impl<'a, F: Exact> FractionTableau<'a, F> {
         basic_solution(self.alloc, self.problem, &self.inverse, &self.basis)
     }
 
-    /// Lets a row take a position at which its coordinate isn't 0. What is refused is refused to each
-    /// question of which this is the step.
+    /// Lets a row take a position at which its coordinate isn't 0.
+    pub fn enter(&mut self, step: Step) -> Result<(), Short<F>>
+        requires position { step.position < self.old.problem.columns }
+        requires row { step.row < length self.old.problem.rows }
+        requires some { coord (sample F.value self.old.problem) (inverse_entry F.value self.old.square) step.row step.position ≢ whole (pos 0) }
+        ensures kept { OnOk result (IsKept F.value self.new) }
+        ensures problem { OnOk result (self.new.problem ≡ self.old.problem) }
+        ensures rows { OnOk result (self.new.rows ≡ slice_set self.old.rows step.position step.row) }
+        ensures spill { let p = sample F.value self.old.problem in
+            IfErr result (IsShortOf (IsExchangeSpill F.value F.range p.columns (inverse_entry F.value self.old.square) (p.x step.row) step.row step.position)) }
+    {
+        let x = self.problem.rows.as_slice()[step.row as usize].x.as_slice();
+        match self.inverse.exchange(step.position, x, step.row) {
+            Ok(()) => {}
+            Err(short) => return Err(short),
+        }
+        self.basis.rows.replace(step.position, step.row);
+        Ok(())
+    }
+
+    /// The same. What is refused is refused to each question of which this is the step.
     pub fn exchange(&mut self, step: Step) -> Result<(), Refused<F>>
         requires position { step.position < self.old.problem.columns }
         requires row { step.row < length self.old.problem.rows }
@@ -170,13 +215,10 @@ impl<'a, F: Exact> FractionTableau<'a, F> {
         ensures rows { OnOk result (self.new.rows ≡ slice_set self.old.rows step.position step.row) }
         ensures refused { (asked : Question) → IsStepOf F.value (place F.value self.old) asked step.position step.row → IfErr result (IsRefusedOf (IsRefusalAt F.value F.range (place F.value self.old) asked)) }
     {
-        let x = self.problem.rows.as_slice()[step.row as usize].x.as_slice();
-        match self.inverse.exchange(step.position, x, step.row) {
-            Ok(()) => {}
-            Err(short) => return Err(refused(short)),
+        match self.enter(step) {
+            Ok(()) => Ok(()),
+            Err(short) => Err(refused(short)),
         }
-        self.basis.rows.replace(step.position, step.row);
-        Ok(())
     }
 
     /// The basis by position and its inverse.

@@ -1,20 +1,27 @@
 //! The row that enters at a breakpoint: of the rows that move, the first by perturbed ratio, found in
 //! one pass.
-ghost use Rattle.std.specs.Prelude.{◌≡◌, ℕ, ◌<◌, length, true, IfOk, IfErr};
+ghost use Rattle.std.specs.Prelude.{◌≡◌, ℕ, ◌<◌, length, slice_index, true, IfOk, IfErr};
+ghost use Rattle.loss_model.specs.Problem.{sample};
 ghost use Rattle.loss_model.specs.Quantities.{IsShortOf};
+ghost use Rattle.basis_inverse.specs.Square.{inverse_entry};
+ghost use Rattle.basic_solution.specs.Solutions.{IsSolution};
 ghost use Rattle.pivot_rule.specs.Steps.{moves};
 ghost use Rattle.walk_rule.specs.Walks.{IsFirstMover};
+ghost use Rattle.fraction_tableau.specs.Kept.{IsKept};
 ghost use Rattle.fraction_tableau.specs.Views.{IsView, sample_at, rows_at, entries_at};
 ghost use Rattle.fraction_tableau.specs.Lines.{IsLine, IsOrderSpill, IsLineSpill, AreMovers, row_at, comes_before};
-ghost use Rattle.fraction_tableau.specs.LeastRatio.{IsEarlier, IsFirstOn};
+ghost use Rattle.fraction_tableau.specs.LeastRatio.{IsEarlier, IsFirstOn, IsFirstMoverOrNone};
 
 use crate::crossings::Breakpoint;
+use crate::fractions::FractionTableau;
 use crate::line::{Line, Mover};
 use crate::movers::movers;
 use crate::order::precedes;
 use crate::view::BasisView;
+use basic_solution::BasicSolution;
 use frac_core::Exact;
 use loss_model::Short;
+use pivot_rule::Direction;
 
 /// The one of two movers that comes first.
 fn earlier<F: Exact>(
@@ -55,6 +62,44 @@ fn first_mover<F: Exact>(line: &Line<F>, movers: &[Mover<F>]) -> Result<u32, Sho
     Ok(movers[least].row)
 }
 
+impl<'a, F: Exact> FractionTableau<'a, F> {
+    /// The row that enters where a position leaves in a direction, or none where no row moves.
+    pub fn first_mover(
+        &self,
+        solution: &BasicSolution<F>,
+        position: u32,
+        direction: Direction,
+    ) -> Result<Option<u32>, Short<F>>
+        requires kept { IsKept F.value self.now }
+        requires solution { IsSolution F.value (sample F.value self.now.problem) (slice_index self.now.rows) (inverse_entry F.value self.now.square) solution.now }
+        requires position { position < self.now.problem.columns }
+        ensures first { let p = sample F.value self.now.problem in
+            IfOk result (IsFirstMoverOrNone p (slice_index self.now.rows) (inverse_entry F.value self.now.square) position direction) }
+        ensures spill { let p = sample F.value self.now.problem in
+            IfErr result (IsShortOf (IsOrderSpill F.value F.range p (slice_index self.now.rows) (inverse_entry F.value self.now.square) position direction)) }
+    {
+        let line = Line {
+            tableau: self,
+            residuals: solution.residuals.as_slice(),
+            theta: F::zero(),
+            position,
+            direction,
+        };
+        let coords = self.coordinates_at(position)?;
+        let found = movers(
+            self.alloc(),
+            &line,
+            solution.sides.as_slice(),
+            coords.as_slice(),
+        )?;
+        if found.is_empty() {
+            return Ok(None);
+        }
+        let row = first_mover(&line, found.as_slice())?;
+        Ok(Some(row))
+    }
+}
+
 impl<'a, F: Exact> BasisView<'a, F> {
     /// The row that enters where a position leaves at a breakpoint, if some row moves.
     pub(crate) fn entering_at(&self, next: Breakpoint<F>) -> Result<u32, Short<F>>
@@ -67,20 +112,13 @@ impl<'a, F: Exact> BasisView<'a, F> {
         ensures spill { let p = sample_at F.value self.now in let at = rows_at F.value self.now in let a = entries_at F.value self.now in
             IfErr result (IsShortOf (IsOrderSpill F.value F.range p at a next.position next.direction)) }
     {
-        let line = Line {
-            tableau: self.tableau,
-            residuals: self.solution.residuals.as_slice(),
-            theta: next.theta,
-            position: next.position,
-            direction: next.direction,
-        };
-        let coords = self.tableau.coordinates_at(next.position)?;
-        let found = movers(
-            self.tableau.alloc(),
-            &line,
-            self.solution.sides.as_slice(),
-            coords.as_slice(),
-        )?;
-        first_mover(&line, found.as_slice())
+        match self
+            .tableau
+            .first_mover(self.solution, next.position, next.direction)
+        {
+            Ok(Some(row)) => Ok(row),
+            Ok(None) => unreachable!(),
+            Err(short) => Err(short),
+        }
     }
 }

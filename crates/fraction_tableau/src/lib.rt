@@ -24,4 +24,7 @@ mod vertex;
 mod view;
 mod walking;
 
+pub use crossings::{Breakpoint, sooner};
 pub use fractions::FractionTableau;
+pub use standing::duals_at;
+pub use vertex::{ascending, by_row};

@@ -43,7 +43,7 @@ pub enum Next<F> {
 }
 
 /// The dual values at theta by position, from their two parts.
-pub(crate) fn duals_at<F: Exact>(
+pub fn duals_at<F: Exact>(
     alloc: Global,
     constant: &[F],
     linear: &[F],

@@ -71,9 +71,7 @@ fn factors<F: Exact>(
     let mut made = List::new(alloc);
     for other in 0..columns {
         let value = factor(inverse, column, other)?;
-        if made.push(value).is_err() {
-            return Err(Short::OutOfMemory);
-        }
+        made.add(value)?;
     }
     Ok(made)
 }

@@ -67,7 +67,7 @@ module _ {F : Type 0} (value : F → Fraction) (p : Problem F) where
           optimal_stays f (slice_index basis) (slice_index (slice_set basis k r)) a (exchanged p.columns a k (q.x r)) u k r step.direction b new_basis exchange step.break.position step.entering step.break.crosses.meets costs there
 
   -- a fact of a basis, at the basis to which steps have led
-  at_led : (solved : List ℕ) (steps : List (Exchange F)) (basis : List ℕ) (a : ℕ → ℕ → ℚ) → basis_after solved steps ≡ basis → length basis ≡ p.columns → IsBasis q (slice_index basis) a → EndsAt p.columns a
+  pub at_led : (solved : List ℕ) (steps : List (Exchange F)) (basis : List ℕ) (a : ℕ → ℕ → ℚ) → basis_after solved steps ≡ basis → length basis ≡ p.columns → IsBasis q (slice_index basis) a → EndsAt p.columns a
       → (Q : List ℕ → (ℕ → ℕ → ℚ) → Type 0) → Q basis a → AtBasis q (basis_after solved steps) (Q (basis_after solved steps))
   at_led solved steps basis a leads size b ends Q h =
       subst (λ basis. AtBasis q basis (Q basis)) (sym leads) (record { size = size; a = a; is_basis = b; ends = ends; holds = h })

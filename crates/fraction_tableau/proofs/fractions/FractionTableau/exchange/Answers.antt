@@ -1,44 +1,21 @@
-use Rattle.std.proofs.Common.{◌<◌, ℕ, length, refl, ap, sym, subst}
-use Rattle.loss_model.specs.Problem.{value_at}
+use Rattle.std.proofs.Common.{refl}
 use Rattle.loss_model.specs.Quantities.{IsExchangeSpill}
+use Rattle.loss_model.specs.Problem.{sample}
 use Rattle.basis_inverse.specs.Square.{inverse_entry}
-use Rattle.basis_inverse.proofs.Underway.{is_read}
 use Rattle.tableau_model.specs.Questions.{Question}
 use Rattle.fraction_tableau.specs.Kept.{place}
-use Rattle.fraction_tableau.proofs.Inverses.{at_read, inverse_after}
 use Rattle.fraction_tableau.proofs.Places.{kept_is_place}
 use Rattle.fraction_tableau.proofs.Refusals.{short_refused, exchange_spill}
 use Rattle.fraction_tableau.proofs.fractions.FractionTableau.exchange.Goals as goal
 
-pub invariant_of-self-2 : goal.invariant_of-self-2
-invariant_of-self-2 g c =
-    let before = c.self.inside in
-    let p = before.problem.now in
-    let xs = c.as_slice-x.result.now in
-    let exchanged = c.in-Ok.ensures {u = tt} in
-    let within = rw (← c.self.view_is) at c.requires.row in
-    let read = is_read p c.as_slice.result.now c.args.step.row c.index-as_slice-step.result xs c.self.invariant.shaped c.as_slice.ensures (subst (λ (n : ℕ). c.args.step.row < n) (sym (ap length c.as_slice.ensures)) within) c.index-as_slice-step.is c.as_slice-x.ensures in
-    record {
-      shaped = c.self.invariant.shaped;
-      inverse = rw c.replace.ensures.new (inverse_after g.F.Exact.value p before.basis.rows before.inverse c.exchange.new.self c.args.step.position c.args.step.row c.index-as_slice-step.result xs read c.self.invariant.inverse exchanged.rows exchanged.inverse exchanged.size);
-    }
-
-pub returns-clause-place : goal.returns-clause-place
-returns-clause-place g c = kept_is_place g.F.Exact.value _ (invariant_of-self-2 g c)
+pub returns-in-Ok-clause-place : goal.returns-in-Ok-clause-place
+returns-in-Ok-clause-place g c = kept_is_place g.F.Exact.value _ (c.in-Ok.ensures {u = tt}).kept
 
 pub returns-in-Err-clause-refused : goal.returns-in-Err-clause-refused
-returns-in-Err-clause-refused g c =
+returns-in-Err-clause-refused g c = λ (asked : Question) step.
     let value = g.F.Exact.value in
     let range = g.F.Exact.range in
-    let before = c.self.inside in
-    let p = before.problem.now in
-    let h = place value (record { problem = p; rows = before.basis.rows; square = before.inverse }) in
-    let xs = c.as_slice-x.result.now in
-    let a = inverse_entry value before.inverse in
-    let within = rw (← c.self.view_is) at c.requires.row in
-    let read = is_read p c.as_slice.result.now c.args.step.row c.index-as_slice-step.result xs c.self.invariant.shaped c.as_slice.ensures (subst (λ (n : ℕ). c.args.step.row < n) (sym (ap length c.as_slice.ensures)) within) c.index-as_slice-step.is c.as_slice-x.ensures in
-    rw (← c.self.view_is)
-    (λ (asked : Question) step. short_refused value range h asked (λ s. IsExchangeSpill value range (length xs) a (value_at value xs) c.args.step.row c.args.step.position s) c.in-Err.short c.refused.result refl
-    (λ s k. exchange_spill value range h asked c.args.step.position c.args.step.row s step
-    (at_read value p c.args.step.row c.index-as_slice-step.result xs read (λ n f. IsExchangeSpill value range n a f c.args.step.row c.args.step.position s) k))
-    (c.in-Err.ensures {u = tt}).spill c.refused.ensures)
+    let k = c.args.self.now in
+    let p = sample value k.problem in
+    short_refused value range (place value k) asked (IsExchangeSpill value range p.columns (inverse_entry value k.square) (p.x c.args.step.row) c.args.step.row c.args.step.position) c.in-Err.short c.refused.result refl
+    (λ s h. exchange_spill value range (place value k) asked c.args.step.position c.args.step.row s step h) (c.in-Err.ensures {u = tt}).spill c.refused.ensures

@@ -30,6 +30,6 @@ returns g c =
     let ordered = rw (c.as_slice-rows.ensures, c.basis.ensures.rows) at (c.in_ok-sorted.ensures {u = tt}) in
     let values = rw (c.as_slice-rows.ensures, c.basis.ensures.rows, c.as_slice-2.ensures, c.as_slice.ensures) at (c.in_ok-basic.ensures {u = tt}) in
     record {
-      vertex = is_vertex value h theta c.args.standing c.in_ok-sorted.sorted c.in_ok-basic.basic is_place c.requires ordered.increasing ordered.size ordered.same values.size values.each;
-      basic = basic_duals value h theta c.args.standing c.in_ok-sorted.sorted c.in_ok-basic.basic is_place c.requires ordered.increasing ordered.size ordered.same values.size values.each;
+      vertex = is_vertex value h theta c.args.standing c.in_ok-sorted.sorted is_place c.requires ordered.increasing ordered.size ordered.same;
+      basic = basic_duals value h theta c.args.standing c.in_ok-sorted.sorted is_place c.requires ordered.increasing ordered.size ordered.same c.in_ok-basic.basic values.size values.each;
     }
