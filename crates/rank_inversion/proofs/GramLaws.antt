@@ -3,6 +3,7 @@ use Rattle.std.specs.Prelude.{◌≡◌, ◌⊎◌, ℕ, zero, suc, ◌+◌, ◌
 use Rattle.std.specs.Option.{option_map_or}
 use Rattle.std.proofs.Common.{arith, refl, sym, ap, ap₂, subst, ◌∙◌, inl, inr}
 use Rattle.std.proofs.lemmas.Bool.{cases_lt}
+use Rattle.std.proofs.lemmas.List.{length_push}
 use Rattle.std.proofs.lemmas.Option.{slice_get_past, slice_get_read, slice_get_within, slice_get-get_or}
 use borrow.Author.Tests.{eqb-true, eqb-false}
 use Rattle.exact_algebra.specs.Fraction.{Fraction, rational}
@@ -108,12 +109,8 @@ module _ {F : Type 0} (value : F → Fraction) (p : Problem F) where
       end [] x = refl
       end (y ∷ xs) x = end xs x
 
-      long : (xs : List (Row F)) (x : Row F) → length (xs ++ x ∷ []) ≡ length xs + 1
-      long [] x = refl
-      long (y ∷ xs) x = ap suc (long xs x)
-
       within : k < length rows + 1
-      within = subst (λ n. k < n) (long rows r) (slice_get_within (rows ++ r ∷ []) k x is)
+      within = subst (λ n. k < n) (length_push rows r) (slice_get_within (rows ++ r ∷ []) k x is)
 
       by : (k < length rows) ⊎ (length rows ≤ k) → IsGramRow value p k x
       by (inl lk) = h k x (sym (front rows (r ∷ []) k lk) ∙ is)
@@ -140,17 +137,17 @@ module _ {F : Type 0} (value : F → Fraction) (p : Problem F) where
         entries = entry;
       }
     where
+      none : (xs : List (Row F)) (k : ℕ) → k < length xs → slice_get xs k ≢ None
+      none [] k l e = absurd (omega (arith, l))
+      none (x ∷ xs) zero l e = absurd (cc e)
+      none (x ∷ xs) (suc k) l e = none xs k (omega (arith, l)) e
+
       entry : (k l : ℕ) → k < p.columns → l < p.columns → (sample value (record { columns = p.columns; rows = rows })).x k l ≡ gram (sample value p) k l
       entry k l lk ll = by (slice_get rows k) refl
         where
           by : (o : Option (Row F)) → slice_get rows k ≡ o → (sample value (record { columns = p.columns; rows = rows })).x k l ≡ gram (sample value p) k l
           by (Some r) e = ap (λ (o : Option (Row F)). option_map_or (λ r. value_at value r.x l) o (whole (pos 0))) e ∙ (h k r e).each l ll
           by None e = absurd (none rows k (omega (arith, lk, all)) e)
-
-      none : (xs : List (Row F)) (k : ℕ) → k < length xs → slice_get xs k ≢ None
-      none [] k l e = absurd (omega (arith, l))
-      none (x ∷ xs) zero l e = absurd (cc e)
-      none (x ∷ xs) (suc k) l e = none xs k (omega (arith, l)) e
 
 -- ---- the inverse
 

@@ -10,7 +10,7 @@ use Rattle.loss_model.specs.Sample.{Sample}
 use Rattle.rank_law.specs.Restricted.{IsProjection, squared_length}
 use Rattle.rank_law.specs.Gram.{gram, projection_of}
 use Rattle.rank_law.proofs.Grams.{projects}
-use Rattle.rank_law.proofs.Lengths.{by_entries}
+use Rattle.rank_law.proofs.Lengths.{by_entries, one_length}
 
 module _ (p : Sample) (j : ℕ) (a : ℕ → ℕ → ℚ) (within : j < p.columns) (inv : AreInverse p.columns (gram p) a) where
   -- the diagonal entry isn't 0
@@ -29,3 +29,8 @@ module _ (p : Sample) (j : ℕ) (a : ℕ → ℕ → ℚ) (within : j < p.column
     positive =
         subst (λ z. whole (pos 0) <ℚ z) (sym (by_entries p j (projection_of a j) c within each (projects p j a within inv).0).1)
         (projects p j a within inv).3
+
+  -- the length that any projection leaves is one over the diagonal entry
+  pub length_by : (c : ℕ → ℚ) (length : ℚ) → IsProjection p j c → length ≡ squared_length p j c → length ≡ inverse (a j j)
+  length_by c length is e =
+      e ∙ one_length p j c (projection_of a j) within is (projects p j a within inv).0 ∙ (projects p j a within inv).1

@@ -56,12 +56,14 @@ fn measured<F: Exact>(
     ensures spill { IfErr result (IsShortOf (IsTestSpill F.value F.range problem.now asked.column (rational (F.value asked.tau)) (rational (F.value asked.crit)))) }
 {
     let Projected { factors, length } = project(alloc, problem, &gram.inverse, asked.column)?;
-    let bound = bound_by(asked, length)?;
-    Ok(RankTest {
-        asked,
-        factors,
-        bound,
-    })
+    match bound_by(asked, length) {
+        Ok(bound) => Ok(RankTest {
+            asked,
+            factors,
+            bound,
+        }),
+        Err(spill) => Err(Short::Overflow(spill)),
+    }
 }
 
 /// The rows of a start in which every position holds one.

@@ -15,8 +15,7 @@ ghost use Rattle.rank_inversion.specs.GramStops.{IsInverted, IsGramStop};
 use basis_inverse::{Inverse, start};
 use frac_core::{Exact, List};
 use loss_model::{
-    Basis, Problem, Quantity, Row, Short, Sign, Site, Spill, Stop, Trail, sum_of_products,
-    times_at,
+    Basis, Problem, Quantity, Row, Short, Sign, Site, Spill, Stop, Trail, sum_of_products, times_at,
 };
 use rank_law::laws;
 use std::alloc::Global;
@@ -64,10 +63,7 @@ fn scaled_column<F: Exact>(
 }
 
 /// All columns so.
-fn scaled_columns<F: Exact>(
-    alloc: Global,
-    problem: &Problem<F>,
-) -> Result<List<List<F>>, Short<F>>
+fn scaled_columns<F: Exact>(alloc: Global, problem: &Problem<F>) -> Result<List<List<F>>, Short<F>>
     requires shaped { IsWellShaped problem.now }
     ensures scaled { IfOk result (AreScaled F.value problem.now) }
     ensures spill { IfErr result (IsShortOf (IsScaledSpill F.value F.range (sample F.value problem.now))) }

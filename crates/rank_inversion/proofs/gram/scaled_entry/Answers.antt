@@ -1,4 +1,4 @@
-use Rattle.std.proofs.Common.{refl, ap₂, ◌∙◌}
+use Rattle.std.proofs.Common.{◌≡◌, List, get_or, refl, ap, ap₂, ◌∙◌}
 use Rattle.std.proofs.lemmas.Result.{err_from_is_err_and}
 use Rattle.exact_algebra.specs.Rational.{◌*ℚ◌}
 use Rattle.frac_core.specs.declared.exact.OpKind.TheVariants.{Mul}
@@ -13,7 +13,8 @@ returns-clause-exact g c =
     let value = g.F.Exact.value in
     let p = c.args.problem.now in
     let row_is = rw c.as_slice.ensures at c.index-as_slice-row.is in
-    let entry_is = rw (← c.index-as_slice-row.is, c.as_slice-2.ensures) at c.index-as_slice-column.is in
+    let same : c.as_slice-2.result.now ≡ c.index-as_slice-row.result.x = c.as_slice-2.ensures in
+    let entry_is = c.index-as_slice-column.is ∙ ap (λ (xs : List g.row.F.Denot). get_or xs c.args.column c.index-as_slice-column.result) same in
     (c.in_ok-entry.ensures {u = tt}).exact
     ∙ ap₂ (λ x y. x *ℚ y) (weight_read value p c.args.row c.args.column c.index-as_slice-row.result c.index-as_slice-column.result c.requires.row row_is)
     (entry_read value p c.args.row c.args.column c.index-as_slice-row.result c.index-as_slice-column.result c.requires.row row_is c.requires.shaped c.requires.column entry_is)
@@ -23,11 +24,13 @@ returns-in_err-entry-clause-spill g c =
     let value = g.F.Exact.value in
     let p = c.args.problem.now in
     let row_is = rw c.as_slice.ensures at c.index-as_slice-row.is in
-    let entry_is = rw (← c.index-as_slice-row.is, c.as_slice-2.ensures) at c.index-as_slice-column.is in
+    let same : c.as_slice-2.result.now ≡ c.index-as_slice-row.result.x = c.as_slice-2.ensures in
+    let entry_is = c.index-as_slice-column.is ∙ ap (λ (xs : List g.row.F.Denot). get_or xs c.args.column c.index-as_slice-column.result) same in
     let returned = err_from_is_err_and c.from_residual.result c.from_residual.ensures.1 in
     let refused = c.in_err-entry.ensures {u = tt} in
     let operands = rw c.new-site.ensures at refused.operands in
+    let over = refused.refused.0 refl in
     rw (returned.1, returned.2)
-    (operation value g.F.Exact.range (site_of ScaledEntry c.args.row c.args.column 1) Mul c.index-as_slice-row.result.up1 c.index-as_slice-column.result _ _ c.in_err-entry.field-0.0 operands (refused.refused.0 refl)
+    (operation value g.F.Exact.range (site_of ScaledEntry c.args.row c.args.column 1) Mul c.index-as_slice-row.result.up1 c.index-as_slice-column.result _ _ c.in_err-entry.field-0.0 operands over
     (weight_read value p c.args.row c.args.column c.index-as_slice-row.result c.index-as_slice-column.result c.requires.row row_is)
     (entry_read value p c.args.row c.args.column c.index-as_slice-row.result c.index-as_slice-column.result c.requires.row row_is c.requires.shaped c.requires.column entry_is))

@@ -1,0 +1,37 @@
+use Rattle.std.proofs.Common.{subst, inl, inr}
+use Rattle.std.proofs.lemmas.Result.{err_from_is_err_and}
+use Rattle.exact_algebra.specs.Fraction.{rational}
+use Rattle.loss_model.specs.Problem.{value_at, sample}
+use Rattle.basis_inverse.specs.Square.{inverse_entry}
+use Rattle.rank_inversion.specs.GramStops.{IsBoundSpill, IsTestSpill}
+use Rattle.rank_inversion.specs.Grams.{IsProjectingSpill}
+use Rattle.rank_inversion.proofs.Operations.{short_weaker}
+use Rattle.rank_inversion.proofs.Projections.{length_by}
+use Rattle.rank_inversion.proofs.column_test.measured.Goals as goal
+
+pub returns-in_err-factors-clause-spill : goal.returns-in_err-factors-clause-spill
+returns-in_err-factors-clause-spill g c =
+    let value = g.F.Exact.value in
+    let range = g.F.Exact.range in
+    let p = c.args.problem.now in
+    let asked = c.args.asked in
+    let gram = c.requires.gram.inverse in
+    let a = inverse_entry value c.args.gram.now.inverse in
+    let returned = err_from_is_err_and c.from_residual.result c.from_residual.ensures.1 in
+    rw (returned.1, returned.2)
+    (short_weaker (IsProjectingSpill value range p.columns a asked.column) (IsTestSpill value range p asked.column (rational (value asked.tau)) (rational (value asked.crit)))
+    (λ s k. (a, gram.inverse, inl k)) _ (c.in_err-factors.ensures {u = tt}).spill)
+
+pub returns-in-Err-clause-spill : goal.returns-in-Err-clause-spill
+returns-in-Err-clause-spill g c =
+    let value = g.F.Exact.value in
+    let p = c.args.problem.now in
+    let asked = c.args.asked in
+    let gram = c.requires.gram.inverse in
+    let a = inverse_entry value c.args.gram.now.inverse in
+    let made = c.in_ok-factors.ensures {u = tt} in (
+      a,
+      gram.inverse,
+      inr (subst (λ q. IsBoundSpill value g.F.Exact.range (rational (value asked.tau)) (rational (value asked.crit)) q c.in-Err.spill)
+          (length_by (sample value p) asked.column a c.requires.within gram.inverse (value_at value c.in_ok-factors.field-0.factors) _ made.projection made.length) (c.in-Err.ensures {u = tt}).spill),
+    )
