@@ -1,7 +1,7 @@
 # demo: builds the proved program and runs it on a table of examples/
 # check: the gate, as .ci/run runs it
 # try: the same job in seconds, with nothing proved
-# install: puts the proved program into PREFIX/bin
+# install: puts the proved program, its man page and its completion of bash below PREFIX
 
 PREFIX ?= /usr/local
 JOB = process --formula "stack.loss ~ ." --lo 1/2 --hi 1/2
@@ -22,6 +22,8 @@ try: toolchain
 
 install: demo
 	install -D -m 755 $(PROGRAM) $(DESTDIR)$(PREFIX)/bin/quantreg
+	install -D -m 644 docs/quantreg.1 $(DESTDIR)$(PREFIX)/share/man/man1/quantreg.1
+	install -D -m 644 companions/bash/quantreg $(DESTDIR)$(PREFIX)/share/bash-completion/completions/quantreg
 
 toolchain:
 	@command -v rt > /dev/null || { echo "quantreg needs the Rattle toolchain: no command rt was found"; exit 1; }

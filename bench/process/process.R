@@ -17,6 +17,8 @@ cells <- function(count) {
 for (shape in list(c(100, 5), c(1000, 5), c(2000, 5), c(5000, 4))) {
     table <- matrix(cells(shape[1] * shape[2]), nrow = shape[1], byrow = TRUE)
     x <- cbind(1, table[, -1])
+    # rq.fit.br names its process by the names of the columns.
+    colnames(x) <- paste0("x", seq_len(ncol(x)) - 1)
     spent <- system.time(fit <- rq.fit.br(x, table[, 1], tau = -1))
     cat(sprintf("R: %d x %d: %.0f ms, %d breakpoints\n", shape[1], shape[2], 1000 * spent[["user.self"]], ncol(fit$sol)))
 }

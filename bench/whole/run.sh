@@ -1,7 +1,8 @@
 #!/usr/bin/env bash
 # Times the program from bytes to bytes, at the median and over all quantiles: on stackloss, and on generated tables.
 # Prints for each the best of three runs, in seconds that passed and in seconds of a processor, the most memory that one of them
-# held, the status, and the pivots and the segments, or the line of the fault.
+# held, the status, and the pivots and the segments, or the line of the fault. Where R stands with its package quantreg, the line over
+# all quantiles ends with the time of rq.fit.br on the same table, reading not counted.
 #
 # usage: run.sh PROGRAM
 set -eu
@@ -23,6 +24,11 @@ outcome() {
   fi
 }
 
+# What R takes for the same table over all quantiles, or nothing where it doesn't stand.
+with_r=$(command -v Rscript > "$work/nothing" && Rscript -e 'quit(status = !requireNamespace("quantreg", quietly = TRUE))' \
+  > "$work/nothing" 2>&1 && echo yes || true)
+beside() { [ "$1" != "0 1" ] || [ -z "$with_r" ] || printf ', %s' "$(Rscript "$here/process.R" "$2")"; }
+
 # One case: its name, the range of quantiles, the formula, and the table.
 measure() {
   local status lo hi
@@ -39,7 +45,7 @@ measure() {
     cut -d ' ' -f 3 "$work/time" >> "$work/memory"
   done
   printf '%-24s %s to %s: %5s s, of a processor %5s s, %s kB, status %s, %s\n' "$1" "$lo" "$hi" "$(least "$work/elapsed")" \
-    "$(least "$work/processor")" "$(greatest "$work/memory")" "$status" "$(outcome)"
+    "$(least "$work/processor")" "$(greatest "$work/memory")" "$status" "$(outcome)$(beside "$2" "$4")"
 }
 
 # A generated table of so many rows and regressors, over a range of quantiles.

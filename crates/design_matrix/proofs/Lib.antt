@@ -10,6 +10,7 @@ pub mod Usable
 pub mod Lengths
 pub mod Building
 pub mod Ascending
+pub mod Searches
 pub mod Shapes
 pub mod Chosen
 pub mod Weighed

@@ -1,16 +1,15 @@
 -- Law. What the laws of the levels say; each is a clause of a function.
-use Rattle.std.specs.Prelude.{◌≡◌, List, All, AllPairs, Any, Contains}
+use Rattle.std.specs.Prelude.{◌≡◌, List, All, Any, Contains}
 use Rattle.std.specs.declared.cmp.Ordering.{Ordering}
-use Rattle.std.specs.declared.cmp.Ordering.TheVariants.{Less}
 use Rattle.frac_core.specs.declared.frac128.Frac128.{Frac128}
 use Rattle.data_frame.specs.Records.{Text}
 use Rattle.data_frame.specs.Views.{exact}
-use Rattle.design_matrix.specs.Levels.{text_order, number_order, levels_of}
+use Rattle.design_matrix.specs.Levels.{text_order, number_order, levels_of, IsAscending}
 
 -- the distinct cells in ascending order
 pub record AreDistinctCells {K : Type 0} (order : K → K → Ordering) (IsSame : K → K → Type 0) (cells levels : List K) : Type 0 where
   -- each level comes before all later ones
-  pub ascending : AllPairs (λ a b. order a b ≡ Less) levels
+  pub ascending : IsAscending order levels
   -- each level is one of the cells
   pub taken : All (Contains cells) levels
   -- each cell is the same as one of the levels

@@ -1,5 +1,5 @@
--- The lambdas of a formula that was read are numbers.
-use Rattle.std.proofs.Common.{◌≡◌, ◌<◌, ◌+◌, ◌-◌, ◌^◌, ◌==◌, ◌++◌, ◌∷◌, [], ℕ, zero, suc, Bool, true, false, List, All, Option, Some, None, Ok, Err, is_some, bytes_eq, codes, length, take, drop, get_or, position, nat_le, refl, sym, ◌∙◌, ap, subst, append_assoc, arith, length-append, if◌then◌else◌, unsigned_abs, ◌&&◌, nat_eq}
+-- The lambdas of a formula that was read are numbers, and none of them is negative.
+use Rattle.std.proofs.Common.{◌≡◌, ◌<◌, ◌+◌, ◌-◌, ◌^◌, ◌==◌, ◌++◌, ◌∷◌, [], ℕ, zero, suc, Bool, true, false, List, All, Option, Some, None, Ok, Err, is_some, bytes_eq, codes, pos, map, length, take, drop, get_or, position, nat_le, refl, sym, ◌∙◌, ap, subst, append_assoc, arith, length-append, if◌then◌else◌, unsigned_abs, ◌&&◌, nat_eq}
 use Rattle.std.proofs.Math.Seq.{take-append_seam, get_or-append_seam}
 use Rattle.std.proofs.lemmas.List.{drop-drop, length-take-le, take-append-drop}
 use Rattle.std.proofs.lemmas.Bool.Decides.{nat_tests}
@@ -9,6 +9,7 @@ use Rattle.std.specs.Char.{is_ascii_digit}
 use Rattle.std.specs.Str.{IsUtf8}
 use Rattle.std.proofs.lemmas.Str.{IsUtf8-from_ascii}
 use Rattle.exact_algebra.specs.Fraction.{Fraction, rational}
+use Rattle.exact_algebra.specs.Rational.{◌≤ℚ◌, whole}
 use Rattle.frac_core.specs.NumberText.{decimal_of, in_range, is_number_text, number_of, significand, written, written_body}
 use Rattle.frac_core.specs.declared.number_reader.NumberFault.TheVariants.{TooWide}
 use Rattle.formula_grammar.specs.declared.token.Sign.TheVariants.{Plus}
@@ -22,15 +23,18 @@ use Rattle.formula_grammar.specs.declared.reading.SmoothPart.{SmoothPart}
 use Rattle.formula_grammar.specs.declared.reading.Reading.{Reading}
 use Rattle.formula_grammar.specs.declared.fault.ReadFault.TheVariants.{NumberTooWide}
 use Rattle.formula_grammar.specs.Numerals.{is_wide, len_of}
-use Rattle.formula_grammar.specs.Numbers.{is_too_wide, is_wide_answer, capped_value, number_len, numeral_of, whole_of}
+use Rattle.formula_grammar.specs.Numbers.{is_signed, is_too_wide, is_wide_answer, capped_value, number_len, numeral_of, whole_of}
 use Rattle.formula_grammar.specs.Grammar.{token, Smooth, Items, Start, StartSmooth, StartPlus, Then, ThenSmooth, Formula, items_tokens, item_tokens, smooth_tokens, head_tokens, formula_tokens, Begins}
 use Rattle.formula_grammar.specs.Codes.{smooth_part, smooths_of}
 use Rattle.formula_grammar.specs.Faults.{token_at, last_from, last_kind, limit_at, IsFormula, IsReading}
 use Rattle.formula_grammar.specs.Tokens.{begins_name, begins_number, goes_on, is_backtick, is_blank, lexeme, name_lexeme, number_lexeme, opens, mark_of, name_or_word, quoted_to, tokens, tokens_from}
 use Rattle.formula_grammar.proofs.NumberTexts.{number_found, number_is_ascii, number_within, some_number, unsigned_front, unsigned_number}
 use Rattle.formula_parser.specs.Scope.{Text}
-use Rattle.formula_parser.specs.Parsed.{lambda_text}
+use Rattle.formula_parser.specs.Laws.{LambdasAreNotNegative}
+use Rattle.formula_parser.specs.Parsed.{IsParsed, exact, lambda_text, meant_smooth, told_smooth}
+use Rattle.formula_parser.specs.declared.formula.Smooth.{Smooth as SmoothOf}
 use Rattle.formula_parser.specs.Spoken.{HasLambda}
+use Rattle.formula_parser.proofs.Signs.{unsigned_value}
 
 -- ---- where the lambdas stand among the tokens
 
@@ -121,6 +125,7 @@ not_wide ts f s is h =
 record IsNumber (text : Text) (n : ℕ) (x : Numeral) : Type 0 where
   is_text : IsUtf8 (take (len_of x) (drop n text))
   number : is_number_text (take (len_of x) (drop n text)) ≡ true
+  unsigned : is_signed (take (len_of x) (drop n text)) ≡ false
   numeral : x ≡ numeral_of (take (len_of x) (drop n text))
 
 IsTrue : Text → ℕ → Kind → Type 0
@@ -206,6 +211,7 @@ number_true text at b bs cut h =
     record {
       is_text = subst IsUtf8 same (IsUtf8-from_ascii q (number_is_ascii q (unsigned_front (b ∷ bs) n unsigned) is));
       number = ap is_number_text (sym same) ∙ is;
+      unsigned = ap is_signed (sym same) ∙ unsigned_front (b ∷ bs) n unsigned;
       numeral = ap numeral_of same;
     }
 
@@ -300,3 +306,29 @@ lambdas_read text r h =
     let stand : Each (Stands (tokens text)) (smooths_of f.items) = subst (λ (ts : List Token). Each (Stands ts) (smooths_of f.items)) (sym h.is.reads) (formula_stands f) in
     let read : Each (HasLambda text) (smooths_of f.items) = each_mapped (Stands (tokens text)) (HasLambda text) (smooths_of f.items) (λ s. part_read text f s h.is) stand in
     subst (λ (ss : List SmoothPart). All (HasLambda text) ss) (sym (ap (λ (x : Reading). x.smooths) h.code)) (each_at (HasLambda text) (smooths_of f.items) read)
+
+-- ---- none of them is negative
+
+unsigned_part : (text : Text) (s : SmoothPart) → Stands (tokens text) s → is_signed (lambda_text text s) ≡ false
+unfolding IsTrue
+unsigned_part text s h =
+    let front = h.front ++ (token Comma h.comma ∷ []) in
+    let cut = h.whole ∙ sym (append_assoc h.front (token Comma h.comma ∷ []) (token (Number s.lambda) s.at ∷ h.back)) in
+    let t : IsNumber text s.at s.lambda = true_at text front h.back (token (Number s.lambda) s.at) (subst (AllTrue text) cut (text_true text)) in
+    t.unsigned
+
+smooths_not_negative : (text : Text) (names : List Text) (ss : List SmoothOf) (ps : List SmoothPart) → map told_smooth ss ≡ map (meant_smooth text names) ps → Each (λ p. is_signed (lambda_text text p) ≡ false) ps
+    → (k : ℕ) (d : SmoothOf) → k < length ss → whole (pos 0) ≤ℚ exact (get_or ss k d).lambda
+unfolding Each
+smooths_not_negative text names [] ps e h k d l = absurd (omega (arith, l))
+smooths_not_negative text names (s ∷ ss) [] e h k d l = absurd (cc e)
+smooths_not_negative text names (s ∷ ss) (p ∷ ps) e h zero d l =
+    let same : told_smooth s ≡ meant_smooth text names p = cc e in
+    unsigned_value (2 ^ 127 - 1) (lambda_text text p) (exact s.lambda) h.0 (sym (ap (λ z. z.lambda) same))
+smooths_not_negative text names (s ∷ ss) (p ∷ ps) e h (suc k) d l = smooths_not_negative text names ss ps (cc e) h.1 k d (omega (arith, l))
+
+pub lambdas_not_negative : LambdasAreNotNegative
+lambdas_not_negative text names f is =
+    let stand : Each (Stands (tokens text)) (smooths_of is.formula.items) = subst (λ (ts : List Token). Each (Stands ts) (smooths_of is.formula.items)) (sym is.is.reads) (formula_stands is.formula) in
+    smooths_not_negative text names f.smooths (smooths_of is.formula.items) is.smooths
+    (each_mapped (Stands (tokens text)) (λ p. is_signed (lambda_text text p) ≡ false) (smooths_of is.formula.items) (unsigned_part text) stand)

@@ -6,3 +6,4 @@ pub mod Scope
 pub mod Parsed
 pub mod Spoken
 pub mod Widened
+pub mod Laws

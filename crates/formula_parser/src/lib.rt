@@ -24,7 +24,7 @@
 //!
 //! The crate's one contract: `parse` gives what the one formula with the text's tokens says, or the
 //! text's first fault, as `specs/Parsed.antt`, `specs/Meaning.antt`, `specs/Terms.antt` and
-//! `specs/Scope.antt` define them.
+//! `specs/Scope.antt` define them. A law of `laws` adds that no lambda is negative.
 //!
 //! A term is kept as a list that says of each variable whether it is in it, and a list of terms with
 //! the set of them beside it, so that a term is looked up at once. An operator stops as soon as it
@@ -39,6 +39,7 @@ mod crossing;
 mod evaluation;
 mod fault;
 mod formula;
+pub mod laws;
 mod naming;
 mod parsing;
 mod scope;

@@ -1,1 +1,6 @@
+pub mod Areas
+pub mod Halving
+pub mod Integrals
 pub mod Rankscores
+pub mod WilcoxonLaws
+pub mod Wilcoxons

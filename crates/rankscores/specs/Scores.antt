@@ -1,6 +1,6 @@
 -- Stated. The rankscores of a segment's basic rows (Gutenbrunner and Jurečková 1992). A type F of fractions is seen by
 -- a function into pairs.
-use Rattle.std.specs.Prelude.{◌≡◌, ℕ, List, map, All, nat_lt, if◌then◌else◌}
+use Rattle.std.specs.Prelude.{◌≡◌, ℕ, ◌<◌, List, length, map, All, nat_lt, if◌then◌else◌}
 use Rattle.exact_algebra.specs.Rational.{ℚ}
 use Rattle.exact_algebra.specs.Fraction.{Fraction, rational}
 use Rattle.loss_model.specs.declared.problem.Problem.{Problem}
@@ -8,7 +8,7 @@ use Rattle.loss_model.specs.declared.process.Segment.{Segment}
 use Rattle.loss_model.specs.declared.vertex.Vertex.{Vertex}
 use Rattle.loss_model.specs.Dual.{rankscore}
 use Rattle.loss_model.specs.Problem.{sample}
-use Rattle.loss_model.specs.Vertex.{dual_value}
+use Rattle.loss_model.specs.Vertex.{dual_value, IsVertexOf}
 use Rattle.rankscores.specs.declared.pair.ScorePair.{ScorePair}
 
 module _ {F : Type 0} (value : F → Fraction) (p : Problem F) where
@@ -29,3 +29,10 @@ module _ {F : Type 0} (value : F → Fraction) (p : Problem F) where
     pub rows : map (λ q. q.row) pairs ≡ s.vertex.basis.rows
     pub at_lo : All (λ q. rational (value q.at_lo) ≡ row_score n s.vertex s.basic_lo s.lo q.row) pairs
     pub at_hi : All (λ q. rational (value q.at_hi) ≡ row_score n s.vertex s.basic_hi s.hi q.row) pairs
+
+-- what scores need of a segment: a vertex of the problem, with a dual value for each of its basic rows at both ends
+pub record IsScorable {F : Type 0} (p : Problem F) (s : Segment F) : Type 0 where
+  pub vertex : IsVertexOf p s.vertex
+  pub inside : All (λ i. i < length p.rows) s.vertex.basis.rows
+  pub lo : length s.basic_lo ≡ length s.vertex.basis.rows
+  pub hi : length s.basic_hi ≡ length s.vertex.basis.rows

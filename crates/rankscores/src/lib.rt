@@ -1,12 +1,17 @@
-//! Rankscores of a segment (Gutenbrunner and Jurečková 1992).
+//! Rankscores of a segment, and the Wilcoxon scores of a process (Gutenbrunner and Jurečková 1992).
 //!
 //! The one contract: `scores` gives the rankscores of the basic rows at both ends of a segment, as
-//! `specs/Scores.antt` defines them, or the operation that overflowed. It stands on `loss_model`,
-//! whose dual values are scored.
+//! `specs/Scores.antt` defines them, and `wilcoxon` the integral of each row's rankscore over 0 to 1,
+//! minus 1/2, as `specs/Wilcoxon.antt` defines it; or either names the operation that overflowed.
+//! The laws say that scores are bounded, and that Wilcoxon scores balance. It stands on
+//! `loss_model`, whose dual values are scored.
 #![tactic(auto)]
 
+mod integral;
+pub mod laws;
 mod pair;
 mod segment;
 
+pub use integral::wilcoxon;
 pub use pair::ScorePair;
 pub use segment::scores;

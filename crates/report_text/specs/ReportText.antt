@@ -1,6 +1,6 @@
 -- Stated. The printed text of a report: lines of words with one space between them. A type F of fractions
 -- is seen by a function into pairs.
-use Rattle.std.specs.Prelude.{◌≡◌, ◌≤◌, ℕ, ◌+◌, ◌-◌, Bool, true, false, nat_lt, List, [], ◌∷◌, ◌++◌, length, codes, decimal}
+use Rattle.std.specs.Prelude.{◌≡◌, ◌≤◌, ℕ, ◌+◌, ◌-◌, Bool, true, false, nat_lt, List, [], ◌∷◌, ◌++◌, length, codes, decimal, ⊤}
 use Rattle.std.specs.List.{flat_map, zip}
 use Rattle.exact_algebra.specs.Fraction.{Fraction}
 use Rattle.frac_core.specs.NumberText.{number_text_of}
@@ -10,8 +10,9 @@ use Rattle.loss_model.specs.declared.process.Segment.{Segment}
 use Rattle.frac_core.specs.declared.frac128.Frac128.{Frac128}
 use Rattle.rankscores.specs.declared.pair.ScorePair.{ScorePair}
 use Rattle.report_text.specs.declared.report.Fit.{Fit}
+use Rattle.report_text.specs.declared.report.RanksFit.{RanksFit}
 use Rattle.report_text.specs.declared.report.Report.{Report}
-use Rattle.report_text.specs.declared.report.Report.TheVariants.{Process}
+use Rattle.report_text.specs.declared.report.Report.TheVariants.{Process, Ranks}
 use Rattle.report_text.specs.Names.{name_bytes}
 
 -- the texts of the items, which are numbered from i, one after another
@@ -89,10 +90,25 @@ fit_head fit = codes "quantreg 1\n" ++ records_line fit.kept fit.dropped ++ numb
 unfoldable pub fit_text : Fit → List ℕ
 fit_text fit = fit_head fit ++ numbered (segment_text value fit.data_rows) 1 (zip fit.process.segments fit.scores) ++ codes "end\n"
 
+-- the Wilcoxon score of row i
+unfoldable pub wilcoxon_line : ℕ → Frac128 → List ℕ
+wilcoxon_line i score = codes "wilcoxon " ++ decimal i ++ codes " " ++ number_text_of (value score) ++ codes "\n"
+
+-- what stands before the Wilcoxon scores
+unfoldable pub ranks_head : Fit → List ℕ
+ranks_head fit =
+    codes "quantreg ranks 1\n" ++ records_line fit.kept fit.dropped ++ numbered column_line 1 fit.names ++ pivots_line (length fit.process.trail.steps)
+
+-- the report of Wilcoxon scores, rows counted from 1
+unfoldable pub ranks_text : RanksFit → List ℕ
+ranks_text ranks = ranks_head ranks.fit ++ numbered wilcoxon_line 1 ranks.wilcoxon ++ codes "end\n"
+
 -- the text of a report
 abbrev pub report_text : Report → List ℕ
 report_text (Process fit) = fit_text fit
+report_text (Ranks ranks) = ranks_text ranks
 
--- one list of scores per segment, and no more data rows than rows
+-- a fit has one list of scores per segment, and no more data rows than rows
 abbrev pub IsPrintable : Report → Type 0
 IsPrintable (Process fit) = (length fit.scores ≡ length fit.process.segments) × (fit.data_rows ≤ length fit.problem.rows)
+IsPrintable (Ranks ranks) = ⊤

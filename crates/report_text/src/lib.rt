@@ -14,9 +14,10 @@ mod line;
 mod lines;
 mod page;
 mod quantity;
+mod ranks;
 mod report;
 
 pub use fault::{MEMORY_LINE, SINK_LINE, SOURCE_LINE, fault_line};
 pub use lines::report_bytes;
 pub use page::Page;
-pub use report::{Fault, Fit, Halt, Place, Refusal, Report};
+pub use report::{Fault, Fit, Halt, Place, RanksFit, Refusal, Report};

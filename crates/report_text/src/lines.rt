@@ -240,6 +240,7 @@ pub fn report_bytes(alloc: Global, report: &Report) -> Result<Vec<u8>, OutOfMemo
     let mut page = Page::new(alloc);
     match report {
         Report::Process(fit) => page.fit(fit)?,
+        Report::Ranks(ranks) => page.ranks(ranks)?,
     }
     Ok(page.into_bytes())
 }

@@ -23,10 +23,18 @@ pub struct Fit {
     pub scores: List<List<ScorePair<Frac128>>>,
 }
 
+/// A fitted model over 0 to 1, and the Wilcoxon score of each of its rows.
+#[derive(Drop)]
+pub struct RanksFit {
+    pub fit: Fit,
+    pub wilcoxon: List<Frac128>,
+}
+
 /// What a job found.
 #[derive(Drop)]
 pub enum Report {
     Process(Fit),
+    Ranks(RanksFit),
 }
 
 /// Why an input has no report. No fault in it is want of memory.
@@ -75,7 +83,7 @@ pub enum Halt {
         trail: Trail<Frac128>,
         spill: Spill<Frac128>,
     },
-    /// It asks for what this version does not do: part 1 is the job, part 3 a smooth in its formula.
+    /// It asks for a job that this version does not do, which is part 1.
     NotBuilt {
         part: u8,
     },

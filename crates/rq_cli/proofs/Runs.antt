@@ -30,6 +30,14 @@ never_long (jobs.Certify fit) bytes cause = cause
 never_long jobs.Check bytes cause = cause
 never_long (jobs.Sample sample) bytes cause = cause
 
+-- nor asks for what it doesn't do
+never_unbuilt : (job : Job) (bytes : List ℕ) (part : ℕ) → engine.HasCause job bytes (halts.NotBuilt part) → ⊥
+never_unbuilt (jobs.Process fit) bytes part cause = cause
+never_unbuilt (jobs.Ranks fit) bytes part cause = cause
+never_unbuilt (jobs.Certify fit) bytes part cause = cause
+never_unbuilt jobs.Check bytes part cause = cause
+never_unbuilt (jobs.Sample sample) bytes part cause = cause
+
 -- the cause of a halt is that of its outcome
 pub halt_cause : (words : List (List ℕ)) (source source' : Stream) (job : Job) (bytes : List ℕ) → WereRead words source source' job bytes → (halt : Halt) → engine.HasCause job bytes halt → IsFault words source source' (outcome_of (troubles.Halt halt))
 halt_cause words source source' job bytes read (halts.Refused TooLong) cause = absurd (never_long job bytes cause)
@@ -43,7 +51,7 @@ halt_cause words source source' job bytes read (halts.Refused (Dependent combina
 halt_cause words source source' job bytes read halts.OutOfMemory cause = tt
 halt_cause words source source' job bytes read (halts.PivotLimit place limit trail) cause = record { job = job; bytes = bytes; read = read; cause = cause }
 halt_cause words source source' job bytes read (halts.Overflow place trail spill) cause = record { job = job; bytes = bytes; read = read; cause = cause }
-halt_cause words source source' job bytes read (halts.NotBuilt part) cause = inr (record { job = job; bytes = bytes; read = read; cause = cause })
+halt_cause words source source' job bytes read (halts.NotBuilt part) cause = absurd (never_unbuilt job bytes part cause)
 
 keeps : (bytes : Option (List ℕ)) → Keeps bytes bytes
 keeps None = tt

@@ -98,7 +98,7 @@ IsFault words before now SourceFault = AskBuilt words × Rose before.faults now.
 IsFault words before now OutOfMemory = ⊤
 IsFault words before now (PivotLimit place limit trail) = IsHalted words before now (halts.PivotLimit place limit trail)
 IsFault words before now (Overflow place trail spill) = IsHalted words before now (halts.Overflow place trail spill)
-IsFault words before now (NotBuilt part) = ((part ≡ 1) × IsNotBuilt words) ⊎ IsHalted words before now (halts.NotBuilt part)
+IsFault words before now (NotBuilt part) = (part ≡ 1) × IsNotBuilt words
 IsFault words before now (Done _) = ⊥
 IsFault words before now SinkFault = ⊥
 

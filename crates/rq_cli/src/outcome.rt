@@ -33,7 +33,7 @@ pub enum Outcome {
         trail: Trail<Frac128>,
         spill: Spill<Frac128>,
     },
-    /// The words or the input ask for what this version does not do.
+    /// The words ask for what this version does not do.
     NotBuilt {
         part: u8,
     },

@@ -1,12 +1,12 @@
 -- The range of a job that the words ask for lies in 0 to 1.
-use Rattle.std.proofs.Common.{ℕ, ◌^◌, ◌<◌, length, List, pos}
+use Rattle.std.proofs.Common.{◌≡◌, ℕ, ◌^◌, ◌<◌, length, List, pos}
 use Rattle.exact_algebra.specs.Fraction.{rational}
 use Rattle.exact_algebra.specs.Rational.{whole, ◌≤ℚ◌}
 use Rattle.rq_words.specs.Requests.{fit_request}
 use Rattle.rq_words.specs.declared.job.FitJob.{FitJob}
-use Rattle.rq_words.specs.declared.job.Job.TheVariants.{Process}
-use Rattle.rq_words.proofs.Orders.{process_range}
-use Rattle.rq_words.proofs.ShortWords.{process_formula}
+use Rattle.rq_words.specs.declared.job.Job.TheVariants.{Process, Ranks}
+use Rattle.rq_words.proofs.Orders.{process_range, ranks_range}
+use Rattle.rq_words.proofs.ShortWords.{process_formula, ranks_formula}
 use Rattle.rq_engine.specs.Built.{IsJobOf}
 use Rattle.report_text.specs.ReportText.{value}
 
@@ -17,3 +17,10 @@ asked_range words fit asked = process_range words (fit_request fit) asked
 -- its formula is shorter than 2^31 bytes
 pub asked_formula : (words : List (List ℕ)) (fit : FitJob) → IsJobOf words (Process fit) → length fit.formula < 2 ^ 31
 asked_formula words fit asked = process_formula words (fit_request fit) asked
+
+-- that of ranks is 0 to 1
+pub asked_unit : (words : List (List ℕ)) (fit : FitJob) → IsJobOf words (Ranks fit) → (whole (pos 0) ≡ rational (value fit.lo)) × (whole (pos 1) ≡ rational (value fit.hi))
+asked_unit words fit asked = ranks_range words (fit_request fit) asked
+
+pub asked_ranks : (words : List (List ℕ)) (fit : FitJob) → IsJobOf words (Ranks fit) → length fit.formula < 2 ^ 31
+asked_ranks words fit asked = ranks_formula words (fit_request fit) asked

@@ -31,7 +31,7 @@ use Rattle.walk_rule.specs.WalkTrails.{theta_value}
 use Rattle.tau_process.specs.Processes.{HasResults, IsProcess}
 use Rattle.tau_process.specs.Stops.{IsLimited, IsProcessStop}
 use Rattle.rankscores.specs.declared.pair.ScorePair.{ScorePair}
-use Rattle.rankscores.specs.Scores.{IsScored}
+use Rattle.rankscores.specs.Scores.{IsScorable, IsScored}
 use Rattle.rankscores.specs.Spills.{IsScoresSpill}
 use Rattle.rq_words.specs.declared.job.FitJob.{FitJob}
 use Rattle.report_text.specs.declared.report.Fit.{Fit}
@@ -44,7 +44,6 @@ use Rattle.rq_input.specs.declared.input.Input.{Input}
 use Rattle.rq_engine.specs.Answers.{HasFitCause}
 use Rattle.rq_engine.specs.Fit.{IsOptimalAt, IsOptimalWithin, IsRightFit, IsRightSegment, mixed_dual}
 use Rattle.rq_engine.specs.Halts.{short_halt, stop_halt}
-use Rattle.rq_engine.specs.Scored.{IsScorable}
 use Rattle.report_text.specs.ReportText.{value}
 use Rattle.rq_engine.specs.Stops.{IsSegmentSpill, HasProblemCause, most}
 
@@ -175,7 +174,8 @@ module _ {F : Type 0} (value : F → Fraction) (p : Problem F) where
 
 -- ---- the fit
 
-module _ (job : FitJob) (p : Problem Frac128) (q : Process Frac128) (scores : List (List (ScorePair Frac128))) where
+-- the first n rows of the problem are data rows
+module _ (job : FitJob) (n : ℕ) (p : Problem Frac128) (q : Process Frac128) (scores : List (List (ScorePair Frac128))) where
   abbrev lo : ℚ
   lo = rational (value job.lo)
 
@@ -189,15 +189,15 @@ module _ (job : FitJob) (p : Problem Frac128) (q : Process Frac128) (scores : Li
         kept = fit.kept;
         dropped = fit.dropped;
         names = fit.names;
-        data_rows = length p.rows;
+        data_rows = n;
         problem = p;
         process = q;
         scores = scores;
       }
 
   pub right_fit : IsWellShaped p → IsProcess value p lo hi q → length q.trail.steps ≤ job.limit → ¬ IsLimited {F = Frac128} value (sample value p) lo hi job.limit
-      → AllZip (IsScored value p (length p.rows)) q.segments scores
-      → (fit : Fit) → fit.process ≡ q → fit.scores ≡ scores → fit.problem ≡ p → fit.data_rows ≡ length p.rows → IsRightFit value job fit
+      → AllZip (IsScored value p n) q.segments scores
+      → (fit : Fit) → fit.process ≡ q → fit.scores ≡ scores → fit.problem ≡ p → fit.data_rows ≡ n → IsRightFit value job fit
   right_fit shaped is short unlimited scored fit process told problem data_rows =
       subst (IsRightFit value job) (sym same) (record {
         shaped = shaped;
@@ -222,50 +222,50 @@ module _ (job : FitJob) (p : Problem Frac128) (q : Process Frac128) (scores : Li
 
 -- ---- stops
 
-pub stop_cause : (job : FitJob) (p : Problem Frac128) (stop : Stop Frac128) → IsProcessStop value most p (rational (value job.lo)) (rational (value job.hi)) job.limit stop → HasProblemCause job p (stop_halt stop)
-stop_cause job p stops.OutOfMemory h = tt
-stop_cause job p (stops.PivotLimit limit trail) h = h
-stop_cause job p (stops.Overflow trail spill) h = inl h
-stop_cause job p (stops.Dependent combination) h = h
+pub stop_cause : (job : FitJob) (n : ℕ) (p : Problem Frac128) (stop : Stop Frac128) → IsProcessStop value most p (rational (value job.lo)) (rational (value job.hi)) job.limit stop → HasProblemCause job n p (stop_halt stop)
+stop_cause job n p stops.OutOfMemory h = tt
+stop_cause job n p (stops.PivotLimit limit trail) h = h
+stop_cause job n p (stops.Overflow trail spill) h = inl h
+stop_cause job n p (stops.Dependent combination) h = h
 
-pub short_cause : (job : FitJob) (p : Problem Frac128) (q : Process Frac128) → HasResults value p (rational (value job.lo)) (rational (value job.hi)) q → length q.trail.steps ≤ job.limit → (short : Short Frac128)
-    → IsShortOf (IsSegmentSpill value most p q.segments) short → HasProblemCause job p (short_halt short q.trail)
-short_cause job p q results short shorts.OutOfMemory unscored = tt
-short_cause job p q results short (shorts.Overflow spill) unscored = inr (record { segments = q.segments; results = results; short = short; operation = unscored })
+pub short_cause : (job : FitJob) (n : ℕ) (p : Problem Frac128) (q : Process Frac128) → HasResults value p (rational (value job.lo)) (rational (value job.hi)) q → length q.trail.steps ≤ job.limit → (short : Short Frac128)
+    → IsShortOf (IsSegmentSpill value most p n q.segments) short → HasProblemCause job n p (short_halt short q.trail)
+short_cause job n p q results short shorts.OutOfMemory unscored = tt
+short_cause job n p q results short (shorts.Overflow spill) unscored = inr (record { segments = q.segments; results = results; short = short; operation = unscored })
 
 -- an operation of the scores of the segment at k is one of the segments
-pub segment_unscored : {F : Type 0} (value : F → Fraction) (range : ℕ) (p : Problem F) (segments : List (Segment F)) (k : ℕ) (s : Segment F) → k < length segments → s ≡ get_or segments k s → (short : Short F)
-    → IsShortOf (IsScoresSpill value range p (length p.rows) k s) short → IsShortOf (IsSegmentSpill value range p segments) short
-segment_unscored value range p segments k s within here shorts.OutOfMemory unscored = tt
-segment_unscored value range p segments k s within here (shorts.Overflow spill) unscored =
+pub segment_unscored : {F : Type 0} (value : F → Fraction) (range : ℕ) (p : Problem F) (n : ℕ) (segments : List (Segment F)) (k : ℕ) (s : Segment F) → k < length segments → s ≡ get_or segments k s → (short : Short F)
+    → IsShortOf (IsScoresSpill value range p n k s) short → IsShortOf (IsSegmentSpill value range p n segments) short
+segment_unscored value range p n segments k s within here shorts.OutOfMemory unscored = tt
+segment_unscored value range p n segments k s within here (shorts.Overflow spill) unscored =
     record { number = k; segment = s; there = slice_get-get_or segments k s within ∙ ap Some (sym here); operation = unscored }
 
 -- why there is no input is why there is no fit
-pub input_cause : (job : FitJob) (bytes : List ℕ) (halt : Halt) → HasInputCause job bytes halt → HasFitCause job bytes halt
-input_cause job bytes (Refused (Dependent combination)) h = absurd h.2
-input_cause job bytes (Refused TooLong) h = h
-input_cause job bytes (Refused (refusals.Table fault)) h = h
-input_cause job bytes (Refused (refusals.Formula fault)) h = h
-input_cause job bytes (Refused refusals.RankWithPenalty) h = h
-input_cause job bytes (Refused (refusals.Design fault)) h = h
-input_cause job bytes (Refused (refusals.Penalty fault)) h = h
-input_cause job bytes (Refused (refusals.Program fault)) h = h
-input_cause job bytes OutOfMemory h = h
-input_cause job bytes (PivotLimit place limit trail) h = absurd h.2
-input_cause job bytes (Overflow place trail spill) h = absurd h.2
-input_cause job bytes (NotBuilt part) h = h
+pub input_cause : (job : FitJob) (ranked : Bool) (bytes : List ℕ) (halt : Halt) → HasInputCause job ranked bytes halt → HasFitCause job ranked bytes halt
+input_cause job ranked bytes (Refused (Dependent combination)) h = absurd h.2.cause
+input_cause job ranked bytes (Refused TooLong) h = h
+input_cause job ranked bytes (Refused (refusals.Table fault)) h = h
+input_cause job ranked bytes (Refused (refusals.Formula fault)) h = h
+input_cause job ranked bytes (Refused refusals.RankWithPenalty) h = h
+input_cause job ranked bytes (Refused (refusals.Design fault)) h = h
+input_cause job ranked bytes (Refused (refusals.Penalty fault)) h = h
+input_cause job ranked bytes (Refused (refusals.Program fault)) h = h
+input_cause job ranked bytes OutOfMemory h = h
+input_cause job ranked bytes (PivotLimit place limit trail) h = absurd h.2.cause
+input_cause job ranked bytes (Overflow place trail spill) h = absurd h.2.cause
+input_cause job ranked bytes (NotBuilt part) h = absurd h
 
 -- and so is why the problem of an input has no fit
-pub problem_cause : (job : FitJob) (bytes : List ℕ) (input : Input) → IsInput job bytes input → (halt : Halt) → HasProblemCause job input.problem halt → HasFitCause job bytes halt
-problem_cause job bytes input is (Refused (Dependent combination)) h = record { input = input; is = is; cause = h }
-problem_cause job bytes input is (Refused TooLong) h = h
-problem_cause job bytes input is (Refused (refusals.Table fault)) h = absurd h
-problem_cause job bytes input is (Refused (refusals.Formula fault)) h = absurd h
-problem_cause job bytes input is (Refused refusals.RankWithPenalty) h = absurd h
-problem_cause job bytes input is (Refused (refusals.Design fault)) h = absurd h
-problem_cause job bytes input is (Refused (refusals.Penalty fault)) h = absurd h
-problem_cause job bytes input is (Refused (refusals.Program fault)) h = absurd h
-problem_cause job bytes input is OutOfMemory h = tt
-problem_cause job bytes input is (PivotLimit place limit trail) h = record { input = input; is = is; cause = h }
-problem_cause job bytes input is (Overflow place trail spill) h = record { input = input; is = is; cause = h }
-problem_cause job bytes input is (NotBuilt part) h = absurd h
+pub problem_cause : (job : FitJob) (ranked : Bool) (bytes : List ℕ) (input : Input) → IsInput job ranked bytes input → (halt : Halt) → HasProblemCause job (length input.design.rows) input.problem halt → HasFitCause job ranked bytes halt
+problem_cause job ranked bytes input is (Refused (Dependent combination)) h = record { input = input; is = is; cause = h }
+problem_cause job ranked bytes input is (Refused TooLong) h = h
+problem_cause job ranked bytes input is (Refused (refusals.Table fault)) h = absurd h
+problem_cause job ranked bytes input is (Refused (refusals.Formula fault)) h = absurd h
+problem_cause job ranked bytes input is (Refused refusals.RankWithPenalty) h = absurd h
+problem_cause job ranked bytes input is (Refused (refusals.Design fault)) h = absurd h
+problem_cause job ranked bytes input is (Refused (refusals.Penalty fault)) h = absurd h
+problem_cause job ranked bytes input is (Refused (refusals.Program fault)) h = absurd h
+problem_cause job ranked bytes input is OutOfMemory h = tt
+problem_cause job ranked bytes input is (PivotLimit place limit trail) h = record { input = input; is = is; cause = h }
+problem_cause job ranked bytes input is (Overflow place trail spill) h = record { input = input; is = is; cause = h }
+problem_cause job ranked bytes input is (NotBuilt part) h = absurd h

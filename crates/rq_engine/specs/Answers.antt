@@ -1,5 +1,12 @@
 -- Stated. What the engine is asked and answers.
-use Rattle.std.specs.Prelude.{ℕ, List}
+use Rattle.std.specs.Prelude.{◌⊎◌, ℕ, Bool, true, List, is_some, length, pos}
+use Rattle.exact_algebra.specs.Fraction.{rational}
+use Rattle.exact_algebra.specs.Rational.{whole}
+use Rattle.frac_core.specs.declared.frac128.Frac128.{Frac128}
+use Rattle.loss_model.specs.declared.process.Trail.{Trail}
+use Rattle.loss_model.specs.declared.spill.Spill.{Spill}
+use Rattle.loss_model.specs.Segment.{Covers, segments_of}
+use Rattle.rankscores.specs.Wilcoxon.{AreWilcoxon}
 use Rattle.rq_input.specs.Inputs.{HasInputCause, IsInput}
 use Rattle.rq_input.specs.declared.input.Input.{Input}
 use Rattle.rq_words.specs.declared.job.FitJob.{FitJob}
@@ -7,13 +14,14 @@ use Rattle.rq_words.specs.declared.job.Job.{Job}
 use Rattle.rq_words.specs.declared.job.Job.TheVariants as jobs
 use Rattle.report_text.specs.ReportText.{value}
 use Rattle.report_text.specs.declared.report.Fit.{Fit}
+use Rattle.report_text.specs.declared.report.RanksFit.{RanksFit}
 use Rattle.report_text.specs.declared.report.Report.{Report}
 use Rattle.report_text.specs.declared.report.Report.TheVariants as reports
 use Rattle.report_text.specs.declared.report.Refusal.TheVariants.{Dependent}
 use Rattle.report_text.specs.declared.report.Halt.{Halt}
 use Rattle.report_text.specs.declared.report.Halt.TheVariants.{Refused, PivotLimit, Overflow}
 use Rattle.rq_engine.specs.Fit.{IsFitUnder, IsRightFit}
-use Rattle.rq_engine.specs.Stops.{HasProblemCause}
+use Rattle.rq_engine.specs.Stops.{HasProblemCause, IsScoringSpill, most}
 
 -- ---- the report
 
@@ -22,31 +30,55 @@ pub record IsFitOf (job : FitJob) (input : Input) (fit : Fit) : Type 0 where
   pub under : IsFitUnder input fit
   pub right : IsRightFit value job fit
 
--- the fit is right for the input that the bytes are
-abbrev pub IsFitOfBytes : FitJob → List ℕ → Fit → Type 0
-IsFitOfBytes job bytes fit = (input : Input) × IsInput job bytes input × IsFitOf job input fit
+-- the fit is right for the input that the bytes are; that has no smooths where ranks are asked for
+abbrev pub IsFitOfBytes : FitJob → Bool → List ℕ → Fit → Type 0
+IsFitOfBytes job ranked bytes fit = (input : Input) × IsInput job ranked bytes input × IsFitOf job input fit
+
+-- the segments of a right fit cover 0 to 1, and these are the Wilcoxon scores of its rows (Gutenbrunner and Jurečková
+-- 1992)
+pub record AreRanksOf (job : FitJob) (input : Input) (ranks : RanksFit) : Type 0 where
+  pub fit : IsFitOf job input ranks.fit
+  pub covers : Covers (length ranks.fit.problem.rows) (whole (pos 0)) (whole (pos 1)) (segments_of value ranks.fit.problem ranks.fit.process.segments)
+  pub wilcoxon : AreWilcoxon value ranks.fit.problem ranks.fit.process.segments ranks.wilcoxon
+
+-- they are right for the input that the bytes are, which has no smooths
+abbrev pub AreRanksOfBytes : FitJob → List ℕ → RanksFit → Type 0
+AreRanksOfBytes job bytes ranks = (input : Input) × IsInput job true bytes input × AreRanksOf job input ranks
 
 -- the report is right for the job and for the bytes
 abbrev pub IsRight : Job → List ℕ → Report → Type 0
-IsRight (jobs.Process job) bytes (reports.Process fit) = IsFitOfBytes job bytes fit
+IsRight (jobs.Process job) bytes (reports.Process fit) = IsFitOfBytes job (is_some job.rank) bytes fit
+IsRight (jobs.Ranks job) bytes (reports.Ranks ranks) = AreRanksOfBytes job bytes ranks
 IsRight _ bytes report = ⊥
 
 -- ---- why there is none
 
 -- the problem of the bytes has no fit, for this halt
-pub record LacksFit (job : FitJob) (bytes : List ℕ) (halt : Halt) : Type 0 where
+pub record LacksFit (job : FitJob) (ranked : Bool) (bytes : List ℕ) (halt : Halt) : Type 0 where
   pub input : Input
-  pub is : IsInput job bytes input
-  pub cause : HasProblemCause job input.problem halt
+  pub is : IsInput job ranked bytes input
+  pub cause : HasProblemCause job (length input.design.rows) input.problem halt
 
 -- why bytes have no fit: their problem has none, or there is no problem
-abbrev pub HasFitCause : FitJob → List ℕ → Halt → Type 0
-HasFitCause job bytes (Refused (Dependent combination)) = LacksFit job bytes (Refused (Dependent combination))
-HasFitCause job bytes (PivotLimit place limit trail) = LacksFit job bytes (PivotLimit place limit trail)
-HasFitCause job bytes (Overflow place trail spill) = LacksFit job bytes (Overflow place trail spill)
-HasFitCause job bytes halt = HasInputCause job bytes halt
+abbrev pub HasFitCause : FitJob → Bool → List ℕ → Halt → Type 0
+HasFitCause job ranked bytes (Refused (Dependent combination)) = LacksFit job ranked bytes (Refused (Dependent combination))
+HasFitCause job ranked bytes (PivotLimit place limit trail) = LacksFit job ranked bytes (PivotLimit place limit trail)
+HasFitCause job ranked bytes (Overflow place trail spill) = LacksFit job ranked bytes (Overflow place trail spill)
+HasFitCause job ranked bytes halt = HasInputCause job ranked bytes halt
+
+-- the problem of the bytes has no Wilcoxon scores, since this operation overflows
+pub record LacksScores (job : FitJob) (bytes : List ℕ) (trail : Trail Frac128) (spill : Spill Frac128) : Type 0 where
+  pub input : Input
+  pub is : IsInput job true bytes input
+  pub operation : IsScoringSpill value most input.problem (rational (value job.lo)) (rational (value job.hi)) job.limit trail spill
+
+-- why bytes have no Wilcoxon scores: they have no fit, or such an operation overflows
+abbrev pub HasRanksCause : FitJob → List ℕ → Halt → Type 0
+HasRanksCause job bytes (Overflow place trail spill) = HasFitCause job true bytes (Overflow place trail spill) ⊎ LacksScores job bytes trail spill
+HasRanksCause job bytes halt = HasFitCause job true bytes halt
 
 -- why there is no report for the job
 abbrev pub HasCause : Job → List ℕ → Halt → Type 0
-HasCause (jobs.Process job) bytes halt = HasFitCause job bytes halt
+HasCause (jobs.Process job) bytes halt = HasFitCause job (is_some job.rank) bytes halt
+HasCause (jobs.Ranks job) bytes halt = HasRanksCause job bytes halt
 HasCause _ bytes halt = ⊥

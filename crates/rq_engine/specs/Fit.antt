@@ -1,6 +1,6 @@
 -- Stated. The right fit of a problem over a range of quantiles (Koenker 2005; Koenker and d'Orey 1987). A type F of
 -- fractions is seen by a function into pairs.
-use Rattle.std.specs.Prelude.{◌≡◌, ℕ, ◌+◌, ◌<◌, ◌≤◌, List, length, All}
+use Rattle.std.specs.Prelude.{◌≡◌, ℕ, ◌+◌, ◌<◌, ◌≤◌, List, ◌++◌, length, All}
 use Rattle.std.specs.List.{AllZip}
 use Rattle.exact_algebra.specs.Rational.{ℚ, ◌≤ℚ◌}
 use Rattle.exact_algebra.specs.Fraction.{Fraction, rational}
@@ -62,10 +62,11 @@ pub record IsRightFit (value : Frac128 → Fraction) (job : FitJob) (fit : Fit) 
   pub short : length fit.process.trail.steps ≤ job.limit
   pub unlimited : ¬ IsLimited {F = Frac128} value (sample value fit.problem) (rational (value job.lo)) (rational (value job.hi)) job.limit
 
--- the fit is of this input, and tells how many records its design has kept and dropped, and its names
+-- the fit is of this input, and tells how many records its design has kept and dropped, the names of the design and
+-- of what the smooths add, and that a row of each record stands before the penalty rows
 pub record IsFitUnder (input : Input) (fit : Fit) : Type 0 where
   pub problem_is : fit.problem ≡ input.problem
   pub kept : fit.kept ≡ length input.design.rows
   pub dropped : fit.dropped ≡ input.design.dropped
-  pub names : fit.names ≡ input.design.names
+  pub names : fit.names ≡ input.design.names ++ input.smoothing.names
   pub data_rows : fit.data_rows ≡ length input.design.rows

@@ -2,5 +2,5 @@ pub mod Answers
 pub mod Built
 pub mod Fit
 pub mod Halts
-pub mod Scored
+pub mod Ranks
 pub mod Stops

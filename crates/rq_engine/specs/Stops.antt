@@ -1,4 +1,4 @@
--- Stated. Why a problem has no fit.
+-- Stated. Why a problem has no fit, and why it has no Wilcoxon scores.
 use Rattle.std.specs.Prelude.{◌≡◌, ◌⊎◌, ℕ, ◌^◌, ◌-◌, ◌≤◌, List, length, slice_get, Some, ⊤}
 use Rattle.exact_algebra.specs.Fraction.{Fraction, rational}
 use Rattle.exact_algebra.specs.Rational.{ℚ}
@@ -17,15 +17,16 @@ use Rattle.report_text.specs.declared.report.Refusal.TheVariants.{Dependent}
 use Rattle.report_text.specs.declared.report.Halt.{Halt}
 use Rattle.report_text.specs.declared.report.Halt.TheVariants.{Refused, OutOfMemory, PivotLimit, Overflow}
 use Rattle.report_text.specs.ReportText.{value}
-use Rattle.rankscores.specs.Spills.{IsScoresSpill}
+use Rattle.rankscores.specs.Spills.{IsScoresSpill, IsWilcoxonSpill}
 
-module _ {F : Type 0} (value : F → Fraction) (range : ℕ) (p : Problem F) where
+-- the first n rows are data rows
+module _ {F : Type 0} (value : F → Fraction) (range : ℕ) (p : Problem F) (n : ℕ) where
   -- an operation of a rankscore of one of the segments overflows; its site has the segment's number
   pub record IsSegmentSpill (segments : List (Segment F)) (spill : Spill F) : Type 0 where
     pub number : ℕ
     pub segment : Segment F
     pub there : slice_get segments number ≡ Some segment
-    pub operation : IsScoresSpill value range p (length p.rows) number segment spill
+    pub operation : IsScoresSpill value range p n number segment spill
 
   -- after the walk: the lawful trail is at its end within the limit, and such an operation is of its segments
   pub record IsResultSpill (lo hi : ℚ) (limit : ℕ) (trail : Trail F) (spill : Spill F) : Type 0 where
@@ -39,18 +40,26 @@ module _ {F : Type 0} (value : F → Fraction) (range : ℕ) (p : Problem F) whe
   IsFitSpill lo hi limit trail spill =
       IsProcessSpill value range p lo hi limit trail spill ⊎ IsResultSpill lo hi limit trail spill
 
+-- after the walk: the lawful trail is at its end within the limit, and an operation of the Wilcoxon scores over its
+-- segments overflows
+pub record IsScoringSpill {F : Type 0} (value : F → Fraction) (range : ℕ) (p : Problem F) (lo hi : ℚ) (limit : ℕ) (trail : Trail F) (spill : Spill F) : Type 0 where
+  pub segments : List (Segment F)
+  pub results : HasResults value p lo hi (record { segments = segments; trail = trail })
+  pub short : length trail.steps ≤ limit
+  pub operation : IsWilcoxonSpill value range p segments spill
+
 -- the greatest number of 128 bits with a sign
 abbrev pub most : ℕ
 most = 2 ^ 127 - 1
 
--- why the problem has no fit for the job: dependent columns, a limit that is reached, or an operation
--- that overflows. Want of memory is free of a cause
-abbrev pub HasProblemCause : FitJob → Problem Frac128 → Halt → Type 0
-HasProblemCause job p (Refused (Dependent combination)) = IsDependent value p combination
-HasProblemCause job p (Refused _) = ⊥
-HasProblemCause job p OutOfMemory = ⊤
-HasProblemCause job p (PivotLimit place limit trail) =
+-- why the problem, whose first n rows are data rows, has no fit for the job: dependent columns, a limit that is
+-- reached, or an operation that overflows. Want of memory is free of a cause
+abbrev pub HasProblemCause : FitJob → ℕ → Problem Frac128 → Halt → Type 0
+HasProblemCause job n p (Refused (Dependent combination)) = IsDependent value p combination
+HasProblemCause job n p (Refused _) = ⊥
+HasProblemCause job n p OutOfMemory = ⊤
+HasProblemCause job n p (PivotLimit place limit trail) =
     (limit ≡ job.limit) × ReachesProcessLimit value (sample value p) (rational (value job.lo)) (rational (value job.hi)) job.limit trail
-HasProblemCause job p (Overflow place trail spill) =
-    IsFitSpill value most p (rational (value job.lo)) (rational (value job.hi)) job.limit trail spill
-HasProblemCause job p _ = ⊥
+HasProblemCause job n p (Overflow place trail spill) =
+    IsFitSpill value most p n (rational (value job.lo)) (rational (value job.hi)) job.limit trail spill
+HasProblemCause job n p _ = ⊥

@@ -4,8 +4,8 @@ ghost use Rattle.report_text.specs.ReportText.{IsPrintable};
 ghost use Rattle.rq_engine.specs.Answers.{HasCause, IsRight};
 ghost use Rattle.rq_engine.specs.Built.{IsBuilt, IsJobOf};
 
-use crate::built::built_fit;
 use crate::process::fit_bytes;
+use crate::ranks::ranks_bytes;
 use report_text::{Halt, Report};
 use rq_words::Job;
 use std::alloc::Global;
@@ -14,11 +14,11 @@ use std::thread::Threads;
 /// The report of a job that this version does, from the bytes of its input.
 ///
 /// `Refused` is the first fault: of the bytes as a table, of the formula over the table's names, of
-/// the design, or of its problem; or `Dependent`, only where the columns of the problem are
-/// dependent. `NotBuilt` has part 3, exactly where the formula has a smooth. `PivotLimit` comes only
-/// where the lawful trail of the problem has as many pivots as the job's limit says and one more is
-/// left, and `Overflow` only where an operation of the solve at the low end, of the walk or of a
-/// rankscore overflows. `OutOfMemory` may come at any step.
+/// the design, of what its smooths add, or of the problem; or `Dependent`, only where the columns of
+/// the problem are dependent. `PivotLimit` comes only where the lawful trail of the problem has as
+/// many pivots as the job's limit says and one more is left, and `Overflow` only where an operation of
+/// the solve at the low end, of the walk, of a rankscore or of a Wilcoxon score overflows.
+/// `OutOfMemory` may come at any step.
 pub fn answer<R: Threads + Sync>(
     _rt: &R,
     alloc: Global,
@@ -32,9 +32,21 @@ pub fn answer<R: Threads + Sync>(
     ensures printable { IfOk result IsPrintable }
     ensures cause { IfErr result (HasCause job.now bytes.now) }
 {
-    let fit_job = built_fit(job).unwrap();
-    match fit_bytes(alloc, fit_job, bytes) {
-        Ok(fit) => Ok(Report::Process(fit)),
-        Err(halt) => Err(halt),
+    match job {
+        Job::Process(fit_job) => {
+            match fit_bytes(alloc, fit_job, fit_job.rank.is_some(), bytes) {
+                Ok(fit) => Ok(Report::Process(fit)),
+                Err(halt) => Err(halt),
+            }
+        }
+        Job::Ranks(fit_job) => {
+            match ranks_bytes(alloc, fit_job, bytes) {
+                Ok(ranks) => Ok(Report::Ranks(ranks)),
+                Err(halt) => Err(halt),
+            }
+        }
+        Job::Certify(_) => unreachable!(),
+        Job::Check => unreachable!(),
+        Job::Sample(_) => unreachable!(),
     }
 }

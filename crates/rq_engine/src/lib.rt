@@ -13,6 +13,7 @@ mod built;
 mod halt;
 mod job;
 mod process;
+mod ranks;
 
 pub use built::is_built;
 pub use job::answer;

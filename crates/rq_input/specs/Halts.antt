@@ -5,9 +5,11 @@ use Rattle.formula_parser.specs.declared.fault.FormulaFault.{FormulaFault}
 use Rattle.formula_parser.specs.declared.fault.FormulaFault.TheVariants as formulas
 use Rattle.design_matrix.specs.declared.fault.DesignFault.{DesignFault}
 use Rattle.design_matrix.specs.declared.fault.DesignFault.TheVariants as designs
+use Rattle.tv_penalty.specs.declared.fault.PenaltyFault.{PenaltyFault}
+use Rattle.tv_penalty.specs.declared.fault.PenaltyFault.TheVariants as penalties
 use Rattle.rq_program.specs.declared.fault.ProgramFault.{ProgramFault}
 use Rattle.rq_program.specs.declared.fault.ProgramFault.TheVariants as programs
-use Rattle.report_text.specs.declared.report.Refusal.TheVariants.{Table, Formula, Design, Program}
+use Rattle.report_text.specs.declared.report.Refusal.TheVariants.{Table, Formula, Design, Penalty, Program}
 use Rattle.report_text.specs.declared.report.Halt.{Halt}
 use Rattle.report_text.specs.declared.report.Halt.TheVariants.{Refused, OutOfMemory}
 
@@ -25,6 +27,11 @@ formula_halt fault = Refused (Formula fault)
 abbrev pub design_halt : DesignFault → Halt
 design_halt designs.OutOfMemory = OutOfMemory
 design_halt fault = Refused (Design fault)
+
+-- that of smooths that add nothing to a design
+abbrev pub penalty_halt : PenaltyFault → Halt
+penalty_halt penalties.OutOfMemory = OutOfMemory
+penalty_halt fault = Refused (Penalty fault)
 
 -- that of a design without a problem
 abbrev pub program_halt : ProgramFault → Halt

@@ -1,3 +1,5 @@
 pub mod Halts
 pub mod Inputs
 pub mod Models
+pub mod Rows
+pub mod Laws

@@ -1,13 +1,15 @@
 //! From the bytes of a job's input to its problem.
 //!
-//! The one contract: `read_input` gives the design of the table and the formula and the problem that
-//! they make, as `specs/Inputs.antt` says, or the first refusal. Every job that fits begins with it.
-//! It stands on `data_frame`, `formula_parser`, `design_matrix` and `rq_program` for the steps, on
-//! `rq_words` for the job and on `report_text` for the refusals, and on no solver.
+//! The one contract: `read_input` gives the design of the table and the formula, what the smooths of
+//! the formula add to it, and the problem that they make, as `specs/Inputs.antt` says, or the first
+//! refusal. Every job that fits begins with it. It stands on `data_frame`, `formula_parser`,
+//! `design_matrix`, `tv_penalty` and `rq_program` for the steps, on `rq_words` for the job and on
+//! `report_text` for the refusals, and on no solver. A law of `laws` says what the problem loses in
+//! the subject's words.
 #![tactic(auto)]
 
 mod halt;
 mod input;
-mod problem;
+pub mod laws;
 
 pub use input::{Input, read_input};

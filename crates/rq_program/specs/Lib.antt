@@ -1,3 +1,4 @@
 pub mod Programs
 pub mod Faults
 pub mod Costs
+pub mod Losses

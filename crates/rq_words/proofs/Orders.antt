@@ -83,3 +83,33 @@ process_range words f h =
     let high = both (le_ℚ zero f.lo && le_ℚ f.lo f.hi) (le_ℚ f.hi one) order in
     let within = both (le_ℚ zero f.lo) (le_ℚ f.lo f.hi) high.0 in
     (record { le = within.0 }, record { le = within.1 }, record { le = high.1 })
+
+-- ranks are taken over 0 to 1
+unit_range : (kind : Kind) (found : List Row) (n : OptionNumbers) (chosen : Coding) (f : FitRequest) → request_for kind found n chosen ≡ request.Ranks f → (zero ≡ f.lo) × (one ≡ f.hi)
+unit_range kind.Process found n chosen f h = absurd (cc h)
+unit_range kind.Ranks found n chosen f h = (cc h, cc h)
+unit_range kind.Certify found n chosen f h = absurd (cc h)
+unit_range kind.Check found n chosen f h = absurd (cc h)
+unit_range kind.Sample found n chosen f h = absurd (cc h)
+
+checked_over_all : (kind : Kind) (found : List Row) (f : FitRequest) → checked kind found ≡ Ok (request.Ranks f) → (zero ≡ f.lo) × (one ≡ f.hi)
+unfolding checked
+checked_over_all kind found f h =
+    let numbers = step_ok (numbers_of found) _ _ h in
+    let chosen = step_ok (option BadContrasts found (codes "contrasts") Treatment coding) _ _ numbers.1 in
+    unit_range kind found numbers.0 chosen.0 f (no_fault (fault_of numbers.0) (request_for kind found numbers.0 chosen.0) _ chosen.1).1
+
+job_over_all : (kind : Kind) (words : List Text) (f : FitRequest) → words_of_job kind words ≡ Ok (request.Ranks f) → (zero ≡ f.lo) × (one ≡ f.hi)
+unfolding words_of_job
+job_over_all kind words f h =
+    let short = short_ok (list_any is_long (drop 1 words)) _ BadOption _ h in
+    let found = found_ok (read_by (command_of (options_of kind)) words) (checked kind) BadOption _ short in
+    checked_over_all kind found.0 f found.1
+
+-- the range of ranks that the words ask for
+pub ranks_range : (words : List Text) (f : FitRequest) → words_of words ≡ Ok (request.Ranks f) → (zero ≡ f.lo) × (one ≡ f.hi)
+unfolding words_of
+ranks_range [] f h = absurd (cc h)
+ranks_range (job ∷ rest) f h =
+    let kind = found_ok (kind_of job) (λ kind. words_of_job kind (job ∷ rest)) UnknownJob _ h in
+    job_over_all kind.0 (job ∷ rest) f kind.1

@@ -333,25 +333,36 @@ some_ok : {A B : Type 0} (o : Option A) (step : A → Result B WordFault) (fault
 some_ok (Some a) step fault x h = (a, refl, h)
 some_ok None step fault x h = absurd (cc h)
 
-same_formula : (kind : Kind) (found : List Row) (n : OptionNumbers) (chosen : Coding) (f : FitRequest) → request_for kind found n chosen ≡ request.Process f
-    → text_or_empty (first_of (codes "formula") found) ≡ f.formula
-same_formula kind.Process found n chosen f h = cc h
-same_formula kind.Ranks found n chosen f h = absurd (cc h)
-same_formula kind.Certify found n chosen f h = absurd (cc h)
-same_formula kind.Check found n chosen f h = absurd (cc h)
-same_formula kind.Sample found n chosen f h = absurd (cc h)
+-- the formula that a request has, if it is of a fit of a table
+abbrev formula_in : Request → Text
+formula_in (request.Process f) = f.formula
+formula_in (request.Ranks f) = f.formula
+formula_in (request.Certify f) = f.formula
+formula_in request.Check = []
+formula_in (request.Sample s) = []
 
-checked_formula : (kind : Kind) (found : List Row) (f : FitRequest) → checked kind found ≡ Ok (request.Process f) → text_or_empty (first_of (codes "formula") found) ≡ f.formula
+abbrev HasShortFormula : Request → Type 0
+HasShortFormula r = IsShort (2 ^ 31) (formula_in r)
+
+request_short : (kind : Kind) (found : List Row) (n : OptionNumbers) (chosen : Coding) → IsShort (2 ^ 31) (text_or_empty (first_of (codes "formula") found))
+    → HasShortFormula (request_for kind found n chosen)
+request_short kind.Process found n chosen h = h
+request_short kind.Ranks found n chosen h = h
+request_short kind.Certify found n chosen h = h
+request_short kind.Check found n chosen h = lit< tt
+request_short kind.Sample found n chosen h = lit< tt
+
+checked_short : (kind : Kind) (found : List Row) (r : Request) → checked kind found ≡ Ok r → IsShort (2 ^ 31) (text_or_empty (first_of (codes "formula") found)) → HasShortFormula r
 unfolding checked
-checked_formula kind found f h =
+checked_short kind found r h short =
     let numbers = step_ok (numbers_of found) _ _ h in
     let chosen = step_ok (option_text BadContrasts found (codes "contrasts") Treatment coding) _ _ numbers.1 in
     let sound = no_fault (fault_of numbers.0) (request_for kind found numbers.0 chosen.0) _ chosen.1 in
-    same_formula kind found numbers.0 chosen.0 f sound.1
+    subst HasShortFormula sound.1 (request_short kind found numbers.0 chosen.0 short)
 
-job_formula : (kind : Kind) (words : List Text) (f : FitRequest) → words_of_job kind words ≡ Ok (request.Process f) → length f.formula < 2 ^ 31
+job_short : (kind : Kind) (words : List Text) (r : Request) → words_of_job kind words ≡ Ok r → HasShortFormula r
 unfolding words_of_job
-job_formula kind words f h =
+job_short kind words r h =
     let app = command_of (options_of kind) in
     let short = not_long (list_any is_long (drop 1 words)) _ BadOption _ h in
     let found = some_ok (read_by app words) (checked kind) BadOption _ short.1 in
@@ -359,12 +370,24 @@ job_formula kind words f h =
     found_short (2 ^ 31) (built app).top.rules (names_of (built app)) (drop 1 words) (options kind) (short_words (drop 1 words) short.0) in
     let same = matched app words found.0 found.1 in
     let formula = first_short (2 ^ 31) (codes "formula") found.0 (subst (λ (rows : List Row). Rows (2 ^ 31) rows) same rows) in
-    subst (λ (v : Text). length v < 2 ^ 31) (checked_formula kind found.0 f found.2) (text_short (2 ^ 31) (first_of (codes "formula") found.0) (lit< tt) formula)
+    checked_short kind found.0 r found.2 (text_short (2 ^ 31) (first_of (codes "formula") found.0) (lit< tt) formula)
 
--- the formula that the words of a process have is shorter than 2^31 bytes
-pub process_formula : (words : List Text) (f : FitRequest) → words_of words ≡ Ok (request.Process f) → length f.formula < 2 ^ 31
+-- the formula that words have is shorter than 2^31 bytes
+request_formula : (words : List Text) (r : Request) → words_of words ≡ Ok r → HasShortFormula r
 unfolding words_of
-process_formula [] f h = absurd (cc h)
-process_formula (job ∷ rest) f h =
+request_formula [] r h = absurd (cc h)
+request_formula (job ∷ rest) r h =
     let kind = found_ok (kind_of job) (λ kind. words_of_job kind (job ∷ rest)) UnknownJob _ h in
-    job_formula kind.0 (job ∷ rest) f kind.1
+    job_short kind.0 (job ∷ rest) r kind.1
+
+-- so is that of a process
+pub process_formula : (words : List Text) (f : FitRequest) → words_of words ≡ Ok (request.Process f) → length f.formula < 2 ^ 31
+process_formula words f h = request_formula words (request.Process f) h
+
+-- and that of ranks
+pub ranks_formula : (words : List Text) (f : FitRequest) → words_of words ≡ Ok (request.Ranks f) → length f.formula < 2 ^ 31
+ranks_formula words f h = request_formula words (request.Ranks f) h
+
+-- and that of a certificate
+pub certify_formula : (words : List Text) (f : FitRequest) → words_of words ≡ Ok (request.Certify f) → length f.formula < 2 ^ 31
+certify_formula words f h = request_formula words (request.Certify f) h

@@ -159,10 +159,14 @@ sample n = record {
   limit = n.limit;
 }
 
--- the request of a job with these options
+-- the same numbers over the range 0 to 1
+abbrev pub over_all : OptionNumbers → OptionNumbers
+over_all n = record n { lo = zero; hi = one }
+
+-- the request of a job with these options; ranks are taken over 0 to 1
 abbrev pub request_for : Kind → List Row → OptionNumbers → Coding → Request
 request_for kind.Process found n coding = request.Process (fit found n coding)
-request_for kind.Ranks found n coding = request.Ranks (fit found n coding)
+request_for kind.Ranks found n coding = request.Ranks (fit found (over_all n) coding)
 request_for kind.Certify found n coding = request.Certify (fit found n coding)
 request_for kind.Check found n coding = request.Check
 request_for kind.Sample found n coding = request.Sample (sample n)

@@ -4,7 +4,7 @@ ghost use Rattle.std.specs.Char.{is_ascii_digit};
 ghost use Rattle.std.specs.List.{list_all};
 ghost use Rattle.std.specs.Str.Parse.{digits_value};
 ghost use Rattle.rq_words.specs.Requests.{number, option_numbers};
-ghost use Rattle.rq_words.specs.Words.{count, given, has_digits, number_option, number_text, number_texts, numbers_of, quantiles};
+ghost use Rattle.rq_words.specs.Words.{count, given, has_digits, number_option, number_text, number_texts, numbers_of, over_all, quantiles};
 
 use crate::WordFault;
 use crate::options::Options;
@@ -225,5 +225,16 @@ impl Numbers {
             rows,
             columns,
         })
+    }
+
+    /// The same numbers over the range 0 to 1.
+    pub fn over_all(self) -> Numbers
+        ensures { option_numbers result ≡ over_all (option_numbers self) }
+    {
+        Numbers {
+            lo: Frac128::zero(),
+            hi: Frac128::one(),
+            ..self
+        }
     }
 }

@@ -97,7 +97,7 @@ pub(crate) fn job_of(alloc: Global, kind: Kind, options: &Options) -> Result<Job
         Kind::Check => return Ok(Job::Check),
         Kind::Sample => return Ok(Job::Sample(sample_of(&numbers))),
         Kind::Process => fit_of(alloc, options, numbers, coding).map(Job::Process),
-        Kind::Ranks => fit_of(alloc, options, numbers, coding).map(Job::Ranks),
+        Kind::Ranks => fit_of(alloc, options, numbers.over_all(), coding).map(Job::Ranks),
         Kind::Certify => fit_of(alloc, options, numbers, coding).map(Job::Certify),
     };
     match made {

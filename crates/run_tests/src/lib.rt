@@ -10,7 +10,11 @@ mod medians;
 #[cfg(test)]
 mod ranges;
 #[cfg(test)]
+mod ranks;
+#[cfg(test)]
 mod rows;
+#[cfg(test)]
+mod smooths;
 #[cfg(test)]
 mod stops;
 #[cfg(test)]

@@ -4,7 +4,7 @@ use crate::helpers::{REPORT, TABLE, assert_printed, assert_refused, ran_on};
 use std::test::Fail;
 
 // Each case: formula, quantile, exit status and line.
-static FAULTS: [(&str, &str, u8, &str); 15] = [
+static FAULTS: [(&str, &str, u8, &str); 14] = [
     (
         "y ~ x",
         "1/2",
@@ -32,18 +32,12 @@ static FAULTS: [(&str, &str, u8, &str); 15] = [
         "quantreg: formula: NumberTooWide offset=11\n",
     ),
     (
-        "y ~ qss(y, 1)",
+        "y ~ 1 - qss(y, 1)",
         "1/2",
-        9,
-        "quantreg: build: NotBuilt part=3\n",
+        1,
+        "quantreg: formula: Syntax offset=8\n",
     ),
     ("y ~ 0", "1/2", 1, "quantreg: design: NoColumns\n"),
-    (
-        "y ~ 1 - 1 + qss(y, 1)",
-        "1/2",
-        9,
-        "quantreg: build: NotBuilt part=3\n",
-    ),
     ("y ~ 1", "2/1", 2, "quantreg: usage: BadRange\n"),
     ("y ~ 1", "1.0001", 2, "quantreg: usage: BadRange\n"),
     ("y ~ 1", "1/0", 2, "quantreg: usage: BadNumber option=lo\n"),
@@ -70,7 +64,7 @@ fn other_formulas_and_quantiles_are_told(rt: HostRuntime) -> Result<(), Fail> {
 }
 
 // Each case: words that are refused, or that ask for what this version doesn't do.
-static COMMANDS: [(&str, u8, &str); 19] = [
+static COMMANDS: [(&str, u8, &str); 20] = [
     ("", 2, "quantreg: usage: NoJob\n"),
     ("fit", 2, "quantreg: usage: UnknownJob\n"),
     ("--help", 2, "quantreg: usage: UnknownJob\n"),
@@ -138,9 +132,14 @@ static COMMANDS: [(&str, u8, &str); 19] = [
         "quantreg: build: NotBuilt part=1\n",
     ),
     (
-        "ranks|--formula|y ~ 1",
-        9,
-        "quantreg: build: NotBuilt part=1\n",
+        "ranks|--formula|y ~ qss(y, 1)",
+        1,
+        "quantreg: rank: RankWithPenalty\n",
+    ),
+    (
+        "ranks|--formula|y ~ 1|--pivots|1",
+        6,
+        "quantreg: solver: PivotLimit place=process limit=1\n",
     ),
 ];
 

@@ -3,5 +3,5 @@ mod Distinct
 mod Overflowing
 mod Lists
 mod Looked
-mod Variations
+pub mod Variations
 mod Widths

@@ -14,7 +14,7 @@ use Rattle.data_frame.specs.Views.{exact}
 use Rattle.loss_model.specs.declared.spill.Site.{Site}
 use Rattle.loss_model.specs.declared.spill.Spill.{Spill}
 use Rattle.design_matrix.specs.Products.{value}
-use Rattle.tv_penalty.specs.Operations.{IsSpillOf, NoneOverflows, Operation, Overflows, OverflowsFirst, knot_site, operation_at}
+use Rattle.tv_penalty.specs.Operations.{IsSpillOf, NoneOverflows, SitedOperation, Overflows, OverflowsFirst, knot_site, operation_at}
 use Rattle.tv_penalty.specs.Smoothings.{bend_of}
 use Rattle.tv_penalty.specs.Views.{bend_seen}
 use Rattle.tv_penalty.proofs.Values.{same_value}
@@ -59,20 +59,20 @@ made x y z below at_knot above b a m = cc (m ∙ ap₂ (λ u v. neg_ℚ (u +ℚ 
 
 -- ---- along knots
 
-pub fits_append : (xs ys : List Operation) → NoneOverflows xs → NoneOverflows ys → NoneOverflows (xs ++ ys)
+pub fits_append : (xs ys : List SitedOperation) → NoneOverflows xs → NoneOverflows ys → NoneOverflows (xs ++ ys)
 fits_append [] ys h k = k
 fits_append (x ∷ xs) ys h k = (h.0, fits_append xs ys h.1 k)
 
-first_here : (xs ys : List Operation) (s : Spill Frac128) → OverflowsFirst xs s → OverflowsFirst (xs ++ ys) s
+first_here : (xs ys : List SitedOperation) (s : Spill Frac128) → OverflowsFirst xs s → OverflowsFirst (xs ++ ys) s
 first_here [] ys s h = absurd h
 first_here (x ∷ xs) ys s (inl h) = inl h
 first_here (x ∷ xs) ys s (inr h) = inr (h.0, first_here xs ys s h.1)
 
-first_behind : (xs ys : List Operation) (s : Spill Frac128) → NoneOverflows xs → OverflowsFirst ys s → OverflowsFirst (xs ++ ys) s
+first_behind : (xs ys : List SitedOperation) (s : Spill Frac128) → NoneOverflows xs → OverflowsFirst ys s → OverflowsFirst (xs ++ ys) s
 first_behind [] ys s h k = k
 first_behind (x ∷ xs) ys s h k = inr (h.0, first_behind xs ys s h.1 k)
 
-module _ (f : ℕ → List Operation) where
+module _ (f : ℕ → List SitedOperation) where
   range_split : (a k n : ℕ) → k < n → flat_map f (range_with_len a n) ≡ flat_map f (range_with_len a k) ++ (f (a + k) ++ flat_map f (range_with_len (a + k + 1) (n - (k + 1))))
   range_split a zero zero l = absurd (omega arith)
   range_split a zero (suc n) l = cc (ap f (let e : a ≡ a + zero = omega arith in e), ap (λ m. flat_map f (range_with_len m n)) (let e : a + 1 ≡ a + zero + 1 = omega arith in e), ap (λ m. flat_map f (range_with_len (a + zero + 1) m)) (let e : n ≡ suc n - (zero + 1) = omega arith in e))

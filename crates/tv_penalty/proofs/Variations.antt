@@ -23,17 +23,17 @@ use Rattle.tv_penalty.specs.Knots.{knots_of}
 use Rattle.tv_penalty.specs.Smoothings.{PartOf, PenaltyOf, bend_after, bend_entries, bend_row, bends_of, knot_at, part_of, placed, rows_from, smoothing_of, width, with_columns}
 use Rattle.tv_penalty.specs.Variation.{PenaltyIsVariation, along, penalty, slope, total_variation, values, variation_from}
 
-along_same : (xs : List ℚ) (b c : ℕ → ℚ) → ((j : ℕ) → b j ≡ c j) → along xs b ≡ along xs c
+pub along_same : (xs : List ℚ) (b c : ℕ → ℚ) → ((j : ℕ) → b j ≡ c j) → along xs b ≡ along xs c
 along_same [] b c h = refl
 along_same (x ∷ xs) b c h = ap₂ (λ u v. (x *ℚ u) +ℚ v) (h zero) (along_same xs (λ j. b (suc j)) (λ j. c (suc j)) (λ j. h (suc j)))
 
-along_append : (xs ys : List ℚ) (b : ℕ → ℚ) → along (xs ++ ys) b ≡ along xs b +ℚ along ys (λ j. b (length xs + j))
+pub along_append : (xs ys : List ℚ) (b : ℕ → ℚ) → along (xs ++ ys) b ≡ along xs b +ℚ along ys (λ j. b (length xs + j))
 along_append [] ys b = along_same ys b (λ j. b (zero + j)) (λ j. ap b (omega arith)) ∙ sym (zero-+ℚ (along ys (λ j. b (zero + j))))
 along_append (x ∷ xs) ys b =
     ap (λ z. (x *ℚ b zero) +ℚ z) (along_append xs ys (λ j. b (suc j)) ∙ ap (λ z. along xs (λ j. b (suc j)) +ℚ z) (along_same ys (λ j. b (suc (length xs + j))) (λ j. b (suc (length xs) + j)) (λ j. ap b (omega arith))))
     ∙ sym (+ℚ_assoc (x *ℚ b zero) (along xs (λ j. b (suc j))) (along ys (λ j. b (suc (length xs) + j))))
 
-along_zeros : (n : ℕ) (b : ℕ → ℚ) → along (replicate n (whole (pos 0))) b ≡ whole (pos 0)
+pub along_zeros : (n : ℕ) (b : ℕ → ℚ) → along (replicate n (whole (pos 0))) b ≡ whole (pos 0)
 along_zeros zero b = refl
 along_zeros (suc n) b =
     ap (λ z. (whole (pos 0) *ℚ b zero) +ℚ z) (along_zeros n (λ j. b (suc j))) ∙ ring_ℚ (b zero ∷ []) (number (pos 0) ⊠ v0 ⊞ number (pos 0)) (number (pos 0)) refl

@@ -1,4 +1,4 @@
--- Law. Why smooths add nothing to a design: the faults in the order in which they are looked for, smooth by smooth.
+-- Stated. Why smooths add nothing to a design: the faults in the order in which they are looked for, smooth by smooth.
 use Rattle.std.specs.Prelude.{◌≡◌, ◌⊎◌, ℕ, ◌+◌, Bool, List, [], ◌∷◌, Option, Some, None, length, nat_lt, if◌then◌else◌}
 use Rattle.std.specs.Option.{option_or}
 use Rattle.data_frame.specs.Views.{exact}
@@ -14,7 +14,7 @@ use Rattle.design_matrix.specs.CodedVariable.{is_text}
 use Rattle.tv_penalty.specs.declared.fault.PenaltyFault.{PenaltyFault}
 use Rattle.tv_penalty.specs.declared.fault.PenaltyFault.TheVariants.{OutOfMemory, NotNumeric, TooFewKnots, Overflow, TooManyColumns}
 use Rattle.tv_penalty.specs.Knots.{knots_of}
-use Rattle.tv_penalty.specs.Operations.{Operation, NoneOverflows, OverflowsFirst, smooth_operations}
+use Rattle.tv_penalty.specs.Operations.{SitedOperation, NoneOverflows, OverflowsFirst, smooth_operations}
 use Rattle.tv_penalty.specs.Smoothings.{has_rows, part_of, width}
 
 -- the column is a factor, or it has fewer than 3 values at the rows
@@ -44,7 +44,7 @@ abbrev pub smooth_fault : Setting → ℕ → Smooth → Option PenaltyFault
 smooth_fault at before s = option_or (knots_fault at.table at.rows s) (columns_fault (before + columns_in at s))
 
 -- the operations of a smooth's penalty rows
-abbrev pub operations_of : Setting → ℕ → Smooth → List Operation
+abbrev pub operations_of : Setting → ℕ → Smooth → List SitedOperation
 operations_of at number s =
     if has_rows at.penalised (exact s.lambda) then smooth_operations number (knots_of at.table at.rows s) else []
 

@@ -1,4 +1,4 @@
--- Law. The knots of a smooth: the distinct numbers of its column at the records of a design, ascending.
+-- Stated. The knots of a smooth: the distinct numbers of its column at the records of a design, ascending.
 use Rattle.std.specs.Prelude.{◌-◌, List, [], Option}
 use Rattle.std.specs.List.{filter_map}
 use Rattle.frac_core.specs.declared.frac128.Frac128.{Frac128}

@@ -1,4 +1,4 @@
--- Law. What smooths add to a design: a column for the value of the function at each knot, and a row for its change of
+-- Stated. What smooths add to a design: a column for the value of the function at each knot, and a row for its change of
 -- slope at each inner knot (Koenker, Ng and Portnoy 1994). Where the model has an intercept the function is 0 at the first
 -- knot, whose value has no column.
 use Rattle.std.specs.Prelude.{ℕ, ◌+◌, ◌-◌, ◌++◌, ◌&&◌, Bool, true, false, List, [], ◌∷◌, Option, codes, drop, length, map, pos, replicate, if◌then◌else◌}

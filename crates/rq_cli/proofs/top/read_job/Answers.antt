@@ -3,7 +3,7 @@ use Rattle.std.proofs.lemmas.Bool.{false≢true}
 use Rattle.rq_cli.proofs.top.read_job.Goals as goal
 
 pub returns-else-is_built-clause-refused : goal.returns-else-is_built-clause-refused
-returns-else-is_built-clause-refused c = λ _ _. inl (
+returns-else-is_built-clause-refused c = λ _ _. (
   refl,
   record {
     job = c.in-Ok.job;

@@ -2,10 +2,9 @@ use Rattle.std.proofs.Common.{arith, length, pos, ap, sym, ◌∙◌}
 use Rattle.exact_algebra.specs.Fraction.{rational}
 use Rattle.exact_algebra.specs.Rational.{whole}
 use Rattle.exact_algebra.proofs.RationalLaws.{≤ℚ_trans}
-use Rattle.loss_model.specs.Problem.{sample}
 use Rattle.report_text.specs.ReportText.{value}
 use Rattle.rankscores.specs.Scores.{IsScored}
-use Rattle.rq_engine.proofs.Costs.{data_costs}
+use Rattle.rq_engine.proofs.Costs.{input_costs}
 use Rattle.rq_engine.proofs.Fits.{few_segments, process_scorable, right_fit, short_cause, stop_cause}
 use Rattle.rq_engine.proofs.Scores.{zip_length}
 use Rattle.rq_engine.proofs.process.fit_input.Goals as goal
@@ -13,44 +12,47 @@ use Rattle.rq_engine.proofs.process.fit_input.Goals as goal
 pub process-requires-clause-costs_lo : goal.process-requires-clause-costs_lo
 process-requires-clause-costs_lo c κs =
     let lo = rational (value c.args.job.now.lo) in
-    data_costs (sample value c.args.input.problem) lo c.requires.low (≤ℚ_trans lo (rational (value c.args.job.now.hi)) (whole (pos 1)) c.requires.ordered c.requires.high) c.requires.data.each
+    input_costs c.args.input lo c.requires.low (≤ℚ_trans lo (rational (value c.args.job.now.hi)) (whole (pos 1)) c.requires.ordered c.requires.high) c.requires.rows
 
 pub process-requires-clause-costs_hi : goal.process-requires-clause-costs_hi
 process-requires-clause-costs_hi c κs =
     let hi = rational (value c.args.job.now.hi) in
-    data_costs (sample value c.args.input.problem) hi (≤ℚ_trans (whole (pos 0)) (rational (value c.args.job.now.lo)) hi c.requires.low c.requires.ordered) c.requires.high c.requires.data.each
+    input_costs c.args.input hi (≤ℚ_trans (whole (pos 0)) (rational (value c.args.job.now.lo)) hi c.requires.low c.requires.ordered) c.requires.high c.requires.rows
 
 pub returns-in-Err-clause-cause : goal.returns-in-Err-clause-cause
-returns-in-Err-clause-cause c = rw c.stop_halt.ensures (stop_cause c.args.job.now c.args.input.problem c.in-Err.stop c.in-Err.ensures.stopped)
+returns-in-Err-clause-cause c = rw c.stop_halt.ensures (stop_cause c.args.job.now (length c.args.input.design.rows) c.args.input.problem c.in-Err.stop c.in-Err.ensures.stopped)
 
 pub all_scores-requires-clause-scorable : goal.all_scores-requires-clause-scorable
 all_scores-requires-clause-scorable c κs =
-    rw c.as_slice.ensures (process_scorable value c.args.input.problem (rational (value c.args.job.now.lo)) (rational (value c.args.job.now.hi)) c.in-Ok.walked c.in-Ok.ensures.process.results)
+    rw c.as_slice-segments.ensures
+    (process_scorable value c.args.input.problem (rational (value c.args.job.now.lo)) (rational (value c.args.job.now.hi)) c.in-Ok.walked c.in-Ok.ensures.process.results)
 
 pub all_scores-requires-clause-few : goal.all_scores-requires-clause-few
 all_scores-requires-clause-few c κs =
     let few = few_segments value c.args.input.problem (rational (value c.args.job.now.lo)) (rational (value c.args.job.now.hi)) c.in-Ok.walked c.in-Ok.ensures.process.results in
-    omega (arith, ap length c.as_slice.ensures, few, c.in-Ok.ensures.short)
-
-pub returns-in-Ok-all_scores-clause-right : goal.returns-in-Ok-all_scores-clause-right
-returns-in-Ok-all_scores-clause-right c =
-    let under = c.fit_of.ensures.under in
-    record {
-      under = under;
-      right = right_fit c.args.job.now c.args.input.problem c.in-Ok.walked c.in-Ok-all_scores.scores c.requires.data.shaped c.in-Ok.ensures.process c.in-Ok.ensures.short (λ some. c.in-Ok.ensures.limited some)
-          (rw c.as_slice.ensures at c.in-Ok-all_scores.ensures.scored) c.fit_of.result c.fit_of.ensures.process c.fit_of.ensures.scores under.problem_is (under.data_rows ∙ sym c.requires.data.size);
-    }
-
-pub returns-in-Ok-all_scores-clause-printable : goal.returns-in-Ok-all_scores-clause-printable
-returns-in-Ok-all_scores-clause-printable c =
-    let p = c.args.input.problem in
-    let under = c.fit_of.ensures.under in
-    let each = zip_length (IsScored value p (length p.rows)) c.in-Ok.walked.segments c.in-Ok-all_scores.scores (rw c.as_slice.ensures at c.in-Ok-all_scores.ensures.scored) in (
-      ap length c.fit_of.ensures.scores ∙ each ∙ sym (ap (λ q. length q.segments) c.fit_of.ensures.process),
-      omega (arith, under.data_rows, c.requires.data.size, ap (λ p. length p.rows) under.problem_is),
-    )
+    omega (arith, ap length c.as_slice-segments.ensures, few, c.in-Ok.ensures.short)
 
 pub returns-in-Err-all_scores-clause-cause : goal.returns-in-Err-all_scores-clause-cause
 returns-in-Err-all_scores-clause-cause c =
     rw c.short_halt.ensures
-    (short_cause c.args.job.now c.args.input.problem c.in-Ok.walked c.in-Ok.ensures.process.results c.in-Ok.ensures.short c.in-Err-all_scores.short (rw c.as_slice.ensures at c.in-Err-all_scores.ensures.spilled))
+    (short_cause c.args.job.now (length c.args.input.design.rows) c.args.input.problem c.in-Ok.walked c.in-Ok.ensures.process.results c.in-Ok.ensures.short c.in-Err-all_scores.short
+    (rw c.as_slice-segments.ensures at (rw c.as_slice.ensures at c.in-Err-all_scores.ensures.spilled)))
+
+pub returns-in-Ok-fit_of-clause-right : goal.returns-in-Ok-fit_of-clause-right
+returns-in-Ok-fit_of-clause-right c =
+    let under = c.in-Ok-fit_of.ensures.under in
+    record {
+      under = under;
+      right = right_fit c.args.job.now (length c.args.input.design.rows) c.args.input.problem c.in-Ok.walked c.in-Ok-all_scores.scores c.requires.rows.shaped c.in-Ok.ensures.process c.in-Ok.ensures.short
+          (λ some. c.in-Ok.ensures.limited some) (rw c.as_slice-segments.ensures at (rw c.as_slice.ensures at c.in-Ok-all_scores.ensures.scored)) c.in-Ok-fit_of.fit c.in-Ok-fit_of.ensures.process
+          c.in-Ok-fit_of.ensures.scores under.problem_is under.data_rows;
+    }
+
+pub returns-in-Ok-fit_of-clause-printable : goal.returns-in-Ok-fit_of-clause-printable
+returns-in-Ok-fit_of-clause-printable c =
+    let under = c.in-Ok-fit_of.ensures.under in
+    let scored = rw c.as_slice-segments.ensures at (rw c.as_slice.ensures at c.in-Ok-all_scores.ensures.scored) in
+    let each = zip_length (IsScored value c.args.input.problem (length c.args.input.design.rows)) c.in-Ok.walked.segments c.in-Ok-all_scores.scores scored in (
+      ap length c.in-Ok-fit_of.ensures.scores ∙ each ∙ sym (ap (λ q. length q.segments) c.in-Ok-fit_of.ensures.process),
+      omega (arith, under.data_rows, c.requires.rows.size, ap (λ p. length p.rows) under.problem_is),
+    )

@@ -1,17 +1,16 @@
-use Rattle.std.proofs.Common.{arith}
+use Rattle.rq_input.specs.declared.input.Input.{Input}
+use Rattle.rq_input.proofs.Inputs.{has_rows, no_rows, together}
 use Rattle.rq_input.proofs.input.model_input.Goals as goal
 
-pub plain_problem-requires-clause-entries : goal.plain_problem-requires-clause-entries
-plain_problem-requires-clause-entries c = c.in-Ok.ensures.shape.entries
+pub problem-requires : goal.problem-requires
+problem-requires c = together c.args.model.now c.in-Ok.design c.in-Ok-qss_rows.smoothing c.in-Ok.ensures.shape c.in-Ok-qss_rows.ensures.shape
 
-pub plain_problem-requires-clause-some : goal.plain_problem-requires-clause-some
-plain_problem-requires-clause-some c = c.in-Ok.ensures.shape.some c.requires.stated.plain
+pub returns-in-Ok-problem-clause-rows : goal.returns-in-Ok-problem-clause-rows
+returns-in-Ok-problem-clause-rows c =
+    let input : Input = record { design = c.in-Ok.design; smoothing = c.in-Ok-qss_rows.smoothing; problem = c.in-Ok-problem.problem } in
+    let both = together c.args.model.now c.in-Ok.design c.in-Ok-qss_rows.smoothing c.in-Ok.ensures.shape c.in-Ok-qss_rows.ensures.shape in
+    has_rows input both c.in-Ok-problem.ensures.shaped c.in-Ok-problem.ensures.data_rows c.in-Ok.ensures.shape.weighted c.in-Ok-qss_rows.ensures.shape.weighted
 
-pub returns-in-Ok-plain_problem-clause-data : goal.returns-in-Ok-plain_problem-clause-data
-returns-in-Ok-plain_problem-clause-data c =
-    let rows = c.in-Ok-plain_problem.ensures.rows in
-    record {
-      shaped = c.in-Ok-plain_problem.ensures.shaped;
-      size = omega (arith, rows.count);
-      each = λ i l. rows.are_data c.in-Ok.ensures.shape.weighted i (omega (arith, rows.count));
-    }
+pub returns-in-Ok-problem-clause-unpenalised : goal.returns-in-Ok-problem-clause-unpenalised
+returns-in-Ok-problem-clause-unpenalised c =
+    λ none. no_rows c.args.frame.now c.in-Ok.design c.args.model.now c.in-Ok-qss_rows.smoothing c.in-Ok-qss_rows.ensures.rows none

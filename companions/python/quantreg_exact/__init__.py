@@ -1,0 +1,55 @@
+"""Exact quantile regression where pandas and matplotlib are at home.
+
+`fit` hands a data frame to the program quantreg and gives its report; `read_report` reads a report of any kind from text.
+Numbers are `fractions.Fraction` throughout, and each report has frames of floats. `plot_process` and `plot_fit` draw.
+"""
+
+from .faults import QuantregError, ReportError, read_fault
+from .fitting import Fit, fit, ranks
+from .plots import plot_fit, plot_process
+from .program import find_program, run
+from .reports import (
+    Certificate,
+    CheckReport,
+    Interval,
+    PathReport,
+    PathSegment,
+    Prediction,
+    PredictReport,
+    ProcessReport,
+    RanksReport,
+    SampleReport,
+    Segment,
+    Step,
+    TestReport,
+    read_report,
+    rearrange,
+)
+
+__all__ = [
+    "Certificate",
+    "CheckReport",
+    "Fit",
+    "Interval",
+    "PathReport",
+    "PathSegment",
+    "PredictReport",
+    "Prediction",
+    "ProcessReport",
+    "QuantregError",
+    "RanksReport",
+    "ReportError",
+    "SampleReport",
+    "Segment",
+    "Step",
+    "TestReport",
+    "find_program",
+    "fit",
+    "plot_fit",
+    "plot_process",
+    "ranks",
+    "read_fault",
+    "read_report",
+    "rearrange",
+    "run",
+]

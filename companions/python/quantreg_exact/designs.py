@@ -1,0 +1,238 @@
+"""The design of a fit, read back from the names of its columns.
+
+A report names the columns of its design and leaves their entries out. Where the table stands beside it, each name says what
+its entries are: a numeric column, a level of a factor, a column of a coding, a knot of a smooth, or a product of the first three.
+"""
+
+import csv
+import io
+import re
+from dataclasses import dataclass, field
+from fractions import Fraction
+
+from .numbers import is_number_text
+
+_BLANKS = " \t"
+# The tokens of a formula that matter here: names, with or without backticks, numbers, the dot of all columns, and what may open.
+_TOKEN = re.compile(
+    r"`(?P<quoted>[^`]*)`|(?P<name>(?:[A-Za-z]|\.[A-Za-z._])[A-Za-z0-9._]*)|(?:[0-9]+\.?[0-9]*|\.[0-9]+)(?:[eE][+-]?[0-9]+)?"
+    r"|(?P<dot>\.)|(?P<open>\()|[^\s]"
+)
+_KNOT = re.compile(r"qss\((?P<name>.*)\)\[(?P<knot>[^\]]*)\]", re.DOTALL)
+
+
+@dataclass(frozen=True)
+class Table:
+    """A table as text: the cells of each column by its name. A first column without a name has row names, and is left out."""
+
+    cells: dict
+    records: int
+    numeric: set = field(repr=False)
+
+    @staticmethod
+    def of_bytes(data):
+        lines = [row for row in csv.reader(io.StringIO(data.decode("utf-8-sig"), newline="")) if row]
+        if not lines:
+            raise ValueError("the table has no header")
+        header, records = lines[0], lines[1:]
+        first = 1 if header[0] == "" and len(header) > 1 else 0
+        cells = {name: [row[at] for row in records] for at, name in enumerate(header) if at >= first}
+        numeric = {name for name, column in cells.items() if all(_is_missing(it) or _is_numeric(it) for it in column)}
+        return Table(cells, len(records), numeric)
+
+    def has(self, record, columns):
+        """Whether no cell of the record is missing in these columns."""
+        return not any(_is_missing(self.cells[name][record]) for name in columns)
+
+    def number(self, record, name):
+        cell = self.cells[name][record].strip(_BLANKS)
+        if not is_number_text(cell):
+            raise ValueError(f"record {record + 1} has no number in {name}: {cell!r}")
+        return Fraction(cell)
+
+    def kept(self, fit, variables):
+        """The records that were fitted, from 0."""
+        used = [response_name(fit.formula), *variables, *([fit.weights] if fit.weights else [])]
+        kept = [record for record in range(self.records) if self.has(record, used)]
+        if fit.weights:
+            kept = [record for record in kept if self.number(record, fit.weights) != 0]
+        if len(kept) != fit.records:
+            raise ValueError(f"the table has {len(kept)} records for this fit, and the report {fit.records}")
+        return kept
+
+    def response(self, fit):
+        name = response_name(fit.formula)
+        return [self.number(record, name) for record in fit.meaning.kept]
+
+
+def _is_missing(cell):
+    return cell.strip(_BLANKS) in ("", "NA")
+
+
+def _is_numeric(cell):
+    return is_number_text(cell.strip(_BLANKS))
+
+
+def response_name(formula):
+    """The name of a formula's response, without backticks."""
+    first = _TOKEN.search(formula)
+    return first["name"] or first["quoted"]
+
+
+def _variables(formula, names):
+    """What a formula's right side may name: the columns as they are, and those in `factor( )`."""
+    tokens = list(_TOKEN.finditer(formula))
+    plain, factors = set(), set()
+    for at, token in enumerate(tokens[2:], 2):
+        opens = at + 2 < len(tokens) and tokens[at + 1]["open"]
+        if token["dot"]:
+            plain |= set(names) - {response_name(formula)}
+        elif token["name"] == "factor" and opens:
+            factors.add(tokens[at + 2]["name"] or tokens[at + 2]["quoted"])
+        elif token["name"] or token["quoted"] is not None:
+            plain.add(token["name"] or token["quoted"])
+    return plain, factors
+
+
+@dataclass(frozen=True)
+class _Variable:
+    """A column of the table as the formula takes it: its label in names, and whether it is a factor."""
+
+    column: str
+    label: str
+    is_factor: bool
+    is_number: bool
+
+    def level(self, table, record):
+        """The level of a record's cell: the cell as it stands, or the number that it is."""
+        return table.number(record, self.column) if self.is_number else table.cells[self.column][record]
+
+
+@dataclass(frozen=True)
+class _Part:
+    """One factor of an entry: a variable's number, whether it has a level, or column `index` of its coding."""
+
+    variable: _Variable
+    level: object = None
+    index: int = 0
+
+    def entry(self, table, record, levels, coding):
+        if not self.variable.is_factor:
+            return table.number(record, self.variable.column)
+        level = self.variable.level(table, record)
+        if level not in levels[self.variable.label]:
+            raise ValueError(f"record {record + 1} has a level of {self.variable.column} that the fit lacks: {level!s}")
+        if not self.index:
+            return Fraction(level == self.level)
+        known = levels[self.variable.label]
+        return _coded(coding, self.index, known.index(level) + 1, len(known))
+
+
+def _coded(coding, column, level, levels):
+    """The entry of column `column` at level `level` of so many, both from 1, by sums or by Helmert's coding."""
+    if coding == "sum":
+        return Fraction((level == column) - (level == levels))
+    return Fraction(-1 if level <= column else column if level == column + 1 else 0)
+
+
+class Names:
+    """What the names of a fit's columns mean over its table."""
+
+    def __init__(self, fit):
+        self.fit, self.table = fit, fit.table
+        self.candidates = self._candidates()
+        self.parts = [self._of_name(name) for name in fit.names]
+        self.variables = list(dict.fromkeys(part.variable.column for parts in self.parts for part in parts))
+        self.kept = self.table.kept(fit, self.variables)
+        self.levels = self._levels()
+
+    def _candidates(self):
+        """Each variable that the formula may name, with the suffixes that its columns may have."""
+        plain, factors = _variables(self.fit.formula, self.table.cells)
+        candidates = []
+        for name in self.table.cells:
+            is_number = name in self.table.numeric
+            if name in factors:
+                candidates.append(self._candidate(_Variable(name, f"factor({name})", True, is_number)))
+            if name in plain:
+                candidates.append(self._candidate(_Variable(name, name, not is_number, is_number)))
+        return candidates
+
+    def _candidate(self, variable):
+        return variable, self._suffixes(variable) if variable.is_factor else {"": [None]}
+
+    def _suffixes(self, variable):
+        """The texts behind a factor's label, each with the level or the number of a column that it may stand for."""
+        records = (record for record in range(self.table.records) if self.table.has(record, [variable.column]))
+        levels = {variable.level(self.table, record) for record in records}
+        suffixes = {str(level): [level] for level in levels}
+        if self.fit.contrasts in ("sum", "helmert"):
+            for column in range(1, len(levels)):
+                suffixes.setdefault(str(column), []).append(_Column(column))
+        return suffixes
+
+    def _of_name(self, name):
+        if name == "(Intercept)":
+            return []
+        knot = _KNOT.fullmatch(name)
+        if knot:
+            return [_Part(_Variable(knot["name"], name, True, True), Fraction(knot["knot"]))]
+        found = self._products(name)
+        if len(found) != 1:
+            raise ValueError(f"the column {name!r} can be read in {len(found)} ways over this table")
+        return found[0]
+
+    def _products(self, text):
+        found = []
+        for variable, suffixes in self.candidates:
+            for suffix, levels in suffixes.items():
+                start = variable.label + suffix
+                if text != start and not text.startswith(start + ":"):
+                    continue
+                heads = [self._part(variable, level) for level in levels]
+                tails = [[]] if text == start else self._products(text[len(start) + 1 :])
+                found += [[head, *tail] for head in heads for tail in tails]
+        return found
+
+    @staticmethod
+    def _part(variable, level):
+        return _Part(variable, index=level.number) if isinstance(level, _Column) else _Part(variable, level)
+
+    def _levels(self):
+        """The levels of each factor among the kept records, in their order."""
+        levels = {}
+        for variable in {part.variable for parts in self.parts for part in parts if part.variable.is_factor}:
+            levels[variable.label] = sorted({variable.level(self.table, record) for record in self.kept})
+        return levels
+
+    def row(self, table, record):
+        row = []
+        for parts in self.parts:
+            entry = Fraction(1)
+            for part in parts:
+                entry *= part.entry(table, record, self.levels, self.fit.contrasts)
+            row.append(entry)
+        return row
+
+
+@dataclass(frozen=True)
+class _Column:
+    """The number of a column of a coding."""
+
+    number: int
+
+
+def design_rows(fit, table):
+    """The rows of the fit's design: of its own table those of the kept records, of another one a row or None for each."""
+    names = fit.meaning
+    if table is not fit.table:
+        absent = [name for name in names.variables if name not in table.cells]
+        if absent:
+            raise ValueError(f"the new data have no column {', '.join(absent)}")
+        return [names.row(table, it) if table.has(it, names.variables) else None for it in range(table.records)]
+    rows = [names.row(table, record) for record in names.kept]
+    response, segment = table.response(fit), fit.segments[0]
+    for row in (it for it in segment.basic if it <= fit.data):
+        if sum(x * b for x, b in zip(rows[row - 1], segment.coef)) != response[row - 1]:
+            raise ValueError(f"record {row} of the basis is not fitted by the design that was read from the names")
+    return rows

@@ -1,0 +1,58 @@
+# Reports as lists. The package reads those of `process` and `ranks`.
+
+#' The double nearest to a number text, up to two roundings: a whole number, a ratio, Inf or -Inf.
+fraction_value <- function(text) {
+    slash <- regexpr("/", text, fixed = TRUE)
+    top <- as.numeric(ifelse(slash > 0, substring(text, 1, slash - 1), text))
+    top / as.numeric(ifelse(slash > 0, substring(text, slash + 1), "1"))
+}
+
+# The words of the lines that begin with `word`, so many behind it, as a matrix of texts; the last is the rest of its line.
+fields_of <- function(lines, word, count) {
+    lines <- lines[startsWith(lines, paste0(word, " "))]
+    pattern <- paste0("^", word, strrep(" ([^ ]*)", count - 1), " (.*)$")
+    found <- regmatches(lines, regexec(pattern, lines))
+    if (any(lengths(found) != count + 1)) stop("a line ", word, " has other fields than ", count, call. = FALSE)
+    if (!length(found)) return(matrix("", 0, count))
+    do.call(rbind, found)[, -1, drop = FALSE]
+}
+
+# One segment from its lines: ends, coefficients and losses as texts, the marks, and the scores of its basis at both ends.
+read_segment <- function(lines, columns) {
+    ends <- fields_of(lines[1], "segment", 3)[1, 2:3]
+    coef <- fields_of(lines, "coef", 2)
+    basic <- fields_of(lines, "basic", 3)
+    marks <- fields_of(lines, "scores", 1)[1, 1]
+    if (nrow(coef) != columns || nrow(basic) != columns) stop("a segment lacks a line", call. = FALSE)
+    scores <- basic[, 2:3, drop = FALSE]
+    dimnames(scores) <- list(basic[, 1], c("lo", "hi"))
+    list(lo = ends[1], hi = ends[2], coef = coef[, 2], loss = fields_of(lines, "loss", 2)[1, ], marks = marks, basic = scores)
+}
+
+#' The report of a run, from its lines or its text: a list with `kind` process or ranks.
+#'
+#' Numbers are texts, which fraction_value turns into doubles.
+read_report <- function(text) {
+    lines <- if (length(text) == 1) strsplit(text, "\n", fixed = TRUE)[[1]] else text
+    kind <- match(lines[1], c("quantreg 1", "quantreg ranks 1"))
+    if (is.na(kind) || lines[length(lines)] != "end") stop("no whole report of process or ranks", call. = FALSE)
+    counts <- fields_of(lines, "records", 3)[1, ]
+    names <- unescaped(fields_of(lines, "column", 2)[, 2])
+    report <- list(
+        kind = c("process", "ranks")[kind], records = as.integer(counts[1]), dropped = as.integer(counts[3]),
+        names = names, pivots = as.integer(fields_of(lines, "pivots", 1))
+    )
+    if (report$kind == "ranks") return(c(report, list(wilcoxon = fields_of(lines, "wilcoxon", 2)[, 2])))
+    rows <- fields_of(lines, "data", 3)[1, ]
+    starts <- which(startsWith(lines, "segment "))
+    if (!length(starts)) stop("the report has no segment", call. = FALSE)
+    tail <- c(which(startsWith(lines, "interval ")), length(lines))[1]
+    pieces <- Map(function(from, to) lines[from:to], starts, c(starts[-1], tail) - 1)
+    intervals <- as.data.frame(fields_of(lines, "interval", 4))
+    names(intervals) <- c("column", "tau", "low", "high")
+    intervals$column <- as.integer(intervals$column)
+    c(report, list(
+        data = as.integer(rows[1]), penalty = as.integer(rows[3]),
+        segments = lapply(pieces, read_segment, columns = length(names)), intervals = intervals
+    ))
+}

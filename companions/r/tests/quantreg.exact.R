@@ -1,0 +1,135 @@
+# What the package gives, beside values that are worked by hand or by R. With no program in QUANTREG only texts are read.
+library(quantreg.exact)
+
+line <- "quantreg 1
+records 3 dropped 0
+column 1 (Intercept)
+column 2 x
+data 3 penalty 0
+pivots 2
+segment 1 0 3/5
+coef 1 0
+coef 2 1
+loss 0 3/5
+scores *1*
+basic 1 1 0
+basic 3 1 1/5
+segment 2 3/5 1
+coef 1 3/2
+coef 2 1/2
+loss 3/5 0
+scores 0**
+basic 2 1 0
+basic 3 1/5 0
+interval 1 1/2 0 3/2
+interval 2 1/2 -Inf Inf
+end
+"
+report <- read_report(line)
+stopifnot(
+    identical(report$names, c("(Intercept)", "x")), report$pivots == 2, length(report$segments) == 2,
+    identical(report$segments[[2]]$coef, c("3/2", "1/2")), identical(report$segments[[1]]$basic["3", "hi"], "1/5"),
+    identical(fraction_value(report$intervals$high), c(1.5, Inf)), identical(fraction_value("-1/4"), -0.25)
+)
+ranks <- read_report("quantreg ranks 1\nrecords 2 dropped 0\ncolumn 1 a \\x09\\x5cb\npivots 1\nwilcoxon 1 -1/4\nwilcoxon 2 1/4\nend\n")
+stopifnot(identical(ranks$names, "a \t\\b"), identical(ranks$wilcoxon, c("-1/4", "1/4")))
+refused <- function(text) inherits(try(read_report(text), silent = TRUE), "try-error")
+lines <- strsplit(line, "\n")[[1]]
+stopifnot(refused(lines[-length(lines)]), refused(sub("quantreg 1", "quantreg 2", line)), refused(lines[-9]), refused(lines[-13]))
+
+# A program that writes down its words and answers with a given text and status.
+fake <- function(answer, status = 0) {
+    at <- tempfile("program")
+    writeLines(answer, paste0(at, ".answer"))
+    to <- if (status == 0) "" else " >&2"
+    writeLines(c("#!/bin/sh", sprintf("printf '%%s\\n' \"$@\" > %s.words; cat > %s.table; cat %s.answer%s; exit %d", at, at, at, to, status)), at)
+    Sys.chmod(at, "755")
+    at
+}
+three <- data.frame(y = c(0, 2, 3), x = c(0, 1, 3))
+median <- sub("segment 1 0 3/5", "segment 1 1/2 1/2", sub("\nsegment 2.*?\ninterval", "\ninterval", line))
+program <- fake(strsplit(median, "\n")[[1]])
+fit <- rq_exact(y ~ x, three, program = program)
+table <- summary(fit, alpha = 0.1)
+words <- readLines(paste0(program, ".words"))
+stopifnot(
+    identical(readLines(paste0(program, ".table")), c("\"y\",\"x\"", "0,0", "2,1", "3,3")),
+    identical(words[1:4], c("process", "--formula=y ~ x", "--lo=0.5", "--hi=0.5")), words[7] == "--rank-at=0.5",
+    all.equal(as.numeric(sub("--crit=", "", words[6])), qt(0.95, 1)^2),
+    identical(unname(table$tables[[1]][, "upper bd"]), c(1.5, Inf)), identical(unname(table$tables[[1]][, 1]), c(0, 1))
+)
+fault <- tryCatch(
+    rq_exact(y ~ x, three, program = fake("quantreg: design: NumberTooWide record=1 column=a b=\\x5cc", 1)), quantreg_error = identity
+)
+stopifnot(fault$status == 1, fault$name == "NumberTooWide", identical(fault$fields, list(record = "1", column = "a b=\\c")))
+
+if (!nzchar(Sys.getenv("QUANTREG"))) {
+    cat("skipped: fits by the program, which QUANTREG doesn't name\n")
+    quit(status = 0)
+}
+
+median <- rq_exact(stack.loss ~ ., stackloss)
+stopifnot(
+    identical(unname(coef(median, exact = TRUE)), c("-13693/345", "287/345", "66/115", "-7/115")),
+    all.equal(sum(abs(residuals(median))) / 2, 7259 / 345), all.equal(unname(residuals(median) + fitted(median)), stackloss$stack.loss),
+    identical(which(residuals(median) == 0), c("2" = 2L, "8" = 8L, "16" = 16L, "18" = 18L))
+)
+all_quantiles <- rq_exact(stack.loss ~ ., stackloss, tau = -1)
+stopifnot(length(all_quantiles$segments) == 25, identical(dim(coef(all_quantiles)), c(4L, 25L)))
+several <- rq_exact(y ~ x, three, tau = c("1/5", "4/5"))
+stopifnot(identical(unname(coef(several)["x", ]), c(1, 0.5)), identical(dim(residuals(several)), c(3L, 2L)))
+weighted <- rq_exact(y ~ 1, data.frame(y = c(1, 2, 9), w = c(1, 3, 0)), tau = "1/8", weights = "w")
+stopifnot(coef(weighted) == 1, weighted$dropped == 1, identical(unname(residuals(weighted)), c(0, 1)))
+factors <- data.frame(y = c(1, 4, 2, 8, 5, 7), f = c("b", "a", "c", "b", "a", "c"))
+for (contrasts in c("treatment", "sas", "sum", "helmert")) {
+    stopifnot(length(residuals(rq_exact(y ~ f, factors, contrasts = contrasts))) == 6)
+}
+for (wrong in list(data.frame(y = 1:2, f = factor(1:2)), data.frame(y = c(1, Inf), f = 1:2))) {
+    stopifnot(inherits(try(rq_exact(y ~ f, wrong), silent = TRUE), "try-error"))
+}
+stopifnot(identical(ranks_exact(y ~ x, three)$exact, c("-1/5", "3/10", "-1/10")))
+# Whichever version of the program stands, its intervals are right or it says NotBuilt. The records 1 to 5 have the interval 2 to 4 for
+# each critical value from 1/5 to below 9/5, such as the square of qt(0.75, 4).
+found <- tryCatch(summary(rq_exact(y ~ 1, data.frame(y = 1:5)), alpha = 0.5)$tables[[1]], warning = conditionMessage)
+stopifnot(grepl("NotBuilt", found[1]) || identical(unname(found[1, ]), c(3, 2, 4)))
+
+# Each picture has something on it.
+for (draw in list(function() plot(all_quantiles), function() plot(several))) {
+    file <- tempfile(fileext = ".png")
+    if (capabilities("png")) {
+        grDevices::png(file, 800, 600)
+        draw()
+        grDevices::dev.off()
+        stopifnot(file.size(file) > 3000)
+    }
+}
+stopifnot(inherits(try(plot(median), silent = TRUE), "try-error"))
+
+if (requireNamespace("quantreg", quietly = TRUE)) {
+    both <- compare_rq(stack.loss ~ ., stackloss, c(0.25, 0.5))
+    stopifnot(both$summary$verdict == "same", both$summary$difference < 1e-9, nrow(both$coefficients) == 8)
+    # At 1/2 of two records any value between them has the same loss.
+    two <- compare_rq(y ~ 1, data.frame(y = c(1, 2, 3, 4)))
+    stopifnot(two$summary$verdict %in% c("same", "not unique: both losses agree"))
+    # rqss wants its own words on the path. Its lambda is twice ours: the fit at twice the number has our loss, to the digits
+    # of an interior point method.
+    suppressPackageStartupMessages(library(quantreg))
+    wave <- data.frame(x = rep(1:12, 2), y = c(3, 9, 4, 12, 7, 2, -5, -3, -9, -8, 1, -2, 5, 4, 8, 9, 9, 1, -4, -9, -6, -11, -3, 2))
+    smooth_loss <- function(values, lambda, tau) {
+        residuals <- wave$y - values[wave$x]
+        sum(residuals * (tau - (residuals < 0))) + lambda * sum(abs(diff(diff(values))))
+    }
+    for (lambda in c(0.2, 0.5, 1.5)) for (tau in c(0.25, 0.5)) {
+        ours <- fraction_value(rq_exact(stats::as.formula(sprintf("y ~ qss(x, %g)", lambda)), wave, tau)$exact_loss)
+        theirs <- vapply(1:2, function(times) {
+            fit <- rqss(y ~ qss(x, lambda = times * lambda), tau = tau, data = wave)
+            smooth_loss(fitted(fit)[match(1:12, wave$x)], lambda, tau)
+        }, 0)
+        stopifnot(abs(theirs[2] - ours) < 1e-5 * ours)
+        # The fit at the same number is another one.
+        if (tau == 0.25) stopifnot(theirs[1] > ours + 0.5)
+    }
+} else {
+    cat("skipped: comparisons with rq, for R has no package quantreg\n")
+}
+cat("all of it holds\n")

@@ -1,0 +1,7 @@
+use Rattle.std.proofs.Common.{refl, true}
+use Rattle.rq_engine.specs.Answers.{HasRanksCause}
+use Rattle.rq_engine.proofs.Scoring.{ranks_input_cause, ranks_scoring_cause}
+use Rattle.rq_engine.proofs.ranks.ranks_bytes.Goals as goal
+
+pub returns-in-Err-clause-cause : goal.returns-in-Err-clause-cause
+returns-in-Err-clause-cause c = ranks_input_cause c.args.job.now c.args.bytes.now c.in-Err.halt c.in-Err.ensures.cause
