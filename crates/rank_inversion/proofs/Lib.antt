@@ -1,9 +1,3 @@
 mod Operations
 mod Projections
 mod GramLaws
-mod Breaks
-mod Spills
-mod EndValues
-mod WalkLaws
-mod NoStep
-mod Inverted
