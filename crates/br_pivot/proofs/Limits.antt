@@ -12,12 +12,12 @@ use Rattle.basis_inverse.specs.Square.{inverse_entry}
 use Rattle.pivot_rule.specs.Duals.{HasCosts}
 use Rattle.pivot_rule.proofs.Solved.{full_rank}
 use Rattle.pivot_rule.proofs.Unique.{one_trail}
-use Rattle.br_pivot.specs.declared.solve.Solved.{Solved}
+use Rattle.br_pivot.specs.declared.solve.Optimum.{Optimum}
 use Rattle.br_pivot.specs.Solutions.{IsSolution}
 use Rattle.br_pivot.specs.Solves.{IsLimited, IsLimitAnswer}
 use Rattle.fraction_tableau.proofs.Inverses.{basis_of, ends_of}
 
-pub solution_limited : {F : Type 0} (value : F → Fraction) (p : Problem F) (theta : ℚ) (limit : ℕ) (s : Solved F) → HasCosts (sample value p) theta → IsSolution value p theta s → length s.trail.steps ≤ limit → ¬ IsLimited value (sample value p) theta limit
+pub solution_limited : {F : Type 0} (value : F → Fraction) (p : Problem F) (theta : ℚ) (limit : ℕ) (s : Optimum F) → HasCosts (sample value p) theta → IsSolution value p theta s → length s.trail.steps ≤ limit → ¬ IsLimited value (sample value p) theta limit
 solution_limited {F} value p theta limit s costs h short (trail, reached) =
     one_trail value (sample value p) theta costs s.trail trail s.basis.rows limit h.lawful
     (record { size = h.inverse.size; a = inverse_entry value s.inverse; is_basis = basis_of value p s.basis.rows s.inverse h.inverse; ends = ends_of value p s.basis.rows s.inverse h.inverse; holds = h.stop })

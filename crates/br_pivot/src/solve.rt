@@ -13,13 +13,13 @@ use basis_inverse::Inverse;
 use frac_core::{Exact, List};
 use loss_model::{Basis, Problem, Stop, Trail, Vertex};
 use std::alloc::Global;
-use tableau::{Halt, Reached, Solution, solve};
+use tableau::{Halt, Progress, Solution, solve};
 use tableau_model::Refusal;
 
 /// An optimal vertex with the dual values of its basic rows, ascending; and how it was reached: the
 /// basis by position, its inverse, and the trail that leads to it.
 #[derive(Drop)]
-pub struct Solved<F: Exact> {
+pub struct Optimum<F: Exact> {
     pub vertex: Vertex<F>,
     pub basic: List<F>,
     pub inverse: Inverse<F>,
@@ -33,7 +33,7 @@ fn with_inverse<'a, F: Exact>(
     theta: F,
     limit: u32,
     solution: Solution<'a, F>,
-) -> Solved<F>
+) -> Optimum<F>
     requires costs { HasCosts (sample F.value problem.now) (rational (F.value theta)) }
     requires solution { IsFound F.value (record { problem = problem.now; body = in_fractions }) (rational (F.value theta)) limit solution }
     ensures solution { IsSolution F.value problem.now (rational (F.value theta)) result }
@@ -44,7 +44,7 @@ fn with_inverse<'a, F: Exact>(
     let _limit = limit;
     let Solution { fitted, reached } = solution;
     let (basis, inverse) = reached.tableau.into_parts();
-    Solved {
+    Optimum {
         vertex: fitted.vertex,
         basic: fitted.basic,
         inverse,
@@ -81,7 +81,7 @@ pub fn solve_at<F: Exact>(
     problem: &Problem<F>,
     theta: F,
     limit: u32,
-) -> Result<Solved<F>, Stop<F>>
+) -> Result<Optimum<F>, Stop<F>>
     requires shaped { IsWellShaped problem.now }
     requires costs { HasCosts (sample F.value problem.now) (rational (F.value theta)) }
     ensures solution { IfOk result (IsSolution F.value problem.now (rational (F.value theta))) }
@@ -89,7 +89,7 @@ pub fn solve_at<F: Exact>(
     ensures stopped { IfErr result (IsSolveStop F.value F.range problem.now (rational (F.value theta)) limit) }
     ensures limited { IsLimited F.value (sample F.value problem.now) (rational (F.value theta)) limit → IsLimitAnswer result }
 {
-    let begun = Reached::begin(alloc, problem)?;
+    let begun = Progress::begin(alloc, problem)?;
     match solve(begun, theta, limit) {
         Ok(solution) => Ok(with_inverse(problem, theta, limit, solution)),
         Err(halt) => Err(stopped(problem, theta, limit, halt)),

@@ -74,7 +74,7 @@ impl Exact for Frac64 {
     }
 
     fn from_parts(n: i128, d: i128) -> Option<Self> {
-        Some(Frac64::from_lowest(Parts::reduced(n, d, LIMIT)?))
+        Some(Frac64::from_lowest(Parts::signed_lowest(n, d, LIMIT)?))
     }
 
     fn numerator(self) -> i128 {
@@ -97,7 +97,7 @@ impl Exact for Frac64 {
     }
 
     fn try_sub(self, other: Self) -> Result<Self, Op<Self>> {
-        match self.parts().plus(other.parts().negated(LIMIT), LIMIT) {
+        match self.parts().plus(other.parts().negation(LIMIT), LIMIT) {
             Some(difference) => Ok(Frac64::from_lowest(difference)),
             None => Err(Op {
                 kind: OpKind::Sub,
@@ -130,7 +130,7 @@ impl Exact for Frac64 {
     }
 
     fn neg(self) -> Self {
-        Frac64::from_lowest(self.parts().negated(LIMIT))
+        Frac64::from_lowest(self.parts().negation(LIMIT))
     }
 
     fn sign(self) -> i8 {

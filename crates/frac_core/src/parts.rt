@@ -53,7 +53,7 @@ impl Parts {
     }
 
     /// `n / d`, and `None` where `d` is 0 or the fraction in lowest terms is beyond the limit.
-    pub(crate) fn reduced(n: i128, d: i128, limit: u128) -> Option<Parts>
+    pub(crate) fn signed_lowest(n: i128, d: i128, limit: u128) -> Option<Parts>
         requires { limit < 2 ^ 127 }
         ensures exact { IfSome result (λ r. IsExact limit (fraction r) (whole n *ℚ inverse (whole d))) }
         ensures refused { IsNone result ↔ ((d ≡ pos 0) ⊎ ¬ (ReducesWithin limit n (unsigned_abs d))) }
@@ -62,7 +62,7 @@ impl Parts {
             return None;
         }
         let parts = Parts::lowest(n, d.unsigned_abs(), limit)?;
-        Some(if d < 0 { parts.negated(limit) } else { parts })
+        Some(if d < 0 { parts.negation(limit) } else { parts })
     }
 
     /// The sum, where its four numbers are within the limit.
@@ -126,7 +126,7 @@ impl Parts {
 
     /// The negated fraction.
     #[inline(always)]
-    pub(crate) fn negated(self, limit: u128) -> Parts
+    pub(crate) fn negation(self, limit: u128) -> Parts
         requires limited { limit < 2 ^ 127 }
         requires within { IsWithin limit (fraction self) }
         ensures value { fraction result ≡ negated (fraction self) }

@@ -8,7 +8,7 @@ use Rattle.loss_model.specs.declared.spill.Short.TheVariants.{OutOfMemory, Overf
 use Rattle.loss_model.specs.Quantities.{IsShortOf, IsExchangeSpill}
 use Rattle.pivot_rule.specs.Spills.{of_exchange, of_basis}
 use Rattle.walk_rule.specs.WalkSpills.{of_exchange as walk_exchange, of_basis as walk_basis, of_pivot}
-use Rattle.tableau_model.specs.declared.refusal.Refused.{Refused}
+use Rattle.tableau_model.specs.declared.refusal.Failure.{Failure}
 use Rattle.tableau_model.specs.Places.{Place, in_fractions, sample_of}
 use Rattle.tableau_model.specs.Questions.{Question, solving, walking, IsStepOf, IsSpillAt}
 use Rattle.tableau_model.specs.Refusals.{IsRefusalAt, IsRefusedOf}
@@ -20,7 +20,7 @@ short_weaker P Q h OutOfMemory k = tt
 short_weaker P Q h (Overflow s) k = h s k
 
 -- where what overflows is an operation for the question, the refusal is one to it
-pub short_refused : {F : Type 0} (value : F → Fraction) (range : ℕ) (h : Place F) (asked : Question) (P : Spill F → Type 0) (e : Short F) (r : Refused F)
+pub short_refused : {F : Type 0} (value : F → Fraction) (range : ℕ) (h : Place F) (asked : Question) (P : Spill F → Type 0) (e : Short F) (r : Failure F)
     → h.task.body ≡ in_fractions → ((s : Spill F) → P s → IsSpillAt value range h asked s) → IsShortOf P e → IsSameShort e r → IsRefusedOf (IsRefusalAt value range h asked) r
 short_refused value range h asked P OutOfMemory r body by k same = subst (IsRefusedOf (IsRefusalAt value range h asked)) (sym same) tt
 short_refused value range h asked P (Overflow s) r body by k same = subst (IsRefusedOf (IsRefusalAt value range h asked)) (sym same) (body, by s k)

@@ -14,11 +14,11 @@ use crate::standing::{Next, Standing};
 use crate::vertex::{ascending, by_row};
 use frac_core::{Exact, OutOfMemory};
 use loss_model::{Basis, Vertex};
-use tableau_model::{Fitted, Refused, Step};
+use tableau_model::{Failure, Fitted, Step};
 
 impl<'a, F: Exact> FractionTableau<'a, F> {
     /// The solving step at theta that is left, or none where no slope is negative.
-    pub fn solving_step(&self, theta: F) -> Result<Option<Step>, Refused<F>>
+    pub fn solving_step(&self, theta: F) -> Result<Option<Step>, Failure<F>>
         requires costs { HasCosts (sample F.value self.now.problem) (rational (F.value theta)) }
         ensures step { IfOk result (IsSolvingAnswer F.value (place F.value self.now) (rational (F.value theta))) }
         ensures refused { IfErr result (IsRefusedOf (IsRefusalAt F.value F.range (place F.value self.now) (solving (rational (F.value theta))))) }
@@ -26,7 +26,7 @@ impl<'a, F: Exact> FractionTableau<'a, F> {
         match self.next(theta) {
             Ok(Next::Optimal(_)) => Ok(None),
             Ok(Next::Pivot(step)) => Ok(Some(step)),
-            Err(short) => Err(refused(short)),
+            Err(short) => Err(failure(short)),
         }
     }
 
@@ -55,7 +55,7 @@ impl<'a, F: Exact> FractionTableau<'a, F> {
     }
 
     /// The vertex of the basis, where no slope is negative, with the dual values of its rows at theta.
-    pub fn vertex(&self, theta: F) -> Result<Fitted<F>, Refused<F>>
+    pub fn vertex(&self, theta: F) -> Result<Fitted<F>, Failure<F>>
         requires costs { HasCosts (sample F.value self.now.problem) (rational (F.value theta)) }
         requires stop { IsOptimalAt F.value (place F.value self.now) (rational (F.value theta)) }
         ensures fitted { IfOk result (IsFitted F.value (place F.value self.now) (rational (F.value theta))) }
@@ -64,10 +64,10 @@ impl<'a, F: Exact> FractionTableau<'a, F> {
         match self.next(theta) {
             Ok(Next::Optimal(standing)) => match self.fit(standing, theta) {
                 Ok(fitted) => Ok(fitted),
-                Err(_) => Err(Refused::OutOfMemory),
+                Err(_) => Err(Failure::OutOfMemory),
             },
             Ok(Next::Pivot(_)) => unreachable!(),
-            Err(short) => Err(refused(short)),
+            Err(short) => Err(failure(short)),
         }
     }
 }

@@ -26,7 +26,7 @@ use frac_core::{Exact, List};
 use loss_model::{Basis, Problem, Short, Spill, Stop, down_cost_at, up_cost_at};
 use std::alloc::Global;
 use std::marker::Model;
-use tableau_model::{Refusal, Refused, Step};
+use tableau_model::{Failure, Refusal, Step};
 
 /// A basis of a problem, and the inverse of its rows.
 #[derive(Drop)]
@@ -48,12 +48,12 @@ impl<'a, F: Exact> Model for FractionTableau<'a, F> {
 }
 
 /// The refusal of an operation.
-pub(crate) fn refused<F: Exact>(short: Short<F>) -> Refused<F>
+pub(crate) fn failure<F: Exact>(short: Short<F>) -> Failure<F>
     ensures { IsSameShort short result }
 {
     match short {
-        Short::OutOfMemory => Refused::OutOfMemory,
-        Short::Overflow(spill) => Refused::Of(Refusal::Overflow(spill)),
+        Short::OutOfMemory => Failure::OutOfMemory,
+        Short::Overflow(spill) => Failure::Of(Refusal::Overflow(spill)),
     }
 }
 
@@ -206,7 +206,7 @@ impl<'a, F: Exact> FractionTableau<'a, F> {
     }
 
     /// The same. What is refused is refused to each question of which this is the step.
-    pub fn exchange(&mut self, step: Step) -> Result<(), Refused<F>>
+    pub fn exchange(&mut self, step: Step) -> Result<(), Failure<F>>
         requires position { step.position < self.old.problem.columns }
         requires row { step.row < length self.old.problem.rows }
         requires some { coord (sample F.value self.old.problem) (inverse_entry F.value self.old.square) step.row step.position ≢ whole (pos 0) }
@@ -217,7 +217,7 @@ impl<'a, F: Exact> FractionTableau<'a, F> {
     {
         match self.enter(step) {
             Ok(()) => Ok(()),
-            Err(short) => Err(refused(short)),
+            Err(short) => Err(failure(short)),
         }
     }
 

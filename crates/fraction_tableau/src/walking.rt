@@ -23,7 +23,7 @@ use crate::vertex::ascending;
 use crate::view::BasisView;
 use frac_core::Exact;
 use loss_model::{Basis, Exchange, Segment, Short, Vertex};
-use tableau_model::Refused;
+use tableau_model::Failure;
 
 impl<'a, F: Exact> BasisView<'a, F> {
     /// The step at a crossing, if it is below hi.
@@ -86,7 +86,7 @@ impl<'a, F: Exact> FractionTableau<'a, F> {
     }
 
     /// The walking step from `from` on that is left below hi, or none.
-    pub fn walking_step(&self, from: F, hi: F) -> Result<Option<Exchange<F>>, Refused<F>>
+    pub fn walking_step(&self, from: F, hi: F) -> Result<Option<Exchange<F>>, Failure<F>>
         requires costs { HasCosts (sample F.value self.now.problem) (rational (F.value hi)) }
         requires optimal { IsOptimalFrom F.value (place F.value self.now) (rational (F.value from)) }
         ensures step { IfOk result (IsWalkingAnswer F.value (place F.value self.now) (rational (F.value from)) (rational (F.value hi))) }
@@ -94,7 +94,7 @@ impl<'a, F: Exact> FractionTableau<'a, F> {
     {
         match self.next_walking(from, hi) {
             Ok(step) => Ok(step),
-            Err(short) => Err(refused(short)),
+            Err(short) => Err(failure(short)),
         }
     }
 
@@ -129,7 +129,7 @@ impl<'a, F: Exact> FractionTableau<'a, F> {
 
     /// The segment of the basis from one quantile to another. What is refused is refused to each walk of
     /// which this is a segment.
-    pub fn segment(&self, from: F, to: F) -> Result<Segment<F>, Refused<F>>
+    pub fn segment(&self, from: F, to: F) -> Result<Segment<F>, Failure<F>>
         ensures segment { IfOk result (IsSegmentHere F.value (place F.value self.now) (rational (F.value from)) (rational (F.value to))) }
         ensures refused { let h = place F.value self.now in
             (hi : ℚ) → IsSegmentEnd (sample_of F.value h) (at_of h) h.inverse (rational (F.value from)) hi (rational (F.value to))
@@ -137,7 +137,7 @@ impl<'a, F: Exact> FractionTableau<'a, F> {
     {
         match self.stay(from, to) {
             Ok(segment) => Ok(segment),
-            Err(short) => Err(refused(short)),
+            Err(short) => Err(failure(short)),
         }
     }
 }

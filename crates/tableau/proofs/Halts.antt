@@ -8,8 +8,8 @@ use Rattle.loss_model.specs.Problem.{sample}
 use Rattle.pivot_rule.specs.Steps.{IsSolvingStep}
 use Rattle.pivot_rule.specs.Trails.{AtBasis, IsSolvingTrail, ReachesLimit}
 use Rattle.tableau_model.specs.declared.refusal.Refusal.{Refusal}
-use Rattle.tableau_model.specs.declared.refusal.Refused.{Refused}
-use Rattle.tableau_model.specs.declared.refusal.Refused.TheVariants.{OutOfMemory, Of}
+use Rattle.tableau_model.specs.declared.refusal.Failure.{Failure}
+use Rattle.tableau_model.specs.declared.refusal.Failure.TheVariants.{OutOfMemory, Of}
 use Rattle.tableau_model.specs.Places.{Place, Task, IsPlace, at_of, sample_of}
 use Rattle.tableau_model.specs.Questions.{Question, solving}
 use Rattle.tableau_model.specs.Refusals.{IsRefusalAt, IsRefusedOf}
@@ -21,12 +21,12 @@ pub at_place : {F : Type 0} (value : F → Fraction) (h : Place F) → IsPlace v
 at_place value h is_place Q holds = record { size = is_place.size; a = h.inverse; is_basis = is_place.is_basis; ends = is_place.ends; holds = holds }
 
 -- what follows from what a body refuses follows from a refusal
-pub refused_weaker : {F : Type 0} (P Q : Refusal F → Type 0) → ((r : Refusal F) → P r → Q r) → (e : Refused F) → IsRefusedOf P e → IsRefusedOf Q e
+pub refused_weaker : {F : Type 0} (P Q : Refusal F → Type 0) → ((r : Refusal F) → P r → Q r) → (e : Failure F) → IsRefusedOf P e → IsRefusedOf Q e
 refused_weaker P Q h OutOfMemory k = tt
 refused_weaker P Q h (Of r) k = h r k
 
 -- what is refused before the trail has changed
-pub refusal_kept : {F : Type 0} (value : F → Fraction) (range : ℕ) (h : Place F) (asked : Question) (trail : Trail F) (e : Refused F)
+pub refusal_kept : {F : Type 0} (value : F → Fraction) (range : ℕ) (h : Place F) (asked : Question) (trail : Trail F) (e : Failure F)
     → IsRefusedOf (IsRefusalAt value range h asked) e → IsRefusedOf (IsRefusal value range h asked trail trail) e
 refusal_kept value range h asked trail e k =
     refused_weaker (IsRefusalAt value range h asked) (IsRefusal value range h asked trail trail) (λ r is. record { kept = refl; refusal = is }) e k
@@ -34,7 +34,7 @@ refusal_kept value range h asked trail e k =
 module _ {F : Type 0} (value : F → Fraction) (range : ℕ) (task : Task F) (theta : ℚ) (limit : ℕ) (h : Place F)
     (same : h.task ≡ task) (is_place : IsPlace value h) where
   -- a refusal halts the solve
-  pub refusal_halts : (before after : Trail F) (e : Refused F) (halt : Halt F) → IsSolvingTrail value (sample_of value h) theta before h.rows → length before.steps ≤ limit
+  pub refusal_halts : (before after : Trail F) (e : Failure F) (halt : Halt F) → IsSolvingTrail value (sample_of value h) theta before h.rows → length before.steps ≤ limit
       → IsRefusedOf (IsRefusal value range h (solving theta) before after) e → IsHaltOf e after halt → IsHalted value range task theta limit halt
   refusal_halts before after OutOfMemory halt lawful short k is = subst (IsHalted value range task theta limit) (sym is) tt
   refusal_halts before after (Of r) halt lawful short k is =

@@ -26,14 +26,14 @@ use Rattle.walk_rule.specs.WalkTrails.{theta_value, is_below, HasWalkingStep, Is
 use Rattle.walk_rule.proofs.Loops.{begins, with_segment, without_segment, done}
 use Rattle.walk_rule.proofs.Trails.{below_from}
 use Rattle.walk_rule.proofs.Walked.{end_reached}
-use Rattle.tableau_model.specs.declared.refusal.Refused.{Refused}
-use Rattle.tableau_model.specs.declared.refusal.Refused.TheVariants.{OutOfMemory, Of}
+use Rattle.tableau_model.specs.declared.refusal.Failure.{Failure}
+use Rattle.tableau_model.specs.declared.refusal.Failure.TheVariants.{OutOfMemory, Of}
 use Rattle.tableau_model.specs.Places.{Place, Task, at_of, sample_of}
 use Rattle.tableau_model.specs.Questions.{walking}
 use Rattle.tableau_model.specs.Refusals.{IsRefusedOf}
 use Rattle.tableau_model.specs.WalkAnswers.{IsOptimalFrom, IsStepTo, IsSegmentTo, IsSegmentHere}
 use Rattle.tableau.specs.declared.solving.Halt.{Halt}
-use Rattle.tableau.specs.declared.solving.Reached.{Reached}
+use Rattle.tableau.specs.declared.solving.Progress.{Progress}
 use Rattle.tableau.specs.declared.walking.Walk.{Walk}
 use Rattle.tableau.specs.Bodies.{place_of}
 use Rattle.tableau.specs.Solving.{IsRefusal, IsHaltOf, IsSolved}
@@ -62,7 +62,7 @@ pub step_ends : {F : Type 0} (value : F → Fraction) (h : Place F) (from hi : �
 step_ends value h from hi x step = inl (x.position, step.direction, step.break, below_from (rational (value x.theta)) hi step.within)
 
 -- an optimal basis is where a walk begins
-pub walk_begins : {F : Type 0} (value : F → Fraction) (task : Task F) (hi : ℚ) (limit : ℕ) (u : Reached F) (lo : F) → rational (value lo) ≤ℚ hi → IsSolved value task (rational (value lo)) limit u → IsWalking value task (rational (value lo)) hi (record { reached = u; segments = []; now = lo })
+pub walk_begins : {F : Type 0} (value : F → Fraction) (task : Task F) (hi : ℚ) (limit : ℕ) (u : Progress F) (lo : F) → rational (value lo) ≤ℚ hi → IsSolved value task (rational (value lo)) limit u → IsWalking value task (rational (value lo)) hi (record { reached = u; segments = []; now = lo })
 walk_begins {F} value task hi limit u lo range h =
     record {
       is_place = h.underway.is_place;
@@ -180,7 +180,7 @@ module _ {F : Type 0} (value : F → Fraction) (task : Task F) (lo hi : ℚ) whe
           costs costs' h.underway step is_basis ends same)
 
   -- a refusal halts the walk
-  pub walk_refused : (range limit : ℕ) (w : Walk F) (after : Trail F) (e : Refused F) (halt : Halt F) → IsWalking value task lo hi w → length w.reached.trail.steps ≤ limit
+  pub walk_refused : (range limit : ℕ) (w : Walk F) (after : Trail F) (e : Failure F) (halt : Halt F) → IsWalking value task lo hi w → length w.reached.trail.steps ≤ limit
       → IsRefusedOf (IsRefusal value range (here_of value w) (walking (now_of value w) hi) w.reached.trail after) e → IsHaltOf e after halt → IsWalkHalted value range task lo hi limit halt
   walk_refused range limit w after OutOfMemory halt h short k is = subst (IsWalkHalted value range task lo hi limit) (sym is) tt
   walk_refused range limit w after (Of r) halt h short k is =

@@ -6,20 +6,20 @@ use Rattle.loss_model.specs.declared.process.Trail.{Trail}
 use Rattle.loss_model.specs.Problem.{sample}
 use Rattle.pivot_rule.specs.Trails.{IsSolvingTrail, ReachesLimit}
 use Rattle.tableau_model.specs.declared.refusal.Refusal.{Refusal}
-use Rattle.tableau_model.specs.declared.refusal.Refused.{Refused}
-use Rattle.tableau_model.specs.declared.refusal.Refused.TheVariants.{OutOfMemory as NoMemory, Of}
+use Rattle.tableau_model.specs.declared.refusal.Failure.{Failure}
+use Rattle.tableau_model.specs.declared.refusal.Failure.TheVariants.{OutOfMemory as NoMemory, Of}
 use Rattle.tableau_model.specs.Places.{Place, Task, IsPlace, sample_of}
 use Rattle.tableau_model.specs.Questions.{Question, solving}
 use Rattle.tableau_model.specs.Refusals.{IsRefusalAt}
 use Rattle.tableau_model.specs.Answers.{IsOptimalAt, IsFitted}
-use Rattle.tableau.specs.declared.solving.Reached.{Reached}
+use Rattle.tableau.specs.declared.solving.Progress.{Progress}
 use Rattle.tableau.specs.declared.solving.Solution.{Solution}
 use Rattle.tableau.specs.declared.solving.Halt.{Halt}
 use Rattle.tableau.specs.declared.solving.Halt.TheVariants.{OutOfMemory, PivotLimit, Refused as Halted}
 use Rattle.tableau.specs.Bodies.{place_of}
 
 -- the halt that a refusal makes of a trail
-abbrev pub IsHaltOf : {F : Type 0} → Refused F → Trail F → Halt F → Type 0
+abbrev pub IsHaltOf : {F : Type 0} → Failure F → Trail F → Halt F → Type 0
 IsHaltOf NoMemory trail halt = halt ≡ OutOfMemory
 IsHaltOf (Of r) trail halt = halt ≡ Halted trail r
 
@@ -30,29 +30,29 @@ module _ {F : Type 0} (value : F → Fraction) where
     pub refusal : IsRefusalAt value range h asked r
 
   -- the trail is lawful at theta, and leads to the basis of the tableau
-  pub record IsUnderway (theta : ℚ) (u : Reached F) : Type 0 where
+  pub record IsUnderway (theta : ℚ) (u : Progress F) : Type 0 where
     pub is_place : IsPlace value (place_of value u.tableau)
     pub lawful : IsSolvingTrail value (sample_of value (place_of value u.tableau)) theta u.trail (place_of value u.tableau).rows
 
   -- the start of the task, before any step
-  pub record IsBegun (task : Task F) (u : Reached F) : Type 0 where
+  pub record IsBegun (task : Task F) (u : Progress F) : Type 0 where
     pub same : (place_of value u.tableau).task ≡ task
     pub underway : (theta : ℚ) → IsUnderway theta u
     pub none : length u.trail.steps ≡ 0
 
   -- one more step is made
-  pub record IsAdvance (theta : ℚ) (before after : Reached F) : Type 0 where
+  pub record IsAdvance (theta : ℚ) (before after : Progress F) : Type 0 where
     pub underway : IsUnderway theta after
     pub same : (place_of value after.tableau).task ≡ (place_of value before.tableau).task
     pub one_more : length after.trail.steps ≡ length before.trail.steps + 1
 
   -- one more is made, or none is left
-  abbrev pub IsAdvanceOrEnd : ℚ → Reached F → Reached F → Bool → Type 0
+  abbrev pub IsAdvanceOrEnd : ℚ → Progress F → Progress F → Bool → Type 0
   IsAdvanceOrEnd theta before after true = IsAdvance theta before after
   IsAdvanceOrEnd theta before after false = (after ≡ before) × IsOptimalAt value (place_of value before.tableau) theta
 
   -- the trail is lawful, within the limit, and leads to a basis of the task at which no slope is negative
-  pub record IsSolved (task : Task F) (theta : ℚ) (limit : ℕ) (u : Reached F) : Type 0 where
+  pub record IsSolved (task : Task F) (theta : ℚ) (limit : ℕ) (u : Progress F) : Type 0 where
     pub same : (place_of value u.tableau).task ≡ task
     pub underway : IsUnderway theta u
     pub stop : IsOptimalAt value (place_of value u.tableau) theta

@@ -15,7 +15,7 @@ use basis_inverse::Inverse;
 use frac_core::Exact;
 use fraction_tableau::FractionTableau;
 use loss_model::{Basis, Exchange, Segment};
-use tableau_model::{Fitted, Refused, Step};
+use tableau_model::{Failure, Fitted, Step};
 
 /// A basis of a problem, as its body keeps it.
 #[derive(Drop)]
@@ -25,7 +25,7 @@ pub struct Tableau<'a, F: Exact> {
 
 impl<'a, F: Exact> Tableau<'a, F> {
     /// The solving step at theta that is left, or none where no slope is negative.
-    pub fn solving_step(&self, theta: F) -> Result<Option<Step>, Refused<F>>
+    pub fn solving_step(&self, theta: F) -> Result<Option<Step>, Failure<F>>
         requires costs { HasCosts (sample_of F.value (place_of F.value self.now)) (rational (F.value theta)) }
         ensures step { IfOk result (IsSolvingAnswer F.value (place_of F.value self.now) (rational (F.value theta))) }
         ensures refused { IfErr result (IsRefusedOf (IsRefusalAt F.value F.range (place_of F.value self.now) (solving (rational (F.value theta))))) }
@@ -34,7 +34,7 @@ impl<'a, F: Exact> Tableau<'a, F> {
     }
 
     /// The vertex of the basis, where no slope is negative, with the dual values of its rows at theta.
-    pub fn vertex(&self, theta: F) -> Result<Fitted<F>, Refused<F>>
+    pub fn vertex(&self, theta: F) -> Result<Fitted<F>, Failure<F>>
         requires costs { HasCosts (sample_of F.value (place_of F.value self.now)) (rational (F.value theta)) }
         requires stop { IsOptimalAt F.value (place_of F.value self.now) (rational (F.value theta)) }
         ensures fitted { IfOk result (IsFitted F.value (place_of F.value self.now) (rational (F.value theta))) }
@@ -45,7 +45,7 @@ impl<'a, F: Exact> Tableau<'a, F> {
 
     /// Lets a row take a position at which its coordinate isn't 0. What is refused is refused to each
     /// question of which this is the step.
-    pub fn exchange(&mut self, step: Step) -> Result<(), Refused<F>>
+    pub fn exchange(&mut self, step: Step) -> Result<(), Failure<F>>
         requires position { step.position < (place_of F.value self.old).task.problem.columns }
         requires row { step.row < length (place_of F.value self.old).task.problem.rows }
         requires some { let h = place_of F.value self.old in coord (sample_of F.value h) h.inverse step.row step.position ≢ whole (pos 0) }
@@ -58,7 +58,7 @@ impl<'a, F: Exact> Tableau<'a, F> {
     }
 
     /// The walking step from `from` on that is left below hi, or none.
-    pub fn walking_step(&self, from: F, hi: F) -> Result<Option<Exchange<F>>, Refused<F>>
+    pub fn walking_step(&self, from: F, hi: F) -> Result<Option<Exchange<F>>, Failure<F>>
         requires costs { HasCosts (sample_of F.value (place_of F.value self.now)) (rational (F.value hi)) }
         requires optimal { IsOptimalFrom F.value (place_of F.value self.now) (rational (F.value from)) }
         ensures step { IfOk result (IsWalkingAnswer F.value (place_of F.value self.now) (rational (F.value from)) (rational (F.value hi))) }
@@ -69,7 +69,7 @@ impl<'a, F: Exact> Tableau<'a, F> {
 
     /// The segment of the basis from one quantile to another. What is refused is refused to each walk of
     /// which this is a segment.
-    pub fn segment(&self, from: F, to: F) -> Result<Segment<F>, Refused<F>>
+    pub fn segment(&self, from: F, to: F) -> Result<Segment<F>, Failure<F>>
         ensures segment { IfOk result (IsSegmentHere F.value (place_of F.value self.now) (rational (F.value from)) (rational (F.value to))) }
         ensures refused { (hi : ℚ) → IsSegmentTo F.value (place_of F.value self.now) (rational (F.value from)) hi (rational (F.value to)) → IfErr result (IsRefusedOf (IsRefusalAt F.value F.range (place_of F.value self.now) (walking (rational (F.value from)) hi))) }
     {

@@ -12,5 +12,5 @@ mod solving;
 mod walking;
 
 pub use bodies::Tableau;
-pub use solving::{Halt, Reached, Solution, solve, solve_over};
+pub use solving::{Halt, Progress, Solution, solve, solve_over};
 pub use walking::{Walk, walk_range};

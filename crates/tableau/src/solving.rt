@@ -16,11 +16,11 @@ use frac_core::{Exact, List, OutOfMemory};
 use fraction_tableau::FractionTableau;
 use loss_model::{Exchange, Problem, Stop, Trail};
 use std::alloc::Global;
-use tableau_model::{Fitted, Refusal, Refused, Step};
+use tableau_model::{Failure, Fitted, Refusal, Step};
 
 /// A tableau, and the trail that leads to its basis.
 #[derive(Drop)]
-pub struct Reached<'a, F: Exact> {
+pub struct Progress<'a, F: Exact> {
     pub tableau: Tableau<'a, F>,
     pub trail: Trail<F>,
 }
@@ -29,7 +29,7 @@ pub struct Reached<'a, F: Exact> {
 #[derive(Drop)]
 pub struct Solution<'a, F: Exact> {
     pub fitted: Fitted<F>,
-    pub reached: Reached<'a, F>,
+    pub reached: Progress<'a, F>,
 }
 
 /// Why a loop stops without an answer. The trail leads to the basis at which it stopped.
@@ -57,25 +57,25 @@ fn full_start(alloc: Global, rows: &[u32]) -> Result<List<Option<u32>>, OutOfMem
 }
 
 /// The halt of a loop for what refused its next step.
-pub(crate) fn halted<F: Exact>(refused: Refused<F>, trail: Trail<F>) -> Halt<F>
+pub(crate) fn halt_of<F: Exact>(refused: Failure<F>, trail: Trail<F>) -> Halt<F>
     ensures { IsHaltOf refused trail result }
 {
     match refused {
-        Refused::OutOfMemory => Halt::OutOfMemory,
-        Refused::Of(refusal) => Halt::Refused { trail, refusal },
+        Failure::OutOfMemory => Halt::OutOfMemory,
+        Failure::Of(refusal) => Halt::Refused { trail, refusal },
     }
 }
 
-impl<'a, F: Exact> Reached<'a, F> {
+impl<'a, F: Exact> Progress<'a, F> {
     /// The greedy start of a problem, in fractions.
-    pub fn begin(alloc: Global, problem: &'a Problem<F>) -> Result<Reached<'a, F>, Stop<F>>
+    pub fn begin(alloc: Global, problem: &'a Problem<F>) -> Result<Progress<'a, F>, Stop<F>>
         requires shaped { IsWellShaped problem.now }
         ensures begun { IfOk result (IsBegun F.value (record { problem = problem.now; body = in_fractions })) }
         ensures stopped { IfErr result (IsStartStop F.value F.range problem.now) }
     {
         let body = FractionTableau::begin(alloc, problem)?;
         let start = full_start(alloc, body.basis().rows.as_slice())?;
-        Ok(Reached {
+        Ok(Progress {
             tableau: Tableau { body },
             trail: Trail {
                 start,
@@ -87,7 +87,7 @@ impl<'a, F: Exact> Reached<'a, F> {
     }
 
     /// Makes the solving step. After a refusal the trail is as before.
-    fn make_step(&mut self, theta: F, step: Step) -> Result<(), Refused<F>>
+    fn make_step(&mut self, theta: F, step: Step) -> Result<(), Failure<F>>
         requires underway { IsUnderway F.value (rational (F.value theta)) self.old }
         requires step { IsStepOf F.value (place_of F.value self.old.tableau) (solving (rational (F.value theta))) step.position step.row }
         ensures made { OnOk result (IsAdvance F.value (rational (F.value theta)) self.old self.new) }
@@ -104,13 +104,13 @@ impl<'a, F: Exact> Reached<'a, F> {
         };
         match self.trail.steps.push(made) {
             Ok(()) => Ok(()),
-            Err(_) => Err(Refused::OutOfMemory),
+            Err(_) => Err(Failure::OutOfMemory),
         }
     }
 
     /// Makes the solving step that is left, and tells whether there was one. After a refusal the
     /// trail is as before.
-    fn advance(&mut self, theta: F) -> Result<bool, Refused<F>>
+    fn advance(&mut self, theta: F) -> Result<bool, Failure<F>>
         requires costs { HasCosts (sample_of F.value (place_of F.value self.old.tableau)) (rational (F.value theta)) }
         requires underway { IsUnderway F.value (rational (F.value theta)) self.old }
         ensures next { IfOk result (IsAdvanceOrEnd F.value (rational (F.value theta)) self.old self.new) }
@@ -129,10 +129,10 @@ impl<'a, F: Exact> Reached<'a, F> {
 
 /// Goes on at theta, step by step, from a start to a basis at which no slope is negative.
 pub fn solve_over<'a, F: Exact>(
-    from: Reached<'a, F>,
+    from: Progress<'a, F>,
     theta: F,
     limit: u32,
-) -> Result<Reached<'a, F>, Halt<F>>
+) -> Result<Progress<'a, F>, Halt<F>>
     requires costs { HasCosts (sample_of F.value (place_of F.value from.tableau)) (rational (F.value theta)) }
     requires begun { IsBegun F.value (place_of F.value from.tableau).task from }
     ensures solved { IfOk result (IsSolved F.value (place_of F.value from.entry.tableau).task (rational (F.value theta)) limit) }
@@ -143,19 +143,19 @@ pub fn solve_over<'a, F: Exact>(
         match solve.advance(theta) {
             Ok(true) => {}
             Ok(false) => return Ok(solve),
-            Err(refused) => return Err(halted(refused, solve.trail)),
+            Err(refused) => return Err(halt_of(refused, solve.trail)),
         }
     }
     match solve.tableau.solving_step(theta) {
         Ok(None) => Ok(solve),
         Ok(Some(_)) => Err(Halt::PivotLimit { trail: solve.trail }),
-        Err(refused) => Err(halted(refused, solve.trail)),
+        Err(refused) => Err(halt_of(refused, solve.trail)),
     }
 }
 
 /// The solution at a basis at which no slope is negative.
 fn finish<'a, F: Exact>(
-    at: Reached<'a, F>,
+    at: Progress<'a, F>,
     theta: F,
     limit: u32,
 ) -> Result<Solution<'a, F>, Halt<F>>
@@ -170,7 +170,7 @@ fn finish<'a, F: Exact>(
             fitted,
             reached: at,
         }),
-        Err(refused) => Err(halted(refused, at.trail)),
+        Err(refused) => Err(halt_of(refused, at.trail)),
     }
 }
 
@@ -179,7 +179,7 @@ fn finish<'a, F: Exact>(
 /// It halts at the limit exactly where as many steps were made and one more is left, save that a refusal or
 /// want of memory may come first. A refusal is one of the last basis of the trail that the halt carries.
 pub fn solve<'a, F: Exact>(
-    from: Reached<'a, F>,
+    from: Progress<'a, F>,
     theta: F,
     limit: u32,
 ) -> Result<Solution<'a, F>, Halt<F>>

@@ -4,7 +4,7 @@ ghost use Rattle.exact_algebra.specs.Fraction.{rational};
 ghost use Rattle.exact_algebra.specs.Rational.{ℚ, ◌≤ℚ◌};
 ghost use Rattle.pivot_rule.specs.Duals.{HasCosts};
 ghost use Rattle.walk_rule.specs.WalkSpills.{IsStayEnd};
-ghost use Rattle.tableau_model.specs.declared.refusal.Refused.TheVariants.{OutOfMemory};
+ghost use Rattle.tableau_model.specs.declared.refusal.Failure.TheVariants.{OutOfMemory};
 ghost use Rattle.tableau_model.specs.Places.{at_of, sample_of};
 ghost use Rattle.tableau_model.specs.Questions.{walking};
 ghost use Rattle.tableau_model.specs.Refusals.{IsRefusalAt, IsRefusedOf};
@@ -14,17 +14,17 @@ ghost use Rattle.tableau.specs.Solving.{IsRefusal, IsSolved};
 ghost use Rattle.tableau.specs.Walking.{AreSegmentsAfter, IsWalked, IsWalkedOrStill, IsWalking, IsWalkedOut, IsWalkDone, IsWalkHalted, now_of, here_of};
 
 use crate::bodies::Tableau;
-use crate::solving::{Halt, Reached, halted};
+use crate::solving::{Halt, Progress, halt_of};
 use frac_core::{Exact, List};
 use loss_model::{Exchange, Process, Segment};
 use std::alloc::Global;
-use tableau_model::{Refused, Step};
+use tableau_model::{Failure, Step};
 
 /// A walk in its midst: the basis and the trail that leads to it, the segments so far, and the quantile at
 /// which it stands.
 #[derive(Drop)]
 pub struct Walk<'a, F: Exact> {
-    pub reached: Reached<'a, F>,
+    pub reached: Progress<'a, F>,
     pub segments: List<Segment<F>>,
     pub now: F,
 }
@@ -33,13 +33,13 @@ pub struct Walk<'a, F: Exact> {
 fn push_segment<F: Exact>(
     segments: &mut List<Segment<F>>,
     segment: Segment<F>,
-) -> Result<(), Refused<F>>
+) -> Result<(), Failure<F>>
     ensures pushed { OnOk result (segments.new ≡ segments.old ++ segment ∷ []) }
     ensures memory { IfErr result (λ r. r ≡ OutOfMemory) }
 {
     match segments.push(segment) {
         Ok(()) => Ok(()),
-        Err(_) => Err(Refused::OutOfMemory),
+        Err(_) => Err(Failure::OutOfMemory),
     }
 }
 
@@ -50,7 +50,7 @@ fn put_segment<'a, F: Exact>(
     segments: &mut List<Segment<F>>,
     from: F,
     to: F,
-) -> Result<(), Refused<F>>
+) -> Result<(), Failure<F>>
     requires after { rational (F.value from) ≤ℚ rational (F.value to) }
     ensures segments { OnOk result (AreSegmentsAfter F.value (place_of F.value tableau.now) (rational (F.value from)) (rational (F.value to)) segments.old segments.new) }
     ensures refused { let h = place_of F.value tableau.now in
@@ -71,7 +71,7 @@ fn put_segment<'a, F: Exact>(
 
 impl<'a, F: Exact> Walk<'a, F> {
     /// Makes a walking step. After a refusal the trail is as before.
-    fn make_step(&mut self, step: Exchange<F>, hi: F) -> Result<(), Refused<F>>
+    fn make_step(&mut self, step: Exchange<F>, hi: F) -> Result<(), Failure<F>>
         requires step { IsStepTo F.value (here_of F.value self.old) (now_of F.value self.old) (rational (F.value hi)) step }
         ensures walked { OnOk result (IsWalked F.value (rational (F.value hi)) self.old self.new) }
         ensures refused { IfErr result (IsRefusedOf (IsRefusal F.value F.range (here_of F.value self.old) (walking (now_of F.value self.old) (rational (F.value hi))) self.old.reached.trail self.new.reached.trail)) }
@@ -97,13 +97,13 @@ impl<'a, F: Exact> Walk<'a, F> {
         self.now = step.theta;
         match self.reached.trail.steps.push(step) {
             Ok(()) => Ok(()),
-            Err(_) => Err(Refused::OutOfMemory),
+            Err(_) => Err(Failure::OutOfMemory),
         }
     }
 
     /// Makes the walking step that is left below hi, and tells whether there was one. After a refusal the
     /// trail is as before.
-    fn advance(&mut self, hi: F) -> Result<bool, Refused<F>>
+    fn advance(&mut self, hi: F) -> Result<bool, Failure<F>>
         requires costs { HasCosts (sample_of F.value (here_of F.value self.old)) (rational (F.value hi)) }
         requires optimal { IsOptimalFrom F.value (here_of F.value self.old) (now_of F.value self.old) }
         ensures next { IfOk result (IsWalkedOrStill F.value (rational (F.value hi)) self.old self.new) }
@@ -141,7 +141,7 @@ fn walk_over<'a, F: Exact>(
         match walk.advance(hi) {
             Ok(true) => {}
             Ok(false) => return Ok(walk),
-            Err(refused) => return Err(halted(refused, walk.reached.trail)),
+            Err(refused) => return Err(halt_of(refused, walk.reached.trail)),
         }
     }
     match walk.reached.tableau.walking_step(walk.now, hi) {
@@ -149,7 +149,7 @@ fn walk_over<'a, F: Exact>(
         Ok(Some(_)) => Err(Halt::PivotLimit {
             trail: walk.reached.trail,
         }),
-        Err(refused) => Err(halted(refused, walk.reached.trail)),
+        Err(refused) => Err(halt_of(refused, walk.reached.trail)),
     }
 }
 
@@ -181,7 +181,7 @@ fn end_walk<'a, F: Exact>(
             }),
             Err(_) => Err(Halt::OutOfMemory),
         },
-        Err(refused) => Err(halted(refused, reached.trail)),
+        Err(refused) => Err(halt_of(refused, reached.trail)),
     }
 }
 
@@ -189,7 +189,7 @@ fn end_walk<'a, F: Exact>(
 /// the steps of the solve and of the walk together.
 pub fn walk_range<'a, F: Exact>(
     alloc: Global,
-    from: Reached<'a, F>,
+    from: Progress<'a, F>,
     lo: F,
     hi: F,
     limit: u32,

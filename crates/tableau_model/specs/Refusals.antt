@@ -3,8 +3,8 @@ use Rattle.std.specs.Prelude.{◌≡◌, ℕ}
 use Rattle.exact_algebra.specs.Fraction.{Fraction}
 use Rattle.tableau_model.specs.declared.refusal.Refusal.{Refusal}
 use Rattle.tableau_model.specs.declared.refusal.Refusal.TheVariants.{Overflow, TooWide}
-use Rattle.tableau_model.specs.declared.refusal.Refused.{Refused}
-use Rattle.tableau_model.specs.declared.refusal.Refused.TheVariants.{OutOfMemory, Of}
+use Rattle.tableau_model.specs.declared.refusal.Failure.{Failure}
+use Rattle.tableau_model.specs.declared.refusal.Failure.TheVariants.{OutOfMemory, Of}
 use Rattle.tableau_model.specs.Places.{Place, in_fractions, in_wholes}
 use Rattle.tableau_model.specs.Questions.{Question, IsSpillAt}
 
@@ -15,6 +15,6 @@ IsRefusalAt value range h asked (Overflow s) = (h.task.body ≡ in_fractions) ×
 IsRefusalAt value range h asked TooWide = h.task.body ≡ in_wholes
 
 -- want of memory, or a refusal of which P holds
-abbrev pub IsRefusedOf : {F : Type 0} → (Refusal F → Type 0) → Refused F → Type 0
+abbrev pub IsRefusedOf : {F : Type 0} → (Refusal F → Type 0) → Failure F → Type 0
 IsRefusedOf P OutOfMemory = Unit {0}
 IsRefusedOf P (Of r) = P r

@@ -11,4 +11,4 @@ mod answer;
 mod refusal;
 
 pub use answer::{Fitted, Step};
-pub use refusal::{Refusal, Refused};
+pub use refusal::{Failure, Refusal};

@@ -11,7 +11,7 @@ pub enum Refusal<F> {
 
 /// Why a question has no answer: want of memory, or a refusal of the body.
 #[derive(Drop)]
-pub enum Refused<F> {
+pub enum Failure<F> {
     OutOfMemory,
     Of(Refusal<F>),
 }

@@ -15,7 +15,7 @@ ghost use Rattle.tau_process.specs.Stops.{IsProcessStop, IsLimited};
 use frac_core::Exact;
 use loss_model::{Problem, Process, Stop};
 use std::alloc::Global;
-use tableau::{Halt, Reached, solve_over, walk_range};
+use tableau::{Halt, Progress, solve_over, walk_range};
 use tableau_model::Refusal;
 
 /// The ends of a range.
@@ -82,7 +82,7 @@ pub fn process<F: Exact>(
     ensures stopped { IfErr result (IsProcessStop F.value F.range problem.now (rational (F.value lo)) (rational (F.value hi)) limit) }
     ensures limited { IsLimited F.value (sample F.value problem.now) (rational (F.value lo)) (rational (F.value hi)) limit → IsLimitAnswer result }
 {
-    let begun = Reached::begin(alloc, problem)?;
+    let begun = Progress::begin(alloc, problem)?;
     let solved = match solve_over(begun, lo, limit) {
         Ok(solved) => solved,
         Err(halt) => return Err(solve_stop(problem, lo, limit, halt)),

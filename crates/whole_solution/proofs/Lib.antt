@@ -1,6 +1,4 @@
 pub mod Numbers
-pub mod Scanned
-pub mod Held
 pub mod Made
 pub mod Reading
 pub mod ShareProducts

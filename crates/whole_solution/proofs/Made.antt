@@ -23,7 +23,7 @@ use Rattle.whole_rows.specs.declared.rows.WholeRow.{WholeRow}
 use Rattle.whole_rows.specs.Wholes.{of_whole, sample_of_rows}
 use Rattle.whole_solution.specs.Outside.{outside_of}
 use Rattle.whole_solution.proofs.Numbers.{share_zero, share_back, share_read, share_some, share_none}
-use Rattle.whole_solution.proofs.Held.{at_held, at_own}
+use Rattle.lex_rule.proofs.Signs.{at_held, at_own}
 use Rattle.whole_solution.proofs.Reading.{row_read}
 
 module _ (n : ℕ) (at : ℕ → ℕ) (row : ℕ) (r : ℤ) (coords : List ℤ) (d : ℤ) (h : pos 1 ≤ℤ d) where

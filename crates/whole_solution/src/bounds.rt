@@ -15,7 +15,7 @@ use whole_inverse::{Obstacle, product};
 use whole_rows::WholeRow;
 
 /// The negated number.
-fn negated(n: i64) -> Result<i64, Obstacle>
+fn negation(n: i64) -> Result<i64, Obstacle>
     ensures { IfOk result (λ m. whole m ≡ neg_ℚ (whole n)) }
 {
     match n.checked_neg() {
@@ -31,8 +31,8 @@ fn bound(chosen: &WholeRow, side: Side, part: Part) -> Result<i64, Obstacle>
     match (side, part) {
         (Side::Up, Part::Constant) => Ok(chosen.up0),
         (Side::Up, Part::Linear) => Ok(chosen.up1),
-        (Side::Down, Part::Constant) => negated(chosen.down0),
-        (Side::Down, Part::Linear) => negated(chosen.down1),
+        (Side::Down, Part::Constant) => negation(chosen.down0),
+        (Side::Down, Part::Linear) => negation(chosen.down1),
         (Side::Basic, _) => Ok(0),
     }
 }

@@ -10,7 +10,7 @@ use std::alloc::Global;
 use whole_inverse::{Obstacle, WholeInverse};
 
 /// The negated numerator.
-fn negated(n: i128) -> Result<i128, Obstacle>
+fn negation(n: i128) -> Result<i128, Obstacle>
     ensures { IfOk result (λ m. (d : ℤ) → share m d ≡ neg_ℚ (share n d)) }
 {
     match n.checked_neg() {
@@ -31,7 +31,7 @@ fn balancing_number(
     ensures { IfOk result (λ m. (d : ℤ) → share m d ≡ balancing (length totals.now) (shares inverse.now.columns d) (whole_at totals.now) position) }
 {
     let weight = product_of(inverse.numerators(position), totals)?;
-    negated(weight)
+    negation(weight)
 }
 
 /// The numerators of the values at all positions that balance these totals.

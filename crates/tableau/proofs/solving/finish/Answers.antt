@@ -12,5 +12,5 @@ returns-clause-halted g c =
     let h = place_of value u.tableau in
     let theta = rational (value c.args.theta) in
     let under = c.requires.solved.underway in
-    refusal_halts value g.F.Exact.range h.task theta c.args.limit h refl under.is_place u.trail u.trail c.in-Err.refused c.halted.result
-    under.lawful c.requires.solved.short (refusal_kept value g.F.Exact.range h (solving theta) u.trail c.in-Err.refused (c.in-Err.ensures {u = tt}).refused) c.halted.ensures
+    refusal_halts value g.F.Exact.range h.task theta c.args.limit h refl under.is_place u.trail u.trail c.in-Err.refused c.halt_of.result
+    under.lawful c.requires.solved.short (refusal_kept value g.F.Exact.range h (solving theta) u.trail c.in-Err.refused (c.in-Err.ensures {u = tt}).refused) c.halt_of.ensures

@@ -16,8 +16,8 @@ returns-in-Err-clause-halted g c =
     let h = place_of value u.tableau in
     let task = (place_of value c.args.from.tableau).task in
     let theta = rational (value c.args.theta) in
-    refusal_halts value g.F.Exact.range task theta c.args.limit h now.same now.underway.is_place u.trail c.advance.new.self.trail c.in-Err.refused c.halted.result
-    now.underway.lawful (omega (arith, now.counted, c.loop-test.true)) (c.in-Err.ensures {u = tt}).refused c.halted.ensures
+    refusal_halts value g.F.Exact.range task theta c.args.limit h now.same now.underway.is_place u.trail c.advance.new.self.trail c.in-Err.refused c.halt_of.result
+    now.underway.lawful (omega (arith, now.counted, c.loop-test.true)) (c.in-Err.ensures {u = tt}).refused c.halt_of.ensures
 
 pub returns-in-Ok-Some-clause-halted : goal.returns-in-Ok-Some-clause-halted
 returns-in-Ok-Some-clause-halted g c =
@@ -39,6 +39,6 @@ returns-clause-halted g c =
     let h = place_of value u.tableau in
     let task = (place_of value c.args.from.tableau).task in
     let theta = rational (value c.args.theta) in
-    refusal_halts value g.F.Exact.range task theta c.args.limit h now.same now.underway.is_place u.trail u.trail c.in-Err-solving_step.refused c.halted-in-Err-solving_step.result
+    refusal_halts value g.F.Exact.range task theta c.args.limit h now.same now.underway.is_place u.trail u.trail c.in-Err-solving_step.refused c.halt_of-in-Err-solving_step.result
     now.underway.lawful (omega (arith, now.counted, c.loop-test.false, c.loop.auto.counter-end))
-    (refusal_kept value g.F.Exact.range h (solving theta) u.trail c.in-Err-solving_step.refused (c.in-Err-solving_step.ensures {u = tt}).refused) c.halted-in-Err-solving_step.ensures
+    (refusal_kept value g.F.Exact.range h (solving theta) u.trail c.in-Err-solving_step.refused (c.in-Err-solving_step.ensures {u = tt}).refused) c.halt_of-in-Err-solving_step.ensures

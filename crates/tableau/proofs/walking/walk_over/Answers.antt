@@ -71,8 +71,8 @@ returns-in-Err-clause-halted g c =
     let hi = rational (value c.args.hi) in
     let w = c.loop.walk in
     let h = c.loop.invariant.walking in
-    walk_refused value task lo hi g.F.Exact.range c.args.limit w c.advance.new.self.reached.trail c.in-Err.refused c.halted.result h
-    (omega (arith, c.loop.invariant.counted, c.loop-test.true)) (c.in-Err.ensures {u = tt}).refused c.halted.ensures
+    walk_refused value task lo hi g.F.Exact.range c.args.limit w c.advance.new.self.reached.trail c.in-Err.refused c.halt_of.result h
+    (omega (arith, c.loop.invariant.counted, c.loop-test.true)) (c.in-Err.ensures {u = tt}).refused c.halt_of.ensures
 
 pub loop-preserved : goal.loop-preserved
 loop-preserved g c =
@@ -121,6 +121,6 @@ returns-clause-halted g c =
     let w = c.loop.walk in
     let h = c.loop.invariant.walking in
     let asked = walking (now_of value w) hi in
-    walk_refused value task lo hi g.F.Exact.range c.args.limit w w.reached.trail c.in-Err-walking_step.refused c.halted-in-Err-walking_step.result h
+    walk_refused value task lo hi g.F.Exact.range c.args.limit w w.reached.trail c.in-Err-walking_step.refused c.halt_of-in-Err-walking_step.result h
     (omega (arith, c.loop.invariant.counted, c.loop-test.false, c.loop.invariant.short))
-    (refusal_kept value g.F.Exact.range (here_of value w) asked w.reached.trail c.in-Err-walking_step.refused (c.in-Err-walking_step.ensures {u = tt}).refused) c.halted-in-Err-walking_step.ensures
+    (refusal_kept value g.F.Exact.range (here_of value w) asked w.reached.trail c.in-Err-walking_step.refused (c.in-Err-walking_step.ensures {u = tt}).refused) c.halt_of-in-Err-walking_step.ensures

@@ -1,6 +1,6 @@
 use Rattle.std.specs.Prelude.{slice_index}
 use Rattle.whole_inverse.specs.Shares.{whole_at}
-use Rattle.whole_solution.proofs.Scanned.{IsScanned}
+use Rattle.lex_rule.proofs.Scanned.{IsScanned}
 use Rattle.whole_solution.proofs.position.next_position.Given as goal
 
 abbrev pub invariant-loop-k : goal.invariant-loop-k

@@ -17,5 +17,5 @@ returns-in-Err-clause-refused g c = λ (asked : Question) step.
     let range = g.F.Exact.range in
     let k = c.args.self.now in
     let p = sample value k.problem in
-    short_refused value range (place value k) asked (IsExchangeSpill value range p.columns (inverse_entry value k.square) (p.x c.args.step.row) c.args.step.row c.args.step.position) c.in-Err.short c.refused.result refl
-    (λ s h. exchange_spill value range (place value k) asked c.args.step.position c.args.step.row s step h) (c.in-Err.ensures {u = tt}).spill c.refused.ensures
+    short_refused value range (place value k) asked (IsExchangeSpill value range p.columns (inverse_entry value k.square) (p.x c.args.step.row) c.args.step.row c.args.step.position) c.in-Err.short c.failure.result refl
+    (λ s h. exchange_spill value range (place value k) asked c.args.step.position c.args.step.row s step h) (c.in-Err.ensures {u = tt}).spill c.failure.ensures
