@@ -10,14 +10,17 @@ use crate::quantity::{PrintedIndices, indices, op_name, quantity_name};
 use frac_core::{Frac128, OutOfMemory, Text};
 use loss_model::{Site, Spill};
 
-/// A field of a line, by the kind of its value: a number as it stands, a position, which is printed
-/// from 1, a word of the program's own, a text, fractions, or an operation that overflows.
+/// A field of a line, by the kind of its value: a number or a length as it stands, a position, which is
+/// printed from 1, a word of the program's own, a text, a fraction or several, or an operation that
+/// overflows.
 #[derive(Clone, Copy)]
 pub(crate) enum Field<'a> {
     Number(&'static [u8], u32),
+    Length(&'static [u8], u64),
     Position(&'static [u8], u32),
     Word(&'static [u8], &'static [u8]),
     Name(&'static [u8], &'a Text),
+    Fraction(&'static [u8], Frac128),
     Fractions(&'static [u8], &'a [Frac128]),
     Spill(&'a Spill<Frac128>),
 }
@@ -54,9 +57,11 @@ impl Page {
     {
         match field {
             Field::Number(name, count) => self.put_counted(name, *count as u64),
+            Field::Length(name, length) => self.put_counted(name, *length),
             Field::Position(name, place) => self.put_counted(name, *place as u64 + 1),
             Field::Word(name, told) => self.put_word(name, told),
             Field::Name(name, text) => self.put_text(name, text),
+            Field::Fraction(name, number) => self.put_fraction(name, *number),
             Field::Fractions(name, list) => self.put_fractions(name, list),
             Field::Spill(spill) => self.put_spill(spill),
         }
