@@ -23,7 +23,7 @@ use Rattle.report_text.specs.ReportText.{numbered, value}
 use Rattle.report_text.specs.declared.quantity.PrintedIndices.{PrintedIndices}
 use Rattle.report_text.specs.declared.quantity.PrintedIndices.TheVariants.{One, Two, Three}
 use Rattle.report_text.specs.declared.report.Place.{Place}
-use Rattle.report_text.specs.declared.report.Place.TheVariants.{Process}
+use Rattle.report_text.specs.declared.report.Place.TheVariants.{Process, Interval}
 use Rattle.report_text.specs.declared.report.Refusal.{Refusal}
 use Rattle.report_text.specs.declared.report.Refusal.TheVariants.{TooLong, Table, Formula, RankWithPenalty, Design, Penalty, Program, Dependent}
 use Rattle.report_text.specs.declared.report.Halt.{Halt}
@@ -95,9 +95,10 @@ site_text site = word (codes "quantity") (quantity_name site.quantity) ++ (key (
 unfoldable pub spill_text : Spill Frac128 → List ℕ
 spill_text spill = site_text spill.site ++ word (codes "op") (op_name spill.site.kind) ++ fraction (codes "left") spill.left ++ fraction (codes "right") spill.right
 
--- the place where the solver stopped
-abbrev pub place_name : Place → List ℕ
-place_name Process = codes "process"
+-- the place where the solver stopped: the fit, or the interval of a column, counted from 1, at a quantile
+abbrev pub place_text : Place → List ℕ
+place_text Process = codes "process"
+place_text (Interval column tau) = codes "interval:" ++ decimal (column + 1) ++ codes ":" ++ number_text_of (value tau)
 
 -- ---- faults
 
@@ -179,8 +180,8 @@ refusal_line (Dependent combination) = line (codes "solver") (codes "Dependent")
 abbrev pub halt_line : Halt → List ℕ
 halt_line (Refused refusal) = refusal_line refusal
 halt_line OutOfMemory = memory_line
-halt_line (PivotLimit place limit trail) = line (codes "solver") (codes "PivotLimit") (word (codes "place") (place_name place) ∷ number (codes "limit") limit ∷ [])
-halt_line (Overflow place trail spill) = line (codes "solver") (codes "Overflow") (word (codes "place") (place_name place) ∷ spill_text spill ∷ [])
+halt_line (PivotLimit place limit trail) = line (codes "solver") (codes "PivotLimit") (word (codes "place") (place_text place) ∷ number (codes "limit") limit ∷ [])
+halt_line (Overflow place trail spill) = line (codes "solver") (codes "Overflow") (word (codes "place") (place_text place) ∷ spill_text spill ∷ [])
 halt_line (NotBuilt part) = line (codes "build") (codes "NotBuilt") (number (codes "part") part ∷ [])
 
 -- the line of each fault

@@ -4,11 +4,12 @@
 //! as `specs/ReportText.antt` and `specs/FaultText.antt` write them. The types that a job answers
 //! with stand here, so that who reads them needs no solver. It stands on `rq_words`, `data_frame`,
 //! `formula_parser`, `design_matrix` and `rq_program` for their faults, on `loss_model` and
-//! `rankscores` for what a fit holds, and on `itoa`.
+//! `rankscores` for what a fit and its rank intervals hold, and on `itoa`.
 //! Its tests stand in the crate `report_tests`.
 #![tactic(auto)]
 
 mod fault;
+mod intervals;
 pub mod laws;
 mod line;
 mod lines;

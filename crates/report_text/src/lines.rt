@@ -226,6 +226,7 @@ impl Page {
             fit.process.segments.as_slice(),
             fit.scores.as_slice(),
         )?;
+        self.interval_lines(fit.intervals.as_slice())?;
         self.put(b"end\n")
     }
 }
