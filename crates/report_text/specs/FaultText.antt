@@ -26,7 +26,7 @@ use Rattle.report_text.specs.ReportText.{numbered, value}
 use Rattle.report_text.specs.declared.quantity.PrintedIndices.{PrintedIndices}
 use Rattle.report_text.specs.declared.quantity.PrintedIndices.TheVariants.{One, Two, Three}
 use Rattle.report_text.specs.declared.report.Place.{Place}
-use Rattle.report_text.specs.declared.report.Place.TheVariants.{Process, Check}
+use Rattle.report_text.specs.declared.report.Place.TheVariants.{Process, Interval, Check}
 use Rattle.report_text.specs.declared.report.Refusal.{Refusal}
 use Rattle.report_text.specs.declared.report.Refusal.TheVariants.{TooLong, Table, Formula, RankWithPenalty, Design, Penalty, Program, Dependent, CertTooLong, Certificate}
 use Rattle.report_text.specs.declared.report.Halt.{Halt}
@@ -98,10 +98,12 @@ site_text site = word (codes "quantity") (quantity_name site.quantity) ++ (key (
 unfoldable pub spill_text : Spill Frac128 → List ℕ
 spill_text spill = site_text spill.site ++ word (codes "op") (op_name spill.site.kind) ++ fraction (codes "left") spill.left ++ fraction (codes "right") spill.right
 
--- the place where the solver or the checker stopped
-abbrev pub place_name : Place → List ℕ
-place_name Process = codes "process"
-place_name Check = codes "check"
+-- the place where the solver or the checker stopped: the fit, the interval of a column, counted from 1, at a quantile, or
+-- the conditions of a certificate
+abbrev pub place_text : Place → List ℕ
+place_text Process = codes "process"
+place_text (Interval column tau) = codes "interval:" ++ decimal (column + 1) ++ codes ":" ++ number_text_of (value tau)
+place_text Check = codes "check"
 
 -- ---- faults
 
@@ -201,8 +203,8 @@ refusal_line (Certificate fault) = certificate_line fault
 abbrev pub halt_line : Halt → List ℕ
 halt_line (Refused refusal) = refusal_line refusal
 halt_line OutOfMemory = memory_line
-halt_line (PivotLimit place limit trail) = line (codes "solver") (codes "PivotLimit") (word (codes "place") (place_name place) ∷ number (codes "limit") limit ∷ [])
-halt_line (Overflow place trail spill) = line (codes "solver") (codes "Overflow") (word (codes "place") (place_name place) ∷ spill_text spill ∷ [])
+halt_line (PivotLimit place limit trail) = line (codes "solver") (codes "PivotLimit") (word (codes "place") (place_text place) ∷ number (codes "limit") limit ∷ [])
+halt_line (Overflow place trail spill) = line (codes "solver") (codes "Overflow") (word (codes "place") (place_text place) ∷ spill_text spill ∷ [])
 halt_line (Rejected rejection) = rejection_line rejection
 halt_line (NotBuilt part) = line (codes "build") (codes "NotBuilt") (number (codes "part") part ∷ [])
 

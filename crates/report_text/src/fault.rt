@@ -1,10 +1,10 @@
 //! What the line of each fault says: its group, its name and its fields.
 ghost use Rattle.std.specs.Prelude.{◌≡◌, ◌++◌, IfOk, OnOk};
-ghost use Rattle.report_text.specs.FaultText.{certificate_line, design_line, formula_line, halt_line, penalty_line, place_name as place_name_of, program_line, refusal_line, rejection_line, table_line, usage_line, fault_line as line_of};
+ghost use Rattle.report_text.specs.FaultText.{certificate_line, design_line, formula_line, halt_line, penalty_line, program_line, refusal_line, rejection_line, table_line, usage_line, fault_line as line_of};
 
-use crate::line::Field::{Fraction, Fractions, Length, Name, Number, Position, Spill, Word};
+use crate::line::Field::{Fraction, Fractions, Length, Name, Number, Place, Position, Spill};
 use crate::page::Page;
-use crate::report::{Fault, Halt, Place, Refusal};
+use crate::report::{Fault, Halt, Refusal};
 use cert_checker::Rejection;
 use cert_text::CertFault;
 use data_frame::TableFault;
@@ -37,15 +37,6 @@ pub fn fault_line(alloc: Global, fault: &Fault) -> Result<Vec<u8>, OutOfMemory>
         Fault::Halt(halt) => page.halt_line(halt)?,
     }
     Ok(page.into_bytes())
-}
-
-fn place_name(place: Place) -> &'static [u8]
-    ensures { result.now ≡ place_name_of place }
-{
-    match place {
-        Place::Process => b"process",
-        Place::Check => b"check",
-    }
 }
 
 impl Page {
@@ -261,14 +252,14 @@ impl Page {
                 self.line(
                     b"solver",
                     b"PivotLimit",
-                    &[Word(b"place", place_name(*place)), Number(b"limit", *limit)],
+                    &[Place(b"place", *place), Number(b"limit", *limit)],
                 )
             }
             Halt::Overflow { place, spill, .. } => {
                 self.line(
                     b"solver",
                     b"Overflow",
-                    &[Word(b"place", place_name(*place)), Spill(spill)],
+                    &[Place(b"place", *place), Spill(spill)],
                 )
             }
             Halt::Rejected(rejection) => self.rejection_line(rejection),

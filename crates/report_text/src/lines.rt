@@ -227,6 +227,7 @@ impl Page {
             fit.process.segments.as_slice(),
             fit.scores.as_slice(),
         )?;
+        self.interval_lines(fit.intervals.as_slice())?;
         self.put(b"end\n")
     }
 }

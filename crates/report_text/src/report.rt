@@ -5,15 +5,15 @@ use data_frame::TableFault;
 use design_matrix::DesignFault;
 use formula_parser::FormulaFault;
 use frac_core::{Frac128, List, Text};
-use loss_model::{Problem, Process, Spill, Trail};
+use loss_model::{Interval, Problem, Process, Spill, Trail};
 use rankscores::ScorePair;
 use rq_program::ProgramFault;
 use rq_words::WordFault;
 use tv_penalty::PenaltyFault;
 
 /// A fitted model: how many records were kept and dropped, the names of its columns, its rows, of
-/// which the first `data_rows` are data rows, the process, and for each segment the rankscores of
-/// its basic rows.
+/// which the first `data_rows` are data rows, the process, for each segment the rankscores of its
+/// basic rows, and the rank intervals, quantile by quantile and column by column within.
 #[derive(Drop)]
 pub struct Fit {
     pub kept: u32,
@@ -23,6 +23,7 @@ pub struct Fit {
     pub problem: Problem<Frac128>,
     pub process: Process<Frac128>,
     pub scores: List<List<ScorePair<Frac128>>>,
+    pub intervals: List<Interval<Frac128>>,
 }
 
 /// A fitted model over 0 to 1, and the Wilcoxon score of each of its rows.
@@ -73,6 +74,8 @@ pub enum Refusal {
 pub enum Place {
     /// In the fit itself.
     Process,
+    /// In the rank interval of a column, counted from 0, at a quantile.
+    Interval { column: u32, tau: Frac128 },
     /// In the conditions of a certificate.
     Check,
 }
