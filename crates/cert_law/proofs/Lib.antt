@@ -1,2 +1,4 @@
-pub mod Made
-pub mod Passing
+mod Borrowed
+mod Worths
+mod Made
+mod Passing

@@ -39,4 +39,4 @@ pub record AreSound (p : Problem Frac128) (lo hi : Frac128) (segments : List (Se
   pub costs_lo : AreCosts p (rational (value128 lo))
   pub costs_hi : AreCosts p (rational (value128 hi))
   pub covers : Covers (length p.rows) (rational (value128 lo)) (rational (value128 hi)) (segments_of value128 p segments)
-  pub segments : All (IsSoundSegment p) segments
+  pub each : All (IsSoundSegment p) segments

@@ -36,7 +36,7 @@ use Rattle.rankscores.specs.Spills.{IsScoresSpill}
 use Rattle.rq_words.specs.declared.job.FitJob.{FitJob}
 use Rattle.report_text.specs.declared.report.Fit.{Fit}
 use Rattle.report_text.specs.declared.report.Halt.{Halt}
-use Rattle.report_text.specs.declared.report.Halt.TheVariants.{Refused, OutOfMemory, PivotLimit, Overflow, NotBuilt}
+use Rattle.report_text.specs.declared.report.Halt.TheVariants.{Refused, OutOfMemory, PivotLimit, Overflow, Rejected, NotBuilt}
 use Rattle.report_text.specs.declared.report.Refusal.TheVariants.{TooLong, Dependent}
 use Rattle.report_text.specs.declared.report.Refusal.TheVariants as refusals
 use Rattle.rq_input.specs.Inputs.{HasInputCause, IsInput}
@@ -250,6 +250,9 @@ input_cause job ranked bytes (Refused refusals.RankWithPenalty) h = h
 input_cause job ranked bytes (Refused (refusals.Design fault)) h = h
 input_cause job ranked bytes (Refused (refusals.Penalty fault)) h = h
 input_cause job ranked bytes (Refused (refusals.Program fault)) h = h
+input_cause job ranked bytes (Refused (refusals.CertTooLong n)) h = h
+input_cause job ranked bytes (Refused (refusals.Certificate fault)) h = h
+input_cause job ranked bytes (Rejected rejection) h = h
 input_cause job ranked bytes OutOfMemory h = h
 input_cause job ranked bytes (PivotLimit place limit trail) h = absurd h.2.cause
 input_cause job ranked bytes (Overflow place trail spill) h = absurd h.2.cause
@@ -265,6 +268,9 @@ problem_cause job ranked bytes input is (Refused refusals.RankWithPenalty) h = a
 problem_cause job ranked bytes input is (Refused (refusals.Design fault)) h = absurd h
 problem_cause job ranked bytes input is (Refused (refusals.Penalty fault)) h = absurd h
 problem_cause job ranked bytes input is (Refused (refusals.Program fault)) h = absurd h
+problem_cause job ranked bytes input is (Refused (refusals.CertTooLong n)) h = absurd h
+problem_cause job ranked bytes input is (Refused (refusals.Certificate fault)) h = absurd h
+problem_cause job ranked bytes input is (Rejected rejection) h = absurd h
 problem_cause job ranked bytes input is OutOfMemory h = tt
 problem_cause job ranked bytes input is (PivotLimit place limit trail) h = record { input = input; is = is; cause = h }
 problem_cause job ranked bytes input is (Overflow place trail spill) h = record { input = input; is = is; cause = h }

@@ -1,0 +1,4 @@
+//! Written certificates pass.
+#![tactic(auto)]
+
+pub mod laws;
