@@ -11,11 +11,13 @@ use Rattle.loss_model.specs.declared.interval.Bound.{Bound}
 use Rattle.loss_model.specs.declared.interval.Bound.TheVariants.{Finite, Infinite}
 use Rattle.loss_model.specs.declared.interval.Interval.{Interval}
 use Rattle.frac_core.specs.declared.frac128.Frac128.{Frac128}
+use Rattle.cert_text.specs.Trees.{cert_text}
+use Rattle.cert_text.specs.declared.cert.Cert.{Cert}
 use Rattle.rankscores.specs.declared.pair.ScorePair.{ScorePair}
 use Rattle.report_text.specs.declared.report.Fit.{Fit}
 use Rattle.report_text.specs.declared.report.RanksFit.{RanksFit}
 use Rattle.report_text.specs.declared.report.Report.{Report}
-use Rattle.report_text.specs.declared.report.Report.TheVariants.{Process, Ranks}
+use Rattle.report_text.specs.declared.report.Report.TheVariants.{Process, Ranks, Certificate, Checked}
 use Rattle.report_text.specs.Names.{name_bytes}
 
 -- the texts of the items, which are numbered from i, one after another
@@ -119,12 +121,26 @@ ranks_head fit =
 unfoldable pub ranks_text : RanksFit → List ℕ
 ranks_text ranks = ranks_head ranks.fit ++ numbered wilcoxon_line 1 ranks.wilcoxon ++ codes "end\n"
 
--- the text of a report
+-- how many things of a name there are
+unfoldable pub count_line : List ℕ → ℕ → List ℕ
+count_line name n = name ++ codes " " ++ decimal n ++ codes "\n"
+
+-- the report of a certificate that was accepted: how much it holds, and the verdict
+unfoldable pub checked_text : Cert → List ℕ
+checked_text cert =
+    codes "quantreg check 1\n" ++ count_line (codes "columns") cert.problem.columns ++ count_line (codes "rows") (length cert.problem.rows)
+    ++ count_line (codes "segments") (length cert.segments) ++ count_line (codes "intervals") (length cert.intervals) ++ codes "accepted\nend\n"
+
+-- the text of a report; that of a certificate is the certificate
 abbrev pub report_text : Report → List ℕ
 report_text (Process fit) = fit_text fit
 report_text (Ranks ranks) = ranks_text ranks
+report_text (Certificate cert) = cert_text cert
+report_text (Checked cert) = checked_text cert
 
 -- a fit has one list of scores per segment, and no more data rows than rows
 abbrev pub IsPrintable : Report → Type 0
 IsPrintable (Process fit) = (length fit.scores ≡ length fit.process.segments) × (fit.data_rows ≤ length fit.problem.rows)
 IsPrintable (Ranks ranks) = ⊤
+IsPrintable (Certificate cert) = ⊤
+IsPrintable (Checked cert) = ⊤

@@ -11,13 +11,15 @@ use crate::report::Place;
 use frac_core::{Frac128, OutOfMemory, Text};
 use loss_model::{Site, Spill};
 
-/// A field of a line, by the kind of its value: a number as it stands, a position, which is printed
-/// from 1, a text, fractions, the place of a stop, or an operation that overflows.
+/// A field of a line, by the kind of its value: a number or a length as it stands, a position, which is
+/// printed from 1, a text, a fraction or several, the place of a stop, or an operation that overflows.
 #[derive(Clone, Copy)]
 pub(crate) enum Field<'a> {
     Number(&'static [u8], u32),
+    Length(&'static [u8], u64),
     Position(&'static [u8], u32),
     Name(&'static [u8], &'a Text),
+    Fraction(&'static [u8], Frac128),
     Fractions(&'static [u8], &'a [Frac128]),
     Place(&'static [u8], Place),
     Spill(&'a Spill<Frac128>),
@@ -55,8 +57,10 @@ impl Page {
     {
         match field {
             Field::Number(name, count) => self.put_counted(name, *count as u64),
+            Field::Length(name, length) => self.put_counted(name, *length),
             Field::Position(name, place) => self.put_counted(name, *place as u64 + 1),
             Field::Name(name, text) => self.put_text(name, text),
+            Field::Fraction(name, number) => self.put_fraction(name, *number),
             Field::Fractions(name, list) => self.put_fractions(name, list),
             Field::Place(name, place) => self.put_place(name, *place),
             Field::Spill(spill) => self.put_spill(spill),
@@ -93,6 +97,7 @@ impl Page {
         match place {
             Place::Process => self.put(b"process"),
             Place::Interval { column, tau } => self.put_interval(column, tau),
+            Place::Check => self.put(b"check"),
         }
     }
 
