@@ -1,11 +1,11 @@
 -- Law. x
-use Rattle.std.specs.Prelude.{List}
-use Rattle.frac_core.specs.declared.frac128.Frac128.{Frac128}
-use Rattle.loss_model.specs.declared.problem.Problem.{Problem}
-use Rattle.loss_model.specs.declared.process.Segment.{Segment}
+use Rattle.std.specs.Prelude.{◌≡◌, ◌≤◌, ◌*◌, ℕ, List, Ok, Some, length}
+use Rattle.cert_text.specs.Trees.{cert_text}
+use Rattle.cert_text.specs.declared.cert.Cert.{Cert}
 use Rattle.cert_checker.specs.Tests.{AreTrue}
-use Rattle.cert_checker.specs.Certificates.{segment_tests}
-use Rattle.cert_law.specs.Sound.{AreSound}
+use Rattle.cert_checker.specs.Certificates.{tests}
+use Rattle.cert_law.specs.Sound.{IsSound}
 
-abbrev pub SoundSegmentsPass : Type 0
-SoundSegmentsPass = (p : Problem Frac128) (lo hi : Frac128) (segments : List (Segment Frac128)) → AreSound p lo hi segments → AreTrue (segment_tests p lo hi segments)
+pub record SoundCertificatesPass : Type 0 where
+  pub pass : (c : Cert) → IsSound c → AreTrue (tests c)
+  pub long : (c : Cert) → 64 * length c.segments ≤ length (cert_text c)

@@ -1,8 +1,8 @@
 //! Laws.
 
-ghost use Rattle.cert_law.specs.Laws.{SoundSegmentsPass};
+ghost use Rattle.cert_law.specs.Laws.{SoundCertificatesPass};
 
-/// Sound segments make all conditions on the segments of a certificate true.
-pub fn sound_segments_pass()
-    ensures { SoundSegmentsPass }
+/// Sound certificates pass.
+pub fn sound_certificates_pass()
+    ensures { SoundCertificatesPass }
 {}

@@ -41,9 +41,9 @@ passed i side sides rows other h = record {
   late = λ n c. elim (cases_lt i n) [
     | inl l ↦ omega (arith, l)
     | inr l ↦
-      let after = h.late n c in
-      let here : n ≡ i + 0 = omega (arith, l, after) in
-      absurd (other (cc (h.marked 0 (subst (Contains rows) here c))))
+        let after = h.late n c in
+        let here : n ≡ i + 0 = omega (arith, l, after) in
+        absurd (other (cc (h.marked 0 (subst (Contains rows) here c))))
   ];
   marked = λ k c. h.marked (suc k) (subst (Contains rows) (next k) c);
   there = λ k e. subst (Contains rows) (sym (next k)) (h.there (suc k) e);

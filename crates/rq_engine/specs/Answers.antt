@@ -23,7 +23,7 @@ use Rattle.report_text.specs.declared.report.Refusal.TheVariants.{Dependent, Cer
 use Rattle.report_text.specs.declared.report.Place.TheVariants as places
 use Rattle.report_text.specs.declared.report.Halt.{Halt}
 use Rattle.report_text.specs.declared.report.Halt.TheVariants.{Refused, PivotLimit, Overflow}
-use Rattle.rq_engine.specs.Certificates.{IsCertificateOf, IsShort, IsTooLong}
+use Rattle.rq_engine.specs.Certificates.{IsCertificateOf, IsTooLong, IsWritten}
 use Rattle.rq_engine.specs.Checks.{HasCheckCause, IsCheckedOf}
 use Rattle.rq_engine.specs.Fit.{IsFitUnder, IsRightFit}
 use Rattle.rq_engine.specs.Stops.{HasProblemCause, IsScoringSpill, most}
@@ -65,7 +65,7 @@ IsCertifiedOfBytes job bytes cert = (input : Input) × IsInput job (is_some job.
 abbrev pub IsRight : Job → List ℕ → Report → Type 0
 IsRight (jobs.Process job) bytes (reports.Process fit) = IsFitOfBytes job (is_some job.rank) bytes fit
 IsRight (jobs.Ranks job) bytes (reports.Ranks ranks) = AreRanksOfBytes job bytes ranks
-IsRight (jobs.Certify job) bytes (reports.Certificate cert) = IsCertifiedOfBytes job bytes cert × IsShort cert
+IsRight (jobs.Certify job) bytes (reports.Certificate cert) = IsCertifiedOfBytes job bytes cert × IsWritten cert
 IsRight jobs.Check bytes (reports.Checked cert) = IsCheckedOf bytes cert
 IsRight _ bytes report = ⊥
 

@@ -6,7 +6,7 @@ ghost use Rattle.cert_text.specs.Kept.{IsKeptInterval, IsKeptSegment};
 ghost use Rattle.report_text.specs.ReportText.{value};
 ghost use Rattle.rq_input.specs.Rows.{HasRows};
 ghost use Rattle.rq_engine.specs.Answers.{HasCertifyCause, IsCertified, IsCertifiedOfBytes};
-ghost use Rattle.rq_engine.specs.Certificates.{IsCertificateOf, IsShort};
+ghost use Rattle.rq_engine.specs.Certificates.{IsCertificateOf, IsWritten};
 ghost use Rattle.rq_engine.specs.Certifying.{HasCertifiedCause, IsLengthHalt};
 ghost use Rattle.rq_engine.specs.RankProblems.{IsRankAskOf};
 
@@ -54,7 +54,7 @@ fn cert_of_fit(alloc: Global, job: &FitJob, fit: Fit) -> Result<Cert, OutOfMemor
 
 // Whether the text of a certificate is short enough.
 fn test_length(alloc: Global, cert: &Cert) -> Result<(), Halt>
-    ensures short { OnOk result (IsShort cert.now) }
+    ensures written { OnOk result (IsWritten cert.now) }
     ensures long { IfErr result (IsLengthHalt cert.now) }
 {
     let length = match write_cert(alloc, cert) {
@@ -78,7 +78,7 @@ fn certify_input(alloc: Global, job: &FitJob, input: Input) -> Result<Cert, Halt
     requires rank { IsRankAskOf job.now.rank }
     requires unpenalised { is_some job.now.rank ≡ true → length input.smoothing.rows ≡ 0 }
     ensures right { IfOk result (IsCertified job.now input) }
-    ensures short { IfOk result IsShort }
+    ensures written { IfOk result IsWritten }
     ensures cause { IfErr result (HasCertifiedCause job.now input) }
 {
     let fit = match fit_input(alloc, job, input) {
@@ -105,7 +105,7 @@ pub(crate) fn certify_bytes(alloc: Global, job: &FitJob, bytes: &[u8]) -> Result
     requires few { length bytes.now ≤ 2 ^ 26 }
     requires rank { IsRankAskOf job.now.rank }
     ensures right { IfOk result (IsCertifiedOfBytes job.now bytes.now) }
-    ensures short { IfOk result IsShort }
+    ensures written { IfOk result IsWritten }
     ensures cause { IfErr result (HasCertifyCause job.now bytes.now) }
 {
     match read_input(alloc, job, job.rank.is_some(), bytes) {
