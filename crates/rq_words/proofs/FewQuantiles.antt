@@ -64,6 +64,9 @@ step_both : {A B : Type 0} (r : Result A WordFault) (next : A → Result B WordF
 step_both (Ok a) next x h = (a, refl, h)
 step_both (Err fault) next x h = absurd (cc h)
 
+same_taus : (m n : OptionNumbers) → ◌≡◌ {A = Result OptionNumbers WordFault} (Ok m) (Ok n) → m.taus ≡ n.taus
+same_taus m n h = let same : m ≡ n = cc h in ap (λ (k : OptionNumbers). k.taus) same
+
 numbers_few : (found : List Row) (n : OptionNumbers) → numbers_of found ≡ Ok n → AreFew n.taus
 unfolding numbers_of
 numbers_few found n h =
@@ -75,7 +78,7 @@ numbers_few found n h =
     let number = step_ok (number_option found (codes "number") 0 (count 10 0 (2 ^ 32 - 1))) _ _ limit.1 in
     let rows = step_ok (number_option found (codes "rows") 0 (count 5 1 most_rows)) _ _ number.1 in
     let columns = step_ok (number_option found (codes "columns") 0 (count 3 1 100)) _ _ rows.1 in
-    let same : taus.0 ≡ n.taus = cc columns.1 in
+    let same : taus.0 ≡ n.taus = same_taus _ n columns.1 in
     subst AreFew same (option_few (first_of (codes "rank-at") found) taus.0 (BadNumber (codes "rank-at")) taus.1)
 
 -- ---- the request
