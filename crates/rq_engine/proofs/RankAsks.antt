@@ -11,7 +11,7 @@ use Rattle.rq_words.specs.Requests as request
 use Rattle.rq_words.specs.Words.{zero, one, is_outside}
 use Rattle.rq_words.specs.declared.job.FitJob.{FitJob}
 use Rattle.rq_words.specs.declared.job.RankAsk.{RankAsk}
-use Rattle.rq_words.specs.declared.job.Job.TheVariants.{Process, Ranks}
+use Rattle.rq_words.specs.declared.job.Job.TheVariants.{Process, Ranks, Certify}
 use Rattle.rq_words.proofs.RankRequests.{IsSoundOf, words_sound}
 use Rattle.report_text.specs.ReportText.{value}
 use Rattle.rq_engine.specs.Built.{IsJobOf}
@@ -36,9 +36,12 @@ rank_by : (rank : Option RankAsk) → IsSoundOf (option_map rank_request rank) �
 rank_by None h = tt
 rank_by (Some rank) h = record { crit = h.crit; taus = all_inner rank.taus h.taus }
 
--- the intervals that the words ask for beside a process, and beside ranks
+-- the intervals that the words ask for beside a process, beside ranks, and in a certificate
 pub asked_intervals : (words : List (List ℕ)) (fit : FitJob) → IsJobOf words (Process fit) → IsRankAskOf fit.rank
 asked_intervals words fit asked = rank_by fit.rank (words_sound (request.Process (fit_request fit)) (fit_request fit) refl words asked)
 
 pub asked_beside_ranks : (words : List (List ℕ)) (fit : FitJob) → IsJobOf words (Ranks fit) → IsRankAskOf fit.rank
 asked_beside_ranks words fit asked = rank_by fit.rank (words_sound (request.Ranks (fit_request fit)) (fit_request fit) refl words asked)
+
+pub asked_certified : (words : List (List ℕ)) (fit : FitJob) → IsJobOf words (Certify fit) → IsRankAskOf fit.rank
+asked_certified words fit asked = rank_by fit.rank (words_sound (request.Certify (fit_request fit)) (fit_request fit) refl words asked)

@@ -39,7 +39,7 @@ module _ {F : Type 0} (value : F → Fraction) where
   -- the problem has data rows alone, and the critical value is at least 0
   pub record IsRankable (p : Problem F) (crit : F) : Type 0 where
     pub shaped : IsWellShaped p
-    pub data : (i : ℕ) → i < length p.rows → IsDataRow (sample value p) i
+    pub data_rows : (i : ℕ) → i < length p.rows → IsDataRow (sample value p) i
     pub crit_sign : whole (pos 0) ≤ℚ rational (value crit)
 
   -- so it is, with the inverse of its Gram matrix

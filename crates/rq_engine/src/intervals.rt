@@ -20,6 +20,7 @@ use std::alloc::Global;
 
 /// What the intervals of all columns share: the problem, the inverse of its Gram matrix, the critical
 /// value, and the limit of each.
+#[derive(Drop)]
 struct RankProblem<'a, F: Exact> {
     problem: &'a Problem<F>,
     gram: &'a GramInverse<F>,

@@ -67,16 +67,17 @@ sound_of : (n : OptionNumbers) → fault_of n ≡ None → (o : Option RankReque
 sound_of n h None e = tt
 sound_of n h (Some r) e = let sound = are_sound n h in sound_by n.crit n.taus sound.taus sound.crit r e
 
--- the fit that a job asks for, of a process or of ranks
+-- the fit that a job asks for: of a process, of ranks or of a certificate
 abbrev pub IsFitOf : Request → FitRequest → Type 0
 IsFitOf (request.Process f) g = f ≡ g
 IsFitOf (request.Ranks f) g = f ≡ g
+IsFitOf (request.Certify f) g = f ≡ g
 IsFitOf _ g = ⊥
 
 same_rank : (kind : Kind) (found : List Row) (n : OptionNumbers) (chosen : Coding) (f : FitRequest) → IsFitOf (request_for kind found n chosen) f → rank_of n ≡ f.rank
 same_rank kind.Process found n chosen f h = ap (λ (g : FitRequest). g.rank) h
 same_rank kind.Ranks found n chosen f h = ap (λ (g : FitRequest). g.rank) h
-same_rank kind.Certify found n chosen f h = absurd h
+same_rank kind.Certify found n chosen f h = ap (λ (g : FitRequest). g.rank) h
 same_rank kind.Check found n chosen f h = absurd h
 same_rank kind.Sample found n chosen f h = absurd h
 
