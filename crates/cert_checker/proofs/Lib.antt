@@ -1,5 +1,5 @@
 mod Spilled
-mod Decided
+pub mod Decided
 mod Chains
 mod Steps
 mod Agrees
@@ -8,6 +8,6 @@ mod Priced
 mod Places
 mod Counts
 mod Extracts
-mod Worths
-mod Shown
+pub mod Worths
+pub mod Shown
 mod All

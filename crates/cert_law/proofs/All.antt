@@ -9,7 +9,7 @@ use Rattle.cert_checker.specs.Intervals.{interval_form, interval_tests}
 use Rattle.cert_checker.specs.Places.{value128}
 use Rattle.cert_checker.specs.Tests.{AreTrue}
 use Rattle.cert_law.specs.Sound.{IsSound, IsSoundInterval}
-use Rattle.cert_law.proofs.Borrowed.{joined}
+use Rattle.cert_checker.proofs.Decided.{joined}
 use Rattle.cert_law.proofs.Made.{item_at, all_each}
 use Rattle.cert_law.proofs.Passing.{are_rows, are_formed, are_costs, are_ends, are_bounds_lo, are_bounds_hi, are_balances, are_losses, are_joints}
 use Rattle.cert_law.proofs.Ranked.{interval_formed, interval_true}

@@ -1,5 +1,3 @@
-mod Borrowed
-mod Worths
 mod Made
 mod Passing
 mod Ranked

@@ -4,7 +4,7 @@ use Rattle.std.specs.Option.{option_map_or}
 use Rattle.std.proofs.lemmas.Option.{slice_get_within, slice_get-get_or}
 use Rattle.cert_checker.specs.Tests.{Part, Test, ArePartsTrue, AreTrue, upto}
 use Rattle.cert_checker.specs.Conditions.{each}
-use Rattle.cert_law.proofs.Borrowed.{joined, parts_joined}
+use Rattle.cert_checker.proofs.Decided.{joined, parts_joined}
 
 -- what holds of all items holds of the one at a place
 pub item_at : {A : Type 0} (P : A → Type 0) (xs : List A) → All P xs → (i : ℕ) (x : A) → slice_get xs i ≡ Some x → P x

@@ -44,8 +44,9 @@ use Rattle.cert_checker.specs.declared.way.Way.TheVariants.{Low, High}
 use Rattle.cert_checker.specs.Conditions.{End, side_in, up_formula, down_formula, dual_at_row, balance, bound_parts, residual_formula}
 use Rattle.cert_checker.specs.Intervals.{along_formula, balance_parts, basic_parts, beyond_tests, data_parts, end_form, end_tests, finite_tests, infinite_tests, inside_tests, interval_form, interval_tests, level_parts, order_tests, orthogonal_formula, others, projected_formula, question_of, Question, rank_bound_formula, ray_parts, ray_parts_by, side_parts, sign_of, square_formula, unit_of, values_of, weighted, whole_tests, within_parts}
 use Rattle.cert_law.specs.Sound.{IsSoundEnding, IsSoundInterval}
-use Rattle.cert_law.proofs.Borrowed.{joined, parts_joined, row_dual}
-use Rattle.cert_law.proofs.Worths.{worth-sum, worth-less_others, worth-residual}
+use Rattle.cert_checker.proofs.Decided.{joined, parts_joined}
+use Rattle.cert_checker.proofs.Shown.{row_dual}
+use Rattle.cert_checker.proofs.Worths.{worth-sum, worth-less_others, worth-residual}
 use Rattle.cert_law.proofs.Made.{parts_upto}
 
 -- ---- the other columns
