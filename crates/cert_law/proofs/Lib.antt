@@ -3,3 +3,4 @@ mod Passing
 mod Ranked
 mod All
 mod Lengths
+mod Written

@@ -133,7 +133,7 @@ size_lines cert =
 
 -- the report of a certificate that was accepted: that, and the verdict
 unfoldable pub checked_text : Cert → List ℕ
-checked_text cert = codes "quantreg check 1\n" ++ size_lines cert ++ codes "accepted\nend\n"
+checked_text cert = codes "quantreg check 1\n" ++ size_lines cert ++ codes "accepted\n" ++ codes "end\n"
 
 -- the text of a report; that of a certificate is the certificate
 abbrev pub report_text : Report → List ℕ

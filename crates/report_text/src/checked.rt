@@ -36,6 +36,8 @@ impl Page {
     {
         self.put(b"quantreg check 1\n")?;
         self.size_lines(cert)?;
-        self.put(b"accepted\nend\n")
+        self.put(b"accepted\n")?;
+        self.put(b"end\n")?;
+        Ok(())
     }
 }
