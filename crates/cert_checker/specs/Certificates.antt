@@ -1,4 +1,4 @@
--- Law. The conditions on a certificate in their order, and what they show, whoever wrote it.
+-- Stated. The conditions on a certificate in their order, and what they show, whoever wrote it.
 use Rattle.std.specs.Prelude.{◌≡◌, ℕ, List, ◌++◌, length, slice_get, Some}
 use Rattle.exact_algebra.specs.Rational.{ℚ, ◌≤ℚ◌}
 use Rattle.exact_algebra.specs.Fraction.{rational}

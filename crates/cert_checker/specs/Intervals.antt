@@ -1,4 +1,4 @@
--- Law. The conditions on the rank intervals of a certificate, as tests in their order: their form, and
+-- Stated. The conditions on the rank intervals of a certificate, as tests in their order: their form, and
 -- what they state (Koenker 2005, section 3.5).
 use Rattle.std.specs.Prelude.{ℕ, ◌+◌, List, [], ◌++◌, length, eqb, pos, if◌then◌else◌}
 use Rattle.std.specs.declared.cmp.Ordering.{Ordering}

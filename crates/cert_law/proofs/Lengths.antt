@@ -37,7 +37,10 @@ member_long : (later : Bool) (k : List ℕ) (d : Data) (ms : Members) → length
 member_long later k d ms =
     let behind = compact_text d ++ members_text true ms in
     omega (
-      arith, quoted_long k, length-append (compact_text d) (members_text true ms), length-append (quoted k) (58 ∷ behind),
+      arith,
+      quoted_long k,
+      length-append (compact_text d) (members_text true ms),
+      length-append (quoted k) (58 ∷ behind),
       length-append (comma_if later) (quoted k ++ 58 ∷ behind),
     )
 
@@ -61,7 +64,15 @@ segment_long s =
     let m2 = member (codes "coef") (fractions_tree s.vertex.coef) m3 in
     let m1 = member (codes "basic_lo") (fractions_tree s.basic_lo) m2 in
     omega (
-      arith, basic_hi, basic_lo, coef, hi, lo, loss_hi, loss_lo, sides,
+      arith,
+      basic_hi,
+      basic_lo,
+      coef,
+      hi,
+      lo,
+      loss_hi,
+      loss_lo,
+      sides,
       member_long false (codes "basic_hi") (fractions_tree s.basic_hi) m1,
       member_long true (codes "basic_lo") (fractions_tree s.basic_lo) m2,
       member_long true (codes "coef") (fractions_tree s.vertex.coef) m3,
@@ -92,7 +103,8 @@ cert_long c =
     let m2 = member (codes "intervals") (list_tree interval_tree c.intervals) m3 in
     let m1 = member (codes "hi") (fraction_tree c.hi) m2 in
     omega (
-      arith, items_long false c.segments,
+      arith,
+      items_long false c.segments,
       member_long false (codes "columns") (number (unsigned c.problem.columns)) m1,
       member_long true (codes "hi") (fraction_tree c.hi) m2,
       member_long true (codes "intervals") (list_tree interval_tree c.intervals) m3,

@@ -213,8 +213,10 @@ module _ (p : Problem Frac128) (a : IntervalProof Frac128) (meets : MeetsConditi
     inside_true : (m n : ℕ) → AreTrue (inside_tests asked m n (values_of asked v inside))
     inside_true m n = (
       parts_upto (length p.rows) (λ i. basic_parts (sample value128 p) v i (side_in v i)) (λ i l. basic_true i (side_in v i) (on_side i l)),
-      (parts_upto (length p.rows) (λ i. side_parts (sample value128 p) v i (side_in v i)) (λ i l. side_true i (side_in v i) (on_side i l)),
-      (within_true v inside h.sides h.feasible, (balances_true v inside h.sides h.feasible, ((within_bound, tt), tt)))),
+      (
+        parts_upto (length p.rows) (λ i. side_parts (sample value128 p) v i (side_in v i)) (λ i l. side_true i (side_in v i) (on_side i l)),
+        (within_true v inside h.sides h.feasible, (balances_true v inside h.sides h.feasible, ((within_bound, tt), tt))),
+      ),
     )
 
   -- ---- what lies beyond an end
@@ -225,10 +227,20 @@ module _ (p : Problem Frac128) (a : IntervalProof Frac128) (meets : MeetsConditi
         → AreTrue (finite_tests asked way m x v (values_of asked v f))
     finite_true x f is outside sign = (
       (is, tt),
-      (parts_joined (within_parts asked (values_of asked v f)) (balance_parts asked (values_of asked v f)) (within_true v f sides outside.feasible) (balances_true v f sides outside.feasible),
-      ((subst (λ z. Holds (sign_of way) z (whole (pos 0))) (sym (balance_is v f sides a.column)) sign,
-      (subst (λ z. worth (rank_bound_formula asked) <ℚ z) (sym (square_at v f sides))
-      (subst (λ z. z <ℚ (rank_statistic (sample value128 p) a.column (dual_value value128 p v f tau) *ℚ rank_statistic (sample value128 p) a.column (dual_value value128 p v f tau))) (sym bound_is) outside.beyond), tt)), tt)),
+      (
+        parts_joined (within_parts asked (values_of asked v f)) (balance_parts asked (values_of asked v f)) (within_true v f sides outside.feasible) (balances_true v f sides outside.feasible),
+        (
+          (
+            subst (λ z. Holds (sign_of way) z (whole (pos 0))) (sym (balance_is v f sides a.column)) sign,
+            (
+              subst (λ z. worth (rank_bound_formula asked) <ℚ z) (sym (square_at v f sides))
+                  (subst (λ z. z <ℚ (rank_statistic (sample value128 p) a.column (dual_value value128 p v f tau) *ℚ rank_statistic (sample value128 p) a.column (dual_value value128 p v f tau))) (sym bound_is) outside.beyond),
+              tt,
+            ),
+          ),
+          tt,
+        ),
+      ),
     )
 
     infinite_true : (ray : ℕ → ℚ) (inside : List Frac128) → ray a.column ≡ worth (unit_of way) → IsStatedRay (sample value128 p) tau ray (dual_value value128 p v inside tau)
@@ -262,11 +274,17 @@ module _ (p : Problem Frac128) (a : IntervalProof Frac128) (meets : MeetsConditi
   whole_true : (m : ℕ) → AreTrue (whole_tests asked m)
   whole_true m = (
     parts_upto (length p.rows) (data_parts (sample value128 p)) rows_true,
-    ((meets.tau_above, (meets.tau_below, (meets.crit, tt))),
-    ((meets.projection.own, tt),
-    (others_true a.column p.columns (λ k. part (orthogonal_formula (sample value128 p) a.column factors k) Equal (given (whole (pos 0))))
-    (λ k l other. (orthogonal_is (sample value128 p) a.column factors meets.projection.own k ∙ meets.projection.orthogonal k l other, tt)),
-    ((subst (λ z. whole (pos 0) <ℚ z) (sym (square_is (sample value128 p) a.column factors meets.projection.own)) meets.positive, tt), tt)))),
+    (
+      (meets.tau_above, (meets.tau_below, (meets.crit, tt))),
+      (
+        (meets.projection.own, tt),
+        (
+          others_true a.column p.columns (λ k. part (orthogonal_formula (sample value128 p) a.column factors k) Equal (given (whole (pos 0))))
+              (λ k l other. (orthogonal_is (sample value128 p) a.column factors meets.projection.own k ∙ meets.projection.orthogonal k l other, tt)),
+          ((subst (λ z. whole (pos 0) <ℚ z) (sym (square_is (sample value128 p) a.column factors meets.projection.own)) meets.positive, tt), tt),
+        ),
+      ),
+    ),
   )
 
   order_true : (m : ℕ) (low high : Bound Frac128) → AreInOrder (bound_of value128 low) (bound_of value128 high) → AreTrue (order_tests m low high)

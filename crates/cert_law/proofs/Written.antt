@@ -110,9 +110,9 @@ sound_interval p limit asked r h = record {
 sound_intervals : (p : Problem Frac128) (limit : ℕ) (asked : List (Asked Frac128)) (rs : List (Interval Frac128)) → AreRightIntervals value p limit asked rs → All (IsSoundInterval p) (map (λ (r : Interval Frac128). r.proof) rs)
 sound_intervals p limit [] [] h = All-nil (IsSoundInterval p)
 sound_intervals p limit [] (r ∷ rs) h = absurd h
-sound_intervals p limit (a ∷ as) [] h = absurd h
-sound_intervals p limit (a ∷ as) (r ∷ rs) h =
-    All-cons (IsSoundInterval p) r.proof (map (λ (r : Interval Frac128). r.proof) rs) (sound_interval p limit a r h.0) (sound_intervals p limit as rs h.1)
+sound_intervals p limit (a ∷ others) [] h = absurd h
+sound_intervals p limit (a ∷ others) (r ∷ rs) h =
+    All-cons (IsSoundInterval p) r.proof (map (λ (r : Interval Frac128). r.proof) rs) (sound_interval p limit a r h.0) (sound_intervals p limit others rs h.1)
 
 -- how many are asked for
 asked_count : (crit : Frac128) (n : ℕ) (taus : List Frac128) → n ≤ 128 → length (asked_over crit n taus) ≤ 128 * length taus

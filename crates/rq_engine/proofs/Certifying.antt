@@ -84,10 +84,10 @@ module _ {F : Type 0} (value : F → Fraction) (p : Problem F) where
   intervals_kept : (limit : ℕ) → p.columns ≤ 128 → (asked : List (Asked F)) (intervals : List (Interval F)) → AreRightIntervals value p limit asked intervals → All (λ (interval : Interval F). IsKeptInterval interval.proof) intervals
   intervals_kept limit few [] [] h = All-nil (λ (interval : Interval F). IsKeptInterval interval.proof)
   intervals_kept limit few [] (x ∷ xs) h = absurd h
-  intervals_kept limit few (a ∷ as) [] h = absurd h
-  intervals_kept limit few (a ∷ as) (x ∷ xs) h =
+  intervals_kept limit few (a ∷ others) [] h = absurd h
+  intervals_kept limit few (a ∷ others) (x ∷ xs) h =
       All-cons (λ (interval : Interval F). IsKeptInterval interval.proof) x xs
-      (kept_interval x few h.0.lawful.conditions.column h.0.lawful.lawful) (intervals_kept limit few as xs h.1)
+      (kept_interval x few h.0.lawful.conditions.column h.0.lawful.lawful) (intervals_kept limit few others xs h.1)
 
 pub fit_ended : (job : FitJob) (fit : Fit) → IsRightFit value job fit → All (λ (interval : Interval Frac128). IsKeptInterval interval.proof) fit.intervals
 fit_ended job fit right = intervals_kept value fit.problem job.limit right.shaped.columns (asked_by job.rank fit.problem.columns) fit.intervals right.intervals

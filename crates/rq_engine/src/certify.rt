@@ -42,12 +42,18 @@ fn cert_of_fit(alloc: Global, job: &FitJob, fit: Fit) -> Result<Cert, OutOfMemor
     requires ended { All (λ interval. IsKeptInterval interval.proof) fit.intervals }
     ensures { IfOk result (IsCertificateOf job.now fit) }
 {
-    let intervals = proofs(alloc, fit.intervals)?;
+    let Fit {
+        problem,
+        process,
+        intervals,
+        ..
+    } = fit;
+    let intervals = proofs(alloc, intervals)?;
     Ok(Cert {
-        problem: fit.problem,
+        problem,
         lo: job.lo,
         hi: job.hi,
-        segments: fit.process.segments,
+        segments: process.segments,
         intervals,
     })
 }
