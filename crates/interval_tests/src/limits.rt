@@ -1,7 +1,7 @@
 //! Limits below the steps that an interval takes, dependent columns, and operations that overflow, each with its
 //! trail.
 
-use crate::helpers::{Question, Ratio, Steps, ask, expect, expect_steps, problem, ratio};
+use crate::helpers::{Question, Ratio, Step, ask, expect, expect_steps, problem, ratio};
 use frac_core::{Exact, Frac64, Frac128, OpKind};
 use loss_model::{Quantity, Site, Stop, Trail};
 use slow_ranks::Data;
@@ -12,9 +12,9 @@ use std::test::Fail;
 /// The parts of a trail.
 struct Path {
     start: &'static [Option<u32>],
-    steps: &'static Steps,
-    rise: &'static Steps,
-    fall: &'static Steps,
+    steps: &'static [Step],
+    rise: &'static [Step],
+    fall: &'static [Step],
 }
 
 fn expect_trail<F: Exact>(rt: &impl Abort, trail: &Trail<F>, want: &Path) {
@@ -156,14 +156,6 @@ const ROOT: i128 = 2_147_483_648;
 
 const WEIGHT: i128 = 1_300_000_000;
 
-static HEAVY: [Data; 5] = [
-    ([1, 0, 0], 1, WEIGHT),
-    ([1, 0, 0], 2, WEIGHT),
-    ([1, 0, 0], 3, WEIGHT),
-    ([1, 0, 0], 4, WEIGHT),
-    ([1, 0, 0], 5, WEIGHT),
-];
-
 /// All lists of the trail are empty.
 const NO_STEPS: Path = Path {
     start: &[],
@@ -290,7 +282,13 @@ static OVERFLOWS: [Overflow; 6] = [
     // walk are at -h, -3h and -5h, and the bound 9 h^2 lets it go to the last but one.
     Overflow {
         columns: 1,
-        table: &HEAVY,
+        table: &[
+            ([1, 0, 0], 1, WEIGHT),
+            ([1, 0, 0], 2, WEIGHT),
+            ([1, 0, 0], 3, WEIGHT),
+            ([1, 0, 0], 4, WEIGHT),
+            ([1, 0, 0], 5, WEIGHT),
+        ],
         question: OF_FIVE,
         path: Path {
             start: &[Some(0)],

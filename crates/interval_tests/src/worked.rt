@@ -1,6 +1,6 @@
 //! Intervals worked by hand, with their trails and all that their ends state.
 
-use crate::helpers::{Question, Ratio, Steps, ask, expect, expect_steps, problem, ratio};
+use crate::helpers::{Question, Ratio, Step, ask, expect, expect_steps, problem, ratio};
 use frac_core::{Exact, Frac64, Frac128};
 use loss_model::{Beyond, Bound, End, Interval, Side};
 use slow_ranks::Data;
@@ -21,14 +21,12 @@ struct Edge {
 
 /// An interval at the median.
 struct Case {
-    columns: u32,
-    table: &'static [Data],
     column: u32,
     crit: Ratio,
     projection: &'static [Ratio],
-    steps: &'static Steps,
-    rise: &'static Steps,
-    fall: &'static Steps,
+    steps: &'static [Step],
+    rise: &'static [Step],
+    fall: &'static [Step],
     low: Edge,
     high: Edge,
 }
@@ -48,53 +46,20 @@ static FIVE: [Data; 5] = [
     ([1, 0, 0], 5, 1),
 ];
 
-static TO_THREE: [(Ratio, u32, u32); 1] = [((1, 2), 0, 2)];
-
-/// The fit at each of the five.
-static AT_ONE: [Side; 5] = [Side::Basic, Side::Up, Side::Up, Side::Up, Side::Up];
-
-static AT_TWO: [Side; 5] = [Side::Down, Side::Basic, Side::Up, Side::Up, Side::Up];
-
-static AT_THREE: [Side; 5] = [
-    Side::Down,
-    Side::Down,
-    Side::Basic,
-    Side::Up,
-    Side::Up,
-];
-
-static AT_FOUR: [Side; 5] = [
-    Side::Down,
-    Side::Down,
-    Side::Down,
-    Side::Basic,
-    Side::Up,
-];
-
-static AT_FIVE: [Side; 5] = [
-    Side::Down,
-    Side::Down,
-    Side::Down,
-    Side::Down,
-    Side::Basic,
-];
-
 /// With the critical value 1 the bound is 5/4, between 1/4 and 9/4. With 9/5 it is 9/4, a tie with the second
 /// breakpoint. With 5 it is 25/4, a tie with the last one. With 0 no step is within.
 static OF_FIVE: [Case; 4] = [
     Case {
-        columns: 1,
-        table: &FIVE,
         column: 0,
         crit: (1, 1),
         projection: &[(0, 1)],
-        steps: &TO_THREE,
+        steps: &[((1, 2), 0, 2)],
         rise: &[((-1, 2), 0, 3)],
         fall: &[((1, 2), 0, 1)],
         low: Edge {
             value: Some((2, 1)),
             basis: &[1],
-            sides: &AT_TWO,
+            sides: &[Side::Down, Side::Basic, Side::Up, Side::Up, Side::Up],
             coef: &[(2, 1)],
             inside: &[(-1, 2)],
             beyond: &[(1, 2)],
@@ -102,25 +67,23 @@ static OF_FIVE: [Case; 4] = [
         high: Edge {
             value: Some((4, 1)),
             basis: &[3],
-            sides: &AT_FOUR,
+            sides: &[Side::Down, Side::Down, Side::Down, Side::Basic, Side::Up],
             coef: &[(4, 1)],
             inside: &[(1, 2)],
             beyond: &[(-1, 2)],
         },
     },
     Case {
-        columns: 1,
-        table: &FIVE,
         column: 0,
         crit: (9, 5),
         projection: &[(0, 1)],
-        steps: &TO_THREE,
+        steps: &[((1, 2), 0, 2)],
         rise: &[((-1, 2), 0, 3), ((-3, 2), 0, 4)],
         fall: &[((1, 2), 0, 1), ((3, 2), 0, 0)],
         low: Edge {
             value: Some((1, 1)),
             basis: &[0],
-            sides: &AT_ONE,
+            sides: &[Side::Basic, Side::Up, Side::Up, Side::Up, Side::Up],
             coef: &[(1, 1)],
             inside: &[(-1, 2)],
             beyond: &[(1, 2)],
@@ -128,25 +91,23 @@ static OF_FIVE: [Case; 4] = [
         high: Edge {
             value: Some((5, 1)),
             basis: &[4],
-            sides: &AT_FIVE,
+            sides: &[Side::Down, Side::Down, Side::Down, Side::Down, Side::Basic],
             coef: &[(5, 1)],
             inside: &[(1, 2)],
             beyond: &[(-1, 2)],
         },
     },
     Case {
-        columns: 1,
-        table: &FIVE,
         column: 0,
         crit: (5, 1),
         projection: &[(0, 1)],
-        steps: &TO_THREE,
+        steps: &[((1, 2), 0, 2)],
         rise: &[((-1, 2), 0, 3), ((-3, 2), 0, 4)],
         fall: &[((1, 2), 0, 1), ((3, 2), 0, 0)],
         low: Edge {
             value: None,
             basis: &[0],
-            sides: &AT_ONE,
+            sides: &[Side::Basic, Side::Up, Side::Up, Side::Up, Side::Up],
             coef: &[(1, 1)],
             inside: &[(1, 2)],
             beyond: &[(-1, 1)],
@@ -154,25 +115,23 @@ static OF_FIVE: [Case; 4] = [
         high: Edge {
             value: None,
             basis: &[4],
-            sides: &AT_FIVE,
+            sides: &[Side::Down, Side::Down, Side::Down, Side::Down, Side::Basic],
             coef: &[(5, 1)],
             inside: &[(-1, 2)],
             beyond: &[(1, 1)],
         },
     },
     Case {
-        columns: 1,
-        table: &FIVE,
         column: 0,
         crit: (0, 1),
         projection: &[(0, 1)],
-        steps: &TO_THREE,
+        steps: &[((1, 2), 0, 2)],
         rise: &[],
         fall: &[],
         low: Edge {
             value: Some((3, 1)),
             basis: &[2],
-            sides: &AT_THREE,
+            sides: &[Side::Down, Side::Down, Side::Basic, Side::Up, Side::Up],
             coef: &[(3, 1)],
             inside: &[(0, 1)],
             beyond: &[(1, 2)],
@@ -180,7 +139,7 @@ static OF_FIVE: [Case; 4] = [
         high: Edge {
             value: Some((3, 1)),
             basis: &[2],
-            sides: &AT_THREE,
+            sides: &[Side::Down, Side::Down, Side::Basic, Side::Up, Side::Up],
             coef: &[(3, 1)],
             inside: &[(0, 1)],
             beyond: &[(-1, 2)],
@@ -188,12 +147,9 @@ static OF_FIVE: [Case; 4] = [
     },
 ];
 
-/// A line through three points: the fit goes through the first and the last, and the dual values are -1/3, 1/2
-/// and -1/6.
+/// A line through three points: the third row takes the position of the second, so the fit goes through the first
+/// and the last, and the dual values are -1/3, 1/2 and -1/6.
 static LINE: [Data; 3] = [([1, 0, 0], 0, 1), ([1, 1, 0], 2, 1), ([1, 3, 0], 3, 1)];
-
-/// The third row takes the position of the second.
-static TO_THE_LAST: [(Ratio, u32, u32); 1] = [((1, 2), 1, 2)];
 
 /// Of the intercept: 2/5 of x are taken from it, and the bound is 6/7 * 1/4 * 7/5 = 3/10. The values of the
 /// basis are -1/3 + s and -1/6. As s falls the first meets -1/2 at -1/6, within, and the second row enters
@@ -206,12 +162,10 @@ static TO_THE_LAST: [(Ratio, u32, u32); 1] = [((1, 2), 1, 2)];
 /// enters for it: the values are 3/4 - s/2 and (s - 1/2)/2, and the second meets 1/2 at 3/2, beyond.
 static OF_LINE: [Case; 2] = [
     Case {
-        columns: 2,
-        table: &LINE,
         column: 0,
         crit: (6, 7),
         projection: &[(0, 1), (2, 5)],
-        steps: &TO_THE_LAST,
+        steps: &[((1, 2), 1, 2)],
         rise: &[((-1, 6), 0, 1)],
         fall: &[],
         low: Edge {
@@ -232,12 +186,10 @@ static OF_LINE: [Case; 2] = [
         },
     },
     Case {
-        columns: 2,
-        table: &LINE,
         column: 1,
         crit: (6, 7),
         projection: &[(4, 3), (0, 1)],
-        steps: &TO_THE_LAST,
+        steps: &[((1, 2), 1, 2)],
         rise: &[((-1, 1), 1, 1)],
         fall: &[((1, 2), 0, 1)],
         low: Edge {
@@ -297,8 +249,13 @@ fn expect_interval<F: Exact>(rt: &impl Abort, found: &Interval<F>, case: &Case) 
     expect_end(rt, &found.proof.high, &case.high);
 }
 
-fn expect_case<F: Exact>(rt: &impl Abort, alloc: Global, case: &Case) -> Result<(), AllocError> {
-    let rows = problem::<F>(rt, alloc, case.columns, case.table)?;
+fn expect_case<F: Exact>(
+    rt: &impl Abort,
+    alloc: Global,
+    (columns, table): (u32, &[Data]),
+    case: &Case,
+) -> Result<(), AllocError> {
+    let rows = problem::<F>(rt, alloc, columns, table)?;
     let question = Question {
         column: case.column,
         tau: (1, 2),
@@ -314,8 +271,8 @@ fn expect_case<F: Exact>(rt: &impl Abort, alloc: Global, case: &Case) -> Result<
 #[test]
 fn intervals_of_five(rt: HostRuntime) -> Result<(), Fail> {
     for case in &OF_FIVE {
-        expect_case::<Frac128>(&rt, rt.alloc(), case)?;
-        expect_case::<Frac64>(&rt, rt.alloc(), case)?;
+        expect_case::<Frac128>(&rt, rt.alloc(), (1, FIVE.as_slice()), case)?;
+        expect_case::<Frac64>(&rt, rt.alloc(), (1, FIVE.as_slice()), case)?;
     }
     Ok(())
 }
@@ -323,8 +280,8 @@ fn intervals_of_five(rt: HostRuntime) -> Result<(), Fail> {
 #[test]
 fn intervals_of_a_line(rt: HostRuntime) -> Result<(), Fail> {
     for case in &OF_LINE {
-        expect_case::<Frac128>(&rt, rt.alloc(), case)?;
-        expect_case::<Frac64>(&rt, rt.alloc(), case)?;
+        expect_case::<Frac128>(&rt, rt.alloc(), (2, LINE.as_slice()), case)?;
+        expect_case::<Frac64>(&rt, rt.alloc(), (2, LINE.as_slice()), case)?;
     }
     Ok(())
 }

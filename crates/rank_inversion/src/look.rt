@@ -116,9 +116,12 @@ pub fn look<'a, F: Exact>(
     ensures spill { IfErr result (IsShortOf (IsSpillAt F.value F.range tableau.now course from)) }
 {
     let solution = tableau.solution()?;
-    let constant = solution.constant.as_slice();
-    let linear = solution.linear.as_slice();
-    let duals = duals_at(tableau.alloc(), constant, linear, course.tau)?;
+    let duals = duals_at(
+        tableau.alloc(),
+        solution.constant.as_slice(),
+        solution.linear.as_slice(),
+        course.tau,
+    )?;
     let station = Station {
         tableau,
         solution,
