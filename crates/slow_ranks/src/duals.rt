@@ -44,7 +44,7 @@ impl Weights {
 
 /// A vertex: its statistic, and the sum of responses times dual values.
 #[derive(Clone, Copy)]
-pub(crate) struct Vertex {
+pub struct Vertex {
     statistic: Ratio,
     sum: Ratio,
 }
@@ -190,7 +190,7 @@ impl RankTest {
     }
 
     /// All vertices, some of them more than once.
-    pub(crate) fn vertices(&self, alloc: Global) -> Result<Vec<Vertex>, AllocError> {
+    pub fn vertices(&self, alloc: Global) -> Result<Vec<Vertex>, AllocError> {
         let mut found = Vec::new(alloc);
         for first in 0..self.rows.len() {
             self.add_with(first, &mut found)?;
@@ -200,7 +200,7 @@ impl RankTest {
 
     /// Whether some optimal dual values at the tested value are within the bound. Where their statistics
     /// go from one side of 0 to the other, a mix of them has the statistic 0.
-    pub(crate) fn holds(&self, vertices: &[Vertex], xi: Ratio) -> bool {
+    pub fn holds(&self, vertices: &[Vertex], xi: Ratio) -> bool {
         let Some(best) = best_of(vertices, xi) else {
             return false;
         };
