@@ -146,7 +146,10 @@ pub record Question : Type 0 where
 
 abbrev pub question_of : Sample → IntervalProof Frac128 → Question
 question_of p t = record {
-  problem = p; column = t.column; tau = rational (value128 t.tau); crit = rational (value128 t.crit);
+  problem = p;
+  column = t.column;
+  tau = rational (value128 t.tau);
+  crit = rational (value128 t.crit);
   factors = value_at value128 t.projection;
 }
 
