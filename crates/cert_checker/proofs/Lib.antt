@@ -7,7 +7,9 @@ mod Compared
 mod Priced
 mod Places
 mod Counts
+mod Rays
 mod Extracts
 pub mod Worths
 pub mod Shown
+mod Ranks
 mod All

@@ -9,7 +9,7 @@ ghost use Rattle.loss_model.specs.Problem.{sample};
 ghost use Rattle.cert_checker.specs.Places.{value128};
 ghost use Rattle.cert_checker.specs.Formulas.{given};
 ghost use Rattle.cert_checker.specs.Tests.{Test, one, upto};
-ghost use Rattle.cert_checker.specs.Conditions.{each, zero_formula, low_of, high_of, side_in, dual_at_row, balance, bound_test, bounds, balances as balance_tests_of, losses as losses_of, loss_tests, cost_tests, row_costs, lo_at, hi_at, first_end, order_of_ends, joint_end, joint_tests, joints};
+ghost use Rattle.cert_checker.specs.Conditions.{each, zero_formula, low_of, high_of, side_in, dual_at_row, balance, bound_parts, bound_test, bounds, balances as balance_tests_of, losses as losses_of, loss_tests, cost_tests, row_costs, lo_at, hi_at, first_end, order_of_ends, joint_end, joint_tests, joints};
 ghost use Rattle.cert_checker.specs.Verdicts.{Decides};
 ghost use Rattle.cert_checker.specs.Views.{IsSmall, end_of};
 ghost use Rattle.cert_checker.specs.declared.relation.Relation.TheVariants.{AtMost, Below, Equal};
@@ -22,7 +22,7 @@ use crate::leaves::{
 };
 use crate::place::{Place, Progress};
 use crate::relation::Relation;
-use crate::tests::{Both, Comparison, One, Tests, TestsOf, Then, decide_each};
+use crate::tests::{Both, Comparison, One, Parts, Tests, TestsOf, Then, decide_each};
 use crate::verdict::Failure;
 use frac_core::{Exact, Frac128, List};
 use loss_model::{Problem, Segment, Side, Spill};
@@ -124,54 +124,53 @@ impl TestsOf for CostRows<'_> {
 
 // ---- conditions 4 and 5
 
+/// The dual value of a basic row is at most its up cost and at least its negated down cost.
+#[derive(Clone, Copy)]
+pub(crate) struct BasicBounds<'a> {
+    pub(crate) end: EndView<'a>,
+    pub(crate) row: usize,
+}
+
+impl Parts for BasicBounds<'_> {
+    ghost parts = { λ x. bound_parts (sample value128 x.end.problem.now) (end_of x.end) x.row Basic };
+
+    fn decide(self, at: Place, done: u32) -> Result<u32, Failure> {
+        let problem = self.end.problem;
+        let theta = self.end.theta;
+        let row = self.row;
+        let dual = DualValue { end: self.end, row };
+        let under = Comparison {
+            left: dual,
+            relation: Relation::AtMost,
+            right: UpCost {
+                problem,
+                theta,
+                row,
+            },
+        };
+        let over = Comparison {
+            left: dual,
+            relation: Relation::AtLeast,
+            right: Negation(DownCost {
+                problem,
+                theta,
+                row,
+            }),
+        };
+        Both {
+            first: under,
+            rest: over,
+        }
+        .decide(at, done)
+    }
+}
+
 /// The bounds of the dual values of an end.
 #[derive(Clone, Copy)]
 pub(crate) struct BoundRows<'a> {
     pub(crate) condition: u8,
     pub(crate) index: u32,
     pub(crate) end: EndView<'a>,
-}
-
-impl BoundRows<'_> {
-    // The dual value of a basic row is at most its up cost and at least its negated down cost.
-    fn basic(self, row: usize) -> Result<(), Failure>
-        requires { row < 16384 }
-        ensures { Decides (bound_test self.entry.condition self.entry.index (sample value128 self.entry.end.problem.now) (end_of self.entry.end) row Basic) result }
-    {
-        let problem = self.end.problem;
-        let theta = self.end.theta;
-        let dual = DualValue { end: self.end, row };
-        let up = UpCost {
-            problem,
-            theta,
-            row,
-        };
-        let down = DownCost {
-            problem,
-            theta,
-            row,
-        };
-        One {
-            at: Place {
-                condition: self.condition,
-                index: self.index,
-                inner: row as u32 + 1,
-            },
-            parts: Both {
-                first: Comparison {
-                    left: dual,
-                    relation: Relation::AtMost,
-                    right: up,
-                },
-                rest: Comparison {
-                    left: dual,
-                    relation: Relation::AtLeast,
-                    right: Negation(down),
-                },
-            },
-        }
-        .decide()
-    }
 }
 
 impl TestsOf for BoundRows<'_> {
@@ -181,7 +180,18 @@ impl TestsOf for BoundRows<'_> {
 
     fn decide_of(self, i: usize) -> Result<(), Failure> {
         match side(self.end.vertex, i) {
-            Side::Basic => self.basic(i),
+            Side::Basic => One {
+                at: Place {
+                    condition: self.condition,
+                    index: self.index,
+                    inner: i as u32 + 1,
+                },
+                parts: BasicBounds {
+                    end: self.end,
+                    row: i,
+                },
+            }
+            .decide(),
             Side::Up => Ok(()),
             Side::Down => Ok(()),
         }
