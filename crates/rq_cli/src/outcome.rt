@@ -22,7 +22,8 @@ pub enum Outcome {
     SinkFault,
     /// No memory was found.
     OutOfMemory,
-    /// The solver made as many pivots as the limit says, and one more is left.
+    /// The solver made as many pivots of the fit or of a rank interval as the limit says, and one more
+    /// is left.
     PivotLimit {
         place: Place,
         limit: u32,
