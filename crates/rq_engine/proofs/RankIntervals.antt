@@ -39,7 +39,7 @@ module _ {F : Type 0} (value : F → Fraction) (p : Problem F) where
   pub inner_costs : (crit tau : F) → IsRankable value p crit → IsInner (rational (value tau)) → HasCosts (sample value p) (rational (value tau))
   inner_costs crit tau rankable inner =
       let at = λ (i : ℕ) (l : i < length p.rows). data_costs (sample value p) (rational (value tau)) i (le_from_not (whole (pos 0)) (rational (value tau)) inner.0)
-            (le_from_not (rational (value tau)) (whole (pos 1)) inner.1) (rankable.data_rows i l) in
+      (le_from_not (rational (value tau)) (whole (pos 1)) inner.1) (rankable.data_rows i l) in
       record { up = λ i l. (at i l).up; down = λ i l. (at i l).down; some = λ i l. (at i l).some }
 
   module _ (limit : ℕ) where
