@@ -1,5 +1,5 @@
 mod Spilled
-mod Decided
+pub mod Decided
 mod Chains
 mod Steps
 mod Agrees
@@ -9,7 +9,7 @@ mod Places
 mod Counts
 mod Rays
 mod Extracts
-mod Worths
-mod Shown
+pub mod Worths
+pub mod Shown
 mod Ranks
 mod All
