@@ -1,5 +1,5 @@
 -- The certificate of a right fit, and why there is none.
-use Rattle.std.proofs.Common.{◌≡◌, ◌⊎◌, ◌<◌, ◌≤◌, ◌+◌, ◌^◌, ℕ, zero, suc, true, List, [], ◌∷◌, ◌++◌, All, Contains, get_or, is_some, length, map, take, slice_index, arith, refl, sym, ap, subst, ◌∙◌}
+use Rattle.std.proofs.Common.{◌≡◌, ◌⊎◌, ◌<◌, ◌≤◌, ◌+◌, ◌^◌, ℕ, zero, suc, Bool, Result, Ok, Err, IfErr, List, [], ◌∷◌, ◌++◌, All, Contains, get_or, is_some, length, map, take, slice_index, arith, refl, sym, ap, subst, ◌∙◌}
 use Rattle.std.specs.List.{AllZip}
 use Rattle.std.proofs.lemmas.List.Elements.{All-cons, All-nil}
 use Rattle.exact_algebra.specs.Fraction.{Fraction, rational}
@@ -89,10 +89,22 @@ module _ {F : Type 0} (value : F → Fraction) (p : Problem F) where
       All-cons (λ (interval : Interval F). IsKeptInterval interval.proof) x xs
       (kept_interval x few h.0.lawful.conditions.column h.0.lawful.lawful) (intervals_kept limit few others xs h.1)
 
+-- what shows intervals keeps what they keep
+pub proofs_kept : (intervals : List (Interval Frac128)) → All (λ (interval : Interval Frac128). IsKeptInterval interval.proof) intervals → All IsKeptInterval (map (λ (interval : Interval Frac128). interval.proof) intervals)
+proofs_kept [] h = All-nil IsKeptInterval
+proofs_kept (x ∷ xs) h =
+    All-cons IsKeptInterval x.proof (map (λ (interval : Interval Frac128). interval.proof) xs) (h 0 x (omega arith))
+    (proofs_kept xs (λ k d l. h (suc k) d (omega (arith, l))))
+
 pub fit_ended : (job : FitJob) (fit : Fit) → IsRightFit value job fit → All (λ (interval : Interval Frac128). IsKeptInterval interval.proof) fit.intervals
 fit_ended job fit right = intervals_kept value fit.problem job.limit right.shaped.columns (asked_by job.rank fit.problem.columns) fit.intervals right.intervals
 
 -- ---- causes
+
+-- a halt by another name
+pub halt_along : (r : Result Cert Halt) (P Q : Halt → Type 0) → IfErr r P → ((halt : Halt) → P halt → Q halt) → IfErr r Q
+halt_along (Ok cert) P Q h f = tt
+halt_along (Err halt) P Q h f = f halt h
 
 certify_cause : (job : FitJob) (bytes : List ℕ) (halt : Halt) → HasFitCause job (is_some job.rank) bytes halt → HasCertifyCause job bytes halt
 certify_cause job bytes (Refused (refusals.CertTooLong n)) h = absurd h.2.cause
@@ -155,6 +167,7 @@ length_certified job input cert is (NotBuilt part) h = absurd h
 pub certified_certify : (job : FitJob) (bytes : List ℕ) (input : Input) → IsInput job (is_some job.rank) bytes input → (halt : Halt) → HasCertifiedCause job input halt → HasCertifyCause job bytes halt
 certified_certify job bytes input is halt h = by halt h
   where
+    ranked : Bool
     ranked = is_some job.rank
 
     by : (halt : Halt) → HasCertifiedCause job input halt → HasCertifyCause job bytes halt

@@ -94,9 +94,12 @@ pub listed_vertex : {F : Type 0} (p : Problem F) (v : Vertex F) → IsVertexOf p
 listed_vertex p v h inside = are_listed 0 v.sides v.basis.rows (record {
   rises = λ j k d l m. AllPairs-from_increasing v.basis.rows h.ascending j k d l m;
   late = λ n c. omega arith;
-  marked = λ k c. (h.basic k (within k c)).1 c;
-  there = λ k e. (h.basic k (omega (arith, slice_get_within v.sides k Basic e, h.sides))).0 e;
+  marked = λ k c. let here = subst (Contains v.basis.rows) (from_zero k) c in (h.basic k (within k here)).1 here;
+  there = λ k e. subst (Contains v.basis.rows) (sym (from_zero k)) ((h.basic k (omega (arith, slice_get_within v.sides k Basic e, h.sides))).0 e);
 })
   where
+    from_zero : (k : ℕ) → 0 + k ≡ k
+    from_zero k = omega arith
+
     within : (k : ℕ) → Contains v.basis.rows k → k < length p.rows
     within k c = subst (λ n. n < length p.rows) c.2 (inside c.0 k c.1)
