@@ -17,4 +17,4 @@ returns g c =
     let ordered = rw (c.as_slice.ensures, c.basis.ensures.rows) at (c.in_ok-rows.ensures {u = tt}) in
     let sides_are = (c.in_ok-sides.ensures {u = tt}) ∙ c.as_slice-2.ensures in
     let coef_are = (c.in_ok-coef.ensures {u = tt}) ∙ c.as_slice-3.ensures in
-    rw (sides_are, coef_are) (vertex_is g.F.Exact.value v c.requires c.in_ok-rows.rows ordered.increasing ordered.size ordered.same)
+    rw (sides_are, coef_are) (vertex_is g.F.Exact.value v c.requires.station c.in_ok-rows.rows ordered.increasing ordered.size ordered.same)
