@@ -5,6 +5,8 @@ mod Breaks
 mod Spills
 mod EndValues
 mod StationLaws
+mod StepLaws
+mod LookLaws
 mod WalkLaws
 mod NoStep
 mod Costs

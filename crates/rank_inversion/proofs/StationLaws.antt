@@ -1,12 +1,12 @@
 -- What stands at a basis on a walk, and what is found and handed out there.
-use Rattle.std.specs.Prelude.{◌≡◌, ◌≢◌, ◌⊎◌, ◌↔◌, ℕ, ◌<◌, Bool, true, false, List, [], ◌∷◌, length, slice_index, Contains, Option, Some, None, pos}
+use Rattle.std.specs.Prelude.{◌≡◌, ◌≢◌, ◌⊎◌, ◌↔◌, ℕ, ◌<◌, Bool, true, false, List, [], ◌∷◌, length, slice_index, Contains, get_or, Option, Some, None, pos}
 use Rattle.std.specs.List.Sorted.{IsStrictlyIncreasing}
 use Rattle.std.specs.Ordering.{is_gt}
 use Rattle.std.specs.declared.cmp.Ordering.{Ordering}
-use Rattle.std.proofs.Common.{refl, sym, ap, subst, ◌∙◌, inl, inr, arith}
+use Rattle.std.proofs.Common.{refl, sym, ap, ap₂, subst, ◌∙◌, inl, inr, arith}
 use Rattle.exact_algebra.specs.Fraction.{Fraction, rational}
 use Rattle.exact_algebra.specs.Solver.{negated, ◌⊠◌, v0}
-use Rattle.exact_algebra.specs.Rational.{ℚ, ◌*ℚ◌, inverse, whole, ◌≤ℚ◌}
+use Rattle.exact_algebra.specs.Rational.{ℚ, ◌-ℚ◌, ◌*ℚ◌, inverse, whole, ◌≤ℚ◌}
 use Rattle.exact_algebra.specs.Order.{cmp_ℚ}
 use Rattle.exact_algebra.proofs.RationalLaws.{ring_ℚ, ≤ℚ_refl}
 use Rattle.loss_model.specs.declared.interval.Beyond.TheVariants.{Outside, Ray}
@@ -15,16 +15,20 @@ use Rattle.loss_model.specs.declared.process.Exchange.{Exchange}
 use Rattle.loss_model.specs.declared.spill.Spill.{Spill}
 use Rattle.loss_model.specs.declared.vertex.Side.{Side}
 use Rattle.loss_model.specs.declared.vertex.Vertex.{Vertex}
+use Rattle.loss_model.specs.Sample.{Sample}
 use Rattle.loss_model.specs.Problem.{value_at, sample}
 use Rattle.loss_model.specs.Spill.{IsOperation, IsTermSpill, AtSome, site_of}
-use Rattle.loss_model.specs.declared.spill.Quantity.TheVariants.{Statistic, DualValue}
+use Rattle.frac_core.specs.declared.exact.OpKind.TheVariants.{Sub, Div}
+use Rattle.frac_core.specs.Overflow.{Overflows}
+use Rattle.loss_model.specs.declared.spill.Quantity.TheVariants.{Statistic, DualValue, Crossing}
 use Rattle.basis_model.specs.Basis.{IsBasis, coefficient, dual_value}
 use Rattle.pivot_rule.specs.declared.direction.Direction.{Direction}
 use Rattle.pivot_rule.specs.Duals.{◌<ℚ◌}
 use Rattle.pivot_rule.specs.Results.{IsVertexAt}
+use Rattle.pivot_rule.specs.Spills.{direction_number}
 use Rattle.pivot_rule.specs.Steps.{moves}
 use Rattle.walk_rule.specs.Families.{IsOptimalIn, dual_in}
-use Rattle.walk_rule.specs.Walks.{IsFirstMover, IsWalkingStep}
+use Rattle.walk_rule.specs.Walks.{IsFirstMover, IsNextBreak, IsWalkingStep}
 use Rattle.walk_rule.specs.WalkTrails.{is_within}
 use Rattle.walk_rule.proofs.Lines.{decide}
 use Rattle.tableau_model.specs.Places.{IsPlace}
@@ -38,11 +42,12 @@ use Rattle.fraction_tableau.specs.Lines.{IsOrderSpill}
 use Rattle.fraction_tableau.specs.Standing.{Stands}
 use Rattle.fraction_tableau.proofs.Crossed.{above_test}
 use Rattle.fraction_tableau.proofs.Inverses.{basis_of}
+use Rattle.fraction_tableau.proofs.Lists.{value_read}
 use Rattle.fraction_tableau.proofs.NextSteps.{standing_by}
 use Rattle.fraction_tableau.proofs.Places.{kept_is_place}
 use Rattle.fraction_tableau.proofs.Vertices.{is_vertex}
-use Rattle.rank_walk.specs.Crossings.{parameter_of, IsMoving}
-use Rattle.rank_walk.specs.RankWalks.{Way, rise, fall, ray}
+use Rattle.rank_walk.specs.Crossings.{parameter_of, bound_towards}
+use Rattle.rank_walk.specs.RankWalks.{Way, rise, fall, tested, ray}
 use Rattle.rank_walk.specs.Ends.{AreValuesOf}
 use Rattle.rank_inversion.specs.declared.ends.Finding.TheVariants.{Step, Past, Stuck}
 use Rattle.rank_inversion.specs.declared.station.Station.{Station}
@@ -53,6 +58,7 @@ use Rattle.rank_inversion.specs.Stations.{IsStation, sample_at, rows_at, entries
 use Rattle.rank_inversion.specs.Stops.{of_square, of_ray}
 use Rattle.rank_inversion.proofs.Breaks.{one_direction, moving_some, crossed, turned_twice, first_is_next, never_none}
 use Rattle.rank_inversion.proofs.EndValues.{values_of}
+use Rattle.rank_inversion.proofs.Operations.{operation}
 use Rattle.rank_inversion.proofs.Spills.{cost_here, gap_here, quotient_here, entered_here, break_here, order_here}
 
 -- the square of the parameter is that of what the column weighs
@@ -70,6 +76,16 @@ not_above_by x y b e h = by (decide x y)
     by : (x ≤ℚ y) ⊎ ¬ (x ≤ℚ y) → x ≤ℚ y
     by (inl k) = k
     by (inr k) = absurd (cc (sym ((above_test x y).1 k) ∙ (sym e ∙ h)))
+
+-- a breakpoint has a position, and the first row that moves there makes a step
+break_within : (way : Way) (p : Sample) (j : ℕ) (tau : ℚ) (at : ℕ → ℕ) (a : ℕ → ℕ → ℚ) (from t : ℚ) (k : ℕ) (d : Direction) → IsNextBreak (tested way p tau j) at a from t k d → k < p.columns
+break_within rise p j tau at a from t k d h = h.position
+break_within fall p j tau at a from t k d h = h.position
+
+walking_here : (way : Way) (p : Sample) (j : ℕ) (tau : ℚ) (at : ℕ → ℕ) (a : ℕ → ℕ → ℚ) (bound from t : ℚ) (k : ℕ) (d : Direction) (r : ℕ) → IsNextBreak (tested way p tau j) at a from t k d → (t *ℚ t) ≤ℚ bound
+    → IsFirstMover p at a k d r → IsWalkingStep (tested way p tau j) at a (is_within bound) from t k r
+walking_here rise p j tau at a bound from t k d r next within first = record { direction = d; break = next; within = within.le; entering = first }
+walking_here fall p j tau at a bound from t k d r next within first = record { direction = d; break = next; within = within.le; entering = first }
 
 module _ {F : Type 0} (value : F → Fraction) (v : Station F) where
   -- ---- crossings
@@ -96,6 +112,47 @@ module _ {F : Type 0} (value : F → Fraction) (v : Station F) where
     -- the row at a position is one of the problem
     pub row_within : (k : ℕ) → k < v.tableau.now.problem.columns → rows_at value v k < length v.tableau.now.problem.rows
     row_within k lk = basis_there.distinct.within k lk
+
+    -- the dual value at a position, as it is read
+    pub dual_read : (k : ℕ) (x : F) → k < v.tableau.now.problem.columns → x ≡ get_or v.duals k x
+        → rational (value x) ≡ dual_value (sample_at value v) (rows_at value v) (entries_at value v) (tau_of value v.course) k
+    dual_read k x lk e =
+        let size : length v.duals ≡ v.tableau.now.problem.columns = here.duals.size in
+        let inside : k < length v.duals = omega (arith, lk, size) in
+        sym (value_read value v.duals k x inside e) ∙ here.duals.each k lk
+
+    -- the coefficient of the tested column
+    pub coef_read : (x : F) → x ≡ get_or v.solution.coef v.course.column x → rational (value x) ≡ coefficient (sample_at value v) (rows_at value v) (entries_at value v) v.course.column
+    coef_read x e =
+        let size : length v.solution.coef ≡ v.tableau.now.problem.columns = here.solution.columns in
+        let lj : v.course.column < v.tableau.now.problem.columns = here.column in
+        let inside : v.course.column < length v.solution.coef = omega (arith, lj, size) in
+        sym (value_read value v.solution.coef v.course.column x inside e) ∙ here.solution.coef v.course.column lj
+
+    -- where a dual value meets its bound
+    module _ (k : ℕ) (d : Direction) (bound dual entry : F)
+        (bound_is : rational (value bound) ≡ bound_towards (sample_at value v) (tau_of value v.course) (rows_at value v k) d)
+        (dual_is : rational (value dual) ≡ dual_value (sample_at value v) (rows_at value v) (entries_at value v) (tau_of value v.course) k)
+        (entry_is : rational (value entry) ≡ entries_at value v v.course.column k) where
+      gap_is : (gap : F) → rational (value gap) ≡ rational (value bound) -ℚ rational (value dual)
+          → rational (value gap) ≡ bound_towards (sample_at value v) (tau_of value v.course) (rows_at value v k) d -ℚ dual_value (sample_at value v) (rows_at value v) (entries_at value v) (tau_of value v.course) k
+      gap_is gap e = e ∙ ap₂ (λ x y. x -ℚ y) bound_is dual_is
+
+      pub meeting_is : (gap weight turned : F) → rational (value gap) ≡ rational (value bound) -ℚ rational (value dual) → rational (value weight) ≡ rational (value gap) *ℚ inverse (rational (value entry))
+          → rational (value turned) ≡ parameter_of (way_of v.course.way) (rational (value weight))
+          → rational (value turned) ≡ crossing_at value (sample_at value v) (rows_at value v) (entries_at value v) v.course k d
+      meeting_is gap weight turned e f h = h ∙ ap (parameter_of (way_of v.course.way)) (f ∙ ap₂ (λ x y. x *ℚ inverse y) (gap_is gap e) entry_is)
+
+      pub gap_spill : (range : ℕ) (s : Spill F) → s ≡ record { site = record (site_of Crossing k (direction_number d) 1) { kind = Sub }; left = bound; right = dual }
+          → Overflows range Sub (value bound) (value dual) → IsMeetingSpill value range v k s
+      gap_spill range s operands over =
+          of_gap d (operation value range (site_of Crossing k (direction_number d) 1) Sub bound dual _ _ s operands over bound_is dual_is)
+
+      pub quotient_spill : (gap : F) → rational (value gap) ≡ rational (value bound) -ℚ rational (value dual) → Moves value v.course (entries_at value v) k d → (range : ℕ) (s : Spill F)
+          → s ≡ record { site = record (site_of Crossing k (direction_number d) 3) { kind = Div }; left = gap; right = entry }
+          → Overflows range Div (value gap) (value entry) → IsMeetingSpill value range v k s
+      quotient_spill gap e moving range s operands over =
+          of_quotient d moving (operation value range (site_of Crossing k (direction_number d) 3) Div gap entry _ _ s operands over (gap_is gap e) entry_is)
 
     module _ (from : F) where
       pub next_is : IsOptimalIn (family_of value (sample_at value v) v.course) (rows_at value v) (entries_at value v) (parameter_at value v.course from)
@@ -163,17 +220,13 @@ module _ {F : Type 0} (value : F → Fraction) (v : Station F) where
               → IsFound value v from (Step (record { theta = weight; position = b.position; row = r }))
           step_here h r first =
               subst (λ t. IsWalkingStep (family_of value (sample_at value v) v.course) (rows_at value v) (entries_at value v) (is_within (bound_of value v.course)) (parameter_at value v.course from) t b.position r) same_theta
-              (record {
-                direction = b.direction;
-                break = next;
-                within = (within_here h).le;
-                entering = first;
-              })
+              (walking_here (way_of v.course.way) (sample_at value v) v.course.column (tau_of value v.course) (rows_at value v) (entries_at value v) (bound_of value v.course) (parameter_at value v.course from)
+              (rational (value b.theta)) b.position b.direction r next (within_here h) first)
 
           pub order_spill : test ≡ false → (range : ℕ) (s : Spill F) → IsOrderSpill value range (sample_at value v) (rows_at value v) (entries_at value v) b.position b.direction s → IsSpillHere value range v from s
           order_spill h range s k =
               order_here value range (sample_at value v) v.course.column (tau_of value v.course) (bound_of value v.course) (rows_at value v) (entries_at value v) (parameter_at value v.course from) s (way_of v.course.way)
-              (rational (value b.theta)) b.position b.direction next (within_here h).le next.position k
+              (rational (value b.theta)) b.position b.direction next (within_here h).le (break_within (way_of v.course.way) (sample_at value v) v.course.column (tau_of value v.course) (rows_at value v) (entries_at value v) (parameter_at value v.course from) (rational (value b.theta)) b.position b.direction next) k
 
         -- ---- what is handed out
 

@@ -1,5 +1,5 @@
 -- How a walk begins, goes on, ends and halts.
-use Rattle.std.specs.Prelude.{◌≡◌, ◌≤◌, ◌++◌, ◌∷◌, [], ℕ, List, length, slice_index, slice_set, pos}
+use Rattle.std.specs.Prelude.{◌≡◌, ◌<◌, ◌≤◌, ◌++◌, ◌∷◌, [], ℕ, List, length, slice_index, slice_set, pos}
 use Rattle.std.proofs.Common.{refl, sym, ap, subst, ◌∙◌}
 use Rattle.exact_algebra.specs.Fraction.{Fraction, rational}
 use Rattle.exact_algebra.specs.Solver.{number, negated}
@@ -65,6 +65,9 @@ module _ {F : Type 0} (value : F → Fraction) (p : Problem F) (c : Course F) (s
       → IsOptimalIn (family_of value (sample value w.tableau.problem) c) (slice_index w.tableau.rows) (inverse_entry value w.tableau.square) (parameter_at value c w.now)
   along_optimal w h =
       subst (λ q. IsOptimalIn (family_of value (sample value q) c) (slice_index w.tableau.rows) (inverse_entry value w.tableau.square) (parameter_at value c w.now)) (sym h.problem) h.walking.optimal
+
+  pub along_column : (w : Walk F) → IsAlong value p c solved w → c.column < p.columns → c.column < w.tableau.problem.columns
+  along_column w h lj = subst (λ (q : Problem F). c.column < q.columns) (sym h.problem) lj
 
   -- a step at the basis is one over the problem
   step_here : (w : Walk F) → IsAlong value p c solved w → (x : Exchange F) → IsStepAt value w.tableau c w.now x

@@ -1,16 +1,15 @@
 //! What is left at a basis on a walk: the walking step, or the end.
 ghost use Rattle.std.specs.Prelude.{◌≡◌, ◌≢◌, ℕ, ◌<◌, length, slice_index, Contains, IfOk, IfErr, pos};
 ghost use Rattle.exact_algebra.specs.Fraction.{rational};
-ghost use Rattle.exact_algebra.specs.Rational.{◌+ℚ◌, ◌*ℚ◌, whole};
+ghost use Rattle.exact_algebra.specs.Rational.{whole};
 ghost use Rattle.loss_model.specs.Problem.{value_at};
 ghost use Rattle.loss_model.specs.Quantities.{IsShortOf};
 ghost use Rattle.loss_model.specs.Spill.{AtSome};
-ghost use Rattle.basis_model.specs.Basis.{dual_value};
 ghost use Rattle.walk_rule.specs.Families.{IsOptimalIn};
 ghost use Rattle.rank_walk.specs.RankWalks.{ray};
-ghost use Rattle.rank_inversion.specs.Courses.{way_of, tau_of, parameter_at, family_of};
+ghost use Rattle.rank_inversion.specs.Courses.{way_of, parameter_at, family_of};
 ghost use Rattle.rank_inversion.specs.Stations.{IsStation, sample_at, rows_at, entries_at};
-ghost use Rattle.rank_inversion.specs.Nexts.{IsFound, IsSpillHere, IsWeighed, IsValueOfRow, IsWeighingSpill, IsRaySpill};
+ghost use Rattle.rank_inversion.specs.Nexts.{IsFound, IsSpillHere, weighed_value, IsWeighed, IsValueOfRow, IsWeighingSpill, IsRaySpill};
 
 use crate::station::Station;
 use frac_core::{Exact, List};
@@ -61,8 +60,7 @@ impl<'a, F: Exact> Station<'a, F> {
     fn weighed(&self, position: u32, weight: F) -> Result<F, Spill<F>>
         requires station { IsStation F.value self.now }
         requires position { position < self.now.tableau.now.problem.columns }
-        ensures exact { let p = sample_at F.value self.now in let a = entries_at F.value self.now in
-            IfOk result (λ e. rational (F.value e) ≡ dual_value p (rows_at F.value self.now) a (tau_of F.value self.now.course) position +ℚ (a self.now.course.column position *ℚ rational (F.value weight))) }
+        ensures exact { IfOk result (λ e. rational (F.value e) ≡ weighed_value F.value self.now weight position) }
         ensures spill { IfErr result (IsWeighingSpill F.value F.range self.now weight position) }
     {
         let site = Site::new(Quantity::DualValue, position, 1, 1);

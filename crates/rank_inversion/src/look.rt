@@ -1,10 +1,14 @@
 //! What is left at a basis on a walk, with the end that is handed out.
-ghost use Rattle.std.specs.Prelude.{◌<◌, slice_index, IfOk, IfErr};
-ghost use Rattle.loss_model.specs.Problem.{sample};
+ghost use Rattle.std.specs.Prelude.{◌≡◌, ℕ, ◌<◌, ◌≤◌, length, slice_index, IfOk, IfErr};
+ghost use Rattle.exact_algebra.specs.Fraction.{rational};
+ghost use Rattle.exact_algebra.specs.Rational.{◌+ℚ◌, ◌*ℚ◌};
+ghost use Rattle.frac_core.specs.Limits.{most_columns};
+ghost use Rattle.loss_model.specs.Problem.{value_at, sample};
 ghost use Rattle.loss_model.specs.Quantities.{IsShortOf};
 ghost use Rattle.basis_inverse.specs.Square.{inverse_entry};
 ghost use Rattle.pivot_rule.specs.Results.{IsVertexAt};
 ghost use Rattle.walk_rule.specs.Families.{IsOptimalIn};
+ghost use Rattle.fraction_tableau.specs.Next.{IsDualFault};
 ghost use Rattle.rank_inversion.specs.declared.ends.Finding.TheVariants.{Past, Stuck};
 ghost use Rattle.rank_inversion.specs.Courses.{parameter_at, family_of};
 ghost use Rattle.rank_inversion.specs.Stations.{IsStation, sample_at, rows_at, entries_at};
@@ -14,9 +18,11 @@ ghost use Rattle.rank_inversion.specs.Looks.{IsEndHere, IsNextAt, IsSpillAt};
 use crate::course::Course;
 use crate::ends::Finding;
 use crate::station::Station;
+use basic_solution::BasicSolution;
 use frac_core::{Exact, List, OutOfMemory};
 use fraction_tableau::{Breakpoint, FractionTableau, ascending, duals_at};
 use loss_model::{Basis, Beyond, Bound, End, Exchange, Short, Vertex};
+use std::alloc::Global;
 
 /// What is left at a basis: the walking step, or the end of the walk.
 #[derive(Drop)]
@@ -53,7 +59,8 @@ impl<'a, F: Exact> Station<'a, F> {
         let inside = self.basic_values(vertex.basis.rows.as_slice(), from)?;
         let weight = self.course.way.turned(next.theta);
         let outside = self.basic_values(vertex.basis.rows.as_slice(), weight)?;
-        let value = self.solution.coef.as_slice()[self.course.column as usize];
+        let column = self.course.column;
+        let value = self.solution.coef.as_slice()[column as usize];
         Ok(End {
             bound: Bound::Finite(value),
             vertex,
@@ -104,6 +111,26 @@ impl<'a, F: Exact> Station<'a, F> {
     }
 }
 
+/// The dual values at tau by position, from a basic solution.
+fn duals_of<F: Exact>(
+    alloc: Global,
+    solution: &BasicSolution<F>,
+    tau: F,
+) -> Result<List<F>, Short<F>>
+    requires same { length solution.now.linear ≡ length solution.now.constant }
+    requires few { length solution.now.constant ≤ most_columns }
+    ensures size { IfOk result (λ made. length made ≡ length solution.now.constant) }
+    ensures each { IfOk result (λ made. (j : ℕ) → j < length solution.now.constant → value_at F.value made j ≡ value_at F.value solution.now.constant j +ℚ (value_at F.value solution.now.linear j *ℚ rational (F.value tau))) }
+    ensures spill { IfErr result (IsShortOf (IsDualFault F.value F.range (length solution.now.constant) (value_at F.value solution.now.constant) (value_at F.value solution.now.linear) (rational (F.value tau)))) }
+{
+    duals_at(
+        alloc,
+        solution.constant.as_slice(),
+        solution.linear.as_slice(),
+        tau,
+    )
+}
+
 /// What is left at a basis, which a walk entered where the column weighed so much.
 pub fn look<'a, F: Exact>(
     tableau: &FractionTableau<'a, F>,
@@ -116,12 +143,7 @@ pub fn look<'a, F: Exact>(
     ensures spill { IfErr result (IsShortOf (IsSpillAt F.value F.range tableau.now course from)) }
 {
     let solution = tableau.solution()?;
-    let duals = duals_at(
-        tableau.alloc(),
-        solution.constant.as_slice(),
-        solution.linear.as_slice(),
-        course.tau,
-    )?;
+    let duals = duals_of(tableau.alloc(), &solution, course.tau)?;
     let station = Station {
         tableau,
         solution,
