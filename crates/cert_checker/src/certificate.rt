@@ -181,6 +181,5 @@ pub fn check(cert: &Cert) -> Result<Verdict, CheckStop>
         Ok(()) => Ok(Verdict::Accepted),
         Err(Failure::Rejected(rejection)) => Ok(Verdict::Rejected(rejection)),
         Err(Failure::Overflow(spill)) => Err(CheckStop::Overflow(spill)),
-        Err(Failure::OutOfMemory) => Err(CheckStop::OutOfMemory),
     }
 }
