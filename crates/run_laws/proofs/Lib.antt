@@ -1,0 +1,4 @@
+pub mod Costs
+pub mod Spilled
+pub mod Needed
+pub mod Complete
