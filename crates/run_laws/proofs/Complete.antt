@@ -1,5 +1,5 @@
 -- A job whose input is well formed is answered.
-use Rattle.std.specs.Prelude.{◌≡◌, ◌⊎◌, ℕ, ◌+◌, ◌*◌, ◌≤◌, Bool, true, is_some, List, [], Option, Some, None, Ok, Err, length, slice_index}
+use Rattle.std.specs.Prelude.{◌≡◌, ◌⊎◌, ℕ, ◌+◌, ◌*◌, ◌<◌, ◌≤◌, Bool, true, is_some, List, [], Option, Some, None, option_map, Ok, Err, length}
 use Rattle.std.proofs.Common.{arith, refl, sym, ap, subst, ◌∙◌, inl, inr}
 use Rattle.std.proofs.lemmas.Bool.{cases_lt}
 use Rattle.exact_algebra.specs.Fraction.{rational}
@@ -10,8 +10,7 @@ use Rattle.loss_model.specs.Problem.{sample}
 use Rattle.port_io.specs.Told.{most_bytes, TakesAll, TakesFirst}
 use Rattle.pivot_bound.specs.BoundLaws.{further_bases}
 use Rattle.tau_process.specs.Stops.{IsLimited}
-use Rattle.rq_words.specs.Requests.{Request, FitRequest, RankRequest, fit_request, rank_request, request_of}
-use Rattle.rq_words.specs.Requests.Request as requests
+use Rattle.rq_words.specs.Requests.{Request, FitRequest, fit_request, rank_request, request_of}
 use Rattle.rq_words.specs.declared.job.FitJob.{FitJob}
 use Rattle.rq_words.specs.declared.job.RankAsk.{RankAsk}
 use Rattle.rq_words.specs.declared.job.Job.{Job}
@@ -20,15 +19,17 @@ use Rattle.report_text.specs.ReportText.{value}
 use Rattle.report_text.specs.declared.report.Place.{Place}
 use Rattle.report_text.specs.declared.report.Refusal.{Refusal}
 use Rattle.report_text.specs.declared.report.Refusal.TheVariants as refusals
+use Rattle.report_text.specs.declared.report.Fit.{Fit}
 use Rattle.report_text.specs.declared.report.Report.{Report}
 use Rattle.report_text.specs.declared.report.Report.TheVariants as reports
 use Rattle.report_text.specs.declared.report.Halt.TheVariants as halts
 use Rattle.rq_input.specs.Inputs.{HasInputCause, IsInput}
+use Rattle.rq_input.specs.Rows.{HasRows}
 use Rattle.rq_input.specs.declared.input.Input.{Input}
 use Rattle.rq_engine.specs.Answers as engine
 use Rattle.rq_engine.specs.Answers.{IsRight, IsFitOf, HasFitCause}
 use Rattle.rq_engine.specs.Built.{IsBuilt, IsJobOf}
-use Rattle.rq_cli.specs.Outcomes.{Stream, IsRun, IsHalted, IsTooLong, WereRead}
+use Rattle.rq_cli.specs.Outcomes.{Stream, IsRun, IsHalted, IsOutputFault, IsErrorFault, WereRead}
 use Rattle.rq_cli.specs.declared.outcome.Outcome.{Outcome}
 use Rattle.rq_cli.specs.declared.outcome.Outcome.TheVariants.{Done, Refused, Usage, SourceFault, SinkFault, OutOfMemory, PivotLimit, Overflow, NotBuilt}
 use Rattle.stop_laws.proofs.Needed.{dependent}
@@ -41,10 +42,7 @@ use Rattle.run_laws.proofs.Needed.{limit_needed, overflow_needed}
 -- words ask for one request
 module _ (words : List (List ℕ)) where
   one_request : (job other : Job) → IsJobOf words job → IsJobOf words other → request_of job ≡ request_of other
-  one_request job other asked again = ok_same (sym asked ∙ again)
-    where
-      ok_same : {E : Type 0} {x y : Request} → Ok {E = E} x ≡ Ok y → x ≡ y
-      ok_same h = cc h
+  one_request job other asked again = cc (sym asked ∙ again)
 
   no_rank : (a b : FitJob) → fit_request a ≡ fit_request b → b.rank ≡ None → a.rank ≡ None
   no_rank a b same none = by a.rank (ap (λ (r : FitRequest). r.rank) same ∙ ap (option_map rank_request) none)
@@ -131,7 +129,7 @@ module _ (words : List (List ℕ)) (source source' : Stream) (bytes : List ℕ) 
       by SourceFault run = absurd (none.0 run.cause.1)
       by SinkFault run = failed run.cause
         where
-          failed : _ ⊎ _ → ⊥
+          failed : IsOutputFault words source source' out out' err err' ⊎ ((fault : Outcome) × IsErrorFault words source source' out out' err err' fault) → ⊥
           failed (inl h) = none.1 h.rose
           failed (inr h) = none.2 h.1.rose
       by OutOfMemory run = tt
@@ -147,7 +145,7 @@ module _ (words : List (List ℕ)) (source source' : Stream) where
       → ((fit : FitJob) (input : Input) → WasInput words source source' fit input → IsLimitedInput fit input) → IsNoReport outcome
   limited out out' err err' (Done report) run reaches = by run.cause.job report run.cause.read run.cause.right
     where
-      fit_of : (fit : FitJob) (input : Input) (f : _) → WasInput words source source' fit input → IsFitOf fit input f → ⊥
+      fit_of : (fit : FitJob) (input : Input) (f : Fit) → WasInput words source source' fit input → IsFitOf fit input f → ⊥
       fit_of fit input f was is =
           is.right.unlimited (subst (λ (p : Problem Frac128). IsLimited {F = Frac128} value (sample value p) (rational (value fit.lo)) (rational (value fit.hi)) fit.limit) (sym is.under.problem_is) (reaches fit input was))
 
@@ -171,9 +169,11 @@ module _ (words : List (List ℕ)) (source source' : Stream) where
   limited out out' err err' (NotBuilt part) run reaches = tt
 
   pub ample : (out out' err err' : Stream) (place : Place) (limit : ℕ) (trail : Trail Frac128)
-      → ((fit : FitJob) (input : Input) → WasInput words source source' fit input → (2 * further_bases (sample value input.problem)) ≤ fit.limit)
+      → ((fit : FitJob) (input : Input) → WasInput words source source' fit input → HasRows input × ((2 * further_bases (sample value input.problem)) ≤ fit.limit))
       → ¬ IsRun words source source' out out' err err' (PivotLimit place limit trail)
   ample out out' err err' place limit trail long run =
       let needed = limit_needed words source source' place limit trail run.cause in
-      let enough : (2 * further_bases (sample value needed.1.problem)) ≤ needed.0.limit = long needed.0 needed.1 needed.2 in
-      omega (arith, enough, needed.3.shown, needed.3.below)
+      let enough : HasRows needed.1 × ((2 * further_bases (sample value needed.1.problem)) ≤ needed.0.limit) = long needed.0 needed.1 needed.2 in
+      let below : limit < 2 * further_bases (sample value needed.1.problem) = needed.3.below enough.0 in
+      let shown : limit ≡ needed.0.limit = needed.3.shown in
+      omega (arith, enough.1, shown, below)

@@ -1,4 +1,3 @@
-pub mod Costs
 pub mod Spilled
 pub mod Needed
 pub mod Complete

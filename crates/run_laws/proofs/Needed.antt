@@ -29,10 +29,10 @@ use Rattle.rq_engine.specs.Answers.{HasFitCause, HasRanksCause, LacksFit, LacksS
 use Rattle.rq_engine.specs.Built.{IsBuilt, IsJobOf}
 use Rattle.rq_engine.specs.Stops.{most}
 use Rattle.rq_engine.proofs.Asked.{asked_range, asked_unit}
+use Rattle.rq_engine.proofs.Costs.{input_costs}
 use Rattle.rq_engine.proofs.Scoring.{from_zero, to_one, in_order}
 use Rattle.rq_cli.specs.Outcomes.{Stream, IsHalted, WereRead}
 use Rattle.run_laws.specs.NeededOutcomes.{AskFit, WasInput, ReachesItsLimit}
-use Rattle.run_laws.proofs.Costs.{input_costs}
 use Rattle.run_laws.proofs.Spilled.{of_fit, of_wilcoxon}
 
 -- the low end of the range that words ask for is a quantile
@@ -59,9 +59,9 @@ reached fit input ranked bytes limit trail quantile is shown h =
     record {
       shown = shown;
       reached = there;
-      below = below (2 * further_bases (sample value input.problem)) limit (ReachesProcessLimit value (sample value input.problem) (rational (value fit.lo)) (rational (value fit.hi)) limit trail) there
+      below = λ rows. below (2 * further_bases (sample value input.problem)) limit (ReachesProcessLimit value (sample value input.problem) (rational (value fit.lo)) (rational (value fit.hi)) limit trail) there
           (λ long. process_within value (sample value input.problem) (rational (value fit.lo)) (rational (value fit.hi)) limit trail
-          (input_costs fit ranked bytes input (rational (value fit.lo)) quantile.low quantile.high is) long);
+          (input_costs input (rational (value fit.lo)) quantile.low quantile.high rows) long);
     }
 
 -- a job and its bytes, of which the input was read

@@ -17,6 +17,7 @@ use Rattle.report_text.specs.declared.report.Place.{Place}
 use Rattle.report_text.specs.declared.report.Refusal.{Refusal}
 use Rattle.report_text.specs.declared.report.Halt.TheVariants as halts
 use Rattle.rq_input.specs.Inputs.{HasInputCause, IsInput}
+use Rattle.rq_input.specs.Rows.{HasRows}
 use Rattle.rq_input.specs.declared.input.Input.{Input}
 use Rattle.rq_engine.specs.Answers.{IsRight}
 use Rattle.rq_engine.specs.Built.{IsJobOf}
@@ -80,5 +81,5 @@ LimitIsAnswered =
 abbrev pub AmpleLimitIsNeverReached : Type 0
 AmpleLimitIsNeverReached =
     (words : List (List ℕ)) (source source' out out' err err' : Stream) (place : Place) (limit : ℕ) (trail : Trail Frac128)
-    → ((fit : FitJob) (input : Input) → WasInput words source source' fit input → (2 * further_bases (sample value input.problem)) ≤ fit.limit)
+    → ((fit : FitJob) (input : Input) → WasInput words source source' fit input → HasRows input × ((2 * further_bases (sample value input.problem)) ≤ fit.limit))
     → ¬ IsRun words source source' out out' err err' (PivotLimit place limit trail)

@@ -16,6 +16,7 @@ use Rattle.report_text.specs.ReportText.{value}
 use Rattle.report_text.specs.declared.report.Place.{Place}
 use Rattle.report_text.specs.declared.report.Refusal.TheVariants.{Dependent}
 use Rattle.rq_input.specs.Inputs.{IsInput}
+use Rattle.rq_input.specs.Rows.{HasRows}
 use Rattle.rq_input.specs.declared.input.Input.{Input}
 use Rattle.rq_engine.specs.Built.{IsBuilt, IsJobOf}
 use Rattle.rq_engine.specs.Stops.{most}
@@ -45,11 +46,11 @@ pub record WasInput (words : List (List ℕ)) (before now : Stream) (fit : FitJo
   pub is : IsInput fit ranked bytes input
 
 -- its lawful trail has as many pivots as the limit of the words says, with one more left; and the limit is less than
--- twice the bases after the first
+-- twice the bases after the first, where the rows are those that `read_input` gives: data rows, and then penalty rows
 pub record ReachesItsLimit (fit : FitJob) (input : Input) (limit : ℕ) (trail : Trail Frac128) : Type 0 where
   pub shown : limit ≡ fit.limit
   pub reached : ReachesProcessLimit value (sample value input.problem) (rational (value fit.lo)) (rational (value fit.hi)) limit trail
-  pub below : limit < 2 * further_bases (sample value input.problem)
+  pub below : HasRows input → limit < 2 * further_bases (sample value input.problem)
 
 -- PivotLimit comes only with such a trail
 abbrev pub LimitIsNeeded : Type 0
