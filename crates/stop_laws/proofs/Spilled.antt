@@ -41,11 +41,11 @@ module _ {F : Type 0} (value : F → Fraction) (range : ℕ) (s : Spill F) where
   among site term (o ∷ os) (inl h) = operation h
   among site term (o ∷ os) (inr h) = among site _ os h
 
-  term : {site : Site} {first left right : ℚ} → IsTermSpill value range site first left right s → Here
+  pub term : {site : Site} {first left right : ℚ} → IsTermSpill value range site first left right s → Here
   term (of_product h) = operation h
   term (of_addition h) = operation h
 
-  products : {site : Site} {t : Products} → IsSpillOf value range site t s → Here
+  pub products : {site : Site} {t : Products} → IsSpillOf value range site t s → Here
   products h = term h.at_product.2
 
   -- ---- exchanges and the start
@@ -61,7 +61,7 @@ module _ {F : Type 0} (value : F → Fraction) (range : ℕ) (s : Spill F) where
   exchange n a x row r (inl h) = coordinates n a x row h
   exchange n a x row r (inr h) = entry n a x r h
 
-  start : (p : Problem F) (trail : Trail F) → IsStartSpill value range p trail s → Here
+  pub start : (p : Problem F) (trail : Trail F) → IsStartSpill value range p trail s → Here
   start p trail h = by h.spill
     where
       by : IsRowEntrySpill value range (sample value p) trail.start h.a h.row s → Here
@@ -70,7 +70,7 @@ module _ {F : Type 0} (value : F → Fraction) (range : ℕ) (s : Spill F) where
 
   -- ---- at a basis
 
-  basis : (p : Sample) (at : ℕ → ℕ) (a : ℕ → ℕ → ℚ) → IsBasisSpill value range p at a s → Here
+  pub basis : (p : Sample) (at : ℕ → ℕ) (a : ℕ → ℕ → ℚ) → IsBasisSpill value range p at a s → Here
   basis p at a (inl h) = products h.2
   basis p at a (inr (inl h)) = products h.2
   basis p at a (inr (inr (inl h))) = coordinates p.columns a (p.x h.0) h.0 h.2
@@ -84,7 +84,7 @@ module _ {F : Type 0} (value : F → Fraction) (range : ℕ) (s : Spill F) where
       by (inl k) = operation k
       by (inr k) = operation k
 
-  cost : (p : Sample) (at : ℕ → ℕ) (a : ℕ → ℕ → ℚ) (theta : ℚ) (i : ℕ) → IsCostSpill value range p at a theta i s → Here
+  pub cost : (p : Sample) (at : ℕ → ℕ) (a : ℕ → ℕ → ℚ) (theta : ℚ) (i : ℕ) → IsCostSpill value range p at a theta i s → Here
   cost p at a theta i (inl h) = term h
   cost p at a theta i (inr h) = term h
 
@@ -113,7 +113,7 @@ module _ {F : Type 0} (value : F → Fraction) (range : ℕ) (s : Spill F) where
   crossing p at a j d (inr (inl h)) = operation h
   crossing p at a j d (inr (inr h)) = operation h.1
 
-  pivot : (f : Family) (at : ℕ → ℕ) (a : ℕ → ℕ → ℚ) (reach : ℚ → Bool) (from : ℚ) → IsPivotSpill value range f at a reach from s → Here
+  pub pivot : (f : Family) (at : ℕ → ℕ) (a : ℕ → ℕ → ℚ) (reach : ℚ → Bool) (from : ℚ) → IsPivotSpill value range f at a reach from s → Here
   pivot f at a reach from (at_ratio t j d r next there lr mover h) = operation h
   pivot f at a reach from (at_tie t j d r i differ next there lr li mover other h) = ratio _ _ _ _ _ _ h
   pivot f at a reach from (at_exchange t j r stepping h) = entry _ _ _ _ h
