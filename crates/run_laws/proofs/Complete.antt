@@ -1,11 +1,13 @@
 -- A job whose input is well formed is answered.
-use Rattle.std.specs.Prelude.{◌≡◌, ◌⊎◌, ℕ, ◌+◌, ◌*◌, ◌<◌, ◌≤◌, Bool, true, is_some, List, Option, Some, None, option_map, length}
+use Rattle.std.specs.Prelude.{◌≡◌, ◌⊎◌, ℕ, ◌+◌, ◌*◌, ◌<◌, ◌≤◌, Bool, true, is_some, List, Option, Some, None, option_map, length, slice_index}
 use Rattle.std.proofs.Common.{arith, refl, sym, ap, subst, ◌∙◌, inl, inr}
 use Rattle.exact_algebra.specs.Fraction.{rational}
 use Rattle.frac_core.specs.declared.frac128.Frac128.{Frac128}
 use Rattle.loss_model.specs.declared.problem.Problem.{Problem}
 use Rattle.loss_model.specs.declared.process.Trail.{Trail}
+use Rattle.loss_model.specs.FullRank.{HasFullRank}
 use Rattle.loss_model.specs.Problem.{sample}
+use Rattle.pivot_rule.proofs.Solved.{full_rank}
 use Rattle.port_io.specs.Told.{most_bytes, TakesAll, TakesFirst}
 use Rattle.pivot_bound.specs.BoundLaws.{further_bases}
 use Rattle.tau_process.specs.Stops.{IsLimited}
@@ -27,11 +29,11 @@ use Rattle.rq_input.specs.declared.input.Input.{Input}
 use Rattle.rq_engine.specs.Answers as engine
 use Rattle.rq_engine.specs.Answers.{IsRight, IsFitOf, HasFitCause}
 use Rattle.rq_engine.specs.Built.{IsBuilt, IsJobOf}
-use Rattle.rq_cli.specs.Outcomes.{Stream, IsRun, IsHalted, IsOutputFault, IsErrorFault, WereRead}
+use Rattle.rq_cli.specs.Outcomes.{Stream, IsRun, IsAnswered, IsHalted, IsOutputFault, IsErrorFault, WereRead}
 use Rattle.rq_cli.specs.declared.outcome.Outcome.{Outcome}
 use Rattle.rq_cli.specs.declared.outcome.Outcome.TheVariants.{Done, Refused, Usage, SourceFault, SinkFault, OutOfMemory, PivotLimit, Overflow, NotBuilt}
-use Rattle.stop_laws.proofs.Needed.{dependent}
-use Rattle.run_laws.specs.Completeness.{NoneRose, IsWellFormed, IsAnswer, IsLimitedInput, IsNoReport}
+use Rattle.stop_laws.proofs.Needed.{dependent, process_full}
+use Rattle.run_laws.specs.Completeness.{NoneRose, IsWellFormed, IsAnswer, IsLimitedInput, IsNoReport, IsUnfitted}
 use Rattle.run_laws.specs.NeededOutcomes.{AskFit, WasInput}
 use Rattle.run_laws.proofs.Needed.{limit_needed, overflow_needed}
 
@@ -139,24 +141,26 @@ module _ (words : List (List ℕ)) (source source' : Stream) (bytes : List ℕ) 
 -- ---- limits
 
 module _ (words : List (List ℕ)) (source source' : Stream) where
-  pub limited : (out out' err err' : Stream) (outcome : Outcome) → IsRun words source source' out out' err err' outcome
-      → ((fit : FitJob) (input : Input) → WasInput words source source' fit input → IsLimitedInput fit input) → IsNoReport outcome
-  limited out out' err err' (Done report) run reaches = by run.cause.job report run.cause.read run.cause.right
+  -- a right report is of a fit of an input that was read
+  report_fit : (report : Report) → IsAnswered words source source' report → (fit : FitJob) × (input : Input) × (f : Fit) × WasInput words source source' fit input × IsFitOf fit input f
+  report_fit report h = by h.job report h.read h.right
     where
-      fit_of : (fit : FitJob) (input : Input) (f : Fit) → WasInput words source source' fit input → IsFitOf fit input f → ⊥
-      fit_of fit input f was is =
-          is.right.unlimited (subst (λ (p : Problem Frac128). IsLimited {F = Frac128} value (sample value p) (rational (value fit.lo)) (rational (value fit.hi)) fit.limit) (sym is.under.problem_is) (reaches fit input was))
-
-      by : (job : Job) (report : Report) → WereRead words source source' job run.cause.bytes → IsRight job run.cause.bytes report → ⊥
+      by : (job : Job) (report : Report) → WereRead words source source' job h.bytes → IsRight job h.bytes report → (fit : FitJob) × (input : Input) × (f : Fit) × WasInput words source source' fit input × IsFitOf fit input f
       by (jobs.Process fit) (reports.Process f) read right =
-          fit_of fit right.0 f (record { ranked = is_some fit.rank; bytes = run.cause.bytes; asked = record { job = jobs.Process fit; asked = read.asked; built = read.built; is = (refl, refl) }; read = (jobs.Process fit, read); is = right.1 }) right.2
+          (fit, right.0, f, record { ranked = is_some fit.rank; bytes = h.bytes; asked = record { job = jobs.Process fit; asked = read.asked; built = read.built; is = (refl, refl) }; read = (jobs.Process fit, read); is = right.1 }, right.2)
       by (jobs.Ranks fit) (reports.Ranks f) read right =
-          fit_of fit right.0 f.fit (record { ranked = true; bytes = run.cause.bytes; asked = record { job = jobs.Ranks fit; asked = read.asked; built = read.built; is = (refl, refl) }; read = (jobs.Ranks fit, read); is = right.1 }) right.2.fit
+          (fit, right.0, f.fit, record { ranked = true; bytes = h.bytes; asked = record { job = jobs.Ranks fit; asked = read.asked; built = read.built; is = (refl, refl) }; read = (jobs.Ranks fit, read); is = right.1 }, right.2.fit)
       by (jobs.Process fit) (reports.Ranks f) read right = absurd right
       by (jobs.Ranks fit) (reports.Process f) read right = absurd right
       by (jobs.Certify fit) report read right = absurd right
       by jobs.Check report read right = absurd right
       by (jobs.Sample job) report read right = absurd right
+
+  pub limited : (out out' err err' : Stream) (outcome : Outcome) → IsRun words source source' out out' err err' outcome
+      → ((fit : FitJob) (input : Input) → WasInput words source source' fit input → IsLimitedInput fit input) → IsNoReport outcome
+  limited out out' err err' (Done report) run reaches =
+      let h = report_fit report run.cause in
+      h.4.right.unlimited (subst (λ (p : Problem Frac128). IsLimited {F = Frac128} value (sample value p) (rational (value h.0.lo)) (rational (value h.0.hi)) h.0.limit) (sym h.4.under.problem_is) (reaches h.0 h.1 h.3))
   limited out out' err err' (Refused refusal) run reaches = tt
   limited out out' err err' (Usage fault) run reaches = tt
   limited out out' err err' SourceFault run reaches = tt
@@ -175,3 +179,22 @@ module _ (words : List (List ℕ)) (source source' : Stream) where
       let below : limit < 2 * further_bases (sample value needed.1.problem) = needed.3.below enough.0 in
       let shown : limit ≡ needed.0.limit = needed.3.shown in
       omega (arith, enough.1, shown, below)
+
+  -- ---- dependent columns
+
+  pub unfitted : (out out' err err' : Stream) (outcome : Outcome) → IsRun words source source' out out' err err' outcome
+      → ((fit : FitJob) (input : Input) → WasInput words source source' fit input → ¬ HasFullRank (sample value input.problem)) → IsUnfitted outcome
+  unfitted out out' err err' (Done report) run dependent =
+      let h = report_fit report run.cause in
+      let end = h.4.right.results.ended in
+      dependent h.0 h.1 h.3 (subst (λ (p : Problem Frac128). HasFullRank (sample value p)) h.4.under.problem_is (full_rank (sample value h.2.problem) (slice_index h.4.right.results.basis) end.a end.is_basis))
+  unfitted out out' err err' (PivotLimit place limit trail) run dependent =
+      let needed = limit_needed words source source' place limit trail run.cause in
+      dependent needed.0 needed.1 needed.2 (process_full value (sample value needed.1.problem) (rational (value needed.0.lo)) (rational (value needed.0.hi)) limit trail needed.3.reached)
+  unfitted out out' err err' (Refused refusal) run dependent = tt
+  unfitted out out' err err' (Usage fault) run dependent = tt
+  unfitted out out' err err' SourceFault run dependent = tt
+  unfitted out out' err err' SinkFault run dependent = tt
+  unfitted out out' err err' OutOfMemory run dependent = tt
+  unfitted out out' err err' (Overflow place trail spill) run dependent = tt
+  unfitted out out' err err' (NotBuilt part) run dependent = tt

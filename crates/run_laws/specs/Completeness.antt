@@ -83,3 +83,17 @@ AmpleLimitIsNeverReached =
     (words : List (List ℕ)) (source source' out out' err err' : Stream) (place : Place) (limit : ℕ) (trail : Trail Frac128)
     → ((fit : FitJob) (input : Input) → WasInput words source source' fit input → HasRows input × ((2 * further_bases (sample value input.problem)) ≤ fit.limit))
     → ¬ IsRun words source source' out out' err err' (PivotLimit place limit trail)
+
+-- the outcome is neither a report nor a limit
+abbrev pub IsUnfitted : Outcome → Type 0
+IsUnfitted (Done report) = ⊥
+IsUnfitted (PivotLimit place limit trail) = ⊥
+IsUnfitted _ = ⊤
+
+-- where the columns of the problem are dependent, it is neither
+abbrev pub DependenceIsAnswered : Type 0
+DependenceIsAnswered =
+    (words : List (List ℕ)) (source source' out out' err err' : Stream) (outcome : Outcome)
+    → IsRun words source source' out out' err err' outcome
+    → ((fit : FitJob) (input : Input) → WasInput words source source' fit input → ¬ HasFullRank (sample value input.problem))
+    → IsUnfitted outcome
