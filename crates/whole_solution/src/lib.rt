@@ -18,7 +18,7 @@ mod signs;
 mod solution;
 
 pub use basis::WholeBasis;
-pub use bounds::bounds;
+pub use bounds::bounds as row_bounds;
 pub use columns::transposed;
 pub use duals::negation;
 pub use primal::residual_of;

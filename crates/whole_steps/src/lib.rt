@@ -10,7 +10,6 @@
 mod crossings;
 mod entering;
 mod slopes;
-mod stand_ins;
 mod station;
 
 pub use crossings::{Quotient, fraction_of};

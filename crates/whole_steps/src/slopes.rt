@@ -4,11 +4,12 @@ ghost use Rattle.whole_inverse.specs.Shares.{share};
 ghost use Rattle.whole_ratio.specs.Lines.{turned_by};
 ghost use Rattle.whole_steps.specs.Stations.{IsStation, over_of, slope_at};
 
-use crate::stand_ins::{negation, residual_of};
+
 use crate::station::Station;
 use basis_model::Part;
 use pivot_rule::Direction;
 use whole_inverse::Obstacle;
+use whole_solution::{negation, residual_of};
 
 /// The number, negated downwards.
 fn turned(direction: Direction, n: i128) -> Result<i128, Obstacle>

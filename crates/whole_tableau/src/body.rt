@@ -108,6 +108,13 @@ impl<'a, F: Exact> WholeTableau<'a, F> {
         &self.setting
     }
 
+    /// The determinant, over which all numerators stand.
+    pub(crate) fn determinant(&self) -> i128
+        ensures { result ≡ self.now.square.determinant }
+    {
+        self.inverse.determinant()
+    }
+
     /// The rows of the basis by position.
     pub fn basis(&self) -> &Basis
         ensures rows { result.now.rows ≡ self.now.rows }

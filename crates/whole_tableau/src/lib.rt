@@ -7,6 +7,7 @@
 #![tactic(auto)]
 
 mod body;
+mod ends;
 mod refusal;
 mod setting;
 mod values;
