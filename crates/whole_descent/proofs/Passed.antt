@@ -10,7 +10,7 @@ use Rattle.exact_algebra.proofs.RationalSumLaws.{sum_ℚ-next}
 use Rattle.loss_model.specs.Spill.{abs_ℚ}
 use Rattle.basis_model.specs.Basis.{coord}
 use Rattle.pivot_rule.specs.Duals.{◌<ℚ◌}
-use Rattle.pivot_rule.specs.Steps.{slope, passing, slope_before, is_before}
+use Rattle.pivot_rule.specs.Steps.{slope, passing, slope_before, is_before, IsEntering}
 use Rattle.pivot_rule.proofs.Passing.{not_before_itself}
 use Rattle.whole_inverse.specs.Shares.{share}
 use Rattle.whole_rows.specs.declared.rows.WholeRow.{WholeRow}
@@ -52,14 +52,14 @@ module _ (d : Descent) (h : IsDescent d) where
   -- one row more
   pub passed_more : (r i : ℕ) (slope more sum : ℤ) → (is_moving d.line.now i && comes_before d.line.now i r) ≡ true → rational (number_value d more) ≡ passing_of d i → sum ≡ slope +ℤ more
       → rational (number_value d sum) ≡ rational (number_value d slope) +ℚ passed_by d r i
-  passed_more r i slope more sum yes is e =
+  passed_more r i slope more sum taken is e =
       ap (λ n. rational (number_value d n)) e ∙ share-sum slope more (pos (unsigned_abs (over_of d.line.now *ℤ d.theta.under)))
-      ∙ ap (λ z. rational (number_value d slope) +ℚ z) (is ∙ sym (ap (λ t. if t then passing_of d i else whole (pos 0)) yes))
+      ∙ ap (λ z. rational (number_value d slope) +ℚ z) (is ∙ sym (ap (λ t. if t then passing_of d i else whole (pos 0)) taken))
 
   pub passed_none : (r i : ℕ) (slope : ℤ) → (is_moving d.line.now i && comes_before d.line.now i r) ≡ false → rational (number_value d slope) ≡ rational (number_value d slope) +ℚ passed_by d r i
-  passed_none r i slope no =
+  passed_none r i slope left =
       ring_ℚ (rational (number_value d slope) ∷ []) v0 (v0 ⊞ number (pos 0)) refl
-      ∙ ap (λ z. rational (number_value d slope) +ℚ z) (sym (ap (λ t. if t then passing_of d i else whole (pos 0)) no))
+      ∙ ap (λ z. rational (number_value d slope) +ℚ z) (sym (ap (λ t. if t then passing_of d i else whole (pos 0)) left))
 
   -- the sum over the first rows
   pub sum_none : (r : ℕ) (start : ℤ) → rational (number_value d start) ≡ first_slope d → rational (number_value d start) ≡ first_slope d +ℚ sum_ℚ 0 (passed_by d r)
@@ -88,3 +88,12 @@ module _ (d : Descent) (h : IsDescent d) where
             (ap (λ n. rational (number_value d n)) e ∙ share-sum before own (pos (unsigned_abs (over_of d.line.now *ℤ d.theta.under))) ∙ ap₂ (λ x y. x +ℚ y) is own_is)
             (share_not_negative (unsigned_abs (over_of d.line.now *ℤ d.theta.under)) scale_some past above);
       }
+
+-- the slope where the line begins
+pub first_is : (d : Descent) (x : ℚ) → x ≡ slope (model d.line.now) (at_of d.line.now) (inverse_at d.line.now) (theta_of d.theta) d.line.now.position d.line.now.direction → x ≡ first_slope d
+unfolding first_slope
+first_is d x e = e
+
+pub entering_is : (d : Descent) (r : ℕ) → Enters d r → IsEntering (model d.line.now) (at_of d.line.now) (inverse_at d.line.now) (theta_of d.theta) d.line.now.position d.line.now.direction r
+unfolding Enters
+entering_is d r h = h

@@ -9,7 +9,7 @@ use Rattle.exact_algebra.specs.RationalSums.{sum_ℚ}
 use Rattle.exact_algebra.proofs.RationalSumLaws.{sum_ℚ-same, sum_ℚ-scale, sum_ℚ-add}
 use Rattle.loss_model.specs.declared.vertex.Side.{Side}
 use Rattle.loss_model.specs.declared.vertex.Side.TheVariants.{Up, Down, Basic}
-use Rattle.loss_model.specs.Sample.{Sample, residual, row_loss, loss, positive_ℚ, negative_ℚ, up_cost, down_cost}
+use Rattle.loss_model.specs.Sample.{Sample, residual, row_loss, loss, up_cost, down_cost}
 use Rattle.loss_model.specs.Problem.{sample}
 use Rattle.loss_model.specs.Vertex.{IsOn}
 use Rattle.loss_model.proofs.Duality.{cost_above, cost_below}

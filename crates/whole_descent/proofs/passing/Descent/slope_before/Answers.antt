@@ -16,12 +16,12 @@ loop-row-init g c =
 pub loop-row-preserved : goal.loop-row-preserved
 loop-row-preserved g c =
     let d = c.args.self.now in
-    let next : rational (number_value d c.in-Ok.next) ≡ rational (number_value d c.loop-row.slope) +ℚ passed_by d c.args.target.row c.loop-row.row = search rules in
+    let next : rational (number_value d c.in-Ok.next) ≡ rational (number_value d (to_z w128 c.loop-row.slope-bits)) +ℚ passed_by d c.args.target.row c.loop-row.row = search rules in
     let plain : to_z w128 (of_z w128 c.in-Ok.next) ≡ c.in-Ok.next = search rules in
-    sum_more d c.requires.descent c.args.target.row c.loop-row.row (rational (number_value d c.loop-row.slope)) (rational (number_value d c.in-Ok.next)) c.loop-row.invariant next
+    rw (plain) (sum_more d c.requires.descent c.args.target.row c.loop-row.row (rational (number_value d (to_z w128 c.loop-row.slope-bits))) (rational (number_value d c.in-Ok.next)) c.loop-row.invariant next)
 
 pub returns : goal.returns
 returns g c =
     let d = c.args.self.now in
     let all : c.loop-row.row ≡ length d.line.now.basis.now.rows.now = omega (arith, c.loop-row-test.false, c.loop-row.auto.row-end, c.requires.descent.line.all_sides) in
-    sum_all d c.requires.descent c.args.target.row c.loop-row.row (rational (number_value d c.loop-row.slope)) all c.loop-row.invariant
+    sum_all d c.requires.descent c.args.target.row c.loop-row.row (rational (number_value d (to_z w128 c.loop-row.slope-bits))) all c.loop-row.invariant

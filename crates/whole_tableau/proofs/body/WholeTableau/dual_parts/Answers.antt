@@ -8,14 +8,14 @@ use Rattle.whole_tableau.proofs.Factors.{positive_some}
 use Rattle.whole_tableau.proofs.Vertices.{part_by}
 use Rattle.whole_tableau.proofs.body.WholeTableau.dual_parts.Goals as goal
 
-pub values_under-requires : goal.values_under-requires
-values_under-requires g c κs within =
+pub values_under-requires-after_bounds : goal.values_under-requires-after_bounds
+values_under-requires-after_bounds g c κs within =
     let made : rational (g.F.Exact.value c.in_ok-cost.cost) ≡ factor_value c.setting.result.now.wholes.cost = search rules in
     let cost = rw (c.setting.ensures) at made in
     rw (cost) (positive_some (factor_value c.args.self.now.setting.wholes.cost) c.requires.kept.setting.cost)
 
-pub values_under-2-requires : goal.values_under-2-requires
-values_under-2-requires g c κs within =
+pub values_under-requires-2-after_bounds : goal.values_under-requires-2-after_bounds
+values_under-requires-2-after_bounds g c κs within =
     let made : rational (g.F.Exact.value c.in_ok-cost.cost) ≡ factor_value c.setting.result.now.wholes.cost = search rules in
     let cost = rw (c.setting.ensures) at made in
     rw (cost) (positive_some (factor_value c.args.self.now.setting.wholes.cost) c.requires.kept.setting.cost)

@@ -16,14 +16,14 @@ use Rattle.whole_tableau.proofs.Losses.{loss_back, loss_sum}
 use Rattle.whole_tableau.proofs.Stations.{rows_within}
 use Rattle.whole_tableau.proofs.body.WholeTableau.loss_part.Goals as goal
 
-pub value_under-requires : goal.value_under-requires
-value_under-requires g c =
+pub value_under-requires-after_bounds : goal.value_under-requires-after_bounds
+value_under-requires-after_bounds g c κs within =
     let made : rational (g.F.Exact.value c.in_ok-cost.cost) ≡ factor_value c.setting.result.now.wholes.cost = search rules in
     let cost = rw (c.setting.ensures) at made in
     rw (cost) (positive_some (factor_value c.args.self.now.setting.wholes.cost) c.requires.kept.setting.cost)
 
-pub over-requires : goal.over-requires
-over-requires g c =
+pub over-requires-after_bounds : goal.over-requires-after_bounds
+over-requires-after_bounds g c κs within =
     let made : rational (g.F.Exact.value c.in_ok-response.response) ≡ factor_value c.setting.result.now.wholes.response = search rules in
     let response = rw (c.setting.ensures) at made in
     rw (response) (positive_some (factor_value c.args.self.now.setting.wholes.response) c.requires.kept.setting.response)

@@ -17,8 +17,8 @@ end_at-requires-clause-members g c κs within =
     let ordered = rw (c.as_slice.ensures, c.basis.ensures.rows) at (c.in_ok-sorted.ensures {u = tt}) in
     rw c.as_slice-2.ensures (λ k lk. (ordered.same (slice_index c.in_ok-sorted.sorted k)).0 (itself c.in_ok-sorted.sorted k lk))
 
-pub end_at-2-requires-clause-members : goal.end_at-2-requires-clause-members
-end_at-2-requires-clause-members g c κs within =
+pub end_at-requires-2-clause-members : goal.end_at-requires-2-clause-members
+end_at-requires-2-clause-members g c κs within =
     let ordered = rw (c.as_slice.ensures, c.basis.ensures.rows) at (c.in_ok-sorted.ensures {u = tt}) in
     rw c.as_slice-3.ensures (λ k lk. (ordered.same (slice_index c.in_ok-sorted.sorted k)).0 (itself c.in_ok-sorted.sorted k lk))
 

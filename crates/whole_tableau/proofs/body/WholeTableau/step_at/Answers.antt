@@ -1,6 +1,6 @@
 -- Below hi some row moves, and the first of those that do enters.
 use Rattle.std.specs.Ordering.{is_lt}
-use Rattle.std.proofs.Common.{◌<◌, length, refl, sym, ap, subst, ◌∙◌}
+use Rattle.std.proofs.Common.{◌<◌, refl, ap, subst, ◌∙◌}
 use Rattle.exact_algebra.specs.Fraction.{rational}
 use Rattle.exact_algebra.specs.Rational.{◌≤ℚ◌}
 use Rattle.pivot_rule.specs.Duals.{◌<ℚ◌}
