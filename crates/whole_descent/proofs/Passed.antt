@@ -1,5 +1,5 @@
 -- Rows that are passed on a line.
-use Rattle.std.specs.Prelude.{◌≡◌, ℕ, ℤ, ◌+◌, ◌<◌, ◌≤◌, ◌+ℤ◌, ◌*ℤ◌, ◌≤ℤ◌, ◌<ℤ◌, Bool, true, false, ◌&&◌, if◌then◌else◌, unsigned_abs, List, [], ◌∷◌, length, get_or, pos}
+use Rattle.std.specs.Prelude.{◌≡◌, Option, None, Some, IfSome, ℕ, ℤ, ◌+◌, ◌<◌, ◌≤◌, ◌+ℤ◌, ◌*ℤ◌, ◌≤ℤ◌, ◌<ℤ◌, Bool, true, false, ◌&&◌, if◌then◌else◌, unsigned_abs, List, [], ◌∷◌, length, get_or, pos}
 use Rattle.std.proofs.Common.{arith, refl, sym, ap, ap₂, subst, ◌∙◌}
 use Rattle.exact_algebra.specs.Fraction.{rational}
 use Rattle.exact_algebra.specs.Solver.{number, ◌⊞◌, ◌⊠◌, v0, v1, v2, v3, v4}
@@ -17,7 +17,9 @@ use Rattle.whole_rows.specs.declared.rows.WholeRow.{WholeRow}
 use Rattle.whole_rows.specs.Wholes.{of_whole}
 use Rattle.whole_solution.proofs.Numbers.{share_read}
 use Rattle.whole_solution.proofs.Reading.{row_read}
-use Rattle.whole_ratio.specs.Lines.{model, at_of, inverse_at, over_of, is_moving, comes_before}
+use Rattle.whole_ratio.specs.declared.line.Line.{Line}
+use Rattle.whole_ratio.specs.declared.line.Mover.{Mover}
+use Rattle.whole_ratio.specs.Lines.{model, at_of, inverse_at, over_of, is_moving, comes_before, IsMover, IsMoverAt}
 use Rattle.whole_ratio.proofs.Signs.{abs_share}
 use Rattle.whole_descent.specs.declared.passing.Descent.{Descent}
 use Rattle.whole_descent.specs.Quantiles.{theta_of}
@@ -97,3 +99,7 @@ first_is d x e = e
 pub entering_is : (d : Descent) (r : ℕ) → Enters d r → IsEntering (model d.line.now) (at_of d.line.now) (inverse_at d.line.now) (theta_of d.theta) d.line.now.position d.line.now.direction r
 unfolding Enters
 entering_is d r h = h
+
+pub mover_some : (l : Line) (i : ℕ) (o : Option Mover) → IsMoverAt l i o → IfSome o (λ m. IsMover l m)
+mover_some l i None h = tt
+mover_some l i (Some m) h = h.1

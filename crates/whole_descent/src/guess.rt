@@ -1,5 +1,5 @@
 //! A guess at the row that enters. Nothing is promised of it: it is tested.
-ghost use Rattle.std.specs.Prelude.{◌<◌, length};
+ghost use Rattle.std.specs.Prelude.{IfSome};
 ghost use Rattle.whole_ratio.specs.Lines.{IsMover};
 ghost use Rattle.whole_descent.specs.Passing.{IsDescent};
 
@@ -34,12 +34,13 @@ impl<'a> Descent<'a> {
     /// A row as a mover, if it is one.
     fn mover(&self, row: u32) -> Option<Mover>
         requires descent { IsDescent self.now }
+        ensures { IfSome result (λ m. IsMover self.now.line.now m) }
     {
-        if (row as usize) < self.line.sides.len() {
-            self.line.mover_at(row)
-        } else {
-            None
+        let line = self.line;
+        if row as usize >= line.sides.len() {
+            return None;
         }
+        line.mover_at(row)
     }
 
     /// Puts a row on its side of another one.

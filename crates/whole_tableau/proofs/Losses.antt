@@ -1,7 +1,6 @@
 -- The loss at a basis in two parts.
 use Rattle.std.specs.Prelude.{◌≡◌, ◌≢◌, ℕ, ℤ, ◌<◌, List, [], ◌∷◌, length, slice_index, pos}
-use Rattle.std.proofs.Common.{arith, refl, sym, ap, ap₂, subst, ◌∙◌}
-use Rattle.exact_algebra.specs.Fraction.{Fraction, rational}
+use Rattle.std.proofs.Common.{refl, sym, ap, ap₂, subst, ◌∙◌}
 use Rattle.exact_algebra.specs.Solver.{number, negated, ◌⊞◌, ◌⊠◌, v0, v1, v2, v3, v4}
 use Rattle.exact_algebra.specs.Rational.{ℚ, ◌+ℚ◌, ◌*ℚ◌, neg_ℚ, inverse, whole, ◌≤ℚ◌}
 use Rattle.exact_algebra.proofs.RationalLaws.{ring_ℚ, ≤ℚ_refl}
@@ -10,7 +9,6 @@ use Rattle.exact_algebra.proofs.RationalSumLaws.{sum_ℚ-same, sum_ℚ-scale, su
 use Rattle.loss_model.specs.declared.vertex.Side.{Side}
 use Rattle.loss_model.specs.declared.vertex.Side.TheVariants.{Up, Down, Basic}
 use Rattle.loss_model.specs.Sample.{Sample, residual, row_loss, loss, up_cost, down_cost}
-use Rattle.loss_model.specs.Problem.{sample}
 use Rattle.loss_model.specs.Vertex.{IsOn}
 use Rattle.loss_model.proofs.Duality.{cost_above, cost_below}
 use Rattle.basis_model.specs.declared.part.Part.{Part}
@@ -19,7 +17,7 @@ use Rattle.basis_model.specs.Basis.{IsBasis, coefficient, side_at, bound_part}
 use Rattle.pivot_rule.proofs.Sides.{on_side}
 use Rattle.scaled_model.specs.Scaled.{IsScaled, unscaled}
 use Rattle.scaled_model.proofs.ScalingLaws.{residual-scaled, side_at-scaled}
-use Rattle.whole_inverse.specs.Shares.{share, share_at, whole_at}
+use Rattle.whole_inverse.specs.Shares.{share_at, whole_at}
 use Rattle.whole_inverse.specs.Squares.{inverse_of}
 use Rattle.whole_rows.specs.Wholes.{sample_of_rows}
 use Rattle.whole_solution.specs.declared.solution.WholeSolution.{WholeSolution}

@@ -1,8 +1,8 @@
 -- A station of the basis that is kept, and its walking step.
-use Rattle.std.specs.Prelude.{◌≡◌, ℕ, ℤ, ◌<◌, true, List, length, slice_index, Option, Some, None, pos}
-use Rattle.std.proofs.Common.{refl, sym, ap, subst, ◌∙◌}
+use Rattle.std.specs.Prelude.{◌≡◌, ℕ, ℤ, ◌<◌, true, List, length, slice_index, Option, Some, None}
+use Rattle.std.proofs.Common.{sym, ap, subst, ◌∙◌}
 use Rattle.exact_algebra.specs.Fraction.{Fraction, rational}
-use Rattle.exact_algebra.specs.Rational.{ℚ, whole, ◌≤ℚ◌}
+use Rattle.exact_algebra.specs.Rational.{ℚ}
 use Rattle.exact_algebra.proofs.RationalLaws.{≤ℚ_trans}
 use Rattle.loss_model.specs.declared.process.Exchange.{Exchange}
 use Rattle.loss_model.specs.Sample.{Sample}
@@ -15,7 +15,6 @@ use Rattle.walk_rule.specs.Families.{over_quantiles, IsOptimalIn}
 use Rattle.walk_rule.specs.Walks.{Crosses, IsNextBreak, IsFirstMover, IsWalkingStep}
 use Rattle.walk_rule.specs.WalkTrails.{is_below}
 use Rattle.walk_rule.proofs.Trails.{below_from}
-use Rattle.tableau_model.specs.Places.{at_of, sample_of}
 use Rattle.tableau_model.specs.WalkAnswers.{IsWalkingAnswer}
 use Rattle.fraction_tableau.specs.declared.crossings.Breakpoint.{Breakpoint}
 use Rattle.fraction_tableau.specs.Crossings.{IsFirst, IsFirstOf}
@@ -29,7 +28,7 @@ use Rattle.whole_rows.specs.Wholes.{factor_at, factor_value, sample_of_rows}
 use Rattle.whole_solution.specs.Standing.{IsWholeBasis, IsWholeSolution}
 use Rattle.whole_steps.specs.declared.station.Station.{Station}
 use Rattle.whole_steps.specs.declared.crossings.Quotient.{Quotient}
-use Rattle.whole_steps.specs.Stations.{model, at_of as rows_at, inverse_at, over_of, IsStation}
+use Rattle.whole_steps.specs.Stations.{model, at_of as rows_at, inverse_at, over_of}
 use Rattle.whole_steps.specs.Crossings.{quotient_value, falls_at, quotient_at}
 use Rattle.whole_steps.proofs.Crossed.{none_crosses, first_is_next}
 use Rattle.whole_tableau.specs.Kept.{Kept, IsKept, wholes_of, place}

@@ -1,6 +1,5 @@
 -- A value more.
-use Rattle.std.proofs.Common.{rules, ◌≡◌, ◌<◌, ◌++◌, ◌∷◌, [], ℕ, length, get_or, ap, ap₂, ◌∙◌}
-use Rattle.exact_algebra.specs.Fraction.{rational}
+use Rattle.std.proofs.Common.{rules, ◌≡◌, ◌++◌, ◌∷◌, [], ap₂, ◌∙◌}
 use Rattle.exact_algebra.specs.Rational.{◌*ℚ◌}
 use Rattle.loss_model.specs.Problem.{value_at}
 use Rattle.basis_inverse.proofs.Lists.{value_read}

@@ -10,8 +10,7 @@ returns-then-branch g c =
     let more = c.in_ok-more.more in
     let sum : c.in_ok-sum.sum ≡ c.args.slope +ℤ more = search rules in
     let plain : to_z w128 (of_z w128 c.in_ok-sum.sum) ≡ c.in_ok-sum.sum = search rules in
-    let start : to_z w128 (of_z w128 c.args.slope) ≡ c.args.slope = search rules in
-    rw (plain, start) (passed_more d c.requires.descent c.args.target.row c.args.row c.args.slope more c.in_ok-sum.sum (sym (c.in_ok-is_passed.ensures {u = tt}) ∙ c.if-branch.true) (c.in_ok-more.ensures {u = tt}) sum)
+    rw (plain) (passed_more d c.requires.descent c.args.target.row c.args.row c.args.slope more c.in_ok-sum.sum (sym (c.in_ok-is_passed.ensures {u = tt}) ∙ c.if-branch.true) (c.in_ok-more.ensures {u = tt}) sum)
 
 pub returns : goal.returns
 returns g c =

@@ -1,5 +1,5 @@
 -- The start of the whole rows is that of the problem.
-use Rattle.std.proofs.Common.{◌≡◌, ◌<◌, ◌^◌, length, map, Some, refl, ap, subst, arith, ◌∙◌}
+use Rattle.std.proofs.Common.{length, map, Some, refl, subst, arith}
 use Rattle.loss_model.specs.Problem.{sample}
 use Rattle.loss_model.specs.Greedy.{IsGreedyBasis, IsStartAfter}
 use Rattle.whole_rows.specs.Wholes.{factor_at, sample_of_rows}

@@ -1,5 +1,5 @@
 -- The numerators over the factor of the costs.
-use Rattle.std.proofs.Common.{rules, ◌≡◌, length, to_z, of_z, ◌∙◌}
+use Rattle.std.proofs.Common.{rules, ◌≡◌, to_z, of_z, ◌∙◌}
 use mir.Syntax.{w128}
 use Rattle.exact_algebra.specs.Fraction.{rational}
 use Rattle.basis_model.specs.declared.part.Part.TheVariants.{Constant, Linear}

@@ -1,15 +1,11 @@
 -- The sum of the bounds times the residuals, over both factors.
-use Rattle.std.proofs.Common.{rules, ◌≡◌, ◌<◌, length, slice_index, to_z, of_z, sym, ap, ap₂, ◌∙◌}
-use mir.Syntax.{w128}
+use Rattle.std.proofs.Common.{rules, ◌≡◌, slice_index, ap, ap₂, ◌∙◌}
 use Rattle.exact_algebra.specs.Fraction.{rational}
 use Rattle.exact_algebra.specs.Rational.{◌*ℚ◌, inverse}
-use Rattle.exact_algebra.specs.RationalSums.{sum_ℚ}
-use Rattle.exact_algebra.proofs.RationalSumLaws.{sum_ℚ-same}
 use Rattle.loss_model.specs.Problem.{sample}
-use Rattle.whole_inverse.specs.Shares.{share, share_at, whole_at}
+use Rattle.whole_inverse.specs.Shares.{share}
 use Rattle.whole_inverse.specs.Squares.{inverse_of}
 use Rattle.whole_rows.specs.Wholes.{factor_at, factor_value}
-use Rattle.whole_tableau.specs.Ends.{loss_part}
 use Rattle.whole_tableau.specs.Kept.{wholes_of}
 use Rattle.whole_tableau.proofs.Factors.{positive_some}
 use Rattle.whole_tableau.proofs.Losses.{loss_back, loss_sum}

@@ -1,6 +1,6 @@
 -- The step at the first crossing.
 use Rattle.std.specs.Ordering.{is_lt}
-use Rattle.std.proofs.Common.{◌≡◌, ◌<◌, length, slice_index, sym, ap, subst, ◌∙◌}
+use Rattle.std.proofs.Common.{slice_index, ap, ◌∙◌}
 use Rattle.std.proofs.lemmas.Result.{IfOk-weaker}
 use Rattle.exact_algebra.specs.Fraction.{rational}
 use Rattle.loss_model.specs.Problem.{sample}
@@ -9,11 +9,7 @@ use Rattle.whole_inverse.specs.Squares.{inverse_of}
 use Rattle.whole_rows.specs.Wholes.{factor_at}
 use Rattle.fraction_tableau.proofs.Crossed.{not_below}
 use Rattle.fraction_tableau.proofs.Stepping.{none_behind}
-use Rattle.fraction_tableau.specs.Crossings.{IsFirstOf}
 use Rattle.whole_steps.specs.declared.station.Station.{Station}
-use Rattle.whole_steps.specs.Crossings.{quotient_value, falls_at, quotient_at}
-use Rattle.whole_tableau.specs.Kept.{Kept, IsKept}
-use Rattle.whole_tableau.specs.Steps.{IsStationOf}
 use Rattle.whole_tableau.proofs.Stations.{is_station, columns_are, none_left, next, step_is}
 use Rattle.whole_tableau.proofs.body.WholeTableau.next_walking.Goals as goal
 
