@@ -17,15 +17,14 @@ MOST_SECONDS = 10
 STATUSES = range(10)
 HERE = os.path.dirname(os.path.abspath(__file__))
 
+# each with formulas that fit it
 TABLES = [
-    b"y,x\n1,1\n2,2\n3,4\n",
-    b"y,x\n0,0\n2,1\n2,2\n",
-    b'y,"a b",f\n1/2,-3,u\n2.5,1e1,v\nNA,4,u\n-7,0,v\n0,1,w\n',
-    b"y,x,w\n1,1,1\n3,2,2\n2,3,1/2\n5,5,0.25\n4,4,3\n",
-    b"y,f,g\n1,a,p\n2,b,q\n3,a,q\n5,b,p\n8,c,p\n13,c,q\n",
+    (b"y,x\n1,1\n2,2\n3,4\n", ["y ~ x", "y ~ 1", "y ~ .", "y ~ x - 1"]),
+    (b"y,x\n0,0\n2,1\n2,2\n", ["y ~ x", "y ~ 0 + x", "y ~ qss(x, 1/2)"]),
+    (b'y,"a b",f\n1/2,-3,u\n2.5,1e1,v\nNA,4,u\n-7,0,v\n0,1,w\n', ["y ~ `a b` + factor(f)", "y ~ f", "y ~ f - 1", "y ~ `a b`"]),
+    (b"y,x,w\n1,1,1\n3,2,2\n2,3,1/2\n5,5,0.25\n4,4,3\n", ["y ~ (x + w)^2", "y ~ x:w + 0", "y ~ qss(x, 1) + w", "y ~ x*w"]),
+    (b"y,f,g\n1,a,p\n2,b,q\n3,a,q\n5,b,p\n8,c,p\n13,c,q\n", ["y ~ f", "y ~ f + g", "y ~ g", "y ~ f*g"]),
 ]
-FORMULAS = ["y ~ x", "y ~ 1", "y ~ .", "y ~ x - 1", "y ~ f", "y ~ f*g", "y ~ (x + w)^2", "y ~ qss(x, 1/2)", "y ~ `a b` + factor(f)",
-            "y ~ x:w + 0", "y ~ qss(x, 1) + w"]
 PIECES = ["~", "+", "-", ":", "*", "^", "(", ")", "0", "1", "2", "y", "x", "w", "f", "g", ".", "`", "factor(", "qss(", ",", " ", "1/2", "1e9",
           "^99999999999", "\u00e9", "\t"]
 NUMBERS = ["0", "1", "1/2", "0.25", "1e0", "3/4", "2", "-1", "1/0", "1e99999", "", "170141183460469231731687303715884105727", "0x1", "1/3",
@@ -39,7 +38,7 @@ CERTIFICATE = (b'{"columns":1,"hi":"1/2","intervals":[],"kind":"quantreg-certifi
 
 def changed_bytes(chance, text):
     """The text after a few changes of bytes."""
-    for _ in range(chance.randrange(4)):
+    for _ in range(max(0, chance.randrange(5) - 1)):
         at = chance.randrange(len(text) + 1)
         to = min(len(text), at + chance.randrange(1, 6))
         change = chance.randrange(5)
@@ -56,37 +55,36 @@ def changed_bytes(chance, text):
     return text
 
 
-def changed_formula(chance):
-    formula = chance.choice(FORMULAS)
-    for _ in range(chance.randrange(3)):
+def changed_formula(chance, formulas):
+    formula = chance.choice(formulas)
+    for _ in range(max(0, chance.randrange(6) - 3)):
         at = chance.randrange(len(formula) + 1)
         formula = formula[:at] + chance.choice(PIECES) + formula[at + chance.randrange(3):]
-    if chance.randrange(40) == 0:
+    if chance.randrange(60) == 0:
         formula = "y ~ " + "(" * chance.randrange(1, 3000) + "x"
     return formula
 
 
-def options(chance, job):
+def options(chance, job, formulas):
     """Options of a job, now and then one too few, too many or of another job."""
     given = {}
     if job in ("process", "certify", "ranks"):
-        given["--formula"] = changed_formula(chance)
+        given["--formula"] = changed_formula(chance, formulas)
     if job in ("process", "certify"):
-        given["--lo"] = chance.choice(["0", "1/4", "1/2", chance.choice(NUMBERS)])
-        given["--hi"] = chance.choice(["1", "3/4", "1/2", chance.choice(NUMBERS)])
+        given["--lo"], given["--hi"] = sorted(chance.choices(["0", "1/4", "1/2", "3/4", "9/10"], k=2)) if chance.randrange(6) else chance.choices(NUMBERS, k=2)
     extra = [("--weights", NAMES), ("--contrasts", ["sas", "sum", "helmert", "treatment", "other"]), ("--pivots", ["0", "1", "50", *NUMBERS]),
              ("--crit", NUMBERS), ("--rank-at", ["1/2", "1/4,3/4", "0,1", "1/2,", *NUMBERS]), ("--number", NUMBERS)]
     for name, values in extra:
-        if chance.randrange(6 if name == "--weights" and job != "check" else 30) == 0:
+        if chance.randrange(12 if name == "--weights" and job != "check" else 40) == 0:
             given[name] = chance.choice(values)
     if given.keys() & {"--crit", "--rank-at"} and chance.randrange(4):
         given |= {"--crit": chance.choice(["1", "2.7055", "0"]), "--rank-at": "1/2"}
-    if chance.randrange(20) == 0 and given:
+    if chance.randrange(40) == 0 and given:
         del given[chance.choice(sorted(given))]
     words = []
     for name, value in given.items():
         words += [f"{name}={value}"] if value.startswith("-") or chance.randrange(3) == 0 else [name, value]
-    if chance.randrange(30) == 0:
+    if chance.randrange(60) == 0:
         words.insert(chance.randrange(len(words) + 1), chance.choice(PIECES + NUMBERS + ["--lo", "--", "-", "process"]))
     return words
 
@@ -94,11 +92,11 @@ def options(chance, job):
 def made_input(number):
     """The words and the bytes of an input, from its number alone."""
     chance = random.Random(number)
-    job = chance.choice(["process"] * 5 + ["certify", "check", "check", "ranks", "other", ""])
-    words = ([job] if job else []) + options(chance, job)
-    source = CERTIFICATE if job == "check" else chance.choice(TABLES)
+    job = chance.choice(["process"] * 10 + ["certify", "certify", "check", "check", "check", "check", "ranks", "ranks", "other", ""])
+    table, formulas = chance.choice(TABLES)
+    words = ([job] if job else []) + options(chance, job, formulas)
     # no argument of a program holds a zero byte
-    return [word.replace("\0", "0") for word in words], changed_bytes(chance, source)
+    return [word.replace("\0", "0") for word in words], changed_bytes(chance, CERTIFICATE if job == "check" else table)
 
 
 def complaint(status, out, err):
@@ -108,7 +106,7 @@ def complaint(status, out, err):
     if status not in STATUSES:
         return f"status {status}"
     if status == 0:
-        return "a fault line beside a report" if err else "no report" if not out.endswith(b"\n") else None
+        return "a fault line beside a report" if err else None if out.endswith(b"\n") else "no report"
     if out:
         return "output after a refusal"
     if not (err.startswith(b"quantreg: ") and err.endswith(b"\n") and err.count(b"\n") == 1):
