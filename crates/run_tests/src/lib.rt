@@ -9,6 +9,7 @@ mod formulas;
 mod helpers;
 #[cfg(test)]
 mod intervals;
+mod hostile;
 #[cfg(test)]
 mod medians;
 #[cfg(test)]
