@@ -8,8 +8,9 @@ mod formulas;
 #[cfg(test)]
 mod helpers;
 #[cfg(test)]
-mod intervals;
 mod hostile;
+#[cfg(test)]
+mod intervals;
 #[cfg(test)]
 mod medians;
 #[cfg(test)]
