@@ -1,9 +1,9 @@
 -- The text of a certificate has 64 bytes for each of its segments, and more.
-use Rattle.std.proofs.Common.{◌≡◌, ℕ, zero, suc, ◌+◌, ◌*◌, ◌<◌, ◌≤◌, ◌/◌, ◌%◌, Bool, true, false, cond, ◌||◌, ◌==◌, nat_lt, List, [], ◌∷◌, ◌++◌, codes, length, map, flat_map, arith, refl}
+use Rattle.std.proofs.Common.{◌≡◌, ℕ, ◌+◌, ◌*◌, ◌≤◌, ◌/◌, ◌%◌, Bool, true, false, cond, nat_lt, List, [], ◌∷◌, ◌++◌, codes, length, map, flat_map, arith, refl}
 use Rattle.std.specs.Char.{digit_char}
 use Rattle.std.proofs.lemmas.List.{length-append}
 use Rattle.json.specs.Print.{escape_byte, escape_letter, quoted}
-use Rattle.serde_json.specs.Data.{Data, Items, Members, member, no_members, number, unsigned, string}
+use Rattle.serde_json.specs.Data.{Data, Members, member, no_members, number, unsigned, string}
 use Rattle.serde_json.specs.View.{items_of}
 use Rattle.serde_json.specs.Written.{comma_if, compact_text, items_text, members_text}
 use Rattle.frac_core.specs.declared.frac128.Frac128.{Frac128}

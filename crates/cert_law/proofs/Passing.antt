@@ -1,5 +1,5 @@
 -- Sound segments make the conditions on the segments of a certificate true.
-use Rattle.std.proofs.Common.{◌≡◌, ℕ, zero, suc, ◌+◌, ◌-◌, ◌<◌, ◌≤◌, ◌⊎◌, Bool, true, false, eqb, List, [], ◌∷◌, ◌++◌, All, length, slice_get, Option, Some, None, pos, if◌then◌else◌, inl, inr, arith, refl, sym, ap, subst, ◌∙◌}
+use Rattle.std.proofs.Common.{◌≡◌, ℕ, zero, suc, ◌+◌, ◌-◌, ◌<◌, ◌⊎◌, Bool, true, false, eqb, List, ◌++◌, All, length, slice_get, Option, Some, pos, if◌then◌else◌, inl, inr, arith, refl, sym, ap, subst, ◌∙◌}
 use Rattle.std.specs.Option.{option_map_or}
 use Rattle.std.specs.declared.cmp.Ordering.TheVariants.{Less}
 use Rattle.std.proofs.lemmas.Int.{ints}
@@ -18,18 +18,17 @@ use Rattle.loss_model.specs.declared.problem.Row.{Row}
 use Rattle.loss_model.specs.declared.process.Segment.{Segment}
 use Rattle.loss_model.specs.declared.vertex.Side.{Side}
 use Rattle.loss_model.specs.declared.vertex.Side.TheVariants.{Up, Down, Basic}
-use Rattle.loss_model.specs.Dual.{IsDual}
 use Rattle.loss_model.specs.Problem.{value_at, sample}
-use Rattle.loss_model.specs.Sample.{Sample, up_cost, down_cost}
+use Rattle.loss_model.specs.Sample.{up_cost, down_cost}
 use Rattle.loss_model.specs.Segment.{Covers, of_segment, segments_of}
 use Rattle.loss_model.specs.Strict.{◌<ℚ◌}
-use Rattle.loss_model.specs.Vertex.{dual_value, IsVertexOf}
+use Rattle.loss_model.specs.Vertex.{dual_value}
 use Rattle.cert_checker.specs.Places.{value128}
 use Rattle.cert_checker.specs.Formulas as formula
 use Rattle.cert_checker.specs.Formulas.{given, worth}
 use Rattle.cert_checker.specs.Tests.{Holds, Test, AreTrue, one}
 use Rattle.cert_checker.specs.declared.relation.Relation.TheVariants.{AtMost, Below, Equal}
-use Rattle.cert_checker.specs.Conditions.{each, End, low_of, high_of, side_in, up_formula, down_formula, dual_at_row, bound_test, bounds, balance, balance_tests, balances, objective, loss_tests, losses, costs, ends, first_end, order_of_ends, joint_end, joint_tests, joints, lo_at, hi_at, row_costs, row_form, segment_form}
+use Rattle.cert_checker.specs.Conditions.{each, End, low_of, high_of, side_in, dual_at_row, bound_test, bounds, balance, balance_tests, balances, objective, loss_tests, losses, costs, ends, first_end, order_of_ends, joint_end, joint_tests, joints, lo_at, hi_at, row_costs, row_form, segment_form}
 use Rattle.cert_checker.proofs.Decided.{joined}
 use Rattle.cert_checker.proofs.Shown.{row_dual}
 use Rattle.cert_checker.proofs.Worths.{worth-sum, worth-loss}

@@ -1,5 +1,5 @@
 -- A rank interval that meets its conditions makes the conditions on the intervals of a certificate true.
-use Rattle.std.proofs.Common.{◌≡◌, ◌≢◌, ℕ, zero, suc, ◌+◌, ◌<◌, ◌⊎◌, Bool, true, false, cond, eqb, List, [], ◌∷◌, ◌++◌, All, length, slice_get, Option, Some, pos, negsuc, if◌then◌else◌, inl, inr, arith, refl, sym, ap, subst, ◌∙◌}
+use Rattle.std.proofs.Common.{◌≡◌, ◌≢◌, ℕ, ◌<◌, Bool, true, false, cond, eqb, List, [], ◌∷◌, ◌++◌, length, slice_get, Option, Some, pos, negsuc, if◌then◌else◌, inl, inr, arith, refl, sym, ap, subst, ◌∙◌}
 use Rattle.std.specs.Option.{option_map_or}
 use Rattle.std.specs.declared.cmp.Ordering.{Ordering}
 use Rattle.std.specs.declared.cmp.Ordering.TheVariants.{Less, Equal as Same, Greater}
@@ -8,9 +8,9 @@ use Rattle.std.proofs.lemmas.Bool.{eq-eqb, eqb-true}
 use Rattle.std.proofs.lemmas.Option.{slice_get_cases}
 use Rattle.exact_algebra.specs.Fraction.{rational}
 use Rattle.exact_algebra.specs.Order.{cmp_ℚ}
-use Rattle.exact_algebra.specs.Rational.{ℚ, ◌+ℚ◌, ◌-ℚ◌, ◌*ℚ◌, neg_ℚ, whole, ◌≤ℚ◌}
+use Rattle.exact_algebra.specs.Rational.{ℚ, ◌-ℚ◌, ◌*ℚ◌, neg_ℚ, whole, ◌≤ℚ◌}
 use Rattle.exact_algebra.specs.RationalSums.{sum_ℚ}
-use Rattle.exact_algebra.specs.Solver.{number, negated, ◌⊞◌, ◌⊟◌, ◌⊠◌, v0, v1, v2}
+use Rattle.exact_algebra.specs.Solver.{number, negated, ◌⊟◌, ◌⊠◌, v0, v1, v2}
 use Rattle.exact_algebra.proofs.OrderLaws.{cmp_ℚ-Less, cmp_ℚ-Equal, cmp_ℚ-Greater, le_from_not}
 use Rattle.exact_algebra.proofs.RationalLaws.{ring_ℚ, ≤ℚ_refl}
 use Rattle.exact_algebra.proofs.RationalSumLaws.{sum_ℚ-same, sum_ℚ-scale}
@@ -26,23 +26,22 @@ use Rattle.loss_model.specs.declared.interval.Beyond.{Beyond}
 use Rattle.loss_model.specs.declared.interval.Beyond.TheVariants.{Outside, Ray}
 use Rattle.loss_model.specs.declared.interval.End.{End as Ending}
 use Rattle.loss_model.specs.declared.interval.IntervalProof.{IntervalProof}
-use Rattle.loss_model.specs.Dual.{IsDataRow}
 use Rattle.loss_model.specs.Problem.{value_at, sample}
 use Rattle.loss_model.specs.Sample.{Sample, up_cost, down_cost, fitted, residual}
 use Rattle.loss_model.specs.Strict.{◌<ℚ◌}
 use Rattle.loss_model.specs.Vertex.{dual_value, IsOn}
-use Rattle.rank_law.specs.Restricted.{IsFeasibleWithout, IsProjection, column_sum, projected, rank_bound, rank_statistic, squared_length}
+use Rattle.rank_law.specs.Restricted.{IsFeasibleWithout, column_sum, projected, rank_bound, rank_statistic, squared_length}
 use Rattle.rank_law.specs.Shown.{IsRowAlong, IsStatedRay}
-use Rattle.rank_law.specs.Certified.{AreInOrder, MeetsConditions, MeetsHighBound, MeetsInside, MeetsLowBound, MeetsOutside, bound_of, length_of, row_values}
+use Rattle.rank_law.specs.Certified.{AreInOrder, MeetsConditions, MeetsHighBound, MeetsInside, MeetsLowBound, MeetsOutside, bound_of, length_of}
 use Rattle.cert_checker.specs.Places.{value128}
 use Rattle.cert_checker.specs.Formulas as formula
 use Rattle.cert_checker.specs.Formulas.{Formula, given, worth}
-use Rattle.cert_checker.specs.Tests.{Holds, Part, Test, ArePartsTrue, AreTrue, upto, part, test}
-use Rattle.cert_checker.specs.declared.relation.Relation.TheVariants.{AtMost, AtLeast, Below, Above, Equal}
+use Rattle.cert_checker.specs.Tests.{Holds, Part, ArePartsTrue, AreTrue, part}
+use Rattle.cert_checker.specs.declared.relation.Relation.TheVariants.{Equal}
 use Rattle.cert_checker.specs.declared.way.Way.{Way}
 use Rattle.cert_checker.specs.declared.way.Way.TheVariants.{Low, High}
-use Rattle.cert_checker.specs.Conditions.{End, side_in, up_formula, down_formula, dual_at_row, balance, bound_parts, residual_formula}
-use Rattle.cert_checker.specs.Intervals.{along_formula, balance_parts, basic_parts, beyond_tests, data_parts, end_form, end_tests, finite_tests, infinite_tests, inside_tests, interval_form, interval_tests, level_parts, order_tests, orthogonal_formula, others, projected_formula, question_of, Question, rank_bound_formula, ray_parts, ray_parts_by, side_parts, sign_of, square_formula, unit_of, values_of, weighted, whole_tests, within_parts}
+use Rattle.cert_checker.specs.Conditions.{End, side_in, dual_at_row, balance, bound_parts, residual_formula}
+use Rattle.cert_checker.specs.Intervals.{along_formula, balance_parts, basic_parts, beyond_tests, data_parts, end_form, end_tests, finite_tests, infinite_tests, inside_tests, interval_form, interval_tests, order_tests, orthogonal_formula, others, projected_formula, question_of, Question, rank_bound_formula, ray_parts, ray_parts_by, side_parts, sign_of, square_formula, unit_of, values_of, weighted, whole_tests, within_parts}
 use Rattle.cert_law.specs.Sound.{IsSoundEnding, IsSoundInterval}
 use Rattle.cert_checker.proofs.Decided.{joined, parts_joined}
 use Rattle.cert_checker.proofs.Shown.{row_dual}

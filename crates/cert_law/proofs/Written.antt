@@ -1,6 +1,6 @@
 -- The certificate of a right fit is sound, within the limits, and passes.
-use Rattle.std.proofs.Common.{◌≡◌, ◌<◌, ◌≤◌, ◌+◌, ◌*◌, ◌^◌, ℕ, zero, suc, List, [], ◌∷◌, ◌++◌, All, Option, Some, None, Ok, Err, flat_map, is_some, length, map, option_map, pos, slice_index, arith, refl, sym, ap, subst, ◌∙◌}
-use Rattle.std.specs.List.{AllZip, range_with_len}
+use Rattle.std.proofs.Common.{◌≡◌, ◌≤◌, ◌*◌, ◌^◌, ℕ, List, [], ◌∷◌, ◌++◌, All, Option, Some, None, length, map, option_map, pos, slice_index, arith, refl, sym, ap, subst, ◌∙◌}
+use Rattle.std.specs.List.{range_with_len}
 use Rattle.std.proofs.lemmas.List.{length-append, length-map}
 use Rattle.std.proofs.lemmas.List.FromFn.{length-range_with_len}
 use Rattle.std.proofs.lemmas.List.Elements.{All-cons, All-nil}
@@ -14,7 +14,6 @@ use Rattle.loss_model.specs.declared.interval.Beyond.{Beyond}
 use Rattle.loss_model.specs.declared.interval.Beyond.TheVariants.{Outside, Ray}
 use Rattle.loss_model.specs.declared.interval.End.{End}
 use Rattle.loss_model.specs.declared.interval.Interval.{Interval}
-use Rattle.loss_model.specs.declared.interval.IntervalProof.{IntervalProof}
 use Rattle.loss_model.specs.declared.problem.Problem.{Problem}
 use Rattle.loss_model.specs.declared.process.Segment.{Segment}
 use Rattle.loss_model.specs.declared.vertex.Vertex.{Vertex}
@@ -23,18 +22,14 @@ use Rattle.pivot_rule.specs.declared.direction.Direction.{Direction}
 use Rattle.pivot_rule.specs.Duals.{HasCosts}
 use Rattle.pivot_rule.specs.Trails.{AtBasis}
 use Rattle.rank_walk.specs.Ends.{IsEndAt, IsHandedOut}
-use Rattle.rank_walk.specs.Intervals.{IsIntervalOf}
 use Rattle.rank_walk.specs.RankWalks.{Way}
 use Rattle.rank_inversion.specs.declared.column_test.Asked.{Asked}
-use Rattle.cert_text.specs.Certificates.{cert_of}
-use Rattle.cert_text.specs.Contents.{content}
 use Rattle.cert_text.specs.Laws.{SameContent}
 use Rattle.cert_text.specs.Limits.{IsWithinLimits}
 use Rattle.cert_text.specs.Trees.{cert_text}
 use Rattle.cert_text.specs.declared.cert.Cert.{Cert}
 use Rattle.cert_checker.specs.Certificates.{tests}
 use Rattle.cert_checker.specs.Intervals.{beyond_list}
-use Rattle.cert_checker.specs.Places.{value128}
 use Rattle.cert_checker.specs.Tests.{Part, Test, ArePartsTrue, AreTrue, Holds}
 use Rattle.cert_checker.specs.Verdicts.{IsFirstFalse}
 use Rattle.cert_checker.specs.Formulas.{worth}
@@ -53,9 +48,8 @@ use Rattle.report_text.specs.declared.report.Halt.{Halt}
 use Rattle.report_text.specs.declared.report.Halt.TheVariants.{Refused, OutOfMemory, PivotLimit, Overflow, Rejected, NotBuilt}
 use Rattle.rq_input.specs.Rows.{HasRows}
 use Rattle.rq_input.specs.declared.input.Input.{Input}
-use Rattle.rq_engine.specs.Answers.{HasCause, IsCertified, IsFitOf, IsRight}
+use Rattle.rq_engine.specs.Answers.{HasCause, IsCertified, IsRight}
 use Rattle.rq_engine.specs.Built.{IsJobOf}
-use Rattle.rq_engine.specs.Certificates.{IsCertificateOf}
 use Rattle.rq_engine.specs.Checks.{IsCertOf}
 use Rattle.rq_engine.specs.Fit.{IsRightFit, IsRightSegment}
 use Rattle.rq_engine.specs.Intervals.{AreRightIntervals, IsRightInterval, asked_at, asked_by, asked_over}

@@ -5,8 +5,8 @@
 //! does; each has a module of its own.
 //!
 //! It stands on `rq_input` for what the bytes say, on `tau_process` for the segments and the trail, on
-//! `rankscores`, on `rank_inversion` for rank intervals, and on `report_text` for the types that it answers
-//! with.
+//! `rankscores`, on `rank_inversion` for rank intervals, on `cert_text` and `cert_checker` for certificates,
+//! and on `report_text` for the types that it answers with.
 //! Its tests are those of whole runs, in the crate `run_tests`.
 #![tactic(auto)]
 
