@@ -1,9 +1,10 @@
 -- What stands at a basis on a walk, and what is found and handed out there.
-use Rattle.std.specs.Prelude.{◌≡◌, ◌≢◌, ◌⊎◌, ◌↔◌, ℕ, ◌<◌, Bool, true, false, List, [], ◌∷◌, length, slice_index, Contains, get_or, Option, Some, None, pos}
+use Rattle.std.specs.Prelude.{◌≡◌, ◌≢◌, ◌⊎◌, ◌↔◌, ℕ, ◌+◌, ◌<◌, ◌≤◌, ◌++◌, Bool, true, false, List, [], ◌∷◌, length, slice_index, Contains, get_or, Option, Some, None, pos}
 use Rattle.std.specs.List.Sorted.{IsStrictlyIncreasing}
 use Rattle.std.specs.Ordering.{is_gt}
 use Rattle.std.specs.declared.cmp.Ordering.{Ordering}
 use Rattle.std.proofs.Common.{refl, sym, ap, ap₂, subst, ◌∙◌, inl, inr, arith}
+use Rattle.std.proofs.lemmas.Bool.{cases_lt}
 use Rattle.exact_algebra.specs.Fraction.{Fraction, rational}
 use Rattle.exact_algebra.specs.Solver.{negated, ◌⊠◌, v0}
 use Rattle.exact_algebra.specs.Rational.{ℚ, ◌-ℚ◌, ◌*ℚ◌, inverse, whole, ◌≤ℚ◌}
@@ -42,7 +43,7 @@ use Rattle.fraction_tableau.specs.Lines.{IsOrderSpill}
 use Rattle.fraction_tableau.specs.Standing.{Stands}
 use Rattle.fraction_tableau.proofs.Crossed.{above_test}
 use Rattle.fraction_tableau.proofs.Inverses.{basis_of}
-use Rattle.fraction_tableau.proofs.Lists.{value_read}
+use Rattle.fraction_tableau.proofs.Lists.{value_front, value_end, value_read}
 use Rattle.fraction_tableau.proofs.NextSteps.{standing_by}
 use Rattle.fraction_tableau.proofs.Places.{kept_is_place}
 use Rattle.fraction_tableau.proofs.Vertices.{is_vertex}
@@ -76,6 +77,17 @@ not_above_by x y b e h = by (decide x y)
     by : (x ≤ℚ y) ⊎ ¬ (x ≤ℚ y) → x ≤ℚ y
     by (inl k) = k
     by (inr k) = absurd (cc (sym ((above_test x y).1 k) ∙ (sym e ∙ h)))
+
+-- one more value at the end of a list
+pub list_more : {F : Type 0} (value : F → Fraction) (xs ys : List F) (x : F) (n : ℕ) (want : ℕ → ℚ) → ys ≡ xs ++ x ∷ [] → length xs ≡ n
+    → ((j : ℕ) → j < n → value_at value xs j ≡ want j) → rational (value x) ≡ want n → (j : ℕ) → j < n + 1 → value_at value ys j ≡ want j
+list_more {F} value xs ys x n want same size each last j lj = ap (λ (l : List F). value_at value l j) same ∙ by (cases_lt j n)
+  where
+    by : (j < n) ⊎ (n ≤ j) → value_at value (xs ++ x ∷ []) j ≡ want j
+    by (inl l) = value_front value xs x j (omega (arith, l, size)) ∙ each j l
+    by (inr past) =
+        let here : j ≡ n = omega (arith, lj, past) in
+        ap (value_at value (xs ++ x ∷ [])) (here ∙ sym size) ∙ value_end value xs x ∙ last ∙ ap want (sym here)
 
 -- a breakpoint has a position, and the first row that moves there makes a step
 break_within : (way : Way) (p : Sample) (j : ℕ) (tau : ℚ) (at : ℕ → ℕ) (a : ℕ → ℕ → ℚ) (from t : ℚ) (k : ℕ) (d : Direction) → IsNextBreak (tested way p tau j) at a from t k d → k < p.columns

@@ -111,23 +111,23 @@ impl<'a, F: Exact> Station<'a, F> {
     }
 }
 
-/// The dual values at tau by position, from a basic solution.
+/// The dual values at the quantile of a walk by position, from a basic solution.
 fn duals_of<F: Exact>(
     alloc: Global,
     solution: &BasicSolution<F>,
-    tau: F,
+    course: Course<F>,
 ) -> Result<List<F>, Short<F>>
     requires same { length solution.now.linear ≡ length solution.now.constant }
     requires few { length solution.now.constant ≤ most_columns }
     ensures size { IfOk result (λ made. length made ≡ length solution.now.constant) }
-    ensures each { IfOk result (λ made. (j : ℕ) → j < length solution.now.constant → value_at F.value made j ≡ value_at F.value solution.now.constant j +ℚ (value_at F.value solution.now.linear j *ℚ rational (F.value tau))) }
-    ensures spill { IfErr result (IsShortOf (IsDualFault F.value F.range (length solution.now.constant) (value_at F.value solution.now.constant) (value_at F.value solution.now.linear) (rational (F.value tau)))) }
+    ensures each { IfOk result (λ made. (j : ℕ) → j < length solution.now.constant → value_at F.value made j ≡ value_at F.value solution.now.constant j +ℚ (value_at F.value solution.now.linear j *ℚ rational (F.value course.tau))) }
+    ensures spill { IfErr result (IsShortOf (IsDualFault F.value F.range (length solution.now.constant) (value_at F.value solution.now.constant) (value_at F.value solution.now.linear) (rational (F.value course.tau)))) }
 {
     duals_at(
         alloc,
         solution.constant.as_slice(),
         solution.linear.as_slice(),
-        tau,
+        course.tau,
     )
 }
 
@@ -143,7 +143,7 @@ pub fn look<'a, F: Exact>(
     ensures spill { IfErr result (IsShortOf (IsSpillAt F.value F.range tableau.now course from)) }
 {
     let solution = tableau.solution()?;
-    let duals = duals_of(tableau.alloc(), &solution, course.tau)?;
+    let duals = duals_of(tableau.alloc(), &solution, course)?;
     let station = Station {
         tableau,
         solution,
