@@ -118,7 +118,8 @@ sound_intervals p limit (a ∷ others) (r ∷ rs) h =
 asked_count : (crit : Frac128) (n : ℕ) (taus : List Frac128) → n ≤ 128 → length (asked_over crit n taus) ≤ 128 * length taus
 asked_count crit n [] few = omega arith
 asked_count crit n (tau ∷ taus) few =
-    omega (arith, few, asked_count crit n taus few, length-append (asked_at crit n tau) (asked_over crit n taus), length-map (range_with_len 0 n) (λ (j : ℕ). record { column = j; tau = tau; crit = crit }), length-range_with_len 0 n)
+    let made : length (asked_at crit n tau) ≡ length (range_with_len 0 n) = length-map (range_with_len 0 n) _ in
+    omega (arith, few, made, asked_count crit n taus few, length-append (asked_at crit n tau) (asked_over crit n taus), length-range_with_len 0 n)
 
 module _ (words : List (List ℕ)) (job : FitJob) (asked : IsJobOf words (jobs.Certify job)) where
   few_asked : (n : ℕ) → n ≤ 128 → (rank : Option RankAsk) → job.rank ≡ rank → length (asked_by rank n) ≤ 8192
@@ -199,7 +200,7 @@ module _ (same : SameContent) (cert : Cert) (back : IsCertOf (cert_text cert) ce
   same_cert other h = same other cert (cc (sym h ∙ back))
 
   one_report : (report : Report) → IsRight jobs.Check (cert_text cert) report → report ≡ reports.Checked cert
-  one_report (reports.Process fit) h = absurd h
+  one_report (reports.Process found) h = absurd h
   one_report (reports.Ranks ranks) h = absurd h
   one_report (reports.Certificate other) h = absurd h
   one_report (reports.Checked other) h = ap (λ c. reports.Checked c) (same_cert other h.is)
@@ -223,8 +224,8 @@ module _ (same : SameContent) (cert : Cert) (back : IsCertOf (cert_text cert) ce
   undecided (NotBuilt part) h = absurd h
 
 pub written : SameContent → (words : List (List ℕ)) (job : FitJob) (bytes : List ℕ) (cert : Cert) → IsJobOf words (jobs.Certify job) → IsRight (jobs.Certify job) bytes (reports.Certificate cert) → Passes cert
-written same words job bytes cert asked (found, written) =
-    let within = is_within words job asked found.0 cert found.2 written.short in
-    let back = written.back within in
-    let sound = all_true cert (is_sound words job asked found.0 cert found.2) in
+written same words job bytes cert asked right =
+    let within = is_within words job asked right.0.0 cert right.0.2 right.1.short in
+    let back = right.1.back within in
+    let sound = all_true cert (is_sound words job asked right.0.0 cert right.0.2) in
     record { within = within; back = back; sound = sound; report = one_report same cert back sound; halt = undecided same cert back sound }

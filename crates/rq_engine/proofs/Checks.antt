@@ -1,4 +1,4 @@
--- A certificate that was read is within the limits.
+-- A certificate that was read is within the limits; why it has no verdict.
 use Rattle.std.proofs.Common.{◌≡◌, ◌==◌, ◌||◌, ◌<◌, ◌≤◌, ◌^◌, ℕ, Bool, true, false, List, Ok, Err, length, map, nat_lt, if◌then◌else◌, arith, refl, ap, subst, ◌∙◌}
 use Rattle.std.proofs.lemmas.Bool.{ltb-false}
 use Rattle.std.proofs.lemmas.List.{length-map}
@@ -10,6 +10,10 @@ use Rattle.cert_text.specs.Limits.{IsWithinLimits, most_intervals, most_segments
 use Rattle.cert_text.specs.Reading.{Reading, on_read, or_shape}
 use Rattle.cert_text.specs.declared.cert.Cert.{Cert}
 use Rattle.cert_text.specs.declared.fault.CertFault.{CertFault}
+use Rattle.cert_checker.specs.Certificates.{IsStop}
+use Rattle.cert_checker.specs.declared.verdict.CheckStop.{CheckStop}
+use Rattle.cert_checker.specs.declared.verdict.CheckStop.TheVariants as stops
+use Rattle.rq_engine.specs.Checks.{HasCheckCause, IsCertOf, check_halt}
 use Rattle.cert_text.specs.declared.fault.CertFault.TheVariants.{Version, TooLarge}
 
 -- what was read was read step by step
@@ -52,3 +56,8 @@ read_within bytes cert h =
       segments = omega (arith, ltb-false most_segments (length c.segments) segments.0, length-map cert.segments exact_segment);
       intervals = omega (arith, ltb-false most_intervals (length c.intervals) segments.1, length-map cert.intervals exact_interval);
     }
+
+-- why there is no verdict
+pub stop_cause : (bytes : List ℕ) (cert : Cert) → IsCertOf bytes cert → (stop : CheckStop) → IsStop cert stop → HasCheckCause bytes (check_halt stop)
+stop_cause bytes cert is stops.OutOfMemory h = tt
+stop_cause bytes cert is (stops.Overflow spill) h = (refl, record { cert = cert; is = is; operation = h })

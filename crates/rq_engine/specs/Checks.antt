@@ -9,6 +9,8 @@ use Rattle.cert_text.specs.declared.cert.Cert.{Cert}
 use Rattle.cert_text.specs.declared.fault.CertFault.TheVariants as faults
 use Rattle.cert_checker.specs.Certificates.{tests, IsVerdict}
 use Rattle.cert_checker.specs.Verdicts.{IsFirstFalse, IsTestSpill}
+use Rattle.cert_checker.specs.declared.verdict.CheckStop.{CheckStop}
+use Rattle.cert_checker.specs.declared.verdict.CheckStop.TheVariants as stops
 use Rattle.cert_checker.specs.declared.verdict.Rejection.{Rejection}
 use Rattle.cert_checker.specs.declared.verdict.Verdict.TheVariants.{Accepted}
 use Rattle.report_text.specs.declared.report.Place.TheVariants as places
@@ -40,6 +42,11 @@ pub record LacksVerdict (bytes : List ℕ) (spill : Spill Frac128) : Type 0 wher
 -- where nothing was solved there is no trail
 abbrev pub no_trail : Trail Frac128
 no_trail = record { start = []; steps = []; rise = []; fall = [] }
+
+-- the halt of a check that has no verdict
+abbrev pub check_halt : CheckStop → Halt
+check_halt stops.OutOfMemory = OutOfMemory
+check_halt (stops.Overflow spill) = Overflow places.Check no_trail spill
 
 -- why there is no verdict of acceptance: the first fault of the bytes, a rejection, or an operation that overflows. Want of
 -- memory is free of a cause

@@ -1,6 +1,6 @@
 //! The job `check`: the certificate that the bytes are, and all its conditions.
 ghost use Rattle.std.specs.Prelude.{◌≡◌, IfOk, IfErr};
-ghost use Rattle.rq_engine.specs.Checks.{HasCheckCause, IsCheckedOf, no_trail as no_trail_of};
+ghost use Rattle.rq_engine.specs.Checks.{HasCheckCause, IsCheckedOf, check_halt as check_halt_of, no_trail as no_trail_of};
 
 use cert_checker::{CheckStop, Verdict, check};
 use cert_text::{Cert, CertFault, read_cert};
@@ -21,6 +21,20 @@ fn no_trail(alloc: Global) -> Trail<Frac128>
     }
 }
 
+// The halt of a check that has no verdict.
+fn check_halt(alloc: Global, stop: CheckStop) -> Halt
+    ensures { result ≡ check_halt_of stop }
+{
+    match stop {
+        CheckStop::OutOfMemory => Halt::OutOfMemory,
+        CheckStop::Overflow(spill) => Halt::Overflow {
+            place: Place::Check,
+            trail: no_trail(alloc),
+            spill,
+        },
+    }
+}
+
 /// The certificate that the bytes are, if all its conditions are true.
 ///
 /// `Refused` is the first fault of the bytes as a certificate. `Rejected` has the first test that is false,
@@ -34,14 +48,12 @@ pub(crate) fn check_bytes(alloc: Global, bytes: &[u8]) -> Result<Cert, Halt>
         Err(CertFault::OutOfMemory) => return Err(Halt::OutOfMemory),
         Err(fault) => return Err(Halt::Refused(Refusal::Certificate(fault))),
     };
-    match check(&cert) {
-        Ok(Verdict::Accepted) => Ok(cert),
-        Ok(Verdict::Rejected(rejection)) => Err(Halt::Rejected(rejection)),
-        Err(CheckStop::OutOfMemory) => Err(Halt::OutOfMemory),
-        Err(CheckStop::Overflow(spill)) => Err(Halt::Overflow {
-            place: Place::Check,
-            trail: no_trail(alloc),
-            spill,
-        }),
+    let verdict = match check(&cert) {
+        Ok(verdict) => verdict,
+        Err(stop) => return Err(check_halt(alloc, stop)),
+    };
+    match verdict {
+        Verdict::Accepted => Ok(cert),
+        Verdict::Rejected(rejection) => Err(Halt::Rejected(rejection)),
     }
 }

@@ -5,10 +5,10 @@ pub returns-in-Err-clause-cause : goal.returns-in-Err-clause-cause
 returns-in-Err-clause-cause c = problem_certified c.args.job.now c.args.input c.in-Err.halt c.in-Err.ensures.cause
 
 pub cert_of_fit-requires-clause-listed : goal.cert_of_fit-requires-clause-listed
-cert_of_fit-requires-clause-listed c κs = fit_listed c.args.job.now c.in-Ok.fit c.in-Ok.ensures.right.right
+cert_of_fit-requires-clause-listed c = fit_listed c.args.job.now c.in-Ok.fit c.in-Ok.ensures.right.right
 
 pub cert_of_fit-requires-clause-ended : goal.cert_of_fit-requires-clause-ended
-cert_of_fit-requires-clause-ended c κs = fit_ended c.args.job.now c.in-Ok.fit c.in-Ok.ensures.right.right
+cert_of_fit-requires-clause-ended c = fit_ended c.args.job.now c.in-Ok.fit c.in-Ok.ensures.right.right
 
 pub returns-in-Err-test_length-clause-cause : goal.returns-in-Err-test_length-clause-cause
 returns-in-Err-test_length-clause-cause c =

@@ -1,11 +1,15 @@
-use Rattle.rq_engine.proofs.Checks.{read_within}
+use Rattle.std.proofs.Common.{subst}
+use Rattle.cert_checker.specs.Certificates.{IsVerdict}
+use Rattle.rq_engine.proofs.Checks.{read_within, stop_cause}
 use Rattle.rq_engine.proofs.check.check_bytes.Goals as goal
 
 pub check-requires : goal.check-requires
 check-requires c = read_within c.args.bytes.now c.in-Ok.cert c.in-Ok.ensures.ok
 
-pub returns-in-Ok-Rejected-clause-cause : goal.returns-in-Ok-Rejected-clause-cause
-returns-in-Ok-Rejected-clause-cause c = record { cert = c.in-Ok.cert; is = c.in-Ok.ensures.ok; first = c.in-Ok-Rejected.ensures.verdict }
+pub returns-in-Err-check-clause-cause : goal.returns-in-Err-check-clause-cause
+returns-in-Err-check-clause-cause c =
+    rw c.check_halt.ensures (stop_cause c.args.bytes.now c.in-Ok.cert c.in-Ok.ensures.ok c.in-Err-check.stop c.in-Err-check.ensures.stop)
 
-pub returns-clause-cause : goal.returns-clause-cause
-returns-clause-cause c = (c.no_trail.ensures, record { cert = c.in-Ok.cert; is = c.in-Ok.ensures.ok; operation = c.in-Err-Overflow.ensures.stop })
+pub returns-in-Rejected-clause-cause : goal.returns-in-Rejected-clause-cause
+returns-in-Rejected-clause-cause c =
+    record { cert = c.in-Ok.cert; is = c.in-Ok.ensures.ok; first = subst (IsVerdict c.in-Ok.cert) c.in-Rejected.is c.in-Ok-check.ensures.verdict }
