@@ -9,7 +9,7 @@ use Rattle.cert_checker.specs.Tests.{Part, Test, ArePartsTrue, AreTrue, part_ope
 use Rattle.cert_checker.specs.Verdicts.{DecidesParts, Decides}
 use Rattle.cert_checker.specs.declared.place.Place.{Place}
 use Rattle.cert_checker.specs.declared.verdict.Failure.{Failure}
-use Rattle.cert_checker.specs.declared.verdict.Failure.TheVariants.{OutOfMemory, Rejected, Overflow}
+use Rattle.cert_checker.specs.declared.verdict.Failure.TheVariants.{Rejected, Overflow}
 use Rattle.cert_checker.proofs.Spilled.{front_among, later_among}
 
 -- ---- comparisons
@@ -30,7 +30,6 @@ length_joined xs ys = ap length (operations_joined xs ys) ∙ length-append (par
 
 module _ (at : Place) where
   pub front_parts : (done : ℕ) (xs ys : List Part) (e : Failure) → DecidesParts at done xs (Err e) → DecidesParts at done (xs ++ ys) (Err e)
-  front_parts done xs ys OutOfMemory h = tt
   front_parts done xs ys (Rejected r) h =
       record {
         before = h.before;
@@ -50,7 +49,6 @@ module _ (at : Place) where
       (front_among (site_of at) s (done + 1) (part_operations xs) (part_operations ys) h)
 
   pub later_parts : (done n : ℕ) (xs ys : List Part) (e : Failure) → DecidesParts at done xs (Ok n) → DecidesParts at n ys (Err e) → DecidesParts at done (xs ++ ys) (Err e)
-  later_parts done n xs ys OutOfMemory k h = tt
   later_parts done n xs ys (Rejected r) k h =
       record {
         before = xs ++ h.before;
@@ -80,7 +78,6 @@ joined [] ys h k = k
 joined (x ∷ xs) ys h k = (h.0, joined xs ys h.1 k)
 
 pub front : (xs ys : List Test) (e : Failure) → Decides xs (Err e) → Decides (xs ++ ys) (Err e)
-front xs ys OutOfMemory h = tt
 front xs ys (Rejected r) h =
     record {
       before = h.before;
@@ -101,7 +98,6 @@ front xs ys (Overflow s) h =
     }
 
 pub later : (xs ys : List Test) (e : Failure) → AreTrue xs → Decides ys (Err e) → Decides (xs ++ ys) (Err e)
-later xs ys OutOfMemory k h = tt
 later xs ys (Rejected r) k h =
     record {
       before = xs ++ h.before;
@@ -190,7 +186,6 @@ module _ (at : Place) where
   parts_fit f done m i n l e h = let k = length_at at f i n l in omega (arith, e, h, k)
 
   pub of_parts : (ps : List Part) (e : Failure) → DecidesParts at 0 ps (Err e) → Decides (record { place = at; parts = ps } ∷ []) (Err e)
-  of_parts ps OutOfMemory h = tt
   of_parts ps (Rejected r) h = record { before = []; test = record { place = at; parts = ps }; after = []; tests = refl; earlier = tt; refused = h }
   of_parts ps (Overflow s) h = record { before = []; test = record { place = at; parts = ps }; after = []; tests = refl; earlier = tt; spill = h }
 

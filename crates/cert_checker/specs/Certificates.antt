@@ -73,7 +73,8 @@ module _ (c : Cert) where
   IsVerdict Accepted = AreTrue tests × IsShown
   IsVerdict (Rejected r) = IsFirstFalse tests r
 
-  -- why there is none: want of memory, or an operation of a test that overflows, before which all are true
+  -- why there is none: an operation of a test overflows, before which all are true; want of memory never
+  -- comes, for no memory is taken
   abbrev pub IsStop : CheckStop → Type 0
-  IsStop OutOfMemory = Unit {0}
+  IsStop OutOfMemory = ⊥
   IsStop (Overflow s) = IsTestSpill tests s

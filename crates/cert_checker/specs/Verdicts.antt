@@ -11,7 +11,7 @@ use Rattle.cert_checker.specs.Tests.{Part, Holds, Test, ArePartsTrue, AreTrue, p
 use Rattle.cert_checker.specs.declared.place.Place.{Place}
 use Rattle.cert_checker.specs.declared.verdict.Rejection.{Rejection}
 use Rattle.cert_checker.specs.declared.verdict.Failure.{Failure}
-use Rattle.cert_checker.specs.declared.verdict.Failure.TheVariants.{OutOfMemory, Rejected, Overflow}
+use Rattle.cert_checker.specs.declared.verdict.Failure.TheVariants.{Rejected, Overflow}
 
 -- the first comparison that is false, with its two sides
 pub record IsRefused (at : Place) (ps : List Part) (r : Rejection) : Type 0 where
@@ -48,13 +48,11 @@ pub record IsTestSpill (ts : List Test) (s : Spill Frac128) : Type 0 where
 -- what the comparisons of a test come to, before which so many of its operations are done
 abbrev pub DecidesParts : Place → ℕ → List Part → Result ℕ Failure → Type 0
 DecidesParts at done ps (Ok n) = ArePartsTrue ps × (n ≡ done + length (part_operations ps))
-DecidesParts at done ps (Err OutOfMemory) = Unit {0}
 DecidesParts at done ps (Err (Rejected r)) = IsRefused at ps r
 DecidesParts at done ps (Err (Overflow s)) = IsAmong value128 range128 (site_of at) (done + 1) (part_operations ps) s
 
 -- what tests come to
 abbrev pub Decides : List Test → Result ⊤ Failure → Type 0
 Decides ts (Ok _) = AreTrue ts
-Decides ts (Err OutOfMemory) = Unit {0}
 Decides ts (Err (Rejected r)) = IsFirstFalse ts r
 Decides ts (Err (Overflow s)) = IsTestSpill ts s

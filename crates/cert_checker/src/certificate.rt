@@ -158,12 +158,12 @@ fn decide_all(cert: &Cert) -> Result<(), Failure>
     decide_later(cert)
 }
 
-/// Tests the nine conditions on a certificate in their order: that the lists are as long as the problem
-/// wants them, that no cost is negative at the ends of the range, that the segments lie side by side from
-/// `lo` to `hi`, that the basic dual values are within the costs and all dual values orthogonal to each
-/// column at both ends of each segment, that the losses are those of the coefficients and what the dual
-/// values come to, that every row has one dual value where two segments meet, and that each rank interval
-/// has a projection and ends with dual values on either side of its bound.
+/// Tests the nine conditions on a certificate that is within the limits of `read_cert`, in their order: that
+/// the lists are as long as the problem wants them, that no cost is negative at the ends of the range, that
+/// the segments lie side by side from `lo` to `hi`, that the basic dual values are within the costs and all
+/// dual values orthogonal to each column at both ends of each segment, that the losses are those of the
+/// coefficients and what the dual values come to, that every row has one dual value where two segments meet,
+/// and that each rank interval has a projection and ends with dual values on either side of its bound.
 ///
 /// `Accepted` says that all of them hold, and that so, whoever wrote the certificate, the segments cover the
 /// range, with dual values of equal cost at both ends of each, so that the coefficients of a segment
@@ -181,6 +181,5 @@ pub fn check(cert: &Cert) -> Result<Verdict, CheckStop>
         Ok(()) => Ok(Verdict::Accepted),
         Err(Failure::Rejected(rejection)) => Ok(Verdict::Rejected(rejection)),
         Err(Failure::Overflow(spill)) => Err(CheckStop::Overflow(spill)),
-        Err(Failure::OutOfMemory) => Err(CheckStop::OutOfMemory),
     }
 }

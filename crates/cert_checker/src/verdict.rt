@@ -1,5 +1,5 @@
 //! What a certificate is found to be.
-use frac_core::{Frac128, OutOfMemory};
+use frac_core::Frac128;
 use loss_model::Spill;
 
 /// Whether all conditions on a certificate are true.
@@ -20,7 +20,8 @@ pub struct Rejection {
     pub right: Frac128,
 }
 
-/// Why there is no verdict: want of memory, or an operation of a test that overflows.
+/// Why there is no verdict: want of memory, which no condition takes yet, or an operation of a test that
+/// overflows.
 #[derive(Clone, Copy, Debug, PartialEq, Eq)]
 pub enum CheckStop {
     OutOfMemory,
@@ -30,7 +31,6 @@ pub enum CheckStop {
 /// Why a test is not found to be true.
 #[derive(Clone, Copy)]
 pub(crate) enum Failure {
-    OutOfMemory,
     Rejected(Rejection),
     Overflow(Spill<Frac128>),
 }
@@ -43,16 +43,5 @@ impl From<Spill<Frac128>> for Failure {
 
     fn from(spill: Spill<Frac128>) -> Failure {
         Failure::Overflow(spill)
-    }
-}
-
-impl From<OutOfMemory> for Failure {
-    ghost use Rattle.std.specs.Prelude.{◌≡◌};
-    ghost use Rattle.cert_checker.specs.declared.verdict.Failure.TheVariants.{OutOfMemory};
-
-    ghost from_gives = { λ _ failure. failure ≡ OutOfMemory };
-
-    fn from(_: OutOfMemory) -> Failure {
-        Failure::OutOfMemory
     }
 }

@@ -54,6 +54,20 @@ fn sink(alloc: Global, room: usize, fails: &[u32]) -> Result<MemSink, Fail> {
     Ok(MemSink::new(alloc, room, 5, fails)?)
 }
 
+/// A run of the words over a source, with these sinks.
+pub(crate) fn ran_into<R: Threads + Sync, S: Source>(
+    rt: &R,
+    alloc: Global,
+    line: &str,
+    source: &mut S,
+    mut out: MemSink,
+    mut err: MemSink,
+) -> Result<Left, Fail> {
+    let words = words_of(alloc, line)?;
+    let status = status_of(rt, alloc, &words, source, &mut out, &mut err);
+    left_on(alloc, status, &out, &err)
+}
+
 // The run and its status. It has no clause: a test compares what is left, and needs nothing of what is
 // proved.
 fn status_of<R: Threads + Sync, S: Source>(
@@ -85,11 +99,9 @@ pub(crate) fn ran<R: Threads + Sync, S: Source>(
     source: &mut S,
     outputs: &Outputs,
 ) -> Result<Left, Fail> {
-    let words = words_of(alloc, line)?;
-    let mut out = sink(alloc, outputs.room, outputs.writes)?;
-    let mut err = sink(alloc, 4096, outputs.tellings)?;
-    let status = status_of(rt, alloc, &words, source, &mut out, &mut err);
-    left_on(alloc, status, &out, &err)
+    let out = sink(alloc, outputs.room, outputs.writes)?;
+    let err = sink(alloc, 4096, outputs.tellings)?;
+    ran_into(rt, alloc, line, source, out, err)
 }
 
 /// A run of the words on a table, where nothing fails.

@@ -8,6 +8,8 @@ mod formulas;
 #[cfg(test)]
 mod helpers;
 #[cfg(test)]
+mod hostile;
+#[cfg(test)]
 mod intervals;
 #[cfg(test)]
 mod medians;

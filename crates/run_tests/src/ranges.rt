@@ -50,6 +50,23 @@ fn the_limit_counts_all_pivots(rt: HostRuntime) -> Result<(), Fail> {
     Ok(())
 }
 
+// Three rows of one column have three bases: a limit of twice the other two stops nothing.
+#[test]
+fn limits_about_the_number_of_bases(rt: HostRuntime) -> Result<(), Fail> {
+    let (table, report) = COLUMNS[0];
+    let bases = "process|--formula|y ~ 1|--lo|0|--hi|1|--pivots|4";
+    let left = ran_on(&rt, rt.alloc(), bases, table.as_bytes())?;
+    assert_printed(&rt, &left, report, bases);
+    let none = "process|--formula|y ~ 1|--lo|0|--hi|1|--pivots|0";
+    let left = ran_on(&rt, rt.alloc(), none, table.as_bytes())?;
+    let told = "quantreg: solver: PivotLimit place=process limit=0\n";
+    assert_refused(&rt, &left, 6, told, none);
+    let (single, alone) = COLUMNS[2];
+    let left = ran_on(&rt, rt.alloc(), none, single.as_bytes())?;
+    assert_printed(&rt, &left, alone, none);
+    Ok(())
+}
+
 static LINE: &str = "y,x\n0,0\n2,1\n3,3\n";
 
 // Each case: the range, and the report of a line through two of three points. At 3/5, where the fit

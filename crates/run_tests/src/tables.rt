@@ -78,7 +78,7 @@ fn responses_are_read_from_tables(rt: HostRuntime) -> Result<(), Fail> {
 }
 
 // Each case: the table, and the line.
-static FAULTS: [(&[u8], &str); 16] = [
+static FAULTS: [(&[u8], &str); 17] = [
     (b"", "quantreg: table: NoHeader\n"),
     (b"\n\r\n", "quantreg: table: NoHeader\n"),
     (
@@ -101,6 +101,10 @@ static FAULTS: [(&[u8], &str); 16] = [
     // A factor, and a number that is too wide.
     (b"y\n1\na\n", "quantreg: design: ResponseNotNumeric\n"),
     (b"y\n--1\n", "quantreg: design: ResponseNotNumeric\n"),
+    (
+        b"y\n1e99999999999999999999\n",
+        "quantreg: design: NumberTooWide record=1 column=y\n",
+    ),
     (
         b"y\n2e38\n",
         "quantreg: design: NumberTooWide record=1 column=y\n",
@@ -150,14 +154,21 @@ fn models_of_tables_are_told(rt: HostRuntime) -> Result<(), Fail> {
 }
 
 // Each case: what stands first, a piece and how often it follows, the exit status, and the line.
-static LARGE: [(&str, &str, usize, u8, &str); 6] = [
+static LARGE: [(&str, &str, usize, u8, &str); 8] = [
     ("", ",", 1024, 1, "quantreg: table: TooManyColumns\n"),
     ("", ",", 1023, 1, "quantreg: table: EmptyName column=2\n"),
     ("y\n", "1\n", 16_385, 1, "quantreg: table: TooManyRows\n"),
     ("y\n", "1\n", 1001, 0, ""),
     ("y\n", "1\n2\n", 8192, 0, ""),
     ("y\n1\n", "NA\n", 16_383, 0, ""),
+    // 2^26 + 1 bytes, and 2^26.
+    ("y", SPACE, 1_048_576, 1, "quantreg: input: TooLong\n"),
+    ("", SPACE, 1_048_576, 1, "quantreg: table: NoHeader\n"),
 ];
+
+// 64 ends of lines.
+static SPACE: &str =
+    "\n\n\n\n\n\n\n\n\n\n\n\n\n\n\n\n\n\n\n\n\n\n\n\n\n\n\n\n\n\n\n\n\n\n\n\n\n\n\n\n\n\n\n\n\n\n\n\n\n\n\n\n\n\n\n\n\n\n\n\n\n\n\n\n";
 
 fn repeated(alloc: Global, first: &str, piece: &str, count: usize) -> Result<String, Fail> {
     let mut table = String::from_str(alloc, first)?;

@@ -10,5 +10,5 @@ mod line;
 mod order;
 mod values;
 
-pub use line::Line;
+pub use line::{Line, Mover};
 pub use values::{value_over, values_over};

@@ -81,7 +81,7 @@ fn goes_towards(side: Side, direction: Direction, coord: i128) -> bool
 
 impl<'a> Line<'a> {
     /// A row as a mover, where it moves.
-    pub(crate) fn mover_at(&self, row: u32) -> Option<Mover>
+    pub fn mover_at(&self, row: u32) -> Option<Mover>
         requires line { IsLine self.now }
         requires row { row < length self.now.basis.now.rows.now }
         ensures { IsMoverAt self.now row result }

@@ -75,7 +75,7 @@ impl<'a> Line<'a> {
 
     /// Whether the perturbed ratio of one mover is less than that of another. All entries of the ratios are looked at
     /// only where the first ones agree.
-    pub(crate) fn precedes<F: Exact>(
+    pub fn precedes<F: Exact>(
         &self,
         alloc: Global,
         left: Mover,

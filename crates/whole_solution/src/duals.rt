@@ -10,7 +10,7 @@ use std::alloc::Global;
 use whole_inverse::{Obstacle, WholeInverse};
 
 /// The negated numerator.
-fn negation(n: i128) -> Result<i128, Obstacle>
+pub fn negation(n: i128) -> Result<i128, Obstacle>
     ensures { IfOk result (λ m. (d : ℤ) → share m d ≡ neg_ℚ (share n d)) }
 {
     match n.checked_neg() {

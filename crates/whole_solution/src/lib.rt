@@ -18,6 +18,9 @@ mod signs;
 mod solution;
 
 pub use basis::WholeBasis;
+pub use bounds::bounds as row_bounds;
 pub use columns::transposed;
+pub use duals::negation;
+pub use primal::residual_of;
 pub use products::row_products;
 pub use solution::WholeSolution;

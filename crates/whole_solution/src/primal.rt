@@ -115,7 +115,7 @@ fn residual_numerator(y: i64, fit: i128, determinant: i128) -> Option<i128>
 }
 
 /// The numerator of a residual, or a refusal.
-fn residual_of(y: i64, fit: i128, determinant: i128) -> Result<i128, Obstacle>
+pub fn residual_of(y: i64, fit: i128, determinant: i128) -> Result<i128, Obstacle>
     requires { pos 1 ≤ℤ determinant }
     ensures { IfOk result (λ r. share r determinant ≡ whole y -ℚ share fit determinant) }
 {

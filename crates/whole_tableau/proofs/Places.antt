@@ -1,9 +1,9 @@
 -- What whole numbers keep is a basis.
-use Rattle.std.specs.Prelude.{◌≡◌, ◌≢◌, ◌⊎◌, ℕ, ◌<◌, ◌≤◌, Bool, true, false, ◌==◌, if◌then◌else◌, List, [], ◌∷◌, length, slice_index, slice_set, get_or, Option, pos}
+use Rattle.std.specs.Prelude.{◌≡◌, ◌≢◌, ◌⊎◌, ℕ, ℤ, ◌<◌, ◌≤◌, Bool, true, false, ◌==◌, if◌then◌else◌, List, [], ◌∷◌, length, slice_index, slice_set, get_or, Option, pos}
 use Rattle.std.specs.Option.{option_map_or}
 use Rattle.std.proofs.Common.{arith, refl, sym, ap, subst, ◌∙◌, inl, inr}
 use Rattle.std.proofs.lemmas.Bool.{cases_lt}
-use Rattle.std.proofs.lemmas.Option.{slice_get_past}
+use Rattle.std.proofs.lemmas.Option.{slice_get_past, slice_get-get_or}
 use Rattle.exact_algebra.specs.Fraction.{Fraction}
 use Rattle.exact_algebra.specs.Solver.{number, ◌⊠◌, v0}
 use Rattle.exact_algebra.specs.Rational.{ℚ, ◌*ℚ◌, whole}
@@ -15,17 +15,23 @@ use Rattle.exact_matrices.proofs.TermLaws.{if-same, if-other}
 use Rattle.exact_matrices.specs.Matrices.{AreInverse, coordinate}
 use Rattle.exact_matrices.proofs.MatrixLaws.{AreInverse-same}
 use Rattle.exact_matrices.specs.Exchange.{with_row}
-use Rattle.loss_model.specs.Problem.{sample}
+use Rattle.loss_model.specs.declared.problem.Row.{Row}
+use Rattle.loss_model.specs.declared.problem.Problem.{Problem}
+use Rattle.loss_model.specs.Problem.{sample, value_at}
 use Rattle.basis_model.specs.Basis.{IsBasis, coord}
 use Rattle.pivot_rule.specs.Responses.{exchanged_rows}
 use Rattle.walk_rule.proofs.Trails.{list_exchanged}
-use Rattle.whole_inverse.specs.Shares.{whole_at}
-use Rattle.whole_inverse.specs.Squares.{inverse_of}
+use Rattle.pivot_rule.specs.Trails.{EndsAt}
+use Rattle.tableau_model.specs.Places.{IsPlace}
+use Rattle.whole_inverse.specs.Shares.{share, share_at, whole_at}
+use Rattle.whole_inverse.specs.Squares.{WholeSquare, IsWholeSquare, inverse_of}
+use Rattle.scaled_model.specs.Scaled.{unscaled}
 use Rattle.scaled_model.proofs.ScalingLaws.{unscaled_basis, coord-scaled}
 use Rattle.whole_rows.specs.declared.rows.WholeRow.{WholeRow}
 use Rattle.whole_rows.specs.Wholes.{factor_at, factor_value, sample_of_rows}
 use Rattle.whole_solution.proofs.Reading.{row_read}
-use Rattle.whole_tableau.specs.Kept.{Kept, IsKept, IsBasisOf, wholes_of, place}
+use Rattle.whole_tableau.specs.declared.setting.Setting.{Setting}
+use Rattle.whole_tableau.specs.Kept.{Kept, IsSetting, IsKept, wholes_of, place}
 
 -- rows with an inverse are different rows of the problem
 pub basis_from : (n : ℕ) (rows : List WholeRow) (at : ℕ → ℕ) (a : ℕ → ℕ → ℚ) → AreInverse n (λ j k. (sample_of_rows n rows).x (at j) k) a → IsBasis (sample_of_rows n rows) at a
@@ -52,16 +58,33 @@ basis_from n rows at a inv = record { distinct = record { within = within; apart
         ∙ ap (λ i. sum_ℚ n (λ m. (sample_of_rows n rows).x i m *ℚ a m j)) same
         ∙ inv.left k j lk lj ∙ if-other k j (whole (pos 1)) (whole (pos 0)) other)
 
+-- the inverse is 0 outside
+whole_ends : (n : ℕ) (s : WholeSquare) (f : ℕ → ℚ) → IsWholeSquare s → length s.columns ≡ n → EndsAt n (unscaled f (inverse_of s))
+whole_ends n s f h size k j out = ap (λ z. f k *ℚ z) (by (cases_lt j (length s.columns))) ∙ ring_ℚ (f k ∷ []) (v0 ⊠ number (pos 0)) (number (pos 0)) refl
+  where
+    by : (j < length s.columns) ⊎ (length s.columns ≤ j) → inverse_of s k j ≡ whole (pos 0)
+    by (inr past) = ap (λ (o : Option (List ℤ)). option_map_or (λ xs. share_at s.determinant xs k) o (whole (pos 0))) (slice_get_past s.columns j past)
+    by (inl lj) =
+        let long : length (get_or s.columns j []) ≡ length s.columns = h.square j [] lj in
+        let past : length (get_or s.columns j []) ≤ k = at (cases_lt k n) long in
+        ap (λ (o : Option (List ℤ)). option_map_or (λ xs. share_at s.determinant xs k) o (whole (pos 0))) (slice_get-get_or s.columns j [] lj)
+        ∙ ap (λ (o : Option ℤ). option_map_or (λ m. share m s.determinant) o (whole (pos 0))) (slice_get_past (get_or s.columns j []) k past)
+      where
+        at : (k < n) ⊎ (n ≤ k) → length (get_or s.columns j []) ≡ length s.columns → length (get_or s.columns j []) ≤ k
+        at (inl lk) e = absurd (out (lk, omega (arith, lj, size)))
+        at (inr past) e = omega (arith, size)
+
 module _ {F : Type 0} (value : F → Fraction) (k : Kept F) (h : IsKept value k) where
   pub whole_basis : IsBasis (wholes_of k) (slice_index k.rows) (inverse_of k.square)
   whole_basis = basis_from k.problem.columns k.setting.wholes.rows (slice_index k.rows) (inverse_of k.square) h.inverse
 
-  pub kept_is_basis : IsBasisOf value (place value k)
-  kept_is_basis =
+  pub kept_is_place : IsPlace value (place value k)
+  kept_is_place =
       record {
         shaped = h.shaped;
         size = h.size;
         is_basis = unscaled_basis (sample value k.problem) (wholes_of k) (factor_at k.setting.wholes.factors) (factor_value k.setting.wholes.response) (factor_value k.setting.wholes.cost) h.setting.scaled (inverse_of k.square) (slice_index k.rows) h.setting.factors whole_basis;
+        ends = whole_ends k.problem.columns k.square (factor_at k.setting.wholes.factors) h.shape h.square;
       }
 
 -- the coordinate of a row that was read
@@ -89,3 +112,14 @@ inverse_after n rows basis a j i r size inside is inv =
         by : (t : Bool) → (if t then whole_at r.x k else (sample_of_rows n rows).x (slice_index basis m) k) ≡ (sample_of_rows n rows).x (if t then i else slice_index basis m) k
         by true = sym (row_read rows i r (λ r. whole_at r.x k) inside is)
         by false = refl
+
+-- the whole rows are those of the problem times factors, beyond the last one too
+pub entry_scaled : {F : Type 0} (value : F → Fraction) (p : Problem F) (s : Setting) → IsSetting value p s → (i k : ℕ) → k < p.columns → (sample_of_rows p.columns s.wholes.rows).x i k ≡ factor_at s.wholes.factors k *ℚ (sample value p).x i k
+entry_scaled {F} value p s h i k lk = by (cases_lt i (length p.rows))
+  where
+    by : (i < length p.rows) ⊎ (length p.rows ≤ i) → (sample_of_rows p.columns s.wholes.rows).x i k ≡ factor_at s.wholes.factors k *ℚ (sample value p).x i k
+    by (inl li) = h.scaled.x i k li lk
+    by (inr past) =
+        ap (λ (o : Option WholeRow). option_map_or (λ r. whole_at r.x k) o (whole (pos 0))) (slice_get_past s.wholes.rows i (omega (arith, h.scaled.rows, past)))
+        ∙ ring_ℚ (factor_at s.wholes.factors k ∷ []) (number (pos 0)) (v0 ⊠ number (pos 0)) refl
+        ∙ ap (λ (o : Option (Row F)). factor_at s.wholes.factors k *ℚ option_map_or (λ r. value_at value r.x k) o (whole (pos 0))) (sym (slice_get_past p.rows i past))

@@ -6,9 +6,8 @@ use Rattle.exact_matrices.specs.Matrices.{AreInverse}
 use Rattle.loss_model.specs.declared.problem.Problem.{Problem}
 use Rattle.loss_model.specs.Problem.{sample, IsWellShaped}
 use Rattle.loss_model.specs.Sample.{Sample}
-use Rattle.basis_model.specs.Basis.{IsBasis}
-use Rattle.tableau_model.specs.Places.{Place, in_wholes, at_of, sample_of}
-use Rattle.whole_inverse.specs.Squares.{WholeSquare, inverse_of}
+use Rattle.tableau_model.specs.Places.{Place, in_wholes}
+use Rattle.whole_inverse.specs.Squares.{WholeSquare, IsWholeSquare, inverse_of}
 use Rattle.scaled_model.specs.Scaled.{IsScaled, unscaled}
 use Rattle.whole_rows.specs.Wholes.{factor_at, factor_value, sample_of_rows}
 use Rattle.whole_solution.specs.Standing.{AreColumns}
@@ -41,15 +40,10 @@ module _ {F : Type 0} (value : F → Fraction) where
     pub shaped : IsWellShaped k.problem
     pub setting : IsSetting k.problem k.setting
     pub size : length k.rows ≡ k.problem.columns
+    pub shape : IsWholeSquare k.square
     pub square : length k.square.columns ≡ k.problem.columns
     pub inverse : AreInverse k.problem.columns (λ j i. (wholes_of k).x (slice_index k.rows j) i) (inverse_of k.square)
 
   -- what is kept as a place: the inverse of the problem's rows is that of the whole ones, each column times its factor
   abbrev pub place : Kept F → Place F
   place k = record { task = record { problem = k.problem; body = in_wholes }; rows = k.rows; inverse = unscaled (factor_at k.setting.wholes.factors) (inverse_of k.square) }
-
-  -- the rows are a basis of a problem that is well shaped, with this inverse
-  pub record IsBasisOf (h : Place F) : Type 0 where
-    pub shaped : IsWellShaped h.task.problem
-    pub size : length h.rows ≡ h.task.problem.columns
-    pub is_basis : IsBasis (sample_of value h) (at_of h) h.inverse

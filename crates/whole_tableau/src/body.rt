@@ -1,23 +1,33 @@
 //! A basis in whole numbers: its rows, their inverse, and the exchange of one.
-ghost use Rattle.std.specs.Prelude.{◌≡◌, ◌≢◌, ℕ, ◌<◌, length, slice_index, slice_set, IfOk, OnOk, pos};
+ghost use Rattle.std.specs.Prelude.{◌≡◌, ◌≢◌, ℕ, ◌<◌, length, slice_index, slice_set, IfOk, IfErr, OnOk, pos};
 ghost use Rattle.exact_algebra.specs.Rational.{whole};
 ghost use Rattle.exact_matrices.specs.Matrices.{AreInverse};
+ghost use Rattle.loss_model.specs.Greedy.{IsGreedyBasis};
 ghost use Rattle.loss_model.specs.Problem.{sample, IsWellShaped};
 ghost use Rattle.basis_model.specs.Basis.{coord};
+ghost use Rattle.tableau_model.specs.Places.{IsPlace};
+ghost use Rattle.tableau_model.specs.Questions.{Question, IsStepOf};
+ghost use Rattle.tableau_model.specs.Refusals.{IsRefusalAt, IsRefusedOf};
 ghost use Rattle.whole_inverse.specs.Squares.{inverse_of};
 ghost use Rattle.whole_rows.specs.Wholes.{sample_of_rows};
-ghost use Rattle.whole_tableau.specs.Kept.{IsSetting, IsKept, IsBasisOf, place};
+ghost use Rattle.whole_solution.specs.Standing.{IsWholeBasis, IsWholeSolution};
+ghost use Rattle.whole_tableau.specs.Kept.{IsSetting, IsKept, place, wholes_of};
 
-use crate::setting::Setting;
-use frac_core::Exact;
+use crate::refusal::failure;
+use crate::setting::{Setting, setting_of};
+use frac_core::{Exact, List};
 use loss_model::{Basis, Problem};
+use std::alloc::Global;
 use std::marker::Model;
-use tableau_model::Step;
+use tableau_model::{Failure, Step};
 use whole_inverse::{Obstacle, WholeInverse};
+use whole_solution::{WholeBasis, WholeSolution};
+use whole_start::whole_start;
 
 /// A basis of a problem, and the inverse of its rows in whole numbers.
 #[derive(Drop)]
 pub struct WholeTableau<'a, F: Exact> {
+    alloc: Global,
     problem: &'a Problem<F>,
     setting: Setting,
     basis: Basis,
@@ -36,7 +46,8 @@ impl<'a, F: Exact> Model for WholeTableau<'a, F> {
 
 impl<'a, F: Exact> WholeTableau<'a, F> {
     /// The basis of these rows of a problem, whose entries in whole numbers have this inverse.
-    pub fn at(
+    fn at(
+        alloc: Global,
         problem: &'a Problem<F>,
         setting: Setting,
         basis: Basis,
@@ -49,9 +60,10 @@ impl<'a, F: Exact> WholeTableau<'a, F> {
         requires inverse { AreInverse problem.now.columns (λ j k. (sample_of_rows problem.now.columns setting.wholes.rows).x (slice_index basis.rows j) k) (inverse_of inverse) }
         ensures problem { result.problem ≡ problem.now }
         ensures rows { result.rows ≡ basis.rows }
-        ensures basis { IsBasisOf F.value (place F.value result) }
     {
+        inverse.shape();
         WholeTableau {
+            alloc,
             problem,
             setting,
             basis,
@@ -59,20 +71,91 @@ impl<'a, F: Exact> WholeTableau<'a, F> {
         }
     }
 
+    /// The greedy start of a problem. It refuses too where the columns are dependent.
+    pub fn begin(alloc: Global, problem: &'a Problem<F>) -> Result<WholeTableau<'a, F>, Obstacle>
+        requires shaped { IsWellShaped problem.now }
+        ensures problem { IfOk result (λ t. t.problem ≡ problem.now) }
+        ensures greedy { IfOk result (λ t. IsGreedyBasis (sample F.value problem.now) t.rows) }
+    {
+        let setting = setting_of(alloc, problem)?;
+        let rows = setting.wholes.rows.as_slice();
+        let start = whole_start(alloc, rows, problem.columns, setting.limit)?;
+        Ok(WholeTableau::at(
+            alloc,
+            problem,
+            setting,
+            start.basis,
+            start.inverse,
+        ))
+    }
+
+    /// Where its lists are made.
+    pub(crate) fn alloc(&self) -> Global {
+        self.alloc
+    }
+
+    /// The problem.
+    pub(crate) fn problem(&self) -> &Problem<F>
+        ensures { result.now ≡ self.now.problem }
+    {
+        self.problem
+    }
+
+    /// The problem in whole numbers.
+    pub(crate) fn setting(&self) -> &Setting
+        ensures { result.now ≡ self.now.setting }
+    {
+        &self.setting
+    }
+
+    /// The determinant, over which all numerators stand.
+    pub(crate) fn determinant(&self) -> i128
+        ensures { result ≡ self.now.square.determinant }
+    {
+        self.inverse.determinant()
+    }
+
     /// The rows of the basis by position.
     pub fn basis(&self) -> &Basis
         ensures rows { result.now.rows ≡ self.now.rows }
-        ensures basis { IsBasisOf F.value (place F.value self.now) }
+        ensures place { IsPlace F.value (place F.value self.now) }
     {
         &self.basis
     }
 
+    /// The basis in whole numbers, with its inverse.
+    pub(crate) fn held(&self) -> WholeBasis<'_>
+        ensures kept { IsKept F.value self.now }
+        ensures basis { IsWholeBasis result }
+        ensures rows { result.rows.now ≡ self.now.setting.wholes.rows }
+        ensures at { result.basis.now.rows ≡ self.now.rows }
+        ensures inverse { result.inverse.now ≡ self.now.square }
+    {
+        WholeBasis {
+            rows: self.setting.wholes.rows.as_slice(),
+            basis: &self.basis,
+            inverse: &self.inverse,
+            limit: self.setting.limit,
+        }
+    }
+
+    /// What stands at the basis, in whole numbers.
+    pub(crate) fn solution(&self) -> Result<WholeSolution, Obstacle>
+        ensures kept { IfOk result (λ s. IsKept F.value self.now) }
+        ensures solution { IfOk result (IsWholeSolution (wholes_of self.now) (slice_index self.now.rows) (inverse_of self.now.square) self.now.square.determinant) }
+    {
+        let held = self.held();
+        let columns = self.setting().columns.as_slice();
+        let solution = held.solution(self.alloc(), columns)?;
+        Ok(solution)
+    }
+
     /// Lets a row take a position at which its coordinate isn't 0.
-    pub fn exchange(&mut self, step: Step) -> Result<(), Obstacle>
+    fn enter(&mut self, step: Step) -> Result<(), Obstacle>
         requires position { step.position < self.old.problem.columns }
         requires row { step.row < length self.old.problem.rows }
         requires some { coord (sample F.value self.old.problem) (place F.value self.old).inverse step.row step.position ≢ whole (pos 0) }
-        ensures basis { OnOk result (IsBasisOf F.value (place F.value self.new)) }
+        ensures place { OnOk result (IsPlace F.value (place F.value self.new)) }
         ensures problem { OnOk result (self.new.problem ≡ self.old.problem) }
         ensures rows { OnOk result (self.new.rows ≡ slice_set self.old.rows step.position step.row) }
     {
@@ -83,7 +166,24 @@ impl<'a, F: Exact> WholeTableau<'a, F> {
             Ok(()) => {}
             Err(obstacle) => return Err(obstacle),
         }
+        self.inverse.shape();
         self.basis.rows.replace(step.position, step.row);
         Ok(())
+    }
+
+    /// The same. What is refused is refused to each question of which this is the step.
+    pub fn exchange(&mut self, step: Step) -> Result<(), Failure<F>>
+        requires position { step.position < self.old.problem.columns }
+        requires row { step.row < length self.old.problem.rows }
+        requires some { coord (sample F.value self.old.problem) (place F.value self.old).inverse step.row step.position ≢ whole (pos 0) }
+        ensures place { OnOk result (IsPlace F.value (place F.value self.new)) }
+        ensures problem { OnOk result (self.new.problem ≡ self.old.problem) }
+        ensures rows { OnOk result (self.new.rows ≡ slice_set self.old.rows step.position step.row) }
+        ensures refused { (asked : Question) → IsStepOf F.value (place F.value self.old) asked step.position step.row → IfErr result (IsRefusedOf (IsRefusalAt F.value F.range (place F.value self.old) asked)) }
+    {
+        match self.enter(step) {
+            Ok(()) => Ok(()),
+            Err(obstacle) => Err(failure(obstacle)),
+        }
     }
 }

@@ -1,12 +1,18 @@
-//! A basis in whole numbers, as the loops of the solver are to see it.
+//! A basis in whole numbers, and what it answers to the loops of the solver.
 //!
 //! The one contract for the layers above: `WholeTableau` is seen as a basis of a problem with its inverse in ℚ, at every
-//! moment, and `exchange` makes a step. What it refuses names no operation. The questions of the loops are to be answered
-//! over it; none is yet. It stands on `whole_solution`, and on `scaled_model` for the way back to the problem.
+//! moment, and each of its calls has the contract of its question in `tableau_model`. What it refuses names no operation:
+//! the work is done again in fractions. It stands on `whole_start` for the start, on `whole_steps` for what is left to do at
+//! a basis, and on `scaled_model` for the way back to the problem. What is printed is made of fractions, once a segment.
 #![tactic(auto)]
 
 mod body;
+mod ends;
+mod refusal;
 mod setting;
+mod values;
+mod vertex;
+mod walking;
 
 pub use body::WholeTableau;
 pub use setting::{Setting, setting_of};

@@ -1,8 +1,10 @@
-//! Tests of whole numbers (`wide_int`): products and quotients at the edges of 128 bits.
+//! Tests of whole numbers (`wide_int`): products and quotients at the edges of 128 bits; and of the body of whole numbers
+//! (`whole_tableau`, with all that stands below it): starts and segments of small tables.
 //!
-//! What is tested is what no clause says: that an answer is given wherever one fits. The expected numbers are worked by hand from
-//! powers of two.
+//! What is tested is what no clause says: that an answer is given wherever one fits. The expected numbers are worked by hand.
 #![tactic(auto)]
 
+#[cfg(test)]
+mod segments;
 #[cfg(test)]
 mod wide;

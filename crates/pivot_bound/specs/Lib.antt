@@ -1,0 +1,3 @@
+pub mod Choose
+pub mod ImprovingTrails
+pub mod BoundLaws

@@ -1,0 +1,3 @@
+pub mod Spilled
+pub mod Needed
+pub mod Complete

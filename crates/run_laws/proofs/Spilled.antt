@@ -1,0 +1,49 @@
+-- Where a run stops for an overflow, the operation overflows: of the solver, of a rankscore or of a Wilcoxon score.
+use Rattle.std.specs.Prelude.{ℕ, List, length}
+use Rattle.std.proofs.Common.{inl, inr}
+use Rattle.exact_algebra.specs.Fraction.{Fraction, rational}
+use Rattle.exact_algebra.specs.Rational.{ℚ}
+use Rattle.loss_model.specs.declared.problem.Problem.{Problem}
+use Rattle.loss_model.specs.declared.process.Segment.{Segment}
+use Rattle.loss_model.specs.declared.process.Trail.{Trail}
+use Rattle.loss_model.specs.declared.spill.Spill.{Spill}
+use Rattle.loss_model.specs.Problem.{sample}
+use Rattle.loss_model.specs.Segment.{segments_of}
+use Rattle.loss_model.specs.declared.vertex.Vertex.{Vertex}
+use Rattle.loss_model.specs.Vertex.{dual_value}
+use Rattle.rankscores.specs.Spills.{score_site, score_operations, IsEndSpill, IsScoresSpill, IsAreaSpill, IsIntegrationSpill, IsWilcoxonSpill}
+use Rattle.stop_laws.specs.NeededStops.{DoesOverflow}
+use Rattle.stop_laws.proofs.Spilled.{operation, among, of_process}
+use Rattle.rq_engine.specs.Stops.{IsFitSpill}
+
+module _ {F : Type 0} (value : F → Fraction) (range : ℕ) (s : Spill F) (p : Problem F) where
+  abbrev Here : Type 0
+  Here = DoesOverflow value range s
+
+  ended : (n number end : ℕ) (v : Vertex F) (basic : List F) (theta : ℚ) → IsEndSpill value range p n number end v basic theta s → Here
+  ended n number end v basic theta h =
+      among value range s (score_site h.row end number) 1 (score_operations (dual_value value p v basic theta h.row) ((sample value p).up1 h.row) theta) h.operation
+
+  scored : (n number : ℕ) (segment : Segment F) → IsScoresSpill value range p n number segment s → Here
+  scored n number segment (inl h) = ended n number 0 segment.vertex segment.basic_lo (rational (value segment.lo)) h
+  scored n number segment (inr h) = ended n number 1 segment.vertex segment.basic_hi (rational (value segment.hi)) h
+
+  area : (segments : List (Segment F)) (i j : ℕ) → IsAreaSpill value range (sample value p) (segments_of value p segments) i j s → Here
+  area segments i j (inl h) = operation value range s h
+  area segments i j (inr (inl h)) = operation value range s h
+  area segments i j (inr (inr (inl h))) = operation value range s h
+  area segments i j (inr (inr (inr (inl h)))) = operation value range s h
+  area segments i j (inr (inr (inr (inr (inl h))))) = operation value range s h
+  area segments i j (inr (inr (inr (inr (inr h))))) = absurd h
+
+  integrated : (segments : List (Segment F)) (i : ℕ) → IsIntegrationSpill value range (sample value p) (segments_of value p segments) i s → Here
+  integrated segments i (inl h) = area segments i h.0 h.2
+  integrated segments i (inr h) = operation value range s h
+
+  pub of_wilcoxon : (segments : List (Segment F)) → IsWilcoxonSpill value range p segments s → Here
+  of_wilcoxon segments (inl h) = scored (length p.rows) h.number h.segment h.operation
+  of_wilcoxon segments (inr h) = integrated segments h.0 h.2
+
+  pub of_fit : (n : ℕ) (lo hi : ℚ) (limit : ℕ) (trail : Trail F) → IsFitSpill value range p n lo hi limit trail s → Here
+  of_fit n lo hi limit trail (inl h) = of_process value range s p lo hi limit trail h
+  of_fit n lo hi limit trail (inr h) = scored n h.operation.number h.operation.segment h.operation.operation

@@ -1,0 +1,10 @@
+use Rattle.run_laws.proofs.Needed.{limit_needed, overflow_needed, dependence_needed}
+use Rattle.run_laws.proofs.laws.needed.Goals as goal
+
+pub returns : goal.returns
+returns c =
+    record {
+      limit = λ words source source' out out' err err' place limit trail run. limit_needed words source source' place limit trail run.cause;
+      overflow = λ words source source' out out' err err' place trail spill run. overflow_needed words source source' place trail spill run.cause;
+      dependence = λ words source source' out out' err err' combination run. dependence_needed words source source' combination run.cause;
+    }

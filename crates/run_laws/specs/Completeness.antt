@@ -1,0 +1,99 @@
+-- Law. A job whose input is well formed is answered.
+use Rattle.std.specs.Prelude.{◌≡◌, ℕ, ◌*◌, ◌≤◌, Bool, List, Some, length, ⊤}
+use Rattle.exact_algebra.specs.Fraction.{rational}
+use Rattle.frac_core.specs.declared.frac128.Frac128.{Frac128}
+use Rattle.loss_model.specs.declared.process.Trail.{Trail}
+use Rattle.loss_model.specs.FullRank.{HasFullRank}
+use Rattle.loss_model.specs.Problem.{sample}
+use Rattle.port_io.specs.Counts.{Rose}
+use Rattle.port_io.specs.Told.{most_bytes}
+use Rattle.pivot_bound.specs.BoundLaws.{further_bases}
+use Rattle.stop_laws.specs.NeededStops.{DoesOverflow}
+use Rattle.tau_process.specs.Stops.{IsLimited}
+use Rattle.rq_words.specs.declared.job.FitJob.{FitJob}
+use Rattle.rq_words.specs.declared.job.Job.{Job}
+use Rattle.report_text.specs.ReportText.{value}
+use Rattle.report_text.specs.declared.report.Place.{Place}
+use Rattle.report_text.specs.declared.report.Refusal.{Refusal}
+use Rattle.report_text.specs.declared.report.Halt.TheVariants as halts
+use Rattle.rq_input.specs.Inputs.{HasInputCause, IsInput}
+use Rattle.rq_input.specs.Rows.{HasRows}
+use Rattle.rq_input.specs.declared.input.Input.{Input}
+use Rattle.rq_engine.specs.Answers.{IsRight}
+use Rattle.rq_engine.specs.Built.{IsJobOf}
+use Rattle.rq_engine.specs.Stops.{most}
+use Rattle.rq_cli.specs.Outcomes.{Stream, IsRun}
+use Rattle.rq_cli.specs.declared.outcome.Outcome.{Outcome}
+use Rattle.rq_cli.specs.declared.outcome.Outcome.TheVariants.{Done, OutOfMemory, PivotLimit, Overflow}
+use Rattle.run_laws.specs.NeededOutcomes.{AskFit, WasInput, ReachesItsLimit}
+
+-- no count of faults rose
+abbrev pub NoneRose : (source source' out out' err err' : Stream) → Type 0
+NoneRose source source' out out' err err' =
+    ¬ Rose source.faults source'.faults × ¬ Rose out.faults out'.faults × ¬ Rose err.faults err'.faults
+
+-- the words ask for a fit of a table that this version does; the bytes that the source tells are not too many, have no
+-- fault as a table, by the formula, as a design, in what smooths add or as a problem, and their problem has full rank
+pub record IsWellFormed (words : List (List ℕ)) (source : Stream) (bytes : List ℕ) : Type 0 where
+  pub fit : FitJob
+  pub ranked : Bool
+  pub asked : AskFit words fit ranked
+  pub told : source.bytes ≡ Some bytes
+  pub short : length bytes ≤ most_bytes
+  pub sound : (fit : FitJob) (ranked : Bool) → AskFit words fit ranked → (refusal : Refusal) → ¬ HasInputCause fit ranked bytes (halts.Refused refusal)
+  pub rank : (fit : FitJob) (ranked : Bool) (input : Input) → AskFit words fit ranked → IsInput fit ranked bytes input → HasFullRank (sample value input.problem)
+
+-- it has the right report, or reaches its limit, or an operation overflows; want of memory is the free answer
+abbrev pub IsAnswer : List (List ℕ) → (source source' : Stream) → List ℕ → Outcome → Type 0
+IsAnswer words source source' bytes (Done report) = (job : Job) × IsJobOf words job × IsRight job bytes report
+IsAnswer words source source' bytes (PivotLimit place limit trail) =
+    (fit : FitJob) × (input : Input) × WasInput words source source' fit input × ReachesItsLimit fit input limit trail
+IsAnswer words source source' bytes (Overflow place trail spill) = DoesOverflow value most spill
+IsAnswer words source source' bytes OutOfMemory = ⊤
+IsAnswer words source source' bytes _ = ⊥
+
+-- so is every run while nothing fails
+abbrev pub Completeness : Type 0
+Completeness =
+    (words : List (List ℕ)) (source source' out out' err err' : Stream) (bytes : List ℕ) (outcome : Outcome)
+    → IsRun words source source' out out' err err' outcome → NoneRose source source' out out' err err'
+    → IsWellFormed words source bytes → IsAnswer words source source' bytes outcome
+
+-- some trail of the problem reaches the limit of the words
+abbrev pub IsLimitedInput : FitJob → Input → Type 0
+IsLimitedInput fit input =
+    IsLimited {F = Frac128} value (sample value input.problem) (rational (value fit.lo)) (rational (value fit.hi)) fit.limit
+
+-- the outcome is no report
+abbrev pub IsNoReport : Outcome → Type 0
+IsNoReport (Done report) = ⊥
+IsNoReport _ = ⊤
+
+-- where one does, there is no report
+abbrev pub LimitIsAnswered : Type 0
+LimitIsAnswered =
+    (words : List (List ℕ)) (source source' out out' err err' : Stream) (outcome : Outcome)
+    → IsRun words source source' out out' err err' outcome
+    → ((fit : FitJob) (input : Input) → WasInput words source source' fit input → IsLimitedInput fit input)
+    → IsNoReport outcome
+
+-- where no fewer pivots are allowed than twice the bases after the first, the limit stops nothing
+abbrev pub AmpleLimitIsNeverReached : Type 0
+AmpleLimitIsNeverReached =
+    (words : List (List ℕ)) (source source' out out' err err' : Stream) (place : Place) (limit : ℕ) (trail : Trail Frac128)
+    → ((fit : FitJob) (input : Input) → WasInput words source source' fit input → HasRows input × ((2 * further_bases (sample value input.problem)) ≤ fit.limit))
+    → ¬ IsRun words source source' out out' err err' (PivotLimit place limit trail)
+
+-- the outcome is neither a report nor a limit
+abbrev pub IsUnfitted : Outcome → Type 0
+IsUnfitted (Done report) = ⊥
+IsUnfitted (PivotLimit place limit trail) = ⊥
+IsUnfitted _ = ⊤
+
+-- where the columns of the problem are dependent, it is neither
+abbrev pub DependenceIsAnswered : Type 0
+DependenceIsAnswered =
+    (words : List (List ℕ)) (source source' out out' err err' : Stream) (outcome : Outcome)
+    → IsRun words source source' out out' err err' outcome
+    → ((fit : FitJob) (input : Input) → WasInput words source source' fit input → ¬ HasFullRank (sample value input.problem))
+    → IsUnfitted outcome

@@ -1,0 +1,2 @@
+pub mod NeededOutcomes
+pub mod Completeness

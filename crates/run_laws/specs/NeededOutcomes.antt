@@ -1,0 +1,72 @@
+-- Law. A run that stops for a limit, for an overflow or for dependent columns had to.
+use Rattle.std.specs.Prelude.{◌≡◌, ℕ, ◌*◌, ◌<◌, Bool, true, is_some, List}
+use Rattle.exact_algebra.specs.Fraction.{rational}
+use Rattle.frac_core.specs.declared.frac128.Frac128.{Frac128}
+use Rattle.loss_model.specs.declared.process.Trail.{Trail}
+use Rattle.loss_model.specs.declared.spill.Spill.{Spill}
+use Rattle.loss_model.specs.FullRank.{HasFullRank}
+use Rattle.loss_model.specs.Problem.{sample}
+use Rattle.walk_rule.specs.WalkTrails.{ReachesProcessLimit}
+use Rattle.pivot_bound.specs.BoundLaws.{further_bases}
+use Rattle.stop_laws.specs.NeededStops.{DoesOverflow}
+use Rattle.rq_words.specs.declared.job.FitJob.{FitJob}
+use Rattle.rq_words.specs.declared.job.Job.{Job}
+use Rattle.rq_words.specs.declared.job.Job.TheVariants as jobs
+use Rattle.report_text.specs.ReportText.{value}
+use Rattle.report_text.specs.declared.report.Place.{Place}
+use Rattle.report_text.specs.declared.report.Refusal.TheVariants.{Dependent}
+use Rattle.rq_input.specs.Inputs.{IsInput}
+use Rattle.rq_input.specs.Rows.{HasRows}
+use Rattle.rq_input.specs.declared.input.Input.{Input}
+use Rattle.rq_engine.specs.Built.{IsBuilt, IsJobOf}
+use Rattle.rq_engine.specs.Stops.{most}
+use Rattle.rq_cli.specs.Outcomes.{Stream, IsRun, WereRead}
+use Rattle.rq_cli.specs.declared.outcome.Outcome.TheVariants.{Refused, PivotLimit, Overflow}
+
+-- the job is this fit of a table, with or without ranks
+abbrev pub IsFitJob : Job → FitJob → Bool → Type 0
+IsFitJob (jobs.Process job) fit ranked = (job ≡ fit) × (is_some job.rank ≡ ranked)
+IsFitJob (jobs.Ranks job) fit ranked = (job ≡ fit) × (true ≡ ranked)
+IsFitJob _ fit ranked = ⊥
+
+-- the words ask for it, and this version does the job
+pub record AskFit (words : List (List ℕ)) (fit : FitJob) (ranked : Bool) : Type 0 where
+  pub job : Job
+  pub asked : IsJobOf words job
+  pub built : IsBuilt job
+  pub is : IsFitJob job fit ranked
+
+-- the words ask for a fit, and this is the input that the bytes of the source are for it
+pub record WasInput (words : List (List ℕ)) (before now : Stream) (fit : FitJob) (input : Input) : Type 0 where
+  pub ranked : Bool
+  pub bytes : List ℕ
+  pub asked : AskFit words fit ranked
+  pub read : (job : Job) × WereRead words before now job bytes
+  pub is : IsInput fit ranked bytes input
+
+-- its lawful trail has as many pivots as the limit of the words says, with one more left; and the limit is less than
+-- twice the bases after the first, where the rows are those that `read_input` gives: data rows, and then penalty rows
+pub record ReachesItsLimit (fit : FitJob) (input : Input) (limit : ℕ) (trail : Trail Frac128) : Type 0 where
+  pub shown : limit ≡ fit.limit
+  pub reached : ReachesProcessLimit value (sample value input.problem) (rational (value fit.lo)) (rational (value fit.hi)) limit trail
+  pub below : HasRows input → limit < 2 * further_bases (sample value input.problem)
+
+-- PivotLimit comes only with such a trail
+abbrev pub LimitIsNeeded : Type 0
+LimitIsNeeded =
+    (words : List (List ℕ)) (source source' out out' err err' : Stream) (place : Place) (limit : ℕ) (trail : Trail Frac128)
+    → IsRun words source source' out out' err err' (PivotLimit place limit trail)
+    → (fit : FitJob) × (input : Input) × WasInput words source source' fit input × ReachesItsLimit fit input limit trail
+
+-- Overflow comes only with an operation that overflows
+abbrev pub OverflowIsNeeded : Type 0
+OverflowIsNeeded =
+    (words : List (List ℕ)) (source source' out out' err err' : Stream) (place : Place) (trail : Trail Frac128) (spill : Spill Frac128)
+    → IsRun words source source' out out' err err' (Overflow place trail spill) → DoesOverflow value most spill
+
+-- Dependent comes only where the columns of the problem are dependent
+abbrev pub DependenceIsNeeded : Type 0
+DependenceIsNeeded =
+    (words : List (List ℕ)) (source source' out out' err err' : Stream) (combination : List Frac128)
+    → IsRun words source source' out out' err err' (Refused (Dependent combination))
+    → (fit : FitJob) × (input : Input) × WasInput words source source' fit input × ¬ HasFullRank (sample value input.problem)

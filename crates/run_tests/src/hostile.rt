@@ -1,0 +1,128 @@
+//! A table that is cut after each of its bytes, and one whose reading or printing fails at each call.
+//! The answers were worked out by hand from the rules.
+
+use crate::helpers::{Left, Outputs, assert_printed, assert_refused, ran, ran_into, ran_on};
+use port_io::{MemSink, MemSource, SureSource};
+use std::alloc::Global;
+use std::process::Abort;
+use std::test::Fail;
+use std::thread::Threads;
+
+// Three points on two lines, 16 bytes.
+static LINE: &str = "y,x\n0,0\n2,1\n3,3\n";
+
+const WHOLE: &str = "process|--formula|y ~ x|--lo|0|--hi|1";
+
+static WHOLE_REPORT: &str =
+    "quantreg 1\nrecords 3 dropped 0\ncolumn 1 (Intercept)\ncolumn 2 x\ndata 3 penalty 0\npivots 2\nsegment 1 0 3/5\ncoef 1 0\ncoef 2 1\nloss 0 3/5\nscores *1*\nbasic 1 1 0\nbasic 3 1 1/5\nsegment 2 3/5 1\ncoef 1 3/2\ncoef 2 1/2\nloss 3/5 0\nscores 0**\nbasic 2 1 0\nbasic 3 1/5 0\nend\n";
+
+// The line through two points: with as many columns as records each score is 1 - tau.
+static TWO_POINTS: &str =
+    "quantreg 1\nrecords 2 dropped 0\ncolumn 1 (Intercept)\ncolumn 2 x\ndata 2 penalty 0\npivots 0\nsegment 1 0 1\ncoef 1 0\ncoef 2 2\nloss 0 0\nscores **\nbasic 1 1 0\nbasic 2 1 0\nend\n";
+
+// The same beside a record that misses its x.
+static TWO_OF_THREE: &str =
+    "quantreg 1\nrecords 2 dropped 1\ncolumn 1 (Intercept)\ncolumn 2 x\ndata 2 penalty 0\npivots 0\nsegment 1 0 1\ncoef 1 0\ncoef 2 2\nloss 0 0\nscores **\nbasic 1 1 0\nbasic 2 1 0\nend\n";
+
+// For each count of bytes that are left, the fault line, or none where a report is printed.
+static CUTS: [&str; 17] = [
+    "quantreg: table: NoHeader\n",
+    "quantreg: formula: UnknownName offset=4\n",
+    "quantreg: table: EmptyName column=2\n",
+    "quantreg: design: NoRows\n",
+    "quantreg: design: NoRows\n",
+    "quantreg: table: Ragged record=1 found=1 wanted=2\n",
+    "quantreg: design: NoRows\n",
+    "quantreg: solver: Dependent combination=0,1\n",
+    "quantreg: solver: Dependent combination=0,1\n",
+    "quantreg: table: Ragged record=2 found=1 wanted=2\n",
+    "quantreg: solver: Dependent combination=0,1\n",
+    "",
+    "",
+    "quantreg: table: Ragged record=3 found=1 wanted=2\n",
+    "",
+    "",
+    "",
+];
+
+fn cut_report(left: usize) -> &'static str {
+    match left {
+        14 => TWO_OF_THREE,
+        15 | 16 => WHOLE_REPORT,
+        _ => TWO_POINTS,
+    }
+}
+
+#[test]
+fn a_cut_table_is_read_as_far_as_it_goes(rt: HostRuntime) -> Result<(), Fail> {
+    for (bytes, told) in CUTS.iter().enumerate() {
+        let left = ran_on(&rt, rt.alloc(), WHOLE, &LINE.as_bytes()[..bytes])?;
+        if told.is_empty() {
+            assert_printed(&rt, &left, cut_report(bytes), told);
+        } else {
+            assert_refused(&rt, &left, 1, told, told);
+        }
+    }
+    Ok(())
+}
+
+static SOUND: Outputs = Outputs {
+    room: 4096,
+    writes: &[],
+    tellings: &[],
+};
+
+// The run of the whole table over a source that takes 3 bytes a read, and whose read of this number fails.
+fn ran_with_a_fault<R: Threads + Sync>(rt: &R, alloc: Global, read: u32) -> Result<Left, Fail> {
+    let bytes = LINE.as_bytes().to_vec(alloc)?;
+    let mut fails = Vec::new(alloc);
+    fails.push(read)?;
+    let mut source = MemSource::new(bytes, 3, fails);
+    ran(rt, alloc, WHOLE, &mut source, &SOUND)
+}
+
+#[test]
+fn each_read_may_fail(rt: HostRuntime) -> Result<(), Fail> {
+    for read in 1..8 {
+        let left = ran_with_a_fault(&rt, rt.alloc(), read)?;
+        assert_refused(&rt, &left, 3, "quantreg: source: SourceFault\n", "read");
+    }
+    let left = ran_with_a_fault(&rt, rt.alloc(), 8)?;
+    assert_printed(&rt, &left, WHOLE_REPORT, "no eighth read");
+    Ok(())
+}
+
+static SINK_FAULT: &str = "quantreg: sink: SinkFault\n";
+
+// The run of the whole table into a sink that takes 16 bytes a write, and whose write of this number fails.
+fn printed_with_a_fault<R: Threads + Sync>(
+    rt: &R,
+    alloc: Global,
+    write: u32,
+) -> Result<Left, Fail> {
+    let mut source = SureSource::new(LINE.as_bytes().to_vec(alloc)?);
+    let mut fails = Vec::new(alloc);
+    fails.push(write)?;
+    let out = MemSink::new(alloc, 4096, 16, fails)?;
+    let err = MemSink::new(alloc, 4096, 16, Vec::new(alloc))?;
+    ran_into(rt, alloc, WHOLE, &mut source, out, err)
+}
+
+#[test]
+fn each_write_may_fail(rt: HostRuntime) -> Result<(), Fail> {
+    let mut writes = 0u32;
+    for (index, _) in WHOLE_REPORT.as_bytes().chunks(16).enumerate() {
+        writes = writes.wrapping_add(1);
+        let left = printed_with_a_fault(&rt, rt.alloc(), writes)?;
+        assert!(rt; left.status == 4, "{writes}");
+        assert!(rt; left.told.as_slice() == SINK_FAULT.as_bytes(), "{writes}");
+        assert!(rt; left.printed.len() == index.wrapping_mul(16), "{writes}");
+        assert!(rt;
+            WHOLE_REPORT.as_bytes().starts_with(&left.printed),
+            "{writes}"
+        );
+    }
+    let left = printed_with_a_fault(&rt, rt.alloc(), writes.wrapping_add(1))?;
+    assert_printed(&rt, &left, WHOLE_REPORT, "no write is left");
+    Ok(())
+}

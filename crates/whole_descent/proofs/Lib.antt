@@ -1,0 +1,3 @@
+pub mod Scales
+pub mod Slopes
+pub mod Passed

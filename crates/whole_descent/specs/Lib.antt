@@ -1,0 +1,3 @@
+pub mod Quantiles
+pub mod Leavings
+pub mod Passing

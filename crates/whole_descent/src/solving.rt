@@ -1,0 +1,72 @@
+//! The solving step.
+ghost use Rattle.std.specs.Prelude.{◌≡◌, ◌≤◌, length, IfOk};
+ghost use Rattle.whole_steps.specs.Stations.{IsStation};
+ghost use Rattle.whole_descent.specs.Quantiles.{IsQuantile};
+ghost use Rattle.whole_descent.specs.Leavings.{IsLeavingAt, IsEnteringAt, IsSolvingOrNone};
+
+use crate::leaving::{Leaving, steepest};
+use crate::passing::Descent;
+use crate::quantile::Quantile;
+use frac_core::Exact;
+use std::alloc::Global;
+use tableau_model::Step;
+use whole_inverse::Obstacle;
+use whole_ratio::Line;
+use whole_solution::row_products;
+use whole_steps::Station;
+
+/// The row that enters where a position leaves.
+fn entering<F: Exact>(
+    alloc: Global,
+    station: &Station<'_>,
+    theta: Quantile,
+    leave: Leaving,
+) -> Result<u32, Obstacle>
+    requires station { IsStation station.now }
+    requires theta { IsQuantile theta }
+    requires leave { IsLeavingAt station.now theta leave }
+    ensures { IfOk result (IsEnteringAt station.now theta leave) }
+{
+    let basis = station.basis;
+    let solution = station.solution;
+    let column = basis.inverse.numerators(leave.position);
+    let coords = row_products(alloc, basis.rows, column, basis.limit)?;
+    let line = Line {
+        basis,
+        residuals: solution.residuals.as_slice(),
+        sides: solution.sides.as_slice(),
+        coords: coords.as_slice(),
+        position: leave.position,
+        direction: leave.direction,
+    };
+    let descent = Descent { line: &line, theta };
+    let guess = descent.guess::<F>(alloc, leave.slope)?;
+    let row = descent.tested::<F>(alloc, guess, leave.slope)?;
+    Ok(row)
+}
+
+/// The solving step at a quantile that is left, or none where no slope is negative.
+pub fn solving_step<F: Exact>(
+    alloc: Global,
+    station: &Station<'_>,
+    theta: Quantile,
+    columns: u32,
+) -> Result<Option<Step>, Obstacle>
+    requires station { IsStation station.now }
+    requires theta { IsQuantile theta }
+    requires columns { columns ≡ length station.now.basis.now.inverse.now.columns }
+    requires some { 1 ≤ columns }
+    ensures { IfOk result (IsSolvingOrNone station.now theta) }
+{
+    match steepest(station, theta, columns) {
+        Ok(None) => Ok(None),
+        Ok(Some(leave)) => {
+            let row = entering::<F>(alloc, station, theta, leave)?;
+            Ok(Some(Step {
+                position: leave.position,
+                row,
+            }))
+        }
+        Err(obstacle) => Err(obstacle),
+    }
+}

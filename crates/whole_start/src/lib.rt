@@ -1,0 +1,10 @@
+//! The greedy start of a problem in whole numbers.
+//!
+//! The one contract for the layers above: `whole_start` gives the rows of the greedy basis of rows in whole numbers, and the
+//! inverse of their entries, or refuses. Where the columns are dependent it refuses too: the fractions tell that, with the
+//! combination. A law leads from there to the greedy basis of the problem whose columns were multiplied by factors.
+#![tactic(auto)]
+
+mod start;
+
+pub use start::{WholeStart, whole_start};

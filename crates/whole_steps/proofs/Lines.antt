@@ -1,0 +1,32 @@
+-- The line along which a position leaves a station.
+use Rattle.std.specs.Prelude.{◌≡◌, ℕ, ℤ, ◌<◌, true, List, length, slice_get, Option, Some, pos}
+use Rattle.std.specs.Option.{option_map_or}
+use Rattle.std.proofs.Common.{refl, sym, ap, subst, ◌∙◌}
+use Rattle.std.proofs.lemmas.Option.{get_or_from_slice_get}
+use Rattle.exact_algebra.specs.Rational.{ℚ, ◌*ℚ◌, whole}
+use Rattle.exact_algebra.specs.RationalSums.{sum_ℚ}
+use Rattle.exact_algebra.proofs.RationalSumLaws.{sum_ℚ-same}
+use Rattle.basis_model.specs.Basis.{coord}
+use Rattle.pivot_rule.specs.Steps.{moves}
+use Rattle.whole_inverse.specs.Shares.{share_at, whole_at}
+use Rattle.whole_inverse.specs.Squares.{WholeSquare, IsWholeSquare, inverse_of}
+use Rattle.whole_rows.specs.declared.rows.WholeRow.{WholeRow}
+use Rattle.whole_rows.specs.Wholes.{of_whole, sample_of_rows}
+use Rattle.whole_ratio.specs.declared.line.Line.{Line}
+use Rattle.whole_ratio.specs.Lines.{model, at_of, inverse_at, is_moving}
+
+pub moving_there : (l : Line) (i : ℕ) → moves (model l) (at_of l) (inverse_at l) l.position l.direction i ≡ true → is_moving l i ≡ true
+unfolding is_moving
+moving_there l i h = h
+
+-- the numerators at a position are as many as there are columns
+pub column_size : (s : WholeSquare) → IsWholeSquare s → (j : ℕ) (column : List ℤ) → j < length s.columns → slice_get s.columns j ≡ Some column → length column ≡ length s.columns
+column_size s h j column lj is = subst (λ xs. length xs ≡ length s.columns) (get_or_from_slice_get s.columns j column column is) (h.square j column lj)
+
+-- the products with them are the coordinates there
+pub coordinates_by : (s : WholeSquare) → IsWholeSquare s → (rows : List WholeRow) (i j : ℕ) (column : List ℤ) (made : ℚ) → j < length s.columns → slice_get s.columns j ≡ Some column
+    → made ≡ sum_ℚ (length column) (λ k. of_whole rows (λ r. whole_at r.x k) i *ℚ share_at s.determinant column k) → made ≡ coord (sample_of_rows (length s.columns) rows) (inverse_of s) i j
+coordinates_by s h rows i j column made lj is e =
+    e ∙ ap (λ n. sum_ℚ n (λ k. of_whole rows (λ r. whole_at r.x k) i *ℚ share_at s.determinant column k)) (column_size s h j column lj is)
+    ∙ sum_ℚ-same (length s.columns) (λ k. of_whole rows (λ r. whole_at r.x k) i *ℚ share_at s.determinant column k) (λ k. of_whole rows (λ r. whole_at r.x k) i *ℚ inverse_of s k j)
+    (λ k lk. ap (λ (o : Option (List ℤ)). of_whole rows (λ r. whole_at r.x k) i *ℚ option_map_or (λ xs. share_at s.determinant xs k) o (whole (pos 0))) (sym is))
