@@ -9,7 +9,7 @@ ghost use Rattle.tableau_model.specs.Answers.{IsOptimalAt, IsSolvingAnswer, IsFi
 ghost use Rattle.fraction_tableau.specs.Kept.{place};
 ghost use Rattle.fraction_tableau.specs.Standing.{Stands};
 
-use crate::fractions::{FractionTableau, refused};
+use crate::fractions::{FractionTableau, failure};
 use crate::standing::{Next, Standing};
 use crate::vertex::{ascending, by_row};
 use frac_core::{Exact, OutOfMemory};

@@ -18,7 +18,7 @@ ghost use Rattle.fraction_tableau.specs.WalkingSteps.{IsStepAt, IsStepSpillAt};
 
 use crate::crossings::Breakpoint;
 use crate::ends::Ends;
-use crate::fractions::{FractionTableau, refused};
+use crate::fractions::{FractionTableau, failure};
 use crate::vertex::ascending;
 use crate::view::BasisView;
 use frac_core::Exact;
