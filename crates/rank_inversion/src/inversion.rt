@@ -83,7 +83,8 @@ impl<'a, F: Exact> Inversion<'a, F> {
             steps: List::new(alloc),
             now: F::zero(),
         };
-        walk_to_end(from, self.course(way), left)
+        let course = self.course(way);
+        walk_to_end(from, &course, left)
     }
 
     /// The trail of the solve, with the steps of both walks.

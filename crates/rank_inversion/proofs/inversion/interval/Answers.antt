@@ -4,7 +4,7 @@ use Rattle.rank_inversion.proofs.Inverted.{exact_is, none_limited, stop_limited}
 use Rattle.rank_inversion.proofs.inversion.interval.Goals as goal
 
 pub by_parts-requires : goal.by_parts-requires
-by_parts-requires g c κs within =
+by_parts-requires g c =
     record {
       asked = record {
         shaped = c.requires.shaped;

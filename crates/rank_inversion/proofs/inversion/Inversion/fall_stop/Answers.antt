@@ -2,11 +2,11 @@ use Rattle.rank_inversion.proofs.Inverted.{fall_limit, fall_spill}
 use Rattle.rank_inversion.proofs.inversion.Inversion.fall_stop.Goals as goal
 
 pub limit_stop-requires : goal.limit_stop-requires
-limit_stop-requires g c κs within =
+limit_stop-requires g c =
     let h = c.requires.halted in
     fall_limit g.F.Exact.value c.args.self.now c.requires.ready c.args.rise c.requires.risen c.in-PivotLimit.steps h.left h.count (rw c.in-PivotLimit.is at h.halted) g.F.Exact.range
 
 pub spill_stop-requires : goal.spill_stop-requires
-spill_stop-requires g c κs within =
+spill_stop-requires g c =
     let h = c.requires.halted in
     fall_spill g.F.Exact.value c.args.self.now c.requires.ready c.args.rise c.requires.risen c.in-Overflow.steps h.left c.in-Overflow.spill g.F.Exact.range h.count (rw c.in-Overflow.is at h.halted)
