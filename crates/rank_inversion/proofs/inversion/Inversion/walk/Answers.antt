@@ -1,8 +1,8 @@
 use Rattle.rank_inversion.proofs.Inverted.{asked_costs}
 use Rattle.rank_inversion.proofs.inversion.Inversion.walk.Goals as goal
 
-pub solved_basis-requires : goal.solved_basis-requires
-solved_basis-requires g c = record { shaped = c.requires.ready.askable.shaped; inverse = c.requires.ready.solution.inverse }
+pub solved_basis-requires-after_bounds : goal.solved_basis-requires-after_bounds
+solved_basis-requires-after_bounds g c κs within = record { shaped = c.requires.ready.askable.shaped; inverse = c.requires.ready.solution.inverse }
 
 pub walk_to_end-requires-clause-column : goal.walk_to_end-requires-clause-column
 walk_to_end-requires-clause-column g c κs within = rw (c.course-course.ensures, c.in-Ok.ensures {u = tt}) c.requires.ready.askable.column
