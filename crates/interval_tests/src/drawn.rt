@@ -4,9 +4,7 @@
 use crate::helpers::{Question, ask, problem, ratio};
 use frac_core::{Exact, Frac128};
 use loss_model::{Bound, Problem};
-use slow_ranks::{
-    CRITICAL, Ends, Parts, QUANTILES, RankTest, Ratio, draw, draw_table, rank_test,
-};
+use slow_ranks::{CRITICAL, Ends, Parts, QUANTILES, RankTest, Ratio, draw, draw_table, rank_test};
 use std::alloc::{AllocError, Global};
 use std::num::Wrapping;
 use std::process::Abort;
@@ -87,14 +85,11 @@ fn try_column(
     if count == 0 {
         return;
     }
-    tested.compare(
-        rt,
-        alloc,
-        whole(CRITICAL[draw(state, 6) as usize]),
-        counts,
-    );
+    tested.compare(rt, alloc, whole(CRITICAL[draw(state, 6) as usize]), counts);
     let place = draw(state, 1000) as usize % count;
-    let tie = tested.test.tie(tested.values.as_slice(), tested.values[place]);
+    let tie = tested
+        .test
+        .tie(tested.values.as_slice(), tested.values[place]);
     for factor in [[999, 1000], [1, 1], [1001, 1000]] {
         tested.compare(rt, alloc, tie.times(whole(factor)), counts);
     }
@@ -112,7 +107,12 @@ fn try_table(
     for column in 0..columns {
         let table = table.as_slice();
         let place = column as usize;
-        let test = rank_test(alloc, (columns as usize, table), place, (tau, Ratio::whole(0)))?;
+        let test = rank_test(
+            alloc,
+            (columns as usize, table),
+            place,
+            (tau, Ratio::whole(0)),
+        )?;
         let values = test.coefficients(alloc)?;
         let problem = problem(rt, alloc, columns, table)?;
         try_column(
@@ -146,6 +146,9 @@ fn drawn_intervals(rt: HostRuntime) -> Result<(), Fail> {
         intervals,
         infinite,
     } = counts;
-    assert!(rt; (intervals, infinite) == (492, 412), "{intervals} {infinite}");
+    assert!(rt;
+        (intervals, infinite) == (492, 412),
+        "{intervals} {infinite}"
+    );
     Ok(())
 }

@@ -19,9 +19,10 @@ use Rattle.rank_inversion.specs.Stops.{IsBound, IsWalkStop, IsIntervalStop}
 module _ {F : Type 0} (value : F → Fraction) (p : Problem F) (j : ℕ) (tau crit : ℚ) where
   -- by the inverse of the Gram matrix there is a bound
   pub bound_there : (s : Square F) → IsGramInverse value p s → j < p.columns → (bound : ℚ) × IsBound value p j tau crit bound
-  bound_there s h lj =
-      (rank_bound tau crit (squared_length (sample value p) j (projection_of (inverse_entry value s) j)),
-      (projection_of (inverse_entry value s) j, (projects (sample value p) j (inverse_entry value s) lj h.inverse).0, refl))
+  bound_there s h lj = (
+    rank_bound tau crit (squared_length (sample value p) j (projection_of (inverse_entry value s) j)),
+    (projection_of (inverse_entry value s) j, (projects (sample value p) j (inverse_entry value s) lj h.inverse).0, refl),
+  )
 
   module _ (range limit : ℕ) where
     -- an interval stops for what stops the inverse of the Gram matrix

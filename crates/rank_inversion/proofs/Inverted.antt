@@ -102,44 +102,62 @@ module _ {F : Type 0} (value : F → Fraction) (v : Inversion F) (ready : IsRead
   pub rise_limit : (steps none : List (Exchange F)) (left : ℕ) → none ≡ [] → length v.solved.now.trail.steps + left ≡ v.limit → IsAtLimit value p (course_of v Rise) solved left steps
       → (range : ℕ) → IsStopHere value range v (PivotLimit v.limit (trail_with v steps none))
   rise_limit steps none left empty count h range =
-      subst (λ none. IsStopHere value range v (PivotLimit v.limit (trail_with v steps none))) (sym empty)
-      (refl, (bound, ready.bound, inr (record {
-        basis = solved;
-        lawful = lawful steps [] h.walked tt (inl refl);
-        count = let all : length steps ≡ left = h.count in omega (arith, all, count);
-        more = inl (refl, h.more);
-      })))
+      subst (λ none. IsStopHere value range v (PivotLimit v.limit (trail_with v steps none))) (sym empty) (
+        refl,
+        (
+          bound,
+          ready.bound,
+          inr (record {
+            basis = solved;
+            lawful = lawful steps [] h.walked tt (inl refl);
+            count = let all : length steps ≡ left = h.count in omega (arith, all, count);
+            more = inl (refl, h.more);
+          }),
+        ),
+      )
 
   pub rise_spill : (steps none : List (Exchange F)) (left : ℕ) (s : Spill F) (range : ℕ) → none ≡ [] → length v.solved.now.trail.steps + left ≡ v.limit → IsSpilled value p (course_of v Rise) solved range left steps s
       → IsStopHere value range v (Overflow (trail_with v steps none) s)
   rise_spill steps none left s range empty count h =
-      subst (λ none. IsStopHere value range v (Overflow (trail_with v steps none) s)) (sym empty)
-      (bound, ready.bound, record {
-        solved = solved;
-        lawful = lawful steps [] h.walked tt (inl refl);
-        short = let few : length steps ≤ left = h.short in omega (arith, few, count);
-        here = inl (refl, h.spill);
-      })
+      subst (λ none. IsStopHere value range v (Overflow (trail_with v steps none) s)) (sym empty) (
+        bound,
+        ready.bound,
+        record {
+          solved = solved;
+          lawful = lawful steps [] h.walked tt (inl refl);
+          short = let few : length steps ≤ left = h.short in omega (arith, few, count);
+          here = inl (refl, h.spill);
+        },
+      )
 
   pub fall_limit : (up : Arrival F) → IsRisen value v up → (steps : List (Exchange F)) (left : ℕ) → length v.solved.now.trail.steps + (length up.steps + left) ≡ v.limit → IsAtLimit value p (course_of v Fall) solved left steps
       → (range : ℕ) → IsStopHere value range v (PivotLimit v.limit (trail_with v up.steps steps))
-  fall_limit up h steps left count k range =
-      (refl, (bound, ready.bound, inr (record {
+  fall_limit up h steps left count k range = (
+    refl,
+    (
+      bound,
+      ready.bound,
+      inr (record {
         basis = solved;
         lawful = lawful up.steps steps h.ended.walked k.walked (inr (risen up steps h));
         count = let all : length steps ≡ left = k.count in omega (arith, all, count);
         more = inr (risen up steps h, k.more);
-      })))
+      }),
+    ),
+  )
 
   pub fall_spill : (up : Arrival F) → IsRisen value v up → (steps : List (Exchange F)) (left : ℕ) (s : Spill F) (range : ℕ) → length v.solved.now.trail.steps + (length up.steps + left) ≡ v.limit → IsSpilled value p (course_of v Fall) solved range left steps s
       → IsStopHere value range v (Overflow (trail_with v up.steps steps) s)
-  fall_spill up h steps left s range count k =
-      (bound, ready.bound, record {
-        solved = solved;
-        lawful = lawful up.steps steps h.ended.walked k.walked (inr (risen up steps h));
-        short = let few : length steps ≤ left = k.short in omega (arith, few, count);
-        here = inr (risen up steps h, k.spill);
-      })
+  fall_spill up h steps left s range count k = (
+    bound,
+    ready.bound,
+    record {
+      solved = solved;
+      lawful = lawful up.steps steps h.ended.walked k.walked (inr (risen up steps h));
+      short = let few : length steps ≤ left = k.short in omega (arith, few, count);
+      here = inr (risen up steps h, k.spill);
+    },
+  )
 
   -- ---- the interval
 

@@ -53,30 +53,30 @@ module _ {F : Type 0} (value : F → Fraction) (range : ℕ) (p : Sample) (j : �
   cost_here fall i li h = of_walk (of_cost i li h)
 
   pub gap_here : (way : Way) → (k : ℕ) (d : Direction) → k < p.columns → IsCrossingOperation value range k d 1 Sub (bound_towards p tau (at k) d) (dual_value p at a tau k) s → IsRankSpill value range way p j tau bound at a from s
-  gap_here rise k d lk h = 
+  gap_here rise k d lk h =
       of_walk (of_crossing k d lk (inl (subst (λ x. IsCrossingOperation value range k d 1 Sub x (dual_value p at a tau k) s) (bound_is p tau (at k) d) h)))
-  gap_here fall k d lk h = 
+  gap_here fall k d lk h =
       of_walk (of_crossing k d lk (inl (subst (λ x. IsCrossingOperation value range k d 1 Sub x (dual_value p at a tau k) s) (bound_is p tau (at k) d) h)))
 
   pub quotient_here : (way : Way) → (k : ℕ) (d : Direction) → j < p.columns → k < p.columns → IsMoving way d (a j k)
       → IsCrossingOperation value range k d 3 Div (bound_towards p tau (at k) d -ℚ dual_value p at a tau k) (a j k) s → IsRankSpill value range way p j tau bound at a from s
-  quotient_here rise k d lj lk moving h = 
+  quotient_here rise k d lj lk moving h =
       of_walk (of_crossing k d lk (inr (inr (
         ((crossing (tested rise p tau j) at a k d _).0 (crosses rise p j tau at a lj k d moving)).0,
         subst (λ x. IsCrossingOperation value range k d 3 Div (x -ℚ dual_value p at a tau k) (a j k -ℚ whole (pos 0)) s) (bound_is p tau (at k) d)
-        (subst (λ y. IsCrossingOperation value range k d 3 Div (bound_towards p tau (at k) d -ℚ dual_value p at a tau k) y s) (less_nothing (a j k)) h),
+            (subst (λ y. IsCrossingOperation value range k d 3 Div (bound_towards p tau (at k) d -ℚ dual_value p at a tau k) y s) (less_nothing (a j k)) h),
       ))))
-  quotient_here fall k d lj lk moving h = 
+  quotient_here fall k d lj lk moving h =
       of_walk (of_crossing k d lk (inr (inr (
         ((crossing (tested fall p tau j) at a k d _).0 (crosses fall p j tau at a lj k d moving)).0,
         subst (λ x. IsCrossingOperation value range k d 3 Div (x -ℚ dual_value p at a tau k) (a j k -ℚ whole (pos 0)) s) (bound_is p tau (at k) d)
-        (subst (λ y. IsCrossingOperation value range k d 3 Div (bound_towards p tau (at k) d -ℚ dual_value p at a tau k) y s) (less_nothing (a j k)) h),
+            (subst (λ y. IsCrossingOperation value range k d 3 Div (bound_towards p tau (at k) d -ℚ dual_value p at a tau k) y s) (less_nothing (a j k)) h),
       ))))
 
   pub entered_here : (way : Way) → (x : ℚ) → from ≡ parameter_of way x → (k : ℕ) → k < p.columns → IsTermSpill value range (site_of DualValue k 1 1) (dual_value p at a tau k) (a j k) x s → IsRankSpill value range way p j tau bound at a from s
-  entered_here rise x e k lk h = 
+  entered_here rise x e k lk h =
       of_walk (of_entered k lk (subst (λ x. IsTermSpill value range (site_of DualValue k 1 1) (dual_value p at a tau k) (a j k) x s) (sym (ap (parameter_of rise) e ∙ turned_twice rise x)) h))
-  entered_here fall x e k lk h = 
+  entered_here fall x e k lk h =
       of_walk (of_entered k lk (subst (λ x. IsTermSpill value range (site_of DualValue k 1 1) (dual_value p at a tau k) (a j k) x s) (sym (ap (parameter_of fall) e ∙ turned_twice fall x)) h))
 
   pub break_here : (way : Way) → (t : ℚ) (m : ℕ) (d : Direction) → IsNextBreak (tested way p tau j) at a from t m d → (k : ℕ) → k < p.columns

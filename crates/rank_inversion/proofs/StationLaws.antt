@@ -110,7 +110,9 @@ module _ {F : Type 0} (value : F → Fraction) (v : Station F) where
       → rational (value theta) ≡ crossing_at value (sample_at value v) (rows_at value v) (entries_at value v) v.course k d
       → IsCrossingAt value (Moves value v.course (entries_at value v)) (crossing_at value (sample_at value v) (rows_at value v) (entries_at value v) v.course) k (Some (record { theta = theta; position = k; direction = d }))
   crossing_some k d theta moving is = (
-    refl, moving, is,
+    refl,
+    moving,
+    is,
     λ e other.
         subst (λ e. rational (value theta) ≤ℚ crossing_at value (sample_at value v) (rows_at value v) (entries_at value v) v.course k e)
         (one_direction (way_of v.course.way) (entries_at value v v.course.column k) d e moving other)

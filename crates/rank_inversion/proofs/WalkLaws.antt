@@ -144,15 +144,21 @@ module _ {F : Type 0} (value : F → Fraction) (p : Problem F) (c : Course F) (s
     left_after rise x k step =
         loop.at_led value p solved w.steps w.tableau.rows (inverse_entry value w.tableau.square) k.leads k.size k.is_basis k.ends
         (λ rows a. (t : ℚ) × (j : ℕ) × (r : ℕ) × IsWalkingStep (tested rise (sample value p) (tau_of value c) c.column) (slice_index rows) a (is_within (bound_of value c))
-        (value_after (when_on rise value) (tested rise (sample value p) (tau_of value c) c.column) (is_within (bound_of value c)) (whole (pos 0)) w.steps) t j r)
-        (when_on rise value x.theta, x.position, x.row,
-        subst (λ from. IsWalkingStep (tested rise (sample value p) (tau_of value c) c.column) (slice_index w.tableau.rows) (inverse_entry value w.tableau.square) (is_within (bound_of value c)) from (when_on rise value x.theta) x.position x.row) (sym k.reaches) step)
+        (value_after (when_on rise value) (tested rise (sample value p) (tau_of value c) c.column) (is_within (bound_of value c)) (whole (pos 0)) w.steps) t j r) (
+          when_on rise value x.theta,
+          x.position,
+          x.row,
+          subst (λ from. IsWalkingStep (tested rise (sample value p) (tau_of value c) c.column) (slice_index w.tableau.rows) (inverse_entry value w.tableau.square) (is_within (bound_of value c)) from (when_on rise value x.theta) x.position x.row) (sym k.reaches) step,
+        )
     left_after fall x k step =
         loop.at_led value p solved w.steps w.tableau.rows (inverse_entry value w.tableau.square) k.leads k.size k.is_basis k.ends
         (λ rows a. (t : ℚ) × (j : ℕ) × (r : ℕ) × IsWalkingStep (tested fall (sample value p) (tau_of value c) c.column) (slice_index rows) a (is_within (bound_of value c))
-        (value_after (when_on fall value) (tested fall (sample value p) (tau_of value c) c.column) (is_within (bound_of value c)) (whole (pos 0)) w.steps) t j r)
-        (when_on fall value x.theta, x.position, x.row,
-        subst (λ from. IsWalkingStep (tested fall (sample value p) (tau_of value c) c.column) (slice_index w.tableau.rows) (inverse_entry value w.tableau.square) (is_within (bound_of value c)) from (when_on fall value x.theta) x.position x.row) (sym k.reaches) step)
+        (value_after (when_on fall value) (tested fall (sample value p) (tau_of value c) c.column) (is_within (bound_of value c)) (whole (pos 0)) w.steps) t j r) (
+          when_on fall value x.theta,
+          x.position,
+          x.row,
+          subst (λ from. IsWalkingStep (tested fall (sample value p) (tau_of value c) c.column) (slice_index w.tableau.rows) (inverse_entry value w.tableau.square) (is_within (bound_of value c)) from (when_on fall value x.theta) x.position x.row) (sym k.reaches) step,
+        )
 
     pub along_limit : (x : Exchange F) → IsStepAt value w.tableau c w.now x → length w.steps ≡ limit → IsAtLimit value p c solved limit w.steps
     along_limit x step count = record { walked = h.walking.walked; count = count; more = left_after (way_of c.way) x h.walking (step_here w h x step) }

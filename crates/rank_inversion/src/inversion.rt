@@ -15,10 +15,10 @@ ghost use Rattle.rank_inversion.specs.Tests.{IsTested};
 ghost use Rattle.rank_inversion.specs.Walks.{IsEnded, IsHalted};
 ghost use Rattle.rank_inversion.specs.Inversions.{IsAskable, IsReady, course_of, trail_with, IsStopHere, IsRisen, IsFallen, IsRiseHalt, IsFallHalt};
 
+use crate::column_test::{Asked, RankTest, rank_test};
 use crate::course::{Course, Way};
 use crate::gram::gram_inverse;
-use crate::column_test::{Asked, RankTest, rank_test};
-use crate::walking::{Walk, WalkHalt, Arrival, walk_to_end};
+use crate::walking::{Arrival, Walk, WalkHalt, walk_to_end};
 use br_pivot::{Optimum, solve_at};
 use frac_core::{Exact, List, OutOfMemory};
 use fraction_tableau::FractionTableau;
@@ -47,12 +47,7 @@ fn solved_basis<'a, F: Exact>(
 {
     let rows = List::copy(alloc, solved.basis.rows.as_slice())?;
     let inverse = solved.inverse.copy()?;
-    Ok(FractionTableau::over(
-        alloc,
-        problem,
-        Basis { rows },
-        inverse,
-    ))
+    Ok(FractionTableau::over(alloc, problem, Basis { rows }, inverse))
 }
 
 impl<'a, F: Exact> Inversion<'a, F> {
@@ -83,7 +78,8 @@ impl<'a, F: Exact> Inversion<'a, F> {
             steps: List::new(alloc),
             now: F::zero(),
         };
-        walk_to_end(from, self.course(way), left)
+        let course = self.course(way);
+        walk_to_end(from, &course, left)
     }
 
     /// The trail of the solve, with the steps of both walks.
@@ -106,12 +102,7 @@ impl<'a, F: Exact> Inversion<'a, F> {
     }
 
     /// The stop where a walk reaches the limit, after these steps of both walks.
-    fn limit_stop(
-        &self,
-        alloc: Global,
-        rise: List<Exchange<F>>,
-        fall: List<Exchange<F>>,
-    ) -> Stop<F>
+    fn limit_stop(&self, alloc: Global, rise: List<Exchange<F>>, fall: List<Exchange<F>>) -> Stop<F>
         requires { IsStopHere F.value F.range self.now (PivotLimit self.now.limit (trail_with self.now rise fall)) }
         ensures { IsStopHere F.value F.range self.now result }
     {

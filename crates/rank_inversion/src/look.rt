@@ -115,13 +115,13 @@ impl<'a, F: Exact> Station<'a, F> {
 fn duals_of<F: Exact>(
     alloc: Global,
     solution: &BasicSolution<F>,
-    course: Course<F>,
+    course: &Course<F>,
 ) -> Result<List<F>, Short<F>>
     requires same { length solution.now.linear ≡ length solution.now.constant }
     requires few { length solution.now.constant ≤ most_columns }
     ensures size { IfOk result (λ made. length made ≡ length solution.now.constant) }
-    ensures each { IfOk result (λ made. (j : ℕ) → j < length solution.now.constant → value_at F.value made j ≡ value_at F.value solution.now.constant j +ℚ (value_at F.value solution.now.linear j *ℚ rational (F.value course.tau))) }
-    ensures spill { IfErr result (IsShortOf (IsDualFault F.value F.range (length solution.now.constant) (value_at F.value solution.now.constant) (value_at F.value solution.now.linear) (rational (F.value course.tau)))) }
+    ensures each { IfOk result (λ made. (j : ℕ) → j < length solution.now.constant → value_at F.value made j ≡ value_at F.value solution.now.constant j +ℚ (value_at F.value solution.now.linear j *ℚ rational (F.value course.now.tau))) }
+    ensures spill { IfErr result (IsShortOf (IsDualFault F.value F.range (length solution.now.constant) (value_at F.value solution.now.constant) (value_at F.value solution.now.linear) (rational (F.value course.now.tau)))) }
 {
     duals_at(
         alloc,
@@ -134,13 +134,13 @@ fn duals_of<F: Exact>(
 /// What is left at a basis, which a walk entered where the column weighed so much.
 pub fn look<'a, F: Exact>(
     tableau: &FractionTableau<'a, F>,
-    course: Course<F>,
+    course: &Course<F>,
     from: F,
 ) -> Result<Next<F>, Short<F>>
-    requires column { course.column < tableau.now.problem.columns }
-    requires optimal { IsOptimalIn (family_of F.value (sample F.value tableau.now.problem) course) (slice_index tableau.now.rows) (inverse_entry F.value tableau.now.square) (parameter_at F.value course from) }
-    ensures next { IfOk result (IsNextAt F.value tableau.now course from) }
-    ensures spill { IfErr result (IsShortOf (IsSpillAt F.value F.range tableau.now course from)) }
+    requires column { course.now.column < tableau.now.problem.columns }
+    requires optimal { IsOptimalIn (family_of F.value (sample F.value tableau.now.problem) course.now) (slice_index tableau.now.rows) (inverse_entry F.value tableau.now.square) (parameter_at F.value course.now from) }
+    ensures next { IfOk result (IsNextAt F.value tableau.now course.now from) }
+    ensures spill { IfErr result (IsShortOf (IsSpillAt F.value F.range tableau.now course.now from)) }
 {
     let solution = tableau.solution()?;
     let duals = duals_of(tableau.alloc(), &solution, course)?;
@@ -148,7 +148,7 @@ pub fn look<'a, F: Exact>(
         tableau,
         solution,
         duals,
-        course,
+        course: *course,
     };
     station.next(from)
 }

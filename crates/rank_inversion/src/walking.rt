@@ -56,10 +56,10 @@ fn halted<F: Exact>(short: Short<F>, steps: List<Exchange<F>>) -> WalkHalt<F>
 
 impl<'a, F: Exact> Walk<'a, F> {
     /// Makes the walking step. After a refusal the steps are as before.
-    fn make_step(&mut self, course: Course<F>, step: Exchange<F>) -> Result<(), Short<F>>
-        requires step { IsStepAt F.value self.old.tableau course self.old.now step }
-        ensures made { OnOk result (IsAdvanced F.value course self.old self.new) }
-        ensures refused { IfErr result (IsKeptShort F.value F.range course self.old self.new) }
+    fn make_step(&mut self, course: &Course<F>, step: Exchange<F>) -> Result<(), Short<F>>
+        requires step { IsStepAt F.value self.old.tableau course.now self.old.now step }
+        ensures made { OnOk result (IsAdvanced F.value course.now self.old self.new) }
+        ensures refused { IfErr result (IsKeptShort F.value F.range course.now self.old self.new) }
     {
         let _course = course;
         match self.tableau.enter(Step {
@@ -78,11 +78,11 @@ impl<'a, F: Exact> Walk<'a, F> {
     }
 
     /// Makes the walking step that is left, or gives the end. After a refusal the steps are as before.
-    fn advance(&mut self, course: Course<F>) -> Result<Option<End<F>>, Short<F>>
-        requires column { course.column < self.old.tableau.problem.columns }
-        requires optimal { IsOptimalIn (family_of F.value (sample F.value self.old.tableau.problem) course) (slice_index self.old.tableau.rows) (inverse_entry F.value self.old.tableau.square) (parameter_at F.value course self.old.now) }
-        ensures next { IfOk result (IsAdvancedOrEnded F.value course self.old self.new) }
-        ensures refused { IfErr result (IsKeptShort F.value F.range course self.old self.new) }
+    fn advance(&mut self, course: &Course<F>) -> Result<Option<End<F>>, Short<F>>
+        requires column { course.now.column < self.old.tableau.problem.columns }
+        requires optimal { IsOptimalIn (family_of F.value (sample F.value self.old.tableau.problem) course.now) (slice_index self.old.tableau.rows) (inverse_entry F.value self.old.tableau.square) (parameter_at F.value course.now self.old.now) }
+        ensures next { IfOk result (IsAdvancedOrEnded F.value course.now self.old self.new) }
+        ensures refused { IfErr result (IsKeptShort F.value F.range course.now self.old self.new) }
     {
         match look(&self.tableau, course, self.now) {
             Ok(Next::Step(step)) => match self.make_step(course, step) {
@@ -98,14 +98,14 @@ impl<'a, F: Exact> Walk<'a, F> {
 /// Walks from the solved basis to the end, within a limit of steps.
 pub fn walk_to_end<'a, F: Exact>(
     from: Walk<'a, F>,
-    course: Course<F>,
+    course: &Course<F>,
     limit: u32,
 ) -> Result<Arrival<F>, WalkHalt<F>>
-    requires column { course.column < from.tableau.problem.columns }
-    requires costs { HasCosts (sample F.value from.tableau.problem) (tau_of F.value course) }
-    requires begun { IsBegun F.value course from }
-    ensures ended { IfOk result (IsEnded F.value from.entry.tableau.problem course from.entry.tableau.rows limit) }
-    ensures halted { IfErr result (IsHalted F.value from.entry.tableau.problem course from.entry.tableau.rows F.range limit) }
+    requires column { course.now.column < from.tableau.problem.columns }
+    requires costs { HasCosts (sample F.value from.tableau.problem) (tau_of F.value course.now) }
+    requires begun { IsBegun F.value course.now from }
+    ensures ended { IfOk result (IsEnded F.value from.entry.tableau.problem course.now from.entry.tableau.rows limit) }
+    ensures halted { IfErr result (IsHalted F.value from.entry.tableau.problem course.now from.entry.tableau.rows F.range limit) }
 {
     let mut walk = from;
     for _ in 0..limit {

@@ -2,8 +2,8 @@
 
 use loss_model::Bound;
 use slow_ranks::{
-    CRITICAL, Data, Ends, Parts, QUANTILES, RankTest, Ratio, Vertex, after, before, draw, draw_table,
-    rank_test,
+    CRITICAL, Data, Ends, Parts, QUANTILES, RankTest, Ratio, Vertex, after, before, draw,
+    draw_table, rank_test,
 };
 use std::alloc::{AllocError, Global};
 use std::num::Wrapping;
@@ -163,7 +163,6 @@ impl Tested {
         }
         true
     }
-
 }
 
 fn median_test(

@@ -3,8 +3,8 @@ use Rattle.rank_inversion.specs.Inversions.{IsAskable}
 use Rattle.rank_inversion.proofs.Inverted.{exact_is, none_limited, stop_limited}
 use Rattle.rank_inversion.proofs.inversion.interval.Goals as goal
 
-pub by_parts-requires : goal.by_parts-requires
-by_parts-requires g c κs within =
+pub by_parts-requires-after_bounds : goal.by_parts-requires-after_bounds
+by_parts-requires-after_bounds g c κs within =
     record {
       asked = record {
         shaped = c.requires.shaped;

@@ -17,13 +17,13 @@ duals_of-requires-clause-few g c κs within =
 pub returns-in_err-solution-clause-spill : goal.returns-in_err-solution-clause-spill
 returns-in_err-solution-clause-spill g c =
     let returned = err_from_is_err_and c.from_residual.result c.from_residual.ensures.1 in
-    rw (returned.1, returned.2) (basis_short g.F.Exact.value c.args.tableau.now c.args.course c.args.from g.F.Exact.range _ (c.in_err-solution.ensures {u = tt}).spill)
+    rw (returned.1, returned.2) (basis_short g.F.Exact.value c.args.tableau.now c.args.course.now c.args.from g.F.Exact.range _ (c.in_err-solution.ensures {u = tt}).spill)
 
 pub returns-in_err-duals-clause-spill : goal.returns-in_err-duals-clause-spill
 returns-in_err-duals-clause-spill g c =
     let returned = err_from_is_err_and c.from_residual-in_err-duals.result c.from_residual-in_err-duals.ensures.1 in
     rw (returned.1, returned.2)
-    (dual_short g.F.Exact.value c.args.tableau.now c.args.course c.in_ok-solution.solution (c.in_ok-solution.ensures {u = tt}).solution c.args.from g.F.Exact.range _ (c.in_err-duals.ensures {u = tt}).spill)
+    (dual_short g.F.Exact.value c.args.tableau.now c.args.course.now c.in_ok-solution.solution (c.in_ok-solution.ensures {u = tt}).solution c.args.from g.F.Exact.range _ (c.in_err-duals.ensures {u = tt}).spill)
 
 pub next-requires-clause-station : goal.next-requires-clause-station
 next-requires-clause-station g c κs within =
@@ -32,6 +32,6 @@ next-requires-clause-station g c κs within =
     record {
       kept = stands.kept;
       solution = stands.solution;
-      duals = duals_are g.F.Exact.value c.args.tableau.now c.args.course c.in_ok-solution.solution stands.solution c.in_ok-duals.duals made.size made.each;
+      duals = duals_are g.F.Exact.value c.args.tableau.now c.args.course.now c.in_ok-solution.solution stands.solution c.in_ok-duals.duals made.size made.each;
       column = c.requires.column;
     }

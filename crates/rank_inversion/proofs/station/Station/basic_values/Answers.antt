@@ -8,4 +8,4 @@ pub returns-clause-each : goal.returns-clause-each
 returns-clause-each g c =
     let picked = rw (c.as_slice-rows.ensures, c.basis.ensures.rows, c.as_slice.ensures) at (c.in_ok-basic.ensures {u = tt}) in
     λ k lk.
-        value_of_row g.F.Exact.value c.args.self.now c.requires.station c.args.weight c.in_ok-values.values (c.in_ok-values.ensures {u = tt}).values c.args.sorted.now c.in_ok-basic.basic k (picked.each k lk)
+    value_of_row g.F.Exact.value c.args.self.now c.requires.station c.args.weight c.in_ok-values.values (c.in_ok-values.ensures {u = tt}).values c.args.sorted.now c.in_ok-basic.basic k (picked.each k lk)
