@@ -78,12 +78,7 @@ impl<'a> Descent<'a> {
     }
 
     /// Rows parted by one of them.
-    fn parted<F: Exact>(
-        &self,
-        alloc: Global,
-        rows: &[u32],
-        pivot: Mover,
-    ) -> Result<Parts, Obstacle>
+    fn parted<F: Exact>(&self, alloc: Global, rows: &[u32], pivot: Mover) -> Result<Parts, Obstacle>
         requires descent { IsDescent self.now }
         requires pivot { IsMover self.now.line.now pivot }
     {
