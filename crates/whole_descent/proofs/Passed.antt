@@ -1,5 +1,5 @@
 -- Rows that are passed on a line.
-use Rattle.std.specs.Prelude.{◌≡◌, Option, None, Some, IfSome, ℕ, ℤ, ◌+◌, ◌<◌, ◌≤◌, ◌+ℤ◌, ◌*ℤ◌, ◌≤ℤ◌, ◌<ℤ◌, Bool, true, false, ◌&&◌, if◌then◌else◌, unsigned_abs, List, [], ◌∷◌, length, get_or, pos}
+use Rattle.std.specs.Prelude.{◌≡◌, Option, None, Some, IfSome, ℕ, ℤ, ◌+◌, ◌<◌, ◌≤◌, ◌+ℤ◌, ◌*ℤ◌, ◌≤ℤ◌, ◌<ℤ◌, true, false, ◌&&◌, if◌then◌else◌, unsigned_abs, [], ◌∷◌, length, get_or, pos}
 use Rattle.std.proofs.Common.{arith, refl, sym, ap, ap₂, subst, ◌∙◌}
 use Rattle.exact_algebra.specs.Fraction.{rational}
 use Rattle.exact_algebra.specs.Solver.{number, ◌⊞◌, ◌⊠◌, v0, v1, v2, v3, v4}
@@ -8,13 +8,10 @@ use Rattle.exact_algebra.proofs.RationalLaws.{whole-add, ring_ℚ}
 use Rattle.exact_algebra.specs.RationalSums.{sum_ℚ}
 use Rattle.exact_algebra.proofs.RationalSumLaws.{sum_ℚ-next}
 use Rattle.loss_model.specs.Spill.{abs_ℚ}
-use Rattle.basis_model.specs.Basis.{coord}
 use Rattle.pivot_rule.specs.Duals.{◌<ℚ◌}
-use Rattle.pivot_rule.specs.Steps.{slope, passing, slope_before, is_before, IsEntering}
+use Rattle.pivot_rule.specs.Steps.{slope, IsEntering}
 use Rattle.pivot_rule.proofs.Passing.{not_before_itself}
-use Rattle.whole_inverse.specs.Shares.{share}
 use Rattle.whole_rows.specs.declared.rows.WholeRow.{WholeRow}
-use Rattle.whole_rows.specs.Wholes.{of_whole}
 use Rattle.whole_solution.proofs.Numbers.{share_read}
 use Rattle.whole_solution.proofs.Reading.{row_read}
 use Rattle.whole_ratio.specs.declared.line.Line.{Line}
@@ -102,4 +99,4 @@ entering_is d r h = h
 
 pub mover_some : (l : Line) (i : ℕ) (o : Option Mover) → IsMoverAt l i o → IfSome o (λ m. IsMover l m)
 mover_some l i None h = tt
-mover_some l i (Some m) h = h.1
+mover_some l i (Some m) h = h.0

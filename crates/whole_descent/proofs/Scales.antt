@@ -4,7 +4,7 @@ use Rattle.std.proofs.Common.{arith, refl, sym, ap, ap₂, subst, ◌∙◌}
 use Rattle.std.proofs.lemmas.Int.{ints}
 use Rattle.exact_algebra.specs.Integers.{mul_positive}
 use Rattle.exact_algebra.specs.Solver.{number, ◌⊞◌, ◌⊠◌, v0, v1, v2, v3, v4, v5, v6}
-use Rattle.exact_algebra.specs.Rational.{ℚ, ◌+ℚ◌, ◌*ℚ◌, inverse, whole, ◌≤ℚ◌}
+use Rattle.exact_algebra.specs.Rational.{◌+ℚ◌, ◌*ℚ◌, inverse, whole, ◌≤ℚ◌}
 use Rattle.exact_algebra.proofs.RationalLaws.{whole-add, whole-mul, *ℚ-inverse, ring_ℚ, ring_by_ℚ, ≤ℚ_mul}
 use Rattle.exact_algebra.proofs.OrderLaws.{≤ℚ-from_mul}
 use Rattle.exact_algebra.proofs.Inverses.{inverse-mul}

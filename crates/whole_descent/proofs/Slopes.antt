@@ -1,14 +1,13 @@
 -- The slopes of a station at a quantile.
-use Rattle.std.specs.Prelude.{◌≡◌, ℕ, ℤ, ◌+◌, ◌<◌, ◌≤◌, ◌+ℤ◌, ◌*ℤ◌, ◌≤ℤ◌, ◌<ℤ◌, ◌⊎◌, unsigned_abs, length, pos}
-use Rattle.std.proofs.Common.{arith, refl, sym, ap, ap₂, subst, ◌∙◌, inl, inr}
+use Rattle.std.specs.Prelude.{◌≡◌, ℕ, ℤ, ◌<◌, ◌≤◌, ◌+ℤ◌, ◌*ℤ◌, ◌≤ℤ◌, ◌<ℤ◌, unsigned_abs, pos}
+use Rattle.std.proofs.Common.{sym, ap, ap₂, subst, ◌∙◌, inl, inr}
 use Rattle.exact_algebra.specs.Fraction.{rational}
-use Rattle.exact_algebra.specs.Rational.{ℚ, ◌+ℚ◌, ◌*ℚ◌, whole, ◌≤ℚ◌}
+use Rattle.exact_algebra.specs.Rational.{◌+ℚ◌, ◌*ℚ◌, ◌≤ℚ◌}
 use Rattle.exact_algebra.proofs.RationalLaws.{≤ℚ_refl}
 use Rattle.exact_algebra.proofs.OrderLaws.{le_from_not}
 use Rattle.basis_model.specs.declared.part.Part.TheVariants.{Constant, Linear}
 use Rattle.pivot_rule.specs.declared.direction.Direction.{Direction}
 use Rattle.pivot_rule.specs.declared.direction.Direction.TheVariants.{Upward, Downward}
-use Rattle.pivot_rule.specs.Duals.{◌<ℚ◌}
 use Rattle.pivot_rule.specs.Steps.{slope, HasNoNegativeSlope}
 use Rattle.walk_rule.specs.Families.{over_quantiles}
 use Rattle.walk_rule.proofs.Slopes.{affine, slope_is}
@@ -20,7 +19,7 @@ use Rattle.whole_steps.specs.Stations.{model, at_of, inverse_at, over_of, slope_
 use Rattle.whole_descent.specs.declared.quantile.Quantile.{Quantile}
 use Rattle.whole_descent.specs.declared.leaving.Leaving.{Leaving}
 use Rattle.whole_descent.specs.Quantiles.{IsQuantile, theta_of, number_over}
-use Rattle.whole_descent.specs.Leavings.{scale_of, leaving_of, number_is, number_at, IsLesserAt, IsLeavingAt}
+use Rattle.whole_descent.specs.Leavings.{scale_of, leaving_of, number_at, IsLesserAt, IsLeavingAt}
 use Rattle.whole_descent.proofs.Scales.{affine_share, scale_positive, share_negative, share_not_negative}
 
 module _ (s : Station) (q : Quantile) (positive : pos 1 ≤ℤ over_of s) (is : IsQuantile q) where

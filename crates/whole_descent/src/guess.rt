@@ -43,6 +43,17 @@ impl<'a> Descent<'a> {
         line.mover_at(row)
     }
 
+    /// What passing a row adds to the slope.
+    fn adding(&self, row: u32) -> Result<i128, Obstacle>
+        requires descent { IsDescent self.now }
+    {
+        if row as usize >= self.line.sides.len() {
+            return Err(Obstacle::TooWide);
+        }
+        let more = self.passing(row)?;
+        Ok(more)
+    }
+
     /// Puts a row on its side of another one.
     fn put<F: Exact>(
         &self,
@@ -67,12 +78,7 @@ impl<'a> Descent<'a> {
     }
 
     /// Rows parted by one of them.
-    fn parted<F: Exact>(
-        &self,
-        alloc: Global,
-        rows: &[u32],
-        pivot: Mover,
-    ) -> Result<Parts, Obstacle>
+    fn parted<F: Exact>(&self, alloc: Global, rows: &[u32], pivot: Mover) -> Result<Parts, Obstacle>
         requires descent { IsDescent self.now }
         requires pivot { IsMover self.now.line.now pivot }
     {
@@ -109,7 +115,7 @@ impl<'a> Descent<'a> {
             if reached >= 0 {
                 left = parts.before;
             } else {
-                let past = sum_of(reached, self.passing(row)?)?;
+                let past = sum_of(reached, self.adding(row)?)?;
                 if past >= 0 {
                     return Ok(row);
                 }

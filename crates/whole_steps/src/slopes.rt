@@ -4,7 +4,6 @@ ghost use Rattle.whole_inverse.specs.Shares.{share};
 ghost use Rattle.whole_ratio.specs.Lines.{turned_by};
 ghost use Rattle.whole_steps.specs.Stations.{IsStation, over_of, slope_at};
 
-
 use crate::station::Station;
 use basis_model::Part;
 use pivot_rule::Direction;

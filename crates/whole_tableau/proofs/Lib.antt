@@ -5,3 +5,4 @@ pub mod Stations
 pub mod Vertices
 pub mod Losses
 pub mod Segments
+pub mod Solved

@@ -127,8 +127,7 @@ module _ {F : Type 0} (value : F → Fraction) (k : Kept F) (h : IsKept value k)
     pub mover_there : (hi u : ℚ) → HasCosts (sample value k.problem) hi → Crosses (over_quantiles (sample value k.problem)) (slice_index k.rows) (unscaled (factor_at k.setting.wholes.factors) (inverse_of k.square)) u j d → u <ℚ hi
         → (i : ℕ) × (i < length t.basis.now.rows.now) × (moves (model t) (rows_at t) (inverse_at t) j d i ≡ true)
     mover_there hi u costs cross below =
-        let found = some_moves p at (unscaled s a) u hi j d (kept_is_place value k h).is_basis costs lj cross below in
-        (
+        let found = some_moves p at (unscaled s a) u hi j d (kept_is_place value k h).is_basis costs lj cross below in (
           found.0,
           subst (λ n. found.0 < n) (sym (ap (λ (xs : List WholeRow). length xs) is.rows ∙ h.setting.scaled.rows)) found.1,
           returned t is.rows is.at is.inverse (λ p at a e. moves p at a j d found.0 ≡ true)

@@ -80,13 +80,7 @@ impl<'a, F: Exact> WholeTableau<'a, F> {
         let setting = setting_of(alloc, problem)?;
         let rows = setting.wholes.rows.as_slice();
         let start = whole_start(alloc, rows, problem.columns, setting.limit)?;
-        Ok(WholeTableau::at(
-            alloc,
-            problem,
-            setting,
-            start.basis,
-            start.inverse,
-        ))
+        Ok(WholeTableau::at(alloc, problem, setting, start.basis, start.inverse))
     }
 
     /// Where its lists are made.

@@ -4,8 +4,6 @@ use mir.Syntax.{w128}
 use Rattle.std.specs.Prelude.{All}
 use Rattle.whole_inverse.specs.Shares.{share_at}
 use Rattle.whole_solution.specs.Standing.{side_in}
-use Rattle.whole_ratio.specs.declared.line.Line.{Line}
-use Rattle.whole_ratio.specs.Lines.{IsLine}
 use Rattle.whole_steps.specs.Stations.{over_of}
 use Rattle.whole_steps.proofs.Lines.{column_size, coordinates_by}
 use Rattle.whole_descent.proofs.Passed.{first_is, entering_is}
@@ -16,8 +14,8 @@ row_products-requires-clause-wide g c =
     let b = c.args.station.now.basis.now in
     subst (λ m. All (λ r. length r.x ≡ m) b.rows.now) (sym (column_size b.inverse.now c.requires.station.held.shape c.args.leave.position c.numerators-column.result.now c.requires.leave.leaving.position c.numerators-column.ensures)) c.requires.station.held.wide
 
-pub guess-requires-after_bounds : goal.guess-requires-after_bounds
-guess-requires-after_bounds g c κs within =
+pub guess-requires-clause-descent : goal.guess-requires-clause-descent
+guess-requires-clause-descent g c κs within =
     let s = c.args.station.now in
     let b = s.basis.now in
     let d = over_of s in

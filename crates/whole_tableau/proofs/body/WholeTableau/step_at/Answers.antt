@@ -35,8 +35,7 @@ first_mover-requires-clause-some g c κs within =
 pub returns : goal.returns
 returns g c =
     let value = g.F.Exact.value in
-    let hi = rational (value c.args.hi) in
-    (
+    let hi = rational (value c.args.hi) in (
       subst (λ z. z <ℚ hi) (c.in_ok-theta.ensures {u = tt})
           (is_below_by (rational (value c.in_ok-theta.theta)) hi c.is_lt.result (c.is_lt.ensures ∙ ap is_lt c.compare.ensures) c.if-not-is_lt.false),
       c.in_ok-theta.ensures {u = tt},
