@@ -1,3 +1,11 @@
 mod Operations
 mod Projections
 mod GramLaws
+mod Breaks
+mod Spills
+mod EndValues
+mod WalkLaws
+mod NoStep
+mod Costs
+pub mod Causes
+mod Inverted

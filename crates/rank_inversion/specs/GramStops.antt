@@ -1,4 +1,4 @@
--- Inner. Why a column isn't tested: the trail before the solve, and the operation that overflows there.
+-- Stated. Why a column isn't tested: the trail before the solve, and the operation that overflows there.
 use Rattle.std.specs.Prelude.{◌≡◌, ◌⊎◌, ℕ, List, [], ◌∷◌, map, Some, pos}
 use Rattle.exact_algebra.specs.Fraction.{Fraction}
 use Rattle.exact_algebra.specs.Rational.{ℚ, ◌-ℚ◌, ◌*ℚ◌, inverse, whole}

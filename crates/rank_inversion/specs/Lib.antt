@@ -1,4 +1,12 @@
 pub mod Grams
 pub mod GramRows
 pub mod GramStops
+pub mod Stops
 pub mod Tests
+pub mod Courses
+pub mod Stations
+pub mod Nexts
+pub mod Looks
+pub mod Walks
+pub mod Inversions
+pub mod Intervals

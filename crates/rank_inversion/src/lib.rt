@@ -1,15 +1,25 @@
-//! Rank intervals of coefficients (Koenker 2005, section 3.5): today the test of a column, and not yet the walks.
+//! Rank intervals of coefficients, by the inversion of a rank test (Koenker 2005, section 3.5; Gutenbrunner,
+//! Jurečková, Koenker and Portnoy 1993).
 //!
-//! The one contract for the layers above: `gram_inverse` inverts the Gram matrix of the weighted columns, once for a
-//! problem, and `rank_test` gives by it the projection of a column on the others and the bound on the square of its
-//! statistic; or they say what they had to stop for. It stands on the inverses of `basis_inverse` and on the laws
-//! of `rank_law`.
+//! The one contract for the layers above: `interval` bounds exactly the tested values that hold, with the
+//! lawful trail of the solve and of both walks, and what a certificate states of both ends; or it says what it
+//! had to stop for. Its parts are offered for intervals of many columns: `gram_inverse` once for a problem,
+//! `rank_test` once for a column, the solve of `br_pivot` once for a quantile, and `interval_from`. It stands on
+//! `br_pivot` for the solve, on the basis in fractions of `fraction_tableau` for the walks, and on the laws
+//! of `rank_walk`.
 #![tactic(auto)]
 
 mod column_test;
+mod course;
+mod ends;
 mod gram;
+mod inversion;
+mod look;
 mod projection;
+mod station;
+mod walking;
 
 pub use column_test::{Asked, RankTest, rank_test};
 pub use gram::{GramInverse, gram_inverse};
+pub use inversion::{interval, interval_from};
 pub use projection::{Projected, project};

@@ -158,9 +158,9 @@ fn dependent_columns_are_listed(rt: HostRuntime) -> Result<(), Fail> {
     Ok(())
 }
 
-fn is_limit_told(alloc: Global, line: &[u8]) -> Result<bool, Fail> {
+fn is_limit_told(alloc: Global, place: Place, line: &[u8]) -> Result<bool, Fail> {
     let halt = Halt::PivotLimit {
-        place: Place::Process,
+        place,
         limit: 2,
         trail: no_trail(alloc),
     };
@@ -170,7 +170,34 @@ fn is_limit_told(alloc: Global, line: &[u8]) -> Result<bool, Fail> {
 #[test]
 fn a_limit_is_told_with_its_place(rt: HostRuntime) -> Result<(), Fail> {
     let line = b"quantreg: solver: PivotLimit place=process limit=2\n";
-    let told = is_limit_told(rt.alloc(), line)?;
+    let told = is_limit_told(rt.alloc(), Place::Process, line)?;
     assert!(rt; told);
+    Ok(())
+}
+
+// The numerator and the denominator of the quantile of an interval of column 12, and the line.
+static QUANTILES: [(i128, i128, &[u8]); 2] = [
+    (
+        2,
+        3,
+        b"quantreg: solver: PivotLimit place=interval:12:2/3 limit=2\n",
+    ),
+    (
+        1,
+        1,
+        b"quantreg: solver: PivotLimit place=interval:12:1 limit=2\n",
+    ),
+];
+
+#[test]
+fn an_interval_is_told_by_its_column_and_quantile(rt: HostRuntime) -> Result<(), Fail> {
+    for (n, d, line) in &QUANTILES {
+        let place = Place::Interval {
+            column: 11,
+            tau: fraction(*n, *d),
+        };
+        let told = is_limit_told(rt.alloc(), place, line)?;
+        assert!(rt; told);
+    }
     Ok(())
 }

@@ -1,6 +1,9 @@
 -- Stated. The line of a fault, as data: the group, the name of the fault, and its fields.
 use Rattle.std.specs.Prelude.{ℕ, ◌+◌, List, [], ◌∷◌, ◌++◌, codes, decimal, ◌==◌, if◌then◌else◌}
 use Rattle.std.specs.List.{concat}
+use Rattle.cert_checker.specs.declared.verdict.Rejection.{Rejection}
+use Rattle.cert_text.specs.declared.fault.CertFault.{CertFault}
+use Rattle.cert_text.specs.declared.fault.CertFault.TheVariants as certs
 use Rattle.data_frame.specs.declared.fault.TableFault.{TableFault}
 use Rattle.data_frame.specs.declared.fault.TableFault.TheVariants as tables
 use Rattle.frac_core.specs.NumberText.{number_text_of}
@@ -23,11 +26,11 @@ use Rattle.report_text.specs.ReportText.{numbered, value}
 use Rattle.report_text.specs.declared.quantity.PrintedIndices.{PrintedIndices}
 use Rattle.report_text.specs.declared.quantity.PrintedIndices.TheVariants.{One, Two, Three}
 use Rattle.report_text.specs.declared.report.Place.{Place}
-use Rattle.report_text.specs.declared.report.Place.TheVariants.{Process}
+use Rattle.report_text.specs.declared.report.Place.TheVariants.{Process, Interval, Check}
 use Rattle.report_text.specs.declared.report.Refusal.{Refusal}
-use Rattle.report_text.specs.declared.report.Refusal.TheVariants.{TooLong, Table, Formula, RankWithPenalty, Design, Penalty, Program, Dependent}
+use Rattle.report_text.specs.declared.report.Refusal.TheVariants.{TooLong, Table, Formula, RankWithPenalty, Design, Penalty, Program, Dependent, CertTooLong, Certificate}
 use Rattle.report_text.specs.declared.report.Halt.{Halt}
-use Rattle.report_text.specs.declared.report.Halt.TheVariants.{Refused, OutOfMemory, PivotLimit, Overflow, NotBuilt}
+use Rattle.report_text.specs.declared.report.Halt.TheVariants.{Refused, OutOfMemory, PivotLimit, Overflow, Rejected, NotBuilt}
 use Rattle.report_text.specs.declared.report.Fault.{Fault}
 use Rattle.report_text.specs.declared.report.Fault.TheVariants as faults
 
@@ -95,9 +98,12 @@ site_text site = word (codes "quantity") (quantity_name site.quantity) ++ (key (
 unfoldable pub spill_text : Spill Frac128 → List ℕ
 spill_text spill = site_text spill.site ++ word (codes "op") (op_name spill.site.kind) ++ fraction (codes "left") spill.left ++ fraction (codes "right") spill.right
 
--- the place where the solver stopped
-abbrev pub place_name : Place → List ℕ
-place_name Process = codes "process"
+-- the place where the solver or the checker stopped: the fit, the interval of a column, counted from 1, at a quantile, or
+-- the conditions of a certificate
+abbrev pub place_text : Place → List ℕ
+place_text Process = codes "process"
+place_text (Interval column tau) = codes "interval:" ++ decimal (column + 1) ++ codes ":" ++ number_text_of (value tau)
+place_text Check = codes "check"
 
 -- ---- faults
 
@@ -164,6 +170,22 @@ program_line programs.TooManyRows = line (codes "program") (codes "TooManyRows")
 program_line programs.TooManyColumns = line (codes "program") (codes "TooManyColumns") []
 program_line programs.OutOfMemory = memory_line
 
+-- bytes that are no certificate
+unfoldable pub certificate_line : CertFault → List ℕ
+certificate_line certs.NotJson = line (codes "certificate") (codes "NotJson") []
+certificate_line (certs.Shape path) = line (codes "certificate") (codes "Shape") (text (codes "path") path ∷ [])
+certificate_line (certs.Number path) = line (codes "certificate") (codes "Number") (text (codes "path") path ∷ [])
+certificate_line certs.Version = line (codes "certificate") (codes "Version") []
+certificate_line certs.TooLarge = line (codes "certificate") (codes "TooLarge") []
+certificate_line certs.OutOfMemory = memory_line
+
+-- a certificate that is rejected: the condition, its index and its number as they are counted there, and both sides
+unfoldable pub rejection_line : Rejection → List ℕ
+rejection_line r =
+    line (codes "check") (codes "Rejected")
+    (number (codes "condition") r.condition ∷ number (codes "index") r.index ∷ number (codes "inner") r.inner
+    ∷ fraction (codes "left") r.left ∷ fraction (codes "right") r.right ∷ [])
+
 -- an input that has no report; the combination of dependent columns is 0 in every row
 abbrev pub refusal_line : Refusal → List ℕ
 refusal_line TooLong = line (codes "input") (codes "TooLong") []
@@ -174,13 +196,16 @@ refusal_line (Design fault) = design_line fault
 refusal_line (Penalty fault) = penalty_line fault
 refusal_line (Program fault) = program_line fault
 refusal_line (Dependent combination) = line (codes "solver") (codes "Dependent") (fractions (codes "combination") combination ∷ [])
+refusal_line (CertTooLong length) = line (codes "certificate") (codes "CertTooLong") (number (codes "length") length ∷ [])
+refusal_line (Certificate fault) = certificate_line fault
 
 -- a halt; trails aren't printed
 abbrev pub halt_line : Halt → List ℕ
 halt_line (Refused refusal) = refusal_line refusal
 halt_line OutOfMemory = memory_line
-halt_line (PivotLimit place limit trail) = line (codes "solver") (codes "PivotLimit") (word (codes "place") (place_name place) ∷ number (codes "limit") limit ∷ [])
-halt_line (Overflow place trail spill) = line (codes "solver") (codes "Overflow") (word (codes "place") (place_name place) ∷ spill_text spill ∷ [])
+halt_line (PivotLimit place limit trail) = line (codes "solver") (codes "PivotLimit") (word (codes "place") (place_text place) ∷ number (codes "limit") limit ∷ [])
+halt_line (Overflow place trail spill) = line (codes "solver") (codes "Overflow") (word (codes "place") (place_text place) ∷ spill_text spill ∷ [])
+halt_line (Rejected rejection) = rejection_line rejection
 halt_line (NotBuilt part) = line (codes "build") (codes "NotBuilt") (number (codes "part") part ∷ [])
 
 -- the line of each fault

@@ -7,12 +7,17 @@ use Rattle.frac_core.specs.NumberText.{number_text_of}
 use Rattle.loss_model.specs.declared.vertex.Side.{Side}
 use Rattle.loss_model.specs.declared.vertex.Side.TheVariants.{Up, Down, Basic}
 use Rattle.loss_model.specs.declared.process.Segment.{Segment}
+use Rattle.loss_model.specs.declared.interval.Bound.{Bound}
+use Rattle.loss_model.specs.declared.interval.Bound.TheVariants.{Finite, Infinite}
+use Rattle.loss_model.specs.declared.interval.Interval.{Interval}
 use Rattle.frac_core.specs.declared.frac128.Frac128.{Frac128}
+use Rattle.cert_text.specs.Trees.{cert_text}
+use Rattle.cert_text.specs.declared.cert.Cert.{Cert}
 use Rattle.rankscores.specs.declared.pair.ScorePair.{ScorePair}
 use Rattle.report_text.specs.declared.report.Fit.{Fit}
 use Rattle.report_text.specs.declared.report.RanksFit.{RanksFit}
 use Rattle.report_text.specs.declared.report.Report.{Report}
-use Rattle.report_text.specs.declared.report.Report.TheVariants.{Process, Ranks}
+use Rattle.report_text.specs.declared.report.Report.TheVariants.{Process, Ranks, Certificate, Checked}
 use Rattle.report_text.specs.Names.{name_bytes}
 
 -- the texts of the items, which are numbered from i, one after another
@@ -74,6 +79,17 @@ module _ {F : Type 0} (value : F → Fraction) where
   segment_text n i (s, pairs) =
       segment_line i s ++ numbered coef_line 1 s.vertex.coef ++ loss_line s ++ scores_line n s.vertex.sides ++ flat_map basic_line pairs
 
+  -- an end of an interval, or this word where it is infinite
+  abbrev pub bound_text : List ℕ → Bound F → List ℕ
+  bound_text word (Finite x) = number_text_of (value x)
+  bound_text word Infinite = word
+
+  -- a rank interval: its column, counted from 1, its quantile, its low end and its high end
+  unfoldable pub interval_line : Interval F → List ℕ
+  interval_line r =
+      codes "interval " ++ decimal (r.proof.column + 1) ++ codes " " ++ number_text_of (value r.proof.tau) ++ codes " "
+      ++ bound_text (codes "-Inf") r.proof.low.bound ++ codes " " ++ bound_text (codes "Inf") r.proof.high.bound ++ codes "\n"
+
 -- the numbers of a value of 128 bits
 abbrev pub value : Frac128 → Fraction
 value x = record { num = x.num; den = x.den }
@@ -88,7 +104,9 @@ fit_head fit = codes "quantreg 1\n" ++ records_line fit.kept fit.dropped ++ numb
 
 -- the report of a fit
 unfoldable pub fit_text : Fit → List ℕ
-fit_text fit = fit_head fit ++ numbered (segment_text value fit.data_rows) 1 (zip fit.process.segments fit.scores) ++ codes "end\n"
+fit_text fit =
+    fit_head fit ++ numbered (segment_text value fit.data_rows) 1 (zip fit.process.segments fit.scores)
+    ++ flat_map (interval_line value) fit.intervals ++ codes "end\n"
 
 -- the Wilcoxon score of row i
 unfoldable pub wilcoxon_line : ℕ → Frac128 → List ℕ
@@ -103,12 +121,26 @@ ranks_head fit =
 unfoldable pub ranks_text : RanksFit → List ℕ
 ranks_text ranks = ranks_head ranks.fit ++ numbered wilcoxon_line 1 ranks.wilcoxon ++ codes "end\n"
 
--- the text of a report
+-- how many things of a name there are
+unfoldable pub count_line : List ℕ → ℕ → List ℕ
+count_line name n = name ++ codes " " ++ decimal n ++ codes "\n"
+
+-- the report of a certificate that was accepted: how much it holds, and the verdict
+unfoldable pub checked_text : Cert → List ℕ
+checked_text cert =
+    codes "quantreg check 1\n" ++ count_line (codes "columns") cert.problem.columns ++ count_line (codes "rows") (length cert.problem.rows)
+    ++ count_line (codes "segments") (length cert.segments) ++ count_line (codes "intervals") (length cert.intervals) ++ codes "accepted\nend\n"
+
+-- the text of a report; that of a certificate is the certificate
 abbrev pub report_text : Report → List ℕ
 report_text (Process fit) = fit_text fit
 report_text (Ranks ranks) = ranks_text ranks
+report_text (Certificate cert) = cert_text cert
+report_text (Checked cert) = checked_text cert
 
 -- a fit has one list of scores per segment, and no more data rows than rows
 abbrev pub IsPrintable : Report → Type 0
 IsPrintable (Process fit) = (length fit.scores ≡ length fit.process.segments) × (fit.data_rows ≤ length fit.problem.rows)
 IsPrintable (Ranks ranks) = ⊤
+IsPrintable (Certificate cert) = ⊤
+IsPrintable (Checked cert) = ⊤

@@ -1,10 +1,12 @@
 //! What the line of each fault says: its group, its name and its fields.
 ghost use Rattle.std.specs.Prelude.{◌≡◌, ◌++◌, IfOk, OnOk};
-ghost use Rattle.report_text.specs.FaultText.{design_line, formula_line, halt_line, penalty_line, place_name as place_name_of, program_line, refusal_line, table_line, usage_line, fault_line as line_of};
+ghost use Rattle.report_text.specs.FaultText.{certificate_line, design_line, formula_line, halt_line, penalty_line, program_line, refusal_line, rejection_line, table_line, usage_line, fault_line as line_of};
 
-use crate::line::Field::{Fractions, Name, Number, Position, Spill, Word};
+use crate::line::Field::{Fraction, Fractions, Length, Name, Number, Place, Position, Spill};
 use crate::page::Page;
-use crate::report::{Fault, Halt, Place, Refusal};
+use crate::report::{Fault, Halt, Refusal};
+use cert_checker::Rejection;
+use cert_text::CertFault;
 use data_frame::TableFault;
 use design_matrix::DesignFault;
 use formula_parser::FormulaFault;
@@ -35,14 +37,6 @@ pub fn fault_line(alloc: Global, fault: &Fault) -> Result<Vec<u8>, OutOfMemory>
         Fault::Halt(halt) => page.halt_line(halt)?,
     }
     Ok(page.into_bytes())
-}
-
-fn place_name(place: Place) -> &'static [u8]
-    ensures { result.now ≡ place_name_of place }
-{
-    match place {
-        Place::Process => b"process",
-    }
 }
 
 impl Page {
@@ -182,6 +176,43 @@ impl Page {
         }
     }
 
+    #[tactic(auto, unfolding(crate::specs::FaultText::certificate_line))]
+    fn certificate_line(&mut self, fault: &CertFault) -> Result<(), OutOfMemory>
+        ensures { OnOk result (self.new ≡ self.old ++ certificate_line fault.now) }
+    {
+        match fault {
+            CertFault::NotJson => self.line(b"certificate", b"NotJson", &[]),
+            CertFault::Shape { path } => self.line(
+                b"certificate",
+                b"Shape",
+                &[Name(b"path", path)],
+            ),
+            CertFault::Number { path } => {
+                self.line(b"certificate", b"Number", &[Name(b"path", path)])
+            }
+            CertFault::Version => self.line(b"certificate", b"Version", &[]),
+            CertFault::TooLarge => self.line(b"certificate", b"TooLarge", &[]),
+            CertFault::OutOfMemory => self.put(MEMORY_LINE),
+        }
+    }
+
+    #[tactic(auto, unfolding(crate::specs::FaultText::rejection_line))]
+    fn rejection_line(&mut self, rejection: &Rejection) -> Result<(), OutOfMemory>
+        ensures { OnOk result (self.new ≡ self.old ++ rejection_line rejection.now) }
+    {
+        self.line(
+            b"check",
+            b"Rejected",
+            &[
+                Number(b"condition", rejection.condition as u32),
+                Number(b"index", rejection.index),
+                Number(b"inner", rejection.inner),
+                Fraction(b"left", rejection.left),
+                Fraction(b"right", rejection.right),
+            ],
+        )
+    }
+
     fn refusal_line(&mut self, refusal: &Refusal) -> Result<(), OutOfMemory>
         ensures { OnOk result (self.new ≡ self.old ++ refusal_line refusal.now) }
     {
@@ -200,6 +231,14 @@ impl Page {
                     &[Fractions(b"combination", combination.as_slice())],
                 )
             }
+            Refusal::CertTooLong { length } => {
+                self.line(
+                    b"certificate",
+                    b"CertTooLong",
+                    &[Length(b"length", *length)],
+                )
+            }
+            Refusal::Certificate(fault) => self.certificate_line(fault),
         }
     }
 
@@ -213,16 +252,17 @@ impl Page {
                 self.line(
                     b"solver",
                     b"PivotLimit",
-                    &[Word(b"place", place_name(*place)), Number(b"limit", *limit)],
+                    &[Place(b"place", *place), Number(b"limit", *limit)],
                 )
             }
             Halt::Overflow { place, spill, .. } => {
                 self.line(
                     b"solver",
                     b"Overflow",
-                    &[Word(b"place", place_name(*place)), Spill(spill)],
+                    &[Place(b"place", *place), Spill(spill)],
                 )
             }
+            Halt::Rejected(rejection) => self.rejection_line(rejection),
             Halt::NotBuilt { part } => {
                 self.line(b"build", b"NotBuilt", &[Number(b"part", *part as u32)])
             }

@@ -4,11 +4,14 @@
 //! as `specs/ReportText.antt` and `specs/FaultText.antt` write them. The types that a job answers
 //! with stand here, so that who reads them needs no solver. It stands on `rq_words`, `data_frame`,
 //! `formula_parser`, `design_matrix` and `rq_program` for their faults, on `loss_model` and
-//! `rankscores` for what a fit holds, and on `itoa`.
+//! `rankscores` for what a fit and its rank intervals hold, on `cert_text` and `cert_checker` for
+//! certificates and what is found to be false in them, and on `itoa`.
 //! Its tests stand in the crate `report_tests`.
 #![tactic(auto)]
 
+mod checked;
 mod fault;
+mod intervals;
 pub mod laws;
 mod line;
 mod lines;

@@ -1,24 +1,27 @@
 //! The one printer of fault lines, and the kinds of their fields.
 ghost use Rattle.std.specs.Prelude.{◌≡◌, ◌++◌, OnOk, codes, decimal};
 ghost use Rattle.std.specs.List.{flat_map};
-ghost use Rattle.report_text.specs.FaultText.{fraction, fractions, indices_text, key, listed, number, site_text, spill_text, text, word};
+ghost use Rattle.report_text.specs.FaultText.{fraction, fractions, indices_text, key, listed, number, place_text, site_text, spill_text, text, word};
 ghost use Rattle.report_text.specs.Fields.{shown};
 ghost use Rattle.report_text.specs.ReportText.{numbered};
 
 use crate::page::Page;
 use crate::quantity::{PrintedIndices, indices, op_name, quantity_name};
+use crate::report::Place;
 use frac_core::{Frac128, OutOfMemory, Text};
 use loss_model::{Site, Spill};
 
-/// A field of a line, by the kind of its value: a number as it stands, a position, which is printed
-/// from 1, a word of the program's own, a text, fractions, or an operation that overflows.
+/// A field of a line, by the kind of its value: a number or a length as it stands, a position, which is
+/// printed from 1, a text, a fraction or several, the place of a stop, or an operation that overflows.
 #[derive(Clone, Copy)]
 pub(crate) enum Field<'a> {
     Number(&'static [u8], u32),
+    Length(&'static [u8], u64),
     Position(&'static [u8], u32),
-    Word(&'static [u8], &'static [u8]),
     Name(&'static [u8], &'a Text),
+    Fraction(&'static [u8], Frac128),
     Fractions(&'static [u8], &'a [Frac128]),
+    Place(&'static [u8], Place),
     Spill(&'a Spill<Frac128>),
 }
 
@@ -54,10 +57,12 @@ impl Page {
     {
         match field {
             Field::Number(name, count) => self.put_counted(name, *count as u64),
+            Field::Length(name, length) => self.put_counted(name, *length),
             Field::Position(name, place) => self.put_counted(name, *place as u64 + 1),
-            Field::Word(name, told) => self.put_word(name, told),
             Field::Name(name, text) => self.put_text(name, text),
+            Field::Fraction(name, number) => self.put_fraction(name, *number),
             Field::Fractions(name, list) => self.put_fractions(name, list),
+            Field::Place(name, place) => self.put_place(name, *place),
             Field::Spill(spill) => self.put_spill(spill),
         }
     }
@@ -83,6 +88,27 @@ impl Page {
     {
         self.put_key(name)?;
         self.put(told)
+    }
+
+    fn put_place(&mut self, name: &[u8], place: Place) -> Result<(), OutOfMemory>
+        ensures { OnOk result (self.new ≡ self.old ++ word name.now (place_text place)) }
+    {
+        self.put_key(name)?;
+        match place {
+            Place::Process => self.put(b"process"),
+            Place::Interval { column, tau } => self.put_interval(column, tau),
+            Place::Check => self.put(b"check"),
+        }
+    }
+
+    // The place of a rank interval, whose column is printed from 1.
+    fn put_interval(&mut self, column: u32, tau: Frac128) -> Result<(), OutOfMemory>
+        ensures { OnOk result (self.new ≡ self.old ++ place_text (Place.Interval column tau)) }
+    {
+        self.put(b"interval:")?;
+        self.put_count(column as u64 + 1)?;
+        self.put(b":")?;
+        self.put_number(tau)
     }
 
     fn put_text(&mut self, name: &[u8], told: &Text) -> Result<(), OutOfMemory>

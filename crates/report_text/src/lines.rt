@@ -5,6 +5,7 @@ ghost use Rattle.std.specs.List.{flat_map, zip};
 
 use crate::page::Page;
 use crate::report::{Fit, Report};
+use cert_text::write_cert;
 use frac_core::{Exact, List, OutOfMemory, Text};
 use loss_model::{Segment, Side};
 use rankscores::ScorePair;
@@ -226,6 +227,7 @@ impl Page {
             fit.process.segments.as_slice(),
             fit.scores.as_slice(),
         )?;
+        self.interval_lines(fit.intervals.as_slice())?;
         self.put(b"end\n")
     }
 }
@@ -241,6 +243,8 @@ pub fn report_bytes(alloc: Global, report: &Report) -> Result<Vec<u8>, OutOfMemo
     match report {
         Report::Process(fit) => page.fit(fit)?,
         Report::Ranks(ranks) => page.ranks(ranks)?,
+        Report::Certificate(cert) => return write_cert(alloc, cert),
+        Report::Checked(cert) => page.checked(cert)?,
     }
     Ok(page.into_bytes())
 }

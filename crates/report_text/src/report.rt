@@ -1,17 +1,19 @@
 //! What a job answers.
+use cert_checker::Rejection;
+use cert_text::{Cert, CertFault};
 use data_frame::TableFault;
 use design_matrix::DesignFault;
 use formula_parser::FormulaFault;
 use frac_core::{Frac128, List, Text};
-use loss_model::{Problem, Process, Spill, Trail};
+use loss_model::{Interval, Problem, Process, Spill, Trail};
 use rankscores::ScorePair;
 use rq_program::ProgramFault;
 use rq_words::WordFault;
 use tv_penalty::PenaltyFault;
 
 /// A fitted model: how many records were kept and dropped, the names of its columns, its rows, of
-/// which the first `data_rows` are data rows, the process, and for each segment the rankscores of
-/// its basic rows.
+/// which the first `data_rows` are data rows, the process, for each segment the rankscores of its
+/// basic rows, and the rank intervals, quantile by quantile and column by column within.
 #[derive(Drop)]
 pub struct Fit {
     pub kept: u32,
@@ -21,6 +23,7 @@ pub struct Fit {
     pub problem: Problem<Frac128>,
     pub process: Process<Frac128>,
     pub scores: List<List<ScorePair<Frac128>>>,
+    pub intervals: List<Interval<Frac128>>,
 }
 
 /// A fitted model over 0 to 1, and the Wilcoxon score of each of its rows.
@@ -35,6 +38,10 @@ pub struct RanksFit {
 pub enum Report {
     Process(Fit),
     Ranks(RanksFit),
+    /// A fit as a certificate, which anybody can check.
+    Certificate(Cert),
+    /// A certificate all of whose conditions are true.
+    Checked(Cert),
 }
 
 /// Why an input has no report. No fault in it is want of memory.
@@ -56,13 +63,21 @@ pub enum Refusal {
     Program(ProgramFault),
     /// The columns are dependent: this combination of them, which isn't all 0, is 0 in every row.
     Dependent { combination: List<Frac128> },
+    /// The text of the certificate has so many bytes, which is more than 2^26.
+    CertTooLong { length: u64 },
+    /// It is no certificate.
+    Certificate(CertFault),
 }
 
-/// Where the solver stopped.
+/// Where the solver or the checker stopped.
 #[derive(Clone, Copy, Debug, PartialEq, Eq)]
 pub enum Place {
     /// In the fit itself.
     Process,
+    /// In the rank interval of a column, counted from 0, at a quantile.
+    Interval { column: u32, tau: Frac128 },
+    /// In the conditions of a certificate.
+    Check,
 }
 
 /// Why a job ended without a report.
@@ -77,12 +92,14 @@ pub enum Halt {
         trail: Trail<Frac128>,
     },
     /// An operation overflows at the last basis of the trail, or after the solve, when the trail is
-    /// whole.
+    /// whole; or in a condition of a certificate, where the trail is empty.
     Overflow {
         place: Place,
         trail: Trail<Frac128>,
         spill: Spill<Frac128>,
     },
+    /// A condition of the certificate is false: the first test that is, with its two sides.
+    Rejected(Rejection),
     /// It asks for a job that this version does not do, which is part 1.
     NotBuilt {
         part: u8,

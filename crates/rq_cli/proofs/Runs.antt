@@ -8,14 +8,14 @@ use Rattle.port_io.specs.Told.{AppendsPart}
 use Rattle.rq_engine.specs.Answers as engine
 use Rattle.report_text.specs.ReportText.{report_text}
 use Rattle.report_text.specs.declared.report.Report.{Report}
-use Rattle.report_text.specs.declared.report.Refusal.TheVariants.{TooLong, Table, Formula, RankWithPenalty, Design, Penalty, Program, Dependent}
+use Rattle.report_text.specs.declared.report.Refusal.TheVariants.{TooLong, Table, Formula, RankWithPenalty, Design, Penalty, Program, Dependent, CertTooLong, Certificate}
 use Rattle.report_text.specs.declared.report.Halt.{Halt}
 use Rattle.report_text.specs.declared.report.Halt.TheVariants as halts
 use Rattle.rq_cli.specs.Outcomes.{Stream, OnDone, OnFault, outcome_line, WereRead, HasCause, IsAnswered, IsErrorFault, IsFault, WasTried, IsRun}
 use Rattle.rq_cli.specs.Steps.{outcome_of, WasTold, WasPrinted}
 use Rattle.rq_cli.specs.declared.outcome.Outcome.{Outcome}
 use Rattle.rq_cli.specs.declared.trouble.Trouble.TheVariants as troubles
-use Rattle.rq_cli.specs.declared.outcome.Outcome.TheVariants.{Done, Refused, Usage, SourceFault, SinkFault, OutOfMemory, PivotLimit, Overflow, NotBuilt}
+use Rattle.rq_cli.specs.declared.outcome.Outcome.TheVariants.{Done, Refused, Usage, SourceFault, SinkFault, OutOfMemory, PivotLimit, Overflow, Rejected, NotBuilt}
 
 -- a write whose answer isn't looked at
 pub tried : {T E : Type 0} (r : Result T E) (before now : Stream) (line : List ℕ) → OnOk r (Appends before.bytes now.bytes line) → OnErr r (AppendsPart before.bytes now.bytes line) → CountsFaults before.faults now.faults r → WasTried before now line
@@ -48,9 +48,12 @@ halt_cause words source source' job bytes read (halts.Refused (Design fault)) ca
 halt_cause words source source' job bytes read (halts.Refused (Penalty fault)) cause = record { job = job; bytes = bytes; read = read; cause = cause }
 halt_cause words source source' job bytes read (halts.Refused (Program fault)) cause = record { job = job; bytes = bytes; read = read; cause = cause }
 halt_cause words source source' job bytes read (halts.Refused (Dependent combination)) cause = record { job = job; bytes = bytes; read = read; cause = cause }
+halt_cause words source source' job bytes read (halts.Refused (CertTooLong length)) cause = record { job = job; bytes = bytes; read = read; cause = cause }
+halt_cause words source source' job bytes read (halts.Refused (Certificate fault)) cause = record { job = job; bytes = bytes; read = read; cause = cause }
 halt_cause words source source' job bytes read halts.OutOfMemory cause = tt
 halt_cause words source source' job bytes read (halts.PivotLimit place limit trail) cause = record { job = job; bytes = bytes; read = read; cause = cause }
 halt_cause words source source' job bytes read (halts.Overflow place trail spill) cause = record { job = job; bytes = bytes; read = read; cause = cause }
+halt_cause words source source' job bytes read (halts.Rejected rejection) cause = record { job = job; bytes = bytes; read = read; cause = cause }
 halt_cause words source source' job bytes read (halts.NotBuilt part) cause = absurd (never_unbuilt job bytes part cause)
 
 keeps : (bytes : Option (List ℕ)) → Keeps bytes bytes
@@ -93,6 +96,7 @@ module _ (words : List (List ℕ)) (source source' out out' err err' : Stream) w
   on_fault OutOfMemory P h = h
   on_fault (PivotLimit _ _ _) P h = h
   on_fault (Overflow _ _ _) P h = h
+  on_fault (Rejected _) P h = h
   on_fault (NotBuilt _) P h = h
 
   not_done : (fault : Outcome) (P : Report → Type 0) → IsFault words source source' fault → OnDone fault P
@@ -104,6 +108,7 @@ module _ (words : List (List ℕ)) (source source' out out' err err' : Stream) w
   not_done OutOfMemory P h = tt
   not_done (PivotLimit _ _ _) P h = tt
   not_done (Overflow _ _ _) P h = tt
+  not_done (Rejected _) P h = tt
   not_done (NotBuilt _) P h = tt
 
   fault_cause : (fault : Outcome) → IsFault words source source' fault → HasCause words source source' out out' err err' fault
@@ -115,6 +120,7 @@ module _ (words : List (List ℕ)) (source source' out out' err err' : Stream) w
   fault_cause OutOfMemory h = h
   fault_cause (PivotLimit _ _ _) h = h
   fault_cause (Overflow _ _ _) h = h
+  fault_cause (Rejected _) h = h
   fault_cause (NotBuilt _) h = h
 
   -- the line of a fault that was told, or half of it

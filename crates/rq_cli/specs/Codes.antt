@@ -2,7 +2,7 @@
 use Rattle.std.specs.Prelude.{◌≡◌, ℕ, List, Option, None}
 use Rattle.rq_cli.specs.Outcomes.{Stream, stream, IsRun}
 use Rattle.rq_cli.specs.declared.outcome.Outcome.{Outcome}
-use Rattle.rq_cli.specs.declared.outcome.Outcome.TheVariants.{Done, Refused, Usage, SourceFault, SinkFault, OutOfMemory, PivotLimit, Overflow, NotBuilt}
+use Rattle.rq_cli.specs.declared.outcome.Outcome.TheVariants.{Done, Refused, Usage, SourceFault, SinkFault, OutOfMemory, PivotLimit, Overflow, Rejected, NotBuilt}
 
 -- the status of an outcome
 abbrev pub code_of : Outcome → ℕ
@@ -14,6 +14,7 @@ code_of SinkFault = 4
 code_of OutOfMemory = 5
 code_of (PivotLimit _ _ _) = 6
 code_of (Overflow _ _ _) = 7
+code_of (Rejected _) = 8
 code_of (NotBuilt _) = 9
 
 -- a run of the words over this input, and outputs that tell no bytes, ends with the status

@@ -15,7 +15,7 @@ use Rattle.report_text.specs.declared.report.Halt.{Halt}
 use Rattle.report_text.specs.declared.report.Halt.TheVariants as halts
 use Rattle.rq_engine.specs.Built.{IsBuilt, IsJobOf}
 use Rattle.rq_cli.specs.declared.outcome.Outcome.{Outcome}
-use Rattle.rq_cli.specs.declared.outcome.Outcome.TheVariants.{Done, Refused, Usage, SourceFault, SinkFault, OutOfMemory, PivotLimit, Overflow, NotBuilt}
+use Rattle.rq_cli.specs.declared.outcome.Outcome.TheVariants.{Done, Refused, Usage, SourceFault, SinkFault, OutOfMemory, PivotLimit, Overflow, Rejected, NotBuilt}
 
 -- a fact of the report
 abbrev pub OnDone : Outcome → (Report → Type 0) → Type 0
@@ -38,6 +38,7 @@ outcome_line SinkFault = sink_line
 outcome_line OutOfMemory = memory_line
 outcome_line (PivotLimit place limit trail) = halt_line (halts.PivotLimit place limit trail)
 outcome_line (Overflow place trail spill) = halt_line (halts.Overflow place trail spill)
+outcome_line (Rejected rejection) = halt_line (halts.Rejected rejection)
 outcome_line (NotBuilt part) = halt_line (halts.NotBuilt part)
 
 -- the bytes of a source or a sink, where it tells them, and its count of faults
@@ -98,6 +99,7 @@ IsFault words before now SourceFault = AskBuilt words × Rose before.faults now.
 IsFault words before now OutOfMemory = ⊤
 IsFault words before now (PivotLimit place limit trail) = IsHalted words before now (halts.PivotLimit place limit trail)
 IsFault words before now (Overflow place trail spill) = IsHalted words before now (halts.Overflow place trail spill)
+IsFault words before now (Rejected rejection) = IsHalted words before now (halts.Rejected rejection)
 IsFault words before now (NotBuilt part) = (part ≡ 1) × IsNotBuilt words
 IsFault words before now (Done _) = ⊥
 IsFault words before now SinkFault = ⊥

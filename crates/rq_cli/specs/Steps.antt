@@ -23,6 +23,7 @@ outcome_of (troubles.Halt (halts.Refused refusal)) = outcomes.Refused refusal
 outcome_of (troubles.Halt halts.OutOfMemory) = outcomes.OutOfMemory
 outcome_of (troubles.Halt (halts.PivotLimit place limit trail)) = outcomes.PivotLimit place limit trail
 outcome_of (troubles.Halt (halts.Overflow place trail spill)) = outcomes.Overflow place trail spill
+outcome_of (troubles.Halt (halts.Rejected rejection)) = outcomes.Rejected rejection
 outcome_of (troubles.Halt (halts.NotBuilt part)) = outcomes.NotBuilt part
 
 -- the words have this trouble, whatever the source holds

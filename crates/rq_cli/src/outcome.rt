@@ -1,6 +1,7 @@
 ghost use Rattle.std.specs.Prelude.{◌≡◌};
 ghost use Rattle.rq_cli.specs.Codes.{code_of};
 
+use cert_checker::Rejection;
 use frac_core::Frac128;
 use loss_model::{Spill, Trail};
 use report_text::{Place, Refusal, Report};
@@ -21,18 +22,21 @@ pub enum Outcome {
     SinkFault,
     /// No memory was found.
     OutOfMemory,
-    /// The solver made as many pivots as the limit says, and one more is left.
+    /// The solver made as many pivots of the fit or of a rank interval as the limit says, and one more
+    /// is left.
     PivotLimit {
         place: Place,
         limit: u32,
         trail: Trail<Frac128>,
     },
-    /// An operation of the solver overflows.
+    /// An operation of the solver, or of a condition of a certificate, overflows.
     Overflow {
         place: Place,
         trail: Trail<Frac128>,
         spill: Spill<Frac128>,
     },
+    /// The certificate is rejected: the first of its tests that is false, with its two sides.
+    Rejected(Rejection),
     /// The words ask for what this version does not do.
     NotBuilt {
         part: u8,
@@ -53,6 +57,7 @@ impl Outcome {
             Outcome::OutOfMemory => 5,
             Outcome::PivotLimit { .. } => 6,
             Outcome::Overflow { .. } => 7,
+            Outcome::Rejected(_) => 8,
             Outcome::NotBuilt { .. } => 9,
         }
     }

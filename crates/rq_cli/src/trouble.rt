@@ -16,7 +16,8 @@ pub(crate) enum Trouble {
     Words(WordFault),
     /// The source failed.
     Source,
-    /// No memory was found, the input has no report, or this version doesn't do what is asked for.
+    /// No memory was found, the input has no report, a certificate is rejected, or this version doesn't do
+    /// what is asked for.
     Halt(Halt),
 }
 
@@ -63,6 +64,7 @@ impl Trouble {
                 trail,
                 spill,
             },
+            Trouble::Halt(Halt::Rejected(rejection)) => Outcome::Rejected(rejection),
             Trouble::Halt(Halt::NotBuilt { part }) => Outcome::NotBuilt { part },
         }
     }

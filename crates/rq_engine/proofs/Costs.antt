@@ -40,12 +40,12 @@ module _ (p : Sample) (theta : ℚ) (i : ℕ) (row : IsDataRow p i) where
       ∙ ring_ℚ (p.up1 i ∷ theta ∷ []) (v0 ⊠ v1 ⊞ v0 ⊠ (number (pos 1) ⊟ v1)) v0 refl
 
 -- what a row costs at theta is not negative on either side, and above 0 in all
-record IsCosted (p : Sample) (theta : ℚ) (i : ℕ) : Type 0 where
-  up : whole (pos 0) ≤ℚ up_cost p theta i
-  down : whole (pos 0) ≤ℚ down_cost p theta i
-  some : ¬ ((up_cost p theta i +ℚ down_cost p theta i) ≤ℚ whole (pos 0))
+pub record IsCosted (p : Sample) (theta : ℚ) (i : ℕ) : Type 0 where
+  pub up : whole (pos 0) ≤ℚ up_cost p theta i
+  pub down : whole (pos 0) ≤ℚ down_cost p theta i
+  pub some : ¬ ((up_cost p theta i +ℚ down_cost p theta i) ≤ℚ whole (pos 0))
 
-data_costs : (p : Sample) (theta : ℚ) (i : ℕ) → whole (pos 0) ≤ℚ theta → theta ≤ℚ whole (pos 1) → IsDataRow p i → IsCosted p theta i
+pub data_costs : (p : Sample) (theta : ℚ) (i : ℕ) → whole (pos 0) ≤ℚ theta → theta ≤ℚ whole (pos 1) → IsDataRow p i → IsCosted p theta i
 data_costs p theta i low high row =
     let weight = at_least_zero (p.up1 i) (above_zero p i row) in
     record {

@@ -7,6 +7,7 @@ use Rattle.std.proofs.lemmas.List.Elements.{All-cons, All-nil}
 use Rattle.exact_algebra.specs.Fraction.{Fraction, rational}
 use Rattle.exact_algebra.specs.Rational.{ℚ, ◌≤ℚ◌}
 use Rattle.frac_core.specs.declared.frac128.Frac128.{Frac128}
+use Rattle.loss_model.specs.declared.interval.Interval.{Interval}
 use Rattle.loss_model.specs.declared.problem.Problem.{Problem}
 use Rattle.loss_model.specs.declared.process.Exchange.{Exchange}
 use Rattle.loss_model.specs.declared.process.Process.{Process}
@@ -34,16 +35,22 @@ use Rattle.rankscores.specs.declared.pair.ScorePair.{ScorePair}
 use Rattle.rankscores.specs.Scores.{IsScorable, IsScored}
 use Rattle.rankscores.specs.Spills.{IsScoresSpill}
 use Rattle.rq_words.specs.declared.job.FitJob.{FitJob}
+use Rattle.rq_words.specs.declared.job.RankAsk.{RankAsk}
 use Rattle.report_text.specs.declared.report.Fit.{Fit}
 use Rattle.report_text.specs.declared.report.Halt.{Halt}
-use Rattle.report_text.specs.declared.report.Halt.TheVariants.{Refused, OutOfMemory, PivotLimit, Overflow, NotBuilt}
+use Rattle.report_text.specs.declared.report.Place.TheVariants as places
+use Rattle.report_text.specs.declared.report.Halt.TheVariants.{Refused, OutOfMemory, PivotLimit, Overflow, Rejected, NotBuilt}
 use Rattle.report_text.specs.declared.report.Refusal.TheVariants.{TooLong, Dependent}
 use Rattle.report_text.specs.declared.report.Refusal.TheVariants as refusals
 use Rattle.rq_input.specs.Inputs.{HasInputCause, IsInput}
 use Rattle.rq_input.specs.declared.input.Input.{Input}
 use Rattle.rq_engine.specs.Answers.{HasFitCause}
 use Rattle.rq_engine.specs.Fit.{IsOptimalAt, IsOptimalWithin, IsRightFit, IsRightSegment, mixed_dual}
-use Rattle.rq_engine.specs.Halts.{short_halt, stop_halt}
+use Rattle.rq_engine.specs.Halts.{interval_halt, short_halt, stop_halt}
+use Rattle.rq_engine.specs.Intervals.{AreRightIntervals, asked_by, asked_over, IsFirstStop}
+use Rattle.rq_engine.specs.RankProblems.{HasIntervalCause}
+use Rattle.rq_engine.specs.declared.intervals.IntervalStop.{IntervalStop}
+use Rattle.rank_inversion.specs.declared.column_test.Asked.{Asked}
 use Rattle.report_text.specs.ReportText.{value}
 use Rattle.rq_engine.specs.Stops.{IsSegmentSpill, HasProblemCause, most}
 
@@ -175,7 +182,7 @@ module _ {F : Type 0} (value : F → Fraction) (p : Problem F) where
 -- ---- the fit
 
 -- the first n rows of the problem are data rows
-module _ (job : FitJob) (n : ℕ) (p : Problem Frac128) (q : Process Frac128) (scores : List (List (ScorePair Frac128))) where
+module _ (job : FitJob) (n : ℕ) (p : Problem Frac128) (q : Process Frac128) (scores : List (List (ScorePair Frac128))) (intervals : List (Interval Frac128)) where
   abbrev lo : ℚ
   lo = rational (value job.lo)
 
@@ -193,12 +200,13 @@ module _ (job : FitJob) (n : ℕ) (p : Problem Frac128) (q : Process Frac128) (s
         problem = p;
         process = q;
         scores = scores;
+        intervals = intervals;
       }
 
   pub right_fit : IsWellShaped p → IsProcess value p lo hi q → length q.trail.steps ≤ job.limit → ¬ IsLimited {F = Frac128} value (sample value p) lo hi job.limit
-      → AllZip (IsScored value p n) q.segments scores
-      → (fit : Fit) → fit.process ≡ q → fit.scores ≡ scores → fit.problem ≡ p → fit.data_rows ≡ n → IsRightFit value job fit
-  right_fit shaped is short unlimited scored fit process told problem data_rows =
+      → AllZip (IsScored value p n) q.segments scores → AreRightIntervals value p job.limit (asked_by job.rank p.columns) intervals
+      → (fit : Fit) → fit.process ≡ q → fit.scores ≡ scores → fit.intervals ≡ intervals → fit.problem ≡ p → fit.data_rows ≡ n → IsRightFit value job fit
+  right_fit shaped is short unlimited scored right fit process told made problem data_rows =
       subst (IsRightFit value job) (sym same) (record {
         shaped = shaped;
         covers = is.covers;
@@ -207,6 +215,7 @@ module _ (job : FitJob) (n : ℕ) (p : Problem Frac128) (q : Process Frac128) (s
         results = is.results;
         short = short;
         unlimited = unlimited;
+        intervals = right;
       })
     where
       same : fit ≡ whole_fit fit
@@ -218,11 +227,12 @@ module _ (job : FitJob) (n : ℕ) (p : Problem Frac128) (q : Process Frac128) (s
         problem = problem i;
         process = process i;
         scores = told i;
+        intervals = made i;
       }
 
 -- ---- stops
 
-pub stop_cause : (job : FitJob) (n : ℕ) (p : Problem Frac128) (stop : Stop Frac128) → IsProcessStop value most p (rational (value job.lo)) (rational (value job.hi)) job.limit stop → HasProblemCause job n p (stop_halt stop)
+pub stop_cause : (job : FitJob) (n : ℕ) (p : Problem Frac128) (stop : Stop Frac128) → IsProcessStop value most p (rational (value job.lo)) (rational (value job.hi)) job.limit stop → HasProblemCause job n p (stop_halt places.Process stop)
 stop_cause job n p stops.OutOfMemory h = tt
 stop_cause job n p (stops.PivotLimit limit trail) h = h
 stop_cause job n p (stops.Overflow trail spill) h = inl h
@@ -232,6 +242,45 @@ pub short_cause : (job : FitJob) (n : ℕ) (p : Problem Frac128) (q : Process Fr
     → IsShortOf (IsSegmentSpill value most p n q.segments) short → HasProblemCause job n p (short_halt short q.trail)
 short_cause job n p q results short shorts.OutOfMemory unscored = tt
 short_cause job n p q results short (shorts.Overflow spill) unscored = inr (record { segments = q.segments; results = results; short = short; operation = unscored })
+
+-- an interval that stops is why there is no fit, after the process and the scores
+pub interval_cause : (job : FitJob) (n : ℕ) (p : Problem Frac128) (q : Process Frac128) (scores : List (List (ScorePair Frac128))) → HasResults value p (rational (value job.lo)) (rational (value job.hi)) q → length q.trail.steps ≤ job.limit
+    → AllZip (IsScored value p n) q.segments scores → (halt : Halt) → HasIntervalCause job p halt → HasProblemCause job n p halt
+interval_cause job n p q scores results short scored (Refused (Dependent combination)) h = h
+interval_cause job n p q scores results short scored (Refused TooLong) h = absurd h
+interval_cause job n p q scores results short scored (Refused (refusals.Table fault)) h = absurd h
+interval_cause job n p q scores results short scored (Refused (refusals.Formula fault)) h = absurd h
+interval_cause job n p q scores results short scored (Refused refusals.RankWithPenalty) h = absurd h
+interval_cause job n p q scores results short scored (Refused (refusals.Design fault)) h = absurd h
+interval_cause job n p q scores results short scored (Refused (refusals.Penalty fault)) h = absurd h
+interval_cause job n p q scores results short scored (Refused (refusals.Program fault)) h = absurd h
+interval_cause job n p q scores results short scored (Refused (refusals.CertTooLong long)) h = absurd h
+interval_cause job n p q scores results short scored (Refused (refusals.Certificate fault)) h = absurd h
+interval_cause job n p q scores results short scored OutOfMemory h = tt
+interval_cause job n p q scores results short scored (PivotLimit places.Process limit trail) h = absurd h
+interval_cause job n p q scores results short scored (PivotLimit (places.Interval column tau) limit trail) h =
+    record { process = q; results = results; short = short; scores = scores; scored = scored; stopped = h }
+interval_cause job n p q scores results short scored (PivotLimit places.Check limit trail) h = absurd h
+interval_cause job n p q scores results short scored (Overflow places.Process trail spill) h = absurd h
+interval_cause job n p q scores results short scored (Overflow (places.Interval column tau) trail spill) h =
+    record { process = q; results = results; short = short; scores = scores; scored = scored; stopped = h }
+interval_cause job n p q scores results short scored (Overflow places.Check trail spill) h = absurd h
+interval_cause job n p q scores results short scored (Rejected rejection) h = absurd h
+interval_cause job n p q scores results short scored (NotBuilt part) h = absurd h
+
+-- so of the interval that stops
+stop_by : (job : FitJob) (p : Problem Frac128) (asked : Asked Frac128) (stop : Stop Frac128) → IsFirstStop value most p job.limit (asked_by job.rank p.columns) asked stop
+    → HasIntervalCause job p (stop_halt (places.Interval asked.column asked.tau) stop)
+stop_by job p asked stops.OutOfMemory h = tt
+stop_by job p asked (stops.PivotLimit limit trail) h = (asked.crit, h)
+stop_by job p asked (stops.Overflow trail spill) h = (asked.crit, h)
+stop_by job p asked (stops.Dependent combination) h = h.cause
+
+-- the first interval of a job that stops is its cause
+pub stopped_cause : (job : FitJob) (p : Problem Frac128) (rank : RankAsk) → job.rank ≡ Some rank → (stopped : IntervalStop Frac128)
+    → IsFirstStop value most p job.limit (asked_over rank.crit p.columns rank.taus) stopped.asked stopped.stop → HasIntervalCause job p (interval_halt stopped)
+stopped_cause job p rank some stopped h =
+    stop_by job p stopped.asked stopped.stop (subst (λ o. IsFirstStop value most p job.limit (asked_by o p.columns) stopped.asked stopped.stop) (sym some) h)
 
 -- an operation of the scores of the segment at k is one of the segments
 pub segment_unscored : {F : Type 0} (value : F → Fraction) (range : ℕ) (p : Problem F) (n : ℕ) (segments : List (Segment F)) (k : ℕ) (s : Segment F) → k < length segments → s ≡ get_or segments k s → (short : Short F)
@@ -250,9 +299,12 @@ input_cause job ranked bytes (Refused refusals.RankWithPenalty) h = h
 input_cause job ranked bytes (Refused (refusals.Design fault)) h = h
 input_cause job ranked bytes (Refused (refusals.Penalty fault)) h = h
 input_cause job ranked bytes (Refused (refusals.Program fault)) h = h
+input_cause job ranked bytes (Refused (refusals.CertTooLong long)) h = absurd h.2.cause
+input_cause job ranked bytes (Refused (refusals.Certificate fault)) h = absurd h.2.cause
 input_cause job ranked bytes OutOfMemory h = h
 input_cause job ranked bytes (PivotLimit place limit trail) h = absurd h.2.cause
 input_cause job ranked bytes (Overflow place trail spill) h = absurd h.2.cause
+input_cause job ranked bytes (Rejected rejection) h = absurd h.2.cause
 input_cause job ranked bytes (NotBuilt part) h = absurd h
 
 -- and so is why the problem of an input has no fit
@@ -265,7 +317,10 @@ problem_cause job ranked bytes input is (Refused refusals.RankWithPenalty) h = a
 problem_cause job ranked bytes input is (Refused (refusals.Design fault)) h = absurd h
 problem_cause job ranked bytes input is (Refused (refusals.Penalty fault)) h = absurd h
 problem_cause job ranked bytes input is (Refused (refusals.Program fault)) h = absurd h
+problem_cause job ranked bytes input is (Refused (refusals.CertTooLong long)) h = absurd h
+problem_cause job ranked bytes input is (Refused (refusals.Certificate fault)) h = absurd h
 problem_cause job ranked bytes input is OutOfMemory h = tt
 problem_cause job ranked bytes input is (PivotLimit place limit trail) h = record { input = input; is = is; cause = h }
 problem_cause job ranked bytes input is (Overflow place trail spill) h = record { input = input; is = is; cause = h }
+problem_cause job ranked bytes input is (Rejected rejection) h = absurd h
 problem_cause job ranked bytes input is (NotBuilt part) h = absurd h

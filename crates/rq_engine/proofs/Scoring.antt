@@ -19,7 +19,8 @@ use Rattle.rq_words.specs.declared.job.FitJob.{FitJob}
 use Rattle.report_text.specs.ReportText.{value}
 use Rattle.report_text.specs.declared.report.Fit.{Fit}
 use Rattle.report_text.specs.declared.report.Halt.{Halt}
-use Rattle.report_text.specs.declared.report.Halt.TheVariants.{Refused, OutOfMemory, PivotLimit, Overflow, NotBuilt}
+use Rattle.report_text.specs.declared.report.Place.TheVariants as places
+use Rattle.report_text.specs.declared.report.Halt.TheVariants.{Refused, OutOfMemory, PivotLimit, Overflow, Rejected, NotBuilt}
 use Rattle.rq_input.specs.Inputs.{HasInputCause, IsInput}
 use Rattle.rq_input.specs.Rows.{HasRows}
 use Rattle.rq_input.specs.declared.input.Input.{Input}
@@ -81,14 +82,20 @@ pub scoring_fit : (job : FitJob) (input : Input) (halt : Halt) → HasProblemCau
 scoring_fit job input (Refused refusal) h = h
 scoring_fit job input OutOfMemory h = h
 scoring_fit job input (PivotLimit place limit trail) h = h
-scoring_fit job input (Overflow place trail spill) h = inl h
+scoring_fit job input (Overflow places.Process trail spill) h = inl h
+scoring_fit job input (Overflow (places.Interval column tau) trail spill) h = h
+scoring_fit job input (Overflow places.Check trail spill) h = h
+scoring_fit job input (Rejected rejection) h = h
 scoring_fit job input (NotBuilt part) h = h
 
 ranks_cause : (job : FitJob) (bytes : List ℕ) (halt : Halt) → HasFitCause job true bytes halt → HasRanksCause job bytes halt
 ranks_cause job bytes (Refused refusal) h = h
 ranks_cause job bytes OutOfMemory h = h
 ranks_cause job bytes (PivotLimit place limit trail) h = h
-ranks_cause job bytes (Overflow place trail spill) h = inl h
+ranks_cause job bytes (Overflow places.Process trail spill) h = inl h
+ranks_cause job bytes (Overflow (places.Interval column tau) trail spill) h = h
+ranks_cause job bytes (Overflow places.Check trail spill) h = h
+ranks_cause job bytes (Rejected rejection) h = h
 ranks_cause job bytes (NotBuilt part) h = h
 
 pub ranks_input_cause : (job : FitJob) (bytes : List ℕ) (halt : Halt) → HasInputCause job true bytes halt → HasRanksCause job bytes halt
@@ -98,6 +105,9 @@ pub ranks_scoring_cause : (job : FitJob) (bytes : List ℕ) (input : Input) → 
 ranks_scoring_cause job bytes input is (Refused refusal) h = problem_cause job true bytes input is (Refused refusal) h
 ranks_scoring_cause job bytes input is OutOfMemory h = problem_cause job true bytes input is OutOfMemory h
 ranks_scoring_cause job bytes input is (PivotLimit place limit trail) h = problem_cause job true bytes input is (PivotLimit place limit trail) h
-ranks_scoring_cause job bytes input is (Overflow place trail spill) (inl h) = inl (problem_cause job true bytes input is (Overflow place trail spill) h)
-ranks_scoring_cause job bytes input is (Overflow place trail spill) (inr h) = inr (record { input = input; is = is; operation = h })
+ranks_scoring_cause job bytes input is (Overflow places.Process trail spill) (inl h) = inl (problem_cause job true bytes input is (Overflow places.Process trail spill) h)
+ranks_scoring_cause job bytes input is (Overflow places.Process trail spill) (inr h) = inr (record { input = input; is = is; operation = h })
+ranks_scoring_cause job bytes input is (Overflow (places.Interval column tau) trail spill) h = problem_cause job true bytes input is (Overflow (places.Interval column tau) trail spill) h
+ranks_scoring_cause job bytes input is (Overflow places.Check trail spill) h = problem_cause job true bytes input is (Overflow places.Check trail spill) h
+ranks_scoring_cause job bytes input is (Rejected rejection) h = problem_cause job true bytes input is (Rejected rejection) h
 ranks_scoring_cause job bytes input is (NotBuilt part) h = problem_cause job true bytes input is (NotBuilt part) h

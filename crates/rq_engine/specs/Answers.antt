@@ -18,6 +18,7 @@ use Rattle.report_text.specs.declared.report.RanksFit.{RanksFit}
 use Rattle.report_text.specs.declared.report.Report.{Report}
 use Rattle.report_text.specs.declared.report.Report.TheVariants as reports
 use Rattle.report_text.specs.declared.report.Refusal.TheVariants.{Dependent}
+use Rattle.report_text.specs.declared.report.Place.TheVariants as places
 use Rattle.report_text.specs.declared.report.Halt.{Halt}
 use Rattle.report_text.specs.declared.report.Halt.TheVariants.{Refused, PivotLimit, Overflow}
 use Rattle.rq_engine.specs.Fit.{IsFitUnder, IsRightFit}
@@ -74,7 +75,7 @@ pub record LacksScores (job : FitJob) (bytes : List ℕ) (trail : Trail Frac128)
 
 -- why bytes have no Wilcoxon scores: they have no fit, or such an operation overflows
 abbrev pub HasRanksCause : FitJob → List ℕ → Halt → Type 0
-HasRanksCause job bytes (Overflow place trail spill) = HasFitCause job true bytes (Overflow place trail spill) ⊎ LacksScores job bytes trail spill
+HasRanksCause job bytes (Overflow places.Process trail spill) = HasFitCause job true bytes (Overflow places.Process trail spill) ⊎ LacksScores job bytes trail spill
 HasRanksCause job bytes halt = HasFitCause job true bytes halt
 
 -- why there is no report for the job

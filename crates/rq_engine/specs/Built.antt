@@ -1,13 +1,13 @@
--- Stated. The jobs that are done today: fits over a range of quantiles, and Wilcoxon scores.
-use Rattle.std.specs.Prelude.{◌≡◌, ℕ, List, None, Ok, ⊤}
+-- Stated. The jobs that are done today: fits over a range of quantiles with rank intervals, and Wilcoxon scores.
+use Rattle.std.specs.Prelude.{◌≡◌, ℕ, List, Ok, ⊤}
 use Rattle.rq_words.specs.Requests.{request_of}
 use Rattle.rq_words.specs.Words.{words_of}
 use Rattle.rq_words.specs.declared.job.Job.{Job}
 use Rattle.rq_words.specs.declared.job.Job.TheVariants.{Process, Ranks}
 
--- the job is one that this version does: a fit for which no rank intervals are asked, or Wilcoxon scores
+-- the job is one that this version does: a fit, or Wilcoxon scores
 abbrev pub IsBuilt : Job → Type 0
-IsBuilt (Process fit) = fit.rank ≡ None
+IsBuilt (Process fit) = ⊤
 IsBuilt (Ranks fit) = ⊤
 IsBuilt _ = ⊥
 

@@ -17,6 +17,7 @@ use Rattle.tau_process.specs.Processes.{HasResults}
 use Rattle.tau_process.specs.Stops.{IsLimited}
 use Rattle.rq_words.specs.declared.job.FitJob.{FitJob}
 use Rattle.rankscores.specs.Scores.{IsScored}
+use Rattle.rq_engine.specs.Intervals.{AreRightIntervals, asked_by}
 use Rattle.report_text.specs.declared.report.Fit.{Fit}
 use Rattle.rq_input.specs.declared.input.Input.{Input}
 
@@ -52,7 +53,8 @@ module _ {F : Type 0} (value : F → Fraction) (p : Problem F) where
         → IsOptimalWithin s (rational theta)
 
 -- the fit is right for the job: its segments cover the range, they are optimal, its scores are the
--- rankscores, and they are those of the lawful trail, which is within the limit; so none reaches it
+-- rankscores, and they are those of the lawful trail, which is within the limit; so none reaches it. Its rank
+-- intervals are those that the job asks for
 pub record IsRightFit (value : Frac128 → Fraction) (job : FitJob) (fit : Fit) : Type 0 where
   pub shaped : IsWellShaped fit.problem
   pub covers : Covers (length fit.problem.rows) (rational (value job.lo)) (rational (value job.hi)) (segments_of value fit.problem fit.process.segments)
@@ -61,6 +63,7 @@ pub record IsRightFit (value : Frac128 → Fraction) (job : FitJob) (fit : Fit) 
   pub results : HasResults value fit.problem (rational (value job.lo)) (rational (value job.hi)) fit.process
   pub short : length fit.process.trail.steps ≤ job.limit
   pub unlimited : ¬ IsLimited {F = Frac128} value (sample value fit.problem) (rational (value job.lo)) (rational (value job.hi)) job.limit
+  pub intervals : AreRightIntervals value fit.problem job.limit (asked_by job.rank fit.problem.columns) fit.intervals
 
 -- the fit is of this input, and tells how many records its design has kept and dropped, the names of the design and
 -- of what the smooths add, and that a row of each record stands before the penalty rows

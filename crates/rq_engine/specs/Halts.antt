@@ -6,16 +6,22 @@ use Rattle.loss_model.specs.declared.spill.Short.TheVariants as shorts
 use Rattle.loss_model.specs.declared.stop.Stop.{Stop}
 use Rattle.loss_model.specs.declared.stop.Stop.TheVariants as stops
 use Rattle.report_text.specs.declared.report.Refusal.TheVariants.{Dependent}
-use Rattle.report_text.specs.declared.report.Place.TheVariants.{Process}
+use Rattle.report_text.specs.declared.report.Place.{Place}
+use Rattle.report_text.specs.declared.report.Place.TheVariants.{Process, Interval}
 use Rattle.report_text.specs.declared.report.Halt.{Halt}
 use Rattle.report_text.specs.declared.report.Halt.TheVariants.{Refused, OutOfMemory, PivotLimit, Overflow}
+use Rattle.rq_engine.specs.declared.intervals.IntervalStop.{IntervalStop}
 
--- the halt of a stop of the solver
-abbrev pub stop_halt : Stop Frac128 → Halt
-stop_halt stops.OutOfMemory = OutOfMemory
-stop_halt (stops.PivotLimit limit trail) = PivotLimit Process limit trail
-stop_halt (stops.Overflow trail spill) = Overflow Process trail spill
-stop_halt (stops.Dependent combination) = Refused (Dependent combination)
+-- the halt of a stop of the solver at a place
+abbrev pub stop_halt : Place → Stop Frac128 → Halt
+stop_halt place stops.OutOfMemory = OutOfMemory
+stop_halt place (stops.PivotLimit limit trail) = PivotLimit place limit trail
+stop_halt place (stops.Overflow trail spill) = Overflow place trail spill
+stop_halt place (stops.Dependent combination) = Refused (Dependent combination)
+
+-- that of an interval, at its column and its quantile
+abbrev pub interval_halt : IntervalStop Frac128 → Halt
+interval_halt stopped = stop_halt (Interval stopped.asked.column stopped.asked.tau) stopped.stop
 
 -- after the walk the trail is whole
 abbrev pub short_halt : Short Frac128 → Trail Frac128 → Halt

@@ -2,5 +2,7 @@ pub mod Answers
 pub mod Built
 pub mod Fit
 pub mod Halts
+pub mod Intervals
+pub mod RankProblems
 pub mod Ranks
 pub mod Stops

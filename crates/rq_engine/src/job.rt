@@ -15,10 +15,11 @@ use std::thread::Threads;
 ///
 /// `Refused` is the first fault: of the bytes as a table, of the formula over the table's names, of
 /// the design, of what its smooths add, or of the problem; or `Dependent`, only where the columns of
-/// the problem are dependent. `PivotLimit` comes only where the lawful trail of the problem has as
-/// many pivots as the job's limit says and one more is left, and `Overflow` only where an operation of
-/// the solve at the low end, of the walk, of a rankscore or of a Wilcoxon score overflows.
-/// `OutOfMemory` may come at any step.
+/// the problem are dependent. `PivotLimit` comes only where the lawful trail of the problem, or of a
+/// rank interval that its place names, has as many pivots as the job's limit says and one more is left,
+/// and `Overflow` only where an operation of the solve at the low end, of the walk, of a rankscore, of
+/// that interval or of a Wilcoxon score overflows. A stop of an interval is that of the first that
+/// stops, quantile by quantile as given and column by column within. `OutOfMemory` may come at any step.
 pub fn answer<R: Threads + Sync>(
     _rt: &R,
     alloc: Global,

@@ -5,12 +5,14 @@
 //! does; each has a module of its own.
 //!
 //! It stands on `rq_input` for what the bytes say, on `tau_process` for the segments and the trail, on
-//! `rankscores`, and on `report_text` for the types that it answers with.
+//! `rankscores`, on `rank_inversion` for rank intervals, and on `report_text` for the types that it answers
+//! with.
 //! Its tests are those of whole runs, in the crate `run_tests`.
 #![tactic(auto)]
 
 mod built;
 mod halt;
+mod intervals;
 mod job;
 mod process;
 mod ranks;

@@ -1,9 +1,11 @@
-//! The job `process`: the input, the process over the range, and the scores of its segments.
-ghost use Rattle.std.specs.Prelude.{◌≡◌, ◌≢◌, ℕ, ◌<◌, ◌≤◌, ◌^◌, ◌++◌, All, length, pos, IfOk, IfErr};
+//! The job `process`: the input, the process over the range, the scores of its segments, and the rank
+//! intervals that are asked for.
+ghost use Rattle.std.specs.Prelude.{◌≡◌, ◌≢◌, ℕ, ◌<◌, ◌≤◌, ◌^◌, All, is_some, length, pos, true, IfOk, IfErr};
 ghost use Rattle.std.specs.List.{AllZip};
 ghost use Rattle.exact_algebra.specs.Fraction.{rational};
 ghost use Rattle.exact_algebra.specs.Rational.{◌≤ℚ◌, whole};
-ghost use Rattle.loss_model.specs.Problem.{sample};
+ghost use Rattle.loss_model.specs.Dual.{IsDataRow};
+ghost use Rattle.loss_model.specs.Problem.{sample, IsWellShaped};
 ghost use Rattle.loss_model.specs.Quantities.{IsShortOf};
 ghost use Rattle.rankscores.specs.Scores.{IsScorable, IsScored};
 ghost use Rattle.report_text.specs.ReportText.{value, IsPrintable};
@@ -11,13 +13,16 @@ ghost use Rattle.report_text.specs.declared.report.Report.TheVariants as reports
 ghost use Rattle.rq_input.specs.Rows.{HasRows};
 ghost use Rattle.rq_engine.specs.Answers.{HasFitCause, IsFitOf, IsFitOfBytes};
 ghost use Rattle.rq_engine.specs.Fit.{IsFitUnder};
+ghost use Rattle.rq_engine.specs.Intervals.{AreRightIntervals, asked_by};
+ghost use Rattle.rq_engine.specs.RankProblems.{HasIntervalCause, IsRankAskOf};
 ghost use Rattle.rq_engine.specs.Stops.{HasProblemCause, IsSegmentSpill};
 
-use crate::halt::{short_halt, stop_halt};
-use frac_core::{Exact, Frac128, List, OutOfMemory, Text};
-use loss_model::{Problem, Process, Segment, Short};
+use crate::halt::{interval_halt, short_halt, stop_halt};
+use crate::intervals::{all_intervals, joined};
+use frac_core::{Exact, Frac128, List, OutOfMemory};
+use loss_model::{Interval, Problem, Process, Segment, Short};
 use rankscores::{ScorePair, scores};
-use report_text::{Fit, Halt};
+use report_text::{Fit, Halt, Place};
 use rq_input::{Input, read_input};
 use rq_words::FitJob;
 use std::alloc::Global;
@@ -45,15 +50,26 @@ fn all_scores<F: Exact>(
     Ok(all)
 }
 
-// The names of the columns of a design, and then those of its smooths.
-fn joined(first: List<Text>, second: List<Text>) -> Result<List<Text>, OutOfMemory>
-    ensures { IfOk result (λ names. names ≡ first ++ second) }
+// The rank intervals that a job asks for.
+//
+// A stop of one of them is that of the first, with its column and its quantile.
+fn job_intervals(
+    alloc: Global,
+    job: &FitJob,
+    problem: &Problem<Frac128>,
+) -> Result<List<Interval<Frac128>>, Halt>
+    requires asked { IsRankAskOf job.now.rank }
+    requires shaped { IsWellShaped problem.now }
+    requires data { is_some job.now.rank ≡ true → (i : ℕ) → i < length problem.now.rows → IsDataRow (sample value problem.now) i }
+    ensures right { IfOk result (AreRightIntervals value problem.now job.now.limit (asked_by job.now.rank problem.now.columns)) }
+    ensures cause { IfErr result (HasIntervalCause job.now problem.now) }
 {
-    let mut names = first.into_vec();
-    let mut rest = second.into_vec();
-    match names.append(&mut rest) {
-        Ok(()) => Ok(List::from(names)),
-        Err(_) => Err(OutOfMemory),
+    let Some(rank) = &job.rank else {
+        return Ok(List::new(alloc));
+    };
+    match all_intervals(alloc, problem, rank.crit, rank.taus.as_slice(), job.limit) {
+        Ok(intervals) => Ok(intervals),
+        Err(stopped) => Err(interval_halt(stopped)),
     }
 }
 
@@ -62,10 +78,12 @@ fn fit_of(
     input: Input,
     process: Process<Frac128>,
     scores: List<List<ScorePair<Frac128>>>,
+    intervals: List<Interval<Frac128>>,
 ) -> Result<Fit, OutOfMemory>
     requires { length input.design.rows < 2 ^ 32 }
     ensures process { IfOk result (λ fit. fit.process ≡ process) }
     ensures scores { IfOk result (λ fit. fit.scores ≡ scores) }
+    ensures intervals { IfOk result (λ fit. fit.intervals ≡ intervals) }
     ensures under { IfOk result (IsFitUnder input) }
 {
     let Input {
@@ -74,6 +92,7 @@ fn fit_of(
         problem,
     } = input;
     let data_rows = design.rows.as_slice().len() as u32;
+    // The names of the columns of the design, and then those of its smooths.
     let names = joined(design.names, smoothing.names)?;
     Ok(Fit {
         kept: data_rows,
@@ -83,25 +102,28 @@ fn fit_of(
         problem,
         process,
         scores,
+        intervals,
     })
 }
 
-// The fit of an input over the range of a job.
+// The fit of an input over the range of a job, with the rank intervals that it asks for.
 //
-// `Dependent`, `PivotLimit` and an `Overflow` in the walk are those of `process`; an overflow of a
-// rankscore comes after it, with the whole trail.
+// `Dependent`, and `PivotLimit` and `Overflow` of the process are those of `process`; an overflow of a
+// rankscore comes after it, with the whole trail, and after that the first stop of an interval.
 pub(crate) fn fit_input(alloc: Global, job: &FitJob, input: Input) -> Result<Fit, Halt>
     requires low { whole (pos 0) ≤ℚ rational (value job.now.lo) }
     requires ordered { rational (value job.now.lo) ≤ℚ rational (value job.now.hi) }
     requires high { rational (value job.now.hi) ≤ℚ whole (pos 1) }
     requires rows { HasRows input }
+    requires rank { IsRankAskOf job.now.rank }
+    requires unpenalised { is_some job.now.rank ≡ true → length input.smoothing.rows ≡ 0 }
     ensures right { IfOk result (IsFitOf job.now input) }
     ensures printable { IfOk result (λ fit. IsPrintable (reports.Process fit)) }
     ensures cause { IfErr result (HasProblemCause job.now (length input.design.rows) input.problem) }
 {
     let walked = match process(alloc, &input.problem, job.lo, job.hi, job.limit) {
         Ok(walked) => walked,
-        Err(stop) => return Err(stop_halt(stop)),
+        Err(stop) => return Err(stop_halt(Place::Process, stop)),
     };
     let data_rows = input.design.rows.as_slice().len() as u32;
     let segments = walked.segments.as_slice();
@@ -109,7 +131,11 @@ pub(crate) fn fit_input(alloc: Global, job: &FitJob, input: Input) -> Result<Fit
         Ok(scores) => scores,
         Err(short) => return Err(short_halt(short, walked.trail)),
     };
-    match fit_of(input, walked, scores) {
+    let intervals = match job_intervals(alloc, job, &input.problem) {
+        Ok(intervals) => intervals,
+        Err(halt) => return Err(halt),
+    };
+    match fit_of(input, walked, scores, intervals) {
         Ok(fit) => Ok(fit),
         Err(_) => Err(Halt::OutOfMemory),
     }
@@ -128,6 +154,8 @@ pub(crate) fn fit_bytes(
     requires high { rational (value job.now.hi) ≤ℚ whole (pos 1) }
     requires long { length job.now.formula < 2 ^ 31 }
     requires short { length bytes.now ≤ 2 ^ 26 }
+    requires rank { IsRankAskOf job.now.rank }
+    requires taken { is_some job.now.rank ≡ true → ranked ≡ true }
     ensures right { IfOk result (IsFitOfBytes job.now ranked bytes.now) }
     ensures printable { IfOk result (λ fit. IsPrintable (reports.Process fit)) }
     ensures cause { IfErr result (HasFitCause job.now ranked bytes.now) }

@@ -5,6 +5,7 @@ ghost use Rattle.exact_algebra.specs.Rational.{whole};
 ghost use Rattle.report_text.specs.ReportText.{value};
 ghost use Rattle.rq_input.specs.Rows.{HasRows};
 ghost use Rattle.rq_engine.specs.Answers.{AreRanksOf, AreRanksOfBytes, HasRanksCause};
+ghost use Rattle.rq_engine.specs.RankProblems.{IsRankAskOf};
 ghost use Rattle.rq_engine.specs.Ranks.{HasScoringCause};
 
 use crate::halt::short_halt;
@@ -21,6 +22,7 @@ fn ranks_input(alloc: Global, job: &FitJob, input: Input) -> Result<RanksFit, Ha
     requires high { whole (pos 1) ≡ rational (value job.now.hi) }
     requires rows { HasRows input }
     requires unpenalised { length input.smoothing.rows ≡ 0 }
+    requires rank { IsRankAskOf job.now.rank }
     ensures right { IfOk result (AreRanksOf job.now input) }
     ensures cause { IfErr result (HasScoringCause job.now input) }
 {
@@ -45,6 +47,7 @@ pub(crate) fn ranks_bytes(alloc: Global, job: &FitJob, bytes: &[u8]) -> Result<R
     requires high { whole (pos 1) ≡ rational (value job.now.hi) }
     requires long { length job.now.formula < 2 ^ 31 }
     requires short { length bytes.now ≤ 2 ^ 26 }
+    requires rank { IsRankAskOf job.now.rank }
     ensures right { IfOk result (AreRanksOfBytes job.now bytes.now) }
     ensures cause { IfErr result (HasRanksCause job.now bytes.now) }
 {

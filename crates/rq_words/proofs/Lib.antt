@@ -4,3 +4,4 @@ pub mod Pieces
 pub mod ItemTests
 pub mod Orders
 pub mod ShortWords
+pub mod RankRequests

@@ -40,49 +40,64 @@ in_order n h = by (is_in_order n.lo n.hi) _ h
     by true rest h = refl
     by false rest h = absurd (cc h)
 
--- the range of a process is that of the options
-same_range : (kind : Kind) (found : List Row) (n : OptionNumbers) (chosen : Coding) (f : FitRequest) → request_for kind found n chosen ≡ request.Process f → (n.lo ≡ f.lo) × (n.hi ≡ f.hi)
-same_range kind.Process found n chosen f h = (cc h, cc h)
-same_range kind.Ranks found n chosen f h = absurd (cc h)
-same_range kind.Certify found n chosen f h = absurd (cc h)
-same_range kind.Check found n chosen f h = absurd (cc h)
-same_range kind.Sample found n chosen f h = absurd (cc h)
+-- the range of a request that has one of its own is in order
+abbrev IsOrdered : Request → Type 0
+IsOrdered (request.Process f) = is_in_order f.lo f.hi ≡ true
+IsOrdered (request.Ranks f) = Unit {0}
+IsOrdered (request.Certify f) = is_in_order f.lo f.hi ≡ true
+IsOrdered request.Check = Unit {0}
+IsOrdered (request.Sample s) = Unit {0}
 
-checked_in_order : (kind : Kind) (found : List Row) (f : FitRequest) → checked kind found ≡ Ok (request.Process f) → is_in_order f.lo f.hi ≡ true
+request_in_order : (kind : Kind) (found : List Row) (n : OptionNumbers) (chosen : Coding) → is_in_order n.lo n.hi ≡ true → IsOrdered (request_for kind found n chosen)
+request_in_order kind.Process found n chosen h = h
+request_in_order kind.Ranks found n chosen h = tt
+request_in_order kind.Certify found n chosen h = h
+request_in_order kind.Check found n chosen h = tt
+request_in_order kind.Sample found n chosen h = tt
+
+checked_in_order : (kind : Kind) (found : List Row) (r : Request) → checked kind found ≡ Ok r → IsOrdered r
 unfolding checked
-checked_in_order kind found f h =
+checked_in_order kind found r h =
     let numbers = step_ok (numbers_of found) _ _ h in
     let chosen = step_ok (option BadContrasts found (codes "contrasts") Treatment coding) _ _ numbers.1 in
     let n = numbers.0 in
     let sound = no_fault (fault_of n) (request_for kind found n chosen.0) _ chosen.1 in
-    let same = same_range kind found n chosen.0 f sound.1 in
-    subst (λ lo. is_in_order lo f.hi ≡ true) same.0 (subst (λ hi. is_in_order n.lo hi ≡ true) same.1 (in_order n sound.0))
+    subst IsOrdered sound.1 (request_in_order kind found n chosen.0 (in_order n sound.0))
 
-job_in_order : (kind : Kind) (words : List Text) (f : FitRequest) → words_of_job kind words ≡ Ok (request.Process f) → is_in_order f.lo f.hi ≡ true
+job_in_order : (kind : Kind) (words : List Text) (r : Request) → words_of_job kind words ≡ Ok r → IsOrdered r
 unfolding words_of_job
-job_in_order kind words f h =
+job_in_order kind words r h =
     let short = short_ok (list_any is_long (drop 1 words)) _ BadOption _ h in
     let found = found_ok (read_by (command_of (options_of kind)) words) (checked kind) BadOption _ short in
-    checked_in_order kind found.0 f found.1
+    checked_in_order kind found.0 r found.1
 
-process_in_order : (words : List Text) (f : FitRequest) → words_of words ≡ Ok (request.Process f) → is_in_order f.lo f.hi ≡ true
+words_in_order : (words : List Text) (r : Request) → words_of words ≡ Ok r → IsOrdered r
 unfolding words_of
-process_in_order [] f h = absurd (cc h)
-process_in_order (job ∷ rest) f h =
+words_in_order [] r h = absurd (cc h)
+words_in_order (job ∷ rest) r h =
     let kind = found_ok (kind_of job) (λ kind. words_of_job kind (job ∷ rest)) UnknownJob _ h in
-    job_in_order kind.0 (job ∷ rest) f kind.1
+    job_in_order kind.0 (job ∷ rest) r kind.1
 
 both : (a b : Bool) → (a && b) ≡ true → (a ≡ true) × (b ≡ true)
 both true b h = (refl, h)
 both false b h = absurd (cc h)
 
--- the range of a process that the words ask for
-pub process_range : (words : List Text) (f : FitRequest) → words_of words ≡ Ok (request.Process f) → (zero ≤ℚ f.lo) × (f.lo ≤ℚ f.hi) × (f.hi ≤ℚ one)
-process_range words f h =
-    let order = process_in_order words f h in
+abbrev IsRange : FitRequest → Type 0
+IsRange f = (zero ≤ℚ f.lo) × (f.lo ≤ℚ f.hi) × (f.hi ≤ℚ one)
+
+range_of : (f : FitRequest) → is_in_order f.lo f.hi ≡ true → IsRange f
+range_of f order =
     let high = both (le_ℚ zero f.lo && le_ℚ f.lo f.hi) (le_ℚ f.hi one) order in
     let within = both (le_ℚ zero f.lo) (le_ℚ f.lo f.hi) high.0 in
     (record { le = within.0 }, record { le = within.1 }, record { le = high.1 })
+
+-- the range of a process that the words ask for
+pub process_range : (words : List Text) (f : FitRequest) → words_of words ≡ Ok (request.Process f) → (zero ≤ℚ f.lo) × (f.lo ≤ℚ f.hi) × (f.hi ≤ℚ one)
+process_range words f h = range_of f (words_in_order words (request.Process f) h)
+
+-- and that of a certificate
+pub certify_range : (words : List Text) (f : FitRequest) → words_of words ≡ Ok (request.Certify f) → (zero ≤ℚ f.lo) × (f.lo ≤ℚ f.hi) × (f.hi ≤ℚ one)
+certify_range words f h = range_of f (words_in_order words (request.Certify f) h)
 
 -- ranks are taken over 0 to 1
 unit_range : (kind : Kind) (found : List Row) (n : OptionNumbers) (chosen : Coding) (f : FitRequest) → request_for kind found n chosen ≡ request.Ranks f → (zero ≡ f.lo) × (one ≡ f.hi)

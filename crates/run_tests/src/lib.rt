@@ -6,6 +6,8 @@ mod formulas;
 #[cfg(test)]
 mod helpers;
 #[cfg(test)]
+mod intervals;
+#[cfg(test)]
 mod medians;
 #[cfg(test)]
 mod ranges;

@@ -64,7 +64,7 @@ fn other_formulas_and_quantiles_are_told(rt: HostRuntime) -> Result<(), Fail> {
 }
 
 // Each case: words that are refused, or that ask for what this version doesn't do.
-static COMMANDS: [(&str, u8, &str); 20] = [
+static COMMANDS: [(&str, u8, &str); 19] = [
     ("", 2, "quantreg: usage: NoJob\n"),
     ("fit", 2, "quantreg: usage: UnknownJob\n"),
     ("--help", 2, "quantreg: usage: UnknownJob\n"),
@@ -111,14 +111,9 @@ static COMMANDS: [(&str, u8, &str); 20] = [
         "quantreg: usage: BadTauForRank\n",
     ),
     (
-        "process|--formula|y ~ 1|--lo|0|--hi|1|--weights|w|--crit|1|--rank-at|1/2",
-        9,
-        "quantreg: build: NotBuilt part=1\n",
-    ),
-    (
-        "process|--formula|y ~ 1|--lo|1/2|--hi|1/2|--crit|1|--rank-at|1/2",
-        9,
-        "quantreg: build: NotBuilt part=1\n",
+        "process|--formula|y ~ qss(y, 1)|--lo|0|--hi|1|--crit|1|--rank-at|1/2",
+        1,
+        "quantreg: rank: RankWithPenalty\n",
     ),
     ("check", 9, "quantreg: build: NotBuilt part=1\n"),
     (

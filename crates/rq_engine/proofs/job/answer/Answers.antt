@@ -1,6 +1,7 @@
 use Rattle.std.proofs.Common.{subst}
 use Rattle.rq_engine.specs.Built.{IsJobOf}
 use Rattle.rq_engine.proofs.Asked.{asked_formula, asked_range, asked_ranks, asked_unit}
+use Rattle.rq_engine.proofs.RankAsks.{asked_beside_ranks, asked_intervals}
 use Rattle.rq_engine.proofs.job.answer.Goals as goal
 
 pub fit_bytes-requires-clause-low : goal.fit_bytes-requires-clause-low
@@ -28,3 +29,9 @@ ranks_bytes-requires-clause-high g c =
 
 pub ranks_bytes-requires-clause-long : goal.ranks_bytes-requires-clause-long
 ranks_bytes-requires-clause-long g c = asked_ranks c.requires.asked.0 c.in-Ranks.fit_job (subst (IsJobOf c.requires.asked.0) c.in-Ranks.is c.requires.asked.1)
+
+pub fit_bytes-requires-clause-rank : goal.fit_bytes-requires-clause-rank
+fit_bytes-requires-clause-rank g c = asked_intervals c.requires.asked.0 c.in-Process.fit_job (subst (IsJobOf c.requires.asked.0) c.in-Process.is c.requires.asked.1)
+
+pub ranks_bytes-requires-clause-rank : goal.ranks_bytes-requires-clause-rank
+ranks_bytes-requires-clause-rank g c = asked_beside_ranks c.requires.asked.0 c.in-Ranks.fit_job (subst (IsJobOf c.requires.asked.0) c.in-Ranks.is c.requires.asked.1)

@@ -5,7 +5,7 @@ use Rattle.exact_algebra.proofs.RationalLaws.{≤ℚ_trans}
 use Rattle.report_text.specs.ReportText.{value}
 use Rattle.rankscores.specs.Scores.{IsScored}
 use Rattle.rq_engine.proofs.Costs.{input_costs}
-use Rattle.rq_engine.proofs.Fits.{few_segments, process_scorable, right_fit, short_cause, stop_cause}
+use Rattle.rq_engine.proofs.Fits.{few_segments, interval_cause, process_scorable, right_fit, short_cause, stop_cause}
 use Rattle.rq_engine.proofs.Scores.{zip_length}
 use Rattle.rq_engine.proofs.process.fit_input.Goals as goal
 
@@ -38,14 +38,22 @@ returns-in-Err-all_scores-clause-cause c =
     (short_cause c.args.job.now (length c.args.input.design.rows) c.args.input.problem c.in-Ok.walked c.in-Ok.ensures.process.results c.in-Ok.ensures.short c.in-Err-all_scores.short
     (rw c.as_slice-segments.ensures at (rw c.as_slice.ensures at c.in-Err-all_scores.ensures.spilled)))
 
+pub job_intervals-requires-clause-data : goal.job_intervals-requires-clause-data
+job_intervals-requires-clause-data c κs = λ some i l. c.requires.rows.are_data i (omega (arith, c.requires.rows.size, c.requires.unpenalised some, l))
+
+pub returns-in-Err-job_intervals-clause-cause : goal.returns-in-Err-job_intervals-clause-cause
+returns-in-Err-job_intervals-clause-cause c =
+    interval_cause c.args.job.now (length c.args.input.design.rows) c.args.input.problem c.in-Ok.walked c.in-Ok-all_scores.scores c.in-Ok.ensures.process.results c.in-Ok.ensures.short
+    (rw c.as_slice-segments.ensures at (rw c.as_slice.ensures at c.in-Ok-all_scores.ensures.scored)) c.in-Err-job_intervals.halt c.in-Err-job_intervals.ensures.cause
+
 pub returns-in-Ok-fit_of-clause-right : goal.returns-in-Ok-fit_of-clause-right
 returns-in-Ok-fit_of-clause-right c =
     let under = c.in-Ok-fit_of.ensures.under in
     record {
       under = under;
-      right = right_fit c.args.job.now (length c.args.input.design.rows) c.args.input.problem c.in-Ok.walked c.in-Ok-all_scores.scores c.requires.rows.shaped c.in-Ok.ensures.process c.in-Ok.ensures.short
-          (λ some. c.in-Ok.ensures.limited some) (rw c.as_slice-segments.ensures at (rw c.as_slice.ensures at c.in-Ok-all_scores.ensures.scored)) c.in-Ok-fit_of.fit c.in-Ok-fit_of.ensures.process
-          c.in-Ok-fit_of.ensures.scores under.problem_is under.data_rows;
+      right = right_fit c.args.job.now (length c.args.input.design.rows) c.args.input.problem c.in-Ok.walked c.in-Ok-all_scores.scores c.in-Ok-job_intervals.intervals c.requires.rows.shaped c.in-Ok.ensures.process c.in-Ok.ensures.short
+          (λ some. c.in-Ok.ensures.limited some) (rw c.as_slice-segments.ensures at (rw c.as_slice.ensures at c.in-Ok-all_scores.ensures.scored)) c.in-Ok-job_intervals.ensures.right c.in-Ok-fit_of.fit c.in-Ok-fit_of.ensures.process
+          c.in-Ok-fit_of.ensures.scores c.in-Ok-fit_of.ensures.intervals under.problem_is under.data_rows;
     }
 
 pub returns-in-Ok-fit_of-clause-printable : goal.returns-in-Ok-fit_of-clause-printable

@@ -1,0 +1,42 @@
+-- Inner. What makes the conditions on the segments of a certificate true.
+use Rattle.std.specs.Prelude.{◌≡◌, ℕ, ◌<◌, List, All, length}
+use Rattle.exact_algebra.specs.Fraction.{rational}
+use Rattle.exact_algebra.specs.Rational.{ℚ, whole, ◌≤ℚ◌}
+use Rattle.frac_core.specs.declared.frac128.Frac128.{Frac128}
+use Rattle.loss_model.specs.declared.problem.Problem.{Problem}
+use Rattle.loss_model.specs.declared.process.Segment.{Segment}
+use Rattle.loss_model.specs.declared.vertex.Vertex.{Vertex}
+use Rattle.loss_model.specs.Dual.{IsDual}
+use Rattle.loss_model.specs.Problem.{value_at, sample, IsWellShaped}
+use Rattle.loss_model.specs.Sample.{loss, up_cost, down_cost}
+use Rattle.loss_model.specs.Segment.{Covers, segments_of}
+use Rattle.loss_model.specs.Vertex.{dual_value, IsVertexOf}
+use Rattle.cert_checker.specs.Places.{value128}
+use Rattle.std.specs.Prelude.{pos}
+
+-- at one end of a segment the dual values are feasible and of equal cost, and the loss is that of the coefficients
+pub record IsSoundEnd (p : Problem Frac128) (v : Vertex Frac128) (theta : ℚ) (basic : List Frac128) (cost : Frac128) : Type 0 where
+  pub size : length basic ≡ length v.basis.rows
+  pub dual : IsDual (sample value128 p) theta (value_at value128 v.coef) (dual_value value128 p v basic theta)
+  pub lost : rational (value128 cost) ≡ loss (sample value128 p) theta (value_at value128 v.coef)
+
+-- both ends of a segment with a vertex of the problem
+pub record IsSoundSegment (p : Problem Frac128) (s : Segment Frac128) : Type 0 where
+  pub vertex : IsVertexOf p s.vertex
+  pub at_lo : IsSoundEnd p s.vertex (rational (value128 s.lo)) s.basic_lo s.loss_lo
+  pub at_hi : IsSoundEnd p s.vertex (rational (value128 s.hi)) s.basic_hi s.loss_hi
+
+-- no cost is negative at theta
+abbrev pub AreCosts : Problem Frac128 → ℚ → Type 0
+AreCosts p theta =
+    (i : ℕ) → i < length p.rows
+    → (whole (pos 0) ≤ℚ up_cost (sample value128 p) theta i) × (whole (pos 0) ≤ℚ down_cost (sample value128 p) theta i)
+
+-- sound segments cover a range at whose ends no cost is negative
+pub record AreSound (p : Problem Frac128) (lo hi : Frac128) (segments : List (Segment Frac128)) : Type 0 where
+  pub shaped : IsWellShaped p
+  pub ordered : rational (value128 lo) ≤ℚ rational (value128 hi)
+  pub costs_lo : AreCosts p (rational (value128 lo))
+  pub costs_hi : AreCosts p (rational (value128 hi))
+  pub covers : Covers (length p.rows) (rational (value128 lo)) (rational (value128 hi)) (segments_of value128 p segments)
+  pub segments : All (IsSoundSegment p) segments

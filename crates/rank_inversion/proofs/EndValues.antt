@@ -1,0 +1,47 @@
+-- The dual values of the rows of a basis on a walk, and the end that is made of them.
+use Rattle.std.specs.Prelude.{◌≡◌, ℕ, ◌<◌, false, List, length, slice_index, pos}
+use Rattle.std.proofs.Common.{sym, ap, subst, ◌∙◌, refl}
+use Rattle.exact_algebra.specs.Fraction.{Fraction, rational}
+use Rattle.exact_algebra.specs.Rational.{ℚ, ◌+ℚ◌, ◌*ℚ◌, inverse, ◌≤ℚ◌}
+use Rattle.loss_model.specs.declared.vertex.Vertex.{Vertex}
+use Rattle.loss_model.specs.Sample.{Sample}
+use Rattle.loss_model.specs.Problem.{value_at}
+use Rattle.basis_model.specs.Basis.{IsBasis, dual_value}
+use Rattle.walk_rule.specs.Families.{dual_in}
+use Rattle.walk_rule.proofs.Balanced.{dual_at}
+use Rattle.walk_rule.proofs.Tested.{values}
+use Rattle.rank_walk.specs.RankWalks.{Way, rise, fall, tested, ray}
+use Rattle.rank_walk.specs.Crossings.{parameter_of}
+use Rattle.rank_walk.specs.Ends.{AreValuesOf}
+use Rattle.rank_inversion.specs.Courses.{along}
+use Rattle.rank_inversion.specs.declared.station.Station.{Station}
+use Rattle.rank_inversion.specs.Courses.{way_of, tau_of, family_of}
+use Rattle.rank_inversion.specs.Nexts.{IsValueOfRow}
+use Rattle.rank_inversion.specs.Stations.{sample_at, rows_at, entries_at}
+
+-- the dual value of the row at a position, where the column weighs s
+pub value_there : (way : Way) (p : Sample) (j : ℕ) (tau : ℚ) (at : ℕ → ℕ) (a : ℕ → ℕ → ℚ) → IsBasis p at a → j < p.columns → (t s : ℚ) → s ≡ parameter_of way t → (k : ℕ) → k < p.columns
+    → dual_in (tested way p tau j) at a t (at k) ≡ dual_value p at a tau k +ℚ (a j k *ℚ s)
+value_there rise p j tau at a basis lj t s e k lk =
+    dual_at (tested rise p tau j) at a basis t k lk ∙ (values p tau j at a t k lj).0 ∙ ap (λ z. dual_value p at a tau k +ℚ (a j k *ℚ z)) (sym e)
+value_there fall p j tau at a basis lj t s e k lk =
+    dual_at (tested fall p tau j) at a basis t k lk ∙ (values p tau j at a t k lj).1 ∙ ap (λ z. dual_value p at a tau k +ℚ (a j k *ℚ z)) (sym e)
+
+module _ {F : Type 0} (value : F → Fraction) (v : Station F) (basis : IsBasis (sample_at value v) (rows_at value v) (entries_at value v)) (lj : v.course.column < v.tableau.now.problem.columns) where
+  pub values_of : (t : ℚ) (weight : F) → rational (value weight) ≡ parameter_of (way_of v.course.way) t → (vertex : Vertex F) (list : List F) → length list ≡ length vertex.basis.rows
+      → ((k : ℕ) → k < length vertex.basis.rows → IsValueOfRow value v weight (slice_index vertex.basis.rows k) (value_at value list k))
+      → AreValuesOf value vertex (dual_in (family_of value (sample_at value v) v.course) (rows_at value v) (entries_at value v) t) list
+  values_of t weight e vertex list size each =
+      record {
+        size = size;
+        each = λ k lk.
+            let here = each k lk in
+            here.same
+            ∙ sym (value_there (way_of v.course.way) (sample_at value v) v.course.column (tau_of value v.course) (rows_at value v) (entries_at value v) basis lj t (rational (value weight)) e here.position here.within)
+            ∙ ap (dual_in (family_of value (sample_at value v) v.course) (rows_at value v) (entries_at value v) t) here.holds;
+      }
+
+-- an entry of the ray
+pub along_ray : (way : Way) (a : ℕ → ℕ → ℚ) (j k m : ℕ) (x : ℚ) → x ≡ a m k *ℚ inverse (a j k) → along way x ≡ ray way a j k m
+along_ray rise a j k m x e = e
+along_ray fall a j k m x e = ap (along fall) e

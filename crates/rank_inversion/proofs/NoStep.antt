@@ -1,0 +1,100 @@
+-- Where a walk hands out its end, no step of it is left.
+use Rattle.std.specs.Prelude.{◌≡◌, ◌⊎◌, ◌≤◌, ◌<◌, ℕ, true, false, List, length, slice_index, pos}
+use Rattle.std.proofs.Common.{arith, sym, subst, ◌∙◌, inl, inr}
+use Rattle.std.proofs.lemmas.Bool.{cases_lt}
+use Rattle.exact_algebra.specs.Fraction.{Fraction}
+use Rattle.exact_algebra.specs.Rational.{ℚ, ◌*ℚ◌, whole, ◌≤ℚ◌}
+use Rattle.exact_algebra.proofs.RationalLaws.{≤ℚ_antisym}
+use Rattle.loss_model.specs.declared.interval.Beyond.{Beyond}
+use Rattle.loss_model.specs.declared.interval.Beyond.TheVariants.{Outside, Ray}
+use Rattle.loss_model.specs.declared.interval.Bound.{Bound}
+use Rattle.loss_model.specs.declared.interval.Bound.TheVariants.{Finite, Infinite}
+use Rattle.loss_model.specs.declared.interval.End.{End}
+use Rattle.loss_model.specs.declared.problem.Problem.{Problem}
+use Rattle.loss_model.specs.declared.process.Exchange.{Exchange}
+use Rattle.loss_model.specs.Sample.{Sample}
+use Rattle.loss_model.specs.Problem.{sample}
+use Rattle.pivot_rule.specs.declared.direction.Direction.{Direction}
+use Rattle.pivot_rule.specs.Duals.{◌<ℚ◌}
+use Rattle.pivot_rule.specs.Steps.{moves}
+use Rattle.pivot_rule.specs.Trails.{basis_after}
+use Rattle.walk_rule.specs.Families.{Family}
+use Rattle.walk_rule.specs.Walks.{IsNextBreak, IsWalkingStep}
+use Rattle.walk_rule.specs.WalkTrails.{value_after, is_within, IsEndAfter}
+use Rattle.rank_walk.specs.Ends.{IsHandedOut, IsEndAt}
+use Rattle.rank_walk.specs.Intervals.{when_on, IsWalked}
+use Rattle.rank_walk.specs.RankWalks.{Way, rise, fall, tested}
+use Rattle.rank_inversion.proofs.Breaks.{crossed, one_direction}
+
+module _ (f : Family) (at : ℕ → ℕ) (a : ℕ → ℕ → ℚ) (from : ℚ) where
+  same_place : (t u : ℚ) (j k : ℕ) (d e : Direction) → IsNextBreak f at a from t j d → IsNextBreak f at a from u k e → t ≡ u
+  same_place t u j k d e x y = ≤ℚ_antisym t u (x.least u k e y.position y.after y.crosses) (y.least t j d x.position x.after x.crosses)
+
+  same_position : (t : ℚ) (j k : ℕ) (d e : Direction) → IsNextBreak f at a from t j d → IsNextBreak f at a from t k e → j ≡ k
+  same_position t j k d e x y = by (cases_lt j k) (cases_lt k j)
+    where
+      by : (j < k) ⊎ (k ≤ j) → (k < j) ⊎ (j ≤ k) → j ≡ k
+      by (inl less) o = absurd (y.first j d less x.crosses)
+      by (inr past) (inl less) = absurd (x.first k e less y.crosses)
+      by (inr past) (inr rest) = omega arith
+
+  -- a next breakpoint beyond the bound has no step
+  none_beyond : (bound u : ℚ) (k : ℕ) (d : Direction) → IsNextBreak f at a from u k d → bound <ℚ (u *ℚ u) → (t : ℚ) (m r : ℕ) → ¬ IsWalkingStep f at a (is_within bound) from t m r
+  none_beyond bound u k d next beyond t m r step =
+      let within : (t *ℚ t) ≤ℚ bound = record { le = step.within } in
+      beyond (subst (λ z. (z *ℚ z) ≤ℚ bound) (same_place t u m k step.direction d step.break next) within)
+
+module _ (way : Way) (p : Sample) (j : ℕ) (tau bound : ℚ) (at : ℕ → ℕ) (a : ℕ → ℕ → ℚ) (from : ℚ) (lj : j < p.columns) where
+  -- a step goes by the next breakpoint
+  step_at : (u : ℚ) (k : ℕ) (d : Direction) → IsNextBreak (tested way p tau j) at a from u k d → (t : ℚ) (m r : ℕ) → (step : IsWalkingStep (tested way p tau j) at a (is_within bound) from t m r) → (m ≡ k) × (step.direction ≡ d)
+  step_at u k d next t m r step =
+      let there : IsNextBreak (tested way p tau j) at a from u m step.direction = subst (λ t. IsNextBreak (tested way p tau j) at a from t m step.direction) (same_place (tested way p tau j) at a from t u m k step.direction d step.break next) step.break in
+      let position : m ≡ k = same_position (tested way p tau j) at a from u m k step.direction d there next in
+      let here : IsNextBreak (tested way p tau j) at a from u k step.direction = subst (λ m. IsNextBreak (tested way p tau j) at a from u m step.direction) position there in
+      (position, one_direction way (a j k) step.direction d (crossed way p j tau at a lj u k step.direction here.crosses).0 (crossed way p j tau at a lj u k d next.crosses).0)
+
+no : true ≡ false → ⊥
+no h = cc
+
+-- nor has one at which no row moves
+none_stuck : (way : Way) (p : Sample) (j : ℕ) (tau bound : ℚ) (at : ℕ → ℕ) (a : ℕ → ℕ → ℚ) (from : ℚ) → j < p.columns → (u : ℚ) (k : ℕ) (d : Direction) → IsNextBreak (tested way p tau j) at a from u k d
+    → ((i : ℕ) → i < p.rows → moves p at a k d i ≡ false) → (t : ℚ) (m r : ℕ) → ¬ IsWalkingStep (tested way p tau j) at a (is_within bound) from t m r
+none_stuck rise p j tau bound at a from lj u k d next stuck t m r step =
+    let same = step_at rise p j tau bound at a from lj u k d next t m r step in
+    no (sym (subst (λ d. moves p at a k d r ≡ true) same.1 (subst (λ m. moves p at a m step.direction r ≡ true) same.0 step.entering.mover)) ∙ stuck r step.entering.row)
+none_stuck fall p j tau bound at a from lj u k d next stuck t m r step =
+    let same = step_at fall p j tau bound at a from lj u k d next t m r step in
+    no (sym (subst (λ d. moves p at a k d r ≡ true) same.1 (subst (λ m. moves p at a m step.direction r ≡ true) same.0 step.entering.mover)) ∙ stuck r step.entering.row)
+
+module _ {F : Type 0} (value : F → Fraction) (p : Problem F) (j : ℕ) (tau bound : ℚ) (lj : j < p.columns) where
+  end_has_none : (way : Way) (basis : List ℕ) (a : ℕ → ℕ → ℚ) (from : ℚ) (end : End F) → IsEndAt value p way j tau bound basis a from end
+      → (t : ℚ) (m r : ℕ) → ¬ IsWalkingStep (tested way (sample value p) tau j) (slice_index basis) a (is_within bound) from t m r
+  end_has_none way basis a from end h t m r = by end.bound end.beyond h.handed
+    where
+      by : (x : Bound F) (y : Beyond F) → IsHandedOut value p way j tau bound (slice_index basis) a from h.u h.k h.d end.vertex end.inside x y
+          → ¬ IsWalkingStep (tested way (sample value p) tau j) (slice_index basis) a (is_within bound) from t m r
+      by (Finite x) (Outside f) (coef, inside, outside, beyond) =
+          none_beyond (tested way (sample value p) tau j) (slice_index basis) a from bound h.u h.k h.d h.break beyond t m r
+      by Infinite (Ray f) (inside, each, within, stuck, size) =
+          none_stuck way (sample value p) j tau bound (slice_index basis) a from lj h.u h.k h.d h.break stuck t m r
+      by (Finite x) (Ray f) k = absurd k
+      by Infinite (Outside f) k = absurd k
+
+  pub walk_is_ended : (way : Way) (solved : List ℕ) (steps : List (Exchange F)) (end : End F) → IsWalked value p way j tau bound solved steps end
+      → IsEndAfter (when_on way value) (tested way (sample value p) tau j) (is_within bound) (whole (pos 0)) solved steps
+  walk_is_ended rise solved steps end w =
+      record {
+        size = w.size;
+        a = w.a;
+        is_basis = w.is_basis;
+        ends = w.ends;
+        holds = end_has_none rise (basis_after solved steps) w.a (value_after (when_on rise value) (tested rise (sample value p) tau j) (is_within bound) (whole (pos 0)) steps) end w.holds;
+      }
+  walk_is_ended fall solved steps end w =
+      record {
+        size = w.size;
+        a = w.a;
+        is_basis = w.is_basis;
+        ends = w.ends;
+        holds = end_has_none fall (basis_after solved steps) w.a (value_after (when_on fall value) (tested fall (sample value p) tau j) (is_within bound) (whole (pos 0)) steps) end w.holds;
+      }

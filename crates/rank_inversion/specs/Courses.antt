@@ -1,0 +1,61 @@
+-- Inner. The walks of a tested value as the code has them.
+use Rattle.std.specs.Prelude.{◌≡◌, ℕ, Bool, true, false, Option, Some, None, pos}
+use Rattle.exact_algebra.specs.Fraction.{Fraction, rational}
+use Rattle.exact_algebra.specs.Rational.{ℚ, ◌-ℚ◌, ◌*ℚ◌, neg_ℚ, inverse, whole}
+use Rattle.loss_model.specs.Sample.{Sample}
+use Rattle.basis_model.specs.Basis.{dual_value}
+use Rattle.pivot_rule.specs.declared.direction.Direction.{Direction}
+use Rattle.pivot_rule.specs.declared.direction.Direction.TheVariants.{Upward, Downward}
+use Rattle.walk_rule.specs.Families.{Family}
+use Rattle.rank_walk.specs.RankWalks.{Way as RankWay, rise, fall, tested}
+use Rattle.rank_walk.specs.Crossings.{parameter_of, bound_towards, IsMoving}
+use Rattle.rank_inversion.specs.declared.course.Way.{Way}
+use Rattle.rank_inversion.specs.declared.course.Way.TheVariants.{Rise, Fall}
+use Rattle.rank_inversion.specs.declared.course.Course.{Course}
+
+-- the way
+abbrev pub way_of : Way → RankWay
+way_of Rise = rise
+way_of Fall = fall
+
+-- a coefficient's way, where it rises by x as that of the tested column rises by 1
+abbrev pub along : RankWay → ℚ → ℚ
+along rise x = x
+along fall x = neg_ℚ x
+
+-- the direction in which a dual value moves, by whether the inverse's entry is above 0
+abbrev pub direction_for : RankWay → Bool → Direction
+direction_for rise true = Downward
+direction_for rise false = Upward
+direction_for fall true = Upward
+direction_for fall false = Downward
+
+-- the direction in which it moves by an entry, if that isn't 0
+abbrev pub IsDirectionBy : RankWay → ℚ → Option Direction → Type 0
+IsDirectionBy way entry None = entry ≡ whole (pos 0)
+IsDirectionBy way entry (Some d) = IsMoving way d entry
+
+module _ {F : Type 0} (value : F → Fraction) where
+  -- the quantile, and the bound
+  abbrev pub tau_of : Course F → ℚ
+  tau_of c = rational (value c.tau)
+
+  abbrev pub bound_of : Course F → ℚ
+  bound_of c = rational (value c.bound)
+
+  -- the parameter where the column weighs so much
+  abbrev pub parameter_at : Course F → F → ℚ
+  parameter_at c weight = parameter_of (way_of c.way) (rational (value weight))
+
+  -- the dual values over the parameter
+  abbrev pub family_of : Sample → Course F → Family
+  family_of p c = tested (way_of c.way) p (tau_of c) c.column
+
+  -- the dual value at position j moves in this direction
+  abbrev pub Moves : Course F → (ℕ → ℕ → ℚ) → ℕ → Direction → Type 0
+  Moves c a j d = IsMoving (way_of c.way) d (a c.column j)
+
+  -- the parameter at which it meets its bound
+  abbrev pub crossing_at : Sample → (ℕ → ℕ) → (ℕ → ℕ → ℚ) → Course F → ℕ → Direction → ℚ
+  crossing_at p at a c j d =
+      parameter_of (way_of c.way) ((bound_towards p (tau_of c) (at j) d -ℚ dual_value p at a (tau_of c) j) *ℚ inverse (a c.column j))

@@ -1,0 +1,321 @@
+//! Rank intervals.
+ghost use Rattle.std.specs.Prelude.{◌≡◌, ℕ, ◌<◌, ◌≤◌, length, IfOk, IfErr, pos};
+ghost use Rattle.exact_algebra.specs.Fraction.{rational};
+ghost use Rattle.exact_algebra.specs.Rational.{whole, ◌≤ℚ◌};
+ghost use Rattle.loss_model.specs.Dual.{IsDataRow};
+ghost use Rattle.loss_model.specs.Problem.{sample, IsWellShaped};
+ghost use Rattle.loss_model.specs.Strict.{◌<ℚ◌};
+ghost use Rattle.loss_model.specs.declared.stop.Stop.TheVariants.{PivotLimit, Overflow};
+ghost use Rattle.fraction_tableau.specs.Kept.{IsKept};
+ghost use Rattle.br_pivot.specs.Solutions.{IsSolution};
+ghost use Rattle.br_pivot.specs.Solves.{IsLimitAnswer};
+ghost use Rattle.rank_inversion.specs.Intervals.{IsExactInterval, IsRankInterval};
+ghost use Rattle.rank_inversion.specs.Stops.{IsIntervalStop, IsWalkStop, IsLimited};
+ghost use Rattle.rank_inversion.specs.Tests.{IsTested};
+ghost use Rattle.rank_inversion.specs.Walks.{IsEnded, IsHalted};
+ghost use Rattle.rank_inversion.specs.Inversions.{IsAskable, IsReady, course_of, trail_with, IsStopHere, IsRisen, IsFallen, IsRiseHalt, IsFallHalt};
+
+use crate::course::{Course, Way};
+use crate::gram::gram_inverse;
+use crate::column_test::{Asked, RankTest, rank_test};
+use crate::walking::{Walk, WalkHalt, Arrival, walk_to_end};
+use br_pivot::{Optimum, solve_at};
+use frac_core::{Exact, List, OutOfMemory};
+use fraction_tableau::FractionTableau;
+use loss_model::{Basis, Exchange, Interval, IntervalProof, Problem, Spill, Stop, Trail};
+use std::alloc::Global;
+
+/// What both walks of a tested column go by: the problem and its solve at the quantile, what is asked, the
+/// bound on the square of the statistic, and the limit of all steps.
+struct Inversion<'a, F: Exact> {
+    problem: &'a Problem<F>,
+    solved: &'a Optimum<F>,
+    asked: Asked<F>,
+    bound: F,
+    limit: u32,
+}
+
+/// The solved basis, in memory of its own.
+fn solved_basis<'a, F: Exact>(
+    alloc: Global,
+    problem: &'a Problem<F>,
+    solved: &Optimum<F>,
+) -> Result<FractionTableau<'a, F>, OutOfMemory>
+    requires { IsKept F.value (record { problem = problem.now; rows = solved.now.basis.rows; square = solved.now.inverse }) }
+    ensures { IfOk result (λ t. t ≡ record { problem = problem.now; rows = solved.now.basis.rows; square = solved.now.inverse }) }
+{
+    let rows = List::copy(alloc, solved.basis.rows.as_slice())?;
+    let inverse = solved.inverse.copy()?;
+    Ok(FractionTableau::over(
+        alloc,
+        problem,
+        Basis { rows },
+        inverse,
+    ))
+}
+
+impl<'a, F: Exact> Inversion<'a, F> {
+    /// The walk on a way.
+    fn course(&self, way: Way) -> Course<F>
+        ensures { result ≡ course_of self.now way }
+    {
+        Course {
+            way,
+            column: self.asked.column,
+            tau: self.asked.tau,
+            bound: self.bound,
+        }
+    }
+
+    /// Walks on a way from the solved basis, with so many steps left.
+    fn walk(&self, alloc: Global, way: Way, left: u32) -> Result<Arrival<F>, WalkHalt<F>>
+        requires ready { IsReady F.value self.now }
+        ensures ended { IfOk result (IsEnded F.value self.now.problem.now (course_of self.now way) self.now.solved.now.basis.rows left) }
+        ensures halted { IfErr result (IsHalted F.value self.now.problem.now (course_of self.now way) self.now.solved.now.basis.rows F.range left) }
+    {
+        let tableau = match solved_basis(alloc, self.problem, self.solved) {
+            Ok(tableau) => tableau,
+            Err(_) => return Err(WalkHalt::OutOfMemory),
+        };
+        let from = Walk {
+            tableau,
+            steps: List::new(alloc),
+            now: F::zero(),
+        };
+        walk_to_end(from, self.course(way), left)
+    }
+
+    /// The trail of the solve, with the steps of both walks.
+    fn trail(
+        &self,
+        alloc: Global,
+        rise: List<Exchange<F>>,
+        fall: List<Exchange<F>>,
+    ) -> Result<Trail<F>, OutOfMemory>
+        ensures { IfOk result (λ t. t ≡ trail_with self.now rise fall) }
+    {
+        let start = List::copy(alloc, self.solved.trail.start.as_slice())?;
+        let steps = List::copy(alloc, self.solved.trail.steps.as_slice())?;
+        Ok(Trail {
+            start,
+            steps,
+            rise,
+            fall,
+        })
+    }
+
+    /// The stop where a walk reaches the limit, after these steps of both walks.
+    fn limit_stop(
+        &self,
+        alloc: Global,
+        rise: List<Exchange<F>>,
+        fall: List<Exchange<F>>,
+    ) -> Stop<F>
+        requires { IsStopHere F.value F.range self.now (PivotLimit self.now.limit (trail_with self.now rise fall)) }
+        ensures { IsStopHere F.value F.range self.now result }
+    {
+        match self.trail(alloc, rise, fall) {
+            Ok(trail) => Stop::PivotLimit {
+                limit: self.limit,
+                trail,
+            },
+            Err(_) => Stop::OutOfMemory,
+        }
+    }
+
+    /// The stop where an operation of a walk overflows, after these steps of both walks.
+    fn spill_stop(
+        &self,
+        alloc: Global,
+        rise: List<Exchange<F>>,
+        fall: List<Exchange<F>>,
+        spill: Spill<F>,
+    ) -> Stop<F>
+        requires { IsStopHere F.value F.range self.now (Overflow (trail_with self.now rise fall) spill) }
+        ensures { IsStopHere F.value F.range self.now result }
+    {
+        match self.trail(alloc, rise, fall) {
+            Ok(trail) => Stop::Overflow { trail, spill },
+            Err(_) => Stop::OutOfMemory,
+        }
+    }
+
+    /// The stop for which the rising walk halted.
+    fn rise_stop(&self, alloc: Global, halt: WalkHalt<F>) -> Stop<F>
+        requires ready { IsReady F.value self.now }
+        requires halted { IsRiseHalt F.value F.range self.now halt }
+        ensures { IsStopHere F.value F.range self.now result }
+    {
+        match halt {
+            WalkHalt::OutOfMemory => Stop::OutOfMemory,
+            WalkHalt::PivotLimit { steps } => self.limit_stop(alloc, steps, List::new(alloc)),
+            WalkHalt::Overflow { steps, spill } => {
+                self.spill_stop(alloc, steps, List::new(alloc), spill)
+            }
+        }
+    }
+
+    /// The stop for which the falling walk halted, after the rising one.
+    fn fall_stop(&self, alloc: Global, rise: Arrival<F>, halt: WalkHalt<F>) -> Stop<F>
+        requires ready { IsReady F.value self.now }
+        requires risen { IsRisen F.value self.now rise }
+        requires halted { IsFallHalt F.value F.range self.now rise.steps halt }
+        ensures { IsStopHere F.value F.range self.now result }
+    {
+        match halt {
+            WalkHalt::OutOfMemory => Stop::OutOfMemory,
+            WalkHalt::PivotLimit { steps } => self.limit_stop(alloc, rise.steps, steps),
+            WalkHalt::Overflow { steps, spill } => {
+                self.spill_stop(alloc, rise.steps, steps, spill)
+            }
+        }
+    }
+
+    /// The interval of both ends, by the factors of the projection.
+    fn joined(
+        &self,
+        alloc: Global,
+        factors: List<F>,
+        rise: Arrival<F>,
+        fall: Arrival<F>,
+    ) -> Result<Interval<F>, OutOfMemory>
+        requires ready { IsReady F.value self.now }
+        requires tested { IsTested F.value self.now.problem.now self.now.asked (record { asked = self.now.asked; factors = factors; bound = self.now.bound }) }
+        requires risen { IsRisen F.value self.now rise }
+        requires fallen { IsFallen F.value self.now rise.steps fall }
+        ensures { IfOk result (IsRankInterval F.value self.now.problem.now self.now.asked.column self.now.asked.tau self.now.asked.crit self.now.limit) }
+    {
+        let trail = self.trail(alloc, rise.steps, fall.steps)?;
+        Ok(Interval {
+            proof: IntervalProof {
+                column: self.asked.column,
+                tau: self.asked.tau,
+                crit: self.asked.crit,
+                low: fall.end,
+                high: rise.end,
+                projection: factors,
+            },
+            trail,
+        })
+    }
+
+    /// The interval: the rising walk gives the high end, and then the falling one the low end.
+    fn interval(&self, alloc: Global, factors: List<F>) -> Result<Interval<F>, Stop<F>>
+        requires ready { IsReady F.value self.now }
+        requires tested { IsTested F.value self.now.problem.now self.now.asked (record { asked = self.now.asked; factors = factors; bound = self.now.bound }) }
+        ensures interval { IfOk result (IsRankInterval F.value self.now.problem.now self.now.asked.column self.now.asked.tau self.now.asked.crit self.now.limit) }
+        ensures stopped { IfErr result (IsStopHere F.value F.range self.now) }
+    {
+        let left = self.limit - self.solved.trail.steps.as_slice().len() as u32;
+        let rise = match self.walk(alloc, Way::Rise, left) {
+            Ok(rise) => rise,
+            Err(halt) => return Err(self.rise_stop(alloc, halt)),
+        };
+        let rest = left - rise.steps.as_slice().len() as u32;
+        let fall = match self.walk(alloc, Way::Fall, rest) {
+            Ok(fall) => fall,
+            Err(halt) => return Err(self.fall_stop(alloc, rise, halt)),
+        };
+        match self.joined(alloc, factors, rise, fall) {
+            Ok(interval) => Ok(interval),
+            Err(_) => Err(Stop::OutOfMemory),
+        }
+    }
+}
+
+/// The rank interval of a tested column, from the solve at its quantile: the rising walk gives the high end, and
+/// then the falling one the low end. The limit counts the steps of the solve and of both walks together.
+///
+/// `PivotLimit` comes where as many steps were made and one more is left, and an overflow names an operation at
+/// the last basis of the walk that stands in the trail.
+pub fn interval_from<F: Exact>(
+    alloc: Global,
+    problem: &Problem<F>,
+    solved: &Optimum<F>,
+    test: RankTest<F>,
+    limit: u32,
+) -> Result<Interval<F>, Stop<F>>
+    requires asked { IsAskable F.value problem.now test.asked }
+    requires solved { IsSolution F.value problem.now (rational (F.value test.asked.tau)) solved.now }
+    requires short { length solved.now.trail.steps ≤ limit }
+    requires tested { IsTested F.value problem.now test.asked test }
+    ensures exact { IfOk result (IsExactInterval F.value problem.now test.asked.column (rational (F.value test.asked.tau)) (rational (F.value test.asked.crit))) }
+    ensures interval { IfOk result (IsRankInterval F.value problem.now test.asked.column test.asked.tau test.asked.crit limit) }
+    ensures stopped { IfErr result (IsWalkStop F.value F.range problem.now test.asked.column (rational (F.value test.asked.tau)) (rational (F.value test.asked.crit)) limit) }
+    ensures limited { IsLimited F.value problem.now test.asked.column (rational (F.value test.asked.tau)) (rational (F.value test.asked.crit)) limit → IsLimitAnswer result }
+{
+    let inversion = Inversion {
+        problem,
+        solved,
+        asked: test.asked,
+        bound: test.bound,
+        limit,
+    };
+    match inversion.interval(alloc, test.factors) {
+        Ok(interval) => Ok(interval),
+        Err(stop) => Err(stop),
+    }
+}
+
+/// The interval by its parts: the inverse of the Gram matrix, the test of the column, the solve, and the walks.
+fn by_parts<F: Exact>(
+    alloc: Global,
+    problem: &Problem<F>,
+    asked: Asked<F>,
+    limit: u32,
+) -> Result<Interval<F>, Stop<F>>
+    requires asked { IsAskable F.value problem.now asked }
+    ensures interval { IfOk result (IsRankInterval F.value problem.now asked.column asked.tau asked.crit limit) }
+    ensures stopped { IfErr result (IsIntervalStop F.value F.range problem.now asked.column (rational (F.value asked.tau)) (rational (F.value asked.crit)) limit) }
+{
+    let gram = match gram_inverse(alloc, problem) {
+        Ok(gram) => gram,
+        Err(stop) => return Err(stop),
+    };
+    let test = match rank_test(alloc, problem, &gram, asked) {
+        Ok(test) => test,
+        Err(stop) => return Err(stop),
+    };
+    let solved = match solve_at(alloc, problem, asked.tau, limit) {
+        Ok(solved) => solved,
+        Err(stop) => return Err(stop),
+    };
+    match interval_from(alloc, problem, &solved, test, limit) {
+        Ok(interval) => Ok(interval),
+        Err(stop) => Err(stop),
+    }
+}
+
+/// The rank interval of a column at the quantile tau for a critical value: the tested values for which some
+/// optimal dual values of the fit without the column are within it (Koenker 2005, section 3.5). `limit` counts
+/// the steps of the solve, of the rising walk and of the falling one together.
+///
+/// `PivotLimit` comes exactly where as many steps were made as the limit says and one more is left, save that
+/// an operation that overflows, or want of memory, may come first. `Dependent` comes where the columns are
+/// dependent. An overflow names an operation before the solve, with the trail that stands by then, or one at
+/// the last basis of the trail that it carries.
+pub fn interval<F: Exact>(
+    alloc: Global,
+    problem: &Problem<F>,
+    column: u32,
+    tau: F,
+    crit: F,
+    limit: u32,
+) -> Result<Interval<F>, Stop<F>>
+    requires shaped { IsWellShaped problem.now }
+    requires column { column < problem.now.columns }
+    requires tau_above { whole (pos 0) <ℚ rational (F.value tau) }
+    requires tau_below { rational (F.value tau) <ℚ whole (pos 1) }
+    requires crit { whole (pos 0) ≤ℚ rational (F.value crit) }
+    requires data { (i : ℕ) → i < length problem.now.rows → IsDataRow (sample F.value problem.now) i }
+    ensures exact { IfOk result (IsExactInterval F.value problem.now column (rational (F.value tau)) (rational (F.value crit))) }
+    ensures interval { IfOk result (IsRankInterval F.value problem.now column tau crit limit) }
+    ensures stopped { IfErr result (IsIntervalStop F.value F.range problem.now column (rational (F.value tau)) (rational (F.value crit)) limit) }
+    ensures limited { IsLimited F.value problem.now column (rational (F.value tau)) (rational (F.value crit)) limit → IsLimitAnswer result }
+{
+    let asked = Asked { column, tau, crit };
+    match by_parts(alloc, problem, asked, limit) {
+        Ok(interval) => Ok(interval),
+        Err(stop) => Err(stop),
+    }
+}

@@ -1,0 +1,107 @@
+-- What words ask of rank intervals: a critical value of at least 0, and quantiles of which none is outside 0 to 1.
+use Rattle.std.proofs.Common.{◌≡◌, Bool, true, false, not, List, [], ◌∷◌, Option, Some, None, Result, Ok, Err, refl, sym, ap, subst, codes, drop, if◌then◌else◌, option_map, option_and_then}
+use Rattle.std.specs.List.{list_any}
+use Rattle.std.specs.Option.{option_map_or}
+use Rattle.clap.specs.Words.{Row, Text}
+use Rattle.exact_algebra.specs.Rational.{ℚ, le_ℚ, ◌≤ℚ◌}
+use Rattle.contrasts.specs.declared.Coding.{Coding}
+use Rattle.contrasts.specs.declared.Coding.TheVariants.{Treatment}
+use Rattle.rq_words.specs.Commands.{command_of, kind_of, options_of, read_by}
+use Rattle.rq_words.specs.Requests.{FitRequest, OptionNumbers, RankRequest, Request}
+use Rattle.rq_words.specs.Requests as request
+use Rattle.rq_words.specs.Words.{zero, option, coding, numbers_of, is_in_order, is_outside, fault_of, rank_of, request_for, checked, is_long, words_of_job, words_of}
+use Rattle.rq_words.specs.declared.command.Kind.{Kind}
+use Rattle.rq_words.specs.declared.command.Kind.TheVariants as kind
+use Rattle.rq_words.specs.declared.job.WordFault.{WordFault}
+use Rattle.rq_words.specs.declared.job.WordFault.TheVariants.{BadContrasts, BadOption, BadRange, BadTauForRank, NegativeLimit, RankHalf, UnknownJob}
+use Rattle.rq_words.proofs.Orders.{step_ok, found_ok, no_fault}
+
+-- a test that finds no fault fails, and so do those behind it
+untold : (b : Bool) (fault : WordFault) (rest : Option WordFault) → (if b then Some fault else rest) ≡ None → (b ≡ false) × (rest ≡ None)
+untold true fault rest h = absurd (cc h)
+untold false fault rest h = (refl, h)
+
+short_ok : {B : Type 0} (b : Bool) (r : Result B WordFault) (fault : WordFault) (x : B) → (if b then Err fault else r) ≡ Ok x → r ≡ Ok x
+short_ok true r fault x h = absurd (cc h)
+short_ok false r fault x h = h
+
+-- ---- the request
+
+-- what the checks leave of a request for intervals
+pub record IsSound (r : RankRequest) : Type 0 where
+  pub crit : zero ≤ℚ r.crit
+  pub taus : list_any is_outside r.taus ≡ false
+
+-- of both options
+record AreSound (n : OptionNumbers) : Type 0 where
+  taus : option_map_or (list_any is_outside) n.taus false ≡ false
+  crit : option_map_or (λ crit. not (le_ℚ zero crit)) n.crit false ≡ false
+
+are_sound : (n : OptionNumbers) → fault_of n ≡ None → AreSound n
+unfolding fault_of
+are_sound n h =
+    let range = untold (not (is_in_order n.lo n.hi)) BadRange _ h in
+    let half = untold _ RankHalf _ range.1 in
+    let taus = untold (option_map_or (list_any is_outside) n.taus false) BadTauForRank _ half.1 in
+    let crit = untold (option_map_or (λ crit. not (le_ℚ zero crit)) n.crit false) NegativeLimit None taus.1 in
+    record { taus = taus.0; crit = crit.0 }
+
+denied : (b : Bool) → not b ≡ false → b ≡ true
+denied true h = refl
+denied false h = absurd (cc h)
+
+sound_by : (crit : Option ℚ) (taus : Option (List ℚ)) → option_map_or (list_any is_outside) taus false ≡ false → option_map_or (λ crit. not (le_ℚ zero crit)) crit false ≡ false
+    → (r : RankRequest) → option_and_then (λ (crit : ℚ). option_map (λ (taus : List ℚ). record { crit = crit; taus = taus }) taus) crit ≡ Some r → IsSound r
+sound_by None taus inner sign r h = absurd (cc h)
+sound_by (Some crit) None inner sign r h = absurd (cc h)
+sound_by (Some crit) (Some taus) inner sign r h =
+    let is : record { crit = crit; taus = taus } ≡ r = cc h in
+    subst IsSound is (record { crit = record { le = denied (le_ℚ zero crit) sign }; taus = inner })
+
+-- a request for intervals, if there is one
+abbrev pub IsSoundOf : Option RankRequest → Type 0
+IsSoundOf None = Unit {0}
+IsSoundOf (Some r) = IsSound r
+
+sound_of : (n : OptionNumbers) → fault_of n ≡ None → (o : Option RankRequest) → rank_of n ≡ o → IsSoundOf o
+sound_of n h None e = tt
+sound_of n h (Some r) e = let sound = are_sound n h in sound_by n.crit n.taus sound.taus sound.crit r e
+
+-- the fit that a job asks for: of a process, of ranks or of a certificate
+abbrev pub IsFitOf : Request → FitRequest → Type 0
+IsFitOf (request.Process f) g = f ≡ g
+IsFitOf (request.Ranks f) g = f ≡ g
+IsFitOf (request.Certify f) g = f ≡ g
+IsFitOf _ g = ⊥
+
+same_rank : (kind : Kind) (found : List Row) (n : OptionNumbers) (chosen : Coding) (f : FitRequest) → IsFitOf (request_for kind found n chosen) f → rank_of n ≡ f.rank
+same_rank kind.Process found n chosen f h = ap (λ (g : FitRequest). g.rank) h
+same_rank kind.Ranks found n chosen f h = ap (λ (g : FitRequest). g.rank) h
+same_rank kind.Certify found n chosen f h = ap (λ (g : FitRequest). g.rank) h
+same_rank kind.Check found n chosen f h = absurd h
+same_rank kind.Sample found n chosen f h = absurd h
+
+module _ (asked : Request) (f : FitRequest) (is : IsFitOf asked f) where
+  checked_sound : (kind : Kind) (found : List Row) → checked kind found ≡ Ok asked → IsSoundOf f.rank
+  unfolding checked
+  checked_sound kind found h =
+      let numbers = step_ok (numbers_of found) _ _ h in
+      let chosen = step_ok (option BadContrasts found (codes "contrasts") Treatment coding) _ _ numbers.1 in
+      let n = numbers.0 in
+      let sound = no_fault (fault_of n) (request_for kind found n chosen.0) _ chosen.1 in
+      sound_of n sound.0 f.rank (same_rank kind found n chosen.0 f (subst (λ r. IsFitOf r f) (sym sound.1) is))
+
+  job_sound : (kind : Kind) (words : List Text) → words_of_job kind words ≡ Ok asked → IsSoundOf f.rank
+  unfolding words_of_job
+  job_sound kind words h =
+      let short = short_ok (list_any is_long (drop 1 words)) _ BadOption _ h in
+      let found = found_ok (read_by (command_of (options_of kind)) words) (checked kind) BadOption _ short in
+      checked_sound kind found.0 found.1
+
+  -- so is what the words ask for
+  pub words_sound : (words : List Text) → words_of words ≡ Ok asked → IsSoundOf f.rank
+  unfolding words_of
+  words_sound [] h = absurd (cc h)
+  words_sound (job ∷ rest) h =
+      let kind = found_ok (kind_of job) (λ kind. words_of_job kind (job ∷ rest)) UnknownJob _ h in
+      job_sound kind.0 (job ∷ rest) kind.1
