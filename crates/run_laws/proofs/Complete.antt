@@ -1,7 +1,6 @@
 -- A job whose input is well formed is answered.
-use Rattle.std.specs.Prelude.{◌≡◌, ◌⊎◌, ℕ, ◌+◌, ◌*◌, ◌<◌, ◌≤◌, Bool, true, is_some, List, [], Option, Some, None, option_map, Ok, Err, length}
+use Rattle.std.specs.Prelude.{◌≡◌, ◌⊎◌, ℕ, ◌+◌, ◌*◌, ◌<◌, ◌≤◌, Bool, true, is_some, List, Option, Some, None, option_map, length}
 use Rattle.std.proofs.Common.{arith, refl, sym, ap, subst, ◌∙◌, inl, inr}
-use Rattle.std.proofs.lemmas.Bool.{cases_lt}
 use Rattle.exact_algebra.specs.Fraction.{rational}
 use Rattle.frac_core.specs.declared.frac128.Frac128.{Frac128}
 use Rattle.loss_model.specs.declared.problem.Problem.{Problem}
@@ -10,7 +9,7 @@ use Rattle.loss_model.specs.Problem.{sample}
 use Rattle.port_io.specs.Told.{most_bytes, TakesAll, TakesFirst}
 use Rattle.pivot_bound.specs.BoundLaws.{further_bases}
 use Rattle.tau_process.specs.Stops.{IsLimited}
-use Rattle.rq_words.specs.Requests.{Request, FitRequest, fit_request, rank_request, request_of}
+use Rattle.rq_words.specs.Requests.{FitRequest, fit_request, rank_request, request_of}
 use Rattle.rq_words.specs.declared.job.FitJob.{FitJob}
 use Rattle.rq_words.specs.declared.job.RankAsk.{RankAsk}
 use Rattle.rq_words.specs.declared.job.Job.{Job}
@@ -23,7 +22,6 @@ use Rattle.report_text.specs.declared.report.Fit.{Fit}
 use Rattle.report_text.specs.declared.report.Report.{Report}
 use Rattle.report_text.specs.declared.report.Report.TheVariants as reports
 use Rattle.report_text.specs.declared.report.Halt.TheVariants as halts
-use Rattle.rq_input.specs.Inputs.{HasInputCause, IsInput}
 use Rattle.rq_input.specs.Rows.{HasRows}
 use Rattle.rq_input.specs.declared.input.Input.{Input}
 use Rattle.rq_engine.specs.Answers as engine
@@ -34,7 +32,7 @@ use Rattle.rq_cli.specs.declared.outcome.Outcome.{Outcome}
 use Rattle.rq_cli.specs.declared.outcome.Outcome.TheVariants.{Done, Refused, Usage, SourceFault, SinkFault, OutOfMemory, PivotLimit, Overflow, NotBuilt}
 use Rattle.stop_laws.proofs.Needed.{dependent}
 use Rattle.run_laws.specs.Completeness.{NoneRose, IsWellFormed, IsAnswer, IsLimitedInput, IsNoReport}
-use Rattle.run_laws.specs.NeededOutcomes.{AskFit, WasInput, ReachesItsLimit}
+use Rattle.run_laws.specs.NeededOutcomes.{AskFit, WasInput}
 use Rattle.run_laws.proofs.Needed.{limit_needed, overflow_needed}
 
 -- ---- words

@@ -1,5 +1,5 @@
 -- What stops a run was needed.
-use Rattle.std.specs.Prelude.{◌≡◌, ◌⊎◌, ℕ, ◌*◌, ◌<◌, ◌≤◌, Bool, true, is_some, List, pos}
+use Rattle.std.specs.Prelude.{◌≡◌, ℕ, ◌*◌, Bool, true, is_some, List, pos}
 use Rattle.std.proofs.Common.{refl, sym, subst, inl, inr}
 use Rattle.exact_algebra.specs.Fraction.{rational}
 use Rattle.exact_algebra.specs.Rational.{whole, ◌≤ℚ◌}
@@ -20,19 +20,18 @@ use Rattle.rq_words.specs.declared.job.Job.TheVariants as jobs
 use Rattle.report_text.specs.ReportText.{value}
 use Rattle.report_text.specs.declared.report.Place.{Place}
 use Rattle.report_text.specs.declared.report.Refusal.TheVariants.{Dependent}
-use Rattle.report_text.specs.declared.report.Halt.{Halt}
 use Rattle.report_text.specs.declared.report.Halt.TheVariants.{Refused, PivotLimit, Overflow}
 use Rattle.rq_input.specs.Inputs.{IsInput}
 use Rattle.rq_input.specs.declared.input.Input.{Input}
 use Rattle.rq_engine.specs.Answers as engine
 use Rattle.rq_engine.specs.Answers.{HasFitCause, HasRanksCause, LacksFit, LacksScores}
-use Rattle.rq_engine.specs.Built.{IsBuilt, IsJobOf}
+use Rattle.rq_engine.specs.Built.{IsJobOf}
 use Rattle.rq_engine.specs.Stops.{most}
 use Rattle.rq_engine.proofs.Asked.{asked_range, asked_unit}
 use Rattle.rq_engine.proofs.Costs.{input_costs}
 use Rattle.rq_engine.proofs.Scoring.{from_zero, to_one, in_order}
 use Rattle.rq_cli.specs.Outcomes.{Stream, IsHalted, WereRead}
-use Rattle.run_laws.specs.NeededOutcomes.{AskFit, WasInput, ReachesItsLimit}
+use Rattle.run_laws.specs.NeededOutcomes.{WasInput, ReachesItsLimit}
 use Rattle.run_laws.proofs.Spilled.{of_fit, of_wilcoxon}
 
 -- the low end of the range that words ask for is a quantile

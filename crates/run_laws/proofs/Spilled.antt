@@ -1,5 +1,5 @@
 -- Where a run stops for an overflow, the operation overflows: of the solver, of a rankscore or of a Wilcoxon score.
-use Rattle.std.specs.Prelude.{◌⊎◌, ℕ, ◌<◌, List, length}
+use Rattle.std.specs.Prelude.{ℕ, List, length}
 use Rattle.std.proofs.Common.{inl, inr}
 use Rattle.exact_algebra.specs.Fraction.{Fraction, rational}
 use Rattle.exact_algebra.specs.Rational.{ℚ}

@@ -21,7 +21,6 @@ use Rattle.rq_input.specs.declared.input.Input.{Input}
 use Rattle.rq_engine.specs.Built.{IsBuilt, IsJobOf}
 use Rattle.rq_engine.specs.Stops.{most}
 use Rattle.rq_cli.specs.Outcomes.{Stream, IsRun, WereRead}
-use Rattle.rq_cli.specs.declared.outcome.Outcome.{Outcome}
 use Rattle.rq_cli.specs.declared.outcome.Outcome.TheVariants.{Refused, PivotLimit, Overflow}
 
 -- the job is this fit of a table, with or without ranks
