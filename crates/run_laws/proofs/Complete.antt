@@ -1,11 +1,13 @@
 -- A job whose input is well formed is answered.
-use Rattle.std.specs.Prelude.{◌≡◌, ◌⊎◌, ℕ, ◌+◌, ◌*◌, ◌<◌, ◌≤◌, Bool, true, is_some, List, Option, Some, None, option_map, length}
+use Rattle.std.specs.Prelude.{◌≡◌, ◌⊎◌, ℕ, ◌+◌, ◌*◌, ◌<◌, ◌≤◌, Bool, true, is_some, List, Option, Some, None, option_map, length, slice_index}
 use Rattle.std.proofs.Common.{arith, refl, sym, ap, subst, ◌∙◌, inl, inr}
 use Rattle.exact_algebra.specs.Fraction.{rational}
 use Rattle.frac_core.specs.declared.frac128.Frac128.{Frac128}
 use Rattle.loss_model.specs.declared.problem.Problem.{Problem}
 use Rattle.loss_model.specs.declared.process.Trail.{Trail}
+use Rattle.loss_model.specs.FullRank.{HasFullRank}
 use Rattle.loss_model.specs.Problem.{sample}
+use Rattle.pivot_rule.proofs.Solved.{full_rank}
 use Rattle.port_io.specs.Told.{most_bytes, TakesAll, TakesFirst}
 use Rattle.pivot_bound.specs.BoundLaws.{further_bases}
 use Rattle.tau_process.specs.Stops.{IsLimited}
@@ -15,11 +17,10 @@ use Rattle.rq_words.specs.declared.job.RankAsk.{RankAsk}
 use Rattle.rq_words.specs.declared.job.Job.{Job}
 use Rattle.rq_words.specs.declared.job.Job.TheVariants as jobs
 use Rattle.report_text.specs.ReportText.{value}
-use Rattle.report_text.specs.declared.report.Place.TheVariants as places
+use Rattle.report_text.specs.declared.report.Place.{Place}
 use Rattle.report_text.specs.declared.report.Refusal.{Refusal}
 use Rattle.report_text.specs.declared.report.Refusal.TheVariants as refusals
 use Rattle.report_text.specs.declared.report.Fit.{Fit}
-use Rattle.cert_checker.specs.declared.verdict.Rejection.{Rejection}
 use Rattle.report_text.specs.declared.report.Report.{Report}
 use Rattle.report_text.specs.declared.report.Report.TheVariants as reports
 use Rattle.report_text.specs.declared.report.Halt.TheVariants as halts
@@ -28,11 +29,11 @@ use Rattle.rq_input.specs.declared.input.Input.{Input}
 use Rattle.rq_engine.specs.Answers as engine
 use Rattle.rq_engine.specs.Answers.{IsRight, IsFitOf, HasFitCause}
 use Rattle.rq_engine.specs.Built.{IsBuilt, IsJobOf}
-use Rattle.rq_cli.specs.Outcomes.{Stream, IsRun, IsHalted, IsOutputFault, IsErrorFault, WereRead}
+use Rattle.rq_cli.specs.Outcomes.{Stream, IsRun, IsAnswered, IsHalted, IsOutputFault, IsErrorFault, WereRead}
 use Rattle.rq_cli.specs.declared.outcome.Outcome.{Outcome}
-use Rattle.rq_cli.specs.declared.outcome.Outcome.TheVariants.{Done, Refused, Usage, SourceFault, SinkFault, OutOfMemory, PivotLimit, Overflow, Rejected, NotBuilt}
-use Rattle.stop_laws.proofs.Needed.{dependent}
-use Rattle.run_laws.specs.Completeness.{NoneRose, IsWellFormed, IsAnswer, IsLimitedInput, IsNoReport}
+use Rattle.rq_cli.specs.declared.outcome.Outcome.TheVariants.{Done, Refused, Usage, SourceFault, SinkFault, OutOfMemory, PivotLimit, Overflow, NotBuilt}
+use Rattle.stop_laws.proofs.Needed.{dependent, process_full}
+use Rattle.run_laws.specs.Completeness.{NoneRose, IsWellFormed, IsAnswer, IsLimitedInput, IsNoReport, IsUnfitted}
 use Rattle.run_laws.specs.NeededOutcomes.{AskFit, WasInput}
 use Rattle.run_laws.proofs.Needed.{limit_needed, overflow_needed}
 
@@ -43,9 +44,20 @@ module _ (words : List (List ℕ)) where
   one_request : (job other : Job) → IsJobOf words job → IsJobOf words other → request_of job ≡ request_of other
   one_request job other asked again = cc (sym asked ∙ again)
 
+  no_rank : (a b : FitJob) → fit_request a ≡ fit_request b → b.rank ≡ None → a.rank ≡ None
+  no_rank a b same none = by a.rank (ap (λ (r : FitRequest). r.rank) same ∙ ap (option_map rank_request) none)
+    where
+      by : (o : Option RankAsk) → option_map rank_request o ≡ None → o ≡ None
+      by None h = refl
+      by (Some r) h = absurd (cc h)
+
   -- a job of these words is done where one is
   also_built : (job other : Job) → request_of job ≡ request_of other → IsBuilt other → IsBuilt job
-  also_built (jobs.Process a) other same built = tt
+  also_built (jobs.Process a) (jobs.Process b) same built = no_rank a b (cc same) built
+  also_built (jobs.Process a) (jobs.Ranks b) same built = absurd (cc same)
+  also_built (jobs.Process a) (jobs.Certify b) same built = absurd built
+  also_built (jobs.Process a) jobs.Check same built = absurd built
+  also_built (jobs.Process a) (jobs.Sample b) same built = absurd built
   also_built (jobs.Ranks a) other same built = tt
   also_built (jobs.Certify a) (jobs.Process b) same built = absurd (cc same)
   also_built (jobs.Certify a) (jobs.Ranks b) same built = absurd (cc same)
@@ -85,8 +97,6 @@ module _ (words : List (List ℕ)) (source source' : Stream) (bytes : List ℕ) 
       by (refusals.Design fault) h = w.sound fit ranked asked (refusals.Design fault) h
       by (refusals.Penalty fault) h = w.sound fit ranked asked (refusals.Penalty fault) h
       by (refusals.Program fault) h = w.sound fit ranked asked (refusals.Program fault) h
-      by (refusals.CertTooLong length) h = w.sound fit ranked asked (refusals.CertTooLong length) h
-      by (refusals.Certificate fault) h = w.sound fit ranked asked (refusals.Certificate fault) h
 
   not_refused : (refusal : Refusal) → ¬ IsHalted words source source' (halts.Refused refusal)
   not_refused refusal h = by h.job h.read h.cause
@@ -99,17 +109,6 @@ module _ (words : List (List ℕ)) (source source' : Stream) (bytes : List ℕ) 
       by (jobs.Certify fit) read cause = absurd cause
       by jobs.Check read cause = absurd cause
       by (jobs.Sample job) read cause = absurd cause
-
-  -- the job checks no certificate
-  not_rejected : (rejection : Rejection) → ¬ IsHalted words source source' (halts.Rejected rejection)
-  not_rejected rejection h = by h.job h.cause
-    where
-      by : (job : Job) → engine.HasCause job h.bytes (halts.Rejected rejection) → ⊥
-      by (jobs.Process fit) cause = absurd cause.2.cause
-      by (jobs.Ranks fit) cause = absurd cause.2.cause
-      by (jobs.Certify fit) cause = absurd cause
-      by jobs.Check cause = absurd cause
-      by (jobs.Sample job) cause = absurd cause
 
   pub answered : (out out' err err' : Stream) (outcome : Outcome) → IsRun words source source' out out' err err' outcome → NoneRose source source' out out' err err' → IsAnswer words source source' bytes outcome
   answered out out' err err' outcome run none = by outcome run
@@ -125,8 +124,6 @@ module _ (words : List (List ℕ)) (source source' : Stream) (bytes : List ℕ) 
       by (Refused (refusals.Design fault)) run = absurd (not_refused (refusals.Design fault) run.cause)
       by (Refused (refusals.Penalty fault)) run = absurd (not_refused (refusals.Penalty fault) run.cause)
       by (Refused (refusals.Program fault)) run = absurd (not_refused (refusals.Program fault) run.cause)
-      by (Refused (refusals.CertTooLong length)) run = absurd (not_refused (refusals.CertTooLong length) run.cause)
-      by (Refused (refusals.Certificate fault)) run = absurd (not_refused (refusals.Certificate fault) run.cause)
       by (Refused (refusals.Dependent combination)) run = absurd (not_refused (refusals.Dependent combination) run.cause)
       by (Usage fault) run = absurd (cc (sym run.cause ∙ w.asked.asked))
       by SourceFault run = absurd (none.0 run.cause.1)
@@ -138,31 +135,32 @@ module _ (words : List (List ℕ)) (source source' : Stream) (bytes : List ℕ) 
       by OutOfMemory run = tt
       by (PivotLimit place limit trail) run = limit_needed words source source' place limit trail run.cause
       by (Overflow place trail spill) run = overflow_needed words source source' place trail spill run.cause
-      by (Rejected rejection) run = absurd (not_rejected rejection run.cause)
       by (NotBuilt part) run =
           absurd (run.cause.1.other (also_built words run.cause.1.job w.asked.job (one_request words run.cause.1.job w.asked.job run.cause.1.asked w.asked.asked) w.asked.built))
 
 -- ---- limits
 
 module _ (words : List (List ℕ)) (source source' : Stream) where
-  pub limited : (out out' err err' : Stream) (outcome : Outcome) → IsRun words source source' out out' err err' outcome
-      → ((fit : FitJob) (input : Input) → WasInput words source source' fit input → IsLimitedInput fit input) → IsNoReport outcome
-  limited out out' err err' (Done report) run reaches = by run.cause.job report run.cause.read run.cause.right
+  -- a right report is of a fit of an input that was read
+  report_fit : (report : Report) → IsAnswered words source source' report → (fit : FitJob) × (input : Input) × (f : Fit) × WasInput words source source' fit input × IsFitOf fit input f
+  report_fit report h = by h.job report h.read h.right
     where
-      fit_of : (fit : FitJob) (input : Input) (f : Fit) → WasInput words source source' fit input → IsFitOf fit input f → ⊥
-      fit_of fit input f was is =
-          is.right.unlimited (subst (λ (p : Problem Frac128). IsLimited {F = Frac128} value (sample value p) (rational (value fit.lo)) (rational (value fit.hi)) fit.limit) (sym is.under.problem_is) (reaches fit input was))
-
-      by : (job : Job) (report : Report) → WereRead words source source' job run.cause.bytes → IsRight job run.cause.bytes report → ⊥
+      by : (job : Job) (report : Report) → WereRead words source source' job h.bytes → IsRight job h.bytes report → (fit : FitJob) × (input : Input) × (f : Fit) × WasInput words source source' fit input × IsFitOf fit input f
       by (jobs.Process fit) (reports.Process f) read right =
-          fit_of fit right.0 f (record { ranked = is_some fit.rank; bytes = run.cause.bytes; asked = record { job = jobs.Process fit; asked = read.asked; built = read.built; is = (refl, refl) }; read = (jobs.Process fit, read); is = right.1 }) right.2
+          (fit, right.0, f, record { ranked = is_some fit.rank; bytes = h.bytes; asked = record { job = jobs.Process fit; asked = read.asked; built = read.built; is = (refl, refl) }; read = (jobs.Process fit, read); is = right.1 }, right.2)
       by (jobs.Ranks fit) (reports.Ranks f) read right =
-          fit_of fit right.0 f.fit (record { ranked = true; bytes = run.cause.bytes; asked = record { job = jobs.Ranks fit; asked = read.asked; built = read.built; is = (refl, refl) }; read = (jobs.Ranks fit, read); is = right.1 }) right.2.fit
+          (fit, right.0, f.fit, record { ranked = true; bytes = h.bytes; asked = record { job = jobs.Ranks fit; asked = read.asked; built = read.built; is = (refl, refl) }; read = (jobs.Ranks fit, read); is = right.1 }, right.2.fit)
       by (jobs.Process fit) (reports.Ranks f) read right = absurd right
       by (jobs.Ranks fit) (reports.Process f) read right = absurd right
       by (jobs.Certify fit) report read right = absurd right
       by jobs.Check report read right = absurd right
       by (jobs.Sample job) report read right = absurd right
+
+  pub limited : (out out' err err' : Stream) (outcome : Outcome) → IsRun words source source' out out' err err' outcome
+      → ((fit : FitJob) (input : Input) → WasInput words source source' fit input → IsLimitedInput fit input) → IsNoReport outcome
+  limited out out' err err' (Done report) run reaches =
+      let h = report_fit report run.cause in
+      h.4.right.unlimited (subst (λ (p : Problem Frac128). IsLimited {F = Frac128} value (sample value p) (rational (value h.0.lo)) (rational (value h.0.hi)) h.0.limit) (sym h.4.under.problem_is) (reaches h.0 h.1 h.3))
   limited out out' err err' (Refused refusal) run reaches = tt
   limited out out' err err' (Usage fault) run reaches = tt
   limited out out' err err' SourceFault run reaches = tt
@@ -170,15 +168,33 @@ module _ (words : List (List ℕ)) (source source' : Stream) where
   limited out out' err err' OutOfMemory run reaches = tt
   limited out out' err err' (PivotLimit place limit trail) run reaches = tt
   limited out out' err err' (Overflow place trail spill) run reaches = tt
-  limited out out' err err' (Rejected rejection) run reaches = tt
   limited out out' err err' (NotBuilt part) run reaches = tt
 
-  pub ample : (out out' err err' : Stream) (limit : ℕ) (trail : Trail Frac128)
+  pub ample : (out out' err err' : Stream) (place : Place) (limit : ℕ) (trail : Trail Frac128)
       → ((fit : FitJob) (input : Input) → WasInput words source source' fit input → HasRows input × ((2 * further_bases (sample value input.problem)) ≤ fit.limit))
-      → ¬ IsRun words source source' out out' err err' (PivotLimit places.Process limit trail)
-  ample out out' err err' limit trail long run =
-      let needed = limit_needed words source source' places.Process limit trail run.cause in
+      → ¬ IsRun words source source' out out' err err' (PivotLimit place limit trail)
+  ample out out' err err' place limit trail long run =
+      let needed = limit_needed words source source' place limit trail run.cause in
       let enough : HasRows needed.1 × ((2 * further_bases (sample value needed.1.problem)) ≤ needed.0.limit) = long needed.0 needed.1 needed.2 in
       let below : limit < 2 * further_bases (sample value needed.1.problem) = needed.3.below enough.0 in
       let shown : limit ≡ needed.0.limit = needed.3.shown in
       omega (arith, enough.1, shown, below)
+
+  -- ---- dependent columns
+
+  pub unfitted : (out out' err err' : Stream) (outcome : Outcome) → IsRun words source source' out out' err err' outcome
+      → ((fit : FitJob) (input : Input) → WasInput words source source' fit input → ¬ HasFullRank (sample value input.problem)) → IsUnfitted outcome
+  unfitted out out' err err' (Done report) run dependent =
+      let h = report_fit report run.cause in
+      let end = h.4.right.results.ended in
+      dependent h.0 h.1 h.3 (subst (λ (p : Problem Frac128). HasFullRank (sample value p)) h.4.under.problem_is (full_rank (sample value h.2.problem) (slice_index h.4.right.results.basis) end.a end.is_basis))
+  unfitted out out' err err' (PivotLimit place limit trail) run dependent =
+      let needed = limit_needed words source source' place limit trail run.cause in
+      dependent needed.0 needed.1 needed.2 (process_full value (sample value needed.1.problem) (rational (value needed.0.lo)) (rational (value needed.0.hi)) limit trail needed.3.reached)
+  unfitted out out' err err' (Refused refusal) run dependent = tt
+  unfitted out out' err err' (Usage fault) run dependent = tt
+  unfitted out out' err err' SourceFault run dependent = tt
+  unfitted out out' err err' SinkFault run dependent = tt
+  unfitted out out' err err' OutOfMemory run dependent = tt
+  unfitted out out' err err' (Overflow place trail spill) run dependent = tt
+  unfitted out out' err err' (NotBuilt part) run dependent = tt

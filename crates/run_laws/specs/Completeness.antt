@@ -13,7 +13,7 @@ use Rattle.tau_process.specs.Stops.{IsLimited}
 use Rattle.rq_words.specs.declared.job.FitJob.{FitJob}
 use Rattle.rq_words.specs.declared.job.Job.{Job}
 use Rattle.report_text.specs.ReportText.{value}
-use Rattle.report_text.specs.declared.report.Place.TheVariants as places
+use Rattle.report_text.specs.declared.report.Place.{Place}
 use Rattle.report_text.specs.declared.report.Refusal.{Refusal}
 use Rattle.report_text.specs.declared.report.Halt.TheVariants as halts
 use Rattle.rq_input.specs.Inputs.{HasInputCause, IsInput}
@@ -25,7 +25,7 @@ use Rattle.rq_engine.specs.Stops.{most}
 use Rattle.rq_cli.specs.Outcomes.{Stream, IsRun}
 use Rattle.rq_cli.specs.declared.outcome.Outcome.{Outcome}
 use Rattle.rq_cli.specs.declared.outcome.Outcome.TheVariants.{Done, OutOfMemory, PivotLimit, Overflow}
-use Rattle.run_laws.specs.NeededOutcomes.{AskFit, WasInput, ReachesLimitAt}
+use Rattle.run_laws.specs.NeededOutcomes.{AskFit, WasInput, ReachesItsLimit}
 
 -- no count of faults rose
 abbrev pub NoneRose : (source source' out out' err err' : Stream) → Type 0
@@ -46,8 +46,8 @@ pub record IsWellFormed (words : List (List ℕ)) (source : Stream) (bytes : Lis
 -- it has the right report, or reaches its limit, or an operation overflows; want of memory is the free answer
 abbrev pub IsAnswer : List (List ℕ) → (source source' : Stream) → List ℕ → Outcome → Type 0
 IsAnswer words source source' bytes (Done report) = (job : Job) × IsJobOf words job × IsRight job bytes report
-IsAnswer words source source' bytes (PivotLimit places.Process limit trail) =
-    (fit : FitJob) × (input : Input) × WasInput words source source' fit input × ReachesLimitAt place fit input limit trail
+IsAnswer words source source' bytes (PivotLimit place limit trail) =
+    (fit : FitJob) × (input : Input) × WasInput words source source' fit input × ReachesItsLimit fit input limit trail
 IsAnswer words source source' bytes (Overflow place trail spill) = DoesOverflow value most spill
 IsAnswer words source source' bytes OutOfMemory = ⊤
 IsAnswer words source source' bytes _ = ⊥
@@ -77,9 +77,23 @@ LimitIsAnswered =
     → ((fit : FitJob) (input : Input) → WasInput words source source' fit input → IsLimitedInput fit input)
     → IsNoReport outcome
 
--- where no fewer pivots are allowed than twice the bases after the first, the limit doesn't stop the process
+-- where no fewer pivots are allowed than twice the bases after the first, the limit stops nothing
 abbrev pub AmpleLimitIsNeverReached : Type 0
 AmpleLimitIsNeverReached =
-    (words : List (List ℕ)) (source source' out out' err err' : Stream) (limit : ℕ) (trail : Trail Frac128)
+    (words : List (List ℕ)) (source source' out out' err err' : Stream) (place : Place) (limit : ℕ) (trail : Trail Frac128)
     → ((fit : FitJob) (input : Input) → WasInput words source source' fit input → HasRows input × ((2 * further_bases (sample value input.problem)) ≤ fit.limit))
-    → ¬ IsRun words source source' out out' err err' (PivotLimit places.Process limit trail)
+    → ¬ IsRun words source source' out out' err err' (PivotLimit place limit trail)
+
+-- the outcome is neither a report nor a limit
+abbrev pub IsUnfitted : Outcome → Type 0
+IsUnfitted (Done report) = ⊥
+IsUnfitted (PivotLimit place limit trail) = ⊥
+IsUnfitted _ = ⊤
+
+-- where the columns of the problem are dependent, it is neither
+abbrev pub DependenceIsAnswered : Type 0
+DependenceIsAnswered =
+    (words : List (List ℕ)) (source source' out out' err err' : Stream) (outcome : Outcome)
+    → IsRun words source source' out out' err err' outcome
+    → ((fit : FitJob) (input : Input) → WasInput words source source' fit input → ¬ HasFullRank (sample value input.problem))
+    → IsUnfitted outcome

@@ -1,6 +1,6 @@
 //! The laws of a run. Each function does nothing: its contract is the law.
 
-ghost use Rattle.run_laws.specs.Completeness.{Completeness, LimitIsAnswered, AmpleLimitIsNeverReached};
+ghost use Rattle.run_laws.specs.Completeness.{Completeness, LimitIsAnswered, AmpleLimitIsNeverReached, DependenceIsAnswered};
 ghost use Rattle.run_laws.specs.NeededOutcomes.{LimitIsNeeded, OverflowIsNeeded, DependenceIsNeeded};
 
 /// A run that stops for a limit, for an overflow or for dependent columns had to: the lawful trail of the
@@ -14,9 +14,10 @@ pub fn needed()
 
 /// While source and sinks don't fail, a job whose input is well formed and of full rank is answered, by its
 /// report, by its limit or by an overflow, save for memory; by its report not where a trail reaches the limit,
-/// and by the limit not where that is ample.
+/// and by the limit not where that is ample. Where the columns are dependent it is answered by neither.
 pub fn complete()
     ensures answered { Completeness }
     ensures limited { LimitIsAnswered }
     ensures ample { AmpleLimitIsNeverReached }
+    ensures dependent { DependenceIsAnswered }
 {}

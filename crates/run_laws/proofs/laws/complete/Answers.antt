@@ -1,4 +1,4 @@
-use Rattle.run_laws.proofs.Complete.{answered, limited, ample}
+use Rattle.run_laws.proofs.Complete.{answered, limited, ample, unfitted}
 use Rattle.run_laws.proofs.laws.complete.Goals as goal
 
 pub returns : goal.returns
@@ -6,5 +6,6 @@ returns c =
     record {
       answered = λ words source source' out out' err err' bytes outcome run none w. answered words source source' bytes w out out' err err' outcome run none;
       limited = λ words source source' out out' err err' outcome run reaches. limited words source source' out out' err err' outcome run reaches;
-      ample = λ words source source' out out' err err' limit trail long run. ample words source source' out out' err err' limit trail long run;
+      ample = λ words source source' out out' err err' place limit trail long run. ample words source source' out out' err err' place limit trail long run;
+      dependent = λ words source source' out out' err err' outcome run dependent. unfitted words source source' out out' err err' outcome run dependent;
     }
