@@ -40,6 +40,14 @@ job=(process --formula "stack.loss ~ ." --lo 1/2 --hi 1/2)
 nothing=$room/nothing
 printf 'y,x\n1,2\n3,5\n' > "$room/two"
 printf 'y,x\n1,2\n3\n' > "$room/ragged"
+# the median of one record, and the same with another coefficient
+row='{"down0":"1","down1":"-1","up0":"0","up1":"1","x":["1"],"y":"7"}'
+segment='"hi":"1/2","lo":"1/2","loss_hi":"0","loss_lo":"0","sides":"*"'
+for coef in 7 5; do
+  printf '{"columns":1,"hi":"1/2","intervals":[],"kind":"quantreg-certificate","lo":"1/2","rows":[%s],"segments":[{"basic_hi":["0"],"basic_lo":["0"],"coef":["%s"],%s}],"version":1}\n' "$row" "$coef" "$segment" > "$room/coef$coef"
+done
+mv "$room/coef7" "$room/line.json" && mv "$room/coef5" "$room/spoilt.json"
+printf 'quantreg check 1\ncolumns 1\nrows 1\nsegments 1\nintervals 0\naccepted\nend\n' > "$room/accepted"
 
 try "a report" 0 "" "$report" "$table" "${job[@]}"
 try "no words" 2 $'quantreg: usage: NoJob\n' "$nothing" "$table"
@@ -50,6 +58,8 @@ try "a short record" 1 $'quantreg: table: Ragged record=2 found=1 wanted=2\n' "$
 try "a name that is no column" 1 $'quantreg: formula: UnknownName offset=4\n' "$nothing" "$room/two" process --formula "y ~ z" --lo 1/2 --hi 1/2
 try "one pivot too few" 6 $'quantreg: solver: PivotLimit place=process limit=4\n' "$nothing" "$table" "${job[@]}" --pivots 4
 try "as many pivots as are needed" 0 "" "$report" "$table" "${job[@]}" --pivots 5
+try "a certificate that is accepted" 0 "" "$room/accepted" "$room/line.json" check
+try "a certificate that is rejected" 8 $'quantreg: check: Rejected condition=7 index=1 inner=1 left=0 right=1\n' "$nothing" "$room/spoilt.json" check
 # a folder can't be read
 try "a source that fails" 3 $'quantreg: source: SourceFault\n' "$nothing" "$room" "${job[@]}"
 

@@ -1,5 +1,5 @@
 mod Spilled
-mod Decided
+pub mod Decided
 mod Chains
 mod Steps
 mod Agrees
@@ -7,7 +7,9 @@ mod Compared
 mod Priced
 mod Places
 mod Counts
+mod Rays
 mod Extracts
-mod Worths
-mod Shown
+pub mod Worths
+pub mod Shown
+mod Ranks
 mod All

@@ -1,4 +1,4 @@
--- Law. The conditions on the segments of a certificate, as tests in their order: its form, the costs, the
+-- Stated. The conditions on the segments of a certificate, as tests in their order: its form, the costs, the
 -- ends of the segments, the bounds of the dual values, their sums, the losses, and where segments meet
 -- (Koenker 2005, chapter 6; Koenker and d'Orey 1987).
 use Rattle.std.specs.Prelude.{ℕ, zero, suc, ◌+◌, List, [], ◌++◌, length, slice_get, eqb, cond, pos, if◌then◌else◌}

@@ -5,5 +5,6 @@ pub mod Tests
 pub mod Relations
 pub mod Verdicts
 pub mod Conditions
+pub mod Intervals
 pub mod Views
 pub mod Certificates

@@ -1,4 +1,4 @@
--- Law. What is answered to a list of tests: that all are true, the first that is false, or an operation
+-- Stated. What is answered to a list of tests: that all are true, the first that is false, or an operation
 -- that overflows in a test before which all are true.
 use Rattle.std.specs.Prelude.{◌≡◌, ℕ, ◌+◌, List, ◌∷◌, ◌++◌, length, Result, Ok, Err, ⊤}
 use Rattle.exact_algebra.specs.Fraction.{rational}

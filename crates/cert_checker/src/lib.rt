@@ -1,21 +1,27 @@
 //! The checker of certificates: whether a certificate shows what it claims, whoever wrote it.
 //!
-//! The one contract: `check_segments` tests the conditions on the segments of a certificate in their
-//! order, as `specs/Certificates.antt` lists them. Where all hold, the segments cover the range with
-//! coefficients that minimise; else it gives the first test that is false, with its two sides, or an
-//! operation of a test that overflows. Rank intervals are not tested yet. It stands on the types and
-//! the definitions of `loss_model` and on no crate of the solver, and takes no memory.
+//! The one contract: `check` tests the conditions on a certificate in their order, as
+//! `specs/Certificates.antt` lists them. Where all hold, the segments cover the range with coefficients that
+//! minimise, and the rank intervals show which values their test keeps; else it gives the first test that
+//! is false, with its two sides, or an operation of a test that overflows. It stands on the certificates of
+//! `cert_text`, the definitions of `loss_model` and the laws of `rank_law`, and on no crate of the solver,
+//! and takes no memory.
 #![tactic(auto)]
 
-mod check;
+mod certificate;
 mod form;
 mod formula;
+mod interval_form;
+mod interval_parts;
+mod intervals;
 mod leaves;
 mod place;
+mod projection;
 mod relation;
 mod segments;
 mod tests;
 mod verdict;
+mod way;
 
-pub use check::check_segments;
+pub use certificate::check;
 pub use verdict::{CheckStop, Rejection, Verdict};

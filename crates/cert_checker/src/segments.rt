@@ -9,48 +9,50 @@ ghost use Rattle.loss_model.specs.Problem.{sample};
 ghost use Rattle.cert_checker.specs.Places.{value128};
 ghost use Rattle.cert_checker.specs.Formulas.{given};
 ghost use Rattle.cert_checker.specs.Tests.{Test, one, upto};
-ghost use Rattle.cert_checker.specs.Conditions.{each, zero_formula, low_of, high_of, side_in, dual_at_row, balance, bound_test, bounds, balances as balance_tests_of, losses as losses_of, loss_tests, cost_tests, row_costs, lo_at, hi_at, first_end, order_of_ends, joint_end, joint_tests, joints};
+ghost use Rattle.cert_checker.specs.Conditions.{each, zero_formula, low_of, high_of, side_in, dual_at_row, balance, bound_parts, bound_test, bounds, balances as balance_tests_of, losses as losses_of, loss_tests, cost_tests, row_costs, lo_at, hi_at, first_end, order_of_ends, joint_end, joint_tests, joints};
 ghost use Rattle.cert_checker.specs.Verdicts.{Decides};
-ghost use Rattle.cert_checker.specs.Views.{end_of};
+ghost use Rattle.cert_checker.specs.Views.{IsSmall, end_of};
 ghost use Rattle.cert_checker.specs.declared.relation.Relation.TheVariants.{AtMost, Below, Equal};
 ghost use Rattle.loss_model.specs.declared.vertex.Side.TheVariants.{Basic};
 
 use crate::formula::{Count, Expression, Negation, Number};
 use crate::leaves::{
-    Balance, BalanceTerms, DownCost, DualValue, EndView, Loss, LossTerms, Objective,
-    ObjectiveTerms, UpCost, rows, side,
+    BalanceTerms, DownCost, DualValue, EndView, LossTerms, ObjectiveTerms, RowSum, UpCost, rows,
+    side,
 };
 use crate::place::{Place, Progress};
 use crate::relation::Relation;
-use crate::tests::{Both, Comparison, One, Tests, TestsOf, Then, decide_each};
+use crate::tests::{Both, Comparison, One, Parts, Tests, TestsOf, Then, decide_each};
 use crate::verdict::Failure;
 use frac_core::{Exact, Frac128, List};
 use loss_model::{Problem, Segment, Side, Spill};
 
 // ---- condition 2
 
-/// The costs of a row at both ends of the range.
+/// The tests that neither cost of a row is negative at a parameter; they begin with a number.
 #[derive(Clone, Copy)]
-pub(crate) struct CostRows<'a> {
+pub(crate) struct CostsAt<'a> {
     pub(crate) problem: &'a Problem<Frac128>,
-    pub(crate) lo: Frac128,
-    pub(crate) hi: Frac128,
+    pub(crate) theta: Frac128,
+    pub(crate) row: usize,
+    pub(crate) inner: u32,
 }
 
-impl CostRows<'_> {
-    // Neither cost is negative at a parameter; their tests begin with this number.
-    fn at(self, theta: Frac128, row: usize, inner: u32) -> Result<(), Failure>
-        requires row { row < 16384 }
-        requires inner { inner ≤ 3 }
-        ensures { Decides (cost_tests (sample value128 self.entry.problem.now) (rational (value128 theta)) row inner) result }
-    {
+impl Tests for CostsAt<'_> {
+    ghost tests = { λ x. cost_tests (sample value128 x.problem.now) (rational (value128 x.theta)) x.row x.inner };
+
+    ghost few = { λ x. (x.row < 16384) × (x.inner ≤ 3) };
+
+    fn decide(self) -> Result<(), Failure> {
         let problem = self.problem;
+        let theta = self.theta;
+        let row = self.row;
         let index = row as u32 + 1;
         let up = One {
             at: Place {
                 condition: 2,
                 index,
-                inner,
+                inner: self.inner,
             },
             parts: Comparison {
                 left: UpCost {
@@ -66,7 +68,7 @@ impl CostRows<'_> {
             at: Place {
                 condition: 2,
                 index,
-                inner: inner + 1,
+                inner: self.inner + 1,
             },
             parts: Comparison {
                 left: DownCost {
@@ -86,18 +88,82 @@ impl CostRows<'_> {
     }
 }
 
+/// The costs of a row at both ends of the range.
+#[derive(Clone, Copy)]
+pub(crate) struct CostRows<'a> {
+    pub(crate) problem: &'a Problem<Frac128>,
+    pub(crate) lo: Frac128,
+    pub(crate) hi: Frac128,
+}
+
 impl TestsOf for CostRows<'_> {
     ghost tests_of = { λ x i. row_costs (sample value128 x.problem.now) (rational (value128 x.lo)) (rational (value128 x.hi)) i };
 
     ghost given_of = { λ x i. i < 16384 };
 
     fn decide_of(self, i: usize) -> Result<(), Failure> {
-        self.at(self.lo, i, 1)?;
-        self.at(self.hi, i, 3)
+        let low = CostsAt {
+            problem: self.problem,
+            theta: self.lo,
+            row: i,
+            inner: 1,
+        };
+        let high = CostsAt {
+            problem: self.problem,
+            theta: self.hi,
+            row: i,
+            inner: 3,
+        };
+        Then {
+            first: low,
+            rest: high,
+        }
+        .decide()
     }
 }
 
 // ---- conditions 4 and 5
+
+/// The dual value of a basic row is at most its up cost and at least its negated down cost.
+#[derive(Clone, Copy)]
+pub(crate) struct BasicBounds<'a> {
+    pub(crate) end: EndView<'a>,
+    pub(crate) row: usize,
+}
+
+impl Parts for BasicBounds<'_> {
+    ghost parts = { λ x. bound_parts (sample value128 x.end.problem.now) (end_of x.end) x.row Basic };
+
+    fn decide(self, at: Place, done: u32) -> Result<u32, Failure> {
+        let problem = self.end.problem;
+        let theta = self.end.theta;
+        let row = self.row;
+        let dual = DualValue { end: self.end, row };
+        let under = Comparison {
+            left: dual,
+            relation: Relation::AtMost,
+            right: UpCost {
+                problem,
+                theta,
+                row,
+            },
+        };
+        let over = Comparison {
+            left: dual,
+            relation: Relation::AtLeast,
+            right: Negation(DownCost {
+                problem,
+                theta,
+                row,
+            }),
+        };
+        Both {
+            first: under,
+            rest: over,
+        }
+        .decide(at, done)
+    }
+}
 
 /// The bounds of the dual values of an end.
 #[derive(Clone, Copy)]
@@ -107,48 +173,6 @@ pub(crate) struct BoundRows<'a> {
     pub(crate) end: EndView<'a>,
 }
 
-impl BoundRows<'_> {
-    // The dual value of a basic row is at most its up cost and at least its negated down cost.
-    fn basic(self, row: usize) -> Result<(), Failure>
-        requires { row < 16384 }
-        ensures { Decides (bound_test self.entry.condition self.entry.index (sample value128 self.entry.end.problem.now) (end_of self.entry.end) row Basic) result }
-    {
-        let problem = self.end.problem;
-        let theta = self.end.theta;
-        let dual = DualValue { end: self.end, row };
-        let up = UpCost {
-            problem,
-            theta,
-            row,
-        };
-        let down = DownCost {
-            problem,
-            theta,
-            row,
-        };
-        One {
-            at: Place {
-                condition: self.condition,
-                index: self.index,
-                inner: row as u32 + 1,
-            },
-            parts: Both {
-                first: Comparison {
-                    left: dual,
-                    relation: Relation::AtMost,
-                    right: up,
-                },
-                rest: Comparison {
-                    left: dual,
-                    relation: Relation::AtLeast,
-                    right: Negation(down),
-                },
-            },
-        }
-        .decide()
-    }
-}
-
 impl TestsOf for BoundRows<'_> {
     ghost tests_of = { λ x i. bound_test x.condition x.index (sample value128 x.end.problem.now) (end_of x.end) i (side_in x.end.vertex.now i) };
 
@@ -156,7 +180,18 @@ impl TestsOf for BoundRows<'_> {
 
     fn decide_of(self, i: usize) -> Result<(), Failure> {
         match side(self.end.vertex, i) {
-            Side::Basic => self.basic(i),
+            Side::Basic => One {
+                at: Place {
+                    condition: self.condition,
+                    index: self.index,
+                    inner: i as u32 + 1,
+                },
+                parts: BasicBounds {
+                    end: self.end,
+                    row: i,
+                },
+            }
+            .decide(),
             Side::Up => Ok(()),
             Side::Down => Ok(()),
         }
@@ -186,7 +221,8 @@ impl TestsOf for BalanceColumns<'_> {
                 inner: self.before + i as u32 + 1,
             },
             parts: Comparison {
-                left: Balance {
+                left: RowSum {
+                    problem: self.end.problem,
                     terms: BalanceTerms {
                         end: self.end,
                         column: i,
@@ -211,14 +247,14 @@ pub(crate) struct LossAt<'a> {
     pub(crate) stated: Frac128,
 }
 
-impl LossAt<'_> {
-    // The loss is that of the coefficients, and the sum of response times dual value.
-    fn decide(self) -> Result<(), Failure>
-        requires rows { length self.end.problem.now.rows ≤ 16384 }
-        requires columns { self.end.problem.now.columns ≤ 128 }
-        requires inner { self.inner ≤ 3 }
-        ensures { Decides (loss_tests (sample value128 self.entry.end.problem.now) self.entry.index (end_of self.entry.end) self.entry.stated self.entry.inner) result }
-    {
+// The loss is that of the coefficients, and the sum of response times dual value.
+impl Tests for LossAt<'_> {
+    ghost tests = { λ x. loss_tests (sample value128 x.end.problem.now) x.index (end_of x.end) x.stated x.inner };
+
+    ghost few = { λ x. IsSmall x.end.problem.now × (x.inner ≤ 3) };
+
+    fn decide(self) -> Result<(), Failure> {
+        let problem = self.end.problem;
         let loss = One {
             at: Place {
                 condition: 7,
@@ -228,9 +264,10 @@ impl LossAt<'_> {
             parts: Comparison {
                 left: Number(self.stated),
                 relation: Relation::Equal,
-                right: Loss {
+                right: RowSum {
+                    problem,
                     terms: LossTerms {
-                        problem: self.end.problem,
+                        problem,
                         theta: self.end.theta,
                         coef: &self.end.vertex.coef,
                     },
@@ -246,7 +283,8 @@ impl LossAt<'_> {
             parts: Comparison {
                 left: Number(self.stated),
                 relation: Relation::Equal,
-                right: Objective {
+                right: RowSum {
+                    problem,
                     terms: ObjectiveTerms { end: self.end },
                 },
             },
@@ -313,7 +351,7 @@ pub(crate) trait SegmentTests: Copy {
         ensures { Decides (segment_tests self index segment.now) result };
 }
 
-/// The tests of all segments.
+/// The tests of all segments, one after the other.
 #[derive(Clone, Copy)]
 pub(crate) struct Segments<'a, T> {
     pub(crate) list: &'a List<Segment<Frac128>>,
@@ -333,26 +371,50 @@ impl<T: SegmentTests> TestsOf for Segments<'_, T> {
     }
 }
 
-/// Tests all segments, one after the other.
-pub(crate) fn decide_segments<T: SegmentTests>(
-    list: &List<Segment<Frac128>>,
-    of: T,
-) -> Result<(), Failure>
-    requires few { length list.now ≤ 2 ^ 20 }
-    requires given { T.segment_given of }
-    ensures { Decides (each list.now (T.segment_tests of)) result }
-{
-    let count = list.as_slice().len();
-    decide_each(count, Segments { list, of })
+impl<T: SegmentTests> Tests for Segments<'_, T> {
+    ghost tests = { λ x. each x.list.now (T.segment_tests x.of) };
+
+    ghost few = { λ x. (length x.list.now ≤ 2 ^ 20) × T.segment_given x.of };
+
+    fn decide(self) -> Result<(), Failure> {
+        let count = self.list.as_slice().len();
+        decide_each(count, self)
+    }
 }
 
-/// Tests all rows of a problem, one after the other.
-pub(crate) fn decide_rows<T: TestsOf>(problem: &Problem<Frac128>, of: T) -> Result<(), Failure>
-    requires { (i : ℕ) → i < length problem.now.rows → T.given_of of i }
-    ensures { Decides (upto (length problem.now.rows) (T.tests_of of)) result }
-{
-    let count = rows(problem);
-    decide_each(count, of)
+/// The tests of all rows of a problem, one after the other.
+#[derive(Clone, Copy)]
+pub(crate) struct Rows<'a, T> {
+    pub(crate) problem: &'a Problem<Frac128>,
+    pub(crate) of: T,
+}
+
+impl<T: TestsOf> Tests for Rows<'_, T> {
+    ghost tests = { λ x. upto (length x.problem.now.rows) (T.tests_of x.of) };
+
+    ghost few = { λ x. (length x.problem.now.rows ≤ 16384) × ((i : ℕ) → i < 16384 → T.given_of x.of i) };
+
+    fn decide(self) -> Result<(), Failure> {
+        let count = rows(self.problem);
+        decide_each(count, self.of)
+    }
+}
+
+/// The tests of all columns.
+#[derive(Clone, Copy)]
+pub(crate) struct Columns<'a, T> {
+    pub(crate) problem: &'a Problem<Frac128>,
+    pub(crate) of: T,
+}
+
+impl<T: TestsOf> Tests for Columns<'_, T> {
+    ghost tests = { λ x. upto x.problem.now.columns (T.tests_of x.of) };
+
+    ghost few = { λ x. (x.problem.now.columns ≤ 128) × ((k : ℕ) → k < 128 → T.given_of x.of k) };
+
+    fn decide(self) -> Result<(), Failure> {
+        decide_each(self.problem.columns as usize, self.of)
+    }
 }
 
 /// Conditions 4 and 5: at the low ends, or at the high ends.
@@ -375,14 +437,15 @@ impl SegmentTests for Bounds<'_> {
                 vertex: &segment.vertex,
                 basic: &segment.basic_hi,
             };
-            return decide_rows(
-                self.problem,
-                BoundRows {
+            return Rows {
+                problem: self.problem,
+                of: BoundRows {
                     condition: 5,
                     index,
                     end,
                 },
-            );
+            }
+            .decide();
         }
         let end = EndView {
             problem: self.problem,
@@ -390,14 +453,15 @@ impl SegmentTests for Bounds<'_> {
             vertex: &segment.vertex,
             basic: &segment.basic_lo,
         };
-        decide_rows(
-            self.problem,
-            BoundRows {
+        Rows {
+            problem: self.problem,
+            of: BoundRows {
                 condition: 4,
                 index,
                 end,
             },
-        )
+        }
+        .decide()
     }
 }
 
@@ -410,7 +474,7 @@ pub(crate) struct Balances<'a> {
 impl SegmentTests for Balances<'_> {
     ghost segment_tests = { λ x j s. balance_tests_of (sample value128 x.problem.now) j s };
 
-    ghost segment_given = { λ x. (length x.problem.now.rows ≤ 16384) × (x.problem.now.columns ≤ 128) };
+    ghost segment_given = { λ x. IsSmall x.problem.now };
 
     fn decide_segment(self, index: u32, segment: &Segment<Frac128>) -> Result<(), Failure> {
         let columns = self.problem.columns;
@@ -426,22 +490,26 @@ impl SegmentTests for Balances<'_> {
             vertex: &segment.vertex,
             basic: &segment.basic_hi,
         };
-        decide_each(
-            columns as usize,
-            BalanceColumns {
-                index,
-                before: 0,
-                end: low,
+        let problem = self.problem;
+        Then {
+            first: Columns {
+                problem,
+                of: BalanceColumns {
+                    index,
+                    before: 0,
+                    end: low,
+                },
             },
-        )?;
-        decide_each(
-            columns as usize,
-            BalanceColumns {
-                index,
-                before: columns,
-                end: high,
+            rest: Columns {
+                problem,
+                of: BalanceColumns {
+                    index,
+                    before: columns,
+                    end: high,
+                },
             },
-        )
+        }
+        .decide()
     }
 }
 
@@ -454,7 +522,7 @@ pub(crate) struct Losses<'a> {
 impl SegmentTests for Losses<'_> {
     ghost segment_tests = { λ x j s. losses_of (sample value128 x.problem.now) j s };
 
-    ghost segment_given = { λ x. (length x.problem.now.rows ≤ 16384) × (x.problem.now.columns ≤ 128) };
+    ghost segment_given = { λ x. IsSmall x.problem.now };
 
     fn decide_segment(self, index: u32, segment: &Segment<Frac128>) -> Result<(), Failure> {
         let low = LossAt {
@@ -479,8 +547,11 @@ impl SegmentTests for Losses<'_> {
             },
             stated: segment.loss_hi,
         };
-        low.decide()?;
-        high.decide()
+        Then {
+            first: low,
+            rest: high,
+        }
+        .decide()
     }
 }
 
@@ -511,7 +582,11 @@ impl SegmentTests for Joints<'_> {
                     vertex: &next.vertex,
                     basic: &next.basic_lo,
                 };
-                decide_rows(self.problem, JointRows { index, high, low })
+                Rows {
+                    problem: self.problem,
+                    of: JointRows { index, high, low },
+                }
+                .decide()
             }
             None => Ok(()),
         }
@@ -700,5 +775,16 @@ impl TestsOf for Ends<'_> {
         self.first(i)?;
         self.order(i)?;
         self.joint(i)
+    }
+}
+
+impl Tests for Ends<'_> {
+    ghost tests = { λ x. upto (length x.list.now) (λ j. first_end x.list.now (rational (value128 x.lo)) j ++ (order_of_ends x.list.now j ++ joint_end x.list.now (rational (value128 x.hi)) j)) };
+
+    ghost few = { λ x. length x.list.now ≤ 2 ^ 20 };
+
+    fn decide(self) -> Result<(), Failure> {
+        let count = self.list.as_slice().len();
+        decide_each(count, self)
     }
 }

@@ -1,2 +1,6 @@
-pub mod Made
-pub mod Passing
+mod Made
+mod Passing
+mod Ranked
+mod All
+mod Lengths
+mod Written

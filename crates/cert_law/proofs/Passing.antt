@@ -44,18 +44,27 @@ rows_formed p entries =
 
 segment_formed : (p : Problem Frac128) (j : ℕ) (s : Segment Frac128) → IsSoundSegment p s → AreTrue (segment_form p j s)
 segment_formed p j s h =
-    let count : (a b : ℕ) → a ≡ b → whole (pos a) ≡ whole (pos b) = λ a b e. ap (λ (n : ℕ). whole (pos n)) e in
-    ((count _ _ h.vertex.coef, tt), ((count _ _ h.vertex.sides, tt), ((count _ _ h.vertex.size, tt),
-    ((count _ _ (h.at_lo.size ∙ h.vertex.size), tt), ((count _ _ (h.at_hi.size ∙ h.vertex.size), tt), tt)))))
+    let count : (a b : ℕ) → a ≡ b → whole (pos a) ≡ whole (pos b) = λ a b e. ap (λ (n : ℕ). whole (pos n)) e in (
+      (count _ _ h.vertex.coef, tt),
+      (
+        (count _ _ h.vertex.sides, tt),
+        (
+          (count _ _ h.vertex.size, tt),
+          ((count _ _ (h.at_lo.size ∙ h.vertex.size), tt), ((count _ _ (h.at_hi.size ∙ h.vertex.size), tt), tt)),
+        ),
+      ),
+    )
 
 -- ---- costs
 
 costs_true : (p : Problem Frac128) (lo hi : ℚ) → lo ≤ℚ hi → AreCosts p lo → AreCosts p hi → AreTrue (costs (sample value128 p) lo hi)
-costs_true p lo hi ordered low high =
-    ((ordered, tt), all_upto (length p.rows) (row_costs (sample value128 p) lo hi) (λ i l.
-    let a = low i l in
-    let b = high i l in
-    ((a.0, tt), ((a.1, tt), ((b.0, tt), ((b.1, tt), tt))))))
+costs_true p lo hi ordered low high = (
+  (ordered, tt),
+  all_upto (length p.rows) (row_costs (sample value128 p) lo hi) (λ i l.
+      let a = low i l in
+      let b = high i l in
+      ((a.0, tt), ((a.1, tt), ((b.0, tt), ((b.1, tt), tt))))),
+)
 
 -- ---- ends
 
@@ -111,10 +120,11 @@ module _ (p : Problem Frac128) (from to : ℚ) (segments : List (Segment Frac128
 
   ends_true : AreTrue (ends segments from to)
   ends_true =
-      let some = c.some in
-      ((whole-le (pos 1) (pos (length segments)) (omega (arith, ints, some)), tt),
-      all_upto (length segments) (λ j. first_end segments from j ++ (order_of_ends segments j ++ joint_end segments to j))
-      (λ j l. joined (first_end segments from j) _ (begins j) (joined (order_of_ends segments j) (joint_end segments to j) (in_order j l) (joined_at j l))))
+      let some = c.some in (
+        (whole-le (pos 1) (pos (length segments)) (omega (arith, ints, some)), tt),
+        all_upto (length segments) (λ j. first_end segments from j ++ (order_of_ends segments j ++ joint_end segments to j))
+            (λ j l. joined (first_end segments from j) _ (begins j) (joined (order_of_ends segments j) (joint_end segments to j) (in_order j l) (joined_at j l))),
+      )
 
 -- ---- one end
 
@@ -171,7 +181,7 @@ number_of segments f j s e = ap (λ (o : Option (Segment Frac128)). option_map_o
 
 module _ (p : Problem Frac128) (lo hi : Frac128) (segments : List (Segment Frac128)) (h : AreSound p lo hi segments) where
   sound : (j : ℕ) (s : Segment Frac128) → slice_get segments j ≡ Some s → IsSoundSegment p s
-  sound j s e = item_at (IsSoundSegment p) segments h.segments j s e
+  sound j s e = item_at (IsSoundSegment p) segments h.each j s e
 
   pub are_rows : AreTrue (each p.rows (row_form p))
   are_rows = rows_formed p h.shaped.entries

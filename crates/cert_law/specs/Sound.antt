@@ -1,18 +1,22 @@
--- Inner. What makes the conditions on the segments of a certificate true.
-use Rattle.std.specs.Prelude.{◌≡◌, ℕ, ◌<◌, List, All, length}
+-- Inner. What makes the conditions on a certificate true.
+use Rattle.std.specs.Prelude.{◌≡◌, ℕ, ◌<◌, List, All, length, pos}
 use Rattle.exact_algebra.specs.Fraction.{rational}
 use Rattle.exact_algebra.specs.Rational.{ℚ, whole, ◌≤ℚ◌}
 use Rattle.frac_core.specs.declared.frac128.Frac128.{Frac128}
 use Rattle.loss_model.specs.declared.problem.Problem.{Problem}
 use Rattle.loss_model.specs.declared.process.Segment.{Segment}
 use Rattle.loss_model.specs.declared.vertex.Vertex.{Vertex}
+use Rattle.loss_model.specs.declared.interval.End.{End}
+use Rattle.loss_model.specs.declared.interval.IntervalProof.{IntervalProof}
 use Rattle.loss_model.specs.Dual.{IsDual}
 use Rattle.loss_model.specs.Problem.{value_at, sample, IsWellShaped}
 use Rattle.loss_model.specs.Sample.{loss, up_cost, down_cost}
 use Rattle.loss_model.specs.Segment.{Covers, segments_of}
 use Rattle.loss_model.specs.Vertex.{dual_value, IsVertexOf}
+use Rattle.rank_law.specs.Certified.{MeetsConditions}
+use Rattle.cert_text.specs.declared.cert.Cert.{Cert}
+use Rattle.cert_checker.specs.Intervals.{beyond_list}
 use Rattle.cert_checker.specs.Places.{value128}
-use Rattle.std.specs.Prelude.{pos}
 
 -- at one end of a segment the dual values are feasible and of equal cost, and the loss is that of the coefficients
 pub record IsSoundEnd (p : Problem Frac128) (v : Vertex Frac128) (theta : ℚ) (basic : List Frac128) (cost : Frac128) : Type 0 where
@@ -39,4 +43,22 @@ pub record AreSound (p : Problem Frac128) (lo hi : Frac128) (segments : List (Se
   pub costs_lo : AreCosts p (rational (value128 lo))
   pub costs_hi : AreCosts p (rational (value128 hi))
   pub covers : Covers (length p.rows) (rational (value128 lo)) (rational (value128 hi)) (segments_of value128 p segments)
-  pub segments : All (IsSoundSegment p) segments
+  pub each : All (IsSoundSegment p) segments
+
+-- an end of an interval has a vertex of the problem, and lists of the right lengths
+pub record IsSoundEnding (p : Problem Frac128) (e : End Frac128) : Type 0 where
+  pub vertex : IsVertexOf p e.vertex
+  pub inside : length e.inside ≡ p.columns
+  pub beyond : length (beyond_list e.beyond) ≡ p.columns
+
+-- an interval meets the conditions of a certificate, with both of its ends
+pub record IsSoundInterval (p : Problem Frac128) (t : IntervalProof Frac128) : Type 0 where
+  pub meets : MeetsConditions value128 p t
+  pub projection : length t.projection ≡ p.columns
+  pub low : IsSoundEnding p t.low
+  pub high : IsSoundEnding p t.high
+
+-- segments and intervals of a certificate
+pub record IsSound (c : Cert) : Type 0 where
+  pub segments : AreSound c.problem c.lo c.hi c.segments
+  pub intervals : All (IsSoundInterval c.problem) c.intervals

@@ -1,24 +1,10 @@
 //! What the checker finds in certificates of which one place is written anew. Each rejection was worked from
 //! the rules by a script that shares nothing with the program.
 
+use crate::found::{Change, Operation, is_accepted, is_as_wanted, is_rejected, overflows};
 use crate::helpers::{LINE, changed};
-use cert_checker::{CheckStop, Rejection, Verdict, check_segments};
-use cert_text::{Cert, CertFault, read_cert};
-use frac_core::{Exact, Frac128, OpKind};
-use std::alloc::Global;
 use std::process::Abort;
 use std::test::Fail;
-
-/// Where the change stands in the text, how many bytes go there, and what is written instead; and of the
-/// rejection its condition, index and inner number, and both sides.
-type Change = (
-    usize,
-    usize,
-    &'static str,
-    (u8, u32, u32),
-    (i128, i128),
-    (i128, i128),
-);
 
 static CHANGES: [Change; 60] = [
     (1, 11, "\"columns\":1", (1, 1, 0), (2, 1), (1, 1)),
@@ -95,80 +81,6 @@ static OFF: &str =
 static TIE: &str =
     "{\"columns\":1,\"hi\":\"1\",\"intervals\":[],\"kind\":\"quantreg-certificate\",\"lo\":\"0\",\"rows\":[{\"down0\":\"1\",\"down1\":\"-1\",\"up0\":\"0\",\"up1\":\"1\",\"x\":[\"1\"],\"y\":\"0\"},{\"down0\":\"1\",\"down1\":\"-1\",\"up0\":\"0\",\"up1\":\"1\",\"x\":[\"1\"],\"y\":\"0\"}],\"segments\":[{\"basic_hi\":[\"-1/2\"],\"basic_lo\":[\"0\"],\"coef\":[\"0\"],\"hi\":\"1/2\",\"lo\":\"0\",\"loss_hi\":\"0\",\"loss_lo\":\"0\",\"sides\":\"*+\"},{\"basic_hi\":[\"0\"],\"basic_lo\":[\"1/2\"],\"coef\":[\"0\"],\"hi\":\"1\",\"lo\":\"1/2\",\"loss_hi\":\"0\",\"loss_lo\":\"0\",\"sides\":\"*-\"}],\"version\":1}";
 
-// The certificate of a text.
-fn read(alloc: Global, text: &[u8]) -> Result<Cert, CertFault> {
-    read_cert(alloc, text)
-}
-
-// What is found of its segments, where it is within the limits.
-fn checked(cert: &Cert) -> Option<Result<Verdict, CheckStop>> {
-    let rows = cert.problem.rows.as_slice().len();
-    let segments = cert.segments.as_slice().len();
-    if rows > 16384 || cert.problem.columns > 128 {
-        return None;
-    }
-    if segments > 1048576 {
-        return None;
-    }
-    Some(check_segments(&cert.problem, cert.lo, cert.hi, &cert.segments))
-}
-
-// The rejection of a text, if it has one.
-fn rejection(alloc: Global, text: &[u8]) -> Option<Rejection> {
-    let cert = match read(alloc, text) {
-        Ok(cert) => cert,
-        Err(_) => return None,
-    };
-    match checked(&cert) {
-        Some(Ok(Verdict::Rejected(rejection))) => Some(rejection),
-        _ => None,
-    }
-}
-
-// Whether a text is accepted.
-fn is_accepted(alloc: Global, text: &[u8]) -> bool {
-    let cert = match read(alloc, text) {
-        Ok(cert) => cert,
-        Err(_) => return false,
-    };
-    match checked(&cert) {
-        Some(Ok(Verdict::Accepted)) => true,
-        _ => false,
-    }
-}
-
-fn is_fraction(value: Frac128, parts: (i128, i128)) -> bool {
-    value.numerator() == parts.0 && value.denominator() == parts.1
-}
-
-// The line's certificate with some bytes written anew.
-fn spoilt(alloc: Global, change: &Change) -> Result<Vec<u8>, Fail> {
-    let line = LINE.as_bytes();
-    let mut text = Vec::new(alloc);
-    for (place, byte) in line.iter().enumerate() {
-        if place == change.0 {
-            for new in change.2.as_bytes() {
-                text.push(*new)?;
-            }
-        }
-        if place < change.0 || place - change.0 >= change.1 {
-            text.push(*byte)?;
-        }
-    }
-    Ok(text)
-}
-
-// Whether a rejection is the one that a change wants.
-fn is_wanted(found: &Rejection, change: &Change) -> bool {
-    if found.condition != change.3.0 || found.index != change.3.1 {
-        return false;
-    }
-    if found.inner != change.3.2 {
-        return false;
-    }
-    is_fraction(found.left, change.4) && is_fraction(found.right, change.5)
-}
-
 #[test]
 fn the_line_is_accepted(rt: HostRuntime) -> Result<(), Fail> {
     assert!(rt; is_accepted(rt.alloc(), LINE.as_bytes()));
@@ -179,19 +91,6 @@ fn the_line_is_accepted(rt: HostRuntime) -> Result<(), Fail> {
 fn an_optimum_made_by_hand_is_accepted(rt: HostRuntime) -> Result<(), Fail> {
     assert!(rt; is_accepted(rt.alloc(), HAND.as_bytes()));
     Ok(())
-}
-
-// Whether a text is rejected at a place, with these sides.
-fn is_rejected(
-    alloc: Global,
-    text: &[u8],
-    place: (u8, u32, u32),
-    sides: ((i128, i128), (i128, i128)),
-) -> bool {
-    match rejection(alloc, text) {
-        Some(found) => is_wanted(&found, &(0, 0, "", place, sides.0, sides.1)),
-        None => false,
-    }
 }
 
 #[test]
@@ -211,11 +110,7 @@ fn dual_values_that_jump_are_rejected(rt: HostRuntime) -> Result<(), Fail> {
 #[test]
 fn each_change_is_rejected_by_its_first_false_test(rt: HostRuntime) -> Result<(), Fail> {
     for change in &CHANGES {
-        let text = spoilt(rt.alloc(), change)?;
-        let right = match rejection(rt.alloc(), text.as_slice()) {
-            Some(found) => is_wanted(&found, change),
-            None => false,
-        };
+        let right = is_as_wanted(rt.alloc(), LINE, change)?;
         assert!(rt; right, "at {}: {}", change.0, change.2);
     }
     Ok(())
@@ -239,35 +134,26 @@ fn a_coefficient_of_another_loss_is_rejected(rt: HostRuntime) -> Result<(), Fail
     Ok(())
 }
 
-// Whether the product of a number and the greatest one is named as the operation that overflows.
-fn overflows(alloc: Global, text: &[u8], term: u32, left: (i128, i128)) -> bool {
-    let cert = match read(alloc, text) {
-        Ok(cert) => cert,
-        Err(_) => return false,
-    };
-    let spill = match checked(&cert) {
-        Some(Err(CheckStop::Overflow(spill))) => spill,
-        _ => return false,
-    };
-    let site = spill.site;
-    if site.first != 6 || site.second != 1 || site.third != 3 {
-        return false;
-    }
-    if site.term != term || site.kind != OpKind::Mul {
-        return false;
-    }
-    is_fraction(spill.left, left) && is_fraction(spill.right, (i128::MAX, 1))
-}
-
 // At the high end of the first segment the dual values are -2/5, 3/5 and -1/5. The product of the second row
 // stands behind that of the first and the two operations of its cost.
 #[test]
 fn an_operation_that_overflows_bears_its_number(rt: HostRuntime) -> Result<(), Fail> {
     let greatest = "\"x\":[\"170141183460469231731687303715884105727\",\"0\"]";
     let first = changed(rt.alloc(), LINE, "\"x\":[\"1\",\"0\"]", greatest)?;
-    assert!(rt; overflows(rt.alloc(), first.as_bytes(), 1, (-2, 5)));
+    let product = Operation {
+        place: (6, 1, 3),
+        term: 1,
+        left: (-2, 5),
+        right: (i128::MAX, 1),
+    };
+    assert!(rt; overflows(rt.alloc(), first.as_bytes(), &product));
     let greatest = "\"x\":[\"170141183460469231731687303715884105727\",\"1\"]";
     let second = changed(rt.alloc(), LINE, "\"x\":[\"1\",\"1\"]", greatest)?;
-    assert!(rt; overflows(rt.alloc(), second.as_bytes(), 4, (3, 5)));
+    let product = Operation {
+        term: 4,
+        left: (3, 5),
+        ..product
+    };
+    assert!(rt; overflows(rt.alloc(), second.as_bytes(), &product));
     Ok(())
 }

@@ -7,7 +7,11 @@ mod checks;
 #[cfg(test)]
 mod faults;
 #[cfg(test)]
+mod found;
+#[cfg(test)]
 mod helpers;
+#[cfg(test)]
+mod intervals;
 #[cfg(test)]
 mod limits;
 #[cfg(test)]

@@ -1,4 +1,4 @@
--- Law. What a certificate says, in ℚ: every number by its value.
+-- Stated. What a certificate says, in ℚ: every number by its value.
 use Rattle.std.specs.Prelude.{List, map}
 use Rattle.exact_algebra.specs.Rational.{ℚ}
 use Rattle.exact_algebra.specs.Fraction.{rational}

@@ -1,4 +1,4 @@
--- Law. What the type of a certificate keeps: its bases list the basic rows, and an end is finite exactly where dual
+-- Stated. What the type of a certificate keeps: its bases list the basic rows, and an end is finite exactly where dual
 -- values lie beyond it.
 use Rattle.std.specs.Prelude.{◌≡◌, ℕ, ◌+◌, ◌<◌, ◌^◌, List, [], ◌∷◌, Bool, true, false, All}
 use Rattle.loss_model.specs.declared.vertex.Side.{Side}

@@ -1,4 +1,4 @@
--- Law. The limits of a certificate that is read.
+-- Stated. The limits of a certificate that is read.
 use Rattle.std.specs.Prelude.{ℕ, ◌≤◌, ◌^◌, length}
 use Rattle.frac_core.specs.Limits.{most_rows, most_columns}
 use Rattle.cert_text.specs.declared.cert.Cert.{Cert}

@@ -1,4 +1,4 @@
--- Law. JSON pointers (RFC 6901), step by step.
+-- Stated. JSON pointers (RFC 6901), step by step.
 use Rattle.std.specs.Prelude.{ℕ, List, [], ◌∷◌, ◌==◌, codes, decimal, flat_map, if◌then◌else◌}
 
 -- `~0` for a tilde, `~1` for a slash, and every other byte as it is

@@ -1,4 +1,4 @@
--- Law. What JSON is read as, or the first fault that is met: the keys of an object in the order of their bytes, the
+-- Stated. What JSON is read as, or the first fault that is met: the keys of an object in the order of their bytes, the
 -- items of a list in order, and what a key has before the next key.
 use Rattle.std.specs.Prelude.{ℕ, ◌+◌, ◌^◌, ◌-◌, List, [], ◌∷◌, ◌++◌, Option, Some, None, Result, Ok, Err, nat_lt, option_and_then, ⊤, if◌then◌else◌}
 use Rattle.std.specs.Ordering.{nat_cmp, match_ordering}

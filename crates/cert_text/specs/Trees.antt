@@ -1,4 +1,4 @@
--- Law. The text of a certificate: compact JSON and a line feed.
+-- Stated. The text of a certificate: compact JSON and a line feed.
 use Rattle.std.specs.Prelude.{ℕ, List, [], ◌∷◌, ◌++◌, codes, map}
 use Rattle.exact_algebra.specs.Fraction.{Fraction}
 use Rattle.frac_core.specs.NumberText.{number_text_of}

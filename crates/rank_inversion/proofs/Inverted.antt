@@ -45,7 +45,7 @@ at_most x y h = le_from_not x y h
 
 pub asked_costs : {F : Type 0} (value : F → Fraction) (p : Problem F) (asked : Asked F) → IsAskable value p asked → HasCosts (sample value p) (rational (value asked.tau))
 asked_costs value p asked h =
-    data_costs (sample value p) (rational (value asked.tau)) (at_most (whole (pos 0)) (rational (value asked.tau)) h.tau_above) (at_most (rational (value asked.tau)) (whole (pos 1)) h.tau_below) h.data
+    data_costs (sample value p) (rational (value asked.tau)) (at_most (whole (pos 0)) (rational (value asked.tau)) h.tau_above) (at_most (rational (value asked.tau)) (whole (pos 1)) h.tau_below) h.data_rows
 
 module _ {F : Type 0} (value : F → Fraction) (v : Inversion F) (ready : IsReady value v) where
   abbrev p : Problem F
@@ -185,7 +185,7 @@ module _ {F : Type 0} (value : F → Fraction) (v : Inversion F) (ready : IsRead
           tau = refl;
           crit = refl;
           lawful = of;
-          conditions = passes value p made ready.askable.data ready.askable.tau_above ready.askable.tau_below tested.positive asked of;
+          conditions = passes value p made ready.askable.data_rows ready.askable.tau_above ready.askable.tau_below tested.positive asked of;
           size = tested.size;
           short = let few : length down.steps ≤ k.left = k.ended.short in let count : length v.solved.now.trail.steps + (length up.steps + k.left) ≡ v.limit = k.count in omega (arith, few, count);
         }

@@ -4,6 +4,7 @@ mod GramLaws
 mod Breaks
 mod Spills
 mod EndValues
+mod StationLaws
 mod WalkLaws
 mod NoStep
 mod Costs

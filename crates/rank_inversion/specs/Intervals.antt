@@ -18,10 +18,10 @@ IsExactInterval value p j tau crit r =
 
 -- it is that of the column, the quantile and the critical value that were handed in, its trail is lawful
 -- and its ends are those of the walks; it meets the conditions of a certificate, and is within the limit
-pub record IsRankInterval {F : Type 0} (value : F → Fraction) (p : Problem F) (j : ℕ) (tau crit : F) (limit : ℕ) (r : Interval F) : Type 0 where
+pub record IsRankInterval {F : Type 0} (value : F → Fraction) (p : Problem F) (j : ℕ) (quantile critical : F) (limit : ℕ) (r : Interval F) : Type 0 where
   pub column : r.proof.column ≡ j
-  pub tau : r.proof.tau ≡ tau
-  pub crit : r.proof.crit ≡ crit
+  pub tau : r.proof.tau ≡ quantile
+  pub crit : r.proof.crit ≡ critical
   pub lawful : IsIntervalOf value p r
   pub conditions : MeetsConditions value p r.proof
   pub size : length r.proof.projection ≡ p.columns

@@ -27,7 +27,7 @@ pub record IsAskable {F : Type 0} (value : F → Fraction) (p : Problem F) (aske
   pub tau_above : whole (pos 0) <ℚ rational (value asked.tau)
   pub tau_below : rational (value asked.tau) <ℚ whole (pos 1)
   pub crit : whole (pos 0) ≤ℚ rational (value asked.crit)
-  pub data : (i : ℕ) → i < length p.rows → IsDataRow (sample value p) i
+  pub data_rows : (i : ℕ) → i < length p.rows → IsDataRow (sample value p) i
 
 -- the walk on a way
 abbrev pub course_of : {F : Type 0} → Inversion F → Way → Course F

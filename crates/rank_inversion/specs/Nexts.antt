@@ -14,7 +14,7 @@ use Rattle.walk_rule.specs.Walks.{IsNextBreak, IsWalkingStep}
 use Rattle.walk_rule.specs.WalkTrails.{is_within}
 use Rattle.fraction_tableau.specs.declared.crossings.Breakpoint.{Breakpoint}
 use Rattle.rank_inversion.specs.declared.ends.Finding.{Finding}
-use Rattle.rank_inversion.specs.declared.ends.Finding.TheVariants.{Step, Beyond, Stuck}
+use Rattle.rank_inversion.specs.declared.ends.Finding.TheVariants.{Step, Past, Stuck}
 use Rattle.rank_inversion.specs.declared.station.Station.{Station}
 use Rattle.rank_inversion.specs.Courses.{way_of, tau_of, bound_of, parameter_at, family_of}
 use Rattle.rank_inversion.specs.Stations.{sample_at, rows_at, entries_at}
@@ -32,7 +32,7 @@ module _ {F : Type 0} (value : F → Fraction) where
   IsFound v from (Step x) =
       IsWalkingStep (family_of value (sample_at value v) v.course) (rows_at value v) (entries_at value v) (is_within (bound_of value v.course))
       (parameter_at value v.course from) (parameter_at value v.course x.theta) x.position x.row
-  IsFound v from (Beyond b) =
+  IsFound v from (Past b) =
       IsBreakFrom v from b × (bound_of value v.course <ℚ (rational (value b.theta) *ℚ rational (value b.theta)))
   IsFound v from (Stuck b) =
       IsBreakFrom v from b × ((rational (value b.theta) *ℚ rational (value b.theta)) ≤ℚ bound_of value v.course)

@@ -32,8 +32,8 @@ module _ {F : Type 0} (value : F → Fraction) where
   -- all is that of the basis
   pub record IsStation (v : Station F) : Type 0 where
     pub kept : IsKept value v.tableau.now
-    pub solution : IsSolution value (sample_at v) (rows_at v) (entries_at v) v.solution.now
-    pub duals : AreDuals value (place value v.tableau.now) (tau_of value v.course) v.duals.now
+    pub solution : IsSolution value (sample_at v) (rows_at v) (entries_at v) v.solution
+    pub duals : AreDuals value (place value v.tableau.now) (tau_of value v.course) v.duals
     pub column : v.course.column < v.tableau.now.problem.columns
 
   -- where position j meets its bound: at the cost of its row at tau, at what is missing to the bound, or at the

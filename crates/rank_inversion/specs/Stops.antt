@@ -4,6 +4,7 @@ use Rattle.exact_algebra.specs.Fraction.{Fraction}
 use Rattle.exact_algebra.specs.Rational.{ℚ, ◌*ℚ◌, whole, ◌≤ℚ◌}
 use Rattle.frac_core.specs.declared.exact.OpKind.TheVariants.{Div}
 use Rattle.loss_model.specs.declared.problem.Problem.{Problem}
+use Rattle.loss_model.specs.declared.process.Exchange.{Exchange}
 use Rattle.loss_model.specs.declared.process.Trail.{Trail}
 use Rattle.loss_model.specs.declared.spill.Quantity.TheVariants.{Statistic, Ray}
 use Rattle.loss_model.specs.declared.spill.Spill.{Spill}
@@ -35,7 +36,7 @@ pub data IsRankSpill {F : Type 0} (value : F → Fraction) (range : ℕ) (way : 
 
 module _ {F : Type 0} (value : F → Fraction) (range : ℕ) (p : Problem F) (j : ℕ) (tau bound : ℚ) where
   -- at the basis to which the steps of a walk have led from the solved one
-  abbrev pub IsRankSpillAfter : Way → List ℕ → (steps : List _) → Spill F → Type 0
+  abbrev pub IsRankSpillAfter : Way → List ℕ → List (Exchange F) → Spill F → Type 0
   IsRankSpillAfter way solved steps s =
       AtBasis (sample value p) (basis_after solved steps)
       (λ a. IsRankSpill value range way (sample value p) j tau bound (slice_index (basis_after solved steps)) a

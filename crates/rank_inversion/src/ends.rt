@@ -22,7 +22,7 @@ use loss_model::{Exchange, Quantity, Short, Site, Spill, over_at, plus_product, 
 #[derive(Clone, Copy)]
 pub enum Finding<F> {
     Step(Exchange<F>),
-    Beyond(Breakpoint<F>),
+    Past(Breakpoint<F>),
     Stuck(Breakpoint<F>),
 }
 
@@ -41,11 +41,11 @@ impl<'a, F: Exact> Station<'a, F> {
         let weight = self.course.way.turned(next.theta);
         let square = times_at(Site::new(Quantity::Statistic, 0, 0, 1), weight, weight)?;
         if square.compare(self.course.bound).is_gt() {
-            return Ok(Finding::Beyond(next));
+            return Ok(Finding::Past(next));
         }
         match self
             .tableau
-            .first_mover(self.solution, next.position, next.direction)
+            .first_mover(&self.solution, next.position, next.direction)
         {
             Ok(Some(row)) => Ok(Finding::Step(Exchange {
                 theta: weight,
@@ -66,7 +66,7 @@ impl<'a, F: Exact> Station<'a, F> {
         ensures spill { IfErr result (IsWeighingSpill F.value F.range self.now weight position) }
     {
         let site = Site::new(Quantity::DualValue, position, 1, 1);
-        let dual = self.duals[position as usize];
+        let dual = self.duals.as_slice()[position as usize];
         let entry = self.tableau.inverse().entry(self.course.column, position);
         plus_product(site, dual, entry, weight)
     }

@@ -27,6 +27,7 @@ use std::alloc::Global;
 
 /// What both walks of a tested column go by: the problem and its solve at the quantile, what is asked, the
 /// bound on the square of the statistic, and the limit of all steps.
+#[derive(Drop)]
 struct Inversion<'a, F: Exact> {
     problem: &'a Problem<F>,
     solved: &'a Optimum<F>,

@@ -5,7 +5,7 @@ ghost use Rattle.loss_model.specs.Quantities.{IsShortOf};
 ghost use Rattle.basis_inverse.specs.Square.{inverse_entry};
 ghost use Rattle.pivot_rule.specs.Results.{IsVertexAt};
 ghost use Rattle.walk_rule.specs.Families.{IsOptimalIn};
-ghost use Rattle.rank_inversion.specs.declared.ends.Finding.TheVariants.{Beyond, Stuck};
+ghost use Rattle.rank_inversion.specs.declared.ends.Finding.TheVariants.{Past, Stuck};
 ghost use Rattle.rank_inversion.specs.Courses.{parameter_at, family_of};
 ghost use Rattle.rank_inversion.specs.Stations.{IsStation, sample_at, rows_at, entries_at};
 ghost use Rattle.rank_inversion.specs.Nexts.{IsFound, IsSpillHere};
@@ -45,7 +45,7 @@ impl<'a, F: Exact> Station<'a, F> {
     /// The end where the next breakpoint is beyond the bound.
     fn finite_end(&self, from: F, next: Breakpoint<F>) -> Result<End<F>, Short<F>>
         requires station { IsStation F.value self.now }
-        requires beyond { IsFound F.value self.now from (Beyond next) }
+        requires beyond { IsFound F.value self.now from (Past next) }
         ensures end { IfOk result (IsEndHere F.value self.now from) }
         ensures spill { IfErr result (IsShortOf (IsSpillHere F.value F.range self.now from)) }
     {
@@ -91,7 +91,7 @@ impl<'a, F: Exact> Station<'a, F> {
     {
         match self.found(from) {
             Ok(Finding::Step(step)) => Ok(Next::Step(step)),
-            Ok(Finding::Beyond(next)) => {
+            Ok(Finding::Past(next)) => {
                 let end = self.finite_end(from, next)?;
                 Ok(Next::End(end))
             }
@@ -116,13 +116,16 @@ pub fn look<'a, F: Exact>(
     ensures spill { IfErr result (IsShortOf (IsSpillAt F.value F.range tableau.now course from)) }
 {
     let solution = tableau.solution()?;
-    let constant = solution.constant.as_slice();
-    let linear = solution.linear.as_slice();
-    let duals = duals_at(tableau.alloc(), constant, linear, course.tau)?;
+    let duals = duals_at(
+        tableau.alloc(),
+        solution.constant.as_slice(),
+        solution.linear.as_slice(),
+        course.tau,
+    )?;
     let station = Station {
         tableau,
-        solution: &solution,
-        duals: duals.as_slice(),
+        solution,
+        duals,
         course,
     };
     station.next(from)

@@ -13,7 +13,7 @@ ghost use Rattle.rank_inversion.specs.Stations.{IsStation, sample_at, rows_at, e
 
 use crate::course::{Course, Way};
 use basic_solution::BasicSolution;
-use frac_core::Exact;
+use frac_core::{Exact, List};
 use fraction_tableau::{Breakpoint, FractionTableau, sooner};
 use loss_model::{Quantity, Site, Spill, minus_at, over_at};
 use pivot_rule::Direction;
@@ -22,8 +22,8 @@ use pivot_rule::Direction;
 #[derive(Drop)]
 pub struct Station<'a, F: Exact> {
     pub tableau: &'a FractionTableau<'a, F>,
-    pub solution: &'a BasicSolution<F>,
-    pub duals: &'a [F],
+    pub solution: BasicSolution<F>,
+    pub duals: List<F>,
     pub course: Course<F>,
 }
 
@@ -100,7 +100,7 @@ impl<'a, F: Exact> Station<'a, F> {
     {
         let bound = self.bound_at(self.tableau.row_at(position), direction)?;
         let site = Site::new(Quantity::Crossing, position, number_of(direction), 1);
-        let gap = minus_at(site, bound, self.duals[position as usize])?;
+        let gap = minus_at(site, bound, self.duals.as_slice()[position as usize])?;
         let weight = over_at(Site { term: 3, ..site }, gap, entry)?;
         Ok(self.course.way.turned(weight))
     }

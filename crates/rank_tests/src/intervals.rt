@@ -1,18 +1,14 @@
 //! Intervals that were worked by hand, and intervals of drawn tables found in two ways.
 
-ghost use Rattle.std.specs.Prelude.{◌<◌};
-
-use crate::duals::Vertex;
-use crate::losses::{Ends, after, before};
-use crate::tables::{Data, RankTest, Ratio, rank_test};
 use loss_model::Bound;
+use slow_ranks::{
+    CRITICAL, Data, Ends, Parts, QUANTILES, RankTest, Ratio, Vertex, after, before, draw, draw_table,
+    rank_test,
+};
 use std::alloc::{AllocError, Global};
 use std::num::Wrapping;
 use std::process::Abort;
 use std::test::Fail;
-
-/// A numerator and a denominator.
-type Parts = [i128; 2];
 
 /// An interval that was worked by hand: of a column, at the median, with a critical value. `None` is an
 /// infinite end.
@@ -104,21 +100,6 @@ static WRONG: [(Option<Parts>, Option<Parts>); 6] = [
     (None, Some([4, 1])),
 ];
 
-/// What the entries of drawn tables are drawn from.
-static ENTRIES: [i128; 8] = [-2, -1, 0, 0, 1, 1, 2, 3];
-
-/// What their responses are drawn from.
-static RESPONSES: [i128; 8] = [-3, -2, -1, 0, 0, 1, 2, 3];
-
-/// What their weights are drawn from.
-static WEIGHTS: [i128; 4] = [1, 1, 2, 3];
-
-/// What quantiles are drawn from.
-static QUANTILES: [Parts; 4] = [[1, 2], [1, 3], [3, 4], [2, 5]];
-
-/// What critical values are drawn from.
-static CRITICAL: [Parts; 6] = [[0, 1], [1, 4], [1, 2], [1, 1], [3, 2], [4, 1]];
-
 fn fraction([num, den]: Parts) -> Ratio {
     Ratio::new(Wrapping(num), Wrapping(den))
 }
@@ -183,18 +164,6 @@ impl Tested {
         true
     }
 
-    /// A critical value with which the statistic above a coefficient ties.
-    fn tie(&self, value: Ratio) -> Ratio {
-        let statistic = self
-            .test
-            .statistic_between(value, after(self.values.as_slice(), value));
-        let [s, t] = [Wrapping(self.test.tau[0]), Wrapping(self.test.tau[1])];
-        let square = Ratio::new(
-            statistic.num * statistic.num * t * t,
-            statistic.den * statistic.den * s * (t - s),
-        );
-        square.over(self.test.length_by_determinants())
-    }
 }
 
 fn median_test(
@@ -257,54 +226,6 @@ fn wrong_ends_are_seen(rt: HostRuntime) -> Result<(), Fail> {
     Ok(())
 }
 
-/// The next number of a linear congruential generator, below a limit.
-fn draw(state: &mut u32, limit: u32) -> u32
-    requires { 0 < limit }
-    ensures { result < limit }
-{
-    *state = state.wrapping_mul(1_664_525).wrapping_add(1_013_904_223);
-    *state / 65_536 % limit
-}
-
-/// A row: the one before with another weight, or with another response, or a new one.
-fn draw_row(state: &mut u32, columns: usize, before: Option<Data>) -> Data {
-    let kind = draw(state, 4);
-    let drawn = [
-        ENTRIES[draw(state, 8) as usize],
-        ENTRIES[draw(state, 8) as usize],
-    ];
-    let y = RESPONSES[draw(state, 8) as usize];
-    let weight = WEIGHTS[draw(state, 4) as usize];
-    let x = [
-        1,
-        if columns > 1 { drawn[0] } else { 0 },
-        if columns > 2 { drawn[1] } else { 0 },
-    ];
-    let Some(before) = before else {
-        return (x, y, weight);
-    };
-    let old = before.0;
-    match kind {
-        0 => (old, before.1, weight),
-        1 => (old, y, weight),
-        _ => (x, y, weight),
-    }
-}
-
-/// A table of one to three rows more than columns.
-fn draw_table(alloc: Global, state: &mut u32, columns: usize) -> Result<Vec<Data>, AllocError> {
-    let mut table: Vec<Data> = Vec::new(alloc);
-    for _ in 0..columns {
-        let row = draw_row(state, columns, table.last().copied());
-        table.push(row)?;
-    }
-    for _ in 0..1 + draw(state, 3) {
-        let row = draw_row(state, columns, table.last().copied());
-        table.push(row)?;
-    }
-    Ok(table)
-}
-
 /// How many tables of full rank were tried, and how many ends were finite and infinite.
 #[derive(Clone, Copy)]
 struct Counts {
@@ -339,7 +260,7 @@ fn try_column(rt: &impl Abort, state: &mut u32, counts: &mut Counts, mut found: 
     }
     counts.try_interval(rt, &found);
     let place = draw(state, 1000) as usize % count;
-    found.test.crit = found.tie(found.values[place]);
+    found.test.crit = found.test.tie(found.values.as_slice(), found.values[place]);
     counts.try_interval(rt, &found);
     true
 }

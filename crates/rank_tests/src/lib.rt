@@ -6,10 +6,4 @@
 #![tactic(auto)]
 
 #[cfg(test)]
-mod duals;
-#[cfg(test)]
 mod intervals;
-#[cfg(test)]
-mod losses;
-#[cfg(test)]
-mod tables;

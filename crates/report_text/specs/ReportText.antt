@@ -125,11 +125,15 @@ ranks_text ranks = ranks_head ranks.fit ++ numbered wilcoxon_line 1 ranks.wilcox
 unfoldable pub count_line : List ℕ → ℕ → List ℕ
 count_line name n = name ++ codes " " ++ decimal n ++ codes "\n"
 
--- the report of a certificate that was accepted: how much it holds, and the verdict
+-- how much a certificate holds
+unfoldable pub size_lines : Cert → List ℕ
+size_lines cert =
+    count_line (codes "columns") cert.problem.columns ++ count_line (codes "rows") (length cert.problem.rows)
+    ++ count_line (codes "segments") (length cert.segments) ++ count_line (codes "intervals") (length cert.intervals)
+
+-- the report of a certificate that was accepted: that, and the verdict
 unfoldable pub checked_text : Cert → List ℕ
-checked_text cert =
-    codes "quantreg check 1\n" ++ count_line (codes "columns") cert.problem.columns ++ count_line (codes "rows") (length cert.problem.rows)
-    ++ count_line (codes "segments") (length cert.segments) ++ count_line (codes "intervals") (length cert.intervals) ++ codes "accepted\nend\n"
+checked_text cert = codes "quantreg check 1\n" ++ size_lines cert ++ codes "accepted\n" ++ codes "end\n"
 
 -- the text of a report; that of a certificate is the certificate
 abbrev pub report_text : Report → List ℕ

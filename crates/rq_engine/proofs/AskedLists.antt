@@ -1,5 +1,5 @@
 -- Lists of what is asked, and lists that agree with them, one after another.
-use Rattle.std.proofs.Common.{◌≡◌, ℕ, zero, suc, ◌+◌, ◌<◌, List, [], ◌∷◌, ◌++◌, length, get_or, map, take, arith, refl, sym, ap, ◌∙◌, append_assoc, append-nil}
+use Rattle.std.proofs.Common.{◌≡◌, Some, slice_get, ℕ, zero, suc, ◌+◌, ◌<◌, List, [], ◌∷◌, ◌++◌, length, get_or, map, take, arith, refl, sym, ap, ◌∙◌, append_assoc, append-nil}
 use Rattle.std.specs.List.{AllZip, flat_map, range_with_len}
 use Rattle.std.proofs.lemmas.Grind.{flat_map-append}
 use Rattle.std.proofs.lemmas.List.{map-append, take_more}
@@ -47,3 +47,8 @@ pub split_within : {A : Type 0} (all before part after earlier later : List A) (
 split_within all before part after earlier later x whole split =
     whole ∙ ap (λ z. before ++ (z ++ after)) split ∙ ap (λ z. before ++ z) (append_assoc earlier (x ∷ later) after)
     ∙ sym (append_assoc before earlier (x ∷ (later ++ after)))
+
+-- the first item of a list
+pub first_there : {A : Type 0} (xs : List A) (x : A) → Some x ≡ slice_get xs 0 → (0 < length xs) × (x ≡ get_or xs 0 x)
+first_there [] x h = absurd (cc h)
+first_there (y ∷ xs) x h = (omega arith, cc h)

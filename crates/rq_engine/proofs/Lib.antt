@@ -1,8 +1,11 @@
 pub mod Asked
 pub mod AskedLists
+pub mod Certifying
+pub mod Checks
 pub mod Costs
 pub mod Fits
+pub mod Listed
 pub mod RankAsks
 pub mod RankIntervals
-pub mod Scoring
 pub mod Scores
+pub mod Scoring

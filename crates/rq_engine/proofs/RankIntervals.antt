@@ -1,25 +1,22 @@
 -- Rank intervals one after another: those that are made are right, and the first that stops is told.
-use Rattle.std.proofs.Common.{◌≡◌, ℕ, ◌+◌, ◌<◌, ◌≤◌, List, [], ◌∷◌, ◌++◌, All, length, get_or, take, pos, arith, inl, inr, refl, sym, ap, subst, ◌∙◌}
-use Rattle.std.specs.List.{AllZip, range_with_len}
+use Rattle.std.proofs.Common.{◌≡◌, ℕ, ◌+◌, ◌<◌, ◌≤◌, List, [], ◌∷◌, ◌++◌, length, get_or, take, pos, arith, sym, subst}
 use Rattle.std.proofs.lemmas.List.FromFn.{map-range_with_len_more}
-use Rattle.std.proofs.Common.{Result, Ok, Err}
 use Rattle.exact_algebra.specs.Fraction.{Fraction, rational}
-use Rattle.exact_algebra.specs.Rational.{ℚ, whole, ◌≤ℚ◌}
+use Rattle.exact_algebra.specs.Rational.{whole}
 use Rattle.exact_algebra.proofs.OrderLaws.{le_from_not}
 use Rattle.loss_model.specs.declared.interval.Interval.{Interval}
 use Rattle.loss_model.specs.declared.problem.Problem.{Problem}
 use Rattle.loss_model.specs.declared.stop.Stop.{Stop}
-use Rattle.loss_model.specs.Dual.{IsDataRow}
 use Rattle.loss_model.specs.Problem.{sample}
 use Rattle.pivot_rule.specs.Duals.{HasCosts}
-use Rattle.br_pivot.specs.Solves.{IsSolveStop, IsLimitAnswer}
+use Rattle.br_pivot.specs.Solves.{IsSolveStop}
 use Rattle.rank_inversion.specs.GramStops.{IsGramStop, IsInverted}
 use Rattle.rank_inversion.specs.Intervals.{IsExactInterval, IsRankInterval}
 use Rattle.rank_inversion.specs.Inversions.{IsAskable}
-use Rattle.rank_inversion.specs.Stops.{IsIntervalStop, IsLimited}
+use Rattle.rank_inversion.specs.Stops.{IsIntervalStop, IsLimited, IsWalkStop}
 use Rattle.rank_inversion.specs.declared.column_test.Asked.{Asked}
 use Rattle.rank_inversion.specs.declared.gram.GramInverse.{GramInverse}
-use Rattle.rank_inversion.proofs.Causes.{bound_there, by_gram, by_solve}
+use Rattle.rank_inversion.proofs.Causes.{bound_there, by_gram, by_solve, by_walks}
 use Rattle.rq_engine.specs.Intervals.{AreRightIntervals, asked_at, asked_over, IsFirstStop, IsRightInterval}
 use Rattle.rq_engine.specs.RankProblems.{IsInner, IsRankable}
 use Rattle.rq_engine.proofs.AskedLists.{flat_more, split_flat, split_map, split_within, zip_append}
@@ -42,10 +39,23 @@ module _ {F : Type 0} (value : F → Fraction) (p : Problem F) where
   pub inner_costs : (crit tau : F) → IsRankable value p crit → IsInner (rational (value tau)) → HasCosts (sample value p) (rational (value tau))
   inner_costs crit tau rankable inner =
       let at = λ (i : ℕ) (l : i < length p.rows). data_costs (sample value p) (rational (value tau)) i (le_from_not (whole (pos 0)) (rational (value tau)) inner.0)
-            (le_from_not (rational (value tau)) (whole (pos 1)) inner.1) (rankable.data_rows i l) in
+      (le_from_not (rational (value tau)) (whole (pos 1)) inner.1) (rankable.data_rows i l) in
       record { up = λ i l. (at i l).up; down = λ i l. (at i l).down; some = λ i l. (at i l).some }
 
   module _ (limit : ℕ) where
+    -- the interval of a test is that of what was asked
+    pub right_by : (tested asked : Asked F) → tested ≡ asked → (x : Interval F) → IsExactInterval value p tested.column (rational (value tested.tau)) (rational (value tested.crit)) x
+        → IsRankInterval value p tested.column tested.tau tested.crit limit x → ¬ IsLimited value p tested.column (rational (value tested.tau)) (rational (value tested.crit)) limit → IsRightInterval value p limit asked x
+    right_by tested asked same x exact lawful unlimited =
+        subst (λ (a : Asked F). IsRightInterval value p limit a x) same (record { exact = exact; lawful = lawful; unlimited = unlimited })
+
+    -- and so is what stops its walks
+    pub walks_stop : (range : ℕ) (tested asked : Asked F) → tested ≡ asked → (stop : Stop F) → IsWalkStop value range p tested.column (rational (value tested.tau)) (rational (value tested.crit)) limit stop
+        → IsIntervalStop value range p asked.column (rational (value asked.tau)) (rational (value asked.crit)) limit stop
+    walks_stop range tested asked same stop h =
+        subst (λ (a : Asked F). IsIntervalStop value range p a.column (rational (value a.tau)) (rational (value a.crit)) limit stop) same
+        (by_walks value p tested.column (rational (value tested.tau)) (rational (value tested.crit)) range limit stop h)
+
     -- what a column at a quantile is asked
     abbrev one_asked : F → F → ℕ → Asked F
     one_asked crit tau j = record { column = j; tau = tau; crit = crit }
@@ -109,7 +119,3 @@ module _ {F : Type 0} (value : F → Fraction) (p : Problem F) where
       gram_stops crit taus tau stop some given here cause =
           stops_over crit taus 0 tau [] (one_asked crit tau 0) stop given here tt
           (stops_at crit tau 0 [] stop some tt (by_gram value p 0 (rational (value tau)) (rational (value crit)) range limit stop cause))
-
--- an Ok is no answer where a trail reaches the limit
-pub unlimited : {A F : Type 0} (x : A) → IsLimitAnswer {F = F} (Ok x) → ⊥
-unlimited x h = h

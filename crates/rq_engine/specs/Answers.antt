@@ -6,8 +6,10 @@ use Rattle.frac_core.specs.declared.frac128.Frac128.{Frac128}
 use Rattle.loss_model.specs.declared.process.Trail.{Trail}
 use Rattle.loss_model.specs.declared.spill.Spill.{Spill}
 use Rattle.loss_model.specs.Segment.{Covers, segments_of}
+use Rattle.cert_text.specs.declared.cert.Cert.{Cert}
 use Rattle.rankscores.specs.Wilcoxon.{AreWilcoxon}
 use Rattle.rq_input.specs.Inputs.{HasInputCause, IsInput}
+use Rattle.rq_input.specs.Rows.{HasRows}
 use Rattle.rq_input.specs.declared.input.Input.{Input}
 use Rattle.rq_words.specs.declared.job.FitJob.{FitJob}
 use Rattle.rq_words.specs.declared.job.Job.{Job}
@@ -17,10 +19,12 @@ use Rattle.report_text.specs.declared.report.Fit.{Fit}
 use Rattle.report_text.specs.declared.report.RanksFit.{RanksFit}
 use Rattle.report_text.specs.declared.report.Report.{Report}
 use Rattle.report_text.specs.declared.report.Report.TheVariants as reports
-use Rattle.report_text.specs.declared.report.Refusal.TheVariants.{Dependent}
+use Rattle.report_text.specs.declared.report.Refusal.TheVariants.{Dependent, CertTooLong}
 use Rattle.report_text.specs.declared.report.Place.TheVariants as places
 use Rattle.report_text.specs.declared.report.Halt.{Halt}
 use Rattle.report_text.specs.declared.report.Halt.TheVariants.{Refused, PivotLimit, Overflow}
+use Rattle.rq_engine.specs.Certificates.{IsCertificateOf, IsTooLong, IsWritten}
+use Rattle.rq_engine.specs.Checks.{HasCheckCause, IsCheckedOf}
 use Rattle.rq_engine.specs.Fit.{IsFitUnder, IsRightFit}
 use Rattle.rq_engine.specs.Stops.{HasProblemCause, IsScoringSpill, most}
 
@@ -46,10 +50,23 @@ pub record AreRanksOf (job : FitJob) (input : Input) (ranks : RanksFit) : Type 0
 abbrev pub AreRanksOfBytes : FitJob → List ℕ → RanksFit → Type 0
 AreRanksOfBytes job bytes ranks = (input : Input) × IsInput job true bytes input × AreRanksOf job input ranks
 
+-- the certificate states the right fit of the input
+pub record IsCertified (job : FitJob) (input : Input) (cert : Cert) : Type 0 where
+  pub rows : HasRows input
+  pub fit : Fit
+  pub right : IsFitOf job input fit
+  pub is : IsCertificateOf job fit cert
+
+-- it states that of the input that the bytes are
+abbrev pub IsCertifiedOfBytes : FitJob → List ℕ → Cert → Type 0
+IsCertifiedOfBytes job bytes cert = (input : Input) × IsInput job (is_some job.rank) bytes input × IsCertified job input cert
+
 -- the report is right for the job and for the bytes
 abbrev pub IsRight : Job → List ℕ → Report → Type 0
 IsRight (jobs.Process job) bytes (reports.Process fit) = IsFitOfBytes job (is_some job.rank) bytes fit
 IsRight (jobs.Ranks job) bytes (reports.Ranks ranks) = AreRanksOfBytes job bytes ranks
+IsRight (jobs.Certify job) bytes (reports.Certificate cert) = IsCertifiedOfBytes job bytes cert × IsWritten cert
+IsRight jobs.Check bytes (reports.Checked cert) = IsCheckedOf bytes cert
 IsRight _ bytes report = ⊥
 
 -- ---- why there is none
@@ -78,8 +95,21 @@ abbrev pub HasRanksCause : FitJob → List ℕ → Halt → Type 0
 HasRanksCause job bytes (Overflow places.Process trail spill) = HasFitCause job true bytes (Overflow places.Process trail spill) ⊎ LacksScores job bytes trail spill
 HasRanksCause job bytes halt = HasFitCause job true bytes halt
 
+-- the certificate of the bytes has a text of this length, which is too long
+pub record HasLongCertificate (job : FitJob) (bytes : List ℕ) (n : ℕ) : Type 0 where
+  pub cert : Cert
+  pub right : IsCertifiedOfBytes job bytes cert
+  pub long : IsTooLong cert n
+
+-- why bytes have no certificate: they have no fit, or its text is too long
+abbrev pub HasCertifyCause : FitJob → List ℕ → Halt → Type 0
+HasCertifyCause job bytes (Refused (CertTooLong n)) = HasLongCertificate job bytes n
+HasCertifyCause job bytes halt = HasFitCause job (is_some job.rank) bytes halt
+
 -- why there is no report for the job
 abbrev pub HasCause : Job → List ℕ → Halt → Type 0
 HasCause (jobs.Process job) bytes halt = HasFitCause job (is_some job.rank) bytes halt
 HasCause (jobs.Ranks job) bytes halt = HasRanksCause job bytes halt
+HasCause (jobs.Certify job) bytes halt = HasCertifyCause job bytes halt
+HasCause jobs.Check bytes halt = HasCheckCause bytes halt
 HasCause _ bytes halt = ⊥

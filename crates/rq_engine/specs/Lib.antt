@@ -1,5 +1,8 @@
 pub mod Answers
 pub mod Built
+pub mod Certificates
+pub mod Certifying
+pub mod Checks
 pub mod Fit
 pub mod Halts
 pub mod Intervals

@@ -125,11 +125,7 @@ impl<'a, F: Exact> RankProblem<'a, F> {
     }
 
     /// The intervals at a quantile, by one solve.
-    fn at_quantile(
-        &self,
-        alloc: Global,
-        tau: F,
-    ) -> Result<List<Interval<F>>, IntervalStop<F>>
+    fn at_quantile(&self, alloc: Global, tau: F) -> Result<List<Interval<F>>, IntervalStop<F>>
         requires ready { IsRankProblem F.value self.now }
         requires tau { IsInner (rational (F.value tau)) }
         ensures right { IfOk result (AreRightIntervals F.value self.now.problem.now self.now.limit (asked_at self.now.crit self.now.problem.now.columns tau)) }

@@ -4,6 +4,8 @@ ghost use Rattle.report_text.specs.ReportText.{IsPrintable};
 ghost use Rattle.rq_engine.specs.Answers.{HasCause, IsRight};
 ghost use Rattle.rq_engine.specs.Built.{IsBuilt, IsJobOf};
 
+use crate::certify::certify_bytes;
+use crate::check::check_bytes;
 use crate::process::fit_bytes;
 use crate::ranks::ranks_bytes;
 use report_text::{Halt, Report};
@@ -15,7 +17,9 @@ use std::thread::Threads;
 ///
 /// `Refused` is the first fault: of the bytes as a table, of the formula over the table's names, of
 /// the design, of what its smooths add, or of the problem; or `Dependent`, only where the columns of
-/// the problem are dependent. `PivotLimit` comes only where the lawful trail of the problem, or of a
+/// the problem are dependent; or `CertTooLong`, exactly where the text of the certificate is longer than
+/// 2^26 bytes; or, for `check`, the first fault of the bytes as a certificate, after which `Rejected` and
+/// an `Overflow` of the checker are those of `check`. `PivotLimit` comes only where the lawful trail of the problem, or of a
 /// rank interval that its place names, has as many pivots as the job's limit says and one more is left,
 /// and `Overflow` only where an operation of the solve at the low end, of the walk, of a rankscore, of
 /// that interval or of a Wilcoxon score overflows. A stop of an interval is that of the first that
@@ -46,8 +50,18 @@ pub fn answer<R: Threads + Sync>(
                 Err(halt) => Err(halt),
             }
         }
-        Job::Certify(_) => unreachable!(),
-        Job::Check => unreachable!(),
+        Job::Certify(fit_job) => {
+            match certify_bytes(alloc, fit_job, bytes) {
+                Ok(cert) => Ok(Report::Certificate(cert)),
+                Err(halt) => Err(halt),
+            }
+        }
+        Job::Check => {
+            match check_bytes(alloc, bytes) {
+                Ok(cert) => Ok(Report::Checked(cert)),
+                Err(halt) => Err(halt),
+            }
+        }
         Job::Sample(_) => unreachable!(),
     }
 }

@@ -11,6 +11,8 @@
 #![tactic(auto)]
 
 mod built;
+mod certify;
+mod check;
 mod halt;
 mod intervals;
 mod job;

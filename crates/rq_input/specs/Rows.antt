@@ -1,4 +1,4 @@
--- Law. What whoever goes on with an input knows of its rows.
+-- Stated. What whoever goes on with an input knows of its rows.
 use Rattle.std.specs.Prelude.{◌≡◌, ◌≤◌, ◌<◌, ℕ, length}
 use Rattle.loss_model.specs.Dual.{IsDataRow}
 use Rattle.loss_model.specs.Problem.{sample, IsWellShaped}

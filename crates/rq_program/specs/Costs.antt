@@ -1,4 +1,4 @@
--- Law. What the rows of a problem cost, and which of them are the design's.
+-- Stated. What the rows of a problem cost, and which of them are the design's.
 use Rattle.std.specs.Prelude.{◌≡◌, ◌≤◌, ◌<◌, ℕ, All, Some, length, pos}
 use Rattle.std.specs.List.{slice_get}
 use Rattle.std.specs.declared.cmp.Ordering.TheVariants.{Less}

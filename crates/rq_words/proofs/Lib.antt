@@ -5,3 +5,4 @@ pub mod ItemTests
 pub mod Orders
 pub mod ShortWords
 pub mod RankRequests
+pub mod FewQuantiles

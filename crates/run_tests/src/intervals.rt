@@ -42,11 +42,7 @@ fn five_points_have_their_intervals(rt: HostRuntime) -> Result<(), Fail> {
 // Each case: the critical value, the quantiles, and the lines, quantile by quantile and column by column
 // within.
 static LINES: [(&str, &str, &str); 3] = [
-    (
-        "6/7",
-        "1/2",
-        "interval 1 1/2 0 3/2\ninterval 2 1/2 1/2 2\n",
-    ),
+    ("6/7", "1/2", "interval 1 1/2 0 3/2\ninterval 2 1/2 1/2 2\n"),
     (
         "6/7",
         "3/4,1/4",
@@ -79,7 +75,8 @@ fn both_columns_of_a_line_have_their_intervals(rt: HostRuntime) -> Result<(), Fa
 #[test]
 fn weights_count_in_intervals(rt: HostRuntime) -> Result<(), Fail> {
     let line = "process|--formula|y ~ 1|--lo|0|--hi|1|--weights|w|--crit|1|--rank-at|1/4,1/2";
-    let report = "quantreg 1\nrecords 2 dropped 0\ncolumn 1 (Intercept)\ndata 2 penalty 0\npivots 1\nsegment 1 0 1/4\ncoef 1 1\nloss 0 3/4\nscores *1\nbasic 1 1 0\nsegment 2 1/4 1\ncoef 1 2\nloss 3/4 0\nscores 0*\nbasic 2 1 0\ninterval 1 1/4 -Inf 2\ninterval 1 1/2 1 2\nend\n";
+    let report =
+        "quantreg 1\nrecords 2 dropped 0\ncolumn 1 (Intercept)\ndata 2 penalty 0\npivots 1\nsegment 1 0 1/4\ncoef 1 1\nloss 0 3/4\nscores *1\nbasic 1 1 0\nsegment 2 1/4 1\ncoef 1 2\nloss 3/4 0\nscores 0*\nbasic 2 1 0\ninterval 1 1/4 -Inf 2\ninterval 1 1/2 1 2\nend\n";
     let left = ran_on(&rt, rt.alloc(), line, b"y,w\n1,1\n2,3\n")?;
     assert_printed(&rt, &left, report, line);
     Ok(())
@@ -161,9 +158,7 @@ static STOPS: [(&str, &str, &str, u8, &str); 9] = [
 #[test]
 fn intervals_stop_with_their_place(rt: HostRuntime) -> Result<(), Fail> {
     for (formula, asked, table, status, told) in &STOPS {
-        let line = format!(in rt.alloc();
-            "process|--formula|{formula}|--lo|1/2|--hi|1/2|{asked}"
-        )?;
+        let line = format!(in rt.alloc(); "process|--formula|{formula}|--lo|1/2|--hi|1/2|{asked}")?;
         let left = ran_on(&rt, rt.alloc(), &line, table.as_bytes())?;
         assert_refused(&rt, &left, *status, told, &line);
     }
@@ -174,7 +169,8 @@ fn intervals_stop_with_their_place(rt: HostRuntime) -> Result<(), Fail> {
 #[test]
 fn the_limit_of_pivots_holds_for_each_interval(rt: HostRuntime) -> Result<(), Fail> {
     let line = "process|--formula|y ~ x|--lo|1/2|--hi|1/2|--crit|6/7|--rank-at|1/2|--pivots|3";
-    let report = "quantreg 1\nrecords 3 dropped 0\ncolumn 1 (Intercept)\ncolumn 2 x\ndata 3 penalty 0\npivots 1\nsegment 1 1/2 1/2\ncoef 1 0\ncoef 2 1\nloss 1/2 1/2\nscores *1*\nbasic 1 1/6 1/6\nbasic 3 1/3 1/3\ninterval 1 1/2 0 3/2\ninterval 2 1/2 1/2 2\nend\n";
+    let report =
+        "quantreg 1\nrecords 3 dropped 0\ncolumn 1 (Intercept)\ncolumn 2 x\ndata 3 penalty 0\npivots 1\nsegment 1 1/2 1/2\ncoef 1 0\ncoef 2 1\nloss 1/2 1/2\nscores *1*\nbasic 1 1/6 1/6\nbasic 3 1/3 1/3\ninterval 1 1/2 0 3/2\ninterval 2 1/2 1/2 2\nend\n";
     let left = ran_on(&rt, rt.alloc(), line, LINE.as_bytes())?;
     assert_printed(&rt, &left, report, line);
     Ok(())

@@ -115,11 +115,11 @@ static COMMANDS: [(&str, u8, &str); 19] = [
         1,
         "quantreg: rank: RankWithPenalty\n",
     ),
-    ("check", 9, "quantreg: build: NotBuilt part=1\n"),
+    ("check", 1, "quantreg: certificate: NotJson\n"),
     (
-        "certify|--formula|y ~ 1|--lo|1/2|--hi|1/2",
-        9,
-        "quantreg: build: NotBuilt part=1\n",
+        "certify|--formula|y ~ q|--lo|1/2|--hi|1/2",
+        1,
+        "quantreg: formula: UnknownName offset=4\n",
     ),
     (
         "sample|--number|1|--rows|2|--columns|1|--lo|0|--hi|1",

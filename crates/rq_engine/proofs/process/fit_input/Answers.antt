@@ -39,7 +39,7 @@ returns-in-Err-all_scores-clause-cause c =
     (rw c.as_slice-segments.ensures at (rw c.as_slice.ensures at c.in-Err-all_scores.ensures.spilled)))
 
 pub job_intervals-requires-clause-data : goal.job_intervals-requires-clause-data
-job_intervals-requires-clause-data c κs = λ some i l. c.requires.rows.are_data i (omega (arith, c.requires.rows.size, c.requires.unpenalised some, l))
+job_intervals-requires-clause-data c some i l = c.requires.rows.are_data i (omega (arith, c.requires.rows.size, c.requires.unpenalised some, l))
 
 pub returns-in-Err-job_intervals-clause-cause : goal.returns-in-Err-job_intervals-clause-cause
 returns-in-Err-job_intervals-clause-cause c =

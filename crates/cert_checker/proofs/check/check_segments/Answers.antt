@@ -1,6 +1,0 @@
-use Rattle.cert_checker.proofs.All.{all_shown}
-use Rattle.cert_checker.proofs.check.check_segments.Goals as goal
-
-pub returns-in-Ok-clause-verdict : goal.returns-in-Ok-clause-verdict
-returns-in-Ok-clause-verdict c =
-    (c.in-Ok.ensures, all_shown c.args.problem.now c.args.lo c.args.hi c.args.segments.now c.in-Ok.ensures)

@@ -1,0 +1,186 @@
+//! All conditions on a certificate.
+
+ghost use Rattle.std.specs.Prelude.{IfOk, IfErr};
+ghost use Rattle.cert_text.specs.Limits.{IsWithinLimits};
+ghost use Rattle.cert_checker.specs.Certificates.{first_tests, later_tests, tests, IsVerdict, IsStop};
+ghost use Rattle.cert_checker.specs.Verdicts.{Decides};
+
+use crate::form::{RowForm, SegmentCount, SegmentForm};
+use crate::formula::{Count, Number};
+use crate::interval_form::{IntervalForm, Intervals};
+use crate::intervals::IntervalConditions;
+use crate::place::Place;
+use crate::relation::Relation;
+use crate::segments::{Balances, Bounds, CostRows, Ends, Joints, Losses, Rows, Segments};
+use crate::tests::{Comparison, One, Tests, Then};
+use crate::verdict::{CheckStop, Failure, Verdict};
+use cert_text::Cert;
+
+// The first three conditions.
+#[tactic(auto, unfolding(crate::specs::Certificates::first_tests))]
+fn decide_first(cert: &Cert) -> Result<(), Failure>
+    requires { IsWithinLimits cert.now }
+    ensures { Decides (first_tests cert.now) result }
+{
+    let problem = &cert.problem;
+    let range = One {
+        at: Place {
+            condition: 2,
+            index: 0,
+            inner: 0,
+        },
+        parts: Comparison {
+            left: Number(cert.lo),
+            relation: Relation::AtMost,
+            right: Number(cert.hi),
+        },
+    };
+    let costs = Rows {
+        problem,
+        of: CostRows {
+            problem,
+            lo: cert.lo,
+            hi: cert.hi,
+        },
+    };
+    let list = &cert.segments;
+    let some = One {
+        at: Place {
+            condition: 3,
+            index: 0,
+            inner: 0,
+        },
+        parts: Comparison {
+            left: SegmentCount { list },
+            relation: Relation::AtLeast,
+            right: Count(1),
+        },
+    };
+    let ends = Ends {
+        list,
+        lo: cert.lo,
+        hi: cert.hi,
+    };
+    Then {
+        first: Rows {
+            problem,
+            of: RowForm { problem },
+        },
+        rest: Then {
+            first: Segments {
+                list,
+                of: SegmentForm { problem },
+            },
+            rest: Then {
+                first: Intervals {
+                    list: &cert.intervals,
+                    of: IntervalForm { problem },
+                },
+                rest: Then {
+                    first: Then {
+                        first: range,
+                        rest: costs,
+                    },
+                    rest: Then {
+                        first: some,
+                        rest: ends,
+                    },
+                },
+            },
+        },
+    }
+    .decide()
+}
+
+// The conditions on dual values, losses and intervals.
+#[tactic(auto, unfolding(crate::specs::Certificates::later_tests))]
+fn decide_later(cert: &Cert) -> Result<(), Failure>
+    requires { IsWithinLimits cert.now }
+    ensures { Decides (later_tests cert.now) result }
+{
+    let problem = &cert.problem;
+    let list = &cert.segments;
+    let low = Segments {
+        list,
+        of: Bounds {
+            problem,
+            high: false,
+        },
+    };
+    let high = Segments {
+        list,
+        of: Bounds {
+            problem,
+            high: true,
+        },
+    };
+    let balances = Segments {
+        list,
+        of: Balances { problem },
+    };
+    let losses = Segments {
+        list,
+        of: Losses { problem },
+    };
+    let joints = Segments {
+        list,
+        of: Joints { problem, list },
+    };
+    let intervals = Intervals {
+        list: &cert.intervals,
+        of: IntervalConditions { problem },
+    };
+    Then {
+        first: low,
+        rest: Then {
+            first: high,
+            rest: Then {
+                first: balances,
+                rest: Then {
+                    first: losses,
+                    rest: Then {
+                        first: joints,
+                        rest: intervals,
+                    },
+                },
+            },
+        },
+    }
+    .decide()
+}
+
+// All of them.
+fn decide_all(cert: &Cert) -> Result<(), Failure>
+    requires { IsWithinLimits cert.now }
+    ensures { Decides (tests cert.now) result }
+{
+    decide_first(cert)?;
+    decide_later(cert)
+}
+
+/// Tests the nine conditions on a certificate in their order: that the lists are as long as the problem
+/// wants them, that no cost is negative at the ends of the range, that the segments lie side by side from
+/// `lo` to `hi`, that the basic dual values are within the costs and all dual values orthogonal to each
+/// column at both ends of each segment, that the losses are those of the coefficients and what the dual
+/// values come to, that every row has one dual value where two segments meet, and that each rank interval
+/// has a projection and ends with dual values on either side of its bound.
+///
+/// `Accepted` says that all of them hold, and that so, whoever wrote the certificate, the segments cover the
+/// range, with dual values of equal cost at both ends of each, so that the coefficients of a segment
+/// minimise the loss at every quantile between (Koenker 2005, chapter 6), and that each interval shows
+/// which values of its coefficient the rank test keeps (section 3.5): its ends, none beyond, and between
+/// them all whose dual values are optimal. `Rejected` has the first test that is false, with its two sides.
+/// `Overflow` names an operation of a test that overflows, where all tests before it are true. No memory is
+/// taken, so `OutOfMemory` never comes.
+pub fn check(cert: &Cert) -> Result<Verdict, CheckStop>
+    requires { IsWithinLimits cert.now }
+    ensures verdict { IfOk result (IsVerdict cert.now) }
+    ensures stop { IfErr result (IsStop cert.now) }
+{
+    match decide_all(cert) {
+        Ok(()) => Ok(Verdict::Accepted),
+        Err(Failure::Rejected(rejection)) => Ok(Verdict::Rejected(rejection)),
+        Err(Failure::Overflow(spill)) => Err(CheckStop::Overflow(spill)),
+        Err(Failure::OutOfMemory) => Err(CheckStop::OutOfMemory),
+    }
+}

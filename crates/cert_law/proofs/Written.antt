@@ -1,0 +1,230 @@
+-- The certificate of a right fit is sound, within the limits, and passes.
+use Rattle.std.proofs.Common.{◌≡◌, ◌<◌, ◌≤◌, ◌+◌, ◌*◌, ◌^◌, ℕ, zero, suc, List, [], ◌∷◌, ◌++◌, All, Option, Some, None, Ok, Err, flat_map, is_some, length, map, option_map, pos, slice_index, arith, refl, sym, ap, subst, ◌∙◌}
+use Rattle.std.specs.List.{AllZip, range_with_len}
+use Rattle.std.proofs.lemmas.List.{length-append, length-map}
+use Rattle.std.proofs.lemmas.List.FromFn.{length-range_with_len}
+use Rattle.std.proofs.lemmas.List.Elements.{All-cons, All-nil}
+use Rattle.exact_algebra.specs.Fraction.{rational}
+use Rattle.exact_algebra.specs.Rational.{ℚ, whole, ◌≤ℚ◌}
+use Rattle.exact_algebra.proofs.RationalLaws.{≤ℚ_trans}
+use Rattle.frac_core.specs.declared.frac128.Frac128.{Frac128}
+use Rattle.loss_model.specs.declared.interval.Bound.{Bound}
+use Rattle.loss_model.specs.declared.interval.Bound.TheVariants.{Finite, Infinite}
+use Rattle.loss_model.specs.declared.interval.Beyond.{Beyond}
+use Rattle.loss_model.specs.declared.interval.Beyond.TheVariants.{Outside, Ray}
+use Rattle.loss_model.specs.declared.interval.End.{End}
+use Rattle.loss_model.specs.declared.interval.Interval.{Interval}
+use Rattle.loss_model.specs.declared.interval.IntervalProof.{IntervalProof}
+use Rattle.loss_model.specs.declared.problem.Problem.{Problem}
+use Rattle.loss_model.specs.declared.process.Segment.{Segment}
+use Rattle.loss_model.specs.declared.vertex.Vertex.{Vertex}
+use Rattle.loss_model.specs.Problem.{sample}
+use Rattle.pivot_rule.specs.declared.direction.Direction.{Direction}
+use Rattle.pivot_rule.specs.Duals.{HasCosts}
+use Rattle.pivot_rule.specs.Trails.{AtBasis}
+use Rattle.rank_walk.specs.Ends.{IsEndAt, IsHandedOut}
+use Rattle.rank_walk.specs.Intervals.{IsIntervalOf}
+use Rattle.rank_walk.specs.RankWalks.{Way}
+use Rattle.rank_inversion.specs.declared.column_test.Asked.{Asked}
+use Rattle.cert_text.specs.Certificates.{cert_of}
+use Rattle.cert_text.specs.Contents.{content}
+use Rattle.cert_text.specs.Laws.{SameContent}
+use Rattle.cert_text.specs.Limits.{IsWithinLimits}
+use Rattle.cert_text.specs.Trees.{cert_text}
+use Rattle.cert_text.specs.declared.cert.Cert.{Cert}
+use Rattle.cert_checker.specs.Certificates.{tests}
+use Rattle.cert_checker.specs.Intervals.{beyond_list}
+use Rattle.cert_checker.specs.Places.{value128}
+use Rattle.cert_checker.specs.Tests.{Part, Test, ArePartsTrue, AreTrue, Holds}
+use Rattle.cert_checker.specs.Verdicts.{IsFirstFalse}
+use Rattle.cert_checker.specs.Formulas.{worth}
+use Rattle.cert_checker.specs.declared.verdict.Rejection.{Rejection}
+use Rattle.rq_words.specs.Requests.{fit_request, number, rank_request}
+use Rattle.rq_words.specs.declared.job.FitJob.{FitJob}
+use Rattle.rq_words.specs.declared.job.RankAsk.{RankAsk}
+use Rattle.rq_words.specs.declared.job.Job.TheVariants as jobs
+use Rattle.rq_words.proofs.FewQuantiles.{certify_few}
+use Rattle.report_text.specs.ReportText.{value}
+use Rattle.report_text.specs.declared.report.Fit.{Fit}
+use Rattle.report_text.specs.declared.report.Report.{Report}
+use Rattle.report_text.specs.declared.report.Report.TheVariants as reports
+use Rattle.report_text.specs.declared.report.Refusal.TheVariants as refusals
+use Rattle.report_text.specs.declared.report.Halt.{Halt}
+use Rattle.report_text.specs.declared.report.Halt.TheVariants.{Refused, OutOfMemory, PivotLimit, Overflow, Rejected, NotBuilt}
+use Rattle.rq_input.specs.Rows.{HasRows}
+use Rattle.rq_input.specs.declared.input.Input.{Input}
+use Rattle.rq_engine.specs.Answers.{HasCause, IsCertified, IsFitOf, IsRight}
+use Rattle.rq_engine.specs.Built.{IsJobOf}
+use Rattle.rq_engine.specs.Certificates.{IsCertificateOf}
+use Rattle.rq_engine.specs.Checks.{IsCertOf}
+use Rattle.rq_engine.specs.Fit.{IsRightFit, IsRightSegment}
+use Rattle.rq_engine.specs.Intervals.{AreRightIntervals, IsRightInterval, asked_at, asked_by, asked_over}
+use Rattle.rq_engine.proofs.Asked.{certify_range}
+use Rattle.rq_engine.proofs.Costs.{input_costs}
+use Rattle.rq_engine.proofs.Scores.{zip_length}
+use Rattle.cert_law.specs.Laws.{IsUndecided, Passes}
+use Rattle.cert_law.specs.Sound.{AreCosts, AreSound, IsSound, IsSoundEnding, IsSoundInterval, IsSoundSegment}
+use Rattle.cert_law.proofs.All.{all_true}
+use Rattle.cert_law.proofs.Lengths.{cert_long}
+
+-- ---- segments
+
+sound_segment : (p : Problem Frac128) (s : Segment Frac128) → IsRightSegment value p s → IsSoundSegment p s
+sound_segment p s h = record {
+  vertex = h.vertex;
+  at_lo = record { size = h.at_lo.basic; dual = h.at_lo.dual; lost = h.at_lo.lost };
+  at_hi = record { size = h.at_hi.basic; dual = h.at_hi.dual; lost = h.at_hi.lost };
+}
+
+-- the costs of an input's rows, of which the problem is one
+costs_of : (input : Input) (p : Problem Frac128) (theta : ℚ) → p ≡ input.problem → whole (pos 0) ≤ℚ theta → theta ≤ℚ whole (pos 1) → HasRows input → AreCosts p theta
+costs_of input p theta same low high rows =
+    let h = subst (λ (q : Problem Frac128). HasCosts (sample value q) theta) (sym same) (input_costs input theta low high rows) in
+    λ i l. (h.up i l, h.down i l)
+
+-- ---- intervals
+
+beyond_size : (p : Problem Frac128) (way : Way) (j : ℕ) (tau bound : ℚ) (at : ℕ → ℕ) (a : ℕ → ℕ → ℚ) (t u : ℚ) (k : ℕ) (d : Direction) (v : Vertex Frac128) (inside : List Frac128) (b : Bound Frac128) (e : Beyond Frac128)
+    → length v.basis.rows ≡ p.columns → IsHandedOut value p way j tau bound at a t u k d v inside b e
+    → (length inside ≡ p.columns) × (length (beyond_list e) ≡ p.columns)
+beyond_size p way j tau bound at a t u k d v inside (Finite x) (Outside f) size h = (h.1.size ∙ size, h.2.size ∙ size)
+beyond_size p way j tau bound at a t u k d v inside Infinite (Ray r) size h = (h.0.size ∙ size, h.4)
+beyond_size p way j tau bound at a t u k d v inside (Finite x) (Ray r) size h = absurd h
+beyond_size p way j tau bound at a t u k d v inside Infinite (Outside f) size h = absurd h
+
+sound_ending : (p : Problem Frac128) (way : Way) (j : ℕ) (tau bound : ℚ) (basis : List ℕ) (t : ℚ) (end : End Frac128)
+    → AtBasis (sample value p) basis (λ a. IsEndAt value p way j tau bound basis a t end) → IsSoundEnding p end
+sound_ending p way j tau bound basis t end at =
+    let h = at.holds in
+    let sizes = beyond_size p way j tau bound (slice_index basis) at.a t h.u h.k h.d end.vertex end.inside end.bound end.beyond h.vertex.shape.size h.handed in
+    record { vertex = h.vertex.shape; inside = sizes.0; beyond = sizes.1 }
+
+sound_interval : (p : Problem Frac128) (limit : ℕ) (asked : Asked Frac128) (r : Interval Frac128) → IsRightInterval value p limit asked r → IsSoundInterval p r.proof
+sound_interval p limit asked r h = record {
+  meets = h.lawful.conditions;
+  projection = h.lawful.size;
+  low = sound_ending p _ _ _ _ _ _ r.proof.low h.lawful.lawful.low;
+  high = sound_ending p _ _ _ _ _ _ r.proof.high h.lawful.lawful.high;
+}
+
+sound_intervals : (p : Problem Frac128) (limit : ℕ) (asked : List (Asked Frac128)) (rs : List (Interval Frac128)) → AreRightIntervals value p limit asked rs → All (IsSoundInterval p) (map (λ (r : Interval Frac128). r.proof) rs)
+sound_intervals p limit [] [] h = All-nil (IsSoundInterval p)
+sound_intervals p limit [] (r ∷ rs) h = absurd h
+sound_intervals p limit (a ∷ others) [] h = absurd h
+sound_intervals p limit (a ∷ others) (r ∷ rs) h =
+    All-cons (IsSoundInterval p) r.proof (map (λ (r : Interval Frac128). r.proof) rs) (sound_interval p limit a r h.0) (sound_intervals p limit others rs h.1)
+
+-- how many are asked for
+asked_count : (crit : Frac128) (n : ℕ) (taus : List Frac128) → n ≤ 128 → length (asked_over crit n taus) ≤ 128 * length taus
+asked_count crit n [] few = omega arith
+asked_count crit n (tau ∷ taus) few =
+    omega (arith, few, asked_count crit n taus few, length-append (asked_at crit n tau) (asked_over crit n taus), length-map (range_with_len 0 n) (λ (j : ℕ). record { column = j; tau = tau; crit = crit }), length-range_with_len 0 n)
+
+module _ (words : List (List ℕ)) (job : FitJob) (asked : IsJobOf words (jobs.Certify job)) where
+  few_asked : (n : ℕ) → n ≤ 128 → (rank : Option RankAsk) → job.rank ≡ rank → length (asked_by rank n) ≤ 8192
+  few_asked n few None e = omega arith
+  few_asked n few (Some rank) e =
+      let taus = certify_few words (fit_request job) (rank_request rank) asked (ap (option_map rank_request) e) in
+      omega (arith, asked_count rank.crit n rank.taus few, taus, length-map rank.taus number)
+
+  -- ---- the certificate of a right fit
+
+  module _ (input : Input) (cert : Cert) (certified : IsCertified job input cert) where
+    abbrev fit : Fit
+    fit = certified.fit
+
+    right : IsRightFit value job certified.fit
+    right = certified.right.right
+
+    range : (whole (pos 0) ≤ℚ rational (value job.lo)) × (rational (value job.lo) ≤ℚ rational (value job.hi)) × (rational (value job.hi) ≤ℚ whole (pos 1))
+    range = certify_range words job asked
+
+    are_sound : AreSound certified.fit.problem job.lo job.hi certified.fit.process.segments
+    are_sound =
+        let same = certified.right.under.problem_is in
+        record {
+          shaped = right.shaped;
+          ordered = range.1;
+          costs_lo = costs_of input certified.fit.problem (rational (value job.lo)) same range.0 (≤ℚ_trans (rational (value job.lo)) (rational (value job.hi)) (whole (pos 1)) range.1 range.2) certified.rows;
+          costs_hi = costs_of input certified.fit.problem (rational (value job.hi)) same (≤ℚ_trans (whole (pos 0)) (rational (value job.lo)) (rational (value job.hi)) range.0 range.1) range.2 certified.rows;
+          covers = right.covers;
+          each = λ k d l. sound_segment certified.fit.problem _ (right.segments k d l);
+        }
+
+    is_sound : IsSound cert
+    is_sound =
+        let is = certified.is in
+        record {
+          segments =
+              subst (λ (p : Problem Frac128). AreSound p cert.lo cert.hi cert.segments) (sym is.problem)
+              (subst (λ (x : Frac128). AreSound certified.fit.problem x cert.hi cert.segments) (sym is.lo)
+              (subst (λ (x : Frac128). AreSound certified.fit.problem job.lo x cert.segments) (sym is.hi)
+              (subst (AreSound certified.fit.problem job.lo job.hi) (sym is.segments) are_sound)));
+          intervals =
+              subst (λ (p : Problem Frac128). All (IsSoundInterval p) cert.intervals) (sym is.problem)
+              (subst (All (IsSoundInterval certified.fit.problem)) (sym is.intervals)
+              (sound_intervals certified.fit.problem job.limit (asked_by job.rank certified.fit.problem.columns) certified.fit.intervals right.intervals));
+        }
+
+    is_within : length (cert_text cert) ≤ 2 ^ 26 → IsWithinLimits cert
+    is_within short =
+        let is = certified.is in
+        let many : length cert.intervals ≡ length certified.fit.intervals = ap length is.intervals ∙ length-map certified.fit.intervals (λ (r : Interval Frac128). r.proof) in
+        let zipped = zip_length (IsRightInterval value certified.fit.problem job.limit) (asked_by job.rank certified.fit.problem.columns) certified.fit.intervals right.intervals in
+        record {
+          columns = subst (λ (p : Problem Frac128). p.columns ≤ 128) (sym is.problem) right.shaped.columns;
+          rows = subst (λ (p : Problem Frac128). length p.rows ≤ 16384) (sym is.problem) right.shaped.rows;
+          segments = omega (arith, short, cert_long cert);
+          intervals = omega (arith, many, zipped, few_asked certified.fit.problem.columns right.shaped.columns job.rank refl);
+        }
+
+-- ---- what `check` answers
+
+at_test : (before : List Test) (t : Test) (after : List Test) → AreTrue (before ++ t ∷ after) → ArePartsTrue t.parts
+at_test [] t after h = h.0
+at_test (x ∷ before) t after h = at_test before t after h.1
+
+at_part : (before : List Part) (p : Part) (after : List Part) → ArePartsTrue (before ++ p ∷ after) → Holds p.relation (worth p.left) (worth p.right)
+at_part [] p after h = h.0
+at_part (x ∷ before) p after h = at_part before p after h.1
+
+-- tests that are all true have no first that is false
+none_false : (ts : List Test) (r : Rejection) → AreTrue ts → IsFirstFalse ts r → ⊥
+none_false ts r all h =
+    let parts = at_test h.before h.test h.after (subst AreTrue h.tests all) in
+    h.refused.false (at_part h.refused.before h.refused.part h.refused.after (subst ArePartsTrue h.refused.parts parts))
+
+module _ (same : SameContent) (cert : Cert) (back : IsCertOf (cert_text cert) cert) (sound : AreTrue (tests cert)) where
+  same_cert : (other : Cert) → IsCertOf (cert_text cert) other → other ≡ cert
+  same_cert other h = same other cert (cc (sym h ∙ back))
+
+  one_report : (report : Report) → IsRight jobs.Check (cert_text cert) report → report ≡ reports.Checked cert
+  one_report (reports.Process fit) h = absurd h
+  one_report (reports.Ranks ranks) h = absurd h
+  one_report (reports.Certificate other) h = absurd h
+  one_report (reports.Checked other) h = ap (λ c. reports.Checked c) (same_cert other h.is)
+
+  undecided : (halt : Halt) → HasCause jobs.Check (cert_text cert) halt → IsUndecided halt
+  undecided (Refused (refusals.Certificate fault)) h = absurd (cc (sym h.1 ∙ back))
+  undecided (Refused (refusals.CertTooLong n)) h = absurd h
+  undecided (Refused (refusals.Dependent combination)) h = absurd h
+  undecided (Refused refusals.TooLong) h = absurd h
+  undecided (Refused (refusals.Table fault)) h = absurd h
+  undecided (Refused (refusals.Formula fault)) h = absurd h
+  undecided (Refused refusals.RankWithPenalty) h = absurd h
+  undecided (Refused (refusals.Design fault)) h = absurd h
+  undecided (Refused (refusals.Penalty fault)) h = absurd h
+  undecided (Refused (refusals.Program fault)) h = absurd h
+  undecided OutOfMemory h = tt
+  undecided (PivotLimit place limit trail) h = absurd h
+  undecided (Overflow place trail spill) h = tt
+  undecided (Rejected rejection) h =
+      absurd (none_false (tests cert) rejection sound (subst (λ (c : Cert). IsFirstFalse (tests c) rejection) (same_cert h.cert h.is) h.first))
+  undecided (NotBuilt part) h = absurd h
+
+pub written : SameContent → (words : List (List ℕ)) (job : FitJob) (bytes : List ℕ) (cert : Cert) → IsJobOf words (jobs.Certify job) → IsRight (jobs.Certify job) bytes (reports.Certificate cert) → Passes cert
+written same words job bytes cert asked (found, written) =
+    let within = is_within words job asked found.0 cert found.2 written.short in
+    let back = written.back within in
+    let sound = all_true cert (is_sound words job asked found.0 cert found.2) in
+    record { within = within; back = back; sound = sound; report = one_report same cert back sound; halt = undecided same cert back sound }

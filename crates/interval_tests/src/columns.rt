@@ -1,0 +1,108 @@
+//! The parts that are made once for a problem, or once for a column: the inverse of the Gram matrix, and the test.
+
+ghost use Rattle.std.specs.Prelude.{◌≡◌, ◌<◌, length};
+ghost use Rattle.rank_inversion.specs.GramStops.{IsInverted};
+
+use crate::helpers::{Ratio, are_data, expect, fraction, is_shaped, problem, ratio};
+use basis_inverse::Inverse;
+use frac_core::{Exact, Frac64, Frac128};
+use loss_model::Problem;
+use rank_inversion::{Asked, GramInverse, RankTest, gram_inverse, rank_test};
+use slow_ranks::Data;
+use std::alloc::{AllocError, Global};
+use std::process::Abort;
+use std::test::Fail;
+
+/// Weighted rows: the weighted columns are (1, 2, 3) and (0, 2, 9), with the Gram matrix 14, 31; 31, 85 of
+/// determinant 229.
+static WEIGHTED: [Data; 3] = [([1, 0, 0], 0, 1), ([1, 1, 0], 2, 2), ([1, 3, 0], 3, 3)];
+
+/// Its inverse, row by row.
+static INVERSE: [[Ratio; 2]; 2] = [[(85, 229), (-31, 229)], [(-31, 229), (14, 229)]];
+
+/// The inverse of the Gram matrix of a problem that meets its conditions.
+fn gram<F: Exact>(rt: &impl Abort, alloc: Global, rows: &Problem<F>) -> GramInverse<F>
+    ensures { IsInverted F.value rows.now result }
+{
+    assert!(rt; is_shaped(rows));
+    assert!(rt; are_data(rows));
+    match gram_inverse(alloc, rows) {
+        Ok(gram) => gram,
+        Err(_) => panic!(rt; "the columns are independent"),
+    }
+}
+
+fn expect_entries<F: Exact>(rt: &impl Abort, inverse: &Inverse<F>)
+    requires { length inverse.now.columns ≡ 2 }
+{
+    for column in 0..2 {
+        for position in 0..2 {
+            let found = ratio(inverse.entry(column, position));
+            assert!(rt; found == INVERSE[column as usize][position as usize]);
+        }
+    }
+}
+
+fn expect_inverse<F: Exact>(rt: &impl Abort, alloc: Global) -> Result<(), AllocError> {
+    let rows = problem::<F>(rt, alloc, 2, WEIGHTED.as_slice())?;
+    let found = gram(rt, alloc, &rows);
+    assert!(rt; found.basis.rows.as_slice() == [0, 1].as_slice());
+    expect_entries(rt, &found.inverse);
+    Ok(())
+}
+
+#[test]
+fn inverse_of_weighted_columns(rt: HostRuntime) -> Result<(), Fail> {
+    expect_inverse::<Frac128>(&rt, rt.alloc())?;
+    expect_inverse::<Frac64>(&rt, rt.alloc())?;
+    Ok(())
+}
+
+/// The factors by which the other column projects one, and the squared length that it leaves. At 1/3 with 9/2 the
+/// bound is 9/2 * 1/3 * 2/3 times that, and so the same.
+struct Case {
+    column: u32,
+    factors: [Ratio; 2],
+    length: Ratio,
+}
+
+static CASES: [Case; 2] = [
+    Case {
+        column: 0,
+        factors: [(0, 1), (31, 85)],
+        length: (229, 85),
+    },
+    Case {
+        column: 1,
+        factors: [(31, 14), (0, 1)],
+        length: (229, 14),
+    },
+];
+
+fn expect_test<F: Exact>(rt: &impl Abort, alloc: Global, case: &Case) -> Result<(), AllocError> {
+    let rows = problem::<F>(rt, alloc, 2, WEIGHTED.as_slice())?;
+    let asked = Asked {
+        column: case.column,
+        tau: fraction(rt, (1, 3)),
+        crit: fraction(rt, (9, 2)),
+    };
+    let found = gram(rt, alloc, &rows);
+    assert!(rt; asked.column < rows.columns);
+    match rank_test(alloc, &rows, &found, asked) {
+        Ok(RankTest { factors, bound, .. }) => {
+            expect(rt, &factors, case.factors.as_slice());
+            assert!(rt; ratio(bound) == case.length);
+        }
+        Err(_) => panic!(rt; "the numbers are small"),
+    }
+    Ok(())
+}
+
+#[test]
+fn tests_of_weighted_columns(rt: HostRuntime) -> Result<(), Fail> {
+    for case in &CASES {
+        expect_test::<Frac128>(&rt, rt.alloc(), case)?;
+        expect_test::<Frac64>(&rt, rt.alloc(), case)?;
+    }
+    Ok(())
+}

@@ -1,0 +1,151 @@
+//! Intervals of drawn tables, compared with those of a slow program: of a drawn critical value, and of those at, just
+//! below and just above the statistic of a breakpoint. Of the 79 tables 66 have full rank.
+
+use crate::helpers::{Question, ask, problem, ratio};
+use frac_core::{Exact, Frac128};
+use loss_model::{Bound, Problem};
+use slow_ranks::{
+    CRITICAL, Ends, Parts, QUANTILES, RankTest, Ratio, draw, draw_table, rank_test,
+};
+use std::alloc::{AllocError, Global};
+use std::num::Wrapping;
+use std::process::Abort;
+use std::test::Fail;
+
+/// A column of a table that is tested: the problem, the question, and the slow test of it with the coefficients of
+/// all bases.
+#[derive(Drop)]
+struct Tested {
+    problem: Problem<Frac128>,
+    column: u32,
+    test: RankTest,
+    values: Vec<Ratio>,
+}
+
+fn whole([num, den]: Parts) -> Ratio {
+    Ratio::new(Wrapping(num), Wrapping(den))
+}
+
+/// An end that is found is the one of the slow program.
+fn is_same(found: Bound<Frac128>, want: Bound<Ratio>) -> bool {
+    match (found, want) {
+        (Bound::Finite(value), Bound::Finite(end)) => ratio(value) == (end.num.0, end.den.0),
+        (Bound::Infinite, Bound::Infinite) => true,
+        _ => false,
+    }
+}
+
+/// How many intervals were compared, and how many of their ends were infinite.
+#[derive(Clone, Copy)]
+struct Counts {
+    intervals: u32,
+    infinite: u32,
+}
+
+impl Counts {
+    fn add(&mut self, ends: &Ends) {
+        self.intervals = self.intervals.wrapping_add(1);
+        for end in [ends.low, ends.high] {
+            if let Bound::Infinite = end {
+                self.infinite = self.infinite.wrapping_add(1);
+            }
+        }
+    }
+}
+
+impl Tested {
+    /// The interval of a critical value is that of the slow program.
+    fn compare(&mut self, rt: &impl Abort, alloc: Global, crit: Ratio, counts: &mut Counts) {
+        self.test.crit = crit;
+        let want = self.test.ends(self.values.as_slice());
+        let question = Question {
+            column: self.column,
+            tau: (self.test.tau[0], self.test.tau[1]),
+            crit: (crit.num.0, crit.den.0),
+        };
+        match ask(rt, alloc, &self.problem, question, 1000) {
+            Ok(found) => {
+                assert!(rt; is_same(found.proof.low.bound, want.low));
+                assert!(rt; is_same(found.proof.high.bound, want.high));
+            }
+            Err(_) => panic!(rt; "the numbers are small"),
+        }
+        counts.add(&want);
+    }
+}
+
+/// The intervals of a drawn critical value, and of those beside the statistic above a drawn coefficient; none where
+/// the columns are dependent.
+fn try_column(
+    rt: &impl Abort,
+    alloc: Global,
+    state: &mut u32,
+    counts: &mut Counts,
+    mut tested: Tested,
+) {
+    let count = tested.values.len();
+    if count == 0 {
+        return;
+    }
+    tested.compare(
+        rt,
+        alloc,
+        whole(CRITICAL[draw(state, 6) as usize]),
+        counts,
+    );
+    let place = draw(state, 1000) as usize % count;
+    let tie = tested.test.tie(tested.values.as_slice(), tested.values[place]);
+    for factor in [[999, 1000], [1, 1], [1001, 1000]] {
+        tested.compare(rt, alloc, tie.times(whole(factor)), counts);
+    }
+}
+
+fn try_table(
+    rt: &impl Abort,
+    alloc: Global,
+    state: &mut u32,
+    counts: &mut Counts,
+    columns: u32,
+) -> Result<(), AllocError> {
+    let table = draw_table(alloc, state, columns as usize)?;
+    let tau = QUANTILES[draw(state, 4) as usize];
+    for column in 0..columns {
+        let table = table.as_slice();
+        let place = column as usize;
+        let test = rank_test(alloc, (columns as usize, table), place, (tau, Ratio::whole(0)))?;
+        let values = test.coefficients(alloc)?;
+        let problem = problem(rt, alloc, columns, table)?;
+        try_column(
+            rt,
+            alloc,
+            state,
+            counts,
+            Tested {
+                problem,
+                column,
+                test,
+                values,
+            },
+        );
+    }
+    Ok(())
+}
+
+/// The numbers of intervals and of infinite ends come from an enumeration that is no part of this program.
+#[test]
+fn drawn_intervals(rt: HostRuntime) -> Result<(), Fail> {
+    let mut state = 7;
+    let mut counts = Counts {
+        intervals: 0,
+        infinite: 0,
+    };
+    for number in 0..79 {
+        try_table(&rt, rt.alloc(), &mut state, &mut counts, number % 3 + 1)?;
+    }
+    let Counts {
+        intervals,
+        infinite,
+    } = counts;
+    assert!(rt; (intervals, infinite) == (492, 412), "{intervals} {infinite}");
+    Ok(())
+}

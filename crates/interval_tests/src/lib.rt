@@ -1,0 +1,16 @@
+//! Tests of rank intervals (`rank_inversion`): the test of a column, whole intervals, and what they stop for.
+//!
+//! Intervals worked by hand stand with their trails and all that their ends state; intervals of drawn tables are
+//! compared with those of a slow program (`slow_ranks`), which is no part of the program.
+#![tactic(auto)]
+
+#[cfg(test)]
+mod columns;
+#[cfg(test)]
+mod drawn;
+#[cfg(test)]
+mod helpers;
+#[cfg(test)]
+mod limits;
+#[cfg(test)]
+mod worked;

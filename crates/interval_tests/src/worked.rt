@@ -1,0 +1,287 @@
+//! Intervals worked by hand, with their trails and all that their ends state.
+
+use crate::helpers::{Question, Ratio, Step, ask, expect, expect_steps, problem, ratio};
+use frac_core::{Exact, Frac64, Frac128};
+use loss_model::{Beyond, Bound, End, Interval, Side};
+use slow_ranks::Data;
+use std::alloc::{AllocError, Global};
+use std::process::Abort;
+use std::test::Fail;
+
+/// An end: its value, `None` where it is infinite; the vertex; the dual values inside, and those outside
+/// or the ray.
+struct Edge {
+    value: Option<Ratio>,
+    basis: &'static [u32],
+    sides: &'static [Side],
+    coef: &'static [Ratio],
+    inside: &'static [Ratio],
+    beyond: &'static [Ratio],
+}
+
+/// An interval at the median.
+struct Case {
+    column: u32,
+    crit: Ratio,
+    projection: &'static [Ratio],
+    steps: &'static [Step],
+    rise: &'static [Step],
+    fall: &'static [Step],
+    low: Edge,
+    high: Edge,
+}
+
+/// Five responses, an intercept: the squared length is 5, and the bound crit * 5/4. The start takes the first
+/// row, the four above it weigh 2, and its dual value -2 is 3/2 below its bound. Passing a row costs 1, so the
+/// second row brings the slope to -1/2 and the third to 1/2, and the fit is at 3, with the dual value 0.
+///
+/// As the wanted sum s falls, the dual value of the fit falls with it to -1/2, and the next row enters with the
+/// value 1/2: at s = -1/2 the one of 4, at -3/2 that of 5, and at -5/2 no row is left. As s rises, it is the
+/// rows of 2 and 1.
+static FIVE: [Data; 5] = [
+    ([1, 0, 0], 1, 1),
+    ([1, 0, 0], 2, 1),
+    ([1, 0, 0], 3, 1),
+    ([1, 0, 0], 4, 1),
+    ([1, 0, 0], 5, 1),
+];
+
+/// With the critical value 1 the bound is 5/4, between 1/4 and 9/4. With 9/5 it is 9/4, a tie with the second
+/// breakpoint. With 5 it is 25/4, a tie with the last one. With 0 no step is within.
+static OF_FIVE: [Case; 4] = [
+    Case {
+        column: 0,
+        crit: (1, 1),
+        projection: &[(0, 1)],
+        steps: &[((1, 2), 0, 2)],
+        rise: &[((-1, 2), 0, 3)],
+        fall: &[((1, 2), 0, 1)],
+        low: Edge {
+            value: Some((2, 1)),
+            basis: &[1],
+            sides: &[Side::Down, Side::Basic, Side::Up, Side::Up, Side::Up],
+            coef: &[(2, 1)],
+            inside: &[(-1, 2)],
+            beyond: &[(1, 2)],
+        },
+        high: Edge {
+            value: Some((4, 1)),
+            basis: &[3],
+            sides: &[Side::Down, Side::Down, Side::Down, Side::Basic, Side::Up],
+            coef: &[(4, 1)],
+            inside: &[(1, 2)],
+            beyond: &[(-1, 2)],
+        },
+    },
+    Case {
+        column: 0,
+        crit: (9, 5),
+        projection: &[(0, 1)],
+        steps: &[((1, 2), 0, 2)],
+        rise: &[((-1, 2), 0, 3), ((-3, 2), 0, 4)],
+        fall: &[((1, 2), 0, 1), ((3, 2), 0, 0)],
+        low: Edge {
+            value: Some((1, 1)),
+            basis: &[0],
+            sides: &[Side::Basic, Side::Up, Side::Up, Side::Up, Side::Up],
+            coef: &[(1, 1)],
+            inside: &[(-1, 2)],
+            beyond: &[(1, 2)],
+        },
+        high: Edge {
+            value: Some((5, 1)),
+            basis: &[4],
+            sides: &[Side::Down, Side::Down, Side::Down, Side::Down, Side::Basic],
+            coef: &[(5, 1)],
+            inside: &[(1, 2)],
+            beyond: &[(-1, 2)],
+        },
+    },
+    Case {
+        column: 0,
+        crit: (5, 1),
+        projection: &[(0, 1)],
+        steps: &[((1, 2), 0, 2)],
+        rise: &[((-1, 2), 0, 3), ((-3, 2), 0, 4)],
+        fall: &[((1, 2), 0, 1), ((3, 2), 0, 0)],
+        low: Edge {
+            value: None,
+            basis: &[0],
+            sides: &[Side::Basic, Side::Up, Side::Up, Side::Up, Side::Up],
+            coef: &[(1, 1)],
+            inside: &[(1, 2)],
+            beyond: &[(-1, 1)],
+        },
+        high: Edge {
+            value: None,
+            basis: &[4],
+            sides: &[Side::Down, Side::Down, Side::Down, Side::Down, Side::Basic],
+            coef: &[(5, 1)],
+            inside: &[(-1, 2)],
+            beyond: &[(1, 1)],
+        },
+    },
+    Case {
+        column: 0,
+        crit: (0, 1),
+        projection: &[(0, 1)],
+        steps: &[((1, 2), 0, 2)],
+        rise: &[],
+        fall: &[],
+        low: Edge {
+            value: Some((3, 1)),
+            basis: &[2],
+            sides: &[Side::Down, Side::Down, Side::Basic, Side::Up, Side::Up],
+            coef: &[(3, 1)],
+            inside: &[(0, 1)],
+            beyond: &[(1, 2)],
+        },
+        high: Edge {
+            value: Some((3, 1)),
+            basis: &[2],
+            sides: &[Side::Down, Side::Down, Side::Basic, Side::Up, Side::Up],
+            coef: &[(3, 1)],
+            inside: &[(0, 1)],
+            beyond: &[(-1, 2)],
+        },
+    },
+];
+
+/// A line through three points: the third row takes the position of the second, so the fit goes through the first
+/// and the last, and the dual values are -1/3, 1/2 and -1/6.
+static LINE: [Data; 3] = [([1, 0, 0], 0, 1), ([1, 1, 0], 2, 1), ([1, 3, 0], 3, 1)];
+
+/// Of the intercept: 2/5 of x are taken from it, and the bound is 6/7 * 1/4 * 7/5 = 3/10. The values of the
+/// basis are -1/3 + s and -1/6. As s falls the first meets -1/2 at -1/6, within, and the second row enters
+/// for it: their values are 3/2 * (s + 1/2) and -1/2 * (s + 1/2), and the first meets -1/2 at -5/6, beyond. As
+/// s rises the first meets 1/2 at 5/6, beyond.
+///
+/// Of x: 4/3 is taken from it, and the bound is 6/7 * 1/4 * 14/3 = 1. The values are -1/3 - s/3 and -1/6 + s/3.
+/// As s falls the second meets -1/2 at -1, a tie, and the second row enters for it: the values are -1 - s and
+/// s + 3/2, and the first meets 1/2 at -3/2, beyond. As s rises the first meets -1/2 at 1/2, and the second row
+/// enters for it: the values are 3/4 - s/2 and (s - 1/2)/2, and the second meets 1/2 at 3/2, beyond.
+static OF_LINE: [Case; 2] = [
+    Case {
+        column: 0,
+        crit: (6, 7),
+        projection: &[(0, 1), (2, 5)],
+        steps: &[((1, 2), 1, 2)],
+        rise: &[((-1, 6), 0, 1)],
+        fall: &[],
+        low: Edge {
+            value: Some((0, 1)),
+            basis: &[0, 2],
+            sides: &[Side::Basic, Side::Up, Side::Basic],
+            coef: &[(0, 1), (1, 1)],
+            inside: &[(-1, 3), (-1, 6)],
+            beyond: &[(1, 2), (-1, 6)],
+        },
+        high: Edge {
+            value: Some((3, 2)),
+            basis: &[1, 2],
+            sides: &[Side::Down, Side::Basic, Side::Basic],
+            coef: &[(3, 2), (1, 2)],
+            inside: &[(1, 2), (-1, 6)],
+            beyond: &[(-1, 2), (1, 6)],
+        },
+    },
+    Case {
+        column: 1,
+        crit: (6, 7),
+        projection: &[(4, 3), (0, 1)],
+        steps: &[((1, 2), 1, 2)],
+        rise: &[((-1, 1), 1, 1)],
+        fall: &[((1, 2), 0, 1)],
+        low: Edge {
+            value: Some((1, 2)),
+            basis: &[1, 2],
+            sides: &[Side::Down, Side::Basic, Side::Basic],
+            coef: &[(3, 2), (1, 2)],
+            inside: &[(1, 2), (0, 1)],
+            beyond: &[(0, 1), (1, 2)],
+        },
+        high: Edge {
+            value: Some((2, 1)),
+            basis: &[0, 1],
+            sides: &[Side::Basic, Side::Basic, Side::Down],
+            coef: &[(0, 1), (2, 1)],
+            inside: &[(0, 1), (1, 2)],
+            beyond: &[(1, 2), (0, 1)],
+        },
+    },
+];
+
+/// The value of a finite end.
+fn bound<F: Exact>(found: Bound<F>) -> Option<Ratio> {
+    match found {
+        Bound::Finite(value) => Some(ratio(value)),
+        Bound::Infinite => None,
+    }
+}
+
+fn expect_end<F: Exact>(rt: &impl Abort, found: &End<F>, want: &Edge) {
+    assert!(rt; bound(found.bound) == want.value);
+    assert!(rt; found.vertex.basis.rows.as_slice() == want.basis);
+    assert!(rt; found.vertex.sides.as_slice() == want.sides);
+    expect(rt, &found.vertex.coef, want.coef);
+    expect(rt, &found.inside, want.inside);
+    match &found.beyond {
+        Beyond::Outside(outside) => {
+            assert!(rt; want.value.is_some());
+            expect(rt, outside, want.beyond);
+        }
+        Beyond::Ray(ray) => {
+            assert!(rt; want.value.is_none());
+            expect(rt, ray, want.beyond);
+        }
+    }
+}
+
+fn expect_interval<F: Exact>(rt: &impl Abort, found: &Interval<F>, case: &Case) {
+    assert!(rt; found.proof.column == case.column);
+    assert!(rt; ratio(found.proof.tau) == (1, 2));
+    assert!(rt; ratio(found.proof.crit) == case.crit);
+    expect(rt, &found.proof.projection, case.projection);
+    expect_steps(rt, &found.trail.steps, case.steps);
+    expect_steps(rt, &found.trail.rise, case.rise);
+    expect_steps(rt, &found.trail.fall, case.fall);
+    expect_end(rt, &found.proof.low, &case.low);
+    expect_end(rt, &found.proof.high, &case.high);
+}
+
+fn expect_case<F: Exact>(
+    rt: &impl Abort,
+    alloc: Global,
+    (columns, table): (u32, &[Data]),
+    case: &Case,
+) -> Result<(), AllocError> {
+    let rows = problem::<F>(rt, alloc, columns, table)?;
+    let question = Question {
+        column: case.column,
+        tau: (1, 2),
+        crit: case.crit,
+    };
+    match ask(rt, alloc, &rows, question, 100) {
+        Ok(found) => expect_interval(rt, &found, case),
+        Err(_) => panic!(rt; "a hundred steps suffice"),
+    }
+    Ok(())
+}
+
+#[test]
+fn intervals_of_five(rt: HostRuntime) -> Result<(), Fail> {
+    for case in &OF_FIVE {
+        expect_case::<Frac128>(&rt, rt.alloc(), (1, FIVE.as_slice()), case)?;
+        expect_case::<Frac64>(&rt, rt.alloc(), (1, FIVE.as_slice()), case)?;
+    }
+    Ok(())
+}
+
+#[test]
+fn intervals_of_a_line(rt: HostRuntime) -> Result<(), Fail> {
+    for case in &OF_LINE {
+        expect_case::<Frac128>(&rt, rt.alloc(), (2, LINE.as_slice()), case)?;
+        expect_case::<Frac64>(&rt, rt.alloc(), (2, LINE.as_slice()), case)?;
+    }
+    Ok(())
+}

@@ -1,0 +1,188 @@
+-- The certificate of a right fit, and why there is none.
+use Rattle.std.proofs.Common.{◌≡◌, ◌⊎◌, ◌<◌, ◌≤◌, ◌+◌, ◌^◌, ℕ, zero, suc, Bool, Result, Ok, Err, IfErr, List, [], ◌∷◌, ◌++◌, All, Contains, get_or, is_some, length, map, take, slice_index, arith, refl, sym, ap, subst, ◌∙◌}
+use Rattle.std.specs.List.{AllZip}
+use Rattle.std.proofs.lemmas.List.Elements.{All-cons, All-nil}
+use Rattle.exact_algebra.specs.Fraction.{Fraction, rational}
+use Rattle.exact_algebra.specs.Rational.{ℚ}
+use Rattle.frac_core.specs.declared.frac128.Frac128.{Frac128}
+use Rattle.loss_model.specs.declared.interval.Bound.{Bound}
+use Rattle.loss_model.specs.declared.interval.Bound.TheVariants.{Finite, Infinite}
+use Rattle.loss_model.specs.declared.interval.Beyond.{Beyond}
+use Rattle.loss_model.specs.declared.interval.Beyond.TheVariants.{Outside, Ray}
+use Rattle.loss_model.specs.declared.interval.End.{End}
+use Rattle.loss_model.specs.declared.interval.Interval.{Interval}
+use Rattle.loss_model.specs.declared.problem.Problem.{Problem}
+use Rattle.loss_model.specs.declared.vertex.Vertex.{Vertex}
+use Rattle.loss_model.specs.Problem.{sample}
+use Rattle.pivot_rule.specs.declared.direction.Direction.{Direction}
+use Rattle.pivot_rule.specs.Results.{IsVertexAt}
+use Rattle.pivot_rule.specs.Trails.{AtBasis}
+use Rattle.pivot_rule.proofs.Solved.{any_default}
+use Rattle.rank_walk.specs.Ends.{IsEndAt, IsHandedOut}
+use Rattle.rank_walk.specs.Intervals.{bound_by, IsIntervalOf}
+use Rattle.rank_walk.specs.RankWalks.{Way, rise, fall}
+use Rattle.rank_inversion.specs.declared.column_test.Asked.{Asked}
+use Rattle.cert_text.specs.Kept.{is_finite, is_outside, IsKeptEnd, IsKeptInterval, IsKeptSegment}
+use Rattle.cert_text.specs.declared.cert.Cert.{Cert}
+use Rattle.rankscores.specs.Scores.{IsScorable}
+use Rattle.rq_words.specs.declared.job.FitJob.{FitJob}
+use Rattle.report_text.specs.ReportText.{value}
+use Rattle.report_text.specs.declared.report.Fit.{Fit}
+use Rattle.report_text.specs.declared.report.Refusal.TheVariants as refusals
+use Rattle.report_text.specs.declared.report.Halt.{Halt}
+use Rattle.report_text.specs.declared.report.Halt.TheVariants.{Refused, OutOfMemory, PivotLimit, Overflow, Rejected, NotBuilt}
+use Rattle.rq_input.specs.Inputs.{HasInputCause, IsInput}
+use Rattle.rq_input.specs.declared.input.Input.{Input}
+use Rattle.rq_engine.specs.Answers.{HasCertifyCause, HasFitCause, IsCertified}
+use Rattle.rq_engine.specs.Certifying.{HasCertifiedCause, IsLengthHalt}
+use Rattle.rq_engine.specs.Fit.{IsRightFit}
+use Rattle.rq_engine.specs.Intervals.{AreRightIntervals, IsRightInterval, asked_by}
+use Rattle.rq_engine.specs.Stops.{HasProblemCause}
+use Rattle.rq_engine.proofs.Fits.{input_cause, problem_cause, process_scorable}
+use Rattle.rq_engine.proofs.Listed.{listed_vertex}
+
+-- ---- what a certificate keeps
+
+-- the bases of a right fit list the basic rows of their vertices
+pub fit_listed : (job : FitJob) (fit : Fit) → IsRightFit value job fit → All IsKeptSegment fit.process.segments
+fit_listed job fit right =
+    let scorable = process_scorable value fit.problem (rational (value job.lo)) (rational (value job.hi)) fit.process right.results in
+    λ k d l. let at = scorable k d l in listed_vertex fit.problem (get_or fit.process.segments k d).vertex at.vertex at.inside
+
+module _ {F : Type 0} (value : F → Fraction) (p : Problem F) where
+  -- the basic rows of a vertex at a basis are rows of the problem
+  rows_inside : (basis : List ℕ) (Q : (ℕ → ℕ → ℚ) → Type 0) (at : AtBasis (sample value p) basis Q) (v : Vertex F) → IsVertexAt value p basis at.a v → All (λ i. i < length p.rows) v.basis.rows
+  rows_inside basis Q at v vertex k d l =
+      let i = get_or v.basis.rows k d in
+      let there : Contains basis i = (vertex.rows i).0 (k, l, any_default v.basis.rows k i d l) in
+      subst (λ n. n < length p.rows) (any_default basis there.0 0 i there.1 ∙ there.2) (at.is_basis.distinct.within there.0 (omega (arith, there.1, at.size)))
+
+  -- an end that a walk hands out is finite where dual values lie beyond it
+  same_kind : (way : Way) (j : ℕ) (tau bound : ℚ) (at : ℕ → ℕ) (a : ℕ → ℕ → ℚ) (t u : ℚ) (k : ℕ) (d : Direction) (v : Vertex F) (inside : List F) (b : Bound F) (e : Beyond F)
+      → IsHandedOut value p way j tau bound at a t u k d v inside b e → is_finite b ≡ is_outside e
+  same_kind way j tau bound at a t u k d v inside (Finite x) (Outside f) h = refl
+  same_kind way j tau bound at a t u k d v inside Infinite (Ray r) h = refl
+  same_kind way j tau bound at a t u k d v inside (Finite x) (Ray r) h = absurd h
+  same_kind way j tau bound at a t u k d v inside Infinite (Outside f) h = absurd h
+
+  kept_end : (way : Way) (j : ℕ) (tau bound : ℚ) (basis : List ℕ) (t : ℚ) (end : End F)
+      → AtBasis (sample value p) basis (λ a. IsEndAt value p way j tau bound basis a t end) → IsKeptEnd end
+  kept_end way j tau bound basis t end at =
+      let h = at.holds in (
+        listed_vertex p end.vertex h.vertex.shape (rows_inside basis (λ a. IsEndAt value p way j tau bound basis a t end) at end.vertex h.vertex),
+        same_kind way j tau bound (slice_index basis) at.a t h.u h.k h.d end.vertex end.inside end.bound end.beyond h.handed,
+      )
+
+  kept_interval : (interval : Interval F) → p.columns ≤ 128 → interval.proof.column < p.columns → IsIntervalOf value p interval → IsKeptInterval interval.proof
+  kept_interval interval few column h =
+      let tau = rational (value interval.proof.tau) in (
+        omega (arith, few, column),
+        (kept_end fall interval.proof.column tau (bound_by value p interval) _ _ interval.proof.low h.low, kept_end rise interval.proof.column tau (bound_by value p interval) _ _ interval.proof.high h.high),
+      )
+
+  -- so do the bases of right intervals
+  intervals_kept : (limit : ℕ) → p.columns ≤ 128 → (asked : List (Asked F)) (intervals : List (Interval F)) → AreRightIntervals value p limit asked intervals → All (λ (interval : Interval F). IsKeptInterval interval.proof) intervals
+  intervals_kept limit few [] [] h = All-nil (λ (interval : Interval F). IsKeptInterval interval.proof)
+  intervals_kept limit few [] (x ∷ xs) h = absurd h
+  intervals_kept limit few (a ∷ others) [] h = absurd h
+  intervals_kept limit few (a ∷ others) (x ∷ xs) h =
+      All-cons (λ (interval : Interval F). IsKeptInterval interval.proof) x xs
+      (kept_interval x few h.0.lawful.conditions.column h.0.lawful.lawful) (intervals_kept limit few others xs h.1)
+
+-- what shows intervals keeps what they keep
+pub proofs_kept : (intervals : List (Interval Frac128)) → All (λ (interval : Interval Frac128). IsKeptInterval interval.proof) intervals → All IsKeptInterval (map (λ (interval : Interval Frac128). interval.proof) intervals)
+proofs_kept [] h = All-nil IsKeptInterval
+proofs_kept (x ∷ xs) h =
+    All-cons IsKeptInterval x.proof (map (λ (interval : Interval Frac128). interval.proof) xs) (h 0 x (omega arith))
+    (proofs_kept xs (λ k d l. h (suc k) d (omega (arith, l))))
+
+pub fit_ended : (job : FitJob) (fit : Fit) → IsRightFit value job fit → All (λ (interval : Interval Frac128). IsKeptInterval interval.proof) fit.intervals
+fit_ended job fit right = intervals_kept value fit.problem job.limit right.shaped.columns (asked_by job.rank fit.problem.columns) fit.intervals right.intervals
+
+-- ---- causes
+
+-- a halt by another name
+pub halt_along : (r : Result Cert Halt) (P Q : Halt → Type 0) → IfErr r P → ((halt : Halt) → P halt → Q halt) → IfErr r Q
+halt_along (Ok cert) P Q h f = tt
+halt_along (Err halt) P Q h f = f halt h
+
+certify_cause : (job : FitJob) (bytes : List ℕ) (halt : Halt) → HasFitCause job (is_some job.rank) bytes halt → HasCertifyCause job bytes halt
+certify_cause job bytes (Refused (refusals.CertTooLong n)) h = absurd h.2.cause
+certify_cause job bytes (Refused (refusals.Certificate fault)) h = h
+certify_cause job bytes (Refused (refusals.Dependent combination)) h = h
+certify_cause job bytes (Refused refusals.TooLong) h = h
+certify_cause job bytes (Refused (refusals.Table fault)) h = h
+certify_cause job bytes (Refused (refusals.Formula fault)) h = h
+certify_cause job bytes (Refused refusals.RankWithPenalty) h = h
+certify_cause job bytes (Refused (refusals.Design fault)) h = h
+certify_cause job bytes (Refused (refusals.Penalty fault)) h = h
+certify_cause job bytes (Refused (refusals.Program fault)) h = h
+certify_cause job bytes OutOfMemory h = h
+certify_cause job bytes (PivotLimit place limit trail) h = h
+certify_cause job bytes (Overflow place trail spill) h = h
+certify_cause job bytes (Rejected rejection) h = h
+certify_cause job bytes (NotBuilt part) h = h
+
+-- why there is no input is why there is no certificate
+pub input_certify : (job : FitJob) (bytes : List ℕ) (halt : Halt) → HasInputCause job (is_some job.rank) bytes halt → HasCertifyCause job bytes halt
+input_certify job bytes halt h = certify_cause job bytes halt (input_cause job (is_some job.rank) bytes halt h)
+
+-- why a problem has no fit is why its input has no certificate
+pub problem_certified : (job : FitJob) (input : Input) (halt : Halt) → HasProblemCause job (length input.design.rows) input.problem halt → HasCertifiedCause job input halt
+problem_certified job input (Refused (refusals.CertTooLong n)) h = absurd h
+problem_certified job input (Refused (refusals.Certificate fault)) h = h
+problem_certified job input (Refused (refusals.Dependent combination)) h = h
+problem_certified job input (Refused refusals.TooLong) h = h
+problem_certified job input (Refused (refusals.Table fault)) h = h
+problem_certified job input (Refused (refusals.Formula fault)) h = h
+problem_certified job input (Refused refusals.RankWithPenalty) h = h
+problem_certified job input (Refused (refusals.Design fault)) h = h
+problem_certified job input (Refused (refusals.Penalty fault)) h = h
+problem_certified job input (Refused (refusals.Program fault)) h = h
+problem_certified job input OutOfMemory h = h
+problem_certified job input (PivotLimit place limit trail) h = h
+problem_certified job input (Overflow place trail spill) h = h
+problem_certified job input (Rejected rejection) h = h
+problem_certified job input (NotBuilt part) h = h
+
+-- so is a text that is too long
+pub length_certified : (job : FitJob) (input : Input) (cert : Cert) → IsCertified job input cert → (halt : Halt) → IsLengthHalt cert halt → HasCertifiedCause job input halt
+length_certified job input cert is (Refused (refusals.CertTooLong n)) h = (cert, is, h)
+length_certified job input cert is (Refused (refusals.Certificate fault)) h = absurd h
+length_certified job input cert is (Refused (refusals.Dependent combination)) h = absurd h
+length_certified job input cert is (Refused refusals.TooLong) h = absurd h
+length_certified job input cert is (Refused (refusals.Table fault)) h = absurd h
+length_certified job input cert is (Refused (refusals.Formula fault)) h = absurd h
+length_certified job input cert is (Refused refusals.RankWithPenalty) h = absurd h
+length_certified job input cert is (Refused (refusals.Design fault)) h = absurd h
+length_certified job input cert is (Refused (refusals.Penalty fault)) h = absurd h
+length_certified job input cert is (Refused (refusals.Program fault)) h = absurd h
+length_certified job input cert is OutOfMemory h = tt
+length_certified job input cert is (PivotLimit place limit trail) h = absurd h
+length_certified job input cert is (Overflow place trail spill) h = absurd h
+length_certified job input cert is (Rejected rejection) h = absurd h
+length_certified job input cert is (NotBuilt part) h = absurd h
+
+-- and what an input lacks is what the bytes lack
+pub certified_certify : (job : FitJob) (bytes : List ℕ) (input : Input) → IsInput job (is_some job.rank) bytes input → (halt : Halt) → HasCertifiedCause job input halt → HasCertifyCause job bytes halt
+certified_certify job bytes input is halt h = by halt h
+  where
+    ranked : Bool
+    ranked = is_some job.rank
+
+    by : (halt : Halt) → HasCertifiedCause job input halt → HasCertifyCause job bytes halt
+    by (Refused (refusals.CertTooLong n)) h = record { cert = h.0; right = (input, is, h.1); long = h.2 }
+    by (Refused (refusals.Certificate fault)) h = absurd h
+    by (Refused (refusals.Dependent combination)) h = problem_cause job ranked bytes input is (Refused (refusals.Dependent combination)) h
+    by (Refused refusals.TooLong) h = absurd h
+    by (Refused (refusals.Table fault)) h = absurd h
+    by (Refused (refusals.Formula fault)) h = absurd h
+    by (Refused refusals.RankWithPenalty) h = absurd h
+    by (Refused (refusals.Design fault)) h = absurd h
+    by (Refused (refusals.Penalty fault)) h = absurd h
+    by (Refused (refusals.Program fault)) h = absurd h
+    by OutOfMemory h = tt
+    by (PivotLimit place limit trail) h = problem_cause job ranked bytes input is (PivotLimit place limit trail) h
+    by (Overflow place trail spill) h = problem_cause job ranked bytes input is (Overflow place trail spill) h
+    by (Rejected rejection) h = absurd h
+    by (NotBuilt part) h = absurd h

@@ -1,0 +1,30 @@
+-- Stated. What the certificate of a fit states.
+use Rattle.std.specs.Prelude.{◌≡◌, ℕ, ◌≤◌, ◌<◌, ◌^◌, Ok, length, map}
+use Rattle.cert_text.specs.Certificates.{cert_of}
+use Rattle.cert_text.specs.Contents.{content}
+use Rattle.cert_text.specs.Limits.{IsWithinLimits}
+use Rattle.cert_text.specs.Trees.{cert_text}
+use Rattle.cert_text.specs.declared.cert.Cert.{Cert}
+use Rattle.rq_words.specs.declared.job.FitJob.{FitJob}
+use Rattle.report_text.specs.declared.report.Fit.{Fit}
+
+-- the problem, the segments and the intervals of the fit, and the range of the job
+pub record IsCertificateOf (job : FitJob) (fit : Fit) (cert : Cert) : Type 0 where
+  pub problem : cert.problem ≡ fit.problem
+  pub lo : cert.lo ≡ job.lo
+  pub hi : cert.hi ≡ job.hi
+  pub segments : cert.segments ≡ fit.process.segments
+  pub intervals : cert.intervals ≡ map (λ interval. interval.proof) fit.intervals
+
+-- the most bytes of a certificate's text
+abbrev pub most_bytes : ℕ
+most_bytes = 2 ^ 26
+
+-- its text is so long at most, and is read as the certificate where that is within the limits of what is read
+pub record IsWritten (cert : Cert) : Type 0 where
+  pub short : length (cert_text cert) ≤ most_bytes
+  pub back : IsWithinLimits cert → cert_of (cert_text cert) ≡ Ok (content cert)
+
+-- its text is longer, and has this length
+abbrev pub IsTooLong : Cert → ℕ → Type 0
+IsTooLong cert n = (n ≡ length (cert_text cert)) × (most_bytes < n)

@@ -1,0 +1,22 @@
+-- Inner. Why an input has no certificate, step by step.
+use Rattle.std.specs.Prelude.{ℕ, length, ⊤}
+use Rattle.cert_text.specs.declared.cert.Cert.{Cert}
+use Rattle.rq_input.specs.declared.input.Input.{Input}
+use Rattle.rq_words.specs.declared.job.FitJob.{FitJob}
+use Rattle.report_text.specs.declared.report.Refusal.TheVariants.{CertTooLong}
+use Rattle.report_text.specs.declared.report.Halt.{Halt}
+use Rattle.report_text.specs.declared.report.Halt.TheVariants.{Refused, OutOfMemory}
+use Rattle.rq_engine.specs.Answers.{IsCertified}
+use Rattle.rq_engine.specs.Certificates.{IsTooLong}
+use Rattle.rq_engine.specs.Stops.{HasProblemCause}
+
+-- the text of the certificate wasn't found to be short: memory ended, or it is too long
+abbrev pub IsLengthHalt : Cert → Halt → Type 0
+IsLengthHalt cert OutOfMemory = ⊤
+IsLengthHalt cert (Refused (CertTooLong n)) = IsTooLong cert n
+IsLengthHalt cert halt = ⊥
+
+-- the problem of the input has no fit, or the text of its certificate is too long
+abbrev pub HasCertifiedCause : FitJob → Input → Halt → Type 0
+HasCertifiedCause job input (Refused (CertTooLong n)) = (cert : Cert) × IsCertified job input cert × IsTooLong cert n
+HasCertifiedCause job input halt = HasProblemCause job (length input.design.rows) input.problem halt

@@ -1,0 +1,121 @@
+//! The job `certify`: the fit of the job `process`, as a certificate.
+ghost use Rattle.std.specs.Prelude.{◌≡◌, ◌<◌, ◌≤◌, ◌^◌, All, is_some, length, map, pos, true, IfOk, IfErr, OnOk};
+ghost use Rattle.exact_algebra.specs.Fraction.{rational};
+ghost use Rattle.exact_algebra.specs.Rational.{◌≤ℚ◌, whole};
+ghost use Rattle.cert_text.specs.Kept.{IsKeptInterval, IsKeptSegment};
+ghost use Rattle.report_text.specs.ReportText.{value};
+ghost use Rattle.rq_input.specs.Rows.{HasRows};
+ghost use Rattle.rq_engine.specs.Answers.{HasCertifyCause, IsCertified, IsCertifiedOfBytes};
+ghost use Rattle.rq_engine.specs.Certificates.{IsCertificateOf, IsWritten};
+ghost use Rattle.rq_engine.specs.Certifying.{HasCertifiedCause, IsLengthHalt};
+ghost use Rattle.rq_engine.specs.RankProblems.{IsRankAskOf};
+
+use crate::process::fit_input;
+use cert_text::{Cert, write_cert};
+use frac_core::{Exact, Frac128, List, OutOfMemory};
+use loss_model::{Interval, IntervalProof};
+use report_text::{Fit, Halt, Refusal};
+use rq_input::{Input, read_input};
+use rq_words::FitJob;
+use std::alloc::Global;
+
+/// The most bytes of a certificate's text.
+const MOST_BYTES: u64 = 1 << 26;
+
+// What shows the intervals, without their trails.
+fn proofs<F: Exact>(
+    alloc: Global,
+    intervals: List<Interval<F>>,
+) -> Result<List<IntervalProof<F>>, OutOfMemory>
+    ensures { IfOk result (λ proofs. proofs ≡ map (λ interval. interval.proof) intervals) }
+{
+    let mut proofs = List::new(alloc);
+    for interval in intervals.into_vec() {
+        proofs.add(interval.proof)?;
+    }
+    Ok(proofs)
+}
+
+// The certificate of a fit. It refuses only for memory.
+fn cert_of_fit(alloc: Global, job: &FitJob, fit: Fit) -> Result<Cert, OutOfMemory>
+    requires listed { All IsKeptSegment fit.process.segments }
+    requires ended { All (λ interval. IsKeptInterval interval.proof) fit.intervals }
+    ensures { IfOk result (IsCertificateOf job.now fit) }
+{
+    let Fit {
+        problem,
+        process,
+        intervals,
+        ..
+    } = fit;
+    let intervals = proofs(alloc, intervals)?;
+    Ok(Cert {
+        problem,
+        lo: job.lo,
+        hi: job.hi,
+        segments: process.segments,
+        intervals,
+    })
+}
+
+// Whether the text of a certificate is short enough.
+fn test_length(alloc: Global, cert: &Cert) -> Result<(), Halt>
+    ensures written { OnOk result (IsWritten cert.now) }
+    ensures long { IfErr result (IsLengthHalt cert.now) }
+{
+    let length = match write_cert(alloc, cert) {
+        Ok(text) => text.len() as u64,
+        Err(_) => return Err(Halt::OutOfMemory),
+    };
+    if length > MOST_BYTES {
+        return Err(Halt::Refused(Refusal::CertTooLong { length }));
+    }
+    Ok(())
+}
+
+// The certificate of an input.
+//
+// Its halts are those of the fit, and then `CertTooLong`.
+fn certify_input(alloc: Global, job: &FitJob, input: Input) -> Result<Cert, Halt>
+    requires low { whole (pos 0) ≤ℚ rational (value job.now.lo) }
+    requires ordered { rational (value job.now.lo) ≤ℚ rational (value job.now.hi) }
+    requires high { rational (value job.now.hi) ≤ℚ whole (pos 1) }
+    requires rows { HasRows input }
+    requires rank { IsRankAskOf job.now.rank }
+    requires unpenalised { is_some job.now.rank ≡ true → length input.smoothing.rows ≡ 0 }
+    ensures right { IfOk result (IsCertified job.now input) }
+    ensures written { IfOk result IsWritten }
+    ensures cause { IfErr result (HasCertifiedCause job.now input) }
+{
+    let fit = match fit_input(alloc, job, input) {
+        Ok(fit) => fit,
+        Err(halt) => return Err(halt),
+    };
+    let cert = match cert_of_fit(alloc, job, fit) {
+        Ok(cert) => cert,
+        Err(_) => return Err(Halt::OutOfMemory),
+    };
+    match test_length(alloc, &cert) {
+        Ok(()) => Ok(cert),
+        Err(halt) => Err(halt),
+    }
+}
+
+/// The certificate of the fit over the range of a job, from the bytes of its input, if its text isn't
+/// longer than 2^26 bytes.
+pub(crate) fn certify_bytes(alloc: Global, job: &FitJob, bytes: &[u8]) -> Result<Cert, Halt>
+    requires low { whole (pos 0) ≤ℚ rational (value job.now.lo) }
+    requires ordered { rational (value job.now.lo) ≤ℚ rational (value job.now.hi) }
+    requires high { rational (value job.now.hi) ≤ℚ whole (pos 1) }
+    requires long { length job.now.formula < 2 ^ 31 }
+    requires few { length bytes.now ≤ 2 ^ 26 }
+    requires rank { IsRankAskOf job.now.rank }
+    ensures right { IfOk result (IsCertifiedOfBytes job.now bytes.now) }
+    ensures written { IfOk result IsWritten }
+    ensures cause { IfErr result (HasCertifyCause job.now bytes.now) }
+{
+    match read_input(alloc, job, job.rank.is_some(), bytes) {
+        Ok(input) => certify_input(alloc, job, input),
+        Err(halt) => Err(halt),
+    }
+}
