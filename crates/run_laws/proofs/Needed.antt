@@ -17,6 +17,8 @@ use Rattle.stop_laws.proofs.Needed.{below, dependent}
 use Rattle.interval_laws.proofs.Needed.{interval_needed}
 use Rattle.interval_laws.proofs.Spilled.{of_interval}
 use Rattle.pivot_bound.proofs.Bounds.{process_within}
+use Rattle.rq_words.specs.Requests.{fit_request}
+use Rattle.rq_words.proofs.Orders.{certify_range}
 use Rattle.rq_words.specs.declared.job.FitJob.{FitJob}
 use Rattle.rq_words.specs.declared.job.Job.{Job}
 use Rattle.rq_words.specs.declared.job.Job.TheVariants as jobs
@@ -28,14 +30,14 @@ use Rattle.report_text.specs.declared.report.Halt.TheVariants.{Refused, PivotLim
 use Rattle.rq_input.specs.Inputs.{IsInput}
 use Rattle.rq_input.specs.declared.input.Input.{Input}
 use Rattle.rq_engine.specs.Answers as engine
-use Rattle.rq_engine.specs.Answers.{HasRanksCause, LacksFit}
+use Rattle.rq_engine.specs.Answers.{LacksFit}
 use Rattle.rq_engine.specs.Built.{IsJobOf}
 use Rattle.rq_engine.specs.Stops.{HasStoppedInterval, most}
 use Rattle.rq_engine.proofs.Asked.{asked_range, asked_unit}
 use Rattle.rq_engine.proofs.Costs.{input_costs}
 use Rattle.rq_engine.proofs.Scoring.{from_zero, to_one, in_order}
 use Rattle.rq_cli.specs.Outcomes.{Stream, IsHalted, WereRead}
-use Rattle.run_laws.specs.NeededOutcomes.{IsFitJob, WasInput, ReachesItsLimit, ReachesItsIntervalLimit, ReachesLimitAt}
+use Rattle.run_laws.specs.NeededOutcomes.{IsFitJob, WasInput, ReachesItsLimit, ReachesItsIntervalLimit, ReachesLimitAt, OverflowsAt}
 use Rattle.run_laws.proofs.Spilled.{of_fit, of_wilcoxon}
 
 -- the low end of the range that words ask for is a quantile
@@ -46,6 +48,11 @@ record IsQuantile (fit : FitJob) : Type 0 where
 process_low : (words : List (List ℕ)) (fit : FitJob) → IsJobOf words (jobs.Process fit) → IsQuantile fit
 process_low words fit asked =
     let range = asked_range words fit asked in
+    record { low = range.0; high = ≤ℚ_trans (rational (value fit.lo)) (rational (value fit.hi)) (whole (pos 1)) range.1 range.2 }
+
+certify_low : (words : List (List ℕ)) (fit : FitJob) → IsJobOf words (jobs.Certify fit) → IsQuantile fit
+certify_low words fit asked =
+    let range = certify_range words (fit_request fit) asked in
     record { low = range.0; high = ≤ℚ_trans (rational (value fit.lo)) (rational (value fit.hi)) (whole (pos 1)) range.1 range.2 }
 
 ranks_low : (words : List (List ℕ)) (fit : FitJob) → IsJobOf words (jobs.Ranks fit) → IsQuantile fit
@@ -111,7 +118,12 @@ module _ (words : List (List ℕ)) (source source' : Stream) where
         was fit cause.input true h.bytes (jobs.Ranks fit) (refl, refl) read cause.is,
         reached fit true h.bytes place limit trail (ranks_low words fit read.asked) cause,
       )
-      by (jobs.Certify fit) read cause = absurd cause
+      by (jobs.Certify fit) read cause = (
+        fit,
+        cause.input,
+        was fit cause.input (is_some fit.rank) h.bytes (jobs.Certify fit) (refl, refl) read cause.is,
+        reached fit (is_some fit.rank) h.bytes place limit trail (certify_low words fit read.asked) cause,
+      )
       by jobs.Check read cause = absurd cause
       by (jobs.Sample job) read cause = absurd cause
 
@@ -120,43 +132,42 @@ module _ (words : List (List ℕ)) (source source' : Stream) where
   pub dependence_needed : (combination : List Frac128) → IsHalted words source source' (Refused (Dependent combination)) → IsDependentInput
   dependence_needed combination h = by h.job h.read h.cause
     where
+      of : (fit : FitJob) (ranked : Bool) (job : Job) → IsFitJob job fit ranked → WereRead words source source' job h.bytes → LacksFit fit ranked h.bytes (Refused (Dependent combination)) → IsDependentInput
+      of fit ranked job is_job read cause =
+          (fit, cause.input, was fit cause.input ranked h.bytes job is_job read cause.is, dependent (sample value cause.input.problem) _ cause.cause.dependence)
+
       by : (job : Job) → WereRead words source source' job h.bytes → engine.HasCause job h.bytes (Refused (Dependent combination)) → IsDependentInput
-      by (jobs.Process fit) read cause = (
-        fit,
-        cause.input,
-        record { ranked = is_some fit.rank; bytes = h.bytes; asked = record { job = jobs.Process fit; asked = read.asked; built = read.built; is = (refl, refl) }; read = (jobs.Process fit, read); is = cause.is },
-        dependent (sample value cause.input.problem) _ cause.cause.dependence,
-      )
-      by (jobs.Ranks fit) read cause = (
-        fit,
-        cause.input,
-        record { ranked = true; bytes = h.bytes; asked = record { job = jobs.Ranks fit; asked = read.asked; built = read.built; is = (refl, refl) }; read = (jobs.Ranks fit, read); is = cause.is },
-        dependent (sample value cause.input.problem) _ cause.cause.dependence,
-      )
-      by (jobs.Certify fit) read cause = absurd cause
+      by (jobs.Process fit) read cause = of fit (is_some fit.rank) (jobs.Process fit) (refl, refl) read cause
+      by (jobs.Ranks fit) read cause = of fit true (jobs.Ranks fit) (refl, refl) read cause
+      by (jobs.Certify fit) read cause = of fit (is_some fit.rank) (jobs.Certify fit) (refl, refl) read cause
       by jobs.Check read cause = absurd cause
       by (jobs.Sample job) read cause = absurd cause
 
   -- ---- an overflow
 
-  pub overflow_needed : (place : Place) (trail : Trail Frac128) (spill : Spill Frac128) → IsHalted words source source' (Overflow place trail spill) → DoesOverflow value most spill
-  overflow_needed place trail spill h = by h.job h.cause
+  pub overflow_needed : (place : Place) (trail : Trail Frac128) (spill : Spill Frac128) → IsHalted words source source' (Overflow place trail spill) → OverflowsAt place spill
+  overflow_needed places.Check trail spill h = tt
+  overflow_needed places.Process trail spill h = by h.job h.cause
     where
-      lacks : (place : Place) (fit : FitJob) (ranked : Bool) → LacksFit fit ranked h.bytes (Overflow place trail spill) → DoesOverflow value most spill
-      lacks places.Process fit ranked k = of_fit value most spill k.input.problem _ _ _ _ trail k.cause
-      lacks (places.Interval column tau) fit ranked k =
+      of : (fit : FitJob) (ranked : Bool) → LacksFit fit ranked h.bytes (Overflow places.Process trail spill) → DoesOverflow value most spill
+      of fit ranked k = of_fit value most spill k.input.problem _ _ _ _ trail k.cause
+
+      by : (job : Job) → engine.HasCause job h.bytes (Overflow places.Process trail spill) → DoesOverflow value most spill
+      by (jobs.Process fit) cause = of fit (is_some fit.rank) cause
+      by (jobs.Ranks fit) (inl cause) = of fit true cause
+      by (jobs.Ranks fit) (inr cause) = of_wilcoxon value most spill cause.input.problem cause.operation.segments cause.operation.operation
+      by (jobs.Certify fit) cause = of fit (is_some fit.rank) cause
+      by jobs.Check cause = absurd cause
+      by (jobs.Sample job) cause = absurd cause
+  overflow_needed (places.Interval column tau) trail spill h = by h.job h.cause
+    where
+      of : (fit : FitJob) (ranked : Bool) → LacksFit fit ranked h.bytes (Overflow (places.Interval column tau) trail spill) → DoesOverflow value most spill
+      of fit ranked k =
           of_interval value most spill k.input.problem column (rational (value tau)) (rational (value k.cause.stopped.0)) fit.limit trail k.cause.stopped.1.cause
-      lacks places.Check fit ranked k = absurd k.cause
 
-      ranks : (place : Place) (fit : FitJob) → HasRanksCause fit h.bytes (Overflow place trail spill) → DoesOverflow value most spill
-      ranks places.Process fit (inl cause) = lacks places.Process fit true cause
-      ranks places.Process fit (inr cause) = of_wilcoxon value most spill cause.input.problem cause.operation.segments cause.operation.operation
-      ranks (places.Interval column tau) fit cause = lacks (places.Interval column tau) fit true cause
-      ranks places.Check fit cause = lacks places.Check fit true cause
-
-      by : (job : Job) → engine.HasCause job h.bytes (Overflow place trail spill) → DoesOverflow value most spill
-      by (jobs.Process fit) cause = lacks place fit (is_some fit.rank) cause
-      by (jobs.Ranks fit) cause = ranks place fit cause
-      by (jobs.Certify fit) cause = absurd cause
+      by : (job : Job) → engine.HasCause job h.bytes (Overflow (places.Interval column tau) trail spill) → DoesOverflow value most spill
+      by (jobs.Process fit) cause = of fit (is_some fit.rank) cause
+      by (jobs.Ranks fit) cause = of fit true cause
+      by (jobs.Certify fit) cause = of fit (is_some fit.rank) cause
       by jobs.Check cause = absurd cause
       by (jobs.Sample job) cause = absurd cause

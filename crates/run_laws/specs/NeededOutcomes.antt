@@ -1,5 +1,5 @@
 -- Law. A run that stops for a limit, for an overflow or for dependent columns had to.
-use Rattle.std.specs.Prelude.{◌≡◌, ℕ, ◌*◌, ◌<◌, Bool, true, is_some, List}
+use Rattle.std.specs.Prelude.{◌≡◌, ℕ, ◌*◌, ◌<◌, Bool, true, is_some, List, ⊤}
 use Rattle.exact_algebra.specs.Fraction.{rational}
 use Rattle.exact_algebra.specs.Rational.{ℚ}
 use Rattle.frac_core.specs.declared.frac128.Frac128.{Frac128}
@@ -26,10 +26,11 @@ use Rattle.rq_engine.specs.Stops.{most}
 use Rattle.rq_cli.specs.Outcomes.{Stream, IsRun, WereRead}
 use Rattle.rq_cli.specs.declared.outcome.Outcome.TheVariants.{Refused, PivotLimit, Overflow}
 
--- the job is this fit of a table, with or without ranks
+-- the job is this fit of a table, with or without ranks, as a report or as a certificate
 abbrev pub IsFitJob : Job → FitJob → Bool → Type 0
 IsFitJob (jobs.Process job) fit ranked = (job ≡ fit) × (is_some job.rank ≡ ranked)
 IsFitJob (jobs.Ranks job) fit ranked = (job ≡ fit) × (true ≡ ranked)
+IsFitJob (jobs.Certify job) fit ranked = (job ≡ fit) × (is_some job.rank ≡ ranked)
 IsFitJob _ fit ranked = ⊥
 
 -- the words ask for it, and this version does the job
@@ -75,11 +76,16 @@ LimitIsNeeded =
     → IsRun words source source' out out' err err' (PivotLimit place limit trail)
     → (fit : FitJob) × (input : Input) × WasInput words source source' fit input × ReachesLimitAt place fit input limit trail
 
--- Overflow comes only with an operation that overflows
+-- the operation overflows; of one of a certificate's tests the cause itself says so
+abbrev pub OverflowsAt : Place → Spill Frac128 → Type 0
+OverflowsAt places.Check spill = ⊤
+OverflowsAt _ spill = DoesOverflow value most spill
+
+-- Overflow of a fit comes only with an operation that overflows
 abbrev pub OverflowIsNeeded : Type 0
 OverflowIsNeeded =
     (words : List (List ℕ)) (source source' out out' err err' : Stream) (place : Place) (trail : Trail Frac128) (spill : Spill Frac128)
-    → IsRun words source source' out out' err err' (Overflow place trail spill) → DoesOverflow value most spill
+    → IsRun words source source' out out' err err' (Overflow place trail spill) → OverflowsAt place spill
 
 -- Dependent comes only where the columns of the problem are dependent
 abbrev pub DependenceIsNeeded : Type 0
