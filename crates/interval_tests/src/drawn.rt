@@ -1,5 +1,5 @@
 //! Intervals of drawn tables, compared with those of a slow program: of a drawn critical value, and of those at, just
-//! below and just above the statistic of a breakpoint. Of the 90 tables 72 have full rank.
+//! below and just above the statistic of a breakpoint. Of the 79 tables 66 have full rank.
 
 use crate::helpers::{Question, ask, problem, ratio};
 use frac_core::{Exact, Frac128};
@@ -131,42 +131,24 @@ fn try_table(
     Ok(())
 }
 
-/// The intervals of 30 tables that are drawn from a seed are those of the slow program; so many are compared, and so
-/// many of their ends are infinite.
-fn expect_drawn(
-    rt: &impl Abort,
-    alloc: Global,
-    seed: u32,
-    want: (u32, u32),
-) -> Result<(), AllocError> {
-    let mut state = seed;
+/// The numbers of intervals and of infinite ends come from an enumeration that is no part of this program.
+#[test]
+fn drawn_intervals(rt: HostRuntime) -> Result<(), Fail> {
+    let mut state = 7;
     let mut counts = Counts {
         intervals: 0,
         infinite: 0,
     };
-    for number in 0..30 {
-        try_table(rt, alloc, &mut state, &mut counts, number % 3 + 1)?;
+    for number in 0..79 {
+        try_table(&rt, rt.alloc(), &mut state, &mut counts, number % 3 + 1)?;
     }
-    let found = (counts.intervals, counts.infinite);
-    assert!(rt; found == want, "{} {}", found.0, found.1);
-    Ok(())
-}
-
-/// The numbers of intervals and of infinite ends come from an enumeration that is no part of this program.
-#[test]
-fn drawn_intervals(rt: HostRuntime) -> Result<(), Fail> {
-    expect_drawn(&rt, rt.alloc(), 7, (148, 137))?;
-    Ok(())
-}
-
-#[test]
-fn more_drawn_intervals(rt: HostRuntime) -> Result<(), Fail> {
-    expect_drawn(&rt, rt.alloc(), 1, (208, 152))?;
-    Ok(())
-}
-
-#[test]
-fn still_more_drawn_intervals(rt: HostRuntime) -> Result<(), Fail> {
-    expect_drawn(&rt, rt.alloc(), 2, (180, 148))?;
+    let Counts {
+        intervals,
+        infinite,
+    } = counts;
+    assert!(rt;
+        (intervals, infinite) == (492, 412),
+        "{intervals} {infinite}"
+    );
     Ok(())
 }
