@@ -1,0 +1,52 @@
+//! Whether the costs of the rows of a problem are costs at a quantile.
+
+ghost use Rattle.std.specs.Prelude.{◌≡◌, ◌<◌, ◌≤◌, length, pos, false, IsTrue};
+ghost use Rattle.exact_algebra.specs.Fraction.{rational};
+ghost use Rattle.exact_algebra.specs.Rational.{◌+ℚ◌, ◌≤ℚ◌, whole};
+ghost use Rattle.loss_model.specs.Sample.{up_cost, down_cost};
+ghost use Rattle.loss_model.specs.Problem.{sample};
+ghost use Rattle.pivot_rule.specs.Duals.{HasCosts, ◌<ℚ◌};
+
+use frac_core::Exact;
+use loss_model::{Problem, down_cost_at, up_cost_at};
+
+fn is_negative<F: Exact>(value: F) -> bool
+    ensures { result ≡ false → whole (pos 0) ≤ℚ rational (F.value value) }
+{
+    if value.sign() < 0 { true } else { false }
+}
+
+// Whether neither cost of a row is negative, and one is positive.
+fn has_cost<F: Exact>(problem: &Problem<F>, row: u32, theta: F) -> bool
+    requires { row < length problem.now.rows }
+    ensures up { IsTrue result → whole (pos 0) ≤ℚ up_cost (sample F.value problem.now) (rational (F.value theta)) row }
+    ensures down { IsTrue result → whole (pos 0) ≤ℚ down_cost (sample F.value problem.now) (rational (F.value theta)) row }
+    ensures some { IsTrue result → whole (pos 0) <ℚ (up_cost (sample F.value problem.now) (rational (F.value theta)) row +ℚ down_cost (sample F.value problem.now) (rational (F.value theta)) row) }
+{
+    let Ok(up) = up_cost_at(problem, row, theta) else {
+        return false;
+    };
+    let Ok(down) = down_cost_at(problem, row, theta) else {
+        return false;
+    };
+    let Ok(sum) = up.try_add(down) else {
+        return false;
+    };
+    if is_negative(up) || is_negative(down) {
+        return false;
+    }
+    sum.sign() > 0
+}
+
+pub(crate) fn has_costs<F: Exact>(problem: &Problem<F>, theta: F) -> bool
+    requires { length problem.now.rows ≤ 16384 }
+    ensures { IsTrue result → HasCosts (sample F.value problem.now) (rational (F.value theta)) }
+{
+    let count = problem.rows.as_slice().len() as u32;
+    for row in 0..count {
+        if !has_cost(problem, row, theta) {
+            return false;
+        }
+    }
+    true
+}
