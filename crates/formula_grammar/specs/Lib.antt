@@ -1,4 +1,3 @@
-pub mod Words
 pub mod Numerals
 pub mod Grammar
 pub mod Codes
