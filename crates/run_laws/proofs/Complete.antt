@@ -1,5 +1,5 @@
 -- A job whose input is well formed is answered.
-use Rattle.std.specs.Prelude.{◌≡◌, ◌⊎◌, ℕ, ◌+◌, ◌*◌, ◌<◌, ◌≤◌, Bool, true, is_some, List, Option, Some, None, option_map, length, slice_index}
+use Rattle.std.specs.Prelude.{◌≡◌, ◌≢◌, ◌⊎◌, ℕ, ◌+◌, ◌*◌, ◌<◌, ◌≤◌, Bool, true, is_some, List, Option, Some, None, option_map, length, slice_index}
 use Rattle.std.proofs.Common.{arith, refl, sym, ap, subst, ◌∙◌, inl, inr}
 use Rattle.exact_algebra.specs.Fraction.{rational}
 use Rattle.frac_core.specs.declared.frac128.Frac128.{Frac128}
@@ -18,23 +18,26 @@ use Rattle.rq_words.specs.declared.job.Job.{Job}
 use Rattle.rq_words.specs.declared.job.Job.TheVariants as jobs
 use Rattle.report_text.specs.ReportText.{value}
 use Rattle.report_text.specs.declared.report.Place.{Place}
+use Rattle.report_text.specs.declared.report.Place.TheVariants as places
 use Rattle.report_text.specs.declared.report.Refusal.{Refusal}
 use Rattle.report_text.specs.declared.report.Refusal.TheVariants as refusals
 use Rattle.report_text.specs.declared.report.Fit.{Fit}
+use Rattle.cert_checker.specs.declared.verdict.Rejection.{Rejection}
 use Rattle.report_text.specs.declared.report.Report.{Report}
 use Rattle.report_text.specs.declared.report.Report.TheVariants as reports
 use Rattle.report_text.specs.declared.report.Halt.TheVariants as halts
 use Rattle.rq_input.specs.Rows.{HasRows}
 use Rattle.rq_input.specs.declared.input.Input.{Input}
 use Rattle.rq_engine.specs.Answers as engine
-use Rattle.rq_engine.specs.Answers.{IsRight, IsFitOf, HasFitCause}
+use Rattle.rq_engine.specs.Answers.{IsRight, IsFitOf, HasFitCause, HasCertifyCause}
 use Rattle.rq_engine.specs.Built.{IsBuilt, IsJobOf}
 use Rattle.rq_cli.specs.Outcomes.{Stream, IsRun, IsAnswered, IsHalted, IsOutputFault, IsErrorFault, WereRead}
 use Rattle.rq_cli.specs.declared.outcome.Outcome.{Outcome}
-use Rattle.rq_cli.specs.declared.outcome.Outcome.TheVariants.{Done, Refused, Usage, SourceFault, SinkFault, OutOfMemory, PivotLimit, Overflow, NotBuilt}
+use Rattle.rq_cli.specs.declared.outcome.Outcome.TheVariants.{Done, Refused, Usage, SourceFault, SinkFault, OutOfMemory, PivotLimit, Overflow, Rejected, NotBuilt}
 use Rattle.stop_laws.proofs.Needed.{dependent, process_full}
+use Rattle.interval_laws.proofs.Needed.{interval_full}
 use Rattle.run_laws.specs.Completeness.{NoneRose, IsWellFormed, IsAnswer, IsLimitedInput, IsNoReport, IsUnfitted}
-use Rattle.run_laws.specs.NeededOutcomes.{AskFit, WasInput}
+use Rattle.run_laws.specs.NeededOutcomes.{IsFitJob, AskFit, WasInput, ReachesLimitAt}
 use Rattle.run_laws.proofs.Needed.{limit_needed, overflow_needed}
 
 -- ---- words
@@ -44,36 +47,25 @@ module _ (words : List (List ℕ)) where
   one_request : (job other : Job) → IsJobOf words job → IsJobOf words other → request_of job ≡ request_of other
   one_request job other asked again = cc (sym asked ∙ again)
 
-  no_rank : (a b : FitJob) → fit_request a ≡ fit_request b → b.rank ≡ None → a.rank ≡ None
-  no_rank a b same none = by a.rank (ap (λ (r : FitRequest). r.rank) same ∙ ap (option_map rank_request) none)
-    where
-      by : (o : Option RankAsk) → option_map rank_request o ≡ None → o ≡ None
-      by None h = refl
-      by (Some r) h = absurd (cc h)
-
   -- a job of these words is done where one is
   also_built : (job other : Job) → request_of job ≡ request_of other → IsBuilt other → IsBuilt job
-  also_built (jobs.Process a) (jobs.Process b) same built = no_rank a b (cc same) built
-  also_built (jobs.Process a) (jobs.Ranks b) same built = absurd (cc same)
-  also_built (jobs.Process a) (jobs.Certify b) same built = absurd built
-  also_built (jobs.Process a) jobs.Check same built = absurd built
-  also_built (jobs.Process a) (jobs.Sample b) same built = absurd built
+  also_built (jobs.Process a) other same built = tt
   also_built (jobs.Ranks a) other same built = tt
-  also_built (jobs.Certify a) (jobs.Process b) same built = absurd (cc same)
-  also_built (jobs.Certify a) (jobs.Ranks b) same built = absurd (cc same)
-  also_built (jobs.Certify a) (jobs.Certify b) same built = absurd built
-  also_built (jobs.Certify a) jobs.Check same built = absurd built
-  also_built (jobs.Certify a) (jobs.Sample b) same built = absurd built
-  also_built jobs.Check (jobs.Process b) same built = absurd (cc same)
-  also_built jobs.Check (jobs.Ranks b) same built = absurd (cc same)
-  also_built jobs.Check (jobs.Certify b) same built = absurd built
-  also_built jobs.Check jobs.Check same built = absurd built
-  also_built jobs.Check (jobs.Sample b) same built = absurd built
+  also_built (jobs.Certify a) other same built = tt
+  also_built jobs.Check other same built = tt
   also_built (jobs.Sample a) (jobs.Process b) same built = absurd (cc same)
   also_built (jobs.Sample a) (jobs.Ranks b) same built = absurd (cc same)
-  also_built (jobs.Sample a) (jobs.Certify b) same built = absurd built
-  also_built (jobs.Sample a) jobs.Check same built = absurd built
+  also_built (jobs.Sample a) (jobs.Certify b) same built = absurd (cc same)
+  also_built (jobs.Sample a) jobs.Check same built = absurd (cc same)
   also_built (jobs.Sample a) (jobs.Sample b) same built = absurd built
+
+  -- words that ask for a fit ask for no check
+  no_check : (job : Job) (fit : FitJob) (ranked : Bool) → IsFitJob job fit ranked → request_of jobs.Check ≡ request_of job → ⊥
+  no_check (jobs.Process a) fit ranked is same = absurd (cc same)
+  no_check (jobs.Ranks a) fit ranked is same = absurd (cc same)
+  no_check (jobs.Certify a) fit ranked is same = absurd (cc same)
+  no_check jobs.Check fit ranked is same = is
+  no_check (jobs.Sample a) fit ranked is same = is
 
 -- ---- an input that is well formed
 
@@ -97,17 +89,49 @@ module _ (words : List (List ℕ)) (source source' : Stream) (bytes : List ℕ) 
       by (refusals.Design fault) h = w.sound fit ranked asked (refusals.Design fault) h
       by (refusals.Penalty fault) h = w.sound fit ranked asked (refusals.Penalty fault) h
       by (refusals.Program fault) h = w.sound fit ranked asked (refusals.Program fault) h
+      by (refusals.CertTooLong length) h = w.sound fit ranked asked (refusals.CertTooLong length) h
+      by (refusals.Certificate fault) h = w.sound fit ranked asked (refusals.Certificate fault) h
 
-  not_refused : (refusal : Refusal) → ¬ IsHalted words source source' (halts.Refused refusal)
-  not_refused refusal h = by h.job h.read h.cause
+  -- the words ask for no check
+  unchecked : IsJobOf words jobs.Check → ⊥
+  unchecked asked = no_check words w.asked.job w.fit w.ranked w.asked.is (one_request words jobs.Check w.asked.job asked w.asked.asked)
+
+  fit_refused : (fit : FitJob) (ranked : Bool) (job : Job) → IsFitJob job fit ranked → (refusal : Refusal) (other : List ℕ) → WereRead words source source' job other → ¬ HasFitCause fit ranked other (halts.Refused refusal)
+  fit_refused fit ranked job is refusal other read cause =
+      sound fit ranked refusal other (were_told other read.whole) (record { job = job; asked = read.asked; built = read.built; is = is }) cause
+
+  -- the certificate that is too long aside, no certificate is refused but as a fit is
+  certify_refused : (fit : FitJob) (refusal : Refusal) → ((n : ℕ) → refusal ≢ refusals.CertTooLong n) → (other : List ℕ) → WereRead words source source' (jobs.Certify fit) other → ¬ HasCertifyCause fit other (halts.Refused refusal)
+  certify_refused fit (refusals.CertTooLong n) short other read cause = short n refl
+  certify_refused fit (refusals.Dependent combination) short other read cause = fit_refused fit (is_some fit.rank) (jobs.Certify fit) (refl, refl) (refusals.Dependent combination) other read cause
+  certify_refused fit refusals.TooLong short other read cause = fit_refused fit (is_some fit.rank) (jobs.Certify fit) (refl, refl) refusals.TooLong other read cause
+  certify_refused fit (refusals.Table fault) short other read cause = fit_refused fit (is_some fit.rank) (jobs.Certify fit) (refl, refl) (refusals.Table fault) other read cause
+  certify_refused fit (refusals.Formula fault) short other read cause = fit_refused fit (is_some fit.rank) (jobs.Certify fit) (refl, refl) (refusals.Formula fault) other read cause
+  certify_refused fit refusals.RankWithPenalty short other read cause = fit_refused fit (is_some fit.rank) (jobs.Certify fit) (refl, refl) refusals.RankWithPenalty other read cause
+  certify_refused fit (refusals.Design fault) short other read cause = fit_refused fit (is_some fit.rank) (jobs.Certify fit) (refl, refl) (refusals.Design fault) other read cause
+  certify_refused fit (refusals.Penalty fault) short other read cause = fit_refused fit (is_some fit.rank) (jobs.Certify fit) (refl, refl) (refusals.Penalty fault) other read cause
+  certify_refused fit (refusals.Program fault) short other read cause = fit_refused fit (is_some fit.rank) (jobs.Certify fit) (refl, refl) (refusals.Program fault) other read cause
+  certify_refused fit (refusals.Certificate fault) short other read cause = fit_refused fit (is_some fit.rank) (jobs.Certify fit) (refl, refl) (refusals.Certificate fault) other read cause
+
+  not_refused : (refusal : Refusal) → ((n : ℕ) → refusal ≢ refusals.CertTooLong n) → ¬ IsHalted words source source' (halts.Refused refusal)
+  not_refused refusal short h = by h.job h.read h.cause
     where
       by : (job : Job) → WereRead words source source' job h.bytes → engine.HasCause job h.bytes (halts.Refused refusal) → ⊥
-      by (jobs.Process fit) read cause =
-          sound fit (is_some fit.rank) refusal h.bytes (were_told h.bytes read.whole) (record { job = jobs.Process fit; asked = read.asked; built = read.built; is = (refl, refl) }) cause
-      by (jobs.Ranks fit) read cause =
-          sound fit true refusal h.bytes (were_told h.bytes read.whole) (record { job = jobs.Ranks fit; asked = read.asked; built = read.built; is = (refl, refl) }) cause
-      by (jobs.Certify fit) read cause = absurd cause
-      by jobs.Check read cause = absurd cause
+      by (jobs.Process fit) read cause = fit_refused fit (is_some fit.rank) (jobs.Process fit) (refl, refl) refusal h.bytes read cause
+      by (jobs.Ranks fit) read cause = fit_refused fit true (jobs.Ranks fit) (refl, refl) refusal h.bytes read cause
+      by (jobs.Certify fit) read cause = certify_refused fit refusal short h.bytes read cause
+      by jobs.Check read cause = unchecked read.asked
+      by (jobs.Sample job) read cause = absurd cause
+
+  -- and none is rejected
+  not_rejected : (rejection : Rejection) → ¬ IsHalted words source source' (halts.Rejected rejection)
+  not_rejected rejection h = by h.job h.read h.cause
+    where
+      by : (job : Job) → WereRead words source source' job h.bytes → engine.HasCause job h.bytes (halts.Rejected rejection) → ⊥
+      by (jobs.Process fit) read cause = absurd cause.2.cause
+      by (jobs.Ranks fit) read cause = absurd cause.2.cause
+      by (jobs.Certify fit) read cause = absurd cause.2.cause
+      by jobs.Check read cause = unchecked read.asked
       by (jobs.Sample job) read cause = absurd cause
 
   pub answered : (out out' err err' : Stream) (outcome : Outcome) → IsRun words source source' out out' err err' outcome → NoneRose source source' out out' err err' → IsAnswer words source source' bytes outcome
@@ -118,13 +142,15 @@ module _ (words : List (List ℕ)) (source source' : Stream) (bytes : List ℕ) 
           let a = run.cause in
           (a.job, a.read.asked, subst (λ b. IsRight a.job b report) (were_told a.bytes a.read.whole) a.right)
       by (Refused refusals.TooLong) run = absurd (short run.cause.came)
-      by (Refused (refusals.Table fault)) run = absurd (not_refused (refusals.Table fault) run.cause)
-      by (Refused (refusals.Formula fault)) run = absurd (not_refused (refusals.Formula fault) run.cause)
-      by (Refused refusals.RankWithPenalty) run = absurd (not_refused refusals.RankWithPenalty run.cause)
-      by (Refused (refusals.Design fault)) run = absurd (not_refused (refusals.Design fault) run.cause)
-      by (Refused (refusals.Penalty fault)) run = absurd (not_refused (refusals.Penalty fault) run.cause)
-      by (Refused (refusals.Program fault)) run = absurd (not_refused (refusals.Program fault) run.cause)
-      by (Refused (refusals.Dependent combination)) run = absurd (not_refused (refusals.Dependent combination) run.cause)
+      by (Refused (refusals.Table fault)) run = absurd (not_refused (refusals.Table fault) (λ n. λ e. cc e) run.cause)
+      by (Refused (refusals.Formula fault)) run = absurd (not_refused (refusals.Formula fault) (λ n. λ e. cc e) run.cause)
+      by (Refused refusals.RankWithPenalty) run = absurd (not_refused refusals.RankWithPenalty (λ n. λ e. cc e) run.cause)
+      by (Refused (refusals.Design fault)) run = absurd (not_refused (refusals.Design fault) (λ n. λ e. cc e) run.cause)
+      by (Refused (refusals.Penalty fault)) run = absurd (not_refused (refusals.Penalty fault) (λ n. λ e. cc e) run.cause)
+      by (Refused (refusals.Program fault)) run = absurd (not_refused (refusals.Program fault) (λ n. λ e. cc e) run.cause)
+      by (Refused (refusals.CertTooLong n)) run = run.cause
+      by (Refused (refusals.Certificate fault)) run = absurd (not_refused (refusals.Certificate fault) (λ n. λ e. cc e) run.cause)
+      by (Refused (refusals.Dependent combination)) run = absurd (not_refused (refusals.Dependent combination) (λ n. λ e. cc e) run.cause)
       by (Usage fault) run = absurd (cc (sym run.cause ∙ w.asked.asked))
       by SourceFault run = absurd (none.0 run.cause.1)
       by SinkFault run = failed run.cause
@@ -135,46 +161,60 @@ module _ (words : List (List ℕ)) (source source' : Stream) (bytes : List ℕ) 
       by OutOfMemory run = tt
       by (PivotLimit place limit trail) run = limit_needed words source source' place limit trail run.cause
       by (Overflow place trail spill) run = overflow_needed words source source' place trail spill run.cause
+      by (Rejected rejection) run = absurd (not_rejected rejection run.cause)
       by (NotBuilt part) run =
           absurd (run.cause.1.other (also_built words run.cause.1.job w.asked.job (one_request words run.cause.1.job w.asked.job run.cause.1.asked w.asked.asked) w.asked.built))
 
 -- ---- limits
 
 module _ (words : List (List ℕ)) (source source' : Stream) where
-  -- a right report is of a fit of an input that was read
-  report_fit : (report : Report) → IsAnswered words source source' report → (fit : FitJob) × (input : Input) × (f : Fit) × WasInput words source source' fit input × IsFitOf fit input f
-  report_fit report h = by h.job report h.read h.right
+  -- where the words ask for a fit, a right report is of a fit of an input that was read
+  report_fit : (first : FitJob) (kind : Bool) → AskFit words first kind → (report : Report) → IsAnswered words source source' report → (fit : FitJob) × (input : Input) × (f : Fit) × WasInput words source source' fit input × IsFitOf fit input f
+  report_fit first kind asked report h = by h.job report h.read h.right
     where
+      was : (fit : FitJob) (input : Input) (ranked : Bool) (job : Job) → IsFitJob job fit ranked → WereRead words source source' job h.bytes → IsInput fit ranked h.bytes input → WasInput words source source' fit input
+      was fit input ranked job is_job read is =
+          record { ranked = ranked; bytes = h.bytes; asked = record { job = job; asked = read.asked; built = read.built; is = is_job }; read = (job, read); is = is }
+
       by : (job : Job) (report : Report) → WereRead words source source' job h.bytes → IsRight job h.bytes report → (fit : FitJob) × (input : Input) × (f : Fit) × WasInput words source source' fit input × IsFitOf fit input f
-      by (jobs.Process fit) (reports.Process f) read right =
-          (fit, right.0, f, record { ranked = is_some fit.rank; bytes = h.bytes; asked = record { job = jobs.Process fit; asked = read.asked; built = read.built; is = (refl, refl) }; read = (jobs.Process fit, read); is = right.1 }, right.2)
-      by (jobs.Ranks fit) (reports.Ranks f) read right =
-          (fit, right.0, f.fit, record { ranked = true; bytes = h.bytes; asked = record { job = jobs.Ranks fit; asked = read.asked; built = read.built; is = (refl, refl) }; read = (jobs.Ranks fit, read); is = right.1 }, right.2.fit)
+      by (jobs.Process fit) (reports.Process f) read right = (fit, right.0, f, was fit right.0 (is_some fit.rank) (jobs.Process fit) (refl, refl) read right.1, right.2)
       by (jobs.Process fit) (reports.Ranks f) read right = absurd right
+      by (jobs.Process fit) (reports.Certificate c) read right = absurd right
+      by (jobs.Process fit) (reports.Checked c) read right = absurd right
       by (jobs.Ranks fit) (reports.Process f) read right = absurd right
-      by (jobs.Certify fit) report read right = absurd right
-      by jobs.Check report read right = absurd right
+      by (jobs.Ranks fit) (reports.Ranks f) read right = (fit, right.0, f.fit, was fit right.0 true (jobs.Ranks fit) (refl, refl) read right.1, right.2.fit)
+      by (jobs.Ranks fit) (reports.Certificate c) read right = absurd right
+      by (jobs.Ranks fit) (reports.Checked c) read right = absurd right
+      by (jobs.Certify fit) (reports.Process f) read right = absurd right
+      by (jobs.Certify fit) (reports.Ranks f) read right = absurd right
+      by (jobs.Certify fit) (reports.Certificate c) read right = (fit, right.0.0, right.0.2.fit, was fit right.0.0 (is_some fit.rank) (jobs.Certify fit) (refl, refl) read right.0.1, right.0.2.right)
+      by (jobs.Certify fit) (reports.Checked c) read right = absurd right
+      by jobs.Check (reports.Process f) read right = absurd right
+      by jobs.Check (reports.Ranks f) read right = absurd right
+      by jobs.Check (reports.Certificate c) read right = absurd right
+      by jobs.Check (reports.Checked c) read right = absurd (no_check words asked.job first kind asked.is (one_request words jobs.Check asked.job read.asked asked.asked))
       by (jobs.Sample job) report read right = absurd right
 
-  pub limited : (out out' err err' : Stream) (outcome : Outcome) → IsRun words source source' out out' err err' outcome
+  pub limited : (first : FitJob) (kind : Bool) → AskFit words first kind → (out out' err err' : Stream) (outcome : Outcome) → IsRun words source source' out out' err err' outcome
       → ((fit : FitJob) (input : Input) → WasInput words source source' fit input → IsLimitedInput fit input) → IsNoReport outcome
-  limited out out' err err' (Done report) run reaches =
-      let h = report_fit report run.cause in
+  limited first kind asked out out' err err' (Done report) run reaches =
+      let h = report_fit first kind asked report run.cause in
       h.4.right.unlimited (subst (λ (p : Problem Frac128). IsLimited {F = Frac128} value (sample value p) (rational (value h.0.lo)) (rational (value h.0.hi)) h.0.limit) (sym h.4.under.problem_is) (reaches h.0 h.1 h.3))
-  limited out out' err err' (Refused refusal) run reaches = tt
-  limited out out' err err' (Usage fault) run reaches = tt
-  limited out out' err err' SourceFault run reaches = tt
-  limited out out' err err' SinkFault run reaches = tt
-  limited out out' err err' OutOfMemory run reaches = tt
-  limited out out' err err' (PivotLimit place limit trail) run reaches = tt
-  limited out out' err err' (Overflow place trail spill) run reaches = tt
-  limited out out' err err' (NotBuilt part) run reaches = tt
+  limited first kind asked out out' err err' (Refused refusal) run reaches = tt
+  limited first kind asked out out' err err' (Usage fault) run reaches = tt
+  limited first kind asked out out' err err' SourceFault run reaches = tt
+  limited first kind asked out out' err err' SinkFault run reaches = tt
+  limited first kind asked out out' err err' OutOfMemory run reaches = tt
+  limited first kind asked out out' err err' (PivotLimit place limit trail) run reaches = tt
+  limited first kind asked out out' err err' (Overflow place trail spill) run reaches = tt
+  limited first kind asked out out' err err' (Rejected rejection) run reaches = tt
+  limited first kind asked out out' err err' (NotBuilt part) run reaches = tt
 
-  pub ample : (out out' err err' : Stream) (place : Place) (limit : ℕ) (trail : Trail Frac128)
+  pub ample : (out out' err err' : Stream) (limit : ℕ) (trail : Trail Frac128)
       → ((fit : FitJob) (input : Input) → WasInput words source source' fit input → HasRows input × ((2 * further_bases (sample value input.problem)) ≤ fit.limit))
-      → ¬ IsRun words source source' out out' err err' (PivotLimit place limit trail)
-  ample out out' err err' place limit trail long run =
-      let needed = limit_needed words source source' place limit trail run.cause in
+      → ¬ IsRun words source source' out out' err err' (PivotLimit places.Process limit trail)
+  ample out out' err err' limit trail long run =
+      let needed = limit_needed words source source' places.Process limit trail run.cause in
       let enough : HasRows needed.1 × ((2 * further_bases (sample value needed.1.problem)) ≤ needed.0.limit) = long needed.0 needed.1 needed.2 in
       let below : limit < 2 * further_bases (sample value needed.1.problem) = needed.3.below enough.0 in
       let shown : limit ≡ needed.0.limit = needed.3.shown in
@@ -182,19 +222,26 @@ module _ (words : List (List ℕ)) (source source' : Stream) where
 
   -- ---- dependent columns
 
-  pub unfitted : (out out' err err' : Stream) (outcome : Outcome) → IsRun words source source' out out' err err' outcome
+  -- where a trail reaches a limit, the columns are independent
+  limited_rank : (place : Place) (fit : FitJob) (input : Input) (limit : ℕ) (trail : Trail Frac128) → ReachesLimitAt place fit input limit trail → HasFullRank (sample value input.problem)
+  limited_rank places.Process fit input limit trail h = process_full value (sample value input.problem) (rational (value fit.lo)) (rational (value fit.hi)) limit trail h.reached
+  limited_rank (places.Interval column tau) fit input limit trail h = interval_full value (sample value input.problem) column (rational (value tau)) h.bound limit trail h.reached
+  limited_rank places.Check fit input limit trail h = absurd h
+
+  pub unfitted : (first : FitJob) (kind : Bool) → AskFit words first kind → (out out' err err' : Stream) (outcome : Outcome) → IsRun words source source' out out' err err' outcome
       → ((fit : FitJob) (input : Input) → WasInput words source source' fit input → ¬ HasFullRank (sample value input.problem)) → IsUnfitted outcome
-  unfitted out out' err err' (Done report) run dependent =
-      let h = report_fit report run.cause in
+  unfitted first kind asked out out' err err' (Done report) run dependent =
+      let h = report_fit first kind asked report run.cause in
       let end = h.4.right.results.ended in
       dependent h.0 h.1 h.3 (subst (λ (p : Problem Frac128). HasFullRank (sample value p)) h.4.under.problem_is (full_rank (sample value h.2.problem) (slice_index h.4.right.results.basis) end.a end.is_basis))
-  unfitted out out' err err' (PivotLimit place limit trail) run dependent =
+  unfitted first kind asked out out' err err' (PivotLimit place limit trail) run dependent =
       let needed = limit_needed words source source' place limit trail run.cause in
-      dependent needed.0 needed.1 needed.2 (process_full value (sample value needed.1.problem) (rational (value needed.0.lo)) (rational (value needed.0.hi)) limit trail needed.3.reached)
-  unfitted out out' err err' (Refused refusal) run dependent = tt
-  unfitted out out' err err' (Usage fault) run dependent = tt
-  unfitted out out' err err' SourceFault run dependent = tt
-  unfitted out out' err err' SinkFault run dependent = tt
-  unfitted out out' err err' OutOfMemory run dependent = tt
-  unfitted out out' err err' (Overflow place trail spill) run dependent = tt
-  unfitted out out' err err' (NotBuilt part) run dependent = tt
+      dependent needed.0 needed.1 needed.2 (limited_rank place needed.0 needed.1 limit trail needed.3)
+  unfitted first kind asked out out' err err' (Refused refusal) run dependent = tt
+  unfitted first kind asked out out' err err' (Usage fault) run dependent = tt
+  unfitted first kind asked out out' err err' SourceFault run dependent = tt
+  unfitted first kind asked out out' err err' SinkFault run dependent = tt
+  unfitted first kind asked out out' err err' OutOfMemory run dependent = tt
+  unfitted first kind asked out out' err err' (Overflow place trail spill) run dependent = tt
+  unfitted first kind asked out out' err err' (Rejected rejection) run dependent = tt
+  unfitted first kind asked out out' err err' (NotBuilt part) run dependent = tt

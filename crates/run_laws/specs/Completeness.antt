@@ -8,24 +8,23 @@ use Rattle.loss_model.specs.Problem.{sample}
 use Rattle.port_io.specs.Counts.{Rose}
 use Rattle.port_io.specs.Told.{most_bytes}
 use Rattle.pivot_bound.specs.BoundLaws.{further_bases}
-use Rattle.stop_laws.specs.NeededStops.{DoesOverflow}
 use Rattle.tau_process.specs.Stops.{IsLimited}
 use Rattle.rq_words.specs.declared.job.FitJob.{FitJob}
 use Rattle.rq_words.specs.declared.job.Job.{Job}
 use Rattle.report_text.specs.ReportText.{value}
-use Rattle.report_text.specs.declared.report.Place.{Place}
+use Rattle.report_text.specs.declared.report.Place.TheVariants as places
 use Rattle.report_text.specs.declared.report.Refusal.{Refusal}
+use Rattle.report_text.specs.declared.report.Refusal.TheVariants.{CertTooLong}
 use Rattle.report_text.specs.declared.report.Halt.TheVariants as halts
 use Rattle.rq_input.specs.Inputs.{HasInputCause, IsInput}
 use Rattle.rq_input.specs.Rows.{HasRows}
 use Rattle.rq_input.specs.declared.input.Input.{Input}
 use Rattle.rq_engine.specs.Answers.{IsRight}
 use Rattle.rq_engine.specs.Built.{IsJobOf}
-use Rattle.rq_engine.specs.Stops.{most}
-use Rattle.rq_cli.specs.Outcomes.{Stream, IsRun}
+use Rattle.rq_cli.specs.Outcomes.{Stream, IsRun, IsHalted}
 use Rattle.rq_cli.specs.declared.outcome.Outcome.{Outcome}
-use Rattle.rq_cli.specs.declared.outcome.Outcome.TheVariants.{Done, OutOfMemory, PivotLimit, Overflow}
-use Rattle.run_laws.specs.NeededOutcomes.{AskFit, WasInput, ReachesItsLimit}
+use Rattle.rq_cli.specs.declared.outcome.Outcome.TheVariants.{Done, Refused, OutOfMemory, PivotLimit, Overflow}
+use Rattle.run_laws.specs.NeededOutcomes.{AskFit, WasInput, ReachesLimitAt, OverflowsAt}
 
 -- no count of faults rose
 abbrev pub NoneRose : (source source' out out' err err' : Stream) → Type 0
@@ -43,12 +42,14 @@ pub record IsWellFormed (words : List (List ℕ)) (source : Stream) (bytes : Lis
   pub sound : (fit : FitJob) (ranked : Bool) → AskFit words fit ranked → (refusal : Refusal) → ¬ HasInputCause fit ranked bytes (halts.Refused refusal)
   pub rank : (fit : FitJob) (ranked : Bool) (input : Input) → AskFit words fit ranked → IsInput fit ranked bytes input → HasFullRank (sample value input.problem)
 
--- it has the right report, or reaches its limit, or an operation overflows; want of memory is the free answer
+-- it has the right report, or reaches its limit, or an operation overflows, or its certificate is too long; want of
+-- memory is the free answer
 abbrev pub IsAnswer : List (List ℕ) → (source source' : Stream) → List ℕ → Outcome → Type 0
 IsAnswer words source source' bytes (Done report) = (job : Job) × IsJobOf words job × IsRight job bytes report
 IsAnswer words source source' bytes (PivotLimit place limit trail) =
-    (fit : FitJob) × (input : Input) × WasInput words source source' fit input × ReachesItsLimit fit input limit trail
-IsAnswer words source source' bytes (Overflow place trail spill) = DoesOverflow value most spill
+    (fit : FitJob) × (input : Input) × WasInput words source source' fit input × ReachesLimitAt place fit input limit trail
+IsAnswer words source source' bytes (Overflow place trail spill) = OverflowsAt place spill
+IsAnswer words source source' bytes (Refused (CertTooLong n)) = IsHalted words source source' (halts.Refused (CertTooLong n))
 IsAnswer words source source' bytes OutOfMemory = ⊤
 IsAnswer words source source' bytes _ = ⊥
 
@@ -69,20 +70,20 @@ abbrev pub IsNoReport : Outcome → Type 0
 IsNoReport (Done report) = ⊥
 IsNoReport _ = ⊤
 
--- where one does, there is no report
+-- where one does, and the words ask for a fit, there is no report
 abbrev pub LimitIsAnswered : Type 0
 LimitIsAnswered =
-    (words : List (List ℕ)) (source source' out out' err err' : Stream) (outcome : Outcome)
-    → IsRun words source source' out out' err err' outcome
+    (words : List (List ℕ)) (source source' out out' err err' : Stream) (outcome : Outcome) (first : FitJob) (kind : Bool)
+    → AskFit words first kind → IsRun words source source' out out' err err' outcome
     → ((fit : FitJob) (input : Input) → WasInput words source source' fit input → IsLimitedInput fit input)
     → IsNoReport outcome
 
--- where no fewer pivots are allowed than twice the bases after the first, the limit stops nothing
+-- where no fewer pivots are allowed than twice the bases after the first, the limit doesn't stop the process
 abbrev pub AmpleLimitIsNeverReached : Type 0
 AmpleLimitIsNeverReached =
-    (words : List (List ℕ)) (source source' out out' err err' : Stream) (place : Place) (limit : ℕ) (trail : Trail Frac128)
+    (words : List (List ℕ)) (source source' out out' err err' : Stream) (limit : ℕ) (trail : Trail Frac128)
     → ((fit : FitJob) (input : Input) → WasInput words source source' fit input → HasRows input × ((2 * further_bases (sample value input.problem)) ≤ fit.limit))
-    → ¬ IsRun words source source' out out' err err' (PivotLimit place limit trail)
+    → ¬ IsRun words source source' out out' err err' (PivotLimit places.Process limit trail)
 
 -- the outcome is neither a report nor a limit
 abbrev pub IsUnfitted : Outcome → Type 0
@@ -90,10 +91,10 @@ IsUnfitted (Done report) = ⊥
 IsUnfitted (PivotLimit place limit trail) = ⊥
 IsUnfitted _ = ⊤
 
--- where the columns of the problem are dependent, it is neither
+-- where the words ask for a fit, and the columns of its problem are dependent, it is neither
 abbrev pub DependenceIsAnswered : Type 0
 DependenceIsAnswered =
-    (words : List (List ℕ)) (source source' out out' err err' : Stream) (outcome : Outcome)
-    → IsRun words source source' out out' err err' outcome
+    (words : List (List ℕ)) (source source' out out' err err' : Stream) (outcome : Outcome) (first : FitJob) (kind : Bool)
+    → AskFit words first kind → IsRun words source source' out out' err err' outcome
     → ((fit : FitJob) (input : Input) → WasInput words source source' fit input → ¬ HasFullRank (sample value input.problem))
     → IsUnfitted outcome

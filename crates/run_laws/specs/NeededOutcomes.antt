@@ -1,12 +1,14 @@
 -- Law. A run that stops for a limit, for an overflow or for dependent columns had to.
-use Rattle.std.specs.Prelude.{◌≡◌, ℕ, ◌*◌, ◌<◌, Bool, true, is_some, List}
+use Rattle.std.specs.Prelude.{◌≡◌, ℕ, ◌*◌, ◌<◌, Bool, true, is_some, List, ⊤}
 use Rattle.exact_algebra.specs.Fraction.{rational}
+use Rattle.exact_algebra.specs.Rational.{ℚ}
 use Rattle.frac_core.specs.declared.frac128.Frac128.{Frac128}
 use Rattle.loss_model.specs.declared.process.Trail.{Trail}
 use Rattle.loss_model.specs.declared.spill.Spill.{Spill}
 use Rattle.loss_model.specs.FullRank.{HasFullRank}
 use Rattle.loss_model.specs.Problem.{sample}
-use Rattle.walk_rule.specs.WalkTrails.{ReachesProcessLimit}
+use Rattle.pivot_rule.specs.Duals.{HasCosts}
+use Rattle.walk_rule.specs.WalkTrails.{ReachesProcessLimit, ReachesIntervalLimit}
 use Rattle.pivot_bound.specs.BoundLaws.{further_bases}
 use Rattle.stop_laws.specs.NeededStops.{DoesOverflow}
 use Rattle.rq_words.specs.declared.job.FitJob.{FitJob}
@@ -14,6 +16,7 @@ use Rattle.rq_words.specs.declared.job.Job.{Job}
 use Rattle.rq_words.specs.declared.job.Job.TheVariants as jobs
 use Rattle.report_text.specs.ReportText.{value}
 use Rattle.report_text.specs.declared.report.Place.{Place}
+use Rattle.report_text.specs.declared.report.Place.TheVariants as places
 use Rattle.report_text.specs.declared.report.Refusal.TheVariants.{Dependent}
 use Rattle.rq_input.specs.Inputs.{IsInput}
 use Rattle.rq_input.specs.Rows.{HasRows}
@@ -23,10 +26,11 @@ use Rattle.rq_engine.specs.Stops.{most}
 use Rattle.rq_cli.specs.Outcomes.{Stream, IsRun, WereRead}
 use Rattle.rq_cli.specs.declared.outcome.Outcome.TheVariants.{Refused, PivotLimit, Overflow}
 
--- the job is this fit of a table, with or without ranks
+-- the job is this fit of a table, with or without ranks, as a report or as a certificate
 abbrev pub IsFitJob : Job → FitJob → Bool → Type 0
 IsFitJob (jobs.Process job) fit ranked = (job ≡ fit) × (is_some job.rank ≡ ranked)
 IsFitJob (jobs.Ranks job) fit ranked = (job ≡ fit) × (true ≡ ranked)
+IsFitJob (jobs.Certify job) fit ranked = (job ≡ fit) × (is_some job.rank ≡ ranked)
 IsFitJob _ fit ranked = ⊥
 
 -- the words ask for it, and this version does the job
@@ -51,18 +55,37 @@ pub record ReachesItsLimit (fit : FitJob) (input : Input) (limit : ℕ) (trail :
   pub reached : ReachesProcessLimit value (sample value input.problem) (rational (value fit.lo)) (rational (value fit.hi)) limit trail
   pub below : HasRows input → limit < 2 * further_bases (sample value input.problem)
 
+-- so has that of the interval of a column at a quantile; and the limit is less than three times the bases after the
+-- first, where the rows have costs there
+pub record ReachesItsIntervalLimit (fit : FitJob) (input : Input) (column : ℕ) (tau : Frac128) (limit : ℕ) (trail : Trail Frac128) : Type 0 where
+  pub shown : limit ≡ fit.limit
+  pub bound : ℚ
+  pub reached : ReachesIntervalLimit value (sample value input.problem) (rational (value tau)) column bound limit trail
+  pub below : HasCosts (sample value input.problem) (rational (value tau)) → column < input.problem.columns → limit < 3 * further_bases (sample value input.problem)
+
+-- that of the place
+abbrev pub ReachesLimitAt : Place → FitJob → Input → ℕ → Trail Frac128 → Type 0
+ReachesLimitAt places.Process fit input limit trail = ReachesItsLimit fit input limit trail
+ReachesLimitAt (places.Interval column tau) fit input limit trail = ReachesItsIntervalLimit fit input column tau limit trail
+ReachesLimitAt _ fit input limit trail = ⊥
+
 -- PivotLimit comes only with such a trail
 abbrev pub LimitIsNeeded : Type 0
 LimitIsNeeded =
     (words : List (List ℕ)) (source source' out out' err err' : Stream) (place : Place) (limit : ℕ) (trail : Trail Frac128)
     → IsRun words source source' out out' err err' (PivotLimit place limit trail)
-    → (fit : FitJob) × (input : Input) × WasInput words source source' fit input × ReachesItsLimit fit input limit trail
+    → (fit : FitJob) × (input : Input) × WasInput words source source' fit input × ReachesLimitAt place fit input limit trail
 
--- Overflow comes only with an operation that overflows
+-- the operation overflows; of one of a certificate's tests the cause itself says so
+abbrev pub OverflowsAt : Place → Spill Frac128 → Type 0
+OverflowsAt places.Check spill = ⊤
+OverflowsAt _ spill = DoesOverflow value most spill
+
+-- Overflow of a fit comes only with an operation that overflows
 abbrev pub OverflowIsNeeded : Type 0
 OverflowIsNeeded =
     (words : List (List ℕ)) (source source' out out' err err' : Stream) (place : Place) (trail : Trail Frac128) (spill : Spill Frac128)
-    → IsRun words source source' out out' err err' (Overflow place trail spill) → DoesOverflow value most spill
+    → IsRun words source source' out out' err err' (Overflow place trail spill) → OverflowsAt place spill
 
 -- Dependent comes only where the columns of the problem are dependent
 abbrev pub DependenceIsNeeded : Type 0

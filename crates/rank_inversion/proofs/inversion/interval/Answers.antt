@@ -3,17 +3,15 @@ use Rattle.rank_inversion.specs.Inversions.{IsAskable}
 use Rattle.rank_inversion.proofs.Inverted.{exact_is, none_limited, stop_limited}
 use Rattle.rank_inversion.proofs.inversion.interval.Goals as goal
 
-pub by_parts-requires-after_bounds : goal.by_parts-requires-after_bounds
-by_parts-requires-after_bounds g c κs within =
+pub by_parts-requires-clause-asked : goal.by_parts-requires-clause-asked
+by_parts-requires-clause-asked g c κs within =
     record {
-      asked = record {
-        shaped = c.requires.shaped;
-        column = c.requires.column;
-        tau_above = c.requires.tau_above;
-        tau_below = c.requires.tau_below;
-        crit = c.requires.crit;
-        data_rows = c.requires.data;
-      };
+      shaped = c.requires.shaped;
+      column = c.requires.column;
+      tau_above = c.requires.tau_above;
+      tau_below = c.requires.tau_below;
+      crit = c.requires.crit;
+      data_rows = c.requires.data;
     }
 
 pub returns-in-Ok-clause-exact : goal.returns-in-Ok-clause-exact

@@ -1,0 +1,2 @@
+pub mod Spilled
+pub mod Needed
