@@ -1,0 +1,37 @@
+#!/usr/bin/env bash
+# Times rank intervals of all columns at the median on generated tables: the fit alone, and with the intervals, each the best of three
+# runs in seconds of a processor. Where R stands with its package quantreg, what rq.fit.br(ci = TRUE) takes on the same table follows,
+# reading not counted.
+#
+# usage: run.sh PROGRAM
+set -eu
+program=$1
+here=$(cd "$(dirname "$0")" && pwd)
+work=$(mktemp -d)
+trap 'rm -rf "$work"' EXIT
+
+# The least seconds of a processor of three runs of the words on the table, and the last status.
+seconds() {
+  local status
+  : > "$work/seconds"
+  for _ in 1 2 3; do
+    status=0
+    /usr/bin/time -q -o "$work/time" -f '%U' "$program" "$@" < "$work/table.csv" > "$work/out" 2> "$work/err" || status=$?
+    cat "$work/time" >> "$work/seconds"
+  done
+  printf '%s s (status %s)' "$(sort -g "$work/seconds" | head -1)" "$status"
+}
+
+with_r=$(command -v Rscript > "$work/nothing" && Rscript -e 'quit(status = !requireNamespace("quantreg", quietly = TRUE))' \
+  > "$work/nothing" 2>&1 && echo yes || true)
+
+for size in "100 4" "1000 4" "2000 4"; do
+  read -r rows columns <<< "$size"
+  awk -v number=1 -v rows="$rows" -v columns="$columns" -f "$here/../whole/make_table.awk" > "$work/table.csv"
+  fit=(process --formula "y ~ ." --lo 1/2 --hi 1/2)
+  printf '%s rows, %s columns: fit %s, ' "$rows" "$((columns + 1))" "$(seconds "${fit[@]}")"
+  printf 'with intervals %s, ' "$(seconds "${fit[@]}" --crit 2.7055 --rank-at 1/2)"
+  printf '%s intervals' "$(grep -c '^interval ' "$work/out" || true)"
+  [ -z "$with_r" ] || printf ', %s' "$(Rscript "$here/intervals.R" "$work/table.csv")"
+  printf '\n'
+done
