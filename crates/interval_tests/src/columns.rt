@@ -7,7 +7,7 @@ use crate::helpers::{Ratio, are_data, expect, fraction, is_shaped, problem, rati
 use basis_inverse::Inverse;
 use frac_core::{Exact, Frac64, Frac128};
 use loss_model::Problem;
-use rank_inversion::{Asked, GramInverse, RankTest, gram_inverse, rank_test};
+use rank_inversion::{Asked, GramInverse, gram_inverse, rank_test};
 use slow_ranks::Data;
 use std::alloc::{AllocError, Global};
 use std::process::Abort;
@@ -58,40 +58,32 @@ fn inverse_of_weighted_columns(rt: HostRuntime) -> Result<(), Fail> {
     Ok(())
 }
 
-/// The factors by which the other column projects one, and the squared length that it leaves. At 1/3 with 9/2 the
-/// bound is 9/2 * 1/3 * 2/3 times that, and so the same.
-struct Case {
-    column: u32,
-    factors: [Ratio; 2],
-    length: Ratio,
-}
+/// A column, the factors by which the other column projects it, and the squared length that it leaves. At 1/3 with
+/// 9/2 the bound is 9/2 * 1/3 * 2/3 times that, and so the same.
+type Case = (u32, [Ratio; 2], Ratio);
 
-static CASES: [Case; 2] = [
-    Case {
-        column: 0,
-        factors: [(0, 1), (31, 85)],
-        length: (229, 85),
-    },
-    Case {
-        column: 1,
-        factors: [(31, 14), (0, 1)],
-        length: (229, 14),
-    },
+const CASES: [Case; 2] = [
+    (0, [(0, 1), (31, 85)], (229, 85)),
+    (1, [(31, 14), (0, 1)], (229, 14)),
 ];
 
-fn expect_test<F: Exact>(rt: &impl Abort, alloc: Global, case: &Case) -> Result<(), AllocError> {
+fn expect_test<F: Exact>(
+    rt: &impl Abort,
+    alloc: Global,
+    (column, factors, length): Case,
+) -> Result<(), AllocError> {
     let rows = problem::<F>(rt, alloc, 2, WEIGHTED.as_slice())?;
     let asked = Asked {
-        column: case.column,
+        column,
         tau: fraction(rt, (1, 3)),
         crit: fraction(rt, (9, 2)),
     };
     let found = gram(rt, alloc, &rows);
     assert!(rt; asked.column < rows.columns);
     match rank_test(alloc, &rows, &found, asked) {
-        Ok(RankTest { factors, bound, .. }) => {
-            expect(rt, &factors, case.factors.as_slice());
-            assert!(rt; ratio(bound) == case.length);
+        Ok(test) => {
+            expect(rt, &test.factors, factors.as_slice());
+            assert!(rt; ratio(test.bound) == length);
         }
         Err(_) => panic!(rt; "the numbers are small"),
     }
@@ -100,7 +92,8 @@ fn expect_test<F: Exact>(rt: &impl Abort, alloc: Global, case: &Case) -> Result<
 
 #[test]
 fn tests_of_weighted_columns(rt: HostRuntime) -> Result<(), Fail> {
-    for case in &CASES {
+    let cases = CASES;
+    for case in cases {
         expect_test::<Frac128>(&rt, rt.alloc(), case)?;
         expect_test::<Frac64>(&rt, rt.alloc(), case)?;
     }

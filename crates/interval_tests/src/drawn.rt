@@ -87,6 +87,7 @@ fn try_column(
     }
     tested.compare(rt, alloc, whole(CRITICAL[draw(state, 6) as usize]), counts);
     let place = draw(state, 1000) as usize % count;
+    assert!(rt; place < tested.values.len());
     let tie = tested
         .test
         .tie(tested.values.as_slice(), tested.values[place]);

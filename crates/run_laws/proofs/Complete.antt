@@ -26,6 +26,7 @@ use Rattle.cert_checker.specs.declared.verdict.Rejection.{Rejection}
 use Rattle.report_text.specs.declared.report.Report.{Report}
 use Rattle.report_text.specs.declared.report.Report.TheVariants as reports
 use Rattle.report_text.specs.declared.report.Halt.TheVariants as halts
+use Rattle.rq_input.specs.Inputs.{IsInput}
 use Rattle.rq_input.specs.Rows.{HasRows}
 use Rattle.rq_input.specs.declared.input.Input.{Input}
 use Rattle.rq_engine.specs.Answers as engine

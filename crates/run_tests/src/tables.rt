@@ -167,7 +167,7 @@ static LARGE: [(&str, &str, usize, u8, &str); 8] = [
 ];
 
 // 64 ends of lines.
-static SPACE: &str =
+const SPACE: &str =
     "\n\n\n\n\n\n\n\n\n\n\n\n\n\n\n\n\n\n\n\n\n\n\n\n\n\n\n\n\n\n\n\n\n\n\n\n\n\n\n\n\n\n\n\n\n\n\n\n\n\n\n\n\n\n\n\n\n\n\n\n\n\n\n\n";
 
 fn repeated(alloc: Global, first: &str, piece: &str, count: usize) -> Result<String, Fail> {
