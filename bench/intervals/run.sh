@@ -1,5 +1,6 @@
 #!/usr/bin/env bash
-# Times rank intervals of all columns at the median on generated tables: the fit alone, and with the intervals, each the best of three
+# Times rank intervals of all columns at the median on generated tables of numbers below 16 (with larger ones the inverse of the Gram
+# matrix outgrows 128 bits): the fit alone, and with the intervals, each the best of three
 # runs in seconds of a processor. Where R stands with its package quantreg, what rq.fit.br(ci = TRUE) takes on the same table follows,
 # reading not counted.
 #
@@ -27,7 +28,8 @@ with_r=$(command -v Rscript > "$work/nothing" && Rscript -e 'quit(status = !requ
 
 for size in "100 4" "1000 4" "2000 4"; do
   read -r rows columns <<< "$size"
-  awk -v number=1 -v rows="$rows" -v columns="$columns" -f "$here/../whole/make_table.awk" > "$work/table.csv"
+  awk -v number=1 -v rows="$rows" -v columns="$columns" -f "$here/../whole/make_table.awk" |
+    awk -F , -v OFS=, 'NR > 1 { for (i = 1; i <= NF; i++) $i %= 16 } 1' > "$work/table.csv"
   fit=(process --formula "y ~ ." --lo 1/2 --hi 1/2)
   printf '%s rows, %s columns: fit %s, ' "$rows" "$((columns + 1))" "$(seconds "${fit[@]}")"
   printf 'with intervals %s, ' "$(seconds "${fit[@]}" --crit 2.7055 --rank-at 1/2)"
