@@ -8,6 +8,7 @@
 
 mod body;
 mod ends;
+mod parts;
 mod refusal;
 mod setting;
 mod solving;
