@@ -1,20 +1,25 @@
--- What a refused step, and a step at the limit, say of a solve.
-use Rattle.std.specs.Prelude.{◌≡◌, ℕ, ◌≤◌, length}
+-- What a refused step, and a step at the limit, say of a solve; and what a halt says of its stop.
+use Rattle.std.specs.Prelude.{◌≡◌, ℕ, ◌≤◌, length, Some}
 use Rattle.std.proofs.Common.{refl, sym, subst}
 use Rattle.exact_algebra.specs.Fraction.{Fraction}
 use Rattle.exact_algebra.specs.Rational.{ℚ}
 use Rattle.loss_model.specs.declared.process.Trail.{Trail}
+use Rattle.loss_model.specs.declared.spill.Spill.{Spill}
+use Rattle.loss_model.specs.declared.stop.Stop.{Stop}
+use Rattle.loss_model.specs.declared.stop.Stop.TheVariants.{OutOfMemory as StopForMemory, PivotLimit as StopAtLimit, Overflow as StopByOverflow}
 use Rattle.loss_model.specs.Problem.{sample}
 use Rattle.pivot_rule.specs.Steps.{IsSolvingStep}
 use Rattle.pivot_rule.specs.Trails.{AtBasis, IsSolvingTrail, ReachesLimit}
 use Rattle.tableau_model.specs.declared.refusal.Refusal.{Refusal}
+use Rattle.tableau_model.specs.declared.refusal.Refusal.TheVariants.{Overflow, TooWide}
 use Rattle.tableau_model.specs.declared.refusal.Failure.{Failure}
 use Rattle.tableau_model.specs.declared.refusal.Failure.TheVariants.{OutOfMemory, Of}
 use Rattle.tableau_model.specs.Places.{Place, Task, IsPlace, at_of, sample_of}
 use Rattle.tableau_model.specs.Questions.{Question, solving}
 use Rattle.tableau_model.specs.Refusals.{IsRefusalAt, IsRefusedOf}
 use Rattle.tableau.specs.declared.solving.Halt.{Halt}
-use Rattle.tableau.specs.Solving.{IsRefusal, IsHaltOf, IsHalted}
+use Rattle.tableau.specs.declared.solving.Halt.TheVariants.{OutOfMemory as NoMemory, PivotLimit, Refused}
+use Rattle.tableau.specs.Solving.{IsRefusal, IsHaltOf, IsHalted, stop_of}
 
 -- what holds of the inverse of a place holds at its basis
 pub at_place : {F : Type 0} (value : F → Fraction) (h : Place F) → IsPlace value h → (Q : (ℕ → ℕ → ℚ) → Type 0) → Q h.inverse → AtBasis (sample_of value h) h.rows Q
@@ -59,3 +64,13 @@ module _ {F : Type 0} (value : F → Fraction) (range : ℕ) (task : Task F) (th
         count = counted;
         more = at_place value h is_place (λ a. (j : ℕ) × (r : ℕ) × IsSolvingStep (sample_of value h) (at_of h) a theta j r) (j, r, step);
       })
+
+module _ {F : Type 0} (limit : ℕ) (D : Halt F → Type 0) where
+  -- what holds of the stop of a halt, by the halt's cause
+  pub by_halt : (Q : Stop F → Type 0) → Q StopForMemory → ((trail : Trail F) → D (PivotLimit trail) → Q (StopAtLimit limit trail))
+      → ((trail : Trail F) (spill : Spill F) → D (Refused trail (Overflow spill)) → Q (StopByOverflow trail spill))
+      → (h : Halt F) (s : Stop F) → stop_of limit h ≡ Some s → D h → Q s
+  by_halt Q memory reached spilled NoMemory s e h = let same : StopForMemory ≡ s = cc e in subst Q same memory
+  by_halt Q memory reached spilled (PivotLimit trail) s e h = let same : StopAtLimit limit trail ≡ s = cc e in subst Q same (reached trail h)
+  by_halt Q memory reached spilled (Refused trail (Overflow spill)) s e h = let same : StopByOverflow trail spill ≡ s = cc e in subst Q same (spilled trail spill h)
+  by_halt Q memory reached spilled (Refused trail TooWide) s e h = absurd (cc e)

@@ -1,11 +1,14 @@
 -- Inner. A solve over a tableau: in its midst, at its end, and why it halts.
-use Rattle.std.specs.Prelude.{◌≡◌, ◌+◌, ◌≤◌, ℕ, Bool, true, false, length}
+use Rattle.std.specs.Prelude.{◌≡◌, ◌+◌, ◌≤◌, ℕ, Bool, true, false, length, Option, Some, None}
 use Rattle.exact_algebra.specs.Fraction.{Fraction}
 use Rattle.exact_algebra.specs.Rational.{ℚ}
 use Rattle.loss_model.specs.declared.process.Trail.{Trail}
+use Rattle.loss_model.specs.declared.stop.Stop.{Stop}
+use Rattle.loss_model.specs.declared.stop.Stop.TheVariants.{OutOfMemory as StopForMemory, PivotLimit as StopAtLimit, Overflow as StopByOverflow}
 use Rattle.loss_model.specs.Problem.{sample}
 use Rattle.pivot_rule.specs.Trails.{IsSolvingTrail, ReachesLimit}
 use Rattle.tableau_model.specs.declared.refusal.Refusal.{Refusal}
+use Rattle.tableau_model.specs.declared.refusal.Refusal.TheVariants.{Overflow, TooWide}
 use Rattle.tableau_model.specs.declared.refusal.Failure.{Failure}
 use Rattle.tableau_model.specs.declared.refusal.Failure.TheVariants.{OutOfMemory as NoMemory, Of}
 use Rattle.tableau_model.specs.Places.{Place, Task, IsPlace, sample_of}
@@ -22,6 +25,13 @@ use Rattle.tableau.specs.Bodies.{place_of}
 abbrev pub IsHaltOf : {F : Type 0} → Failure F → Trail F → Halt F → Type 0
 IsHaltOf NoMemory trail halt = halt ≡ OutOfMemory
 IsHaltOf (Of r) trail halt = halt ≡ Halted trail r
+
+-- the stop of a job with this limit that a halt makes, where whole numbers aren't too wide
+abbrev pub stop_of : {F : Type 0} → ℕ → Halt F → Option (Stop F)
+stop_of limit OutOfMemory = Some StopForMemory
+stop_of limit (PivotLimit trail) = Some (StopAtLimit limit trail)
+stop_of limit (Halted trail (Overflow spill)) = Some (StopByOverflow trail spill)
+stop_of limit (Halted trail TooWide) = None
 
 module _ {F : Type 0} (value : F → Fraction) where
   -- a refusal of the question at the place, after which the trail is as before

@@ -1,10 +1,10 @@
-//! A basis as one of its bodies keeps it, and what the loops ask of it.
+//! A basis as one of the two bodies keeps it, and what the loops ask of it.
 ghost use Rattle.std.specs.Prelude.{◌≡◌, ◌≢◌, ◌<◌, ℕ, IfOk, IfErr, OnOk, length, slice_set, pos};
 ghost use Rattle.exact_algebra.specs.Fraction.{rational};
 ghost use Rattle.exact_algebra.specs.Rational.{ℚ, whole};
 ghost use Rattle.basis_model.specs.Basis.{coord};
 ghost use Rattle.pivot_rule.specs.Duals.{HasCosts};
-ghost use Rattle.tableau_model.specs.Places.{IsPlace, sample_of};
+ghost use Rattle.tableau_model.specs.Places.{IsPlace, in_wholes, sample_of};
 ghost use Rattle.tableau_model.specs.Questions.{Question, solving, walking, IsStepOf};
 ghost use Rattle.tableau_model.specs.Refusals.{IsRefusalAt, IsRefusedOf};
 ghost use Rattle.tableau_model.specs.Answers.{IsOptimalAt, IsSolvingAnswer, IsFitted};
@@ -16,21 +16,37 @@ use frac_core::Exact;
 use fraction_tableau::FractionTableau;
 use loss_model::{Basis, Exchange, Segment};
 use tableau_model::{Failure, Fitted, Step};
+use whole_tableau::{WholeTableau, failure};
 
-/// A basis of a problem, as its body keeps it.
+/// A basis of a problem, in fractions or in whole numbers.
 #[derive(Drop)]
-pub struct Tableau<'a, F: Exact> {
-    pub body: FractionTableau<'a, F>,
+pub enum Tableau<'a, F: Exact> {
+    Fractions(FractionTableau<'a, F>),
+    Wholes(WholeTableau<'a, F>),
 }
 
 impl<'a, F: Exact> Tableau<'a, F> {
+    /// The rows of the basis by position.
+    pub fn basis(&self) -> &Basis
+        ensures rows { result.now.rows ≡ (place_of F.value self.now).rows }
+        ensures place { IsPlace F.value (place_of F.value self.now) }
+    {
+        match self {
+            Tableau::Fractions(body) => body.basis(),
+            Tableau::Wholes(body) => body.basis(),
+        }
+    }
+
     /// The solving step at theta that is left, or none where no slope is negative.
     pub fn solving_step(&self, theta: F) -> Result<Option<Step>, Failure<F>>
         requires costs { HasCosts (sample_of F.value (place_of F.value self.now)) (rational (F.value theta)) }
         ensures step { IfOk result (IsSolvingAnswer F.value (place_of F.value self.now) (rational (F.value theta))) }
         ensures refused { IfErr result (IsRefusedOf (IsRefusalAt F.value F.range (place_of F.value self.now) (solving (rational (F.value theta))))) }
     {
-        self.body.solving_step(theta)
+        match self {
+            Tableau::Fractions(body) => body.solving_step(theta),
+            Tableau::Wholes(body) => body.solving_step(theta),
+        }
     }
 
     /// The vertex of the basis, where no slope is negative, with the dual values of its rows at theta.
@@ -40,7 +56,10 @@ impl<'a, F: Exact> Tableau<'a, F> {
         ensures fitted { IfOk result (IsFitted F.value (place_of F.value self.now) (rational (F.value theta))) }
         ensures refused { IfErr result (IsRefusedOf (IsRefusalAt F.value F.range (place_of F.value self.now) (solving (rational (F.value theta))))) }
     {
-        self.body.vertex(theta)
+        match self {
+            Tableau::Fractions(body) => body.vertex(theta),
+            Tableau::Wholes(body) => body.vertex(theta),
+        }
     }
 
     /// Lets a row take a position at which its coordinate isn't 0. What is refused is refused to each
@@ -54,7 +73,10 @@ impl<'a, F: Exact> Tableau<'a, F> {
         ensures rows { OnOk result ((place_of F.value self.new).rows ≡ slice_set (place_of F.value self.old).rows step.position step.row) }
         ensures refused { (asked : Question) → IsStepOf F.value (place_of F.value self.old) asked step.position step.row → IfErr result (IsRefusedOf (IsRefusalAt F.value F.range (place_of F.value self.old) asked)) }
     {
-        self.body.exchange(step)
+        match self {
+            Tableau::Fractions(body) => body.exchange(step),
+            Tableau::Wholes(body) => body.exchange(step),
+        }
     }
 
     /// The walking step from `from` on that is left below hi, or none.
@@ -64,7 +86,10 @@ impl<'a, F: Exact> Tableau<'a, F> {
         ensures step { IfOk result (IsWalkingAnswer F.value (place_of F.value self.now) (rational (F.value from)) (rational (F.value hi))) }
         ensures refused { IfErr result (IsRefusedOf (IsRefusalAt F.value F.range (place_of F.value self.now) (walking (rational (F.value from)) (rational (F.value hi))))) }
     {
-        self.body.walking_step(from, hi)
+        match self {
+            Tableau::Fractions(body) => body.walking_step(from, hi),
+            Tableau::Wholes(body) => body.walking_step(from, hi),
+        }
     }
 
     /// The segment of the basis from one quantile to another. What is refused is refused to each walk of
@@ -73,13 +98,25 @@ impl<'a, F: Exact> Tableau<'a, F> {
         ensures segment { IfOk result (IsSegmentHere F.value (place_of F.value self.now) (rational (F.value from)) (rational (F.value to))) }
         ensures refused { (hi : ℚ) → IsSegmentTo F.value (place_of F.value self.now) (rational (F.value from)) hi (rational (F.value to)) → IfErr result (IsRefusedOf (IsRefusalAt F.value F.range (place_of F.value self.now) (walking (rational (F.value from)) hi))) }
     {
-        self.body.segment(from, to)
+        match self {
+            Tableau::Fractions(body) => body.segment(from, to),
+            Tableau::Wholes(body) => body.segment(from, to),
+        }
     }
 
-    /// The basis by position, and the inverse of its rows.
-    pub fn into_parts(self) -> (Basis, Inverse<F>)
-        ensures { IsTaken F.value (place_of F.value self.entry) result.0.rows result.1 }
+    /// The basis by position, and the inverse of its rows. Whole numbers refuse where an entry of it is too wide
+    /// for a fraction.
+    pub fn into_parts(self) -> Result<(Basis, Inverse<F>), Failure<F>>
+        ensures taken { IfOk result (λ parts. IsTaken F.value (place_of F.value self.entry) parts.0.rows parts.1) }
+        ensures body { IfErr result (λ e. (place_of F.value self.entry).task.body ≡ in_wholes) }
+        ensures refused { (asked : Question) → IfErr result (IsRefusedOf (IsRefusalAt F.value F.range (place_of F.value self.entry) asked)) }
     {
-        self.body.into_parts()
+        match self {
+            Tableau::Fractions(body) => Ok(body.into_parts()),
+            Tableau::Wholes(body) => match body.into_parts() {
+                Ok(parts) => Ok(parts),
+                Err(obstacle) => Err(failure(obstacle)),
+            },
+        }
     }
 }

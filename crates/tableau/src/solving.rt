@@ -2,14 +2,15 @@
 ghost use Rattle.std.specs.Prelude.{◌≡◌, ℕ, ◌≤◌, length, map, Some, IfOk, IfErr, OnOk};
 ghost use Rattle.exact_algebra.specs.Fraction.{rational};
 ghost use Rattle.loss_model.specs.Problem.{IsWellShaped};
+ghost use Rattle.loss_model.specs.Greedy.{IsGreedyBasis};
 ghost use Rattle.loss_model.specs.StartStop.{IsStartStop};
 ghost use Rattle.pivot_rule.specs.Duals.{HasCosts};
-ghost use Rattle.tableau_model.specs.Places.{in_fractions, sample_of};
+ghost use Rattle.tableau_model.specs.Places.{in_fractions, in_wholes, sample_of};
 ghost use Rattle.tableau_model.specs.Questions.{solving, IsStepOf};
 ghost use Rattle.tableau_model.specs.Refusals.{IsRefusedOf};
 ghost use Rattle.tableau_model.specs.Answers.{IsOptimalAt};
 ghost use Rattle.tableau.specs.Bodies.{place_of};
-ghost use Rattle.tableau.specs.Solving.{IsBegun, IsUnderway, IsAdvance, IsAdvanceOrEnd, IsRefusal, IsSolved, IsSolution, IsHalted, IsHaltOf};
+ghost use Rattle.tableau.specs.Solving.{IsBegun, IsUnderway, IsAdvance, IsAdvanceOrEnd, IsRefusal, IsSolved, IsSolution, IsHalted, IsHaltOf, stop_of};
 
 use crate::bodies::Tableau;
 use frac_core::{Exact, List, OutOfMemory};
@@ -17,6 +18,8 @@ use fraction_tableau::FractionTableau;
 use loss_model::{Exchange, Problem, Stop, Trail};
 use std::alloc::Global;
 use tableau_model::{Failure, Fitted, Refusal, Step};
+use whole_inverse::Obstacle;
+use whole_tableau::WholeTableau;
 
 /// A tableau, and the trail that leads to its basis.
 #[derive(Drop)]
@@ -57,7 +60,7 @@ fn full_start(alloc: Global, rows: &[u32]) -> Result<List<Option<u32>>, OutOfMem
 }
 
 /// The halt of a loop for what refused its next step.
-pub(crate) fn halt_of<F: Exact>(refused: Failure<F>, trail: Trail<F>) -> Halt<F>
+pub fn halt_of<F: Exact>(refused: Failure<F>, trail: Trail<F>) -> Halt<F>
     ensures { IsHaltOf refused trail result }
 {
     match refused {
@@ -66,17 +69,30 @@ pub(crate) fn halt_of<F: Exact>(refused: Failure<F>, trail: Trail<F>) -> Halt<F>
     }
 }
 
+/// The stop of a job with this limit for which its loop halted. There is none where whole numbers are too wide: the
+/// job is done again in fractions.
+pub fn stop_of<F: Exact>(halt: Halt<F>, limit: u32) -> Option<Stop<F>>
+    ensures { result ≡ stop_of limit halt }
+{
+    match halt {
+        Halt::OutOfMemory => Some(Stop::OutOfMemory),
+        Halt::PivotLimit { trail } => Some(Stop::PivotLimit { limit, trail }),
+        Halt::Refused { trail, refusal } => match refusal {
+            Refusal::Overflow(spill) => Some(Stop::Overflow { trail, spill }),
+            Refusal::TooWide => None,
+        },
+    }
+}
+
 impl<'a, F: Exact> Progress<'a, F> {
-    /// The greedy start of a problem, in fractions.
-    pub fn begin(alloc: Global, problem: &'a Problem<F>) -> Result<Progress<'a, F>, Stop<F>>
-        requires shaped { IsWellShaped problem.now }
-        ensures begun { IfOk result (IsBegun F.value (record { problem = problem.now; body = in_fractions })) }
-        ensures stopped { IfErr result (IsStartStop F.value F.range problem.now) }
+    /// A greedy basis with the trail of a start.
+    fn at_start(alloc: Global, tableau: Tableau<'a, F>) -> Result<Progress<'a, F>, OutOfMemory>
+        requires greedy { IsGreedyBasis (sample_of F.value (place_of F.value tableau)) (place_of F.value tableau).rows }
+        ensures begun { IfOk result (IsBegun F.value (place_of F.value tableau.entry).task) }
     {
-        let body = FractionTableau::begin(alloc, problem)?;
-        let start = full_start(alloc, body.basis().rows.as_slice())?;
+        let start = full_start(alloc, tableau.basis().rows.as_slice())?;
         Ok(Progress {
-            tableau: Tableau { body },
+            tableau,
             trail: Trail {
                 start,
                 steps: List::new(alloc),
@@ -84,6 +100,30 @@ impl<'a, F: Exact> Progress<'a, F> {
                 fall: List::new(alloc),
             },
         })
+    }
+
+    /// The greedy start of a problem, in fractions.
+    pub fn begin(alloc: Global, problem: &'a Problem<F>) -> Result<Progress<'a, F>, Stop<F>>
+        requires shaped { IsWellShaped problem.now }
+        ensures begun { IfOk result (IsBegun F.value (record { problem = problem.now; body = in_fractions })) }
+        ensures stopped { IfErr result (IsStartStop F.value F.range problem.now) }
+    {
+        let body = FractionTableau::begin(alloc, problem)?;
+        let begun = Progress::at_start(alloc, Tableau::Fractions(body))?;
+        Ok(begun)
+    }
+
+    /// The greedy start of a problem, in whole numbers. They refuse too where the columns are dependent.
+    pub fn begin_in_wholes(
+        alloc: Global,
+        problem: &'a Problem<F>,
+    ) -> Result<Progress<'a, F>, Obstacle>
+        requires shaped { IsWellShaped problem.now }
+        ensures begun { IfOk result (IsBegun F.value (record { problem = problem.now; body = in_wholes })) }
+    {
+        let body = WholeTableau::begin(alloc, problem)?;
+        let begun = Progress::at_start(alloc, Tableau::Wholes(body))?;
+        Ok(begun)
     }
 
     /// Makes the solving step. After a refusal the trail is as before.

@@ -17,4 +17,5 @@ mod vertex;
 mod walking;
 
 pub use body::WholeTableau;
+pub use refusal::failure;
 pub use setting::{Setting, setting_of};

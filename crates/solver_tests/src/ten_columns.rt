@@ -1,0 +1,161 @@
+//! One hundred drawn rows of ten columns of three-digit numbers. Fractions of 128 bits overflow on the way.
+//!
+//! The figures come from another computation, of the optimal bases in fractions of any length.
+
+use crate::helpers::{Ratio, draw, expect, fraction, ratio, solve, walk};
+use br_pivot::Optimum;
+use frac_core::{Exact, Frac128, List};
+use loss_model::{Problem, Process, Row, Segment};
+use std::alloc::{AllocError, Global};
+use std::num::Wrapping;
+use std::process::Abort;
+use std::test::Fail;
+
+/// A number from 100 to 999.
+fn drawn(rt: &impl Abort, state: &mut u32) -> Frac128 {
+    let below = draw(state, 900);
+    fraction(rt, (i128::from(below) + 100, 1))
+}
+
+fn drawn_row(rt: &impl Abort, alloc: Global, state: &mut u32) -> Result<Row<Frac128>, AllocError> {
+    let mut x = Vec::new(alloc);
+    for _ in 0..10 {
+        x.push(drawn(rt, state))?;
+    }
+    Ok(Row {
+        x: List::from(x),
+        y: drawn(rt, state),
+        up0: fraction(rt, (0, 1)),
+        up1: fraction(rt, (1, 1)),
+        down0: fraction(rt, (1, 1)),
+        down1: fraction(rt, (-1, 1)),
+    })
+}
+
+fn drawn_table(rt: &impl Abort, alloc: Global) -> Result<Problem<Frac128>, AllocError> {
+    let mut state = 7;
+    let mut rows = Vec::new(alloc);
+    for _ in 0..100 {
+        rows.push(drawn_row(rt, alloc, &mut state)?)?;
+    }
+    Ok(Problem {
+        columns: 10,
+        rows: List::from(rows),
+    })
+}
+
+/// The optimal basis at 1/2.
+static BASIS: [u32; 10] = [2, 16, 28, 35, 36, 48, 58, 69, 75, 78];
+
+/// The coefficients, and the dual values of the basis.
+static COEF: [Ratio; 10] = [
+    (-2328295557950456683258044166, 27679504009935307584102287197),
+    (-4593435720156088333602143099, 27679504009935307584102287197),
+    (5095065421284911279942210457, 27679504009935307584102287197),
+    (-3291157111459456543700005268, 27679504009935307584102287197),
+    (7475354314749109906581519312, 27679504009935307584102287197),
+    (3177635801942533122081451031, 27679504009935307584102287197),
+    (2930711994641700748034897391, 27679504009935307584102287197),
+    (1471288959799990270819276195, 3954214858562186797728898171),
+    (5599749269155884361639631906, 27679504009935307584102287197),
+    (2604571471693308145031289925, 27679504009935307584102287197),
+];
+
+static BASIC: [Ratio; 10] = [
+    (13504176469488568389950290793, 55359008019870615168204574394),
+    (2290560250345181555733044967, 55359008019870615168204574394),
+    (22737686560874243011565229757, 55359008019870615168204574394),
+    (2616521009793627230142463027, 7908429717124373595457796342),
+    (
+        -26078591722008330632751147877,
+        55359008019870615168204574394,
+    ),
+    (-262134147092448170750843161, 3954214858562186797728898171),
+    (1234766496386200818102070300, 27679504009935307584102287197),
+    (26012576557153923323293895197, 55359008019870615168204574394),
+    (6249501832613396731779619049, 27679504009935307584102287197),
+    (11117588799420701660123670157, 55359008019870615168204574394),
+];
+
+fn median(rt: &impl Abort, alloc: Global) -> Result<Optimum<Frac128>, AllocError> {
+    let table = drawn_table(rt, alloc)?;
+    match solve(rt, alloc, &table, fraction(rt, (1, 2)), 1000) {
+        Ok(solved) => Ok(solved),
+        Err(_) => panic!(rt; "every number of the answer has 128 bits"),
+    }
+}
+
+#[test]
+fn ten_columns_at_the_median(rt: HostRuntime) -> Result<(), Fail> {
+    let solved = median(&rt, rt.alloc())?;
+    assert!(&rt; solved.vertex.basis.rows.as_slice() == BASIS.as_slice());
+    expect(&rt, &solved.vertex.coef, COEF.as_slice());
+    expect(&rt, &solved.basic, BASIC.as_slice());
+    assert!(&rt; solved.trail.steps.as_slice().len() == 21);
+    Ok(())
+}
+
+/// The numbers that were put to it, as the digits of one to the base 31, modulo 2^128.
+#[derive(Clone, Copy)]
+struct Digest {
+    sum: Wrapping<i128>,
+}
+
+impl Digest {
+    fn put(&mut self, number: i128) {
+        self.sum = self.sum * Wrapping(31) + Wrapping(number);
+    }
+
+    fn put_value(&mut self, value: Frac128) {
+        let (n, d) = ratio(value);
+        self.put(n);
+        self.put(d);
+    }
+
+    fn put_values(&mut self, values: &[Frac128]) {
+        for value in values {
+            self.put_value(*value);
+        }
+    }
+
+    /// The rows of the basis, each over 1.
+    fn put_rows(&mut self, rows: &[u32]) {
+        for row in rows {
+            self.put(i128::from(*row));
+            self.put(1);
+        }
+    }
+
+    /// All numbers of a segment.
+    fn put_segment(&mut self, segment: &Segment<Frac128>) {
+        self.put_value(segment.lo);
+        self.put_value(segment.hi);
+        self.put_rows(segment.vertex.basis.rows.as_slice());
+        self.put_values(segment.vertex.coef.as_slice());
+        self.put_values(segment.basic_lo.as_slice());
+        self.put_value(segment.loss_lo);
+        self.put_values(segment.basic_hi.as_slice());
+        self.put_value(segment.loss_hi);
+    }
+}
+
+fn whole_range(rt: &impl Abort, alloc: Global) -> Result<Process<Frac128>, AllocError> {
+    let table = drawn_table(rt, alloc)?;
+    match walk(rt, alloc, &table, (Frac128::zero(), Frac128::one()), 10000) {
+        Ok(process) => Ok(process),
+        Err(_) => panic!(rt; "every number of the answer has 128 bits"),
+    }
+}
+
+#[test]
+fn ten_columns_over_the_whole_range(rt: HostRuntime) -> Result<(), Fail> {
+    let process = whole_range(&rt, rt.alloc())?;
+    let segments = process.segments.as_slice();
+    assert!(&rt; segments.len() == 191);
+    let mut digest = Digest { sum: Wrapping(0) };
+    for segment in segments {
+        digest.put_segment(segment);
+    }
+    assert!(&rt; digest.sum == Wrapping(-154740919401848602660529040559435777711));
+    Ok(())
+}
