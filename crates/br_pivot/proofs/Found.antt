@@ -13,12 +13,12 @@ use Rattle.pivot_rule.specs.Steps.{HasNoNegativeSlope}
 use Rattle.pivot_rule.specs.Trails.{IsSolvingTrail}
 use Rattle.pivot_rule.specs.Results.{IsVertexAt, AreBasicDuals}
 use Rattle.pivot_rule.proofs.Solved.{vertex_is_optimal}
-use Rattle.tableau_model.specs.Places.{Place, Task, in_fractions}
+use Rattle.tableau_model.specs.Places.{Place}
 use Rattle.tableau.specs.declared.solving.Solution.{Solution}
 use Rattle.tableau.specs.Bodies.{place_of, IsTaken}
 use Rattle.tableau.specs.Solving.{IsSolution as IsFound}
 use Rattle.br_pivot.specs.declared.solve.Optimum.{Optimum}
-use Rattle.br_pivot.specs.Solutions.{IsSolution}
+use Rattle.br_pivot.specs.Answers.{IsOptimum}
 
 module _ {F : Type 0} (value : F → Fraction) (theta : ℚ) (limit : ℕ) (s : Solution F) (basis : Basis) (square : Square F) where
   abbrev p : Problem F
@@ -33,19 +33,21 @@ module _ {F : Type 0} (value : F → Fraction) (theta : ℚ) (limit : ℕ) (s : 
   at_taken t Q holds =
       subst (λ rows. Q rows (inverse_entry value square)) (sym t.same) (subst (λ a. Q (place_of value s.reached.tableau).rows a) (sym t.entries) holds)
 
-  pub found : (task : Task F) → (place_of value s.reached.tableau).task ≡ task → HasCosts (sample value task.problem) theta → IsFound value task theta limit s
-      → IsTaken value (place_of value s.reached.tableau) basis.rows square → IsSolution value task.problem theta (record { vertex = s.fitted.vertex; basic = s.fitted.basic; inverse = square; basis = basis; trail = s.reached.trail })
-  found task same costs h t =
+  -- the solution with them is one within the limit
+  pub found : HasCosts (sample value p) theta → IsFound value (place_of value s.reached.tableau).task theta limit s → IsTaken value (place_of value s.reached.tableau) basis.rows square → IsOptimum value p theta limit made
+  found costs h t =
       let under = h.solved.underway in
       let optimal = vertex_is_optimal value p theta (place_of value s.reached.tableau).rows (place_of value s.reached.tableau).inverse s.fitted.vertex s.fitted.basic under.is_place.size under.is_place.is_basis
-      h.fitted.vertex h.fitted.basic (subst (λ (x : Task F). HasCosts (sample value x.problem) theta) (sym same) costs) h.solved.stop in
-      subst (λ (x : Task F). IsSolution value x.problem theta made) same
-      (record {
-        minimises = minimum (sample value p) theta (value_at value s.fitted.vertex.coef) _ optimal;
-        dual = optimal;
-        lawful = at_taken t (λ rows a. IsSolvingTrail value (sample value p) theta s.reached.trail rows) under.lawful;
-        inverse = t.inverse;
-        stop = at_taken t (λ rows a. HasNoNegativeSlope (sample value p) (slice_index rows) a theta) h.solved.stop;
-        vertex = at_taken t (λ rows a. IsVertexAt value p rows a s.fitted.vertex) h.fitted.vertex;
-        basic = at_taken t (λ rows a. AreBasicDuals value p theta rows a s.fitted.vertex s.fitted.basic) h.fitted.basic;
-      })
+      h.fitted.vertex h.fitted.basic costs h.solved.stop in
+      record {
+        solution = record {
+          minimises = minimum (sample value p) theta (value_at value s.fitted.vertex.coef) _ optimal;
+          dual = optimal;
+          lawful = at_taken t (λ rows a. IsSolvingTrail value (sample value p) theta s.reached.trail rows) under.lawful;
+          inverse = t.inverse;
+          stop = at_taken t (λ rows a. HasNoNegativeSlope (sample value p) (slice_index rows) a theta) h.solved.stop;
+          vertex = at_taken t (λ rows a. IsVertexAt value p rows a s.fitted.vertex) h.fitted.vertex;
+          basic = at_taken t (λ rows a. AreBasicDuals value p theta rows a s.fitted.vertex s.fitted.basic) h.fitted.basic;
+        };
+        short = h.solved.short;
+      }

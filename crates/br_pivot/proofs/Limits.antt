@@ -1,6 +1,6 @@
 -- Where a trail reaches the limit, the answer is neither a solution nor a dependence.
 use Rattle.std.specs.Prelude.{◌≡◌, ℕ, ◌≤◌, length, slice_index}
-use Rattle.std.proofs.Common.{Result, Err, sym, subst}
+use Rattle.std.proofs.Common.{Result, Ok, Err, inl}
 use Rattle.exact_algebra.specs.Fraction.{Fraction}
 use Rattle.exact_algebra.specs.Rational.{ℚ}
 use Rattle.loss_model.specs.declared.problem.Problem.{Problem}
@@ -13,23 +13,32 @@ use Rattle.pivot_rule.specs.Duals.{HasCosts}
 use Rattle.pivot_rule.proofs.Solved.{full_rank}
 use Rattle.pivot_rule.proofs.Unique.{one_trail}
 use Rattle.br_pivot.specs.declared.solve.Optimum.{Optimum}
+use Rattle.br_pivot.specs.Answers.{IsOptimum, IsAnswer}
 use Rattle.br_pivot.specs.Solutions.{IsSolution}
 use Rattle.br_pivot.specs.Solves.{IsLimited, IsLimitAnswer}
 use Rattle.fraction_tableau.proofs.Inverses.{basis_of, ends_of}
 
-pub solution_limited : {F : Type 0} (value : F → Fraction) (p : Problem F) (theta : ℚ) (limit : ℕ) (s : Optimum F) → HasCosts (sample value p) theta → IsSolution value p theta s → length s.trail.steps ≤ limit → ¬ IsLimited value (sample value p) theta limit
-solution_limited {F} value p theta limit s costs h short (trail, reached) =
-    one_trail value (sample value p) theta costs s.trail trail s.basis.rows limit h.lawful
-    (record { size = h.inverse.size; a = inverse_entry value s.inverse; is_basis = basis_of value p s.basis.rows s.inverse h.inverse; ends = ends_of value p s.basis.rows s.inverse h.inverse; holds = h.stop })
-    short reached
+module _ {F : Type 0} (value : F → Fraction) (range : ℕ) (p : Problem F) (theta : ℚ) (limit : ℕ) where
+  solution_limited : (s : Optimum F) → HasCosts (sample value p) theta → IsSolution value p theta s → length s.trail.steps ≤ limit → ¬ IsLimited value (sample value p) theta limit
+  solution_limited s costs h short (trail, reached) =
+      one_trail value (sample value p) theta costs s.trail trail s.basis.rows limit h.lawful
+      (record { size = h.inverse.size; a = inverse_entry value s.inverse; is_basis = basis_of value p s.basis.rows s.inverse h.inverse; ends = ends_of value p s.basis.rows s.inverse h.inverse; holds = h.stop })
+      short reached
 
-pub start_limited : {A F : Type 0} (value : F → Fraction) (range : ℕ) (p : Problem F) (theta : ℚ) (limit : ℕ) (r : Result A (Stop F)) (e : Stop F) → r ≡ Err e → IsStartStop value range p e → IsLimited value (sample value p) theta limit → IsLimitAnswer r
-start_limited {A} {F} value range p theta limit r e is h reached = subst IsLimitAnswer (sym is) (by e h)
-  where
-    by : (e : Stop F) → IsStartStop value range p e → IsLimitAnswer {A = A} (Err e)
-    by OutOfMemory h = tt
-    by (PivotLimit shown trail) h = tt
-    by (Overflow trail spill) h = tt
-    by (Dependent combination) h =
-        let more = reached.1.more in
-        h.dependence.some (full_rank (sample value p) (slice_index reached.1.basis) more.a more.is_basis (value_at value combination) h.dependence.zero h.dependence.column h.dependence.within)
+  -- a solution within the limit is an answer
+  pub optimum_answers : HasCosts (sample value p) theta → (s : Optimum F) → IsOptimum value p theta limit s → IsAnswer value range p theta limit (Ok s)
+  optimum_answers costs s h = record { optimum = h; stopped = tt; limited = solution_limited s costs h.solution h.short }
+
+  -- and so is the stop of a start
+  pub start_answers : (e : Stop F) → IsStartStop value range p e → IsAnswer value range p theta limit (Err e)
+  start_answers OutOfMemory h = record { optimum = tt; stopped = tt; limited = λ reached. tt }
+  start_answers (PivotLimit shown trail) h = absurd h
+  start_answers (Overflow trail spill) h = record { optimum = tt; stopped = inl h; limited = λ reached. tt }
+  start_answers (Dependent combination) h =
+      record {
+        optimum = tt;
+        stopped = h;
+        limited = λ reached.
+            let more = reached.1.more in
+            h.dependence.some (full_rank (sample value p) (slice_index reached.1.basis) more.a more.is_basis (value_at value combination) h.dependence.zero h.dependence.column h.dependence.within);
+      }

@@ -1,15 +1,23 @@
--- Inner. The stop of a solve as its answer.
-use Rattle.std.specs.Prelude.{ℕ}
-use Rattle.std.proofs.Common.{Err}
+-- Inner. What is answered to a solve.
+use Rattle.std.specs.Prelude.{ℕ, ◌≤◌, length, IfOk, IfErr}
+use Rattle.std.proofs.Common.{Result}
 use Rattle.exact_algebra.specs.Fraction.{Fraction}
 use Rattle.exact_algebra.specs.Rational.{ℚ}
 use Rattle.loss_model.specs.declared.problem.Problem.{Problem}
 use Rattle.loss_model.specs.declared.stop.Stop.{Stop}
 use Rattle.loss_model.specs.Problem.{sample}
 use Rattle.br_pivot.specs.declared.solve.Optimum.{Optimum}
+use Rattle.br_pivot.specs.Solutions.{IsSolution}
 use Rattle.br_pivot.specs.Solves.{IsSolveStop, IsLimited, IsLimitAnswer}
 
--- it has its cause, and is no dependence where a trail reaches the limit
-pub record IsStopAnswer {F : Type 0} (value : F → Fraction) (range : ℕ) (p : Problem F) (theta : ℚ) (limit : ℕ) (stop : Stop F) : Type 0 where
-  pub cause : IsSolveStop value range p theta limit stop
-  pub limited : IsLimited value (sample value p) theta limit → IsLimitAnswer {A = Optimum F} (Err stop)
+module _ {F : Type 0} (value : F → Fraction) where
+  -- a solution within the limit
+  pub record IsOptimum (p : Problem F) (theta : ℚ) (limit : ℕ) (s : Optimum F) : Type 0 where
+    pub solution : IsSolution value p theta s
+    pub short : length s.trail.steps ≤ limit
+
+  -- such a solution, or a stop with its cause; and neither a solution nor a dependence where a trail reaches the limit
+  pub record IsAnswer (range : ℕ) (p : Problem F) (theta : ℚ) (limit : ℕ) (r : Result (Optimum F) (Stop F)) : Type 0 where
+    pub optimum : IfOk r (IsOptimum p theta limit)
+    pub stopped : IfErr r (IsSolveStop value range p theta limit)
+    pub limited : IsLimited value (sample value p) theta limit → IsLimitAnswer r

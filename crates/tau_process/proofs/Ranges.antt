@@ -1,6 +1,6 @@
--- What a walk that is done says of the process, and what halts it of its stop.
-use Rattle.std.specs.Prelude.{◌≡◌, ◌⊎◌, ◌≤◌, ℕ, length}
-use Rattle.std.proofs.Common.{Result, Err, sym, subst, inl, inr}
+-- What is answered to a walk: a process, or the stop of what halts it.
+use Rattle.std.specs.Prelude.{◌≡◌, ◌⊎◌, ◌≤◌, ℕ, length, Some}
+use Rattle.std.proofs.Common.{Result, Ok, Err, refl, sym, subst, inl, inr}
 use Rattle.exact_algebra.specs.Fraction.{Fraction}
 use Rattle.exact_algebra.specs.Rational.{ℚ, ◌≤ℚ◌}
 use Rattle.loss_model.specs.declared.problem.Problem.{Problem}
@@ -21,21 +21,22 @@ use Rattle.walk_rule.specs.WalkSpills.{IsStaySpill}
 use Rattle.walk_rule.specs.WalkTrails.{theta_value, is_below, value_after, IsWalkEnd, ReachesWalkLimit, ReachesProcessLimit}
 use Rattle.walk_rule.proofs.Trails.{one_process}
 use Rattle.walk_rule.proofs.Walked.{walk_covers}
-use Rattle.tableau_model.specs.declared.refusal.Refusal.TheVariants.{Overflow as Spilled, TooWide}
-use Rattle.tableau_model.specs.Places.{Task, in_fractions, in_wholes, at_of, sample_of}
-use Rattle.tableau.specs.Walking.{IsWalkDone, IsWalkRefusedAfter}
-use Rattle.tableau.proofs.Halts.{at_place}
-use Rattle.br_pivot.specs.Solves.{IsLimitAnswer}
+use Rattle.tableau_model.specs.declared.refusal.Refusal.TheVariants.{Overflow as Spilled}
+use Rattle.tableau_model.specs.Places.{Task, at_of, sample_of}
+use Rattle.tableau.specs.declared.solving.Halt.{Halt}
+use Rattle.tableau.specs.Solving.{IsHalted, stop_of}
+use Rattle.tableau.specs.Walking.{IsWalkDone, IsWalkRefusedAfter, IsWalkHalted}
+use Rattle.tableau.proofs.Halts.{at_place, by_halt}
+use Rattle.br_pivot.proofs.Halts.{overflow_stops}
+use Rattle.tau_process.specs.Answers.{IsAnswer}
 use Rattle.tau_process.specs.Processes.{IsProcess}
 use Rattle.tau_process.specs.Stops.{IsWalkSpill, IsLimited}
 
-module _ {F : Type 0} (value : F → Fraction) (p : Problem F) (lo hi : ℚ) (limit : ℕ) where
-  -- what is done for a task that is the problem in fractions, is done for this
-  pub done_here : (task : Task F) (q : Process F) → task ≡ record { problem = p; body = in_fractions } → IsWalkDone value task lo hi limit q
-      → IsWalkDone value (record { problem = p; body = in_fractions }) lo hi limit q
-  done_here task q same h = subst (λ (x : Task F). IsWalkDone value x lo hi limit q) same h
+module _ {F : Type 0} (value : F → Fraction) (task : Task F) (lo hi : ℚ) (limit : ℕ) where
+  abbrev p : Problem F
+  p = task.problem
 
-  module _ (costs : HasCosts (sample value p) lo) (costs' : HasCosts (sample value p) hi) (q : Process F) (h : IsWalkDone value (record { problem = p; body = in_fractions }) lo hi limit q) where
+  module _ (costs : HasCosts (sample value p) lo) (costs' : HasCosts (sample value p) hi) (q : Process F) (h : IsWalkDone value task lo hi limit q) where
     ended : IsWalkEnd (theta_value value) (over_quantiles (sample value p)) (is_below hi)
         (value_after (theta_value value) (over_quantiles (sample value p)) (is_below hi) lo h.lawful.walking) (basis_after (basis_after h.lawful.first h.lawful.solving) h.lawful.walking)
     ended =
@@ -46,13 +47,17 @@ module _ {F : Type 0} (value : F → Fraction) (p : Problem F) (lo hi : ℚ) (li
     covered range =
         walk_covers value p lo hi costs costs' (basis_after h.lawful.first h.lawful.solving) h.lawful.walking q.segments range h.lawful.optimal h.lawful.walked ended h.segments
 
-    pub process_of : lo ≤ℚ hi → IsProcess value p lo hi q
+    process_of : lo ≤ℚ hi → IsProcess value p lo hi q
     process_of range =
         let both = covered range in
         record { covers = both.0; optimal = both.1; results = record { basis = h.basis; now = h.now; lawful = h.lawful; ended = h.ended; segments = h.segments } }
 
-    pub done_limited : ¬ IsLimited value (sample value p) lo hi limit
+    done_limited : ¬ IsLimited value (sample value p) lo hi limit
     done_limited (other, reached) = one_process value (sample value p) lo hi costs costs' h.now q.trail other h.basis limit h.lawful h.ended h.short reached
+
+    -- a walk that is done answers
+    pub done_answers : (range : ℕ) → lo ≤ℚ hi → IsAnswer value range p lo hi limit (Ok q)
+    done_answers range ordered = record { process = record { process = process_of ordered; short = h.short }; stopped = tt; limited = done_limited }
 
   -- where a trail reaches the limit the columns are independent
   not_dependent : (combination : _) → IsDependent value p combination → ¬ IsLimited value (sample value p) lo hi limit
@@ -61,16 +66,14 @@ module _ {F : Type 0} (value : F → Fraction) (p : Problem F) (lo hi : ℚ) (li
   not_dependent combination d (trail, inr r) =
       d.dependence.some (full_rank (sample value p) _ r.more.a r.more.is_basis (value_at value combination) d.dependence.zero d.dependence.column d.dependence.within)
 
-  pub start_limited : {A : Type 0} (range : ℕ) (r : Result A (Stop F)) (e : Stop F) → r ≡ Err e → IsStartStop value range p e → IsLimited value (sample value p) lo hi limit → IsLimitAnswer r
-  start_limited {A} range r e is h reached = subst IsLimitAnswer (sym is) (by e h)
-    where
-      by : (e : Stop F) → IsStartStop value range p e → IsLimitAnswer {A = A} (Err e)
-      by OutOfMemory h = tt
-      by (PivotLimit shown trail) h = tt
-      by (Overflow trail spill) h = tt
-      by (Dependent combination) h = not_dependent combination h reached
+  -- the stop of a start is an answer
+  pub start_answers : (range : ℕ) (e : Stop F) → IsStartStop value range p e → IsAnswer value range p lo hi limit (Err e)
+  start_answers range OutOfMemory h = record { process = tt; stopped = tt; limited = λ reached. tt }
+  start_answers range (PivotLimit shown trail) h = absurd h
+  start_answers range (Overflow trail spill) h = record { process = tt; stopped = inl h; limited = λ reached. tt }
+  start_answers range (Dependent combination) h = record { process = tt; stopped = h; limited = not_dependent combination h }
 
-  pub walk_overflow : (range : ℕ) (trail : Trail F) (s : Spill F) → IsWalkRefusedAfter value range (record { problem = p; body = in_fractions }) lo hi limit trail (Spilled s) → IsWalkSpill value range p lo hi limit trail s
+  walk_overflow : (range : ℕ) (trail : Trail F) (s : Spill F) → IsWalkRefusedAfter value range task lo hi limit trail (Spilled s) → IsWalkSpill value range p lo hi limit trail s
   walk_overflow range trail s h =
       subst (λ (x : Task F). IsWalkSpill value range x.problem lo hi limit trail s) h.same
       (record {
@@ -80,3 +83,19 @@ module _ {F : Type 0} (value : F → Fraction) (p : Problem F) (lo hi : ℚ) (li
         short = h.short;
         here = at_place value h.here h.is_place (λ a. IsStaySpill value range (sample_of value h.here) (at_of h.here) a h.now hi s) h.refusal.1;
       })
+
+  -- so is the stop of a halt of the solve
+  pub solve_answers : (range : ℕ) (h : Halt F) (s : Stop F) → stop_of limit h ≡ Some s → IsHalted value range task lo limit h → IsAnswer value range p lo hi limit (Err s)
+  solve_answers range =
+      by_halt limit (IsHalted value range task lo limit) (λ s. IsAnswer value range p lo hi limit (Err s))
+      (record { process = tt; stopped = tt; limited = λ reached. tt })
+      (λ trail h. record { process = tt; stopped = (refl, inl h); limited = λ reached. tt })
+      (λ trail spill h. record { process = tt; stopped = inr (inl (overflow_stops value range task lo limit trail spill h)); limited = λ reached. tt })
+
+  -- and that of a halt of the walk
+  pub walk_answers : (range : ℕ) (h : Halt F) (s : Stop F) → stop_of limit h ≡ Some s → IsWalkHalted value range task lo hi limit h → IsAnswer value range p lo hi limit (Err s)
+  walk_answers range =
+      by_halt limit (IsWalkHalted value range task lo hi limit) (λ s. IsAnswer value range p lo hi limit (Err s))
+      (record { process = tt; stopped = tt; limited = λ reached. tt })
+      (λ trail h. record { process = tt; stopped = (refl, inr h); limited = λ reached. tt })
+      (λ trail spill h. record { process = tt; stopped = inr (inr (walk_overflow range trail spill h)); limited = λ reached. tt })

@@ -1,66 +1,100 @@
 //! The walk over a range.
-ghost use Rattle.std.specs.Prelude.{ℕ, ◌≤◌, length, IfOk, IfErr};
+ghost use Rattle.std.specs.Prelude.{◌≡◌, ℕ, ◌≤◌, length, IfOk, IfErr, IfSome, IsSome};
 ghost use Rattle.exact_algebra.specs.Fraction.{rational};
-ghost use Rattle.exact_algebra.specs.Rational.{ℚ, ◌≤ℚ◌};
+ghost use Rattle.exact_algebra.specs.Rational.{◌≤ℚ◌};
 ghost use Rattle.loss_model.specs.Problem.{sample, IsWellShaped};
 ghost use Rattle.pivot_rule.specs.Duals.{HasCosts};
-ghost use Rattle.tableau_model.specs.Places.{in_fractions};
-ghost use Rattle.tableau.specs.Solving.{IsHalted};
-ghost use Rattle.tableau.specs.Walking.{IsWalkHalted};
+ghost use Rattle.tableau_model.specs.Places.{in_fractions, sample_of};
+ghost use Rattle.tableau.specs.Bodies.{place_of};
+ghost use Rattle.tableau.specs.Solving.{IsBegun};
 ghost use Rattle.br_pivot.specs.Solves.{IsLimitAnswer};
-ghost use Rattle.tau_process.specs.Answers.{IsStopAnswer};
+ghost use Rattle.tau_process.specs.Answers.{IsAnswer};
 ghost use Rattle.tau_process.specs.Processes.{IsProcess};
 ghost use Rattle.tau_process.specs.Stops.{IsProcessStop, IsLimited};
 
 use frac_core::Exact;
 use loss_model::{Problem, Process, Stop};
 use std::alloc::Global;
-use tableau::{Halt, Progress, solve_over, walk_range};
-use tableau_model::Refusal;
+use tableau::{Progress, solve_over, stop_of, walk_range};
+use whole_inverse::Obstacle;
 
-/// The ends of a range.
-#[derive(Clone, Copy)]
-struct Span<F> {
+/// Walks from a start, in fractions or in whole numbers. Fractions always answer; there is no answer where whole
+/// numbers are too wide.
+fn process_from<'a, F: Exact>(
+    alloc: Global,
+    begun: Progress<'a, F>,
     lo: F,
     hi: F,
-}
-
-/// The stop for which fractions halted in the solve at the low end.
-fn solve_stop<F: Exact>(problem: &Problem<F>, lo: F, limit: u32, halt: Halt<F>) -> Stop<F>
-    requires { IsHalted F.value F.range (record { problem = problem.now; body = in_fractions }) (rational (F.value lo)) limit halt }
-    ensures { (hi : ℚ) → IsStopAnswer F.value F.range problem.now (rational (F.value lo)) hi limit result }
+    limit: u32,
+) -> Option<Result<Process<F>, Stop<F>>>
+    requires ordered { rational (F.value lo) ≤ℚ rational (F.value hi) }
+    requires costs_lo { HasCosts (sample_of F.value (place_of F.value begun.tableau)) (rational (F.value lo)) }
+    requires costs_hi { HasCosts (sample_of F.value (place_of F.value begun.tableau)) (rational (F.value hi)) }
+    requires begun { IsBegun F.value (place_of F.value begun.tableau).task begun }
+    ensures answer { IfSome result (IsAnswer F.value F.range (place_of F.value begun.entry.tableau).task.problem (rational (F.value lo)) (rational (F.value hi)) limit) }
+    ensures fractions { (place_of F.value begun.entry.tableau).task.body ≡ in_fractions → IsSome result }
 {
-    let _problem = problem;
-    let _lo = lo;
-    match halt {
-        Halt::OutOfMemory => Stop::OutOfMemory,
-        Halt::PivotLimit { trail } => Stop::PivotLimit { limit, trail },
-        Halt::Refused { trail, refusal } => match refusal {
-            Refusal::Overflow(spill) => Stop::Overflow { trail, spill },
-            Refusal::TooWide => unreachable!(),
-        },
+    let solved = match solve_over(begun, lo, limit) {
+        Ok(solved) => solved,
+        Err(halt) => {
+            let stop = stop_of(halt, limit)?;
+            return Some(Err(stop));
+        }
+    };
+    match walk_range(alloc, solved, lo, hi, limit) {
+        Ok(walked) => Some(Ok(walked)),
+        Err(halt) => {
+            let stop = stop_of(halt, limit)?;
+            Some(Err(stop))
+        }
     }
 }
 
-/// The stop for which fractions halted in the walk.
-fn walk_stop<F: Exact>(problem: &Problem<F>, span: Span<F>, limit: u32, halt: Halt<F>) -> Stop<F>
-    requires { IsWalkHalted F.value F.range (record { problem = problem.now; body = in_fractions }) (rational (F.value span.lo)) (rational (F.value span.hi)) limit halt }
-    ensures { IsStopAnswer F.value F.range problem.now (rational (F.value span.lo)) (rational (F.value span.hi)) limit result }
+/// Walks in whole numbers, from the start, where they aren't too wide and the columns are independent.
+fn process_in_wholes<F: Exact>(
+    alloc: Global,
+    problem: &Problem<F>,
+    lo: F,
+    hi: F,
+    limit: u32,
+) -> Option<Result<Process<F>, Stop<F>>>
+    requires shaped { IsWellShaped problem.now }
+    requires ordered { rational (F.value lo) ≤ℚ rational (F.value hi) }
+    requires costs_lo { HasCosts (sample F.value problem.now) (rational (F.value lo)) }
+    requires costs_hi { HasCosts (sample F.value problem.now) (rational (F.value hi)) }
+    ensures { IfSome result (IsAnswer F.value F.range problem.now (rational (F.value lo)) (rational (F.value hi)) limit) }
 {
-    let _problem = problem;
-    let _span = span;
-    match halt {
-        Halt::OutOfMemory => Stop::OutOfMemory,
-        Halt::PivotLimit { trail } => Stop::PivotLimit { limit, trail },
-        Halt::Refused { trail, refusal } => match refusal {
-            Refusal::Overflow(spill) => Stop::Overflow { trail, spill },
-            Refusal::TooWide => unreachable!(),
-        },
+    match Progress::begin_in_wholes(alloc, problem) {
+        Ok(begun) => process_from(alloc, begun, lo, hi, limit),
+        Err(Obstacle::OutOfMemory) => Some(Err(Stop::OutOfMemory)),
+        Err(Obstacle::TooWide) => None,
+    }
+}
+
+/// Walks in fractions, from the start.
+fn process_in_fractions<F: Exact>(
+    alloc: Global,
+    problem: &Problem<F>,
+    lo: F,
+    hi: F,
+    limit: u32,
+) -> Result<Process<F>, Stop<F>>
+    requires shaped { IsWellShaped problem.now }
+    requires ordered { rational (F.value lo) ≤ℚ rational (F.value hi) }
+    requires costs_lo { HasCosts (sample F.value problem.now) (rational (F.value lo)) }
+    requires costs_hi { HasCosts (sample F.value problem.now) (rational (F.value hi)) }
+    ensures { IsAnswer F.value F.range problem.now (rational (F.value lo)) (rational (F.value hi)) limit result }
+{
+    let begun = Progress::begin(alloc, problem)?;
+    match process_from(alloc, begun, lo, hi, limit) {
+        Some(answer) => answer,
+        None => unreachable!(),
     }
 }
 
 /// Walks from `lo` to `hi`: from the greedy start by solving steps at `lo`, and from there from
-/// breakpoint to breakpoint. The limit counts all steps together.
+/// breakpoint to breakpoint. The limit counts all steps together. Whole numbers are tried first, and where
+/// they are too wide all is done again in fractions.
 ///
 /// `PivotLimit` comes exactly where as many steps were made as the limit says and one more is left, save
 /// that an operation that overflows, or want of memory, may come first. `Dependent` comes where the columns
@@ -82,13 +116,8 @@ pub fn process<F: Exact>(
     ensures stopped { IfErr result (IsProcessStop F.value F.range problem.now (rational (F.value lo)) (rational (F.value hi)) limit) }
     ensures limited { IsLimited F.value (sample F.value problem.now) (rational (F.value lo)) (rational (F.value hi)) limit → IsLimitAnswer result }
 {
-    let begun = Progress::begin(alloc, problem)?;
-    let solved = match solve_over(begun, lo, limit) {
-        Ok(solved) => solved,
-        Err(halt) => return Err(solve_stop(problem, lo, limit, halt)),
-    };
-    match walk_range(alloc, solved, lo, hi, limit) {
-        Ok(walked) => Ok(walked),
-        Err(halt) => Err(walk_stop(problem, Span { lo, hi }, limit, halt)),
+    match process_in_wholes(alloc, problem, lo, hi, limit) {
+        Some(answer) => answer,
+        None => process_in_fractions(alloc, problem, lo, hi, limit),
     }
 }
