@@ -17,6 +17,8 @@ mod least_loss;
 #[cfg(test)]
 mod pivots;
 #[cfg(test)]
+mod ten_columns;
+#[cfg(test)]
 mod ties;
 #[cfg(test)]
 mod walks;

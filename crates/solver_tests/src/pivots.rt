@@ -167,13 +167,18 @@ const WIDE_64: i128 = 4_611_686_018_427_387_904;
 
 const WIDE_128: i128 = 85_070_591_730_234_615_865_843_651_857_942_052_864;
 
-/// With W = 2^62, of which 2W is out of range.
+/// With W = 2^62, of which 2W is out of range. The last row of the first three has no entries and changes nothing, but
+/// its response or its weight is 1/3, and 3W is out of the range of whole numbers too.
 static OVERFLOWS: [Overflow; 4] = [
     // The fit is W, and the residual of row 1 is 0 - 2W.
     Overflow {
         columns: 1,
-        over: 1,
-        rows: &[([1, 0, 0], WIDE_64, 1), ([2, 0, 0], 0, 1)],
+        over: 3,
+        rows: &[
+            ([3, 0, 0], 3 * WIDE_64, 3),
+            ([6, 0, 0], 0, 3),
+            ([0, 0, 0], 1, 3),
+        ],
         path: Path {
             start: &[Some(0)],
             steps: &[],
@@ -193,8 +198,12 @@ static OVERFLOWS: [Overflow; 4] = [
     // the column is twice that.
     Overflow {
         columns: 1,
-        over: 1,
-        rows: &[([1, 0, 0], 0, 1), ([2, 0, 0], 1, WIDE_64)],
+        over: 3,
+        rows: &[
+            ([3, 0, 0], 0, 3),
+            ([6, 0, 0], 3, 3 * WIDE_64),
+            ([0, 0, 0], 0, 1),
+        ],
         path: Path {
             start: &[Some(0)],
             steps: &[],
@@ -214,11 +223,12 @@ static OVERFLOWS: [Overflow; 4] = [
     // downwards. So row 1 enters, the fit is W, and the residual of row 2 is 0 - 4W.
     Overflow {
         columns: 1,
-        over: 1,
+        over: 3,
         rows: &[
-            ([1, 0, 0], 0, 1),
-            ([1, 0, 0], WIDE_64, 16),
-            ([4, 0, 0], 0, 1),
+            ([3, 0, 0], 0, 3),
+            ([3, 0, 0], 3 * WIDE_64, 48),
+            ([12, 0, 0], 0, 3),
+            ([0, 0, 0], 1, 3),
         ],
         path: Path {
             start: &[Some(0)],
@@ -310,6 +320,78 @@ fn overflows(rt: HostRuntime) -> Result<(), Fail> {
         expect_overflows::<Frac64>(&rt, rt.alloc(), case)?;
     }
     expect_overflows::<Frac128>(&rt, rt.alloc(), &WIDER)?;
+    Ok(())
+}
+
+/// A column on whose way fractions of 64 bits overflow, and whole numbers don't: what it gives at 1/2, where row 1 has
+/// taken the place of row 0.
+struct Reach {
+    rows: &'static [Data],
+    coef: Ratio,
+    basic: Ratio,
+    sides: &'static [Side],
+}
+
+/// The first three tables above without their last row.
+static REACHED: [Reach; 3] = [
+    // The fit W of row 0 lies above row 1, whose dual value -1/2 counts twice. At the fit 0 row 0 weighs 1/2.
+    Reach {
+        rows: &[([1, 0, 0], WIDE_64, 1), ([2, 0, 0], 0, 1)],
+        coef: (0, 1),
+        basic: (-1, 4),
+        sides: &[Side::Up, Side::Basic],
+    },
+    // The weight W takes the fit to 1/2, below which row 0 lies.
+    Reach {
+        rows: &[([1, 0, 0], 0, 1), ([2, 0, 0], 1, WIDE_64)],
+        coef: (1, 2),
+        basic: (1, 4),
+        sides: &[Side::Down, Side::Basic],
+    },
+    // The fit is W, and the rows below it weigh 1/2 and 4 * 1/2.
+    Reach {
+        rows: &[
+            ([1, 0, 0], 0, 1),
+            ([1, 0, 0], WIDE_64, 16),
+            ([4, 0, 0], 0, 1),
+        ],
+        coef: (WIDE_64, 1),
+        basic: (5, 2),
+        sides: &[Side::Down, Side::Basic, Side::Down],
+    },
+];
+
+/// Row 1 takes the place of row 0.
+static EXCHANGED: Path = Path {
+    start: &[Some(0)],
+    steps: &[(0, 1)],
+};
+
+fn expect_reached<F: Exact>(
+    rt: &impl Abort,
+    alloc: Global,
+    case: &Reach,
+) -> Result<(), AllocError> {
+    let wide = problem::<F>(rt, alloc, 1, 1, case.rows)?;
+    let theta = fraction(rt, (1, 2));
+    match solve(rt, alloc, &wide, theta, 100) {
+        Ok(solved) => {
+            expect_trail(rt, &solved.trail, theta, &EXCHANGED);
+            assert!(rt; solved.basis.rows.as_slice() == [1].as_slice());
+            expect(rt, &solved.vertex.coef, &[case.coef]);
+            expect(rt, &solved.basic, &[case.basic]);
+            assert!(rt; solved.vertex.sides.as_slice() == case.sides);
+        }
+        Err(_) => panic!(rt; "whole numbers suffice"),
+    }
+    Ok(())
+}
+
+#[test]
+fn whole_numbers_pass_where_fractions_overflow(rt: HostRuntime) -> Result<(), Fail> {
+    for case in &REACHED {
+        expect_reached::<Frac64>(&rt, rt.alloc(), case)?;
+    }
     Ok(())
 }
 
