@@ -257,25 +257,31 @@ static OVERFLOWS: [Overflow; 6] = [
         left: (WIDE, 1),
         right: (2, 3),
     },
-    // The fit is 2^62, and the residual of the second row is 0 less 2 * 2^62.
+    // The solve goes from row 0 to row 1, whose weight is 16 and whose fit is 2^62. The walks go in fractions, and the
+    // residual of row 2 is 0 less 4 * 2^62.
     Overflow {
         columns: 1,
-        table: &[([1, 0, 0], WIDE, 1), ([2, 0, 0], 0, 1)],
+        table: &[([1, 0, 0], 0, 1), ([1, 0, 0], WIDE, 16), ([4, 0, 0], 0, 1)],
         question: Question {
             column: 0,
             tau: (1, 2),
             crit: (1, 1),
         },
-        path: OF_GRAM,
+        path: Path {
+            start: &[Some(0)],
+            steps: &[((1, 2), 0, 1)],
+            rise: &[],
+            fall: &[],
+        },
         site: Site {
             quantity: Quantity::Residual,
-            first: 1,
+            first: 2,
             second: 0,
             third: 0,
             term: 2,
             kind: OpKind::Mul,
         },
-        left: (-2, 1),
+        left: (-4, 1),
         right: (WIDE, 1),
     },
     // Five responses of the weight 2h, where 25 h^2 is out of range and 20 h^2 is not. The breakpoints of the rising

@@ -276,7 +276,7 @@ static OVERFLOWS: [Overflow; 4] = [
     },
 ];
 
-/// The third one in 128 bits, with W = 2^126.
+/// The third one in 128 bits, with W = 2^126. The response of the last row is 1, so that W is no common divisor.
 static WIDER: Overflow = Overflow {
     columns: 1,
     over: 1,
@@ -284,6 +284,7 @@ static WIDER: Overflow = Overflow {
         ([1, 0, 0], 0, 1),
         ([1, 0, 0], WIDE_128, 16),
         ([4, 0, 0], 0, 1),
+        ([0, 0, 0], 1, 1),
     ],
     path: Path {
         start: &[Some(0)],
