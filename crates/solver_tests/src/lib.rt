@@ -9,6 +9,12 @@
 #[cfg(test)]
 mod basic_solutions;
 #[cfg(test)]
+mod bodies;
+#[cfg(test)]
+mod digest;
+#[cfg(test)]
+mod drawn_columns;
+#[cfg(test)]
 mod helpers;
 #[cfg(test)]
 mod inverses;
@@ -16,8 +22,6 @@ mod inverses;
 mod least_loss;
 #[cfg(test)]
 mod pivots;
-#[cfg(test)]
-mod ten_columns;
 #[cfg(test)]
 mod ties;
 #[cfg(test)]

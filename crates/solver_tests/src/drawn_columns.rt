@@ -1,13 +1,15 @@
-//! One hundred drawn rows of ten columns of three-digit numbers. Fractions of 128 bits overflow on the way.
+//! One hundred drawn rows of three-digit numbers, in ten columns and in five. In ten columns fractions of 128 bits
+//! overflow on the way to the median.
 //!
 //! The figures come from another computation, of the optimal bases in fractions of any length.
 
+use crate::bodies::in_wholes;
+use crate::digest::digest_of;
 use crate::helpers::{Ratio, draw, expect, fraction, ratio, solve, walk};
 use br_pivot::Optimum;
 use frac_core::{Exact, Frac128, List};
-use loss_model::{Problem, Process, Row, Segment};
+use loss_model::{Problem, Process, Row};
 use std::alloc::{AllocError, Global};
-use std::num::Wrapping;
 use std::process::Abort;
 use std::test::Fail;
 
@@ -17,9 +19,14 @@ fn drawn(rt: &impl Abort, state: &mut u32) -> Frac128 {
     fraction(rt, (i128::from(below) + 100, 1))
 }
 
-fn drawn_row(rt: &impl Abort, alloc: Global, state: &mut u32) -> Result<Row<Frac128>, AllocError> {
+fn drawn_row(
+    rt: &impl Abort,
+    alloc: Global,
+    columns: u32,
+    state: &mut u32,
+) -> Result<Row<Frac128>, AllocError> {
     let mut x = Vec::new(alloc);
-    for _ in 0..10 {
+    for _ in 0..columns {
         x.push(drawn(rt, state))?;
     }
     Ok(Row {
@@ -32,14 +39,18 @@ fn drawn_row(rt: &impl Abort, alloc: Global, state: &mut u32) -> Result<Row<Frac
     })
 }
 
-fn drawn_table(rt: &impl Abort, alloc: Global) -> Result<Problem<Frac128>, AllocError> {
+fn drawn_table(
+    rt: &impl Abort,
+    alloc: Global,
+    columns: u32,
+) -> Result<Problem<Frac128>, AllocError> {
     let mut state = 7;
     let mut rows = Vec::new(alloc);
     for _ in 0..100 {
-        rows.push(drawn_row(rt, alloc, &mut state)?)?;
+        rows.push(drawn_row(rt, alloc, columns, &mut state)?)?;
     }
     Ok(Problem {
-        columns: 10,
+        columns,
         rows: List::from(rows),
     })
 }
@@ -78,7 +89,7 @@ static BASIC: [Ratio; 10] = [
 ];
 
 fn median(rt: &impl Abort, alloc: Global) -> Result<Optimum<Frac128>, AllocError> {
-    let table = drawn_table(rt, alloc)?;
+    let table = drawn_table(rt, alloc, 10)?;
     match solve(rt, alloc, &table, fraction(rt, (1, 2)), 1000) {
         Ok(solved) => Ok(solved),
         Err(_) => panic!(rt; "every number of the answer has 128 bits"),
@@ -95,67 +106,46 @@ fn ten_columns_at_the_median(rt: HostRuntime) -> Result<(), Fail> {
     Ok(())
 }
 
-/// The numbers that were put to it, as the digits of one to the base 31, modulo 2^128.
-#[derive(Clone, Copy)]
-struct Digest {
-    sum: Wrapping<i128>,
-}
+/// The loss there.
+const LOSS: Ratio = (
+    576573062349643676873803696097893,
+    55359008019870615168204574394,
+);
 
-impl Digest {
-    fn put(&mut self, number: i128) {
-        self.sum = self.sum * Wrapping(31) + Wrapping(number);
-    }
-
-    fn put_value(&mut self, value: Frac128) {
-        let (n, d) = ratio(value);
-        self.put(n);
-        self.put(d);
-    }
-
-    fn put_values(&mut self, values: &[Frac128]) {
-        for value in values {
-            self.put_value(*value);
-        }
-    }
-
-    /// The rows of the basis, each over 1.
-    fn put_rows(&mut self, rows: &[u32]) {
-        for row in rows {
-            self.put(i128::from(*row));
-            self.put(1);
-        }
-    }
-
-    /// All numbers of a segment.
-    fn put_segment(&mut self, segment: &Segment<Frac128>) {
-        self.put_value(segment.lo);
-        self.put_value(segment.hi);
-        self.put_rows(segment.vertex.basis.rows.as_slice());
-        self.put_values(segment.vertex.coef.as_slice());
-        self.put_values(segment.basic_lo.as_slice());
-        self.put_value(segment.loss_lo);
-        self.put_values(segment.basic_hi.as_slice());
-        self.put_value(segment.loss_hi);
-    }
-}
-
-fn whole_range(rt: &impl Abort, alloc: Global) -> Result<Process<Frac128>, AllocError> {
-    let table = drawn_table(rt, alloc)?;
-    match walk(rt, alloc, &table, (Frac128::zero(), Frac128::one()), 10000) {
+fn median_process(rt: &impl Abort, alloc: Global) -> Result<Process<Frac128>, AllocError> {
+    let table = drawn_table(rt, alloc, 10)?;
+    let half = fraction(rt, (1, 2));
+    match walk(rt, alloc, &table, (half, half), 1000) {
         Ok(process) => Ok(process),
         Err(_) => panic!(rt; "every number of the answer has 128 bits"),
     }
 }
 
 #[test]
-fn ten_columns_over_the_whole_range(rt: HostRuntime) -> Result<(), Fail> {
-    let process = whole_range(&rt, rt.alloc())?;
+fn ten_columns_as_a_process_at_the_median(rt: HostRuntime) -> Result<(), Fail> {
+    let process = median_process(&rt, rt.alloc())?;
     let segments = process.segments.as_slice();
-    assert!(&rt; segments.len() == 191);
-    let mut digest = Digest { sum: Wrapping(0) };
-    for segment in segments {
-        digest.put_segment(segment);
+    assert!(&rt; segments.len() == 1);
+    let only = &segments[0];
+    assert!(&rt; only.vertex.basis.rows.as_slice() == BASIS.as_slice());
+    expect(&rt, &only.vertex.coef, COEF.as_slice());
+    expect(&rt, &only.basic_hi, BASIC.as_slice());
+    assert!(&rt; ratio(only.loss_hi) == LOSS);
+    Ok(())
+}
+
+fn whole_range(rt: &impl Abort, alloc: Global) -> Result<Process<Frac128>, AllocError> {
+    let table = drawn_table(rt, alloc, 5)?;
+    match in_wholes(rt, alloc, &table, (Frac128::zero(), Frac128::one())) {
+        Some(process) => Ok(process),
+        None => panic!(rt; "the columns are independent"),
     }
-    assert!(&rt; digest.sum == Wrapping(-154740919401848602660529040559435777711));
+}
+
+#[test]
+fn five_columns_over_the_whole_range(rt: HostRuntime) -> Result<(), Fail> {
+    let process = whole_range(&rt, rt.alloc())?;
+    assert!(&rt; process.segments.as_slice().len() == 148);
+    assert!(&rt; digest_of(&process) == -64600200990088842732543995565269542556);
     Ok(())
 }
