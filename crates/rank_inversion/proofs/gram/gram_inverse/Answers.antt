@@ -5,7 +5,7 @@ pub returns-in-Ok-greedy_start-clause-inverted : goal.returns-in-Ok-greedy_start
 returns-in-Ok-greedy_start-clause-inverted g c =
     let value = g.F.Exact.value in
     let is = (c.in-Ok.ensures {u = tt}).gram in
-    let h = c.in-Ok-greedy_start.ensures {u = tt} in
+    let h = (c.in-Ok-greedy_start.ensures {u = tt}).started in
     let started = c.in-Ok-greedy_start.started in
     record {
       start = (c.in-Ok.gram, is, h.greedy);
