@@ -23,56 +23,17 @@ use Rattle.pivot_rule.specs.Responses.{exchanged_rows}
 use Rattle.walk_rule.proofs.Trails.{list_exchanged}
 use Rattle.pivot_rule.specs.Trails.{EndsAt}
 use Rattle.tableau_model.specs.Places.{IsPlace}
-use Rattle.whole_inverse.specs.Shares.{share, share_at, whole_at}
-use Rattle.whole_inverse.specs.Squares.{WholeSquare, IsWholeSquare, inverse_of}
+use Rattle.whole_inverse.specs.Shares.{whole_at}
+use Rattle.whole_inverse.specs.Squares.{inverse_of}
 use Rattle.scaled_model.specs.Scaled.{unscaled}
 use Rattle.scaled_model.proofs.ScalingLaws.{unscaled_basis, coord-scaled}
 use Rattle.whole_rows.specs.declared.rows.WholeRow.{WholeRow}
 use Rattle.whole_rows.specs.Wholes.{factor_at, factor_value, sample_of_rows}
+use Rattle.whole_fractions.proofs.Inverses.{basis_from, whole_ends}
+use Rattle.whole_start.proofs.Started.{entry_scaled as entry_by}
 use Rattle.whole_solution.proofs.Reading.{row_read}
 use Rattle.whole_tableau.specs.declared.setting.Setting.{Setting}
 use Rattle.whole_tableau.specs.Kept.{Kept, IsSetting, IsKept, wholes_of, place}
-
--- rows with an inverse are different rows of the problem
-pub basis_from : (n : ℕ) (rows : List WholeRow) (at : ℕ → ℕ) (a : ℕ → ℕ → ℚ) → AreInverse n (λ j k. (sample_of_rows n rows).x (at j) k) a → IsBasis (sample_of_rows n rows) at a
-basis_from n rows at a inv = record { distinct = record { within = within; apart = apart }; inverse = inv }
-  where
-    within : (j : ℕ) → j < n → at j < length rows
-    within j lj = by (cases_lt (at j) (length rows))
-      where
-        by : (at j < length rows) ⊎ (length rows ≤ at j) → at j < length rows
-        by (inl l) = l
-        by (inr past) =
-            absurd (one-zero (
-            sym (if-same j j (whole (pos 1)) (whole (pos 0)) refl) ∙ sym (inv.left j j lj lj)
-            ∙ sum_ℚ-same n (λ k. (sample_of_rows n rows).x (at j) k *ℚ a k j) (λ k. whole (pos 0))
-            (λ k lk. ap (λ (o : Option WholeRow). option_map_or (λ r. whole_at r.x k) o (whole (pos 0)) *ℚ a k j) (slice_get_past rows (at j) past) ∙ ring_ℚ (a k j ∷ []) (number (pos 0) ⊠ v0) (number (pos 0)) refl)
-            ∙ sum_ℚ-zero n))
-
-    apart : (j k : ℕ) → j < k → k < n → at j ≢ at k
-    apart j k ljk lk same =
-        let lj : j < n = omega arith in
-        let other : k ≢ j = λ e. omega arith in
-        one-zero (
-        sym (if-same j j (whole (pos 1)) (whole (pos 0)) refl) ∙ sym (inv.left j j lj lj)
-        ∙ ap (λ i. sum_ℚ n (λ m. (sample_of_rows n rows).x i m *ℚ a m j)) same
-        ∙ inv.left k j lk lj ∙ if-other k j (whole (pos 1)) (whole (pos 0)) other)
-
--- the inverse is 0 outside
-whole_ends : (n : ℕ) (s : WholeSquare) (f : ℕ → ℚ) → IsWholeSquare s → length s.columns ≡ n → EndsAt n (unscaled f (inverse_of s))
-whole_ends n s f h size k j out = ap (λ z. f k *ℚ z) (by (cases_lt j (length s.columns))) ∙ ring_ℚ (f k ∷ []) (v0 ⊠ number (pos 0)) (number (pos 0)) refl
-  where
-    by : (j < length s.columns) ⊎ (length s.columns ≤ j) → inverse_of s k j ≡ whole (pos 0)
-    by (inr past) = ap (λ (o : Option (List ℤ)). option_map_or (λ xs. share_at s.determinant xs k) o (whole (pos 0))) (slice_get_past s.columns j past)
-    by (inl lj) =
-        let long : length (get_or s.columns j []) ≡ length s.columns = h.square j [] lj in
-        let past : length (get_or s.columns j []) ≤ k = at (cases_lt k n) long in
-        ap (λ (o : Option (List ℤ)). option_map_or (λ xs. share_at s.determinant xs k) o (whole (pos 0))) (slice_get-get_or s.columns j [] lj)
-        ∙ ap (λ (o : Option ℤ). option_map_or (λ m. share m s.determinant) o (whole (pos 0))) (slice_get_past (get_or s.columns j []) k past)
-      where
-        at : (k < n) ⊎ (n ≤ k) → length (get_or s.columns j []) ≡ length s.columns → length (get_or s.columns j []) ≤ k
-        at (inl lk) e = absurd (out (lk, omega (arith, lj, size)))
-        at (inr past) e = omega (arith, size)
 
 module _ {F : Type 0} (value : F → Fraction) (k : Kept F) (h : IsKept value k) where
   pub whole_basis : IsBasis (wholes_of k) (slice_index k.rows) (inverse_of k.square)
@@ -115,11 +76,4 @@ inverse_after n rows basis a j i r size inside is inv =
 
 -- the whole rows are those of the problem times factors, beyond the last one too
 pub entry_scaled : {F : Type 0} (value : F → Fraction) (p : Problem F) (s : Setting) → IsSetting value p s → (i k : ℕ) → k < p.columns → (sample_of_rows p.columns s.wholes.rows).x i k ≡ factor_at s.wholes.factors k *ℚ (sample value p).x i k
-entry_scaled {F} value p s h i k lk = by (cases_lt i (length p.rows))
-  where
-    by : (i < length p.rows) ⊎ (length p.rows ≤ i) → (sample_of_rows p.columns s.wholes.rows).x i k ≡ factor_at s.wholes.factors k *ℚ (sample value p).x i k
-    by (inl li) = h.scaled.x i k li lk
-    by (inr past) =
-        ap (λ (o : Option WholeRow). option_map_or (λ r. whole_at r.x k) o (whole (pos 0))) (slice_get_past s.wholes.rows i (omega (arith, h.scaled.rows, past)))
-        ∙ ring_ℚ (factor_at s.wholes.factors k ∷ []) (number (pos 0)) (v0 ⊠ number (pos 0)) refl
-        ∙ ap (λ (o : Option (Row F)). factor_at s.wholes.factors k *ℚ option_map_or (λ r. value_at value r.x k) o (whole (pos 0))) (sym (slice_get_past p.rows i past))
+entry_scaled value p s h i k lk = entry_by value p s.wholes.rows (factor_at s.wholes.factors) (factor_value s.wholes.response) (factor_value s.wholes.cost) h.scaled i k lk
