@@ -1,31 +1,20 @@
 -- What whole numbers keep is a basis.
-use Rattle.std.specs.Prelude.{◌≡◌, ◌≢◌, ◌⊎◌, ℕ, ℤ, ◌<◌, ◌≤◌, Bool, true, false, ◌==◌, if◌then◌else◌, List, [], ◌∷◌, length, slice_index, slice_set, get_or, Option, pos}
-use Rattle.std.specs.Option.{option_map_or}
-use Rattle.std.proofs.Common.{arith, refl, sym, ap, subst, ◌∙◌, inl, inr}
-use Rattle.std.proofs.lemmas.Bool.{cases_lt}
-use Rattle.std.proofs.lemmas.Option.{slice_get_past, slice_get-get_or}
+use Rattle.std.specs.Prelude.{◌≡◌, ℕ, ◌<◌, Bool, true, false, ◌==◌, if◌then◌else◌, List, length, slice_index, slice_set, get_or}
+use Rattle.std.proofs.Common.{arith, refl, sym, ap, subst, ◌∙◌}
 use Rattle.exact_algebra.specs.Fraction.{Fraction}
-use Rattle.exact_algebra.specs.Solver.{number, ◌⊠◌, v0}
-use Rattle.exact_algebra.specs.Rational.{ℚ, ◌*ℚ◌, whole}
-use Rattle.exact_algebra.proofs.RationalLaws.{ring_ℚ}
-use Rattle.exact_algebra.proofs.RationalSumLaws.{sum_ℚ-same, sum_ℚ-zero}
-use Rattle.exact_algebra.specs.RationalSums.{sum_ℚ}
-use Rattle.exact_algebra.proofs.Inverses.{one-zero}
-use Rattle.exact_matrices.proofs.TermLaws.{if-same, if-other}
+use Rattle.exact_algebra.specs.Rational.{ℚ, ◌*ℚ◌}
+use Rattle.exact_algebra.proofs.RationalSumLaws.{sum_ℚ-same}
 use Rattle.exact_matrices.specs.Matrices.{AreInverse, coordinate}
 use Rattle.exact_matrices.proofs.MatrixLaws.{AreInverse-same}
 use Rattle.exact_matrices.specs.Exchange.{with_row}
-use Rattle.loss_model.specs.declared.problem.Row.{Row}
 use Rattle.loss_model.specs.declared.problem.Problem.{Problem}
-use Rattle.loss_model.specs.Problem.{sample, value_at}
+use Rattle.loss_model.specs.Problem.{sample}
 use Rattle.basis_model.specs.Basis.{IsBasis, coord}
 use Rattle.pivot_rule.specs.Responses.{exchanged_rows}
 use Rattle.walk_rule.proofs.Trails.{list_exchanged}
-use Rattle.pivot_rule.specs.Trails.{EndsAt}
 use Rattle.tableau_model.specs.Places.{IsPlace}
 use Rattle.whole_inverse.specs.Shares.{whole_at}
 use Rattle.whole_inverse.specs.Squares.{inverse_of}
-use Rattle.scaled_model.specs.Scaled.{unscaled}
 use Rattle.scaled_model.proofs.ScalingLaws.{unscaled_basis, coord-scaled}
 use Rattle.whole_rows.specs.declared.rows.WholeRow.{WholeRow}
 use Rattle.whole_rows.specs.Wholes.{factor_at, factor_value, sample_of_rows}
