@@ -12,10 +12,8 @@ use Rattle.frac_core.specs.NumberReading.{front, rest, scan, scan_decimal, scan_
 use Rattle.frac_core.proofs.DigitSteps.{digit_is}
 use Rattle.frac_core.proofs.ReaderSteps.{digits_append}
 use Rattle.frac_core.proofs.Scanning.{written_body-scan}
-use Rattle.formula_grammar.specs.declared.number.NumberPart.{NumberPart}
-use Rattle.formula_grammar.specs.declared.number.NumberPart.TheVariants.{Empty, Integer, LonePoint, Decimals, ExponentMark, ExponentSign, Exponent, Slash, Denominator}
+use Rattle.formula_grammar.specs.Numbers.{NumberPart, Empty, Integer, LonePoint, Decimals, ExponentMark, ExponentSign, Exponent, Slash, Denominator, capped_value, digit_then, greatest, is_signed, is_whole, next_part, number_len, part_behind}
 use Rattle.formula_grammar.specs.Tokens.{begins_number, starts_by}
-use Rattle.formula_grammar.specs.Numbers.{capped_value, digit_then, greatest, is_signed, is_whole, next_part, number_len, part_behind}
 
 -- ---- digits
 
@@ -314,13 +312,13 @@ part_more text i d part next lt e f =
     ∙ some_part (next_part part (get_or text i d))
     ∙ sym f
 
-signed_take : (text : List ℕ) (n : ℕ) → is_signed text ≡ false → is_signed (take n text) ≡ false
-signed_take text zero h = refl
-signed_take [] (suc n) h = refl
-signed_take (b ∷ bs) (suc n) h = h
+pub unsigned_front : (text : List ℕ) (n : ℕ) → is_signed text ≡ false → is_signed (take n text) ≡ false
+unsigned_front text zero h = refl
+unsigned_front [] (suc n) h = refl
+unsigned_front (b ∷ bs) (suc n) h = h
 
 front_text : (text : List ℕ) (n : ℕ) (q : Option NumberPart) → is_signed text ≡ false → part_behind Empty (take n text) ≡ q → is_number_text (take n text) ≡ ends q
-front_text text n q h e = number_text (take n text) (signed_take text n h) ∙ ap ends e
+front_text text n q h e = number_text (take n text) (unsigned_front text n h) ∙ ap ends e
 
 abbrev pub longest_below : List ℕ → ℕ → ℕ
 longest_below text n = greatest (λ k. is_number_text (take k text)) n
@@ -371,32 +369,17 @@ at_the_end text i n e m = m ∙ ap (longest_below text) (sym e)
 high_digit : (b : ℕ) → 128 ≤ b → is_ascii_digit b ≡ false
 high_digit b h = grind (arith, nat_tests)
 
-high_point : (b : ℕ) → 128 ≤ b → is_point b ≡ false
-high_point b h = grind (arith, nat_tests)
-
-high_slash : (b : ℕ) → 128 ≤ b → is_slash b ≡ false
-high_slash b h = grind (arith, nat_tests)
-
-high_mark : (b : ℕ) → 128 ≤ b → is_exponent_mark b ≡ false
-high_mark b h = grind (arith, nat_tests)
-
-high_zero : (b : ℕ) → 128 ≤ b → is_zero_digit b ≡ false
-high_zero b h = grind (arith, nat_tests)
-
-high_sign : (b : ℕ) → 128 ≤ b → ((b == 45) || (b == 43)) ≡ false
-high_sign b h = grind (arith, nat_tests)
+high : (b c : ℕ) → 128 ≤ b → c < 128 → (b == c) ≡ false
+high b c h l = grind (arith, nat_tests)
 
 -- no number text has a byte that isn't ASCII
 high_stops : (p : NumberPart) (b : ℕ) → 128 ≤ b → next_part p b ≡ None
-high_stops Empty b h = rw (high_point b h, high_digit b h) refl
-high_stops Integer b h = rw (high_slash b h, high_point b h, high_mark b h, high_digit b h) refl
-high_stops LonePoint b h = rw (high_digit b h) refl
-high_stops Decimals b h = rw (high_mark b h, high_digit b h) refl
-high_stops ExponentMark b h = rw (high_sign b h, high_digit b h) refl
-high_stops ExponentSign b h = rw (high_digit b h) refl
-high_stops Exponent b h = rw (high_digit b h) refl
-high_stops Slash b h = rw (high_zero b h, high_digit b h) refl
-high_stops Denominator b h = rw (high_digit b h) refl
+high_stops Empty b h = rw (high b 46 h (lit< tt), high_digit b h) refl
+high_stops Integer b h = rw (high b 47 h (lit< tt), high b 46 h (lit< tt), high b 101 h (lit< tt), high b 69 h (lit< tt), high_digit b h) refl
+high_stops Decimals b h = rw (high b 101 h (lit< tt), high b 69 h (lit< tt), high_digit b h) refl
+high_stops ExponentMark b h = rw (high b 45 h (lit< tt), high b 43 h (lit< tt), high_digit b h) refl
+high_stops Slash b h = rw (high b 48 h (lit< tt), high_digit b h) refl
+high_stops p b h = rw (high_digit b h) refl
 
 pub part_is_ascii : (p q : NumberPart) (b : ℕ) → Some q ≡ next_part p b → b < 128
 part_is_ascii p q b e = go (nat_lt b 128) refl
@@ -504,6 +487,3 @@ number_is_ascii text h e = go (part_behind Empty text) refl (sym (number_text te
     go : (o : Option NumberPart) → part_behind Empty text ≡ o → ends o ≡ true → IsAscii text
     go None d k = absurd (cc)
     go (Some q) d k = parts_ascii text Empty q d
-
-pub unsigned_front : (text : List ℕ) (n : ℕ) → is_signed text ≡ false → is_signed (take n text) ≡ false
-unsigned_front text n h = signed_take text n h

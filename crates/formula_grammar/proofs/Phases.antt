@@ -1,13 +1,8 @@
 -- The phases whose tokens do nothing but lead to the next one.
 use Rattle.std.proofs.Common.{◌≡◌, ℕ, refl}
 use Rattle.std.specs.Prelude.{Bool}
-use Rattle.formula_grammar.specs.declared.token.Span.{Span}
-use Rattle.formula_grammar.specs.declared.token.Kind.{Kind}
-use Rattle.formula_grammar.specs.declared.reading.SmoothPart.{SmoothPart}
-use Rattle.formula_grammar.specs.declared.reader.Phase.{Phase}
-use Rattle.formula_grammar.specs.declared.reader.Phase.TheVariants.{Response, Opening, Operand, FactorClose, BehindAtom, Exponent, BehindPower, SmoothClose, BehindItem}
-use Rattle.formula_grammar.specs.declared.reader.Reader.{Reader}
-use Rattle.formula_grammar.specs.Machine.{phase_read, next_phase, read_in, Reads}
+use Rattle.formula_grammar.specs.Words.{Span, Kind, SmoothPart}
+use Rattle.formula_grammar.specs.Machine.{Phase, Response, Opening, Operand, FactorClose, BehindAtom, Exponent, BehindPower, SmoothClose, BehindItem, Reader, phase_read, next_phase, read_in, Reads}
 
 pub other_read : (p : Phase) (r : Reader) (n : ℕ) (k : Kind) (can : Bool) (r' : Reader)
     → (p ≡ Response → ⊥) → (p ≡ Opening → ⊥) → (p ≡ Operand → ⊥) → ((x : Span) → p ≡ FactorClose x → ⊥) → (p ≡ BehindAtom → ⊥)

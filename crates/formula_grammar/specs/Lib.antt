@@ -1,3 +1,4 @@
+pub mod Words
 pub mod Numerals
 pub mod Grammar
 pub mod Codes

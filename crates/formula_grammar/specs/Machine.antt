@@ -1,21 +1,11 @@
 -- Inner. What a token does to a half read formula: the formula then, or none where it can't stand there.
 use Rattle.std.specs.Prelude.{◌≡◌, ℕ, ◌==◌, Bool, true, false, not, List, [], ◌∷◌, ◌++◌, length, Option, Some, None, if◌then◌else◌}
-use Rattle.formula_grammar.specs.declared.token.Span.{Span}
-use Rattle.formula_grammar.specs.declared.token.Sign.{Sign}
-use Rattle.formula_grammar.specs.declared.token.Sign.TheVariants.{Plus, Minus}
-use Rattle.formula_grammar.specs.declared.token.Whole.TheVariants.{Zero, Unity}
-use Rattle.formula_grammar.specs.declared.token.Numeral.TheVariants.{Digits}
-use Rattle.formula_grammar.specs.declared.token.Kind.{Kind}
-use Rattle.formula_grammar.specs.declared.token.Kind.TheVariants.{Name, FactorWord, QssWord, Number, Signed, Tilde, Star, Colon, Caret, Open, Close, Comma, Point, End}
-use Rattle.formula_grammar.specs.declared.token.Token.{Token}
-use Rattle.formula_grammar.specs.declared.reading.Step.{Step}
-use Rattle.formula_grammar.specs.declared.reading.Step.TheVariants.{Load, LoadAll, Nothing, Multiply, Interact, Raise}
-use Rattle.formula_grammar.specs.declared.reading.SmoothPart.{SmoothPart}
-use Rattle.formula_grammar.specs.declared.levels.Operator.{Operator}
-use Rattle.formula_grammar.specs.declared.levels.Level.{Level}
-use Rattle.formula_grammar.specs.declared.reader.Phase.{Phase}
-use Rattle.formula_grammar.specs.declared.reader.Phase.TheVariants.{Response, BeforeTilde, Opening, Operand, FactorOpen, FactorName, FactorClose, BehindAtom, Exponent, BehindPower, SmoothOpen, SmoothName, SmoothComma, SmoothLambda, SmoothClose, BehindItem, Ended}
-use Rattle.formula_grammar.specs.declared.reader.Reader.{Reader}
+use Rattle.formula_grammar.specs.Words.{Span, Sign, Plus, Minus, Zero, Unity, Digits, Kind, Name, FactorWord, QssWord, Number, Signed, Tilde, Star, Colon, Caret, Open, Close, Comma, Point, End, Token, Step, Load, LoadAll, Nothing, Multiply, Interact, Raise, SmoothPart}
+pub use Rattle.formula_grammar.specs.declared.levels.Operator.{Operator}
+pub use Rattle.formula_grammar.specs.declared.levels.Level.{Level}
+pub use Rattle.formula_grammar.specs.declared.reader.Phase.{Phase}
+pub use Rattle.formula_grammar.specs.declared.reader.Phase.TheVariants.{Response, BeforeTilde, Opening, Operand, FactorOpen, FactorName, FactorClose, BehindAtom, Exponent, BehindPower, SmoothOpen, SmoothName, SmoothComma, SmoothLambda, SmoothClose, BehindItem, Ended}
+pub use Rattle.formula_grammar.specs.declared.reader.Reader.{Reader}
 use Rattle.formula_grammar.specs.Numerals.{power_of}
 use Rattle.formula_grammar.specs.Codes.{signed_step}
 

@@ -1,9 +1,6 @@
 -- Stated. What the number of a token says.
 use Rattle.std.specs.Prelude.{ℕ, Bool, false}
-use Rattle.formula_grammar.specs.declared.token.Whole.{Whole}
-use Rattle.formula_grammar.specs.declared.token.Whole.TheVariants.{Zero, Unity, Longer}
-use Rattle.formula_grammar.specs.declared.token.Numeral.{Numeral}
-use Rattle.formula_grammar.specs.declared.token.Numeral.TheVariants.{Digits, Written}
+use Rattle.formula_grammar.specs.Words.{Whole, Zero, Unity, Longer, Numeral, Digits, Written}
 
 -- the value of digits, or 9 where it is more than 8
 abbrev pub power_of : Whole → ℕ

@@ -1,10 +1,11 @@
 -- The lambdas of a formula that was read are numbers, and none of them is negative.
-use Rattle.std.proofs.Common.{◌≡◌, ◌<◌, ◌+◌, ◌-◌, ◌^◌, ◌==◌, ◌++◌, ◌∷◌, [], ℕ, zero, suc, Bool, true, false, List, All, Option, Some, None, Ok, Err, is_some, bytes_eq, codes, pos, map, length, take, drop, get_or, position, nat_le, refl, sym, ◌∙◌, ap, subst, append_assoc, arith, length-append, if◌then◌else◌, unsigned_abs, ◌&&◌, nat_eq}
+use Rattle.std.proofs.Common.{◌≡◌, ◌<◌, ◌+◌, ◌-◌, ◌^◌, ◌==◌, ◌++◌, ◌∷◌, [], ℕ, zero, suc, Bool, true, false, List, All, Option, Some, None, Ok, Err, is_some, bytes_eq, codes, pos, map, length, take, drop, get_or, position, nat_le, refl, sym, ◌∙◌, ap, subst, append_assoc, arith, length-append, if◌then◌else◌, unsigned_abs, ◌&&◌}
 use Rattle.std.proofs.Math.Seq.{take-append_seam, get_or-append_seam}
 use Rattle.std.proofs.lemmas.List.{drop-drop, length-take-le, take-append-drop}
-use Rattle.std.proofs.lemmas.Bool.Decides.{nat_tests}
+use Rattle.std.proofs.lemmas.List.Elements.{All-from_recursion}
+use Rattle.std.proofs.lemmas.Slice.Eq.{bytes_eq-Decides}
 use Rattle.std.specs.Result.{is_ok}
-use Rattle.std.specs.List.{list_all, prefix_len}
+use Rattle.std.specs.List.{AllByRecursion as Each, list_all, prefix_len}
 use Rattle.std.specs.Char.{is_ascii_digit}
 use Rattle.std.specs.Str.{IsUtf8}
 use Rattle.std.proofs.lemmas.Str.{IsUtf8-from_ascii}
@@ -12,27 +13,18 @@ use Rattle.exact_algebra.specs.Fraction.{Fraction, rational}
 use Rattle.exact_algebra.specs.Rational.{◌≤ℚ◌, whole}
 use Rattle.frac_core.specs.NumberText.{decimal_of, in_range, is_number_text, number_of, significand, written, written_body}
 use Rattle.frac_core.specs.declared.number_reader.NumberFault.TheVariants.{TooWide}
-use Rattle.formula_grammar.specs.declared.token.Sign.TheVariants.{Plus}
-use Rattle.formula_grammar.specs.declared.token.Whole.TheVariants.{Zero, Unity, Longer}
-use Rattle.formula_grammar.specs.declared.token.Numeral.{Numeral}
-use Rattle.formula_grammar.specs.declared.token.Numeral.TheVariants.{Digits, Written}
-use Rattle.formula_grammar.specs.declared.token.Kind.{Kind}
-use Rattle.formula_grammar.specs.declared.token.Kind.TheVariants.{Name, QssWord, Number, Signed, Comma, Open, Close, End}
-use Rattle.formula_grammar.specs.declared.token.Token.{Token}
-use Rattle.formula_grammar.specs.declared.reading.SmoothPart.{SmoothPart}
-use Rattle.formula_grammar.specs.declared.reading.Reading.{Reading}
+use Rattle.formula_parser.specs.Words.{Plus, Zero, Unity, Longer, Numeral, Digits, Written, Kind, Name, QssWord, Number, Signed, Comma, Open, Close, End, Token, SmoothPart, Reading}
 use Rattle.formula_grammar.specs.declared.fault.ReadFault.TheVariants.{NumberTooWide}
+use Rattle.formula_grammar.specs.Faults.{token_at, last_from, last_kind, limit_at, IsFormula, IsReading}
 use Rattle.formula_grammar.specs.Numerals.{is_wide, len_of}
 use Rattle.formula_grammar.specs.Numbers.{is_signed, is_too_wide, is_wide_answer, capped_value, number_len, numeral_of, whole_of}
 use Rattle.formula_grammar.specs.Grammar.{token, Smooth, Items, Start, StartSmooth, StartPlus, Then, ThenSmooth, Formula, items_tokens, item_tokens, smooth_tokens, head_tokens, formula_tokens, Begins}
 use Rattle.formula_grammar.specs.Codes.{smooth_part, smooths_of}
-use Rattle.formula_grammar.specs.Faults.{token_at, last_from, last_kind, limit_at, IsFormula, IsReading}
 use Rattle.formula_grammar.specs.Tokens.{begins_name, begins_number, goes_on, is_backtick, is_blank, lexeme, name_lexeme, number_lexeme, opens, mark_of, name_or_word, quoted_to, tokens, tokens_from}
 use Rattle.formula_grammar.proofs.NumberTexts.{number_found, number_is_ascii, number_within, some_number, unsigned_front, unsigned_number}
 use Rattle.formula_parser.specs.Scope.{Text}
 use Rattle.formula_parser.specs.Laws.{LambdasAreNotNegative}
-use Rattle.formula_parser.specs.Parsed.{IsParsed, exact, lambda_text, meant_smooth, told_smooth}
-use Rattle.formula_parser.specs.declared.formula.Smooth.{Smooth as SmoothOf}
+use Rattle.formula_parser.specs.Parsed.{exact, lambda_text, meant_smooth, told_smooth, Smooth as SmoothOf}
 use Rattle.formula_parser.specs.Spoken.{HasLambda}
 use Rattle.formula_parser.proofs.Signs.{unsigned_value}
 
@@ -50,17 +42,11 @@ stands_behind a ts s h = record { front = a ++ h.front; comma = h.comma; back = 
 stands_before : (ts b : List Token) (s : SmoothPart) → Stands ts s → Stands (ts ++ b) s
 stands_before ts b s h = record { front = h.front; comma = h.comma; back = h.back ++ b; whole = ap (λ (x : List Token). x ++ b) h.whole ∙ append_assoc h.front (token Comma h.comma ∷ token (Number s.lambda) s.at ∷ h.back) b }
 
-Each : (SmoothPart → Type 0) → List SmoothPart → Type 0
-Each P [] = Unit {0}
-Each P (s ∷ ss) = P s × Each P ss
-
 each_mapped : (P Q : SmoothPart → Type 0) (ss : List SmoothPart) → ((s : SmoothPart) → P s → Q s) → Each P ss → Each Q ss
-unfolding Each
 each_mapped P Q [] f h = tt
 each_mapped P Q (s ∷ ss) f h = (f s h.0, each_mapped P Q ss f h.1)
 
 each_more : (P : SmoothPart → Type 0) (ss : List SmoothPart) (s : SmoothPart) → Each P ss → P s → Each P (ss ++ s ∷ [])
-unfolding Each
 each_more P [] s h e = (e, tt)
 each_more P (u ∷ ss) s h e = (h.0, each_more P ss s h.1 e)
 
@@ -73,7 +59,6 @@ smooth_stands s = record {
 }
 
 items_stand : (j : Items) → Each (Stands (items_tokens j)) (smooths_of j)
-unfolding Each
 items_stand (Start l i) = tt
 items_stand (StartSmooth s) = (smooth_stands s, tt)
 items_stand (StartPlus n s) = (stands_behind (token (Signed Plus) n ∷ []) (smooth_tokens s) (smooth_part s) (smooth_stands s), tt)
@@ -83,11 +68,12 @@ items_stand (ThenSmooth j n s) =
     (each_mapped (Stands (items_tokens j)) (Stands (items_tokens (ThenSmooth j n s))) (smooths_of j) (λ u h. stands_before (items_tokens j) (token (Signed Plus) n ∷ smooth_tokens s) u h) (items_stand j))
     (stands_behind (items_tokens j) (token (Signed Plus) n ∷ smooth_tokens s) (smooth_part s) (stands_behind (token (Signed Plus) n ∷ []) (smooth_tokens s) (smooth_part s) (smooth_stands s)))
 
-formula_stands : (f : Formula) → Each (Stands (formula_tokens f)) (smooths_of f.items)
-formula_stands f =
-    each_mapped (Stands (items_tokens f.items)) (Stands (formula_tokens f)) (smooths_of f.items)
+formula_stands : (ts : List Token) (f : Formula) → ts ≡ formula_tokens f → Each (Stands ts) (smooths_of f.items)
+formula_stands ts f e =
+    subst (λ (x : List Token). Each (Stands x) (smooths_of f.items)) (sym e)
+    (each_mapped (Stands (items_tokens f.items)) (Stands (formula_tokens f)) (smooths_of f.items)
     (λ s h. stands_behind (head_tokens f.head) (items_tokens f.items ++ (token End f.ended ∷ [])) s (stands_before (items_tokens f.items) (token End f.ended ∷ []) s h))
-    (items_stand f.items)
+    (items_stand f.items))
 
 -- ---- none of them is too wide
 
@@ -128,77 +114,53 @@ record IsNumber (text : Text) (n : ℕ) (x : Numeral) : Type 0 where
   unsigned : is_signed (take (len_of x) (drop n text)) ≡ false
   numeral : x ≡ numeral_of (take (len_of x) (drop n text))
 
-IsTrue : Text → ℕ → Kind → Type 0
+abbrev IsTrue : Text → ℕ → Kind → Type 0
 IsTrue text n (Number x) = IsNumber text n x
 IsTrue text n k = Unit {0}
 
-AllTrue : Text → List Token → Type 0
-AllTrue text [] = Unit {0}
-AllTrue text (t ∷ ts) = IsTrue text t.at t.kind × AllTrue text ts
+abbrev AllTrue : Text → List Token → Type 0
+AllTrue text ts = Each (λ (t : Token). IsTrue text t.at t.kind) ts
 
 true_at : (text : Text) (front back : List Token) (t : Token) → AllTrue text (front ++ (t ∷ back)) → IsTrue text t.at t.kind
-unfolding AllTrue
 true_at text [] back t h = h.0
 true_at text (u ∷ front) back t h = true_at text front back t h.1
 
-nat_same : (x y : ℕ) → nat_eq x y ≡ true → x ≡ y
-nat_same x y e = grind (arith, nat_tests)
+-- what holds of each form that a number can have holds of a number
+numeral_cases : (q : Text) (P : Numeral → Type 0) → (q ≡ codes "0" → P (Digits Zero)) → (q ≡ codes "1" → P (Digits Unity)) → P (Digits (Longer (length q) (capped_value q) (is_too_wide q)))
+    → P (Written (length q) (is_too_wide q)) → P (numeral_of q)
+unfolding numeral_of whole_of
+numeral_cases q P nought one longer other = go (list_all is_ascii_digit q)
+  where
+    whole : (z u : Bool) → bytes_eq q (codes "0") ≡ z → bytes_eq q (codes "1") ≡ u → P (Digits (if z then Zero else (if u then Unity else Longer (length q) (capped_value q) (is_too_wide q))))
+    whole true u e f = nought ((bytes_eq-Decides q (codes "0")).0 e)
+    whole false true e f = one ((bytes_eq-Decides q (codes "1")).0 f)
+    whole false false e f = longer
 
-both : (b c : Bool) → (b && c) ≡ true → (b ≡ true) × (c ≡ true)
-both true c h = (refl, h)
-both false c h = absurd (cc h)
-
-same_bytes : (q c : Text) → bytes_eq q c ≡ true → q ≡ c
-same_bytes [] [] e = refl
-same_bytes [] (y ∷ c) e = absurd (cc e)
-same_bytes (x ∷ q) [] e = absurd (cc e)
-same_bytes (x ∷ q) (y ∷ c) e =
-    let parts = both (nat_eq x y) (bytes_eq q c) e in
-    ap (λ (n : ℕ). n ∷ q) (nat_same x y parts.0) ∙ ap (λ (t : Text). y ∷ t) (same_bytes q c parts.1)
-
-one_digit : (q : Text) (c : Text) → bytes_eq q c ≡ true → q ≡ c
-one_digit q c e = same_bytes q c e
+    go : (t : Bool) → P (if t then Digits (whole_of q) else Written (length q) (is_too_wide q))
+    go true = whole (bytes_eq q (codes "0")) (bytes_eq q (codes "1")) refl refl
+    go false = other
 
 len_numeral : (q : Text) → len_of (numeral_of q) ≡ length q
-unfolding numeral_of whole_of
-len_numeral q = go (list_all is_ascii_digit q)
-  where
-    whole : (z u : Bool) → bytes_eq q (codes "0") ≡ z → bytes_eq q (codes "1") ≡ u → len_of (Digits (if z then Zero else (if u then Unity else Longer (length q) (capped_value q) (is_too_wide q)))) ≡ length q
-    whole true u e f = sym (ap length (one_digit q (codes "0") e))
-    whole false true e f = sym (ap length (one_digit q (codes "1") f))
-    whole false false e f = refl
-
-    go : (t : Bool) → len_of (if t then Digits (whole_of q) else Written (length q) (is_too_wide q)) ≡ length q
-    go true = whole (bytes_eq q (codes "0")) (bytes_eq q (codes "1")) refl refl
-    go false = refl
+len_numeral q = numeral_cases q (λ x. len_of x ≡ length q) (λ e. sym (ap length e)) (λ e. sym (ap length e)) refl refl
 
 -- ---- the tokens of a text are true to it
 
-abbrev IsOther : Kind → Type 0
-IsOther (Number x) = ⊥
-IsOther k = Unit {0}
+if_true : (text : Text) (n : ℕ) (t : Bool) (a b : Kind) → IsTrue text n a → IsTrue text n b → IsTrue text n (if t then a else b)
+if_true text n true a b h k = h
+if_true text n false a b h k = k
 
-other_true : (text : Text) (n : ℕ) (k : Kind) → IsOther k → IsTrue text n k
-unfolding IsTrue
-other_true text n (Number x) h = absurd h
-other_true text n k h = tt
+mark_true : (text : Text) (n b : ℕ) → IsTrue text n (mark_of b)
+mark_true text n b =
+    if_true text n (b == 43) _ _ tt (if_true text n (b == 45) _ _ tt (if_true text n (b == 126) _ _ tt (if_true text n (b == 42) _ _ tt (if_true text n (b == 58) _ _ tt
+    (if_true text n (b == 94) _ _ tt (if_true text n (b == 40) _ _ tt (if_true text n (b == 41) _ _ tt (if_true text n (b == 44) _ _ tt (if_true text n (b == 46) _ _ tt tt)))))))))
 
-if_other : (t : Bool) (a b : Kind) → IsOther a → IsOther b → IsOther (if t then a else b)
-if_other true a b h k = h
-if_other false a b h k = k
-
-mark_other : (b : ℕ) → IsOther (mark_of b)
-mark_other b =
-    if_other (b == 43) _ _ tt (if_other (b == 45) _ _ tt (if_other (b == 126) _ _ tt (if_other (b == 42) _ _ tt (if_other (b == 58) _ _ tt
-    (if_other (b == 94) _ _ tt (if_other (b == 40) _ _ tt (if_other (b == 41) _ _ tt (if_other (b == 44) _ _ tt (if_other (b == 46) _ _ tt tt)))))))))
-
-name_other : (at : ℕ) (name rest : Text) → IsOther (name_or_word at name rest)
+name_true : (text : Text) (n at : ℕ) (name rest : Text) → IsTrue text n (name_or_word at name rest)
 unfolding name_or_word
-name_other at name rest = if_other (bytes_eq name (codes "factor") && opens rest) _ _ tt (if_other (bytes_eq name (codes "qss") && opens rest) _ _ tt tt)
+name_true text n at name rest = if_true text n (bytes_eq name (codes "factor") && opens rest) _ _ tt (if_true text n (bytes_eq name (codes "qss") && opens rest) _ _ tt tt)
 
-quoted_other : (at : ℕ) (o : Option ℕ) → IsOther (quoted_to at o).kind
-quoted_other at None = tt
-quoted_other at (Some n) = tt
+quoted_true : (text : Text) (n at : ℕ) (o : Option ℕ) → IsTrue text n (quoted_to at o).kind
+quoted_true text n at None = tt
+quoted_true text n at (Some k) = tt
 
 number_true : (text : Text) (at b : ℕ) (bs : Text) → b ∷ bs ≡ drop at text → begins_number b bs ≡ true → IsNumber text at (numeral_of (take (number_len (b ∷ bs)) (b ∷ bs)))
 number_true text at b bs cut h =
@@ -216,22 +178,20 @@ number_true text at b bs cut h =
     }
 
 lexeme_true : (text : Text) (at b : ℕ) (bs : Text) → b ∷ bs ≡ drop at text → IsTrue text at (lexeme at b bs).kind
-unfolding IsTrue
 lexeme_true text at b bs cut = go (begins_name b bs) (begins_number b bs) (is_backtick b) refl
   where
     go : (name number quote : Bool) → begins_number b bs ≡ number
         → IsTrue text at (if name then name_lexeme at (prefix_len goes_on (b ∷ bs)) (b ∷ bs) else (if number then number_lexeme (number_len (b ∷ bs)) (b ∷ bs) else (if quote then quoted_to at (position is_backtick bs) else record { kind = mark_of b; len = 1 }))).kind
-    go true number quote e = other_true text at _ (name_other at (take (prefix_len goes_on (b ∷ bs)) (b ∷ bs)) (drop (prefix_len goes_on (b ∷ bs)) (b ∷ bs)))
+    go true number quote e = name_true text at at (take (prefix_len goes_on (b ∷ bs)) (b ∷ bs)) (drop (prefix_len goes_on (b ∷ bs)) (b ∷ bs))
     go false true quote e = number_true text at b bs cut e
-    go false false true e = other_true text at _ (quoted_other at (position is_backtick bs))
-    go false false false e = other_true text at _ (mark_other b)
+    go false false true e = quoted_true text at at (position is_backtick bs)
+    go false false false e = mark_true text at b
 
 behind : (text bs : Text) (at b : ℕ) → b ∷ bs ≡ drop at text → bs ≡ drop (at + 1) text
 behind text bs at b e =
     ap (drop 1) e ∙ drop-drop 1 at text
 
 tokens_true : (text : Text) (at passed : ℕ) (bs : Text) → bs ≡ drop at text → AllTrue text (tokens_from at passed bs)
-unfolding AllTrue IsTrue
 tokens_true text at passed [] e = (tt, tt)
 tokens_true text at (suc passed) (b ∷ bs) e = tokens_true text (at + 1) passed bs (behind text bs at b e)
 tokens_true text at zero (b ∷ bs) e =
@@ -269,57 +229,33 @@ narrow_read q h w = go (written q) h w
     go (Some x) h w = tested x (nat_le (unsigned_abs x.num) (2 ^ 127 - 1) && nat_le x.den (2 ^ 127 - 1)) w
 
 numeral_read : (q : Text) → is_number_text q ≡ true → is_wide (numeral_of q) ≡ false → is_ok (number_of (2 ^ 127 - 1) q) ≡ true
-unfolding numeral_of whole_of
-numeral_read q h w = go (list_all is_ascii_digit q) w
-  where
-    whole : (z u : Bool) → bytes_eq q (codes "0") ≡ z → bytes_eq q (codes "1") ≡ u → is_wide (Digits (if z then Zero else (if u then Unity else Longer (length q) (capped_value q) (is_too_wide q)))) ≡ false → is_ok (number_of (2 ^ 127 - 1) q) ≡ true
-    whole true u e f w = ap (λ (t : Text). is_ok (number_of (2 ^ 127 - 1) t)) (one_digit q (codes "0") e) ∙ zero_read
-    whole false true e f w = ap (λ (t : Text). is_ok (number_of (2 ^ 127 - 1) t)) (one_digit q (codes "1") f) ∙ one_read
-    whole false false e f w = narrow_read q h w
-
-    go : (t : Bool) → is_wide (if t then Digits (whole_of q) else Written (length q) (is_too_wide q)) ≡ false → is_ok (number_of (2 ^ 127 - 1) q) ≡ true
-    go true w = whole (bytes_eq q (codes "0")) (bytes_eq q (codes "1")) refl refl w
-    go false w = narrow_read q h w
+numeral_read q h =
+    let P : Numeral → Type 0 = λ x. is_wide x ≡ false → is_ok (number_of (2 ^ 127 - 1) q) ≡ true in
+    let read : (c : Text) → is_ok (number_of (2 ^ 127 - 1) c) ≡ true → q ≡ c → is_ok (number_of (2 ^ 127 - 1) q) ≡ true = λ c k e. ap (λ (t : Text). is_ok (number_of (2 ^ 127 - 1) t)) e ∙ k in
+    numeral_cases q P (λ e w. read (codes "0") zero_read e) (λ e w. read (codes "1") one_read e) (narrow_read q h) (narrow_read q h)
 
 -- ---- the lambdas
 
-part_read : (text : Text) (f : Formula) (s : SmoothPart) → IsFormula (tokens text) f → Stands (tokens text) s → HasLambda text s
-unfolding IsTrue
-part_read text f s is h =
-    let front = h.front ++ (token Comma h.comma ∷ []) in
+number_there : (text : Text) (s : SmoothPart) → Stands (tokens text) s → IsNumber text s.at s.lambda
+number_there text s h =
     let cut = h.whole ∙ sym (append_assoc h.front (token Comma h.comma ∷ []) (token (Number s.lambda) s.at ∷ h.back)) in
-    let t : IsNumber text s.at s.lambda = true_at text front h.back (token (Number s.lambda) s.at) (subst (AllTrue text) cut (text_true text)) in
-    record {
-      is_text = t.is_text;
-      is_number = numeral_read (lambda_text text s) t.number (ap is_wide (sym t.numeral) ∙ not_wide (tokens text) f s is h);
-    }
+    true_at text (h.front ++ (token Comma h.comma ∷ [])) h.back (token (Number s.lambda) s.at) (subst (AllTrue text) cut (text_true text))
 
-each_at : (P : SmoothPart → Type 0) (ss : List SmoothPart) → Each P ss → (k : ℕ) (d : SmoothPart) → k < length ss → P (get_or ss k d)
-unfolding Each
-each_at P [] h k d lt = absurd (omega (arith, lt))
-each_at P (s ∷ ss) h zero d lt = h.0
-each_at P (s ∷ ss) h (suc k) d lt = each_at P ss h.1 k d (omega (arith, lt))
+part_read : (text : Text) (f : Formula) (s : SmoothPart) → IsFormula (tokens text) f → Stands (tokens text) s → HasLambda text s
+part_read text f s is h =
+    let t = number_there text s h in
+    record { is_text = t.is_text; is_number = numeral_read (lambda_text text s) t.number (ap is_wide (sym t.numeral) ∙ not_wide (tokens text) f s is h) }
 
 pub lambdas_read : (text : Text) (r : Reading) → IsReading (tokens text) r → All (HasLambda text) r.smooths
 lambdas_read text r h =
-    let f = h.formula in
-    let stand : Each (Stands (tokens text)) (smooths_of f.items) = subst (λ (ts : List Token). Each (Stands ts) (smooths_of f.items)) (sym h.is.reads) (formula_stands f) in
-    let read : Each (HasLambda text) (smooths_of f.items) = each_mapped (Stands (tokens text)) (HasLambda text) (smooths_of f.items) (λ s. part_read text f s h.is) stand in
-    subst (λ (ss : List SmoothPart). All (HasLambda text) ss) (sym (ap (λ (x : Reading). x.smooths) h.code)) (each_at (HasLambda text) (smooths_of f.items) read)
+    let ss = smooths_of h.formula.items in
+    let read = each_mapped (Stands (tokens text)) (HasLambda text) ss (λ s. part_read text h.formula s h.is) (formula_stands (tokens text) h.formula h.is.reads) in
+    subst (λ (x : List SmoothPart). All (HasLambda text) x) (sym (ap (λ (x : Reading). x.smooths) h.code)) (All-from_recursion (HasLambda text) ss read)
 
 -- ---- none of them is negative
 
-unsigned_part : (text : Text) (s : SmoothPart) → Stands (tokens text) s → is_signed (lambda_text text s) ≡ false
-unfolding IsTrue
-unsigned_part text s h =
-    let front = h.front ++ (token Comma h.comma ∷ []) in
-    let cut = h.whole ∙ sym (append_assoc h.front (token Comma h.comma ∷ []) (token (Number s.lambda) s.at ∷ h.back)) in
-    let t : IsNumber text s.at s.lambda = true_at text front h.back (token (Number s.lambda) s.at) (subst (AllTrue text) cut (text_true text)) in
-    t.unsigned
-
 smooths_not_negative : (text : Text) (names : List Text) (ss : List SmoothOf) (ps : List SmoothPart) → map told_smooth ss ≡ map (meant_smooth text names) ps → Each (λ p. is_signed (lambda_text text p) ≡ false) ps
     → (k : ℕ) (d : SmoothOf) → k < length ss → whole (pos 0) ≤ℚ exact (get_or ss k d).lambda
-unfolding Each
 smooths_not_negative text names [] ps e h k d l = absurd (omega (arith, l))
 smooths_not_negative text names (s ∷ ss) [] e h k d l = absurd (cc e)
 smooths_not_negative text names (s ∷ ss) (p ∷ ps) e h zero d l =
@@ -329,6 +265,5 @@ smooths_not_negative text names (s ∷ ss) (p ∷ ps) e h (suc k) d l = smooths_
 
 pub lambdas_not_negative : LambdasAreNotNegative
 lambdas_not_negative text names f is =
-    let stand : Each (Stands (tokens text)) (smooths_of is.formula.items) = subst (λ (ts : List Token). Each (Stands ts) (smooths_of is.formula.items)) (sym is.is.reads) (formula_stands is.formula) in
     smooths_not_negative text names f.smooths (smooths_of is.formula.items) is.smooths
-    (each_mapped (Stands (tokens text)) (λ p. is_signed (lambda_text text p) ≡ false) (smooths_of is.formula.items) (unsigned_part text) stand)
+    (each_mapped (Stands (tokens text)) (λ p. is_signed (lambda_text text p) ≡ false) (smooths_of is.formula.items) (λ s h. (number_there text s h).unsigned) (formula_stands (tokens text) is.formula is.is.reads))

@@ -1,8 +1,7 @@
 -- Variables, each once.
 use Rattle.std.proofs.Common.{◌≡◌, ◌<◌, ◌+◌, ◌∷◌, ◌++◌, [], ℕ, List, length, flat_map, drop, drop-cons, get_or, add-one, refl, sym, ◌∙◌, ap}
-use Rattle.formula_grammar.specs.declared.reading.Step.{Step}
-use Rattle.formula_parser.specs.declared.scope.Mention.{Mention}
-use Rattle.formula_parser.specs.Scope.{each_once, with_variable}
+use Rattle.formula_parser.specs.Words.{Step}
+use Rattle.formula_parser.specs.Scope.{Mention, each_once, with_variable}
 
 once_append : (found a b : List Mention) → each_once found (a ++ b) ≡ each_once (each_once found a) b
 once_append found [] b = refl

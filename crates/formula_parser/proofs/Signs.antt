@@ -21,7 +21,7 @@ not_negative n d =
     (≤ℚ_mul (whole (pos 0)) (inverse (whole (pos d))) (whole (pos n)) (whole-le (pos 0) (pos n) (omega (arith, ints))) below)
 
 -- the numerator of what is written isn't negative
-HasNumerator : Option Fraction → Type 0
+abbrev HasNumerator : Option Fraction → Type 0
 HasNumerator None = Unit {0}
 HasNumerator (Some x) = (n : ℕ) × (x.num ≡ pos n)
 
@@ -34,7 +34,6 @@ one_of_both true x y h k = h
 one_of_both false x y h k = k
 
 scaled_numerator : (m up down : ℕ) → HasNumerator (Some (scaled m up down))
-unfolding HasNumerator
 scaled_numerator m up down = (m * 10 ^ (up - down), refl)
 
 decimal_numerator : (front behind : Text) (up down : ℕ) → HasNumerator (Some (decimal_of front behind up down))
@@ -44,14 +43,12 @@ decimal_numerator front behind up down =
     (scaled_numerator (significand (front ++ behind)) (suffix_len is_zero_digit (front ++ behind) + up) (length behind + down))
 
 form_numerator : (front behind exponent : Text) → HasNumerator (decimal_form front behind exponent)
-unfolding HasNumerator
 form_numerator front behind exponent =
     let size = digits_value 10 (without_leading_sign exponent) in
     one_of_both (are_digits (front ++ behind) && are_digits (without_leading_sign exponent)) (Some (with_exponent front behind (starts_with_minus exponent) size)) None
     (some_of_both (starts_with_minus exponent) (decimal_of front behind 0 size) (decimal_of front behind size 0) (decimal_numerator front behind 0 size) (decimal_numerator front behind size 0)) tt
 
 fraction_numerator : (above below : Text) → HasNumerator (written_fraction above below)
-unfolding HasNumerator
 fraction_numerator above below =
     one_of_both (are_digits above && are_digits below && nat_lt 0 (digits_value 10 below)) (Some (record { num = pos (digits_value 10 above); den = digits_value 10 below })) None (digits_value 10 above, refl) tt
 
@@ -72,7 +69,7 @@ no_minus (b ∷ bs) h = go (b == 45) h
     go false e = refl
 
 pub unsigned_value : (range : ℕ) (q : Text) (v : ℚ) → is_signed q ≡ false → number_of range q ≡ Ok v → whole (pos 0) ≤ℚ v
-unfolding number_of written HasNumerator
+unfolding number_of written
 unsigned_value range q v h e = go (written_body (without_leading_sign q)) (body_numerator (without_leading_sign q)) (starts_with_minus q) (no_minus q h) e
   where
     tested : (x : Fraction) (t : Bool) → whole (pos 0) ≤ℚ rational x → (if t then Ok (rational x) else Err TooWide) ≡ Ok v → whole (pos 0) ≤ℚ v

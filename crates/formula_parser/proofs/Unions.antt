@@ -76,12 +76,9 @@ or_true false = refl
 -- equal Bool lists are in the same lists
 same_list : (a b : Term) → pointwise beq a b ≡ true → a ≡ b
 same_list [] [] h = refl
-same_list [] (y ∷ b) h = absurd (cc h)
-same_list (x ∷ a) [] h = absurd (cc h)
 same_list (true ∷ a) (true ∷ b) h = ap (λ (t : Term). true ∷ t) (same_list a b h)
 same_list (false ∷ a) (false ∷ b) h = ap (λ (t : Term). false ∷ t) (same_list a b h)
-same_list (true ∷ a) (false ∷ b) h = absurd (cc h)
-same_list (false ∷ a) (true ∷ b) h = absurd (cc h)
+same_list a b h = absurd (cc h)
 
 same_terms : (u t : Term) → pointwise beq u t ≡ true → (found : Terms) → is_in u found ≡ true → is_in t found ≡ true
 same_terms u t e found h = let same = same_list u t e in rw (← same) h

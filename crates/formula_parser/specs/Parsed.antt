@@ -8,28 +8,23 @@ use Rattle.exact_algebra.specs.Rational.{ℚ}
 use Rattle.frac_core.specs.declared.frac128.Frac128.{Frac128}
 use Rattle.frac_core.specs.NumberText.{number_of}
 use Rattle.frac_core.specs.declared.number_reader.NumberFault.{NumberFault}
-use Rattle.formula_grammar.specs.declared.token.Span.{Span}
-use Rattle.formula_grammar.specs.declared.token.Kind.{Kind}
-use Rattle.formula_grammar.specs.declared.token.Kind.TheVariants.{Name}
-use Rattle.formula_grammar.specs.declared.token.Token.{Token}
-use Rattle.formula_grammar.specs.declared.reading.SmoothPart.{SmoothPart}
+use Rattle.formula_parser.specs.Words.{Span, Kind, Name, Token, SmoothPart}
 use Rattle.formula_grammar.specs.declared.fault.ReadFault.TheVariants as read_fault
 use Rattle.formula_grammar.specs.Numerals.{len_of}
 use Rattle.formula_grammar.specs.Grammar.{Formula as Tree}
 use Rattle.formula_grammar.specs.Codes.{items_code, has_intercept, smooths_of}
 use Rattle.formula_grammar.specs.Faults.{IsFormula, IsFirstFault}
 use Rattle.formula_grammar.specs.Tokens.{tokens}
-use Rattle.formula_parser.specs.declared.scope.Mention.{Mention}
-use Rattle.formula_parser.specs.declared.formula.Variable.{Variable}
-use Rattle.formula_parser.specs.declared.formula.Term.{Term}
-use Rattle.formula_parser.specs.declared.formula.Smooth.{Smooth}
-use Rattle.formula_parser.specs.declared.formula.Formula.{Formula}
-use Rattle.formula_parser.specs.declared.fault.FormulaFault.{FormulaFault}
-use Rattle.formula_parser.specs.declared.fault.FormulaFault.TheVariants.{OutOfMemory, Syntax, UnknownName, TooDeep, TooManyTerms, PowerRange, NumberTooWide}
+use Rattle.formula_parser.specs.Scope.{Mention, Text, column_at, column_of, dot_terms, name_at, named_term, other_columns, piece, variables_of}
+pub use Rattle.formula_parser.specs.declared.formula.Variable.{Variable}
+pub use Rattle.formula_parser.specs.declared.formula.Term.{Term}
+pub use Rattle.formula_parser.specs.declared.formula.Smooth.{Smooth}
+pub use Rattle.formula_parser.specs.declared.formula.Formula.{Formula}
+pub use Rattle.formula_parser.specs.declared.fault.FormulaFault.{FormulaFault}
+pub use Rattle.formula_parser.specs.declared.fault.FormulaFault.TheVariants.{OutOfMemory, Syntax, UnknownName, TooDeep, TooManyTerms, PowerRange, NumberTooWide}
 use Rattle.formula_parser.specs.Terms.{Terms, size}
 use Rattle.formula_parser.specs.Terms.{Term as Bools}
 use Rattle.formula_parser.specs.Meaning.{items_meaning}
-use Rattle.formula_parser.specs.Scope.{Text, column_at, column_of, dot_terms, name_at, named_term, other_columns, piece, variables_of}
 
 -- ---- names
 
