@@ -6,8 +6,8 @@ use Rattle.std.specs.Str.{IsCharBoundary, IsUtf8}
 use Rattle.std.proofs.lemmas.Str.{IsCharBoundary-after_ascii}
 use Rattle.formula_grammar.specs.Words.{Kind, Number, Numeral, Token}
 use Rattle.formula_grammar.specs.Tokens.{Lexeme, begins_name, begins_number, goes_on, is_backtick, is_blank, lexeme, mark_of, name_lexeme, name_or_word, number_lexeme, quoted_to, tokens, tokens_from}
-use Rattle.formula_grammar.specs.Numbers.{number_len, numeral_of}
-use Rattle.formula_grammar.proofs.NumberTexts.{some_number}
+use Rattle.formula_grammar.specs.Numbers.{is_signed, number_len, numeral_of}
+use Rattle.formula_grammar.proofs.NumberTexts.{some_number, unsigned_front, unsigned_number}
 
 -- a slice to the end of a text
 pub to_the_end : (bs : List ℕ) (i : ℕ) → i ≤ length bs → take (length bs - i) (drop i bs) ≡ drop i bs
@@ -87,6 +87,13 @@ pub piece_here : (text bytes : List ℕ) (at n : ℕ) → bytes ≡ text → at 
 piece_here text bytes at n e lt =
     let len : at + n - at ≡ n = omega arith in
     ap (λ (m : ℕ). take m (drop at text)) len ∙ ap (take n) (sym (ap (λ (bs : List ℕ). from bs at) e ∙ to_the_end text at (omega arith)))
+
+-- it has no sign
+pub piece_unsigned : (text bytes : List ℕ) (at n : ℕ) → bytes ≡ text → at < length text → begins_number (get_or bytes at 0) (from bytes (at + 1)) ≡ true
+    → is_signed (slice_range text at (at + n)) ≡ false
+piece_unsigned text bytes at n e lt begins =
+    ap is_signed (piece_here text bytes at n e lt)
+    ∙ unsigned_front (from bytes at) n (ap is_signed (front text bytes at e lt) ∙ unsigned_number (get_or bytes at 0) (from bytes (at + 1)) begins)
 
 -- ---- the loop
 

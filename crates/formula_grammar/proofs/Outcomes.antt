@@ -1,5 +1,5 @@
 -- What a reader holds behind some tokens, and what the next token does.
-use Rattle.std.proofs.Common.{◌≡◌, ◌<◌, ◌≤◌, ◌⊎◌, ℕ, ◌+◌, zero, suc, Bool, true, false, List, [], ◌∷◌, ◌++◌, Option, Some, None, option_map, option_and_then, inl, inr, nat_le, refl, sym, ◌∙◌, ap, arith, below_more, cond, get_or, length, subst, take}
+use Rattle.std.proofs.Common.{◌≡◌, ◌<◌, ◌≤◌, ◌⊎◌, ℕ, ◌+◌, zero, suc, Bool, true, false, List, [], ◌∷◌, ◌++◌, Option, Some, None, IfSome, option_map, option_and_then, inl, inr, nat_le, refl, sym, ◌∙◌, ap, arith, below_more, cond, get_or, length, subst, take}
 use Rattle.std.proofs.lemmas.List.{get_or_default, take_more, take_all}
 use Rattle.formula_grammar.specs.Words.{Kind, Number, Caret, Open, Comma, End, Numeral, Digits, Written, Token, Reading}
 use Rattle.formula_grammar.specs.Faults.{ReadFault, OutOfMemory, Syntax, TooDeep, PowerRange, NumberTooWide, token_at, depth_behind, depth_from, depth, is_power, number_fault, last_from, last_kind, limit_fault, limit_at, IsFaultAt, IsCleanBelow, IsFirstFault, IsFormula, IsReading, IsFault, EndText, OneFault, NoFormulaHasFaults, FormulaOrFault}
@@ -43,15 +43,18 @@ goes_behind ts t r r' h e =
 pub nothing_held : (r : Reader) → r ≡ shape Begin → Holds [] r
 nothing_held r e = record { state = Begin; is = refl; shaped = e }
 
-pub goes : (ts : List Token) (i : ℕ) (d : Token) (r r' : Reader) → i < length ts → Holds (take i ts) r → Reads (token_read r (get_or ts i d)) true r' → Holds (take (i + 1) ts) r'
-goes ts i d r r' lt h e = let P : List Token → Type 0 = λ x. Holds x r' in subst P (sym (take_more ts i d lt)) (goes_behind (take i ts) (get_or ts i d) r r' h e)
+-- the tokens up to one and that one
+up_to : (ts : List Token) (i : ℕ) (t : Token) → i < length ts → t ≡ get_or ts i t → take (i + 1) ts ≡ take i ts ++ (t ∷ [])
+up_to ts i t lt is = take_more ts i t lt ∙ ap (λ (u : Token). take i ts ++ (u ∷ [])) (sym is)
+
+pub goes : (ts : List Token) (i : ℕ) (t : Token) (r r' : Reader) → i < length ts → t ≡ get_or ts i t → Holds (take i ts) r → Reads (token_read r t) true r' → Holds (take (i + 1) ts) r'
+goes ts i t r r' lt is h e = let P : List Token → Type 0 = λ x. Holds x r' in subst P (sym (up_to ts i t lt is)) (goes_behind (take i ts) t r r' h e)
 
 pub held_begins : (ts : List Token) (r : Reader) → Holds ts r → Begins ts
 held_begins ts r h = begins ts h.state h.is
 
--- the token itself, whatever the default
-at_index : (ts : List Token) (i : ℕ) (d : Token) → i < length ts → token_at ts i ≡ get_or ts i d
-at_index ts i d lt = get_or_default ts i (token End 0) d lt
+at_index : (ts : List Token) (i : ℕ) (t : Token) → i < length ts → t ≡ get_or ts i t → token_at ts i ≡ t
+at_index ts i t lt is = get_or_default ts i (token End 0) t lt ∙ sym is
 
 -- no formula can have the token there
 stopped : (ts : List Token) (i : ℕ) (s : State) → i < length ts → run Begin (take i ts) ≡ Some s → step s (token_at ts i) ≡ None → IsCleanBelow ts i → IsFirstFault ts (Syntax (token_at ts i).at)
@@ -59,12 +62,12 @@ stopped ts i s lt is e clean =
     let none : run Begin (take i ts ++ (token_at ts i ∷ [])) ≡ None = run_more (take i ts) (token_at ts i) s is ∙ ap (option_and_then (λ q. Some q)) e in
     record { index = i; there = lt; here = (begins (take i ts) s is, λ b. begins_not (take i ts ++ (token_at ts i ∷ [])) none (subst Begins (take_more ts i (token End 0) lt) b), refl); first = clean }
 
-pub wrong : (ts : List Token) (i : ℕ) (d : Token) (r r' : Reader) → i < length ts → Holds (take i ts) r → IsCleanBelow ts i
-    → Reads (token_read r (get_or ts i d)) false r' → IsFirstFault ts (Syntax (get_or ts i d).at)
-wrong ts i d r r' lt h clean e =
-    let same = at_index ts i d lt in
+pub wrong : (ts : List Token) (i : ℕ) (t : Token) (r r' : Reader) → i < length ts → t ≡ get_or ts i t → Holds (take i ts) r → IsCleanBelow ts i
+    → Reads (token_read r t) false r' → IsFirstFault ts (Syntax t.at)
+wrong ts i t r r' lt is h clean e =
+    let same = at_index ts i t lt is in
     let none = unmapped (step h.state (token_at ts i)) (read_at h.state (token_at ts i) r None h.shaped (ap (token_read r) same ∙ e)) in
-    subst (λ (t : Token). IsFirstFault ts (Syntax t.at)) same (stopped ts i h.state lt h.is none clean)
+    subst (λ (u : Token). IsFirstFault ts (Syntax u.at)) same (stopped ts i h.state lt h.is none clean)
 
 -- ---- limits
 
@@ -76,19 +79,18 @@ last_more : (k : Kind) (ts : List Token) (t : Token) → last_from k (ts ++ (t �
 last_more k [] t = refl
 last_more k (u ∷ ts) t = last_more u.kind ts t
 
-pub depth_next : (ts : List Token) (i : ℕ) (d : Token) (n m : ℕ) → i < length ts → n ≡ depth (take i ts) → m ≡ depth_behind (get_or ts i d).kind n → m ≡ depth (take (i + 1) ts)
-depth_next ts i d n m lt e f =
-    f ∙ ap (depth_behind (get_or ts i d).kind) e ∙ sym (depth_more 0 (take i ts) (get_or ts i d)) ∙ ap depth (sym (take_more ts i d lt))
+pub depth_next : (ts : List Token) (i : ℕ) (t : Token) (n m : ℕ) → i < length ts → t ≡ get_or ts i t → n ≡ depth (take i ts) → m ≡ depth_behind t.kind n → m ≡ depth (take (i + 1) ts)
+depth_next ts i t n m lt is e f = f ∙ ap (depth_behind t.kind) e ∙ sym (depth_more 0 (take i ts) t) ∙ ap depth (sym (up_to ts i t lt is))
 
-pub last_next : (ts : List Token) (i : ℕ) (d : Token) (k : Kind) → i < length ts → k ≡ (get_or ts i d).kind → k ≡ last_kind (take (i + 1) ts)
-last_next ts i d k lt e = e ∙ sym (last_more End (take i ts) (get_or ts i d)) ∙ ap last_kind (sym (take_more ts i d lt))
+pub last_next : (ts : List Token) (i : ℕ) (t : Token) (k : Kind) → i < length ts → t ≡ get_or ts i t → k ≡ t.kind → k ≡ last_kind (take (i + 1) ts)
+last_next ts i t k lt is e = e ∙ sym (last_more End (take i ts) t) ∙ ap last_kind (sym (up_to ts i t lt is))
 
-limits_at : (ts : List Token) (i : ℕ) (d : Token) (n : ℕ) (k : Kind) (fault : Option ReadFault) → i < length ts → n ≡ depth (take i ts) → k ≡ last_kind (take i ts)
-    → fault ≡ limit_fault (get_or ts i d).kind (get_or ts i d).at n k → limit_at ts i ≡ fault
-limits_at ts i d n k fault lt e f g =
-    ap (λ (t : Token). limit_fault t.kind t.at (depth (take i ts)) (last_kind (take i ts))) (at_index ts i d lt)
-    ∙ ap (λ (m : ℕ). limit_fault (get_or ts i d).kind (get_or ts i d).at m (last_kind (take i ts))) (sym e)
-    ∙ ap (limit_fault (get_or ts i d).kind (get_or ts i d).at n) (sym f)
+limits_at : (ts : List Token) (i : ℕ) (t : Token) (n : ℕ) (k : Kind) (fault : Option ReadFault) → i < length ts → t ≡ get_or ts i t → n ≡ depth (take i ts) → k ≡ last_kind (take i ts)
+    → fault ≡ limit_fault t.kind t.at n k → limit_at ts i ≡ fault
+limits_at ts i t n k fault lt is e f g =
+    ap (λ (u : Token). limit_fault u.kind u.at (depth (take i ts)) (last_kind (take i ts))) (at_index ts i t lt is)
+    ∙ ap (λ (m : ℕ). limit_fault t.kind t.at m (last_kind (take i ts))) (sym e)
+    ∙ ap (limit_fault t.kind t.at n) (sym f)
     ∙ sym g
 
 abbrev IsLimit : ReadFault → Type 0
@@ -96,29 +98,27 @@ IsLimit OutOfMemory = ⊥
 IsLimit (Syntax n) = ⊥
 IsLimit fault = Unit {0}
 
-one_limit : (b : Bool) (x fault : ReadFault) → IsLimit x → cond b (Some x) None ≡ Some fault → IsLimit fault
-one_limit true x fault l e = subst IsLimit (some_is e) l
-one_limit false x fault l e = cc
+either_limit : (b : Bool) (x y : Option ReadFault) → IfSome x IsLimit → IfSome y IsLimit → IfSome (cond b x y) IsLimit
+either_limit true x y h k = h
+either_limit false x y h k = k
 
-other_limit : (b : Bool) (x fault : ReadFault) → IsLimit x → cond b None (Some x) ≡ Some fault → IsLimit fault
-other_limit true x fault l e = cc
-other_limit false x fault l e = subst IsLimit (some_is e) l
+number_limit : (before : Kind) (x : Numeral) (n : ℕ) → IfSome (number_fault before x n) IsLimit
+number_limit Caret (Digits k) n = either_limit (is_power k) None (Some (PowerRange n)) tt tt
+number_limit Comma x n = either_limit (is_wide x) (Some (NumberTooWide n)) None tt tt
+number_limit before x n = tt
 
-number_limit : (before : Kind) (x : Numeral) (n : ℕ) (fault : ReadFault) → number_fault before x n ≡ Some fault → IsLimit fault
-number_limit Caret (Digits k) n fault e = other_limit (is_power k) (PowerRange n) fault tt e
-number_limit Caret (Written t u) n fault e = cc
-number_limit Comma x n fault e = one_limit (is_wide x) (NumberTooWide n) fault tt e
-number_limit before x n fault e = cc
+any_limit : (k : Kind) (n opened : ℕ) (before : Kind) → IfSome (limit_fault k n opened before) IsLimit
+any_limit Open n opened before = either_limit (nat_le 64 opened) (Some (TooDeep n)) None tt tt
+any_limit (Number x) n opened before = number_limit before x n
+any_limit k n opened before = tt
 
-any_limit : (k : Kind) (n opened : ℕ) (before : Kind) (fault : ReadFault) → limit_fault k n opened before ≡ Some fault → IsLimit fault
-any_limit Open n opened before fault e = one_limit (nat_le 64 opened) (TooDeep n) fault tt e
-any_limit (Number x) n opened before fault e = number_limit before x n fault e
-any_limit k n opened before fault e = cc
+limit_is : (ts : List Token) (i : ℕ) (fault : ReadFault) → limit_at ts i ≡ Some fault → IsLimit fault
+limit_is ts i fault e = subst (λ (o : Option ReadFault). IfSome o IsLimit) e (any_limit (token_at ts i).kind (token_at ts i).at (depth (take i ts)) (last_kind (take i ts)))
 
 -- a limit that is passed is a fault
 limit_here : (ts : List Token) (i : ℕ) (fault : ReadFault) → Begins (take (i + 1) ts) → limit_at ts i ≡ Some fault → IsFaultAt ts i fault
-limit_here ts i OutOfMemory b e = absurd (any_limit (token_at ts i).kind (token_at ts i).at (depth (take i ts)) (last_kind (take i ts)) OutOfMemory e)
-limit_here ts i (Syntax n) b e = absurd (any_limit (token_at ts i).kind (token_at ts i).at (depth (take i ts)) (last_kind (take i ts)) (Syntax n) e)
+limit_here ts i OutOfMemory b e = limit_is ts i OutOfMemory e
+limit_here ts i (Syntax n) b e = absurd (limit_is ts i (Syntax n) e)
 limit_here ts i fault b e = (b, e)
 
 -- a token that can stand there and passes no limit has no fault
@@ -132,17 +132,17 @@ clean_more ts i clean here j lt =
     let P : ℕ → Type 0 = λ j. (fault : ReadFault) → IsFaultAt ts j fault → ⊥ in
     below_more P i clean here j lt
 
-pub clean_next : (ts : List Token) (i : ℕ) (d : Token) (r : Reader) (n : ℕ) (k : Kind) → i < length ts → Holds (take (i + 1) ts) r → IsCleanBelow ts i
-    → n ≡ depth (take i ts) → k ≡ last_kind (take i ts) → None ≡ limit_fault (get_or ts i d).kind (get_or ts i d).at n k → IsCleanBelow ts (i + 1)
-clean_next ts i d r n k lt h clean e f g =
-    clean_more ts i clean (none_here ts i (held_begins (take (i + 1) ts) r h) (limits_at ts i d n k None lt e f g))
+pub clean_next : (ts : List Token) (i : ℕ) (t : Token) (r : Reader) (n : ℕ) (k : Kind) → i < length ts → t ≡ get_or ts i t → Holds (take (i + 1) ts) r → IsCleanBelow ts i
+    → n ≡ depth (take i ts) → k ≡ last_kind (take i ts) → None ≡ limit_fault t.kind t.at n k → IsCleanBelow ts (i + 1)
+clean_next ts i t r n k lt is h clean e f g =
+    clean_more ts i clean (none_here ts i (held_begins (take (i + 1) ts) r h) (limits_at ts i t n k None lt is e f g))
 
-pub passed : (ts : List Token) (i : ℕ) (d : Token) (r : Reader) (n : ℕ) (k : Kind) (fault : ReadFault) → i < length ts → Holds (take (i + 1) ts) r → IsCleanBelow ts i
-    → n ≡ depth (take i ts) → k ≡ last_kind (take i ts) → Some fault ≡ limit_fault (get_or ts i d).kind (get_or ts i d).at n k → IsFirstFault ts fault
-passed ts i d r n k fault lt h clean e f g = record {
+pub passed : (ts : List Token) (i : ℕ) (t : Token) (r : Reader) (n : ℕ) (k : Kind) (fault : ReadFault) → i < length ts → t ≡ get_or ts i t → Holds (take (i + 1) ts) r → IsCleanBelow ts i
+    → n ≡ depth (take i ts) → k ≡ last_kind (take i ts) → Some fault ≡ limit_fault t.kind t.at n k → IsFirstFault ts fault
+passed ts i t r n k fault lt is h clean e f g = record {
   index = i;
   there = lt;
-  here = limit_here ts i fault (held_begins (take (i + 1) ts) r h) (limits_at ts i d n k (Some fault) lt e f g);
+  here = limit_here ts i fault (held_begins (take (i + 1) ts) r h) (limits_at ts i t n k (Some fault) lt is e f g);
   first = clean;
 }
 

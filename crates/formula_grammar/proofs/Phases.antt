@@ -7,7 +7,7 @@ use Rattle.formula_grammar.specs.Machine.{Phase, Response, Opening, Operand, Fac
 pub other_read : (p : Phase) (r : Reader) (n : ℕ) (k : Kind) (can : Bool) (r' : Reader)
     → (p ≡ Response → ⊥) → (p ≡ Opening → ⊥) → (p ≡ Operand → ⊥) → ((x : Span) → p ≡ FactorClose x → ⊥) → (p ≡ BehindAtom → ⊥)
     → ((c : ℕ) → p ≡ Exponent c → ⊥) → (p ≡ BehindPower → ⊥) → ((s : SmoothPart) → p ≡ SmoothClose s → ⊥) → (p ≡ BehindItem → ⊥)
-    → Reads (phase_read r (next_phase p n k)) can r' → Reads (read_in p r n k) can r'
+    → Reads (phase_read r (next_phase p k)) can r' → Reads (read_in p r n k) can r'
 other_read Response r n k can r' a b c d e f g h i q = absurd (a refl)
 other_read Opening r n k can r' a b c d e f g h i q = absurd (b refl)
 other_read Operand r n k can r' a b c d e f g h i q = absurd (c refl)

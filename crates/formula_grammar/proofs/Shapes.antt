@@ -144,7 +144,7 @@ shape (Smooth1 w h f) = smooth_held h f SmoothOpen
 shape (Smooth2 w p h f) = smooth_held h f SmoothName
 shape (Smooth3 w p x m h f) = smooth_held h f (SmoothComma x)
 shape (Smooth4 w p x m c h f) = smooth_held h f (SmoothLambda x)
-shape (Smooth5 w p x m c v q h f) = smooth_held h f (SmoothClose (record { name = x; lambda = v; at = q }))
+shape (Smooth5 w p x m c v q h f) = smooth_held h f (SmoothClose (record { name = x; lambda = v }))
 shape (HasItems i h) = items_held h i BehindItem
 shape (Done f) = items_held f.head f.items Ended
 

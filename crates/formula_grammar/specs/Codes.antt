@@ -70,7 +70,7 @@ has_intercept (ThenSmooth j n s) = has_intercept j
 
 -- where the name of a smooth stands, and its lambda
 abbrev pub smooth_part : Smooth → SmoothPart
-smooth_part s = record { name = s.name; lambda = s.lambda; at = s.at }
+smooth_part s = record { name = s.name; lambda = s.lambda }
 
 -- the smooths in the order of the text
 abbrev pub smooths_of : Items → List SmoothPart

@@ -123,11 +123,10 @@ few_variables text names response steps =
 members_few : (vs : List Mention) (t : Bools) → length (members vs t) ≤ length vs
 members_few [] t = omega arith
 members_few (v ∷ vs) [] = omega arith
-members_few (v ∷ vs) (b ∷ t) = go b (members_few vs t)
-  where
-    go : (b : Bool) → length (members vs t) ≤ length vs → length (map (λ (p : Mention × Bool). p.0) (cond b ((v, b) ∷ filter (λ p. p.1) (zip vs t)) (filter (λ p. p.1) (zip vs t)))) ≤ length (v ∷ vs)
-    go true h = omega arith
-    go false h = omega arith
+members_few (v ∷ vs) (b ∷ t) =
+    let few = members_few vs t in
+    elim b as (λ (b : Bool). length (map (λ (p : Mention × Bool). p.0) (cond b ((v, b) ∷ filter (λ p. p.1) (zip vs t)) (filter (λ p. p.1) (zip vs t)))) ≤ length (v ∷ vs))
+    [ true ↦ omega (arith, few) | false ↦ omega (arith, few) ]
 
 -- so does each of its terms
 term_few : (text : Text) (names : List Text) (f : Formula) → IsParsed text names f → AllByRecursion (λ t. length t.variables ≤ 2 * length names + 2) f.terms

@@ -1,5 +1,5 @@
 -- The code of a tree does what the tree means.
-use Rattle.std.proofs.Common.{◌≡◌, ◌<◌, ◌≤◌, ◌+◌, ℕ, suc, length, drop, drop-cons, get_or, add-one, Bool, List, [], ◌∷◌, ◌++◌, append-nil, Result, Ok, Err, refl, sym, ◌∙◌, ap, append_assoc}
+use Rattle.std.proofs.Common.{◌≡◌, ◌<◌, ◌≤◌, ◌+◌, ℕ, length, drop, get_or, Bool, List, [], ◌∷◌, ◌++◌, append-nil, Result, Ok, Err, refl, sym, ◌∙◌, ap, append_assoc}
 use Rattle.std.proofs.lemmas.List.{drop_all}
 use Rattle.formula_parser.specs.Words.{Span, Sign, Plus, Minus, Step, Multiply, Interact, Raise}
 use Rattle.formula_grammar.specs.Numerals.{power_of}
@@ -8,6 +8,7 @@ use Rattle.formula_grammar.specs.Grammar.{Term as TermItem}
 use Rattle.formula_grammar.specs.Codes.{signed_step, sum_code, product_code, inter_code, power_code, atom_code, items_code}
 use Rattle.formula_parser.specs.Terms.{Term, Terms, cross, raised, times}
 use Rattle.formula_parser.specs.Meaning.{◌>>=◌, limited, combined, sum_meaning, product_meaning, inter_meaning, power_meaning, atom_meaning, items_meaning}
+use Rattle.formula_parser.proofs.Unions.{split_at}
 use Rattle.formula_parser.specs.Stack.{Halt, OutOfMemory, TooManyTerms, Halts, act, exec, pushed, run_steps, top}
 
 bind_assoc : {A B C : Type 0} (r : Result A ℕ) (f : A → Result B ℕ) (g : B → Result C ℕ) → ((r >>= f) >>= g) ≡ (r >>= λ x. f x >>= g)
@@ -97,9 +98,8 @@ module _ (only : Span → Bool → Term) (all : Terms) where
   pub goes_on : (code : List Step) (i : ℕ) (d : Step) (stack next : List Terms) (r : Result (List Terms) ℕ) → i < length code → act only all (get_or code i d) stack ≡ Ok next
       → exec only all (drop i code) stack ≡ r → exec only all (drop (i + 1) code) next ≡ r
   goes_on code i d stack next r within acts before =
-      ap (λ (n : ℕ). exec only all (drop n code) next) (add-one i)
-      ∙ sym (ap (λ (q : Result (List Terms) ℕ). q >>= λ s. exec only all (drop (suc i) code) s) acts)
-      ∙ sym (ap (λ (l : List Step). exec only all l stack) (drop-cons code i d within))
+      sym (ap (λ (q : Result (List Terms) ℕ). q >>= λ s. exec only all (drop (i + 1) code) s) acts)
+      ∙ sym (ap (λ (l : List Step). exec only all l stack) (split_at code i d within))
       ∙ before
 
   -- a step stops, and so do the steps
@@ -109,8 +109,8 @@ module _ (only : Span → Bool → Term) (all : Terms) where
   stops_at code i d stack (TooManyTerms n) within halts before =
       ap (λ (q : Result (List Terms) ℕ). q >>= λ s. Ok (top s))
       (sym before
-      ∙ ap (λ (l : List Step). exec only all l stack) (drop-cons code i d within)
-      ∙ ap (λ (q : Result (List Terms) ℕ). q >>= λ s. exec only all (drop (suc i) code) s) halts)
+      ∙ ap (λ (l : List Step). exec only all l stack) (split_at code i d within)
+      ∙ ap (λ (q : Result (List Terms) ℕ). q >>= λ s. exec only all (drop (i + 1) code) s) halts)
 
   -- all steps are done
   pub leaves : (code : List Step) (i : ℕ) (stack : List Terms) → length code ≤ i → exec only all (drop i code) stack ≡ exec only all code [] → run_steps only all code ≡ Ok (top stack)

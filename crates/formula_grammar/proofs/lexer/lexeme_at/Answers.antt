@@ -1,6 +1,6 @@
 use Rattle.std.proofs.Common.{ap, sym, ◌+◌, ◌∙◌}
 use Rattle.formula_grammar.specs.Numbers.{numeral_of}
-use Rattle.formula_grammar.proofs.Lexing.{from, front, mark_lexeme, name_lexeme_is, number_here, number_lexeme_is, piece_here, quoted_lexeme, same_lexeme}
+use Rattle.formula_grammar.proofs.Lexing.{from, front, mark_lexeme, name_lexeme_is, number_here, number_lexeme_is, piece_here, piece_unsigned, quoted_lexeme, same_lexeme}
 use Rattle.formula_grammar.proofs.lexer.lexeme_at.Goals as goal
 
 pub range-requires-clause-end_boundary : goal.range-requires-clause-end_boundary
@@ -8,6 +8,10 @@ range-requires-clause-end_boundary c =
     let n = c.number_len-len.ensures in
     let here = number_here c.args.text.now c.as_bytes-bytes.result.now c.args.at c.number_len-len.result c.as_bytes-bytes.ensures.value c.utf8.text c.requires.inside n.len n.within n.ascii (sym c.begins_number.ensures ∙ c.if-begins_number.true) in
     here.cut
+
+pub read_numeral-requires : goal.read_numeral-requires
+read_numeral-requires c =
+    rw c.range.ensures.value (piece_unsigned c.args.text.now c.as_bytes-bytes.result.now c.args.at c.number_len-len.result c.as_bytes-bytes.ensures.value c.requires.inside (sym c.begins_number.ensures ∙ c.if-begins_number.true))
 
 pub returns-then-begins_number-clause-some : goal.returns-then-begins_number-clause-some
 returns-then-begins_number-clause-some c =
