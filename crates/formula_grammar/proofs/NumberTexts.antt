@@ -1,11 +1,11 @@
 -- A number text byte by byte, and the longest one at the front of a text.
-use Rattle.std.proofs.Common.{◌≡◌, ◌<◌, ◌≤◌, ◌+◌, ◌-◌, ◌*◌, ◌==◌, ◌&&◌, ◌||◌, ◌++◌, ◌∷◌, [], ℕ, zero, suc, Bool, true, false, List, Option, Some, None, option_map, option_and_then, is_some, cond, codes, length, take, drop, get_or, nat_le, nat_lt, refl, sym, ◌∙◌, ap, append_assoc, append-nil, arith, lit<, add-one, drop-cons, if◌then◌else◌}
+use Rattle.std.proofs.Common.{◌≡◌, ◌<◌, ◌≤◌, ◌+◌, ◌-◌, ◌*◌, ◌==◌, ◌&&◌, ◌||◌, ◌++◌, ◌∷◌, [], ℕ, zero, suc, Bool, true, false, List, Option, Some, None, option_map, option_and_then, is_some, cond, codes, length, take, drop, get_or, nat_lt, refl, sym, ◌∙◌, ap, append_assoc, append-nil, arith, lit<, add-one, if◌then◌else◌}
 use Rattle.std.specs.Char.{digit_value, is_ascii_digit}
-use Rattle.std.specs.Str.{all_ascii_digits, IsAscii}
+use Rattle.std.specs.Str.{all_ascii_digits}
 use Rattle.std.specs.Str.Parse.{digits_value, digits_value_after, starts_with_minus, without_leading_sign}
-use Rattle.std.specs.List.{list_all, prefix_len}
+use Rattle.std.specs.List.{prefix_len}
 use Rattle.std.proofs.lemmas.Bool.Decides.{nat_tests}
-use Rattle.std.proofs.lemmas.List.{drop_all, take_more, take-take, take-append-drop}
+use Rattle.std.proofs.lemmas.List.{take_more, take-take, take-append-drop}
 use Rattle.exact_algebra.specs.Fraction.{Fraction}
 use Rattle.frac_core.specs.NumberText.{are_digits, decimal_form, is_exponent_mark, is_number_text, is_point, is_slash, is_zero_digit, with_sign, written, written_body, written_fraction}
 use Rattle.frac_core.specs.NumberReading.{front, rest, scan, scan_decimal, scan_from}

@@ -1,7 +1,7 @@
 -- What a reader holds behind some tokens, and what the next token does.
 use Rattle.std.proofs.Common.{◌≡◌, ◌<◌, ◌≤◌, ◌⊎◌, ℕ, ◌+◌, zero, suc, Bool, true, false, List, [], ◌∷◌, ◌++◌, Option, Some, None, IfSome, option_map, option_and_then, inl, inr, nat_le, refl, sym, ◌∙◌, ap, arith, below_more, cond, get_or, length, subst, take}
 use Rattle.std.proofs.lemmas.List.{get_or_default, take_more, take_all}
-use Rattle.formula_grammar.specs.Words.{Kind, Number, Caret, Open, Comma, End, Numeral, Digits, Written, Token, Reading}
+use Rattle.formula_grammar.specs.Words.{Kind, Number, Caret, Open, Comma, End, Numeral, Digits, Token, Reading}
 use Rattle.formula_grammar.specs.Faults.{ReadFault, OutOfMemory, Syntax, TooDeep, PowerRange, NumberTooWide, token_at, depth_behind, depth_from, depth, is_power, number_fault, last_from, last_kind, limit_fault, limit_at, IsFaultAt, IsCleanBelow, IsFirstFault, IsFormula, IsReading, IsFault, EndText, OneFault, NoFormulaHasFaults, FormulaOrFault}
 use Rattle.formula_grammar.specs.Machine.{Reader, token_read, Reads}
 use Rattle.formula_grammar.specs.Numerals.{is_wide}

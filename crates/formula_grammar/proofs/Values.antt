@@ -2,7 +2,7 @@
 use Rattle.std.proofs.Common.{◌≡◌, ◌≤◌, ◌/◌, ◌∷◌, [], ℕ, Bool, true, false, List, Option, Some, None, Result, Ok, Err, IfSome, option_and_then, option_map, nat_le, pos, refl, sym, ap, subst, ◌∙◌, arith, leb-true, unsigned_abs, if◌then◌else◌, ◌&&◌}
 use Rattle.std.proofs.Math.IntN.{ℤ_set}
 use Rattle.std.proofs.Math.Nat.{div-mul_cancel}
-use Rattle.std.specs.Str.Parse.{starts_with_minus, without_leading_sign}
+use Rattle.std.specs.Str.Parse.{starts_with_minus}
 use Rattle.std.proofs.lemmas.Bool.Decides.{nat_tests}
 use mathlib.Core.HLevel.{is_prop→PathP}
 use Rattle.exact_algebra.specs.Fraction.{Fraction, rational}
