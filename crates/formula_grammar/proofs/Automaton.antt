@@ -1,15 +1,6 @@
 -- Reading tokens one by one: what has been read of a formula as partial trees, and what comes of the next token.
 use Rattle.std.specs.Prelude.{ℕ, List, [], ◌∷◌, Option, Some, None, option_and_then}
-use Rattle.formula_grammar.specs.declared.token.Span.{Span}
-use Rattle.formula_grammar.specs.declared.token.Sign.{Sign}
-use Rattle.formula_grammar.specs.declared.token.Sign.TheVariants.{Plus, Minus}
-use Rattle.formula_grammar.specs.declared.token.Whole.{Whole}
-use Rattle.formula_grammar.specs.declared.token.Whole.TheVariants.{Zero, Unity}
-use Rattle.formula_grammar.specs.declared.token.Numeral.{Numeral}
-use Rattle.formula_grammar.specs.declared.token.Numeral.TheVariants.{Digits}
-use Rattle.formula_grammar.specs.declared.token.Kind.{Kind}
-use Rattle.formula_grammar.specs.declared.token.Kind.TheVariants.{Name, FactorWord, QssWord, Number, Signed, Tilde, Star, Colon, Caret, Open, Close, Comma, Point, End}
-use Rattle.formula_grammar.specs.declared.token.Token.{Token}
+use Rattle.formula_grammar.specs.Words.{Span, Sign, Plus, Minus, Zero, Unity, Numeral, Digits, Kind, Name, FactorWord, QssWord, Number, Signed, Tilde, Star, Colon, Caret, Open, Close, Comma, Point, End, Token}
 use Rattle.formula_grammar.specs.Grammar.{Lead, Bare, Led, Sum, First, More, Product, One, Times, Inter, Lone, Cross, Power, Plain, Raised, Atom, Leaf, Factor, Dot, Group, Smooth, Item, Nil, Intercept, Term, Items, Start, StartSmooth, StartPlus, Then, ThenSmooth, Head, Formula}
 
 -- a left operand and the place of its operator
@@ -50,9 +41,8 @@ pub data State : Type 0 where
   Factor1 : (word : ℕ) (lefts : Lefts) (around : Around) → State
   Factor2 : (word opened : ℕ) (lefts : Lefts) (around : Around) → State
   Factor3 : (word opened : ℕ) (name : Span) (place : ℕ) (lefts : Lefts) (around : Around) → State
-  HasAtom : (atom : Atom) (lefts : Lefts) (around : Around) → State
+  Has : (power : Power) (lefts : Lefts) (around : Around) → State
   Raising : (atom : Atom) (caret : ℕ) (lefts : Lefts) (around : Around) → State
-  HasRaised : (atom : Atom) (caret : ℕ) (exponent : Whole) (at : ℕ) (lefts : Lefts) (around : Around) → State
   Smooth1 : (word : ℕ) (head : Head) (front : SmoothFront) → State
   Smooth2 : (word opened : ℕ) (head : Head) (front : SmoothFront) → State
   Smooth3 : (word opened : ℕ) (name : Span) (place : ℕ) (head : Head) (front : SmoothFront) → State
@@ -94,8 +84,8 @@ may_smooth (After j Plus k) n h = Some (Smooth1 n h (BehindItems j k))
 may_smooth (After j Minus k) n h = None
 
 abbrev pub operand : Lefts → Around → ℕ → Kind → Option State
-operand l o n (Name x) = Some (HasAtom (Leaf x n) l o)
-operand l o n Point = Some (HasAtom (Dot n) l o)
+operand l o n (Name x) = Some (Has (Plain (Leaf x n)) l o)
+operand l o n Point = Some (Has (Plain (Dot n)) l o)
 operand l o n FactorWord = Some (Factor1 n l o)
 operand l o n Open = Some (Fresh (Inside (Leads Bare) n l o))
 operand l o n k = None
@@ -126,7 +116,7 @@ signed p (Inside f m l o) x n = Fresh (Inside (After (onto_sum f p) x n) m l o)
 
 abbrev pub closing : Product → Around → ℕ → Option State
 closing p (Bottom h f) n = None
-closing p (Inside f m l o) n = Some (HasAtom (Group m (onto_sum f p) n) l o)
+closing p (Inside f m l o) n = Some (Has (Plain (Group m (onto_sum f p) n)) l o)
 
 abbrev pub ending : Product → Around → ℕ → Option State
 ending p (Bottom h f) n = Some (Done (record { head = h; items = onto_items f (Term p); ended = n }))
@@ -141,63 +131,29 @@ behind p l o n Close = closing (product_of l p) o n
 behind p l o n End = ending (product_of l p) o n
 behind p l o n k = None
 
-abbrev pub behind_atom : Atom → Lefts → Around → ℕ → Kind → Option State
-behind_atom a l o n Caret = Some (Raising a n l o)
-behind_atom a l o n k = behind (Plain a) l o n k
-
 abbrev pub behind_items : Items → Head → ℕ → Kind → Option State
 behind_items i h n (Signed x) = Some (Fresh (Bottom h (After i x n)))
 behind_items i h n End = Some (Done (record { head = h; items = i; ended = n }))
 behind_items i h n k = None
 
--- a token of one kind alone
-abbrev pub if_name : Kind → (Span → State) → Option State
-if_name (Name x) go = Some (go x)
-if_name k go = None
-
-abbrev pub if_open : Kind → State → Option State
-if_open Open s = Some s
-if_open k s = None
-
-abbrev pub if_close : Kind → Option State → Option State
-if_close Close s = s
-if_close k s = None
-
-abbrev pub if_comma : Kind → State → Option State
-if_comma Comma s = Some s
-if_comma k s = None
-
-abbrev pub if_tilde : Kind → State → Option State
-if_tilde Tilde s = Some s
-if_tilde k s = None
-
-abbrev pub if_number : Kind → (Numeral → State) → Option State
-if_number (Number x) go = Some (go x)
-if_number k go = None
-
-abbrev pub if_digits : Kind → (Whole → State) → Option State
-if_digits (Number (Digits x)) go = Some (go x)
-if_digits k go = None
-
 abbrev pub step_at : State → ℕ → Kind → Option State
-step_at Begin n k = if_name k (λ x. Named x n)
-step_at (Named x m) n k = if_tilde k (Fresh (Bottom (record { response = x; place = m; tilde = n }) (Leads Bare)))
+step_at Begin n (Name x) = Some (Named x n)
+step_at (Named x m) n Tilde = Some (Fresh (Bottom (record { response = x; place = m; tilde = n }) (Leads Bare)))
 step_at (Fresh o) n k = fresh o n k
 step_at (Wants l o) n k = operand l o n k
-step_at (Factor1 w l o) n k = if_open k (Factor2 w n l o)
-step_at (Factor2 w p l o) n k = if_name k (λ x. Factor3 w p x n l o)
-step_at (Factor3 w p x m l o) n k = if_close k (Some (HasAtom (Factor w p x m n) l o))
-step_at (HasAtom a l o) n k = behind_atom a l o n k
-step_at (Raising a c l o) n k = if_digits k (λ e. HasRaised a c e n l o)
-step_at (HasRaised a c e m l o) n k = behind (Raised a c e m) l o n k
-step_at (Smooth1 w h f) n k = if_open k (Smooth2 w n h f)
-step_at (Smooth2 w p h f) n k = if_name k (λ x. Smooth3 w p x n h f)
-step_at (Smooth3 w p x m h f) n k = if_comma k (Smooth4 w p x m n h f)
-step_at (Smooth4 w p x m c h f) n k = if_number k (λ v. Smooth5 w p x m c v n h f)
-step_at (Smooth5 w p x m c v q h f) n k =
-    if_close k (Some (HasItems (onto_smooth f (record { word = w; opened = p; name = x; place = m; comma = c; lambda = v; at = q; closed = n })) h))
+step_at (Factor1 w l o) n Open = Some (Factor2 w n l o)
+step_at (Factor2 w p l o) n (Name x) = Some (Factor3 w p x n l o)
+step_at (Factor3 w p x m l o) n Close = Some (Has (Plain (Factor w p x m n)) l o)
+step_at (Has (Plain a) l o) n Caret = Some (Raising a n l o)
+step_at (Has p l o) n k = behind p l o n k
+step_at (Raising a c l o) n (Number (Digits e)) = Some (Has (Raised a c e n) l o)
+step_at (Smooth1 w h f) n Open = Some (Smooth2 w n h f)
+step_at (Smooth2 w p h f) n (Name x) = Some (Smooth3 w p x n h f)
+step_at (Smooth3 w p x m h f) n Comma = Some (Smooth4 w p x m n h f)
+step_at (Smooth4 w p x m c h f) n (Number v) = Some (Smooth5 w p x m c v n h f)
+step_at (Smooth5 w p x m c v q h f) n Close = Some (HasItems (onto_smooth f (record { word = w; opened = p; name = x; place = m; comma = c; lambda = v; at = q; closed = n })) h)
 step_at (HasItems i h) n k = behind_items i h n k
-step_at (Done f) n k = None
+step_at s n k = None
 
 abbrev pub step : State → Token → Option State
 step s t = step_at s t.at t.kind

@@ -4,14 +4,10 @@ use Rattle.std.proofs.lemmas.List.{drop-drop, take_all}
 use Rattle.std.specs.List.{prefix_len}
 use Rattle.std.specs.Str.{IsCharBoundary, IsUtf8}
 use Rattle.std.proofs.lemmas.Str.{IsCharBoundary-after_ascii}
-use Rattle.formula_grammar.specs.declared.token.Kind.{Kind}
-use Rattle.formula_grammar.specs.declared.token.Kind.TheVariants.{Number}
-use Rattle.formula_grammar.specs.declared.token.Numeral.{Numeral}
-use Rattle.formula_grammar.specs.declared.token.Token.{Token}
-use Rattle.formula_grammar.specs.declared.lexer.Lexeme.{Lexeme}
-use Rattle.formula_grammar.specs.Numbers.{number_len, numeral_of}
-use Rattle.formula_grammar.proofs.NumberTexts.{some_number}
-use Rattle.formula_grammar.specs.Tokens.{begins_name, begins_number, goes_on, is_backtick, is_blank, lexeme, mark_of, name_lexeme, name_or_word, number_lexeme, quoted_to, tokens, tokens_from}
+use Rattle.formula_grammar.specs.Words.{Kind, Number, Numeral, Token}
+use Rattle.formula_grammar.specs.Tokens.{Lexeme, begins_name, begins_number, goes_on, is_backtick, is_blank, lexeme, mark_of, name_lexeme, name_or_word, number_lexeme, quoted_to, tokens, tokens_from}
+use Rattle.formula_grammar.specs.Numbers.{is_signed, number_len, numeral_of}
+use Rattle.formula_grammar.proofs.NumberTexts.{some_number, unsigned_front, unsigned_number}
 
 -- a slice to the end of a text
 pub to_the_end : (bs : List ℕ) (i : ℕ) → i ≤ length bs → take (length bs - i) (drop i bs) ≡ drop i bs
@@ -28,71 +24,76 @@ boundary_behind text at n whole le some ascii =
     let low : get_or text (at + n - 1) 0 < 128 = rw (← place, ← get_or-drop) ascii in
     rw last at (IsCharBoundary-after_ascii text (at + n - 1) whole (omega arith) low)
 
-pub quoted_lexeme : (at b : ℕ) (bs : List ℕ) (l : Lexeme) → begins_name b bs ≡ false → begins_number b bs ≡ false → b ≡ 96 → l ≡ quoted_to at (position is_backtick bs) → l ≡ lexeme at b bs
-quoted_lexeme at b bs l name number quote e =
-    let test : is_backtick b ≡ true = rw quote refl in
-    rw (name, number, test) e
+-- a slice from a place on
+abbrev pub from : List ℕ → ℕ → List ℕ
+from bs i = take (length bs - i) (drop i bs)
+
+-- what is left at a place, as its first byte and those behind
+pub front : (text bytes : List ℕ) (at : ℕ) → bytes ≡ text → at < length text → from bytes at ≡ get_or bytes at 0 ∷ from bytes (at + 1)
+front text bytes at e lt =
+    let inside : at < length bytes = omega (arith, lt, ap length e) in
+    to_the_end bytes at (omega arith) ∙ first_and_rest bytes at inside ∙ ap (λ (x : List ℕ). get_or bytes at 0 ∷ x) (sym (to_the_end bytes (at + 1) (omega arith)))
 
 -- what is known of a number at a place
 pub record IsNumberHere (text : List ℕ) (at n : ℕ) : Type 0 where
   pub some : 1 ≤ n
   pub cut : IsCharBoundary text (at + n)
 
--- a slice from a place on
-abbrev pub from : List ℕ → ℕ → List ℕ
-from bs i = take (length bs - i) (drop i bs)
-
-number_of_text : (text : List ℕ) (at n : ℕ) → IsUtf8 text → at < length text → n ≡ number_len (from text at) → n ≤ length (from text at)
-    → (0 < n → get_or (from text at) (n - 1) 0 < 128) → begins_number (get_or text at 0) (from text (at + 1)) ≡ true → IsNumberHere text at n
-number_of_text text at n whole lt is within ascii begins =
-    let here : from text at ≡ drop at text = to_the_end text at (omega arith) in
-    let rest : from text (at + 1) ≡ drop (at + 1) text = to_the_end text (at + 1) (omega arith) in
-    let some : 1 ≤ number_len (get_or text at 0 ∷ drop (at + 1) text) = some_number (get_or text at 0) (drop (at + 1) text) (ap (begins_number (get_or text at 0)) (sym rest) ∙ begins) in
-    let len : n ≡ number_len (get_or text at 0 ∷ drop (at + 1) text) = is ∙ ap number_len (here ∙ first_and_rest text at lt) in
-    let positive : 1 ≤ n = rw len some in
-    let low : get_or (drop at text) (n - 1) 0 < 128 = rw here at (ascii positive) in
-    record { some = positive; cut = boundary_behind text at n whole (omega (arith, ap length here, length-drop at text, within)) positive low }
-
 pub number_here : (text bytes : List ℕ) (at n : ℕ) → bytes ≡ text → IsUtf8 text → at < length text → n ≡ number_len (from bytes at) → n ≤ length (from bytes at)
     → (0 < n → get_or (from bytes at) (n - 1) 0 < 128) → begins_number (get_or bytes at 0) (from bytes (at + 1)) ≡ true → IsNumberHere text at n
-number_here text bytes at n e whole lt =
-    let P : List ℕ → Type 0 = λ bs. n ≡ number_len (from bs at) → n ≤ length (from bs at)
-    → (0 < n → get_or (from bs at) (n - 1) 0 < 128) → begins_number (get_or bs at 0) (from bs (at + 1)) ≡ true → IsNumberHere text at n in
-    subst P (sym e) (number_of_text text at n whole lt)
+number_here text bytes at n e whole lt is within ascii begins =
+    let here : from bytes at ≡ drop at text = ap (λ (bs : List ℕ). from bs at) e ∙ to_the_end text at (omega arith) in
+    let some : 1 ≤ n = subst (λ (m : ℕ). 1 ≤ m) (sym (is ∙ ap number_len (front text bytes at e lt))) (some_number (get_or bytes at 0) (from bytes (at + 1)) begins) in
+    let low : get_or (drop at text) (n - 1) 0 < 128 = subst (λ (x : List ℕ). get_or x (n - 1) 0 < 128) here (ascii some) in
+    record { some = some; cut = boundary_behind text at n whole (omega (arith, ap length here, length-drop at text, within)) some low }
 
-pub quote_here : (text bytes : List ℕ) (at : ℕ) (l : Lexeme) → bytes ≡ text → at < length text → begins_name (get_or bytes at 0) (from bytes (at + 1)) ≡ false
-    → begins_number (get_or bytes at 0) (from bytes (at + 1)) ≡ false → get_or bytes at 0 ≡ 96 → l ≡ quoted_to at (position is_backtick (from bytes (at + 1)))
-    → l ≡ lexeme at (get_or text at 0) (drop (at + 1) text)
-quote_here text bytes at l e lt =
-    let P : List ℕ → Type 0 = λ bs. begins_name (get_or bs at 0) (from bs (at + 1)) ≡ false
-    → begins_number (get_or bs at 0) (from bs (at + 1)) ≡ false → get_or bs at 0 ≡ 96 → l ≡ quoted_to at (position is_backtick (from bs (at + 1)))
-    → l ≡ lexeme at (get_or text at 0) (drop (at + 1) text) in
-    let Q : List ℕ → Type 0 = λ rest. begins_name (get_or text at 0) rest ≡ false
-    → begins_number (get_or text at 0) rest ≡ false → get_or text at 0 ≡ 96 → l ≡ quoted_to at (position is_backtick rest)
-    → l ≡ lexeme at (get_or text at 0) (drop (at + 1) text) in
-    subst P (sym e) (subst Q (sym (to_the_end text (at + 1) (omega arith))) (quoted_lexeme at (get_or text at 0) (drop (at + 1) text) l))
+-- ---- the kinds of tokens, by a first byte and those behind
 
-number_lexeme_of : (text : List ℕ) (at n : ℕ) (v : Numeral) → at < length text → begins_name (get_or text at 0) (from text (at + 1)) ≡ false → begins_number (get_or text at 0) (from text (at + 1)) ≡ true
-    → n ≡ number_len (from text at) → v ≡ numeral_of (take n (drop at text))
-    → (let l : Lexeme = record { kind = Number v; len = n } in l) ≡ lexeme at (get_or text at 0) (drop (at + 1) text)
-number_lexeme_of text at n v lt name number is value =
-    let b = get_or text at 0 in
-    let rest : from text (at + 1) ≡ drop (at + 1) text = to_the_end text (at + 1) (omega arith) in
-    let here : from text at ≡ b ∷ drop (at + 1) text = to_the_end text at (omega arith) ∙ first_and_rest text at lt in
-    let no_name : begins_name b (drop (at + 1) text) ≡ false = ap (begins_name b) (sym rest) ∙ name in
-    let a_number : begins_number b (drop (at + 1) text) ≡ true = ap (begins_number b) (sym rest) ∙ number in
-    let len : n ≡ number_len (b ∷ drop (at + 1) text) = is ∙ ap number_len here in
-    let same : v ≡ numeral_of (take n (b ∷ drop (at + 1) text)) = value ∙ ap (λ (x : List ℕ). numeral_of (take n x)) (first_and_rest text at lt) in
-    let made : (let l : Lexeme = record { kind = Number v; len = n } in l) ≡ number_lexeme n (b ∷ drop (at + 1) text) = ap (λ (x : Numeral). let l : Lexeme = record { kind = Number x; len = n } in l) same in
-    rw (no_name, a_number) (made ∙ ap (λ (m : ℕ). number_lexeme m (b ∷ drop (at + 1) text)) len)
+pub quoted_lexeme : (at b : ℕ) (bs : List ℕ) (l : Lexeme) → begins_name b bs ≡ false → begins_number b bs ≡ false → b ≡ 96 → l ≡ quoted_to at (position is_backtick bs) → l ≡ lexeme at b bs
+quoted_lexeme at b bs l name number quote e =
+    let test : is_backtick b ≡ true = rw quote refl in
+    rw (name, number, test) e
 
-pub number_lexeme_here : (text bytes slice : List ℕ) (at n : ℕ) (v : Numeral) → bytes ≡ text → at < length text → begins_name (get_or bytes at 0) (from bytes (at + 1)) ≡ false
-    → begins_number (get_or bytes at 0) (from bytes (at + 1)) ≡ true → n ≡ number_len (from bytes at) → v ≡ numeral_of slice → slice ≡ slice_range text at (at + n)
-    → (let l : Lexeme = record { kind = Number v; len = n } in l) ≡ lexeme at (get_or text at 0) (drop (at + 1) text)
-number_lexeme_here text bytes slice at n v e lt name number is value cut =
+pub mark_lexeme : (at b : ℕ) (bs : List ℕ) (k : Kind) → begins_name b bs ≡ false → begins_number b bs ≡ false → (b ≡ 96 → ⊥) → k ≡ mark_of b
+    → (let l : Lexeme = record { kind = k; len = 1 } in l) ≡ lexeme at b bs
+mark_lexeme at b bs k name number other is =
+    let test : is_backtick b ≡ false = ne_eqb b 96 other in
+    rw (name, number, test) (ap (λ (x : Kind). let l : Lexeme = record { kind = x; len = 1 } in l) is)
+
+pub number_lexeme_is : (at b n : ℕ) (bs here : List ℕ) (v : Numeral) → here ≡ b ∷ bs → begins_name b bs ≡ false → begins_number b bs ≡ true → n ≡ number_len here → v ≡ numeral_of (take n here)
+    → (let l : Lexeme = record { kind = Number v; len = n } in l) ≡ lexeme at b bs
+number_lexeme_is at b n bs here v e name number is value =
+    let same : v ≡ numeral_of (take n (b ∷ bs)) = value ∙ ap (λ (x : List ℕ). numeral_of (take n x)) e in
+    let made : (let l : Lexeme = record { kind = Number v; len = n } in l) ≡ number_lexeme n (b ∷ bs) = ap (λ (x : Numeral). let l : Lexeme = record { kind = Number x; len = n } in l) same in
+    rw (name, number) (made ∙ ap (λ (m : ℕ). number_lexeme m (b ∷ bs)) (is ∙ ap number_len e))
+
+pub name_lexeme_is : (at b n : ℕ) (bs here : List ℕ) (k : Kind) → here ≡ b ∷ bs → begins_name b bs ≡ true → n ≡ prefix_len goes_on here → n ≤ length here → k ≡ name_or_word at (take n here) (from here n)
+    → (let l : Lexeme = record { kind = k; len = n } in l) ≡ lexeme at b bs
+name_lexeme_is at b n bs here k e name is within word =
+    let same : k ≡ name_or_word at (take n (b ∷ bs)) (drop n (b ∷ bs)) =
+    word
+    ∙ ap (λ (x : List ℕ). name_or_word at (take n x) (from x n)) e
+    ∙ ap (name_or_word at (take n (b ∷ bs))) (to_the_end (b ∷ bs) n (subst (λ (x : List ℕ). n ≤ length x) e within)) in
+    let made : (let l : Lexeme = record { kind = k; len = n } in l) ≡ name_lexeme at n (b ∷ bs) = ap (λ (x : Kind). let l : Lexeme = record { kind = x; len = n } in l) same in
+    rw name (made ∙ ap (λ (m : ℕ). name_lexeme at m (b ∷ bs)) (is ∙ ap (prefix_len goes_on) e))
+
+-- the token of the bytes is that of the text
+pub same_lexeme : (text bytes : List ℕ) (at : ℕ) → bytes ≡ text → at < length text → lexeme at (get_or bytes at 0) (from bytes (at + 1)) ≡ lexeme at (get_or text at 0) (drop (at + 1) text)
+same_lexeme text bytes at e lt =
+    ap (λ (bs : List ℕ). lexeme at (get_or bs at 0) (from bs (at + 1))) e ∙ ap (lexeme at (get_or text at 0)) (to_the_end text (at + 1) (omega arith))
+
+-- the text of a number
+pub piece_here : (text bytes : List ℕ) (at n : ℕ) → bytes ≡ text → at < length text → slice_range text at (at + n) ≡ take n (from bytes at)
+piece_here text bytes at n e lt =
     let len : at + n - at ≡ n = omega arith in
-    let piece : slice_range text at (at + n) ≡ take n (drop at text) = ap (λ (m : ℕ). take m (drop at text)) len in
-    number_lexeme_of text at n v lt (rw (← e) name) (rw (← e) number) (rw (← e) is) (value ∙ ap numeral_of (cut ∙ piece))
+    ap (λ (m : ℕ). take m (drop at text)) len ∙ ap (take n) (sym (ap (λ (bs : List ℕ). from bs at) e ∙ to_the_end text at (omega arith)))
+
+-- it has no sign
+pub piece_unsigned : (text bytes : List ℕ) (at n : ℕ) → bytes ≡ text → at < length text → begins_number (get_or bytes at 0) (from bytes (at + 1)) ≡ true
+    → is_signed (slice_range text at (at + n)) ≡ false
+piece_unsigned text bytes at n e lt begins =
+    ap is_signed (piece_here text bytes at n e lt)
+    ∙ unsigned_front (from bytes at) n (ap is_signed (front text bytes at e lt) ∙ unsigned_number (get_or bytes at 0) (from bytes (at + 1)) begins)
 
 -- ---- the loop
 
@@ -135,46 +136,3 @@ pub token_here : (text bytes : List ℕ) (all all' : List Token) (i : ℕ) (l : 
     → all ++ tokens_from i 0 (drop i bytes) ≡ tokens bytes → all' ++ tokens_from (i + l.len) 0 (drop (i + l.len) bytes) ≡ tokens bytes
 token_here text bytes all all' i l e lt blank is some within pushed left =
     token_more bytes all all' i l lt blank (rw e is) some (rw e within) pushed left
-
-name_lexeme_of : (text : List ℕ) (at n : ℕ) (k : Kind) → at < length text → begins_name (get_or text at 0) (from text (at + 1)) ≡ true → n ≡ prefix_len goes_on (from text at) → n ≤ length (from text at)
-    → k ≡ name_or_word at (take n (from text at)) (from (from text at) n)
-    → (let l : Lexeme = record { kind = k; len = n } in l) ≡ lexeme at (get_or text at 0) (drop (at + 1) text)
-name_lexeme_of text at n k lt name is within word =
-    let b = get_or text at 0 in
-    let bs : List ℕ = b ∷ drop (at + 1) text in
-    let here : from text at ≡ bs = to_the_end text at (omega arith) ∙ first_and_rest text at lt in
-    let a_name : begins_name b (drop (at + 1) text) ≡ true = ap (begins_name b) (sym (to_the_end text (at + 1) (omega arith))) ∙ name in
-    let len : n ≡ prefix_len goes_on bs = is ∙ ap (prefix_len goes_on) here in
-    let same : k ≡ name_or_word at (take n bs) (drop n bs) =
-    word
-    ∙ ap (λ (x : List ℕ). name_or_word at (take n x) (from x n)) here
-    ∙ ap (name_or_word at (take n bs)) (to_the_end bs n (subst (λ (x : List ℕ). n ≤ length x) here within)) in
-    let made : (let l : Lexeme = record { kind = k; len = n } in l) ≡ name_lexeme at n bs = ap (λ (x : Kind). let l : Lexeme = record { kind = x; len = n } in l) same in
-    rw a_name (made ∙ ap (λ (m : ℕ). name_lexeme at m bs) len)
-
-pub name_lexeme_here : (text bytes : List ℕ) (at n : ℕ) (k : Kind) → bytes ≡ text → at < length text → begins_name (get_or bytes at 0) (from bytes (at + 1)) ≡ true → n ≡ prefix_len goes_on (from bytes at) → n ≤ length (from bytes at)
-    → k ≡ name_or_word at (take n (from bytes at)) (from (from bytes at) n)
-    → (let l : Lexeme = record { kind = k; len = n } in l) ≡ lexeme at (get_or text at 0) (drop (at + 1) text)
-name_lexeme_here text bytes at n k e lt =
-    let P : List ℕ → Type 0 = λ bs. begins_name (get_or bs at 0) (from bs (at + 1)) ≡ true → n ≡ prefix_len goes_on (from bs at) → n ≤ length (from bs at)
-    → k ≡ name_or_word at (take n (from bs at)) (from (from bs at) n)
-    → (let l : Lexeme = record { kind = k; len = n } in l) ≡ lexeme at (get_or text at 0) (drop (at + 1) text) in
-    subst P (sym e) (name_lexeme_of text at n k lt)
-
-mark_lexeme_of : (at b : ℕ) (bs : List ℕ) (k : Kind) → begins_name b bs ≡ false → begins_number b bs ≡ false → (b ≡ 96 → ⊥) → k ≡ mark_of b
-    → (let l : Lexeme = record { kind = k; len = 1 } in l) ≡ lexeme at b bs
-mark_lexeme_of at b bs k name number other is =
-    let test : is_backtick b ≡ false = ne_eqb b 96 other in
-    rw (name, number, test) (ap (λ (x : Kind). let l : Lexeme = record { kind = x; len = 1 } in l) is)
-
-pub mark_here : (text bytes : List ℕ) (at : ℕ) (k : Kind) → bytes ≡ text → at < length text → begins_name (get_or bytes at 0) (from bytes (at + 1)) ≡ false
-    → begins_number (get_or bytes at 0) (from bytes (at + 1)) ≡ false → (get_or bytes at 0 ≡ 96 → ⊥) → k ≡ mark_of (get_or bytes at 0)
-    → (let l : Lexeme = record { kind = k; len = 1 } in l) ≡ lexeme at (get_or text at 0) (drop (at + 1) text)
-mark_here text bytes at k e lt =
-    let P : List ℕ → Type 0 = λ bs. begins_name (get_or bs at 0) (from bs (at + 1)) ≡ false
-    → begins_number (get_or bs at 0) (from bs (at + 1)) ≡ false → (get_or bs at 0 ≡ 96 → ⊥) → k ≡ mark_of (get_or bs at 0)
-    → (let l : Lexeme = record { kind = k; len = 1 } in l) ≡ lexeme at (get_or text at 0) (drop (at + 1) text) in
-    let Q : List ℕ → Type 0 = λ rest. begins_name (get_or text at 0) rest ≡ false
-    → begins_number (get_or text at 0) rest ≡ false → (get_or text at 0 ≡ 96 → ⊥) → k ≡ mark_of (get_or text at 0)
-    → (let l : Lexeme = record { kind = k; len = 1 } in l) ≡ lexeme at (get_or text at 0) (drop (at + 1) text) in
-    subst P (sym e) (subst Q (sym (to_the_end text (at + 1) (omega arith))) (mark_lexeme_of at (get_or text at 0) (drop (at + 1) text) k))

@@ -5,4 +5,5 @@ pub mod Shown
 pub mod Shapes
 pub mod Outcomes
 pub mod NumberTexts
+pub mod Values
 pub mod Lexing

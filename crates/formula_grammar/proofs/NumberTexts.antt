@@ -1,21 +1,19 @@
 -- A number text byte by byte, and the longest one at the front of a text.
-use Rattle.std.proofs.Common.{◌≡◌, ◌<◌, ◌≤◌, ◌+◌, ◌-◌, ◌*◌, ◌==◌, ◌&&◌, ◌||◌, ◌++◌, ◌∷◌, [], ℕ, zero, suc, Bool, true, false, List, Option, Some, None, option_map, option_and_then, is_some, cond, codes, length, take, drop, get_or, nat_le, nat_lt, refl, sym, ◌∙◌, ap, append_assoc, append-nil, arith, lit<, add-one, drop-cons, if◌then◌else◌}
+use Rattle.std.proofs.Common.{◌≡◌, ◌<◌, ◌≤◌, ◌+◌, ◌-◌, ◌*◌, ◌==◌, ◌&&◌, ◌||◌, ◌++◌, ◌∷◌, [], ℕ, zero, suc, Bool, true, false, List, Option, Some, None, option_map, option_and_then, is_some, cond, codes, length, take, drop, get_or, nat_lt, refl, sym, ◌∙◌, ap, append_assoc, append-nil, arith, lit<, add-one, if◌then◌else◌}
 use Rattle.std.specs.Char.{digit_value, is_ascii_digit}
-use Rattle.std.specs.Str.{all_ascii_digits, IsAscii}
+use Rattle.std.specs.Str.{all_ascii_digits}
 use Rattle.std.specs.Str.Parse.{digits_value, digits_value_after, starts_with_minus, without_leading_sign}
-use Rattle.std.specs.List.{list_all, prefix_len}
+use Rattle.std.specs.List.{prefix_len}
 use Rattle.std.proofs.lemmas.Bool.Decides.{nat_tests}
-use Rattle.std.proofs.lemmas.List.{drop_all, take_more, take-take, take-append-drop}
+use Rattle.std.proofs.lemmas.List.{take_more, take-take, take-append-drop}
 use Rattle.exact_algebra.specs.Fraction.{Fraction}
 use Rattle.frac_core.specs.NumberText.{are_digits, decimal_form, is_exponent_mark, is_number_text, is_point, is_slash, is_zero_digit, with_sign, written, written_body, written_fraction}
 use Rattle.frac_core.specs.NumberReading.{front, rest, scan, scan_decimal, scan_from}
 use Rattle.frac_core.proofs.DigitSteps.{digit_is}
 use Rattle.frac_core.proofs.ReaderSteps.{digits_append}
 use Rattle.frac_core.proofs.Scanning.{written_body-scan}
-use Rattle.formula_grammar.specs.declared.number.NumberPart.{NumberPart}
-use Rattle.formula_grammar.specs.declared.number.NumberPart.TheVariants.{Empty, Integer, LonePoint, Decimals, ExponentMark, ExponentSign, Exponent, Slash, Denominator}
+use Rattle.formula_grammar.specs.Numbers.{NumberPart, Empty, Integer, LonePoint, Decimals, ExponentMark, ExponentSign, Exponent, Slash, Denominator, digit_then, greatest, is_signed, is_whole, next_part, number_len, part_behind}
 use Rattle.formula_grammar.specs.Tokens.{begins_number, starts_by}
-use Rattle.formula_grammar.specs.Numbers.{capped_value, digit_then, greatest, is_signed, is_whole, next_part, number_len, part_behind}
 
 -- ---- digits
 
@@ -23,39 +21,9 @@ value_grows : (n : ℕ) (ds : List ℕ) → n ≤ digits_value_after 10 n ds
 value_grows n [] = omega arith
 value_grows n (d ∷ ds) = omega (arith, value_grows (n * 10 + digit_value d) ds)
 
-pub record DigitAt (ds : List ℕ) (i v d : ℕ) : Type 0 where
-  pub digit : is_ascii_digit (get_or ds i d) ≡ true
-  pub rest : list_all is_ascii_digit (drop (i + 1) ds) ≡ true
-  pub value : digits_value_after 10 v (drop i ds) ≡ digits_value_after 10 (v * 10 + (get_or ds i d - 48)) (drop (i + 1) ds)
-
 both : (b c : Bool) → (b && c) ≡ true → (b ≡ true) × (c ≡ true)
 both true c h = (refl, h)
 both false c h = absurd (cc h)
-
-first_digit : (b : ℕ) (bs : List ℕ) (v : ℕ) → list_all is_ascii_digit (b ∷ bs) ≡ true
-    → (is_ascii_digit b ≡ true) × (list_all is_ascii_digit bs ≡ true) × (digits_value_after 10 v (b ∷ bs) ≡ digits_value_after 10 (v * 10 + (b - 48)) bs)
-first_digit b bs v h =
-    let parts = both (is_ascii_digit b) (list_all is_ascii_digit bs) h in
-    (parts.0, parts.1, ap (λ (x : ℕ). digits_value_after 10 (v * 10 + x) bs) (digit_is b parts.0))
-
-pub digit_at : (ds : List ℕ) (i v d : ℕ) → i < length ds → list_all is_ascii_digit (drop i ds) ≡ true → DigitAt ds i v d
-digit_at ds i v d lt h =
-    let cut : drop i ds ≡ get_or ds i d ∷ drop (i + 1) ds = drop-cons ds i d lt ∙ ap (λ (n : ℕ). get_or ds i d ∷ drop n ds) (sym (add-one i)) in
-    let first = first_digit (get_or ds i d) (drop (i + 1) ds) v (ap (list_all is_ascii_digit) (sym cut) ∙ h) in
-    record { digit = first.0; rest = first.1; value = ap (digits_value_after 10 v) cut ∙ first.2 }
-
-pub over_cap : (ds rest : List ℕ) (v : ℕ) → digits_value_after 10 v rest ≡ digits_value 10 ds → 8 < v → 9 ≡ capped_value ds
-unfolding capped_value
-over_cap ds rest v e lt =
-    let test : nat_le (digits_value 10 ds) 8 ≡ false = let more = value_grows v rest in grind (arith, nat_tests) in
-    rw test refl
-
-pub under_cap : (ds : List ℕ) (i v : ℕ) → length ds ≤ i → digits_value_after 10 v (drop i ds) ≡ digits_value 10 ds → v ≤ 8 → v ≡ capped_value ds
-unfolding capped_value
-under_cap ds i v le e small =
-    let value : v ≡ digits_value 10 ds = ap (digits_value_after 10 v) (sym (drop_all i ds le)) ∙ e in
-    let test : nat_le (digits_value 10 ds) 8 ≡ true = grind (arith, nat_tests) in
-    rw test value
 
 -- ---- number texts
 
@@ -75,11 +43,7 @@ some_byte b bs = grind (arith, nat_tests)
 
 -- a byte that only a digit may be
 by_digit : (b : ℕ) (bs : List ℕ) (next : NumberPart) (rest : Bool) → accepts next bs ≡ rest → then_accepts (digit_then b next) bs ≡ (is_ascii_digit b && rest)
-by_digit b bs next rest h = go (is_ascii_digit b)
-  where
-    go : (t : Bool) → then_accepts (if t then Some next else None) bs ≡ (t && rest)
-    go true = h
-    go false = refl
+by_digit b bs next rest h = elim (is_ascii_digit b) as (λ t. then_accepts (if t then Some next else None) bs ≡ (t && rest)) [ true ↦ h | false ↦ refl ]
 
 exponent_digits : (bs : List ℕ) → accepts Exponent bs ≡ all_ascii_digits bs
 exponent_digits [] = refl
@@ -154,8 +118,9 @@ decimal_some whole behind exponent h =
     is_some_if (are_digits (whole ++ behind) && are_digits (without_leading_sign exponent)) _
     ∙ ap (λ (x : Bool). x && are_digits (without_leading_sign exponent)) h
 
-no_decimal : (exponent : List ℕ) → is_some (decimal_form [] [] exponent) ≡ false
-no_decimal exponent = refl
+no_digits : (t : Bool) (exponent : List ℕ) → is_some (if t then decimal_form [] [] exponent else None) ≡ false
+no_digits true exponent = refl
+no_digits false exponent = refl
 
 more_digits : (ds : List ℕ) (b : ℕ) → are_digits ds ≡ true → is_ascii_digit b ≡ true → are_digits (ds ++ b ∷ []) ≡ true
 more_digits [] b h d = absurd (cc h)
@@ -238,22 +203,14 @@ lone_point : (text : List ℕ) → is_some (scan_decimal [] (front text) (rest t
 lone_point [] = refl
 lone_point (b ∷ bs) = go (is_ascii_digit b) refl
   where
-    none : (t : Bool) → is_some (if t then decimal_form [] [] bs else None) ≡ false
-    none true = no_decimal bs
-    none false = refl
-
     go : (t : Bool) → is_ascii_digit b ≡ t → is_some (scan_decimal [] (front (b ∷ bs)) (rest (b ∷ bs))) ≡ accepts LonePoint (b ∷ bs)
     go true d = let one : are_digits (b ∷ []) ≡ true = rw d refl in rw (front_digit b bs d, rest_digit b bs d, d) (decimals [] (b ∷ []) bs one)
-    go false d = rw (front_other b bs d, rest_other b bs d, d) (none (is_exponent_mark b))
+    go false d = rw (front_other b bs d, rest_other b bs d, d) (no_digits (is_exponent_mark b) bs)
 
 scans : (text : List ℕ) → is_some (scan text) ≡ accepts Empty text
 scans [] = refl
 scans (b ∷ bs) = go (is_ascii_digit b) refl
   where
-    none : (t : Bool) → is_some (if t then decimal_form [] [] bs else None) ≡ false
-    none true = no_decimal bs
-    none false = refl
-
     apart : is_slash b ≡ true → is_point b ≡ false
     apart h = grind (arith, nat_tests)
 
@@ -263,7 +220,7 @@ scans (b ∷ bs) = go (is_ascii_digit b) refl
     other d true true f g = absurd (let e = apart f in cc)
     other d true false f g = rw d refl
     other d false true f g = lone_point bs
-    other d false false f g = rw d (none (is_exponent_mark b))
+    other d false false f g = rw d (no_digits (is_exponent_mark b) bs)
 
     go : (t : Bool) → is_ascii_digit b ≡ t → is_some (scan (b ∷ bs)) ≡ accepts Empty (b ∷ bs)
     go true d = let one : are_digits (b ∷ []) ≡ true = rw d refl in rw (front_digit b bs d, rest_digit b bs d, point_apart b d, d) (integers (b ∷ []) bs one)
@@ -273,7 +230,7 @@ some_signed : (negative : Bool) (q : Option Fraction) → is_some (option_map (w
 some_signed negative None = refl
 some_signed negative (Some x) = refl
 
-unsigned : (text : List ℕ) → is_signed text ≡ false → without_leading_sign text ≡ text
+pub unsigned : (text : List ℕ) → is_signed text ≡ false → without_leading_sign text ≡ text
 unsigned [] h = refl
 unsigned (b ∷ bs) h =
     let minus : (b == 45) ≡ false = grind (arith, nat_tests) in
@@ -293,12 +250,9 @@ number_text text h =
 
 part_append : (p : NumberPart) (xs ys : List ℕ) → part_behind p (xs ++ ys) ≡ option_and_then (λ q. part_behind q ys) (part_behind p xs)
 part_append p [] ys = refl
-part_append p (x ∷ xs) ys = go (λ q. part_append q xs ys) (next_part p x)
-  where
-    go : ((q : NumberPart) → part_behind q (xs ++ ys) ≡ option_and_then (λ r. part_behind r ys) (part_behind q xs)) → (o : Option NumberPart)
-        → option_and_then (λ q. part_behind q (xs ++ ys)) o ≡ option_and_then (λ q. part_behind q ys) (option_and_then (λ q. part_behind q xs) o)
-    go more None = refl
-    go more (Some q) = more q
+part_append p (x ∷ xs) ys =
+    elim (next_part p x) as (λ o. option_and_then (λ q. part_behind q (xs ++ ys)) o ≡ option_and_then (λ q. part_behind q ys) (option_and_then (λ q. part_behind q xs) o))
+    [ None ↦ refl | Some q ↦ part_append q xs ys ]
 
 some_part : (q : Option NumberPart) → option_and_then (λ r. Some r) q ≡ q
 some_part None = refl
@@ -314,13 +268,13 @@ part_more text i d part next lt e f =
     ∙ some_part (next_part part (get_or text i d))
     ∙ sym f
 
-signed_take : (text : List ℕ) (n : ℕ) → is_signed text ≡ false → is_signed (take n text) ≡ false
-signed_take text zero h = refl
-signed_take [] (suc n) h = refl
-signed_take (b ∷ bs) (suc n) h = h
+pub unsigned_front : (text : List ℕ) (n : ℕ) → is_signed text ≡ false → is_signed (take n text) ≡ false
+unsigned_front text zero h = refl
+unsigned_front [] (suc n) h = refl
+unsigned_front (b ∷ bs) (suc n) h = h
 
 front_text : (text : List ℕ) (n : ℕ) (q : Option NumberPart) → is_signed text ≡ false → part_behind Empty (take n text) ≡ q → is_number_text (take n text) ≡ ends q
-front_text text n q h e = number_text (take n text) (signed_take text n h) ∙ ap ends e
+front_text text n q h e = number_text (take n text) (unsigned_front text n h) ∙ ap ends e
 
 abbrev pub longest_below : List ℕ → ℕ → ℕ
 longest_below text n = greatest (λ k. is_number_text (take k text)) n
@@ -328,10 +282,7 @@ longest_below text n = greatest (λ k. is_number_text (take k text)) n
 greatest_next : (p : ℕ → Bool) (n : ℕ) (t : Bool) → p (n + 1) ≡ t → greatest p (n + 1) ≡ (if t then n + 1 else greatest p n)
 greatest_next p n t e =
     let s : n + 1 ≡ suc n = add-one n in
-    ap (greatest p) s ∙ go t (ap p (sym s) ∙ e) ∙ ap (λ (k : ℕ). if t then k else greatest p n) (sym s)
-  where
-    go : (t : Bool) → p (suc n) ≡ t → (if p (suc n) then suc n else greatest p n) ≡ (if t then suc n else greatest p n)
-    go t e = ap (λ (x : Bool). if x then suc n else greatest p n) e
+    ap (greatest p) s ∙ ap (λ (x : Bool). if x then suc n else greatest p n) (ap p (sym s) ∙ e) ∙ ap (λ (k : ℕ). if t then k else greatest p n) (sym s)
 
 pub longer : (text : List ℕ) (i : ℕ) (part : NumberPart) → is_signed text ≡ false → part_behind Empty (take (i + 1) text) ≡ Some part → is_whole part ≡ true
     → i + 1 ≡ longest_below text (i + 1)
@@ -371,42 +322,22 @@ at_the_end text i n e m = m ∙ ap (longest_below text) (sym e)
 high_digit : (b : ℕ) → 128 ≤ b → is_ascii_digit b ≡ false
 high_digit b h = grind (arith, nat_tests)
 
-high_point : (b : ℕ) → 128 ≤ b → is_point b ≡ false
-high_point b h = grind (arith, nat_tests)
-
-high_slash : (b : ℕ) → 128 ≤ b → is_slash b ≡ false
-high_slash b h = grind (arith, nat_tests)
-
-high_mark : (b : ℕ) → 128 ≤ b → is_exponent_mark b ≡ false
-high_mark b h = grind (arith, nat_tests)
-
-high_zero : (b : ℕ) → 128 ≤ b → is_zero_digit b ≡ false
-high_zero b h = grind (arith, nat_tests)
-
-high_sign : (b : ℕ) → 128 ≤ b → ((b == 45) || (b == 43)) ≡ false
-high_sign b h = grind (arith, nat_tests)
+high : (b c : ℕ) → 128 ≤ b → c < 128 → (b == c) ≡ false
+high b c h l = grind (arith, nat_tests)
 
 -- no number text has a byte that isn't ASCII
 high_stops : (p : NumberPart) (b : ℕ) → 128 ≤ b → next_part p b ≡ None
-high_stops Empty b h = rw (high_point b h, high_digit b h) refl
-high_stops Integer b h = rw (high_slash b h, high_point b h, high_mark b h, high_digit b h) refl
-high_stops LonePoint b h = rw (high_digit b h) refl
-high_stops Decimals b h = rw (high_mark b h, high_digit b h) refl
-high_stops ExponentMark b h = rw (high_sign b h, high_digit b h) refl
-high_stops ExponentSign b h = rw (high_digit b h) refl
-high_stops Exponent b h = rw (high_digit b h) refl
-high_stops Slash b h = rw (high_zero b h, high_digit b h) refl
-high_stops Denominator b h = rw (high_digit b h) refl
+high_stops Empty b h = rw (high b 46 h (lit< tt), high_digit b h) refl
+high_stops Integer b h = rw (high b 47 h (lit< tt), high b 46 h (lit< tt), high b 101 h (lit< tt), high b 69 h (lit< tt), high_digit b h) refl
+high_stops Decimals b h = rw (high b 101 h (lit< tt), high b 69 h (lit< tt), high_digit b h) refl
+high_stops ExponentMark b h = rw (high b 45 h (lit< tt), high b 43 h (lit< tt), high_digit b h) refl
+high_stops Slash b h = rw (high b 48 h (lit< tt), high_digit b h) refl
+high_stops p b h = rw (high_digit b h) refl
 
 pub part_is_ascii : (p q : NumberPart) (b : ℕ) → Some q ≡ next_part p b → b < 128
-part_is_ascii p q b e = go (nat_lt b 128) refl
-  where
-    high : nat_lt b 128 ≡ false → 128 ≤ b
-    high d = grind (arith, nat_tests)
-
-    go : (t : Bool) → nat_lt b 128 ≡ t → b < 128
-    go true d = grind (arith, nat_tests)
-    go false d = let none : Some q ≡ None = e ∙ high_stops p b (high d) in absurd (cc)
+part_is_ascii p q b e =
+    let low : 128 ≤ b → ⊥ = λ h. let none : Some q ≡ None = e ∙ high_stops p b h in absurd (cc) in
+    omega (arith, low)
 
 pub last_ascii : (text : List ℕ) (i n : ℕ) (p q : NumberPart) → n ≡ i + 1 → Some q ≡ next_part p (get_or text i 0) → get_or text (n - 1) 0 < 128
 last_ascii text i n p q e f = let same : n - 1 ≡ i = omega arith in rw same (part_is_ascii p q (get_or text i 0) f)
@@ -461,49 +392,3 @@ some_number b bs h = go (is_ascii_digit b) (b == 46) refl refl h
         let c = point_is b f in
         greatest_least (λ k. is_number_text (take k (b ∷ bs))) (length (b ∷ bs)) 2 (two bs h) (omega arith) (rw c (point_number bs h))
     go false false e f h = absurd (cc h)
-
--- ---- the number that is found
-
-greatest_true : (p : ℕ → Bool) (n : ℕ) → 1 ≤ greatest p n → p (greatest p n) ≡ true
-greatest_true p zero h = absurd (omega arith)
-greatest_true p (suc n) h = go (p (suc n)) refl (λ k. greatest_true p n k) h
-  where
-    go : (t : Bool) → p (suc n) ≡ t → (1 ≤ greatest p n → p (greatest p n) ≡ true) → 1 ≤ (if t then suc n else greatest p n) → p (if t then suc n else greatest p n) ≡ true
-    go true e more h = e
-    go false e more h = more h
-
-greatest_within : (p : ℕ → Bool) (n : ℕ) → greatest p n ≤ n
-greatest_within p zero = omega arith
-greatest_within p (suc n) = go (p (suc n)) (greatest_within p n)
-  where
-    go : (t : Bool) → greatest p n ≤ n → (if t then suc n else greatest p n) ≤ suc n
-    go true le = omega arith
-    go false le = omega arith
-
-pub number_found : (text : List ℕ) → 1 ≤ number_len text → is_number_text (take (number_len text) text) ≡ true
-unfolding number_len
-number_found text some = greatest_true (λ k. is_number_text (take k text)) (length text) some
-
-pub number_within : (text : List ℕ) → number_len text ≤ length text
-unfolding number_len
-number_within text = greatest_within (λ k. is_number_text (take k text)) (length text)
-
-parts_ascii : (text : List ℕ) (p q : NumberPart) → part_behind p text ≡ Some q → IsAscii text
-parts_ascii [] p q e i = lit< tt
-parts_ascii (b ∷ bs) p q e i = go (next_part p b) refl (λ r d. parts_ascii bs r q d) e i
-  where
-    go : (o : Option NumberPart) → next_part p b ≡ o → ((r : NumberPart) → part_behind r bs ≡ Some q → IsAscii bs)
-        → option_and_then (λ r. part_behind r bs) o ≡ Some q → (i : ℕ) → get_or (b ∷ bs) i 0 < 128
-    go None d more e i = absurd (cc)
-    go (Some r) d more e zero = part_is_ascii p r b (sym d)
-    go (Some r) d more e (suc i) = more r e i
-
-pub number_is_ascii : (text : List ℕ) → is_signed text ≡ false → is_number_text text ≡ true → IsAscii text
-number_is_ascii text h e = go (part_behind Empty text) refl (sym (number_text text h) ∙ e)
-  where
-    go : (o : Option NumberPart) → part_behind Empty text ≡ o → ends o ≡ true → IsAscii text
-    go None d k = absurd (cc)
-    go (Some q) d k = parts_ascii text Empty q d
-
-pub unsigned_front : (text : List ℕ) (n : ℕ) → is_signed text ≡ false → is_signed (take n text) ≡ false
-unsigned_front text n h = signed_take text n h

@@ -1,20 +1,12 @@
 -- What a reader holds behind some tokens, and what the next token does.
-use Rattle.std.proofs.Common.{◌≡◌, ◌<◌, ◌≤◌, ◌⊎◌, ℕ, ◌+◌, zero, suc, Bool, true, false, List, [], ◌∷◌, ◌++◌, Option, Some, None, option_map, option_and_then, inl, inr, nat_le, refl, sym, ◌∙◌, ap, arith, below_more, cond, get_or, length, subst, take}
+use Rattle.std.proofs.Common.{◌≡◌, ◌<◌, ◌≤◌, ◌⊎◌, ℕ, ◌+◌, zero, suc, Bool, true, false, List, [], ◌∷◌, ◌++◌, Option, Some, None, IfSome, option_map, option_and_then, inl, inr, nat_le, refl, sym, ◌∙◌, ap, arith, below_more, cond, get_or, length, subst, take}
 use Rattle.std.proofs.lemmas.List.{get_or_default, take_more, take_all}
-use Rattle.formula_grammar.specs.declared.token.Kind.{Kind}
-use Rattle.formula_grammar.specs.declared.token.Kind.TheVariants.{Number, Caret, Open, Comma, End}
-use Rattle.formula_grammar.specs.declared.token.Numeral.{Numeral}
-use Rattle.formula_grammar.specs.declared.token.Numeral.TheVariants.{Digits, Written}
-use Rattle.formula_grammar.specs.declared.token.Token.{Token}
-use Rattle.formula_grammar.specs.declared.fault.ReadFault.{ReadFault}
-use Rattle.formula_grammar.specs.declared.fault.ReadFault.TheVariants.{OutOfMemory, Syntax, TooDeep, PowerRange, NumberTooWide}
-use Rattle.formula_grammar.specs.declared.reading.Reading.{Reading}
-use Rattle.formula_grammar.specs.declared.reader.Reader.{Reader}
+use Rattle.formula_grammar.specs.Words.{Kind, Number, Caret, Open, Comma, End, Numeral, Digits, Token, Reading}
+use Rattle.formula_grammar.specs.Faults.{ReadFault, OutOfMemory, Syntax, TooDeep, PowerRange, NumberTooWide, token_at, depth_behind, depth_from, depth, is_power, number_fault, last_from, last_kind, limit_fault, limit_at, IsFaultAt, IsCleanBelow, IsFirstFault, IsFormula, IsReading, IsFault, EndText, OneFault, NoFormulaHasFaults, FormulaOrFault}
+use Rattle.formula_grammar.specs.Machine.{Reader, token_read, Reads}
 use Rattle.formula_grammar.specs.Numerals.{is_wide}
-use Rattle.formula_grammar.specs.Grammar.{Formula, token, Begins}
-use Rattle.formula_grammar.specs.Faults.{token_at, depth_behind, depth_from, depth, is_power, number_fault, last_from, last_kind, limit_fault, limit_at, IsFaultAt, IsCleanBelow, IsFirstFault, IsFormula, IsReading, IsFault, EndText, OneFault, NoFormulaHasFaults, FormulaOrFault}
-use Rattle.formula_grammar.specs.Machine.{token_read, Reads}
-use Rattle.formula_grammar.proofs.Automaton.{State, Begin, Fresh, HasAtom, HasRaised, HasItems, Done, Bottom, Inside, step, step_at, run}
+use Rattle.formula_grammar.specs.Grammar.{Formula, Plain, token, Begins}
+use Rattle.formula_grammar.proofs.Automaton.{State, Begin, Fresh, Has, HasItems, Done, Bottom, step, step_at, run}
 use Rattle.formula_grammar.proofs.Shown.{begins, begins_not, run_append, reads_only, some_is}
 use Rattle.formula_grammar.proofs.Shapes.{shape, commutes}
 
@@ -48,36 +40,34 @@ goes_behind ts t r r' h e =
     let m = mapped (step h.state t) r' (read_at h.state t r (Some r') h.shaped e) in
     record { state = m.state; is = run_more ts t h.state h.is ∙ ap (option_and_then (λ q. Some q)) m.is; shaped = m.shaped }
 
-stops_behind : (ts : List Token) (t : Token) (r : Reader) → Holds ts r → token_read r t ≡ None → Begins (ts ++ (t ∷ [])) → ⊥
-stops_behind ts t r h e =
-    let m = unmapped (step h.state t) (read_at h.state t r None h.shaped e) in
-    begins_not (ts ++ (t ∷ [])) (run_more ts t h.state h.is ∙ ap (option_and_then (λ q. Some q)) m)
-
 pub nothing_held : (r : Reader) → r ≡ shape Begin → Holds [] r
 nothing_held r e = record { state = Begin; is = refl; shaped = e }
 
-pub goes : (ts : List Token) (i : ℕ) (d : Token) (r r' : Reader) → i < length ts → Holds (take i ts) r → Reads (token_read r (get_or ts i d)) true r' → Holds (take (i + 1) ts) r'
-goes ts i d r r' lt h e = let P : List Token → Type 0 = λ x. Holds x r' in subst P (sym (take_more ts i d lt)) (goes_behind (take i ts) (get_or ts i d) r r' h e)
+-- the tokens up to one and that one
+up_to : (ts : List Token) (i : ℕ) (t : Token) → i < length ts → t ≡ get_or ts i t → take (i + 1) ts ≡ take i ts ++ (t ∷ [])
+up_to ts i t lt is = take_more ts i t lt ∙ ap (λ (u : Token). take i ts ++ (u ∷ [])) (sym is)
+
+pub goes : (ts : List Token) (i : ℕ) (t : Token) (r r' : Reader) → i < length ts → t ≡ get_or ts i t → Holds (take i ts) r → Reads (token_read r t) true r' → Holds (take (i + 1) ts) r'
+goes ts i t r r' lt is h e = let P : List Token → Type 0 = λ x. Holds x r' in subst P (sym (up_to ts i t lt is)) (goes_behind (take i ts) t r r' h e)
 
 pub held_begins : (ts : List Token) (r : Reader) → Holds ts r → Begins ts
 held_begins ts r h = begins ts h.state h.is
 
--- the token itself, whatever the default
-at_index : (ts : List Token) (i : ℕ) (d : Token) → i < length ts → token_at ts i ≡ get_or ts i d
-at_index ts i d lt = get_or_default ts i (token End 0) d lt
+at_index : (ts : List Token) (i : ℕ) (t : Token) → i < length ts → t ≡ get_or ts i t → token_at ts i ≡ t
+at_index ts i t lt is = get_or_default ts i (token End 0) t lt ∙ sym is
 
-pub wrong : (ts : List Token) (i : ℕ) (d : Token) (r r' : Reader) → i < length ts → Holds (take i ts) r → IsCleanBelow ts i
-    → Reads (token_read r (get_or ts i d)) false r' → IsFirstFault ts (Syntax (get_or ts i d).at)
-wrong ts i d r r' lt h clean e = record {
-  index = i;
-  there = lt;
-  here = (
-    held_begins (take i ts) r h,
-    λ b. stops_behind (take i ts) (get_or ts i d) r h e (subst Begins (take_more ts i d lt) b),
-    ap (λ (t : Token). t.at) (sym (at_index ts i d lt)),
-  );
-  first = clean;
-}
+-- no formula can have the token there
+stopped : (ts : List Token) (i : ℕ) (s : State) → i < length ts → run Begin (take i ts) ≡ Some s → step s (token_at ts i) ≡ None → IsCleanBelow ts i → IsFirstFault ts (Syntax (token_at ts i).at)
+stopped ts i s lt is e clean =
+    let none : run Begin (take i ts ++ (token_at ts i ∷ [])) ≡ None = run_more (take i ts) (token_at ts i) s is ∙ ap (option_and_then (λ q. Some q)) e in
+    record { index = i; there = lt; here = (begins (take i ts) s is, λ b. begins_not (take i ts ++ (token_at ts i ∷ [])) none (subst Begins (take_more ts i (token End 0) lt) b), refl); first = clean }
+
+pub wrong : (ts : List Token) (i : ℕ) (t : Token) (r r' : Reader) → i < length ts → t ≡ get_or ts i t → Holds (take i ts) r → IsCleanBelow ts i
+    → Reads (token_read r t) false r' → IsFirstFault ts (Syntax t.at)
+wrong ts i t r r' lt is h clean e =
+    let same = at_index ts i t lt is in
+    let none = unmapped (step h.state (token_at ts i)) (read_at h.state (token_at ts i) r None h.shaped (ap (token_read r) same ∙ e)) in
+    subst (λ (u : Token). IsFirstFault ts (Syntax u.at)) same (stopped ts i h.state lt h.is none clean)
 
 -- ---- limits
 
@@ -89,19 +79,18 @@ last_more : (k : Kind) (ts : List Token) (t : Token) → last_from k (ts ++ (t �
 last_more k [] t = refl
 last_more k (u ∷ ts) t = last_more u.kind ts t
 
-pub depth_next : (ts : List Token) (i : ℕ) (d : Token) (n m : ℕ) → i < length ts → n ≡ depth (take i ts) → m ≡ depth_behind (get_or ts i d).kind n → m ≡ depth (take (i + 1) ts)
-depth_next ts i d n m lt e f =
-    f ∙ ap (depth_behind (get_or ts i d).kind) e ∙ sym (depth_more 0 (take i ts) (get_or ts i d)) ∙ ap depth (sym (take_more ts i d lt))
+pub depth_next : (ts : List Token) (i : ℕ) (t : Token) (n m : ℕ) → i < length ts → t ≡ get_or ts i t → n ≡ depth (take i ts) → m ≡ depth_behind t.kind n → m ≡ depth (take (i + 1) ts)
+depth_next ts i t n m lt is e f = f ∙ ap (depth_behind t.kind) e ∙ sym (depth_more 0 (take i ts) t) ∙ ap depth (sym (up_to ts i t lt is))
 
-pub last_next : (ts : List Token) (i : ℕ) (d : Token) (k : Kind) → i < length ts → k ≡ (get_or ts i d).kind → k ≡ last_kind (take (i + 1) ts)
-last_next ts i d k lt e = e ∙ sym (last_more End (take i ts) (get_or ts i d)) ∙ ap last_kind (sym (take_more ts i d lt))
+pub last_next : (ts : List Token) (i : ℕ) (t : Token) (k : Kind) → i < length ts → t ≡ get_or ts i t → k ≡ t.kind → k ≡ last_kind (take (i + 1) ts)
+last_next ts i t k lt is e = e ∙ sym (last_more End (take i ts) t) ∙ ap last_kind (sym (up_to ts i t lt is))
 
-limits_at : (ts : List Token) (i : ℕ) (d : Token) (n : ℕ) (k : Kind) (fault : Option ReadFault) → i < length ts → n ≡ depth (take i ts) → k ≡ last_kind (take i ts)
-    → fault ≡ limit_fault (get_or ts i d).kind (get_or ts i d).at n k → limit_at ts i ≡ fault
-limits_at ts i d n k fault lt e f g =
-    ap (λ (t : Token). limit_fault t.kind t.at (depth (take i ts)) (last_kind (take i ts))) (at_index ts i d lt)
-    ∙ ap (λ (m : ℕ). limit_fault (get_or ts i d).kind (get_or ts i d).at m (last_kind (take i ts))) (sym e)
-    ∙ ap (limit_fault (get_or ts i d).kind (get_or ts i d).at n) (sym f)
+limits_at : (ts : List Token) (i : ℕ) (t : Token) (n : ℕ) (k : Kind) (fault : Option ReadFault) → i < length ts → t ≡ get_or ts i t → n ≡ depth (take i ts) → k ≡ last_kind (take i ts)
+    → fault ≡ limit_fault t.kind t.at n k → limit_at ts i ≡ fault
+limits_at ts i t n k fault lt is e f g =
+    ap (λ (u : Token). limit_fault u.kind u.at (depth (take i ts)) (last_kind (take i ts))) (at_index ts i t lt is)
+    ∙ ap (λ (m : ℕ). limit_fault t.kind t.at m (last_kind (take i ts))) (sym e)
+    ∙ ap (limit_fault t.kind t.at n) (sym f)
     ∙ sym g
 
 abbrev IsLimit : ReadFault → Type 0
@@ -109,66 +98,57 @@ IsLimit OutOfMemory = ⊥
 IsLimit (Syntax n) = ⊥
 IsLimit fault = Unit {0}
 
-one_limit : (b : Bool) (x fault : ReadFault) → IsLimit x → cond b (Some x) None ≡ Some fault → IsLimit fault
-one_limit true x fault l e = subst IsLimit (some_is e) l
-one_limit false x fault l e = cc
+either_limit : (b : Bool) (x y : Option ReadFault) → IfSome x IsLimit → IfSome y IsLimit → IfSome (cond b x y) IsLimit
+either_limit true x y h k = h
+either_limit false x y h k = k
 
-other_limit : (b : Bool) (x fault : ReadFault) → IsLimit x → cond b None (Some x) ≡ Some fault → IsLimit fault
-other_limit true x fault l e = cc
-other_limit false x fault l e = subst IsLimit (some_is e) l
+number_limit : (before : Kind) (x : Numeral) (n : ℕ) → IfSome (number_fault before x n) IsLimit
+number_limit Caret (Digits k) n = either_limit (is_power k) None (Some (PowerRange n)) tt tt
+number_limit Comma x n = either_limit (is_wide x) (Some (NumberTooWide n)) None tt tt
+number_limit before x n = tt
 
-number_limit : (before : Kind) (x : Numeral) (n : ℕ) (fault : ReadFault) → number_fault before x n ≡ Some fault → IsLimit fault
-number_limit Caret (Digits k) n fault e = other_limit (is_power k) (PowerRange n) fault tt e
-number_limit Caret (Written t u) n fault e = cc
-number_limit Comma x n fault e = one_limit (is_wide x) (NumberTooWide n) fault tt e
-number_limit before x n fault e = cc
+any_limit : (k : Kind) (n opened : ℕ) (before : Kind) → IfSome (limit_fault k n opened before) IsLimit
+any_limit Open n opened before = either_limit (nat_le 64 opened) (Some (TooDeep n)) None tt tt
+any_limit (Number x) n opened before = number_limit before x n
+any_limit k n opened before = tt
 
-any_limit : (k : Kind) (n opened : ℕ) (before : Kind) (fault : ReadFault) → limit_fault k n opened before ≡ Some fault → IsLimit fault
-any_limit Open n opened before fault e = one_limit (nat_le 64 opened) (TooDeep n) fault tt e
-any_limit (Number x) n opened before fault e = number_limit before x n fault e
-any_limit k n opened before fault e = cc
+limit_is : (ts : List Token) (i : ℕ) (fault : ReadFault) → limit_at ts i ≡ Some fault → IsLimit fault
+limit_is ts i fault e = subst (λ (o : Option ReadFault). IfSome o IsLimit) e (any_limit (token_at ts i).kind (token_at ts i).at (depth (take i ts)) (last_kind (take i ts)))
 
 -- a limit that is passed is a fault
 limit_here : (ts : List Token) (i : ℕ) (fault : ReadFault) → Begins (take (i + 1) ts) → limit_at ts i ≡ Some fault → IsFaultAt ts i fault
-limit_here ts i OutOfMemory b e = absurd (any_limit (token_at ts i).kind (token_at ts i).at (depth (take i ts)) (last_kind (take i ts)) OutOfMemory e)
-limit_here ts i (Syntax n) b e = absurd (any_limit (token_at ts i).kind (token_at ts i).at (depth (take i ts)) (last_kind (take i ts)) (Syntax n) e)
-limit_here ts i (TooDeep n) b e = (b, e)
-limit_here ts i (PowerRange n) b e = (b, e)
-limit_here ts i (NumberTooWide n) b e = (b, e)
+limit_here ts i OutOfMemory b e = limit_is ts i OutOfMemory e
+limit_here ts i (Syntax n) b e = absurd (limit_is ts i (Syntax n) e)
+limit_here ts i fault b e = (b, e)
 
 -- a token that can stand there and passes no limit has no fault
 none_here : (ts : List Token) (i : ℕ) → Begins (take (i + 1) ts) → limit_at ts i ≡ None → (fault : ReadFault) → IsFaultAt ts i fault → ⊥
 none_here ts i b e OutOfMemory f = f
 none_here ts i b e (Syntax n) f = f.1 b
-none_here ts i b e (TooDeep n) f = let h : Some (TooDeep n) ≡ None = sym f.1 ∙ e in absurd (cc)
-none_here ts i b e (PowerRange n) f = let h : Some (PowerRange n) ≡ None = sym f.1 ∙ e in absurd (cc)
-none_here ts i b e (NumberTooWide n) f = let h : Some (NumberTooWide n) ≡ None = sym f.1 ∙ e in absurd (cc)
+none_here ts i b e fault f = let h : Some fault ≡ None = sym f.1 ∙ e in absurd (cc)
 
 clean_more : (ts : List Token) (i : ℕ) → IsCleanBelow ts i → ((fault : ReadFault) → IsFaultAt ts i fault → ⊥) → IsCleanBelow ts (i + 1)
 clean_more ts i clean here j lt =
     let P : ℕ → Type 0 = λ j. (fault : ReadFault) → IsFaultAt ts j fault → ⊥ in
     below_more P i clean here j lt
 
-pub clean_next : (ts : List Token) (i : ℕ) (d : Token) (r : Reader) (n : ℕ) (k : Kind) → i < length ts → Holds (take (i + 1) ts) r → IsCleanBelow ts i
-    → n ≡ depth (take i ts) → k ≡ last_kind (take i ts) → None ≡ limit_fault (get_or ts i d).kind (get_or ts i d).at n k → IsCleanBelow ts (i + 1)
-clean_next ts i d r n k lt h clean e f g =
-    clean_more ts i clean (none_here ts i (held_begins (take (i + 1) ts) r h) (limits_at ts i d n k None lt e f g))
+pub clean_next : (ts : List Token) (i : ℕ) (t : Token) (r : Reader) (n : ℕ) (k : Kind) → i < length ts → t ≡ get_or ts i t → Holds (take (i + 1) ts) r → IsCleanBelow ts i
+    → n ≡ depth (take i ts) → k ≡ last_kind (take i ts) → None ≡ limit_fault t.kind t.at n k → IsCleanBelow ts (i + 1)
+clean_next ts i t r n k lt is h clean e f g =
+    clean_more ts i clean (none_here ts i (held_begins (take (i + 1) ts) r h) (limits_at ts i t n k None lt is e f g))
 
-pub passed : (ts : List Token) (i : ℕ) (d : Token) (r : Reader) (n : ℕ) (k : Kind) (fault : ReadFault) → i < length ts → Holds (take (i + 1) ts) r → IsCleanBelow ts i
-    → n ≡ depth (take i ts) → k ≡ last_kind (take i ts) → Some fault ≡ limit_fault (get_or ts i d).kind (get_or ts i d).at n k → IsFirstFault ts fault
-passed ts i d r n k fault lt h clean e f g = record {
+pub passed : (ts : List Token) (i : ℕ) (t : Token) (r : Reader) (n : ℕ) (k : Kind) (fault : ReadFault) → i < length ts → t ≡ get_or ts i t → Holds (take (i + 1) ts) r → IsCleanBelow ts i
+    → n ≡ depth (take i ts) → k ≡ last_kind (take i ts) → Some fault ≡ limit_fault t.kind t.at n k → IsFirstFault ts fault
+passed ts i t r n k fault lt is h clean e f g = record {
   index = i;
   there = lt;
-  here = limit_here ts i fault (held_begins (take (i + 1) ts) r h) (limits_at ts i d n k (Some fault) lt e f g);
+  here = limit_here ts i fault (held_begins (take (i + 1) ts) r h) (limits_at ts i t n k (Some fault) lt is e f g);
   first = clean;
 }
 
 pub first_is_fault : (ts : List Token) (fault : ReadFault) → IsFirstFault ts fault → IsFault ts fault
 first_is_fault ts OutOfMemory f = tt
-first_is_fault ts (Syntax n) f = f
-first_is_fault ts (TooDeep n) f = f
-first_is_fault ts (PowerRange n) f = f
-first_is_fault ts (NumberTooWide n) f = f
+first_is_fault ts fault f = f
 
 -- ---- the end
 
@@ -181,13 +161,10 @@ done : (f : Formula) (s : State) → Some (Done f) ≡ Some s → Ended s
 done f s e = record { formula = f; is = sym (some_is e) }
 
 ended : (s : State) (n : ℕ) (s' : State) → step_at s n End ≡ Some s' → Ended s'
-ended (HasAtom a l (Bottom h f)) n s' e = done _ s' e
-ended (HasRaised a c x m l (Bottom h f)) n s' e = done _ s' e
+ended (Has (Plain a) l (Bottom h f)) n s' e = done _ s' e
+ended (Has p l (Bottom h f)) n s' e = done _ s' e
 ended (HasItems i h) n s' e = done _ s' e
-ended (HasAtom a l (Inside f m q o)) n s' e = cc
-ended (HasRaised a c x m l (Inside f p q o)) n s' e = cc
 ended (Fresh (Bottom h f)) n s' e = cc
-ended (Fresh (Inside f m l o)) n s' e = cc
 ended s n s' e = cc
 
 step_ended : (q : Option State) (n : ℕ) (s' : State) → option_and_then (λ s. option_and_then (λ s. Some s) (step_at s n End)) q ≡ Some s' → Ended s'
@@ -225,26 +202,11 @@ reading_held ts i r w le h clean =
 -- the faults of one token are one
 same_fault : (ts : List Token) (i : ℕ) (a b : ReadFault) → IsFaultAt ts i a → IsFaultAt ts i b → a ≡ b
 same_fault ts i OutOfMemory b f g = absurd f
-same_fault ts i (Syntax n) OutOfMemory f g = absurd g
+same_fault ts i a OutOfMemory f g = absurd g
 same_fault ts i (Syntax n) (Syntax m) f g = ap (λ (x : ℕ). Syntax x) (f.2 ∙ sym g.2)
-same_fault ts i (Syntax n) (TooDeep m) f g = absurd (f.1 g.0)
-same_fault ts i (Syntax n) (PowerRange m) f g = absurd (f.1 g.0)
-same_fault ts i (Syntax n) (NumberTooWide m) f g = absurd (f.1 g.0)
-same_fault ts i (TooDeep n) OutOfMemory f g = absurd g
-same_fault ts i (TooDeep n) (Syntax m) f g = absurd (g.1 f.0)
-same_fault ts i (TooDeep n) (TooDeep m) f g = some_is (sym f.1 ∙ g.1)
-same_fault ts i (TooDeep n) (PowerRange m) f g = some_is (sym f.1 ∙ g.1)
-same_fault ts i (TooDeep n) (NumberTooWide m) f g = some_is (sym f.1 ∙ g.1)
-same_fault ts i (PowerRange n) OutOfMemory f g = absurd g
-same_fault ts i (PowerRange n) (Syntax m) f g = absurd (g.1 f.0)
-same_fault ts i (PowerRange n) (TooDeep m) f g = some_is (sym f.1 ∙ g.1)
-same_fault ts i (PowerRange n) (PowerRange m) f g = some_is (sym f.1 ∙ g.1)
-same_fault ts i (PowerRange n) (NumberTooWide m) f g = some_is (sym f.1 ∙ g.1)
-same_fault ts i (NumberTooWide n) OutOfMemory f g = absurd g
-same_fault ts i (NumberTooWide n) (Syntax m) f g = absurd (g.1 f.0)
-same_fault ts i (NumberTooWide n) (TooDeep m) f g = some_is (sym f.1 ∙ g.1)
-same_fault ts i (NumberTooWide n) (PowerRange m) f g = some_is (sym f.1 ∙ g.1)
-same_fault ts i (NumberTooWide n) (NumberTooWide m) f g = some_is (sym f.1 ∙ g.1)
+same_fault ts i (Syntax n) b f g = absurd (f.1 g.0)
+same_fault ts i a (Syntax m) f g = absurd (g.1 f.0)
+same_fault ts i a b f g = some_is (sym f.1 ∙ g.1)
 
 same_index : (i j : ℕ) → (i < j → ⊥) → (j < i → ⊥) → i ≡ j
 same_index i j f g = omega (arith, f, g)
@@ -269,15 +231,7 @@ goes_or_stops ts i lt g =
     let more : take (i + 1) ts ≡ take i ts ++ (t ∷ []) = take_more ts i (token End 0) lt in
     let next = run_more (take i ts) t g.state g.is in
     elim (step g.state t) as (λ q. step g.state t ≡ q → Goes ts (i + 1) ⊎ ((fault : ReadFault) × IsFirstFault ts fault)) [
-      | None ↦ λ e. inr (
-        Syntax t.at,
-        record {
-          index = i;
-          there = lt;
-          here = (begins (take i ts) g.state g.is, λ b. begins_not (take i ts ++ (t ∷ [])) (next ∙ ap (option_and_then (λ s. Some s)) e) (subst Begins more b), refl);
-          first = g.clean;
-        },
-      )
+      | None ↦ λ e. inr (Syntax t.at, stopped ts i g.state lt g.is e g.clean)
       | Some s ↦ λ e.
           let is : run Begin (take (i + 1) ts) ≡ Some s = ap (run Begin) more ∙ next ∙ ap (option_and_then (λ s. Some s)) e in
           let b = begins (take (i + 1) ts) s is in

@@ -1,18 +1,13 @@
 -- The phases whose tokens do nothing but lead to the next one.
 use Rattle.std.proofs.Common.{◌≡◌, ℕ, refl}
 use Rattle.std.specs.Prelude.{Bool}
-use Rattle.formula_grammar.specs.declared.token.Span.{Span}
-use Rattle.formula_grammar.specs.declared.token.Kind.{Kind}
-use Rattle.formula_grammar.specs.declared.reading.SmoothPart.{SmoothPart}
-use Rattle.formula_grammar.specs.declared.reader.Phase.{Phase}
-use Rattle.formula_grammar.specs.declared.reader.Phase.TheVariants.{Response, Opening, Operand, FactorClose, BehindAtom, Exponent, BehindPower, SmoothClose, BehindItem}
-use Rattle.formula_grammar.specs.declared.reader.Reader.{Reader}
-use Rattle.formula_grammar.specs.Machine.{phase_read, next_phase, read_in, Reads}
+use Rattle.formula_grammar.specs.Words.{Span, Kind, SmoothPart}
+use Rattle.formula_grammar.specs.Machine.{Phase, Response, Opening, Operand, FactorClose, BehindAtom, Exponent, BehindPower, SmoothClose, BehindItem, Reader, phase_read, next_phase, read_in, Reads}
 
 pub other_read : (p : Phase) (r : Reader) (n : ℕ) (k : Kind) (can : Bool) (r' : Reader)
     → (p ≡ Response → ⊥) → (p ≡ Opening → ⊥) → (p ≡ Operand → ⊥) → ((x : Span) → p ≡ FactorClose x → ⊥) → (p ≡ BehindAtom → ⊥)
     → ((c : ℕ) → p ≡ Exponent c → ⊥) → (p ≡ BehindPower → ⊥) → ((s : SmoothPart) → p ≡ SmoothClose s → ⊥) → (p ≡ BehindItem → ⊥)
-    → Reads (phase_read r (next_phase p n k)) can r' → Reads (read_in p r n k) can r'
+    → Reads (phase_read r (next_phase p k)) can r' → Reads (read_in p r n k) can r'
 other_read Response r n k can r' a b c d e f g h i q = absurd (a refl)
 other_read Opening r n k can r' a b c d e f g h i q = absurd (b refl)
 other_read Operand r n k can r' a b c d e f g h i q = absurd (c refl)

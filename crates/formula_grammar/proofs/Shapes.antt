@@ -1,26 +1,11 @@
 -- The reader of the code holds what was read of a formula.
 use Rattle.std.proofs.Common.{◌==◌, arith, cond, length, ◌≡◌, ℕ, Bool, true, false, List, [], ◌∷◌, ◌++◌, Option, Some, None, option_map, refl, sym, ◌∙◌, ap, append_assoc, append-nil}
 use Rattle.std.proofs.lemmas.Bool.Decides.{nat_tests}
-use Rattle.formula_grammar.specs.declared.token.Span.{Span}
-use Rattle.formula_grammar.specs.declared.token.Sign.{Sign}
-use Rattle.formula_grammar.specs.declared.token.Sign.TheVariants.{Plus, Minus}
-use Rattle.formula_grammar.specs.declared.token.Whole.TheVariants.{Zero, Unity}
-use Rattle.formula_grammar.specs.declared.token.Numeral.{Numeral}
-use Rattle.formula_grammar.specs.declared.token.Numeral.TheVariants.{Digits}
-use Rattle.formula_grammar.specs.declared.token.Kind.{Kind}
-use Rattle.formula_grammar.specs.declared.token.Kind.TheVariants.{Name, FactorWord, QssWord, Number, Signed, Tilde, Star, Colon, Caret, Open, Close, Comma, Point, End}
-use Rattle.formula_grammar.specs.declared.reading.Step.{Step}
-use Rattle.formula_grammar.specs.declared.reading.Step.TheVariants.{Load, LoadAll, Nothing, Multiply, Interact}
-use Rattle.formula_grammar.specs.declared.reading.SmoothPart.{SmoothPart}
-use Rattle.formula_grammar.specs.declared.levels.Operator.{Operator}
-use Rattle.formula_grammar.specs.declared.levels.Level.{Level}
-use Rattle.formula_grammar.specs.declared.reader.Phase.{Phase}
-use Rattle.formula_grammar.specs.declared.reader.Phase.TheVariants.{Response, BeforeTilde, Opening, Operand, FactorOpen, FactorName, FactorClose, BehindAtom, Exponent, BehindPower, SmoothOpen, SmoothName, SmoothComma, SmoothLambda, SmoothClose, BehindItem, Ended}
-use Rattle.formula_grammar.specs.declared.reader.Reader.{Reader}
-use Rattle.formula_grammar.specs.Grammar.{token, Bare, Led, Sum, Product, Inter, Power, Plain, Raised, Atom, Group, Nil, Intercept, Term, Items, Then, Head}
+use Rattle.formula_grammar.specs.Words.{Span, Sign, Plus, Minus, Zero, Unity, Numeral, Digits, Kind, Name, FactorWord, QssWord, Number, Signed, Tilde, Star, Colon, Caret, Open, Close, Comma, Point, End, Step, Load, LoadAll, Nothing, Multiply, Interact, SmoothPart}
+use Rattle.formula_grammar.specs.Machine.{Operator, Level, Phase, Response, BeforeTilde, Opening, Operand, FactorOpen, FactorName, FactorClose, BehindAtom, Exponent, BehindPower, SmoothOpen, SmoothName, SmoothComma, SmoothLambda, SmoothClose, BehindItem, Ended, Reader, step_of, sum_step, inter_end, sum_end, bare, operand_read, sign_read, intercept_read, smooth_read, power_read, token_read}
+use Rattle.formula_grammar.specs.Grammar.{token, Bare, Led, Sum, Product, Inter, Power, Plain, Raised, Group, Nil, Intercept, Term, Items, Then, Head}
 use Rattle.formula_grammar.specs.Codes.{sum_code, product_code, inter_code, power_code, atom_code, items_code, has_intercept, smooths_of}
-use Rattle.formula_grammar.specs.Machine.{step_of, sum_step, inter_end, sum_end, bare, operand_read, sign_read, intercept_read, smooth_read, power_read, token_read}
-use Rattle.formula_grammar.proofs.Automaton.{Left, Lefts, no_lefts, Front, Leads, After, SmoothFront, Nowhere, BehindPlus, BehindItems, Around, Bottom, Inside, State, Begin, Named, Fresh, Wants, Factor1, Factor2, Factor3, HasAtom, Raising, HasRaised, Smooth1, Smooth2, Smooth3, Smooth4, Smooth5, HasItems, Done, onto_inter, onto_product, product_of, onto_sum, onto_items, led, item, smooth, behind, step_at}
+use Rattle.formula_grammar.proofs.Automaton.{Left, Lefts, no_lefts, Front, Leads, After, SmoothFront, Nowhere, BehindPlus, BehindItems, Around, Bottom, Inside, State, Begin, Named, Fresh, Wants, Factor1, Factor2, Factor3, Has, Raising, Smooth1, Smooth2, Smooth3, Smooth4, Smooth5, HasItems, Done, onto_inter, onto_product, product_of, onto_sum, onto_items, led, item, smooth, behind, step_at}
 
 abbrev place_of : {T : Type 0} → Option (Left T) → Option ℕ
 place_of None = None
@@ -141,6 +126,10 @@ items_held h i p = record {
 abbrev nothing_held : Span → Phase → Reader
 nothing_held x p = record { response = x; intercept = true; smooths = []; steps = []; level = bare; outer = []; phase = p }
 
+abbrev phase_behind : Power → Phase
+phase_behind (Plain a) = BehindAtom
+phase_behind (Raised a c e m) = BehindPower
+
 abbrev pub shape : State → Reader
 shape Begin = nothing_held (record { start = 0; len = 0 }) Response
 shape (Named x m) = nothing_held x BeforeTilde
@@ -149,14 +138,13 @@ shape (Wants l o) = held o l (outside o ++ before l) Operand
 shape (Factor1 w l o) = held o l (outside o ++ before l) FactorOpen
 shape (Factor2 w p l o) = held o l (outside o ++ before l) FactorName
 shape (Factor3 w p x m l o) = held o l (outside o ++ before l) (FactorClose x)
-shape (HasAtom a l o) = held o l (outside o ++ (before l ++ atom_code a)) BehindAtom
+shape (Has p l o) = held o l (outside o ++ (before l ++ power_code p)) (phase_behind p)
 shape (Raising a c l o) = held o l (outside o ++ (before l ++ atom_code a)) (Exponent c)
-shape (HasRaised a c e m l o) = held o l (outside o ++ (before l ++ power_code (Raised a c e m))) BehindPower
 shape (Smooth1 w h f) = smooth_held h f SmoothOpen
 shape (Smooth2 w p h f) = smooth_held h f SmoothName
 shape (Smooth3 w p x m h f) = smooth_held h f (SmoothComma x)
 shape (Smooth4 w p x m c h f) = smooth_held h f (SmoothLambda x)
-shape (Smooth5 w p x m c v q h f) = smooth_held h f (SmoothClose (record { name = x; lambda = v; at = q }))
+shape (Smooth5 w p x m c v q h f) = smooth_held h f (SmoothClose (record { name = x; lambda = v }))
 shape (HasItems i h) = items_held h i BehindItem
 shape (Done f) = items_held f.head f.items Ended
 
@@ -206,7 +194,6 @@ Commutes s n k = token_read (shape s) (token k n) ≡ option_map shape (step_at 
 operand_commutes : (l : Lefts) (o : Around) (n : ℕ) (k : Kind) → Commutes (Wants l o) n k
 operand_commutes l o n (Name x) = same_steps (held o l [] BehindAtom) _ _ (append_assoc (outside o) (before l) (Load x false ∷ []))
 operand_commutes l o n Point = same_steps (held o l [] BehindAtom) _ _ (append_assoc (outside o) (before l) (LoadAll ∷ []))
-operand_commutes l o n FactorWord = refl
 operand_commutes l o n Open = same_steps (held (Inside (Leads Bare) n l o) no_lefts [] Opening) _ _ (ap (λ (x : List Step). outside o ++ x) (sym (append-nil (before l))))
 operand_commutes l o n k = refl
 
@@ -220,35 +207,28 @@ none_inside w ws q = rw one_open refl
 
 leading_commutes : (o : Around) (x : Sign) (n : ℕ) → sign_read (shape (Fresh o)) (around_operator o) x n ≡ option_map shape (led o x n)
 leading_commutes (Bottom h (Leads Bare)) x n = refl
-leading_commutes (Bottom h (Leads (Led y m))) x n = refl
-leading_commutes (Bottom h (After j y m)) x n = refl
 leading_commutes (Inside (Leads Bare) p l o) x n = same_steps (held (Inside (Leads (Led x n)) p l o) no_lefts [] Opening) _ _ (simp (append_assoc, append-nil))
-leading_commutes (Inside (Leads (Led y m)) p l o) x n = refl
-leading_commutes (Inside (After j y m) p l o) x n = refl
+leading_commutes o x n = refl
 
 zero_commutes : (o : Around) (n : ℕ) → intercept_read (shape (Fresh o)) false ≡ option_map shape (item o n (Nil n))
-zero_commutes (Bottom h (Leads Bare)) n = refl
 zero_commutes (Bottom h (Leads (Led Plus m))) n = refl
-zero_commutes (Bottom h (Leads (Led Minus m))) n = refl
 zero_commutes (Bottom h (After j Plus m)) n = same_steps (items_held h (Then j Plus m (Nil n)) BehindItem) _ _ (append-nil (items_code j))
 zero_commutes (Bottom h (After j Minus m)) n = same_steps (items_held h (Then j Minus m (Nil n)) BehindItem) _ _ (append-nil (items_code j))
 zero_commutes (Inside f p l o) n = none_inside (level_of o l) (outer_of o) _
+zero_commutes o n = refl
 
 unity_commutes : (o : Around) (n : ℕ) → intercept_read (shape (Fresh o)) true ≡ option_map shape (item o n (Intercept n))
-unity_commutes (Bottom h (Leads Bare)) n = refl
 unity_commutes (Bottom h (Leads (Led Plus m))) n = refl
-unity_commutes (Bottom h (Leads (Led Minus m))) n = refl
 unity_commutes (Bottom h (After j Plus m)) n = same_steps (items_held h (Then j Plus m (Intercept n)) BehindItem) _ _ (append-nil (items_code j))
 unity_commutes (Bottom h (After j Minus m)) n = same_steps (items_held h (Then j Minus m (Intercept n)) BehindItem) _ _ (append-nil (items_code j))
 unity_commutes (Inside f p l o) n = none_inside (level_of o l) (outer_of o) _
+unity_commutes o n = refl
 
 smooth_commutes : (o : Around) (n : ℕ) → smooth_read (shape (Fresh o)) ≡ option_map shape (smooth o n)
-smooth_commutes (Bottom h (Leads Bare)) n = refl
 smooth_commutes (Bottom h (Leads (Led Plus m))) n = refl
-smooth_commutes (Bottom h (Leads (Led Minus m))) n = refl
 smooth_commutes (Bottom h (After j Plus m)) n = same_steps (smooth_held h (BehindItems j m) SmoothOpen) _ _ (append-nil (items_code j))
-smooth_commutes (Bottom h (After j Minus m)) n = refl
 smooth_commutes (Inside f p l o) n = none_inside (level_of o l) (outer_of o) _
+smooth_commutes o n = refl
 
 -- an operand may stand where a sign or an item may
 fresh_operand : (o : Around) (k : Kind) → operand_read (held o no_lefts (outside o) Opening) k ≡ operand_read (held o no_lefts (outside o ++ []) Operand) k
@@ -263,11 +243,7 @@ fresh_commutes o n (Signed x) = leading_commutes o x n
 fresh_commutes o n (Number (Digits Zero)) = zero_commutes o n
 fresh_commutes o n (Number (Digits Unity)) = unity_commutes o n
 fresh_commutes o n QssWord = smooth_commutes o n
-fresh_commutes o n (Name x) = fresh_operand o (Name x) ∙ operand_commutes no_lefts o n (Name x)
-fresh_commutes o n Point = fresh_operand o Point ∙ operand_commutes no_lefts o n Point
-fresh_commutes o n FactorWord = fresh_operand o FactorWord ∙ operand_commutes no_lefts o n FactorWord
-fresh_commutes o n Open = fresh_operand o Open ∙ operand_commutes no_lefts o n Open
-fresh_commutes o n k = refl
+fresh_commutes o n k = fresh_operand o k ∙ operand_commutes no_lefts o n k
 
 -- ---- behind a power
 
@@ -296,52 +272,34 @@ behind_commutes p l (Bottom h (Leads Bare)) n (Signed x) q = same_steps (shape (
 behind_commutes p l (Bottom h (Leads (Led y m))) n (Signed x) q = same_steps (shape (Fresh (Bottom h (After (onto_items (Leads (Led y m)) (Term (product_of l p))) x n)))) _ _ (in_bottom (Leads (Led y m)) l p h)
 behind_commutes p l (Bottom h (After j y m)) n (Signed x) q = same_steps (shape (Fresh (Bottom h (After (onto_items (After j y m) (Term (product_of l p))) x n)))) _ _ (in_bottom (After j y m) l p h)
 behind_commutes p l (Inside f m r o) n (Signed x) q = same_steps (shape (Fresh (Inside (After (onto_sum f (product_of l p)) x n) m r o))) _ _ (inside f m r o l p)
-behind_commutes p l (Bottom h f) n Close q = refl
-behind_commutes p l (Inside f m r o) n Close q = same_steps (shape (HasAtom (Group m (onto_sum f (product_of l p)) n) r o)) _ _ (inside f m r o l p)
+behind_commutes p l (Inside f m r o) n Close q = same_steps (shape (Has (Plain (Group m (onto_sum f (product_of l p)) n)) r o)) _ _ (inside f m r o l p)
 behind_commutes p l (Bottom h (Leads Bare)) n End q = same_steps (items_held h (onto_items (Leads Bare) (Term (product_of l p))) Ended) _ _ (in_bottom (Leads Bare) l p h)
 behind_commutes p l (Bottom h (Leads (Led y m))) n End q = same_steps (items_held h (onto_items (Leads (Led y m)) (Term (product_of l p))) Ended) _ _ (in_bottom (Leads (Led y m)) l p h)
 behind_commutes p l (Bottom h (After j y m)) n End q = same_steps (items_held h (onto_items (After j y m) (Term (product_of l p))) Ended) _ _ (in_bottom (After j y m) l p h)
 behind_commutes p l (Inside f m r o) n End q = none_inside (level_of o r) (outer_of o) _
 behind_commutes p l o n k q = refl
 
-atom_commutes : (a : Atom) (l : Lefts) (o : Around) (n : ℕ) (k : Kind) → Commutes (HasAtom a l o) n k
-atom_commutes a l o n Caret = refl
-atom_commutes a l o n k = behind_commutes (Plain a) l o n k BehindAtom
-
 smooth_end_commutes : (w p : ℕ) (x : Span) (m c : ℕ) (v : Numeral) (q : ℕ) (h : Head) (f : SmoothFront) (n : ℕ) → Commutes (Smooth5 w p x m c v q h f) n Close
 smooth_end_commutes w p x m c v q h Nowhere n = refl
-smooth_end_commutes w p x m c v q h (BehindPlus k) n = refl
-smooth_end_commutes w p x m c v q h (BehindItems j k) n = refl
+smooth_end_commutes w p x m c v q h f n = refl
 
 -- The reader goes where the reading goes.
 pub commutes : (s : State) (n : ℕ) (k : Kind) → Commutes s n k
 commutes Begin n (Name x) = refl
-commutes Begin n k = refl
 commutes (Named x m) n Tilde = refl
-commutes (Named x m) n k = refl
 commutes (Fresh o) n k = fresh_commutes o n k
 commutes (Wants l o) n k = operand_commutes l o n k
 commutes (Factor1 w l o) n Open = refl
-commutes (Factor1 w l o) n k = refl
 commutes (Factor2 w p l o) n (Name x) = refl
-commutes (Factor2 w p l o) n k = refl
 commutes (Factor3 w p x m l o) n Close = same_steps (held o l [] BehindAtom) _ _ (append_assoc (outside o) (before l) (Load x true ∷ []))
-commutes (Factor3 w p x m l o) n k = refl
-commutes (HasAtom a l o) n k = atom_commutes a l o n k
+commutes (Has (Plain a) l o) n Caret = refl
+commutes (Has (Plain a) l o) n k = behind_commutes (Plain a) l o n k BehindAtom
 commutes (Raising a c l o) n (Number (Digits e)) = same_steps (held o l [] BehindPower) _ _ (simp append_assoc)
-commutes (Raising a c l o) n k = refl
-commutes (HasRaised a c e m l o) n k = behind_commutes (Raised a c e m) l o n k BehindPower
+commutes (Has p l o) n k = behind_commutes p l o n k BehindPower
 commutes (Smooth1 w h f) n Open = refl
-commutes (Smooth1 w h f) n k = refl
 commutes (Smooth2 w p h f) n (Name x) = refl
-commutes (Smooth2 w p h f) n k = refl
 commutes (Smooth3 w p x m h f) n Comma = refl
-commutes (Smooth3 w p x m h f) n k = refl
 commutes (Smooth4 w p x m c h f) n (Number v) = refl
-commutes (Smooth4 w p x m c h f) n k = refl
 commutes (Smooth5 w p x m c v q h f) n Close = smooth_end_commutes w p x m c v q h f n
-commutes (Smooth5 w p x m c v q h f) n k = refl
 commutes (HasItems i h) n (Signed x) = refl
-commutes (HasItems i h) n End = refl
-commutes (HasItems i h) n k = refl
-commutes (Done f) n k = refl
+commutes s n k = refl

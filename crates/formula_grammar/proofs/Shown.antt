@@ -1,17 +1,8 @@
 -- What is read is a formula, and what is half read can be completed.
 use Rattle.std.proofs.Common.{◌≡◌, ℕ, List, [], ◌∷◌, ◌++◌, Option, Some, None, option_and_then, refl, sym, ◌∙◌, ap, append_assoc, append-nil}
-use Rattle.formula_grammar.specs.declared.token.Span.{Span}
-use Rattle.formula_grammar.specs.declared.token.Sign.{Sign}
-use Rattle.formula_grammar.specs.declared.token.Sign.TheVariants.{Plus, Minus}
-use Rattle.formula_grammar.specs.declared.token.Whole.{Whole}
-use Rattle.formula_grammar.specs.declared.token.Whole.TheVariants.{Zero, Unity, Longer}
-use Rattle.formula_grammar.specs.declared.token.Numeral.{Numeral}
-use Rattle.formula_grammar.specs.declared.token.Numeral.TheVariants.{Digits, Written}
-use Rattle.formula_grammar.specs.declared.token.Kind.{Kind}
-use Rattle.formula_grammar.specs.declared.token.Kind.TheVariants.{Name, FactorWord, QssWord, Number, Signed, Tilde, Star, Colon, Caret, Open, Close, Comma, Point, End}
-use Rattle.formula_grammar.specs.declared.token.Token.{Token}
-use Rattle.formula_grammar.specs.Grammar.{token, Bare, Led, Sum, Product, Inter, Power, Plain, Raised, Atom, Factor, Dot, Group, Smooth, Item, Term, Items, Head, Formula, lead_tokens, sum_tokens, product_tokens, inter_tokens, power_tokens, atom_tokens, smooth_tokens, item_tokens, items_tokens, head_tokens, formula_tokens, Begins}
-use Rattle.formula_grammar.proofs.Automaton.{Left, Lefts, no_lefts, Front, Leads, After, SmoothFront, Nowhere, BehindPlus, BehindItems, Around, Bottom, Inside, State, Begin, Named, Fresh, Wants, Factor1, Factor2, Factor3, HasAtom, Raising, HasRaised, Smooth1, Smooth2, Smooth3, Smooth4, Smooth5, HasItems, Done, onto_inter, onto_product, product_of, onto_sum, onto_items, onto_smooth, operand, led, smooth, fresh, behind, behind_atom, step_at, step, run}
+use Rattle.formula_grammar.specs.Words.{Span, Sign, Plus, Zero, Unity, Numeral, Digits, Kind, Name, FactorWord, QssWord, Number, Signed, Tilde, Star, Colon, Caret, Open, Close, Comma, Point, End, Token}
+use Rattle.formula_grammar.specs.Grammar.{token, Bare, Led, Sum, Product, Inter, Power, Plain, Raised, Factor, Dot, Group, Smooth, Item, Term, Items, Head, Formula, lead_tokens, sum_tokens, product_tokens, inter_tokens, power_tokens, atom_tokens, smooth_tokens, item_tokens, items_tokens, head_tokens, formula_tokens, Begins}
+use Rattle.formula_grammar.proofs.Automaton.{Left, Lefts, no_lefts, Front, Leads, After, SmoothFront, Nowhere, BehindPlus, BehindItems, Around, Bottom, Inside, State, Begin, Named, Fresh, Wants, Factor1, Factor2, Factor3, Has, Raising, Smooth1, Smooth2, Smooth3, Smooth4, Smooth5, HasItems, Done, onto_inter, onto_product, product_of, onto_sum, onto_items, onto_smooth, operand, led, smooth, fresh, behind, step_at, step, run}
 use Rattle.formula_grammar.proofs.WholeFormulas.{reads_formula}
 
 -- some place of a name
@@ -54,9 +45,8 @@ shown (Wants l o) = outside o ++ before l
 shown (Factor1 w l o) = outside o ++ (before l ++ (token FactorWord w ∷ []))
 shown (Factor2 w p l o) = outside o ++ (before l ++ (token FactorWord w ∷ token Open p ∷ []))
 shown (Factor3 w p x n l o) = outside o ++ (before l ++ (token FactorWord w ∷ token Open p ∷ token (Name x) n ∷ []))
-shown (HasAtom a l o) = outside o ++ (before l ++ atom_tokens a)
+shown (Has p l o) = outside o ++ (before l ++ power_tokens p)
 shown (Raising a c l o) = outside o ++ (before l ++ (atom_tokens a ++ (token Caret c ∷ [])))
-shown (HasRaised a c e m l o) = outside o ++ (before l ++ power_tokens (Raised a c e m))
 shown (Smooth1 w h f) = head_tokens h ++ (smooth_front f ++ (token QssWord w ∷ []))
 shown (Smooth2 w p h f) = head_tokens h ++ (smooth_front f ++ (token QssWord w ∷ token Open p ∷ []))
 shown (Smooth3 w p x n h f) = head_tokens h ++ (smooth_front f ++ (token QssWord w ∷ token Open p ∷ token (Name x) n ∷ []))
@@ -110,19 +100,14 @@ operand_shows l o n k s h = cc
 
 led_shows : (o : Around) (x : Sign) (n : ℕ) (s : State) → led o x n ≡ Some s → Shows (Fresh o) n (Signed x) s
 led_shows (Bottom h (Leads Bare)) x n s e = ap shown (sym (some_is e))
-led_shows (Bottom h (Leads (Led y m))) x n s e = cc
-led_shows (Bottom h (After j y m)) x n s e = cc
 led_shows (Inside (Leads Bare) p l o) x n s e = ap shown (sym (some_is e)) ∙ simp append_assoc
-led_shows (Inside (Leads (Led y m)) p l o) x n s e = cc
-led_shows (Inside (After j y m) p l o) x n s e = cc
+led_shows o x n s e = cc
 
 smooth_shows : (o : Around) (n : ℕ) (s : State) → smooth o n ≡ Some s → Shows (Fresh o) n QssWord s
 smooth_shows (Bottom h (Leads Bare)) n s e = ap shown (sym (some_is e)) ∙ simp append_assoc
 smooth_shows (Bottom h (Leads (Led Plus m))) n s e = ap shown (sym (some_is e)) ∙ simp append_assoc
-smooth_shows (Bottom h (Leads (Led Minus m))) n s e = cc
 smooth_shows (Bottom h (After j Plus m)) n s e = ap shown (sym (some_is e)) ∙ simp append_assoc
-smooth_shows (Bottom h (After j Minus m)) n s e = cc
-smooth_shows (Inside f p l o) n s e = cc
+smooth_shows o n s e = cc
 
 from_fresh : (o : Around) (n : ℕ) (k : Kind) (s : State) → Shows (Wants no_lefts o) n k s → Shows (Fresh o) n k s
 from_fresh o n k s e = e ∙ ap (λ (x : List Token). x ++ (token k n ∷ [])) (append-nil (outside o))
@@ -131,23 +116,9 @@ fresh_shows : (o : Around) (n : ℕ) (k : Kind) (s : State) → fresh o n k ≡ 
 fresh_shows o n (Signed x) s e = led_shows o x n s e
 fresh_shows o n QssWord s e = smooth_shows o n s e
 fresh_shows (Bottom h f) n (Number (Digits Zero)) s e = ap shown (sym (some_is e)) ∙ simp (items_shown, append_assoc)
-fresh_shows (Inside f p l o) n (Number (Digits Zero)) s e = cc
 fresh_shows (Bottom h f) n (Number (Digits Unity)) s e = ap shown (sym (some_is e)) ∙ simp (items_shown, append_assoc)
-fresh_shows (Inside f p l o) n (Number (Digits Unity)) s e = cc
-fresh_shows o n (Number (Digits (Longer t u v))) s e = cc
-fresh_shows o n (Number (Written t u)) s e = cc
-fresh_shows o n (Name x) s e = from_fresh o n (Name x) s (operand_shows no_lefts o n (Name x) s e)
-fresh_shows o n FactorWord s e = from_fresh o n FactorWord s (operand_shows no_lefts o n FactorWord s e)
-fresh_shows o n Point s e = from_fresh o n Point s (operand_shows no_lefts o n Point s e)
-fresh_shows o n Open s e = from_fresh o n Open s (operand_shows no_lefts o n Open s e)
-fresh_shows o n Tilde s e = cc
-fresh_shows o n Star s e = cc
-fresh_shows o n Colon s e = cc
-fresh_shows o n Caret s e = cc
-fresh_shows o n Close s e = cc
-fresh_shows o n Comma s e = cc
-fresh_shows o n End s e = cc
-fresh_shows o n Bad s e = cc
+fresh_shows (Inside f p l o) n (Number (Digits Zero)) s e = cc
+fresh_shows o n k s e = from_fresh o n k s (operand_shows no_lefts o n k s e)
 
 -- What stands behind a power, which is itself shown so.
 abbrev powered : Power → Lefts → Around → List Token
@@ -174,47 +145,29 @@ behind_shows p l o n Colon s e = ap shown (sym (some_is e)) ∙ simp (inter_show
 behind_shows p l o n Star s e = ap shown (sym (some_is e)) ∙ simp (product_of_shown, append_assoc, append-nil)
 behind_shows p l (Bottom h f) n (Signed x) s e = ap shown (sym (some_is e)) ∙ in_bottom p l h f (token (Signed x) n ∷ [])
 behind_shows p l (Inside f m q o) n (Signed x) s e = ap shown (sym (some_is e)) ∙ inside p l f m q o (token (Signed x) n ∷ [])
-behind_shows p l (Bottom h f) n Close s e = cc
 behind_shows p l (Inside f m q o) n Close s e = ap shown (sym (some_is e)) ∙ inside p l f m q o (token Close n ∷ [])
 behind_shows p l (Bottom h f) n End s e = ap shown (sym (some_is e)) ∙ in_bottom p l h f (token End n ∷ [])
-behind_shows p l (Inside f m q o) n End s e = cc
 behind_shows p l o n k s e = cc
-
-atom_shows : (a : Atom) (l : Lefts) (o : Around) (n : ℕ) (k : Kind) (s : State) → behind_atom a l o n k ≡ Some s → Shows (HasAtom a l o) n k s
-atom_shows a l o n Caret s e = ap shown (sym (some_is e)) ∙ simp append_assoc
-atom_shows a l o n k s e = behind_shows (Plain a) l o n k s e
 
 step_shows : (s : State) (n : ℕ) (k : Kind) (s' : State) → step_at s n k ≡ Some s' → Shows s n k s'
 step_shows Begin n (Name x) s e = ap shown (sym (some_is e))
-step_shows Begin n k s e = cc
 step_shows (Named x m) n Tilde s e = ap shown (sym (some_is e))
-step_shows (Named x m) n k s e = cc
 step_shows (Fresh o) n k s e = fresh_shows o n k s e
 step_shows (Wants l o) n k s e = operand_shows l o n k s e
 step_shows (Factor1 w l o) n Open s e = ap shown (sym (some_is e)) ∙ simp append_assoc
-step_shows (Factor1 w l o) n k s e = cc
 step_shows (Factor2 w p l o) n (Name x) s e = ap shown (sym (some_is e)) ∙ simp append_assoc
-step_shows (Factor2 w p l o) n k s e = cc
 step_shows (Factor3 w p x m l o) n Close s e = ap shown (sym (some_is e)) ∙ simp append_assoc
-step_shows (Factor3 w p x m l o) n k s e = cc
-step_shows (HasAtom a l o) n k s e = atom_shows a l o n k s e
+step_shows (Has (Plain a) l o) n Caret s e = ap shown (sym (some_is e)) ∙ simp append_assoc
+step_shows (Has p l o) n k s e = behind_shows p l o n k s e
 step_shows (Raising a c l o) n (Number (Digits x)) s e = ap shown (sym (some_is e)) ∙ simp append_assoc
-step_shows (Raising a c l o) n k s e = cc
-step_shows (HasRaised a c x m l o) n k s e = behind_shows (Raised a c x m) l o n k s e
 step_shows (Smooth1 w h f) n Open s e = ap shown (sym (some_is e)) ∙ simp append_assoc
-step_shows (Smooth1 w h f) n k s e = cc
 step_shows (Smooth2 w p h f) n (Name x) s e = ap shown (sym (some_is e)) ∙ simp append_assoc
-step_shows (Smooth2 w p h f) n k s e = cc
 step_shows (Smooth3 w p x m h f) n Comma s e = ap shown (sym (some_is e)) ∙ simp append_assoc
-step_shows (Smooth3 w p x m h f) n k s e = cc
 step_shows (Smooth4 w p x m c h f) n (Number v) s e = ap shown (sym (some_is e)) ∙ simp append_assoc
-step_shows (Smooth4 w p x m c h f) n k s e = cc
 step_shows (Smooth5 w p x m c v q h f) n Close s e = ap shown (sym (some_is e)) ∙ simp (smooth_shown, append_assoc)
-step_shows (Smooth5 w p x m c v q h f) n k s e = cc
 step_shows (HasItems i h) n (Signed x) s e = ap shown (sym (some_is e)) ∙ simp append_assoc
 step_shows (HasItems i h) n End s e = ap shown (sym (some_is e)) ∙ simp append_assoc
-step_shows (HasItems i h) n k s e = cc
-step_shows (Done f) n k s e = cc
+step_shows s n k s' e = cc
 
 pub run_append : (s : State) (a b : List Token) → run s (a ++ b) ≡ option_and_then (λ s'. run s' b) (run s a)
 run_append s [] b = refl
@@ -240,60 +193,42 @@ record Completes (s : State) : Type 0 where
 more : (s s' : State) (t : Token) → step s t ≡ Some s' → Completes s' → Completes s
 more s s' t e c = record { rest = t ∷ c.rest; formula = c.formula; whole = ap (option_and_then (λ q. run q c.rest)) e ∙ c.whole }
 
-closes : (o : Around) (l : Lefts) (a : Atom) → Completes (HasAtom a l o)
-closes (Bottom h f) l a = record { rest = token End 0 ∷ []; formula = record { head = h; items = onto_items f (Term (product_of l (Plain a))); ended = 0 }; whole = refl }
-closes (Inside f m q o) l a = more _ _ (token Close 0) refl (closes o q (Group m (onto_sum f (product_of l (Plain a))) 0))
-
-closes_raised : (o : Around) (l : Lefts) (a : Atom) (c : ℕ) (e : Whole) (n : ℕ) → Completes (HasRaised a c e n l o)
-closes_raised (Bottom h f) l a c e n = record { rest = token End 0 ∷ []; formula = record { head = h; items = onto_items f (Term (product_of l (Raised a c e n))); ended = 0 }; whole = refl }
-closes_raised (Inside f m q o) l a c e n = more _ _ (token Close 0) refl (closes o q (Group m (onto_sum f (product_of l (Raised a c e n))) 0))
-
-wants : (l : Lefts) (o : Around) → Completes (Wants l o)
-wants l o = more _ _ (token Point 0) refl (closes o l (Dot 0))
-
-fresh_completes : (o : Around) → Completes (Fresh o)
-fresh_completes o = more _ _ (token Point 0) refl (closes o no_lefts (Dot 0))
+closes : (o : Around) (l : Lefts) (p : Power) → Completes (Has p l o)
+closes (Bottom h f) l (Plain a) = record { rest = token End 0 ∷ []; formula = record { head = h; items = onto_items f (Term (product_of l (Plain a))); ended = 0 }; whole = refl }
+closes (Bottom h f) l p = record { rest = token End 0 ∷ []; formula = record { head = h; items = onto_items f (Term (product_of l p)); ended = 0 }; whole = refl }
+closes (Inside f m q o) l (Plain a) = more _ _ (token Close 0) refl (closes o q (Plain (Group m (onto_sum f (product_of l (Plain a))) 0)))
+closes (Inside f m q o) l p = more _ _ (token Close 0) refl (closes o q (Plain (Group m (onto_sum f (product_of l p)) 0)))
 
 has_items : (i : Items) (h : Head) → Completes (HasItems i h)
 has_items i h = record { rest = token End 0 ∷ []; formula = record { head = h; items = i; ended = 0 }; whole = refl }
 
-smooth5 : (w p : ℕ) (x : Span) (n c : ℕ) (v : Numeral) (q : ℕ) (h : Head) (f : SmoothFront) → Completes (Smooth5 w p x n c v q h f)
-smooth5 w p x n c v q h f = more _ _ (token Close 0) refl (has_items (onto_smooth f (record { word = w; opened = p; name = x; place = n; comma = c; lambda = v; at = q; closed = 0 })) h)
+smooth_completes : (w p : ℕ) (x : Span) (n c : ℕ) (v : Numeral) (q : ℕ) (h : Head) (f : SmoothFront) → Completes (Smooth5 w p x n c v q h f)
+smooth_completes w p x n c v q h f = more _ _ (token Close 0) refl (has_items _ h)
 
-smooth4 : (w p : ℕ) (x : Span) (n c : ℕ) (h : Head) (f : SmoothFront) → Completes (Smooth4 w p x n c h f)
-smooth4 w p x n c h f = more _ _ (token (Number (Digits Zero)) 0) refl (smooth5 w p x n c (Digits Zero) 0 h f)
+comma_completes : (w p : ℕ) (x : Span) (n : ℕ) (h : Head) (f : SmoothFront) → Completes (Smooth3 w p x n h f)
+comma_completes w p x n h f = more _ _ (token Comma 0) refl (more _ _ (token (Number (Digits Zero)) 0) refl (smooth_completes w p x n 0 (Digits Zero) 0 h f))
 
-smooth3 : (w p : ℕ) (x : Span) (n : ℕ) (h : Head) (f : SmoothFront) → Completes (Smooth3 w p x n h f)
-smooth3 w p x n h f = more _ _ (token Comma 0) refl (smooth4 w p x n 0 h f)
-
-smooth2 : (w p : ℕ) (h : Head) (f : SmoothFront) → Completes (Smooth2 w p h f)
-smooth2 w p h f = more _ _ (token (Name nowhere) 0) refl (smooth3 w p nowhere 0 h f)
-
-factor3 : (w p : ℕ) (x : Span) (n : ℕ) (l : Lefts) (o : Around) → Completes (Factor3 w p x n l o)
-factor3 w p x n l o = more _ _ (token Close 0) refl (closes o l (Factor w p x n 0))
-
-factor2 : (w p : ℕ) (l : Lefts) (o : Around) → Completes (Factor2 w p l o)
-factor2 w p l o = more _ _ (token (Name nowhere) 0) refl (factor3 w p nowhere 0 l o)
+factor_completes : (w p : ℕ) (l : Lefts) (o : Around) → Completes (Factor2 w p l o)
+factor_completes w p l o = more _ _ (token (Name nowhere) 0) refl (more _ _ (token Close 0) refl (closes o l (Plain (Factor w p nowhere 0 0))))
 
 named : (x : Span) (n : ℕ) → Completes (Named x n)
-named x n = more _ _ (token Tilde 0) refl (fresh_completes (Bottom (record { response = x; place = n; tilde = 0 }) (Leads Bare)))
+named x n = more _ _ (token Tilde 0) refl (more _ _ (token Point 0) refl (closes (Bottom (record { response = x; place = n; tilde = 0 }) (Leads Bare)) no_lefts (Plain (Dot 0))))
 
 completes : (s : State) → Completes s
 completes Begin = more _ _ (token (Name nowhere) 0) refl (named nowhere 0)
 completes (Named x n) = named x n
-completes (Fresh o) = fresh_completes o
-completes (Wants l o) = wants l o
-completes (Factor1 w l o) = more _ _ (token Open 0) refl (factor2 w 0 l o)
-completes (Factor2 w p l o) = factor2 w p l o
-completes (Factor3 w p x n l o) = factor3 w p x n l o
-completes (HasAtom a l o) = closes o l a
-completes (Raising a c l o) = more _ _ (token (Number (Digits Unity)) 0) refl (closes_raised o l a c Unity 0)
-completes (HasRaised a c e n l o) = closes_raised o l a c e n
-completes (Smooth1 w h f) = more _ _ (token Open 0) refl (smooth2 w 0 h f)
-completes (Smooth2 w p h f) = smooth2 w p h f
-completes (Smooth3 w p x n h f) = smooth3 w p x n h f
-completes (Smooth4 w p x n c h f) = smooth4 w p x n c h f
-completes (Smooth5 w p x n c v q h f) = smooth5 w p x n c v q h f
+completes (Fresh o) = more _ _ (token Point 0) refl (closes o no_lefts (Plain (Dot 0)))
+completes (Wants l o) = more _ _ (token Point 0) refl (closes o l (Plain (Dot 0)))
+completes (Factor1 w l o) = more _ _ (token Open 0) refl (factor_completes w 0 l o)
+completes (Factor2 w p l o) = factor_completes w p l o
+completes (Factor3 w p x n l o) = more _ _ (token Close 0) refl (closes o l (Plain (Factor w p x n 0)))
+completes (Has p l o) = closes o l p
+completes (Raising a c l o) = more _ _ (token (Number (Digits Unity)) 0) refl (closes o l (Raised a c Unity 0))
+completes (Smooth1 w h f) = more _ _ (token Open 0) refl (more _ _ (token (Name nowhere) 0) refl (comma_completes w 0 nowhere 0 h f))
+completes (Smooth2 w p h f) = more _ _ (token (Name nowhere) 0) refl (comma_completes w p nowhere 0 h f)
+completes (Smooth3 w p x n h f) = comma_completes w p x n h f
+completes (Smooth4 w p x n c h f) = more _ _ (token (Number (Digits Zero)) 0) refl (smooth_completes w p x n c (Digits Zero) 0 h f)
+completes (Smooth5 w p x n c v q h f) = smooth_completes w p x n c v q h f
 completes (HasItems i h) = has_items i h
 completes (Done f) = record { rest = []; formula = f; whole = refl }
 

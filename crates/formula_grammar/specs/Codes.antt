@@ -1,11 +1,6 @@
 -- Stated. The code of a formula: its operands, left first, and then its operator.
 use Rattle.std.specs.Prelude.{ℕ, Bool, true, false, List, [], ◌∷◌, ◌++◌}
-use Rattle.formula_grammar.specs.declared.token.Sign.{Sign}
-use Rattle.formula_grammar.specs.declared.token.Sign.TheVariants.{Plus, Minus}
-use Rattle.formula_grammar.specs.declared.reading.Step.{Step}
-use Rattle.formula_grammar.specs.declared.reading.Step.TheVariants.{Load, LoadAll, Nothing, Add, Remove, Multiply, Interact, Raise}
-use Rattle.formula_grammar.specs.declared.reading.SmoothPart.{SmoothPart}
-use Rattle.formula_grammar.specs.declared.reading.Reading.{Reading}
+use Rattle.formula_grammar.specs.Words.{Sign, Plus, Minus, Step, Load, LoadAll, Nothing, Add, Remove, Multiply, Interact, Raise, SmoothPart, Reading}
 use Rattle.formula_grammar.specs.Numerals.{power_of}
 use Rattle.formula_grammar.specs.Grammar.{Lead, Bare, Led, Sum, First, More, Product, One, Times, Inter, Lone, Cross, Power, Plain, Raised, Atom, Leaf, Factor, Dot, Group, Smooth, Item, Nil, Intercept, Term, Items, Start, StartSmooth, StartPlus, Then, ThenSmooth, Formula}
 
@@ -75,7 +70,7 @@ has_intercept (ThenSmooth j n s) = has_intercept j
 
 -- where the name of a smooth stands, and its lambda
 abbrev pub smooth_part : Smooth → SmoothPart
-smooth_part s = record { name = s.name; lambda = s.lambda; at = s.at }
+smooth_part s = record { name = s.name; lambda = s.lambda }
 
 -- the smooths in the order of the text
 abbrev pub smooths_of : Items → List SmoothPart

@@ -1,14 +1,8 @@
 -- Stated. The formula of some tokens, or their first fault.
 use Rattle.std.specs.Prelude.{◌≡◌, ◌⊎◌, ◌++◌, ◌<◌, ◌+◌, ◌-◌, ◌&&◌, ℕ, Bool, nat_le, List, [], ◌∷◌, length, take, slice_index_or, Option, Some, None, if◌then◌else◌}
-use Rattle.formula_grammar.specs.declared.token.Kind.{Kind}
-use Rattle.formula_grammar.specs.declared.token.Kind.TheVariants.{Number, Caret, Open, Close, Comma, End}
-use Rattle.formula_grammar.specs.declared.token.Whole.{Whole}
-use Rattle.formula_grammar.specs.declared.token.Numeral.{Numeral}
-use Rattle.formula_grammar.specs.declared.token.Numeral.TheVariants.{Digits}
-use Rattle.formula_grammar.specs.declared.token.Token.{Token}
-use Rattle.formula_grammar.specs.declared.reading.Reading.{Reading}
-use Rattle.formula_grammar.specs.declared.fault.ReadFault.{ReadFault}
-use Rattle.formula_grammar.specs.declared.fault.ReadFault.TheVariants.{OutOfMemory, Syntax, TooDeep, PowerRange, NumberTooWide}
+use Rattle.formula_grammar.specs.Words.{Kind, Number, Caret, Open, Close, Comma, End, Whole, Numeral, Digits, Token, Reading}
+pub use Rattle.formula_grammar.specs.declared.fault.ReadFault.{ReadFault}
+pub use Rattle.formula_grammar.specs.declared.fault.ReadFault.TheVariants.{OutOfMemory, Syntax, TooDeep, PowerRange, NumberTooWide}
 use Rattle.formula_grammar.specs.Numerals.{is_wide, power_of}
 use Rattle.formula_grammar.specs.Grammar.{Formula, token, formula_tokens, Begins}
 use Rattle.formula_grammar.specs.Codes.{reading_of}

@@ -9,16 +9,7 @@
 --   power   = atom [ "^" DIGITS ]
 --   atom    = NAME | "factor" "(" NAME ")" | "." | "(" sum ")"
 use Rattle.std.specs.Prelude.{◌≡◌, ℕ, List, [], ◌∷◌, ◌++◌}
-use Rattle.formula_grammar.specs.declared.token.Span.{Span}
-use Rattle.formula_grammar.specs.declared.token.Sign.{Sign}
-use Rattle.formula_grammar.specs.declared.token.Sign.TheVariants.{Plus}
-use Rattle.formula_grammar.specs.declared.token.Whole.{Whole}
-use Rattle.formula_grammar.specs.declared.token.Whole.TheVariants.{Zero, Unity}
-use Rattle.formula_grammar.specs.declared.token.Numeral.{Numeral}
-use Rattle.formula_grammar.specs.declared.token.Numeral.TheVariants.{Digits}
-use Rattle.formula_grammar.specs.declared.token.Kind.{Kind}
-use Rattle.formula_grammar.specs.declared.token.Kind.TheVariants.{Name, FactorWord, QssWord, Number, Signed, Tilde, Star, Colon, Caret, Open, Close, Comma, Point, End}
-use Rattle.formula_grammar.specs.declared.token.Token.{Token}
+use Rattle.formula_grammar.specs.Words.{Span, Sign, Plus, Whole, Zero, Unity, Numeral, Digits, Kind, Name, FactorWord, QssWord, Number, Signed, Tilde, Star, Colon, Caret, Open, Close, Comma, Point, End, Token}
 
 -- the token of a kind that begins at a place
 abbrev pub token : Kind → ℕ → Token

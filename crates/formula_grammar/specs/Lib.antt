@@ -1,3 +1,5 @@
+pub mod Words
+pub mod Magnitudes
 pub mod Numerals
 pub mod Grammar
 pub mod Codes

@@ -1,21 +1,11 @@
 -- Inner. What a token does to a half read formula: the formula then, or none where it can't stand there.
 use Rattle.std.specs.Prelude.{◌≡◌, ℕ, ◌==◌, Bool, true, false, not, List, [], ◌∷◌, ◌++◌, length, Option, Some, None, if◌then◌else◌}
-use Rattle.formula_grammar.specs.declared.token.Span.{Span}
-use Rattle.formula_grammar.specs.declared.token.Sign.{Sign}
-use Rattle.formula_grammar.specs.declared.token.Sign.TheVariants.{Plus, Minus}
-use Rattle.formula_grammar.specs.declared.token.Whole.TheVariants.{Zero, Unity}
-use Rattle.formula_grammar.specs.declared.token.Numeral.TheVariants.{Digits}
-use Rattle.formula_grammar.specs.declared.token.Kind.{Kind}
-use Rattle.formula_grammar.specs.declared.token.Kind.TheVariants.{Name, FactorWord, QssWord, Number, Signed, Tilde, Star, Colon, Caret, Open, Close, Comma, Point, End}
-use Rattle.formula_grammar.specs.declared.token.Token.{Token}
-use Rattle.formula_grammar.specs.declared.reading.Step.{Step}
-use Rattle.formula_grammar.specs.declared.reading.Step.TheVariants.{Load, LoadAll, Nothing, Multiply, Interact, Raise}
-use Rattle.formula_grammar.specs.declared.reading.SmoothPart.{SmoothPart}
-use Rattle.formula_grammar.specs.declared.levels.Operator.{Operator}
-use Rattle.formula_grammar.specs.declared.levels.Level.{Level}
-use Rattle.formula_grammar.specs.declared.reader.Phase.{Phase}
-use Rattle.formula_grammar.specs.declared.reader.Phase.TheVariants.{Response, BeforeTilde, Opening, Operand, FactorOpen, FactorName, FactorClose, BehindAtom, Exponent, BehindPower, SmoothOpen, SmoothName, SmoothComma, SmoothLambda, SmoothClose, BehindItem, Ended}
-use Rattle.formula_grammar.specs.declared.reader.Reader.{Reader}
+use Rattle.formula_grammar.specs.Words.{Span, Sign, Plus, Minus, Zero, Unity, Digits, Kind, Name, FactorWord, QssWord, Number, Signed, Tilde, Star, Colon, Caret, Open, Close, Comma, Point, End, Token, Step, Load, LoadAll, Nothing, Multiply, Interact, Raise, SmoothPart}
+pub use Rattle.formula_grammar.specs.declared.levels.Operator.{Operator}
+pub use Rattle.formula_grammar.specs.declared.levels.Level.{Level}
+pub use Rattle.formula_grammar.specs.declared.reader.Phase.{Phase}
+pub use Rattle.formula_grammar.specs.declared.reader.Phase.TheVariants.{Response, BeforeTilde, Opening, Operand, FactorOpen, FactorName, FactorClose, BehindAtom, Exponent, BehindPower, SmoothOpen, SmoothName, SmoothComma, SmoothLambda, SmoothClose, BehindItem, Ended}
+pub use Rattle.formula_grammar.specs.declared.reader.Reader.{Reader}
 use Rattle.formula_grammar.specs.Numerals.{power_of}
 use Rattle.formula_grammar.specs.Codes.{signed_step}
 
@@ -147,15 +137,15 @@ smooth_end_read r s Close = Some (record r { smooths = r.smooths ++ (s ∷ []); 
 smooth_end_read r s k = None
 
 -- the tokens that stand for nothing but themselves, and those inside `factor(..)` and `qss(..)`
-abbrev pub next_phase : Phase → ℕ → Kind → Option Phase
-next_phase BeforeTilde n Tilde = Some Opening
-next_phase FactorOpen n Open = Some FactorName
-next_phase FactorName n (Name x) = Some (FactorClose x)
-next_phase SmoothOpen n Open = Some SmoothName
-next_phase SmoothName n (Name x) = Some (SmoothComma x)
-next_phase (SmoothComma x) n Comma = Some (SmoothLambda x)
-next_phase (SmoothLambda x) n (Number v) = Some (SmoothClose (record { name = x; lambda = v; at = n }))
-next_phase p n k = None
+abbrev pub next_phase : Phase → Kind → Option Phase
+next_phase BeforeTilde Tilde = Some Opening
+next_phase FactorOpen Open = Some FactorName
+next_phase FactorName (Name x) = Some (FactorClose x)
+next_phase SmoothOpen Open = Some SmoothName
+next_phase SmoothName (Name x) = Some (SmoothComma x)
+next_phase (SmoothComma x) Comma = Some (SmoothLambda x)
+next_phase (SmoothLambda x) (Number v) = Some (SmoothClose (record { name = x; lambda = v }))
+next_phase p k = None
 
 -- a token that changes the phase alone
 abbrev pub phase_read : Reader → Option Phase → Option Reader
@@ -173,7 +163,7 @@ read_in (Exponent c) r n k = exponent_read r c k
 read_in BehindPower r n k = power_read r n k
 read_in (SmoothClose s) r n k = smooth_end_read r s k
 read_in BehindItem r n k = item_read r n k
-read_in p r n k = phase_read r (next_phase p n k)
+read_in p r n k = phase_read r (next_phase p k)
 
 -- a token in the phase of the reader
 abbrev pub token_read : Reader → Token → Option Reader

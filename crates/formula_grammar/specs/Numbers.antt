@@ -1,18 +1,12 @@
 -- Stated. The number at the front of a text.
-use Rattle.std.specs.Prelude.{ℕ, zero, suc, ◌^◌, ◌-◌, ◌==◌, ◌||◌, nat_le, Bool, true, false, List, [], ◌∷◌, Option, Some, None, option_and_then, Result, Err, bytes_eq, codes, length, take, if◌then◌else◌}
+use Rattle.std.specs.Prelude.{ℕ, zero, suc, ◌==◌, ◌||◌, Bool, true, false, List, [], ◌∷◌, Option, Some, None, option_and_then, bytes_eq, codes, length, take, if◌then◌else◌}
 use Rattle.std.specs.Char.{is_ascii_digit}
 use Rattle.std.specs.List.{list_all}
-use Rattle.std.specs.Str.Parse.{digits_value}
-use Rattle.exact_algebra.specs.Rational.{ℚ}
-use Rattle.frac_core.specs.NumberText.{is_exponent_mark, is_number_text, is_point, is_slash, is_zero_digit, number_of}
-use Rattle.frac_core.specs.declared.number_reader.NumberFault.{NumberFault}
-use Rattle.frac_core.specs.declared.number_reader.NumberFault.TheVariants.{TooWide}
-use Rattle.formula_grammar.specs.declared.token.Whole.{Whole}
-use Rattle.formula_grammar.specs.declared.token.Whole.TheVariants.{Zero, Unity, Longer}
-use Rattle.formula_grammar.specs.declared.token.Numeral.{Numeral}
-use Rattle.formula_grammar.specs.declared.token.Numeral.TheVariants.{Digits, Written}
-use Rattle.formula_grammar.specs.declared.number.NumberPart.{NumberPart}
-use Rattle.formula_grammar.specs.declared.number.NumberPart.TheVariants.{Empty, Integer, LonePoint, Decimals, ExponentMark, ExponentSign, Exponent, Slash, Denominator}
+use Rattle.frac_core.specs.NumberText.{is_exponent_mark, is_number_text, is_point, is_slash, is_zero_digit}
+use Rattle.formula_grammar.specs.Magnitudes.{magnitude_of}
+use Rattle.formula_grammar.specs.Words.{Whole, Zero, Unity, Longer, Numeral, Digits, Written}
+pub use Rattle.formula_grammar.specs.declared.number.NumberPart.{NumberPart}
+pub use Rattle.formula_grammar.specs.declared.number.NumberPart.TheVariants.{Empty, Integer, LonePoint, Decimals, ExponentMark, ExponentSign, Exponent, Slash, Denominator}
 
 -- a sign stands in front
 abbrev pub is_signed : List ℕ → Bool
@@ -28,29 +22,16 @@ greatest p (suc n) = if p (suc n) then suc n else greatest p n
 unfoldable pub number_len : List ℕ → ℕ
 number_len text = greatest (λ n. is_number_text (take n text)) (length text)
 
--- there was a number, and it is too wide
-abbrev pub is_wide_answer : Result ℚ NumberFault → Bool
-is_wide_answer (Err TooWide) = true
-is_wide_answer _ = false
-
--- fractions of 128 bits don't hold the number of the text
-unfoldable pub is_too_wide : List ℕ → Bool
-is_too_wide number = is_wide_answer (number_of (2 ^ 127 - 1) number)
-
--- the value of digits, or 9 where it is more than 8
-unfoldable pub capped_value : List ℕ → ℕ
-capped_value digits = if nat_le (digits_value 10 digits) 8 then digits_value 10 digits else 9
-
--- what digits are as a token: 0, 1, or others by how many they are, by their value and by whether it is too wide
+-- what digits are as a token
 unfoldable pub whole_of : List ℕ → Whole
 whole_of digits =
     if bytes_eq digits (codes "0") then Zero
     else if bytes_eq digits (codes "1") then Unity
-    else Longer (length digits) (capped_value digits) (is_too_wide digits)
+    else Longer (magnitude_of digits)
 
 -- what a number text is as a token
 unfoldable pub numeral_of : List ℕ → Numeral
-numeral_of number = if list_all is_ascii_digit number then Digits (whole_of number) else Written (length number) (is_too_wide number)
+numeral_of number = if list_all is_ascii_digit number then Digits (whole_of number) else Written (magnitude_of number)
 
 -- ---- a number text byte by byte
 

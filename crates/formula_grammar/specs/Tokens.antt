@@ -2,11 +2,8 @@
 use Rattle.std.specs.Prelude.{ℕ, zero, suc, ◌+◌, ◌-◌, ◌==◌, ◌&&◌, ◌||◌, Bool, false, nat_le, bytes_eq, codes, List, [], ◌∷◌, Option, Some, None, length, take, drop, position, if◌then◌else◌}
 use Rattle.std.specs.List.{prefix_len}
 use Rattle.std.specs.Char.{is_ascii_digit}
-use Rattle.formula_grammar.specs.declared.token.Sign.TheVariants.{Plus, Minus}
-use Rattle.formula_grammar.specs.declared.token.Kind.{Kind}
-use Rattle.formula_grammar.specs.declared.token.Kind.TheVariants.{Name, FactorWord, QssWord, Number, Signed, Tilde, Star, Colon, Caret, Open, Close, Comma, Point, End, Stray}
-use Rattle.formula_grammar.specs.declared.token.Token.{Token}
-use Rattle.formula_grammar.specs.declared.lexer.Lexeme.{Lexeme}
+use Rattle.formula_grammar.specs.Words.{Plus, Minus, Kind, Name, FactorWord, QssWord, Number, Signed, Tilde, Star, Colon, Caret, Open, Close, Comma, Point, End, Stray, Token}
+pub use Rattle.formula_grammar.specs.declared.lexer.Lexeme.{Lexeme}
 use Rattle.formula_grammar.specs.Numbers.{number_len, numeral_of}
 
 -- a space, a tab or a line end

@@ -30,6 +30,9 @@
 //! them. `one_formula` says that no tokens are those of two formulas, and `one_outcome` that the
 //! tokens of a text are a formula or have one first fault, and never both.
 //!
+//! A number token carries its value, a `Magnitude`: a fraction that isn't negative, since no sign
+//! is part of a token. So a lambda and an exponent are read once.
+//!
 //! One loop over the bytes makes the tokens, and one loop over the tokens makes the code, with a
 //! stack of its own: no call is nested more deeply for a deeper or longer formula.
 //!
@@ -42,6 +45,7 @@ mod laws;
 mod levels;
 mod lexer;
 mod limits;
+mod magnitude;
 mod number;
 mod reader;
 mod reading;
@@ -50,6 +54,7 @@ mod token;
 pub use fault::ReadFault;
 pub use laws::{one_formula, one_outcome};
 pub use lexer::tokens_of;
+pub use magnitude::Magnitude;
 pub use reader::read;
 pub use reading::{Reading, SmoothPart, Step};
 pub use token::{Kind, Numeral, Sign, Span, Token, Whole};

@@ -1,9 +1,11 @@
-ghost use Rattle.std.specs.Prelude.{◌≡◌, ◌≤◌, ◌<◌, ◌^◌, false, true, length, slice_index, ◌-◌};
+ghost use Rattle.std.specs.Prelude.{◌≡◌, ◌≤◌, ◌<◌, false, length, slice_index, ◌-◌};
 ghost use Rattle.std.specs.Char.{is_ascii_digit};
 ghost use Rattle.std.specs.List.{list_all};
 ghost use Rattle.frac_core.specs.NumberText.{is_exponent_mark};
-ghost use Rattle.formula_grammar.specs.Numbers.{capped_value, digit_then, is_signed, is_too_wide, is_whole, next_part, number_len, numeral_of, whole_of};
+ghost use Rattle.formula_grammar.specs.Numbers.{digit_then, is_signed, is_whole, next_part, number_len, numeral_of, whole_of};
+ghost use Rattle.formula_grammar.specs.Magnitudes.{magnitude_of};
 
+use crate::magnitude::Magnitude;
 use crate::token::{Numeral, Whole};
 use frac_core::{Frac128, NumberFault, read_number};
 
@@ -133,48 +135,27 @@ pub(crate) fn number_len(text: &[u8]) -> usize
     longest
 }
 
-// The value of digits, or 9 where it is more than 8.
-#[tactic(auto, unfolding(crate::specs::Numbers::capped_value))]
-fn capped_value(digits: &[u8]) -> u32
-    requires { list_all is_ascii_digit digits.now ≡ true }
-    ensures { result ≡ capped_value digits.now }
-{
-    let mut value = 0;
-    for byte in digits {
-        value = value * 10 + u32::from(*byte - b'0');
-        if value > 8 {
-            return 9;
-        }
-    }
-    value
-}
-
-#[tactic(auto, unfolding(crate::specs::Numbers::is_too_wide))]
-fn is_too_wide(number: &str) -> bool
-    ensures { result ≡ is_too_wide number.now }
+// The value of a number text without a sign, where `Frac128` holds it.
+fn read_magnitude(number: &str) -> Option<Magnitude>
+    requires { is_signed number.now ≡ false }
+    ensures { result ≡ magnitude_of number.now }
 {
     let value: Result<Frac128, NumberFault> = read_number(number);
     match value {
-        Err(NumberFault::TooWide) => true,
-        Err(NumberFault::NotANumber) => false,
-        Ok(_) => false,
+        Ok(fraction) => Some(Magnitude { fraction }),
+        Err(_) => None,
     }
 }
 
 #[tactic(auto, unfolding(crate::specs::Numbers::whole_of))]
 fn read_whole(digits: &str) -> Whole
-    requires digits { list_all is_ascii_digit digits.now ≡ true }
-    requires short { length digits.now < 2 ^ 32 }
+    requires { is_signed digits.now ≡ false }
     ensures { result ≡ whole_of digits.now }
 {
     match digits {
         "0" => Whole::Zero,
         "1" => Whole::Unity,
-        _ => Whole::Longer {
-            len: digits.len() as u32,
-            power: capped_value(digits.as_bytes()),
-            is_wide: is_too_wide(digits),
-        },
+        _ => Whole::Longer(read_magnitude(digits)),
     }
 }
 
@@ -184,18 +165,15 @@ fn are_digits(text: &[u8]) -> bool
     text.iter().all(|byte| byte.is_ascii_digit())
 }
 
-/// What a number text is as a token.
+/// What a number text without a sign is as a token.
 #[tactic(auto, unfolding(crate::specs::Numbers::numeral_of))]
 pub(crate) fn read_numeral(number: &str) -> Numeral
-    requires { length number.now < 2 ^ 32 }
+    requires { is_signed number.now ≡ false }
     ensures { result ≡ numeral_of number.now }
 {
     if are_digits(number.as_bytes()) {
         Numeral::Digits(read_whole(number))
     } else {
-        Numeral::Written {
-            len: number.len() as u32,
-            is_wide: is_too_wide(number),
-        }
+        Numeral::Written(read_magnitude(number))
     }
 }

@@ -82,8 +82,8 @@ fn with_sign(sign: Sign, one: bool) -> bool
 }
 
 // The phase behind a token that does nothing else.
-fn next_phase(phase: Phase, at: u32, kind: Kind) -> Option<Phase>
-    ensures { result ≡ next_phase phase at kind }
+fn next_phase(phase: Phase, kind: Kind) -> Option<Phase>
+    ensures { result ≡ next_phase phase kind }
 {
     match (phase, kind) {
         (Phase::BeforeTilde, Kind::Tilde) => Some(Phase::Opening),
@@ -93,7 +93,7 @@ fn next_phase(phase: Phase, at: u32, kind: Kind) -> Option<Phase>
         (Phase::SmoothName, Kind::Name(name)) => Some(Phase::SmoothComma(name)),
         (Phase::SmoothComma(name), Kind::Comma) => Some(Phase::SmoothLambda(name)),
         (Phase::SmoothLambda(name), Kind::Number(lambda)) => {
-            Some(Phase::SmoothClose(SmoothPart { name, lambda, at }))
+            Some(Phase::SmoothClose(SmoothPart { name, lambda }))
         }
         _ => None,
     }
@@ -423,10 +423,10 @@ impl Reader {
         }
     }
 
-    fn take_other(&mut self, at: u32, kind: Kind) -> bool
-        ensures { Reads (phase_read self.old (next_phase self.old.phase at kind)) result self.new }
+    fn take_other(&mut self, kind: Kind) -> bool
+        ensures { Reads (phase_read self.old (next_phase self.old.phase kind)) result self.new }
     {
-        match next_phase(self.phase, at, kind) {
+        match next_phase(self.phase, kind) {
             None => false,
             Some(phase) => {
                 self.phase = phase;
@@ -451,7 +451,7 @@ impl Reader {
             Phase::BehindPower => self.take_behind_power(at, kind),
             Phase::SmoothClose(smooth) => self.take_smooth_close(smooth, kind),
             Phase::BehindItem => Ok(self.take_behind_item(at, kind)),
-            _ => Ok(self.take_other(at, kind)),
+            _ => Ok(self.take_other(kind)),
         }
     }
 }

@@ -24,12 +24,11 @@ pub enum Step {
     Raise { exponent: u32, at: u32 },
 }
 
-/// A smooth: the name of its column, its lambda, and the byte at which the lambda stands.
+/// A smooth: the name of its column, and its lambda.
 #[derive(Clone, Copy, Debug, PartialEq, Eq)]
 pub struct SmoothPart {
     pub name: Span,
     pub lambda: Numeral,
-    pub at: u32,
 }
 
 /// What was read of a formula.

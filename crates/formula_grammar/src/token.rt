@@ -1,5 +1,8 @@
 ghost use Rattle.std.specs.Prelude.{◌≡◌};
-ghost use Rattle.formula_grammar.specs.Numerals.{is_wide, len_of, power_of};
+ghost use Rattle.formula_grammar.specs.Numerals.{exact, is_wide, power_of, value_of, value_or_zero};
+
+use crate::magnitude::Magnitude;
+use frac_core::{Exact, Frac128};
 
 /// Where a piece of a text stands: its first byte, and how many bytes it has.
 #[derive(Clone, Copy, Debug, PartialEq, Eq)]
@@ -22,17 +25,17 @@ pub enum Whole {
     Zero,
     /// `1`, in one digit.
     Unity,
-    /// So many other digits; `power` is their value, or 9 where it is more than 8.
-    Longer { len: u32, power: u32, is_wide: bool },
+    /// Other digits, and their value where `Frac128` holds it.
+    Longer(Option<Magnitude>),
 }
 
-/// A number text of so many bytes. It is wide where `Frac128` doesn't hold it.
+/// A number, by what it is written with.
 #[derive(Clone, Copy, Debug, PartialEq, Eq)]
 pub enum Numeral {
     /// Digits alone.
     Digits(Whole),
-    /// A number with a point, an exponent or a denominator.
-    Written { len: u32, is_wide: bool },
+    /// A point, an exponent or a denominator, and the number's value where `Frac128` holds it.
+    Written(Option<Magnitude>),
 }
 
 /// What a token is.
@@ -76,31 +79,43 @@ impl Whole {
         match self {
             Whole::Zero => 0,
             Whole::Unity => 1,
-            Whole::Longer { power, .. } => power,
+            Whole::Longer(None) => 9,
+            Whole::Longer(Some(value)) => value.capped(),
         }
     }
 }
 
-impl Numeral {
-    /// How many bytes the number has.
-    pub fn len(self) -> u32
-        ensures { result ≡ len_of self }
-    {
-        match self {
-            Numeral::Digits(Whole::Longer { len, .. }) => len,
-            Numeral::Digits(_) => 1,
-            Numeral::Written { len, .. } => len,
-        }
+// The value, or 0 where there is none.
+fn value_or_zero(value: Option<Magnitude>) -> Frac128
+    ensures { exact result ≡ value_or_zero value }
+{
+    match value {
+        None => Frac128::zero(),
+        Some(value) => value.fraction(),
     }
+}
 
+impl Numeral {
     /// `Frac128` doesn't hold the number.
     pub fn is_wide(self) -> bool
         ensures { result ≡ is_wide self }
     {
         match self {
-            Numeral::Digits(Whole::Longer { is_wide, .. }) => is_wide,
+            Numeral::Digits(Whole::Longer(value)) => value.is_none(),
             Numeral::Digits(_) => false,
-            Numeral::Written { is_wide, .. } => is_wide,
+            Numeral::Written(value) => value.is_none(),
+        }
+    }
+
+    /// The number's value, or 0 where it is wide.
+    pub fn value(self) -> Frac128
+        ensures { exact result ≡ value_of self }
+    {
+        match self {
+            Numeral::Digits(Whole::Zero) => Frac128::zero(),
+            Numeral::Digits(Whole::Unity) => Frac128::one(),
+            Numeral::Digits(Whole::Longer(value)) => value_or_zero(value),
+            Numeral::Written(value) => value_or_zero(value),
         }
     }
 }

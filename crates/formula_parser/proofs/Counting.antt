@@ -10,17 +10,12 @@ use Rattle.std.proofs.lemmas.List.{length-map, map-append}
 use Rattle.std.proofs.lemmas.Map.Keys.{IsDistinct-push}
 use Rattle.std.proofs.lemmas.Map.Steps.{length-le_from_distinct_below}
 use mathlib.Core.Bool.{beq}
-use Rattle.formula_grammar.specs.declared.token.Span.{Span}
-use Rattle.formula_grammar.specs.declared.reading.Step.{Step}
-use Rattle.formula_grammar.specs.declared.reading.Step.TheVariants.{Load, LoadAll, Nothing, Add, Remove, Multiply, Interact, Raise}
+use Rattle.formula_parser.specs.Words.{Span, Step, Load, LoadAll}
 use Rattle.formula_grammar.specs.Codes.{items_code}
-use Rattle.formula_parser.specs.declared.scope.Mention.{Mention}
-use Rattle.formula_parser.specs.declared.formula.Formula.{Formula}
-use Rattle.formula_parser.specs.declared.formula.Term.{Term}
+use Rattle.formula_parser.specs.Scope.{Mention, Text, column_at, each_once, loaded, other_columns, piece, same, variable, variables_of, with_variable}
+use Rattle.formula_parser.specs.Parsed.{Formula, Term, IsParsed, members, spoken_term, spoken_variable, variables_in}
 use Rattle.formula_parser.specs.Terms.{Terms}
 use Rattle.formula_parser.specs.Terms.{Term as Bools}
-use Rattle.formula_parser.specs.Parsed.{IsParsed, members, spoken_term, spoken_variable, variables_in}
-use Rattle.formula_parser.specs.Scope.{Text, column_at, each_once, loaded, other_columns, piece, same, variable, variables_of, with_variable}
 
 -- a number of its own for each variable
 abbrev number : Mention → ℕ
@@ -107,12 +102,7 @@ module _ (most : ℕ) where
       → AreBelow (loaded text names (other_columns (length names) response) step)
   below_loaded text names response (Load x f) h = (below_column text names x h, tt)
   below_loaded text names response LoadAll h = below_range _ 0 (length names) (omega arith)
-  below_loaded text names response Nothing h = tt
-  below_loaded text names response (Add n) h = tt
-  below_loaded text names response (Remove n) h = tt
-  below_loaded text names response (Multiply n) h = tt
-  below_loaded text names response (Interact n) h = tt
-  below_loaded text names response (Raise k n) h = tt
+  below_loaded text names response step h = tt
 
   below_steps : (text : Text) (names : List Text) (response : ℕ) (steps : List Step) → length names < most
       → AreBelow (flat_map (loaded text names (other_columns (length names) response)) steps)
@@ -133,11 +123,10 @@ few_variables text names response steps =
 members_few : (vs : List Mention) (t : Bools) → length (members vs t) ≤ length vs
 members_few [] t = omega arith
 members_few (v ∷ vs) [] = omega arith
-members_few (v ∷ vs) (b ∷ t) = go b (members_few vs t)
-  where
-    go : (b : Bool) → length (members vs t) ≤ length vs → length (map (λ (p : Mention × Bool). p.0) (cond b ((v, b) ∷ filter (λ p. p.1) (zip vs t)) (filter (λ p. p.1) (zip vs t)))) ≤ length (v ∷ vs)
-    go true h = omega arith
-    go false h = omega arith
+members_few (v ∷ vs) (b ∷ t) =
+    let few = members_few vs t in
+    elim b as (λ (b : Bool). length (map (λ (p : Mention × Bool). p.0) (cond b ((v, b) ∷ filter (λ p. p.1) (zip vs t)) (filter (λ p. p.1) (zip vs t)))) ≤ length (v ∷ vs))
+    [ true ↦ omega (arith, few) | false ↦ omega (arith, few) ]
 
 -- so does each of its terms
 term_few : (text : Text) (names : List Text) (f : Formula) → IsParsed text names f → AllByRecursion (λ t. length t.variables ≤ 2 * length names + 2) f.terms

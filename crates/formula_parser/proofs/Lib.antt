@@ -3,6 +3,5 @@ pub mod Limited
 pub mod Mentions
 pub mod Runs
 pub mod Speaking
-pub mod Signs
 pub mod Lambdas
 pub mod Counting

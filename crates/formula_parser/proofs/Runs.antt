@@ -1,20 +1,15 @@
 -- The code of a tree does what the tree means.
-use Rattle.std.proofs.Common.{◌≡◌, ◌<◌, ◌≤◌, ◌+◌, ℕ, suc, length, drop, drop-cons, get_or, add-one, Bool, List, [], ◌∷◌, ◌++◌, append-nil, Result, Ok, Err, refl, sym, ◌∙◌, ap, append_assoc}
+use Rattle.std.proofs.Common.{◌≡◌, ◌<◌, ◌≤◌, ◌+◌, ℕ, length, drop, get_or, Bool, List, [], ◌∷◌, ◌++◌, append-nil, Result, Ok, Err, refl, sym, ◌∙◌, ap, append_assoc}
 use Rattle.std.proofs.lemmas.List.{drop_all}
-use Rattle.formula_grammar.specs.declared.token.Span.{Span}
-use Rattle.formula_grammar.specs.declared.token.Sign.{Sign}
-use Rattle.formula_grammar.specs.declared.token.Sign.TheVariants.{Plus, Minus}
-use Rattle.formula_grammar.specs.declared.reading.Step.{Step}
-use Rattle.formula_grammar.specs.declared.reading.Step.TheVariants.{Multiply, Interact, Raise}
+use Rattle.formula_parser.specs.Words.{Span, Sign, Plus, Minus, Step, Multiply, Interact, Raise}
 use Rattle.formula_grammar.specs.Numerals.{power_of}
-use Rattle.formula_grammar.specs.Grammar.{Bare, Led, Sum, First, More, Product, One, Times, Inter, Lone, Cross, Power, Plain, Raised, Atom, Leaf, Factor, Dot, Group, Nil, Intercept, Items, Start, StartSmooth, StartPlus, Then, ThenSmooth}
+use Rattle.formula_grammar.specs.Grammar.{Bare, Led, Sum, First, More, Product, One, Times, Inter, Lone, Cross, Power, Plain, Raised, Atom, Group, Items, Start, Then, ThenSmooth}
 use Rattle.formula_grammar.specs.Grammar.{Term as TermItem}
 use Rattle.formula_grammar.specs.Codes.{signed_step, sum_code, product_code, inter_code, power_code, atom_code, items_code}
 use Rattle.formula_parser.specs.Terms.{Term, Terms, cross, raised, times}
 use Rattle.formula_parser.specs.Meaning.{◌>>=◌, limited, combined, sum_meaning, product_meaning, inter_meaning, power_meaning, atom_meaning, items_meaning}
-use Rattle.formula_parser.specs.declared.evaluation.Halt.{Halt}
-use Rattle.formula_parser.specs.declared.evaluation.Halt.TheVariants.{OutOfMemory, TooManyTerms}
-use Rattle.formula_parser.specs.Stack.{Halts, act, exec, pushed, run_steps, top}
+use Rattle.formula_parser.proofs.Unions.{split_at}
+use Rattle.formula_parser.specs.Stack.{Halt, OutOfMemory, TooManyTerms, Halts, act, exec, pushed, run_steps, top}
 
 bind_assoc : {A B C : Type 0} (r : Result A ℕ) (f : A → Result B ℕ) (g : B → Result C ℕ) → ((r >>= f) >>= g) ≡ (r >>= λ x. f x >>= g)
 bind_assoc (Ok x) f g = refl
@@ -76,25 +71,17 @@ module _ (only : Span → Bool → Term) (all : Terms) where
         ends (atom_code a) (Raise (power_of k) n) (atom_meaning only all a) (λ b. limited n (raised (power_of k) b)) rest stack stack (λ r s. atom_runs a r s) (λ y. refl)
 
     atom_runs : (a : Atom) → Does (atom_code a) (atom_meaning only all a)
-    atom_runs (Leaf x n) rest stack = refl
-    atom_runs (Factor w o x n c) rest stack = refl
-    atom_runs (Dot n) rest stack = refl
     atom_runs (Group o s c) rest stack = sum_runs s rest stack
+    atom_runs a rest stack = refl
 
   items_runs : (j : Items) → Does (items_code j) (items_meaning only all j)
   items_runs (Start Bare (TermItem p)) rest stack = product_runs p rest stack
   items_runs (Start (Led x n) (TermItem p)) rest stack = sum_runs (First (Led x n) p) rest stack
-  items_runs (Start Bare (Nil m)) rest stack = refl
-  items_runs (Start (Led x n) (Nil m)) rest stack = refl
-  items_runs (Start Bare (Intercept m)) rest stack = refl
-  items_runs (Start (Led x n) (Intercept m)) rest stack = refl
-  items_runs (StartSmooth s) rest stack = refl
-  items_runs (StartPlus n s) rest stack = refl
   items_runs (Then j x n (TermItem p)) rest stack =
       two (items_code j) (product_code p) (signed_step x n) (items_meaning only all j) (product_meaning only all p) (λ a b. limited n (combined x a b)) (λ r k. items_runs j r k) (λ r k. product_runs p r k) (λ a b k. signed_acts x n a b k) rest stack
-  items_runs (Then j x n (Nil m)) rest stack = items_runs j rest stack
-  items_runs (Then j x n (Intercept m)) rest stack = items_runs j rest stack
+  items_runs (Then j x n i) rest stack = items_runs j rest stack
   items_runs (ThenSmooth j n s) rest stack = items_runs j rest stack
+  items_runs j rest stack = refl
 
   itself : (r : Result Terms ℕ) → ((r >>= λ v. Ok (v ∷ [])) >>= λ s. Ok (top s)) ≡ r
   itself (Ok v) = refl
@@ -111,9 +98,8 @@ module _ (only : Span → Bool → Term) (all : Terms) where
   pub goes_on : (code : List Step) (i : ℕ) (d : Step) (stack next : List Terms) (r : Result (List Terms) ℕ) → i < length code → act only all (get_or code i d) stack ≡ Ok next
       → exec only all (drop i code) stack ≡ r → exec only all (drop (i + 1) code) next ≡ r
   goes_on code i d stack next r within acts before =
-      ap (λ (n : ℕ). exec only all (drop n code) next) (add-one i)
-      ∙ sym (ap (λ (q : Result (List Terms) ℕ). q >>= λ s. exec only all (drop (suc i) code) s) acts)
-      ∙ sym (ap (λ (l : List Step). exec only all l stack) (drop-cons code i d within))
+      sym (ap (λ (q : Result (List Terms) ℕ). q >>= λ s. exec only all (drop (i + 1) code) s) acts)
+      ∙ sym (ap (λ (l : List Step). exec only all l stack) (split_at code i d within))
       ∙ before
 
   -- a step stops, and so do the steps
@@ -123,8 +109,8 @@ module _ (only : Span → Bool → Term) (all : Terms) where
   stops_at code i d stack (TooManyTerms n) within halts before =
       ap (λ (q : Result (List Terms) ℕ). q >>= λ s. Ok (top s))
       (sym before
-      ∙ ap (λ (l : List Step). exec only all l stack) (drop-cons code i d within)
-      ∙ ap (λ (q : Result (List Terms) ℕ). q >>= λ s. exec only all (drop (suc i) code) s) halts)
+      ∙ ap (λ (l : List Step). exec only all l stack) (split_at code i d within)
+      ∙ ap (λ (q : Result (List Terms) ℕ). q >>= λ s. exec only all (drop (i + 1) code) s) halts)
 
   -- all steps are done
   pub leaves : (code : List Step) (i : ℕ) (stack : List Terms) → length code ≤ i → exec only all (drop i code) stack ≡ exec only all code [] → run_steps only all code ≡ Ok (top stack)

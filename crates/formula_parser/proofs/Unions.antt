@@ -1,15 +1,14 @@
 -- Lists of terms that grow.
-use Rattle.std.proofs.Common.{◌≡◌, ◌<◌, ◌≤◌, ◌+◌, ◌∷◌, ◌++◌, [], ℕ, zero, suc, ◌-◌, Bool, true, false, cond, length, length-append, map, drop, drop-cons, get_or, add-one, refl, sym, ◌∙◌, ap, arith, append_assoc, not, ◌||◌, if◌then◌else◌}
+use Rattle.std.proofs.Common.{◌≡◌, ◌<◌, ◌≤◌, ◌+◌, ◌∷◌, ◌++◌, [], ℕ, zero, suc, ◌-◌, Bool, true, false, List, cond, length, length-append, map, drop, drop-cons, get_or, add-one, refl, sym, ◌∙◌, ap, arith, append_assoc, not, ◌||◌, if◌then◌else◌}
 use mathlib.Core.Bool.{beq}
 use Rattle.std.specs.Cmp.Lexicographic.{pointwise}
 use Rattle.formula_parser.specs.Terms.{Term, Terms, is_in, plus, minus, cross, union, unions, with_term, raised, raised_by, times}
 
 with_grows : (found : Terms) (t : Term) → length found ≤ length (with_term found t)
-with_grows found t = go (is_in t found)
-  where
-    go : (b : Bool) → length found ≤ length (cond b found (found ++ t ∷ []))
-    go true = omega arith
-    go false = omega (arith, length-append found (t ∷ []))
+with_grows found t = elim (is_in t found) as (λ b. length found ≤ length (cond b found (found ++ t ∷ []))) [
+  | true ↦ omega arith
+  | false ↦ omega (arith, length-append found (t ∷ []))
+]
 
 pub plus_grows : (a b : Terms) → length a ≤ length (plus a b)
 plus_grows a [] = omega arith
@@ -19,8 +18,9 @@ pub plus_append : (a b c : Terms) → plus a (b ++ c) ≡ plus (plus a b) c
 plus_append a [] c = refl
 plus_append a (t ∷ b) c = plus_append (with_term a t) b c
 
-pub split_at : (ts : Terms) (i : ℕ) (d : Term) → i < length ts → drop i ts ≡ get_or ts i d ∷ drop (i + 1) ts
-split_at ts i d lt = drop-cons ts i d lt ∙ ap (λ (n : ℕ). get_or ts i d ∷ drop n ts) (sym (add-one i))
+-- what is left of a list, as the item at its place and what is left behind that
+pub split_at : {A : Type 0} (xs : List A) (i : ℕ) (d : A) → i < length xs → drop i xs ≡ get_or xs i d ∷ drop (i + 1) xs
+split_at xs i d lt = drop-cons xs i d lt ∙ ap (λ (n : ℕ). get_or xs i d ∷ drop n xs) (sym (add-one i))
 
 -- one more union
 pub union_added : (first : Term) (right found found' : Terms) (i : ℕ) (d : Term) (all : Terms) → i < length right → found' ≡ with_term found (union first (get_or right i d))
@@ -52,11 +52,7 @@ crossed_too_many left right found i d all most lt h e =
 -- ---- terms that are left
 
 minus_first : (t : Term) (ts b : Terms) → minus (t ∷ ts) b ≡ minus (t ∷ []) b ++ minus ts b
-minus_first t ts b = go (not (is_in t b))
-  where
-    go : (keep : Bool) → (if keep then t ∷ minus ts b else minus ts b) ≡ (if keep then t ∷ [] else []) ++ minus ts b
-    go true = refl
-    go false = refl
+minus_first t ts b = elim (not (is_in t b)) as (λ keep. (if keep then t ∷ minus ts b else minus ts b) ≡ (if keep then t ∷ [] else []) ++ minus ts b) [ true ↦ refl | false ↦ refl ]
 
 pub term_left : (a b left left' all : Terms) (i : ℕ) (d : Term) → i < length a → left' ≡ left ++ minus (get_or a i d ∷ []) b → left ++ minus (drop i a) b ≡ all
     → left' ++ minus (drop (i + 1) a) b ≡ all
@@ -76,12 +72,9 @@ or_true false = refl
 -- equal Bool lists are in the same lists
 same_list : (a b : Term) → pointwise beq a b ≡ true → a ≡ b
 same_list [] [] h = refl
-same_list [] (y ∷ b) h = absurd (cc h)
-same_list (x ∷ a) [] h = absurd (cc h)
 same_list (true ∷ a) (true ∷ b) h = ap (λ (t : Term). true ∷ t) (same_list a b h)
 same_list (false ∷ a) (false ∷ b) h = ap (λ (t : Term). false ∷ t) (same_list a b h)
-same_list (true ∷ a) (false ∷ b) h = absurd (cc h)
-same_list (false ∷ a) (true ∷ b) h = absurd (cc h)
+same_list a b h = absurd (cc h)
 
 same_terms : (u t : Term) → pointwise beq u t ≡ true → (found : Terms) → is_in u found ≡ true → is_in t found ≡ true
 same_terms u t e found h = let same = same_list u t e in rw (← same) h
@@ -167,9 +160,6 @@ pub plus_on : (other seen : Terms) (i : ℕ) (x : Term) (all next r : Terms) →
     → plus all (drop i other) ≡ r → plus next (drop (i + 1) other) ≡ r
 plus_on other seen i x all next r same within here new before =
     let lt : i < length other = omega (arith, ap length same) in
-    let item : x ≡ get_or other i x = here ∙ ap (λ (l : Terms). get_or l i x) same in
-    ap (λ (a : Terms). plus a (drop (i + 1) other)) new
-    ∙ ap (λ (n : ℕ). plus (with_term all x) (drop n other)) (add-one i)
-    ∙ ap (λ (t : Term). plus (with_term all t) (drop (suc i) other)) item
-    ∙ sym (ap (plus all) (drop-cons other i x lt))
+    ap (λ (a : Terms). plus a (drop (i + 1) other)) (new ∙ ap (with_term all) (here ∙ ap (λ (l : Terms). get_or l i x) same))
+    ∙ ap (plus all) (sym (split_at other i x lt))
     ∙ before

@@ -1,35 +1,27 @@
 -- Stated. The formula of a text over the columns of a table, or its first fault.
-use Rattle.std.specs.Prelude.{◌≡◌, ◌^◌, ◌-◌, ℕ, Bool, false, List, [], ◌∷◌, map, zip, length, Option, Some, None, is_none, Result, Ok, Err, if◌then◌else◌}
+use Rattle.std.specs.Prelude.{◌≡◌, ℕ, Bool, false, List, [], ◌∷◌, map, zip, length, Option, Some, None, is_none, Result, Ok, Err, if◌then◌else◌}
 use Rattle.std.specs.List.{filter}
 use Rattle.std.specs.List.Sorted.{IsPermutation, IsSortedByKey, IsStableByKey}
 use Rattle.std.specs.Ordering.{nat_cmp}
-use Rattle.exact_algebra.specs.Fraction.{rational}
 use Rattle.exact_algebra.specs.Rational.{ℚ}
-use Rattle.frac_core.specs.declared.frac128.Frac128.{Frac128}
-use Rattle.frac_core.specs.NumberText.{number_of}
-use Rattle.frac_core.specs.declared.number_reader.NumberFault.{NumberFault}
-use Rattle.formula_grammar.specs.declared.token.Span.{Span}
-use Rattle.formula_grammar.specs.declared.token.Kind.{Kind}
-use Rattle.formula_grammar.specs.declared.token.Kind.TheVariants.{Name}
-use Rattle.formula_grammar.specs.declared.token.Token.{Token}
-use Rattle.formula_grammar.specs.declared.reading.SmoothPart.{SmoothPart}
+use Rattle.formula_parser.specs.Words.{Span, Kind, Name, Token, SmoothPart}
 use Rattle.formula_grammar.specs.declared.fault.ReadFault.TheVariants as read_fault
-use Rattle.formula_grammar.specs.Numerals.{len_of}
+pub use Rattle.formula_grammar.specs.Numerals.{exact}
+use Rattle.formula_grammar.specs.Numerals.{value_of}
 use Rattle.formula_grammar.specs.Grammar.{Formula as Tree}
 use Rattle.formula_grammar.specs.Codes.{items_code, has_intercept, smooths_of}
 use Rattle.formula_grammar.specs.Faults.{IsFormula, IsFirstFault}
 use Rattle.formula_grammar.specs.Tokens.{tokens}
-use Rattle.formula_parser.specs.declared.scope.Mention.{Mention}
-use Rattle.formula_parser.specs.declared.formula.Variable.{Variable}
-use Rattle.formula_parser.specs.declared.formula.Term.{Term}
-use Rattle.formula_parser.specs.declared.formula.Smooth.{Smooth}
-use Rattle.formula_parser.specs.declared.formula.Formula.{Formula}
-use Rattle.formula_parser.specs.declared.fault.FormulaFault.{FormulaFault}
-use Rattle.formula_parser.specs.declared.fault.FormulaFault.TheVariants.{OutOfMemory, Syntax, UnknownName, TooDeep, TooManyTerms, PowerRange, NumberTooWide}
+use Rattle.formula_parser.specs.Scope.{Mention, Text, column_at, column_of, dot_terms, name_at, named_term, other_columns, piece, variables_of}
+pub use Rattle.formula_parser.specs.declared.formula.Variable.{Variable}
+pub use Rattle.formula_parser.specs.declared.formula.Term.{Term}
+pub use Rattle.formula_parser.specs.declared.formula.Smooth.{Smooth}
+pub use Rattle.formula_parser.specs.declared.formula.Formula.{Formula}
+pub use Rattle.formula_parser.specs.declared.fault.FormulaFault.{FormulaFault}
+pub use Rattle.formula_parser.specs.declared.fault.FormulaFault.TheVariants.{OutOfMemory, Syntax, UnknownName, TooDeep, TooManyTerms, PowerRange, NumberTooWide}
 use Rattle.formula_parser.specs.Terms.{Terms, size}
 use Rattle.formula_parser.specs.Terms.{Term as Bools}
 use Rattle.formula_parser.specs.Meaning.{items_meaning}
-use Rattle.formula_parser.specs.Scope.{Text, column_at, column_of, dot_terms, name_at, named_term, other_columns, piece, variables_of}
 
 -- ---- names
 
@@ -63,29 +55,18 @@ members vs t = map (λ p. p.0) (filter (λ p. p.1) (zip vs t))
 abbrev pub spoken_term : List Text → List Mention → Bools → Term
 spoken_term names vs t = record { variables = map (spoken_variable names) (members vs t) }
 
--- a smooth, as its name and its number or the fault of that
+-- a smooth, as its name and its number
 pub record NamedNumber : Type 0 where
   pub name : Text
-  pub lambda : Result ℚ NumberFault
-
--- the value of a fraction
-abbrev pub exact : Frac128 → ℚ
-exact x = rational (record { num = x.num; den = x.den })
+  pub lambda : ℚ
 
 -- a smooth that was given
 abbrev pub told_smooth : Smooth → NamedNumber
-told_smooth s = record { name = s.name; lambda = Ok (exact s.lambda) }
-
--- the text of a smooth's number
-abbrev pub lambda_text : Text → SmoothPart → Text
-lambda_text text s = piece text (record { start = s.at; len = len_of s.lambda })
+told_smooth s = record { name = s.name; lambda = exact s.lambda }
 
 -- a smooth that the text has
 abbrev pub meant_smooth : Text → List Text → SmoothPart → NamedNumber
-meant_smooth text names s = record {
-  name = name_at names (column_at text names s.name);
-  lambda = number_of (2 ^ 127 - 1) (lambda_text text s);
-}
+meant_smooth text names s = record { name = name_at names (column_at text names s.name); lambda = value_of s.lambda }
 
 -- ---- the formula
 

@@ -2,10 +2,8 @@
 use Rattle.std.specs.Prelude.{ℕ, ◌==◌, ◌&&◌, not, Bool, false, List, [], ◌∷◌, ◌++◌, map, flat_map, cond, bytes_eq, position, take, drop, slice_index_or, unwrap_or, Option}
 use Rattle.std.specs.List.{filter, list_any, range_with_len}
 use mathlib.Core.Bool.{beq}
-use Rattle.formula_grammar.specs.declared.token.Span.{Span}
-use Rattle.formula_grammar.specs.declared.reading.Step.{Step}
-use Rattle.formula_grammar.specs.declared.reading.Step.TheVariants.{Load, LoadAll}
-use Rattle.formula_parser.specs.declared.scope.Mention.{Mention}
+use Rattle.formula_parser.specs.Words.{Span, Step, Load, LoadAll}
+pub use Rattle.formula_parser.specs.declared.scope.Mention.{Mention}
 use Rattle.formula_parser.specs.Terms.{Term, Terms}
 
 -- bytes

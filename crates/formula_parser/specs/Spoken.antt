@@ -1,24 +1,10 @@
 -- Inner. What the code of a formula says over the columns of a table.
-use Rattle.std.specs.Prelude.{◌≡◌, ◌^◌, ◌-◌, ℕ, List, map, Result, Ok, Err}
-use Rattle.std.specs.Str.{IsUtf8}
-use Rattle.std.specs.Result.{is_ok}
-use Rattle.std.specs.Prelude.{true}
-use Rattle.frac_core.specs.NumberText.{number_of}
-use Rattle.formula_grammar.specs.declared.reading.SmoothPart.{SmoothPart}
-use Rattle.formula_grammar.specs.declared.reading.Reading.{Reading}
-use Rattle.formula_parser.specs.declared.scope.Mention.{Mention}
-use Rattle.formula_parser.specs.declared.formula.Formula.{Formula}
-use Rattle.formula_parser.specs.declared.fault.FormulaFault.{FormulaFault}
-use Rattle.formula_parser.specs.declared.fault.FormulaFault.TheVariants.{OutOfMemory, TooManyTerms}
+use Rattle.std.specs.Prelude.{◌≡◌, ℕ, List, map, Result, Ok, Err}
+use Rattle.formula_parser.specs.Words.{Reading}
+use Rattle.formula_parser.specs.Scope.{Mention, Text, column_at, dot_terms, name_at, named_term, variables_of}
+use Rattle.formula_parser.specs.Parsed.{Formula, FormulaFault, OutOfMemory, TooManyTerms, IsBySize, meant_smooth, others_of, spoken_term, told_smooth}
 use Rattle.formula_parser.specs.Terms.{Terms}
 use Rattle.formula_parser.specs.Stack.{run_steps}
-use Rattle.formula_parser.specs.Scope.{Text, column_at, dot_terms, name_at, named_term, variables_of}
-use Rattle.formula_parser.specs.Parsed.{IsBySize, lambda_text, meant_smooth, others_of, spoken_term, told_smooth}
-
--- the lambda is a number that fractions of 128 bits hold
-pub record HasLambda (text : Text) (s : SmoothPart) : Type 0 where
-  pub is_text : IsUtf8 (lambda_text text s)
-  pub is_number : is_ok (number_of (2 ^ 127 - 1) (lambda_text text s)) ≡ true
 
 -- the variables of what was read, in the order in which they first stand
 abbrev pub loaded_variables : Text → List Text → Reading → List Mention

@@ -1,10 +1,8 @@
 -- Inner. The steps of a formula's code on a stack of meanings, the top first. A missing operand is the empty list.
 use Rattle.std.specs.Prelude.{◌≡◌, ℕ, Bool, List, [], ◌∷◌, Result, Ok, Err}
-use Rattle.formula_grammar.specs.declared.token.Span.{Span}
-use Rattle.formula_grammar.specs.declared.reading.Step.{Step}
-use Rattle.formula_grammar.specs.declared.reading.Step.TheVariants.{Load, LoadAll, Nothing, Add, Remove, Multiply, Interact, Raise}
-use Rattle.formula_parser.specs.declared.evaluation.Halt.{Halt}
-use Rattle.formula_parser.specs.declared.evaluation.Halt.TheVariants.{OutOfMemory, TooManyTerms}
+use Rattle.formula_parser.specs.Words.{Span, Step, Load, LoadAll, Nothing, Add, Remove, Multiply, Interact, Raise}
+pub use Rattle.formula_parser.specs.declared.evaluation.Halt.{Halt}
+pub use Rattle.formula_parser.specs.declared.evaluation.Halt.TheVariants.{OutOfMemory, TooManyTerms}
 use Rattle.formula_parser.specs.Terms.{Term, Terms, plus, minus, cross, times, raised}
 use Rattle.formula_parser.specs.Meaning.{limited, ◌>>=◌}
 

@@ -1,10 +1,9 @@
 -- Inner. The faults of the steps of parsing as faults of the whole.
-use Rattle.formula_grammar.specs.declared.fault.ReadFault.{ReadFault}
+use Rattle.formula_parser.specs.Words.{ReadFault}
 use Rattle.formula_grammar.specs.declared.fault.ReadFault.TheVariants as read
-use Rattle.formula_parser.specs.declared.evaluation.Halt.{Halt}
+use Rattle.formula_parser.specs.Stack.{Halt}
 use Rattle.formula_parser.specs.declared.evaluation.Halt.TheVariants as halt
-use Rattle.formula_parser.specs.declared.fault.FormulaFault.{FormulaFault}
-use Rattle.formula_parser.specs.declared.fault.FormulaFault.TheVariants.{OutOfMemory, Syntax, TooDeep, TooManyTerms, PowerRange, NumberTooWide}
+use Rattle.formula_parser.specs.Parsed.{FormulaFault, OutOfMemory, Syntax, TooDeep, TooManyTerms, PowerRange, NumberTooWide}
 
 -- the faults of reading
 abbrev pub read_fault : ReadFault → FormulaFault

@@ -1,13 +1,11 @@
-ghost use Rattle.std.specs.Prelude.{◌≡◌, ◌^◌, ◌-◌, All, Ok, map, IfOk};
-ghost use Rattle.frac_core.specs.NumberText.{number_of};
+ghost use Rattle.std.specs.Prelude.{◌≡◌, map, IfOk};
 ghost use Rattle.formula_parser.specs.Scope.{name_at};
-ghost use Rattle.formula_parser.specs.Parsed.{exact, is_unknown, lambda_text, meant_smooth, members, spoken_term, spoken_variable, told_smooth, unknown_name};
-ghost use Rattle.formula_parser.specs.Spoken.{HasLambda};
+ghost use Rattle.formula_parser.specs.Parsed.{is_unknown, meant_smooth, members, spoken_term, spoken_variable, told_smooth, unknown_name};
 
 use crate::formula::{Smooth, Term, Variable};
 use crate::scope::{Mention, column_at, column_of, piece};
-use formula_grammar::{Kind, SmoothPart, Span, Token};
-use frac_core::{Frac128, List, OutOfMemory, Text, read_number};
+use formula_grammar::{Kind, SmoothPart, Token};
+use frac_core::{List, OutOfMemory, Text};
 use std::alloc::{AllocError, Global};
 
 fn is_unknown(text: &[u8], names: &[Text], kind: Kind) -> bool
@@ -109,20 +107,6 @@ pub(crate) fn spoken_terms(
     Ok(all)
 }
 
-fn lambda_of(text: &[u8], part: SmoothPart) -> Frac128
-    requires { HasLambda text.now part }
-    ensures { number_of (2 ^ 127 - 1) (lambda_text text.now part) ≡ Ok (exact result) }
-{
-    let span = Span {
-        start: part.at,
-        len: part.lambda.len(),
-    };
-    match std::str::from_utf8(piece(text, span)) {
-        Ok(number) => read_number(number).unwrap(),
-        Err(_) => unreachable!(),
-    }
-}
-
 /// Smooths by the names of their columns, with the values of their lambdas.
 pub(crate) fn spoken_smooths(
     alloc: Global,
@@ -130,14 +114,13 @@ pub(crate) fn spoken_smooths(
     names: &[Text],
     parts: &[SmoothPart],
 ) -> Result<List<Smooth>, OutOfMemory>
-    requires { All (HasLambda text.now) parts.now }
     ensures { IfOk result (λ ss. map told_smooth ss ≡ map (meant_smooth text.now names.now) parts.now) }
 {
     let mut all = List::new(alloc);
     for part in parts {
         let smooth = Smooth {
             name: named(alloc, names, column_at(text, names, part.name))?,
-            lambda: lambda_of(text, *part),
+            lambda: part.lambda.value(),
         };
         match all.push(smooth) {
             Ok(()) => {}

@@ -3,7 +3,7 @@
 //! A reading is told as the response, 1 or 0 for the intercept, the steps, and the smooths: `()` is
 //! the empty list, and an operator stands with its offset. A fault is told as `Debug` writes it.
 
-use crate::helpers::{expect_answer, push_many};
+use crate::helpers::{expect_answer, push_many, push_number};
 use formula_grammar::{ReadFault, Reading, SmoothPart, Span, Step, read, tokens_of};
 use std::alloc::Global;
 use std::process::Abort;
@@ -42,19 +42,16 @@ fn tell_step(alloc: Global, told: &mut String, text: &str, step: Step) -> Result
     }
 }
 
-fn tell_smooth(told: &mut String, text: &str, smooth: SmoothPart) -> Result<(), Fail> {
+fn tell_smooth(
+    alloc: Global,
+    told: &mut String,
+    text: &str,
+    smooth: SmoothPart,
+) -> Result<(), Fail> {
     told.push_str("qss:")?;
     tell_span(told, text, smooth.name)?;
     told.push(',')?;
-    let len = smooth.lambda.len();
-    tell_span(
-        told,
-        text,
-        Span {
-            start: smooth.at,
-            len,
-        },
-    )
+    push_number(told, alloc, smooth.lambda.value())
 }
 
 fn tell(alloc: Global, text: &str, reading: &Reading) -> Result<String, Fail> {
@@ -67,7 +64,7 @@ fn tell(alloc: Global, text: &str, reading: &Reading) -> Result<String, Fail> {
     }
     for smooth in reading.smooths.as_slice() {
         told.push(' ')?;
-        tell_smooth(&mut told, text, *smooth)?;
+        tell_smooth(alloc, &mut told, text, *smooth)?;
     }
     Ok(told)
 }
@@ -197,14 +194,14 @@ static CASES: [(&str, &str); 139] = [
     ("y ~ + + b^9", "Syntax { offset: 6 }"),
     // smooths
     ("y ~ qss(x, 1/2)", "y 1 () qss:x,1/2"),
-    ("y ~ a + qss(x,.5)", "y 1 a qss:x,.5"),
-    ("y ~ + qss(x,5.)", "y 1 () qss:x,5."),
+    ("y ~ a + qss(x,.5)", "y 1 a qss:x,1/2"),
+    ("y ~ + qss(x,5.)", "y 1 () qss:x,5"),
     ("y ~ qss(x,1) + a", "y 1 () a +13 qss:x,1"),
     (
         "y ~ 0 + qss (b ,\n01 ) + qss(a,0)",
-        "y 0 () qss:b,01 qss:a,0",
+        "y 0 () qss:b,1 qss:a,0",
     ),
-    ("y ~ qss(factor,1e2)", "y 1 () qss:factor,1e2"),
+    ("y ~ qss(factor,1e2)", "y 1 () qss:factor,100"),
     ("y ~ - qss(x,1)", "Syntax { offset: 6 }"),
     ("y ~ a - qss(x,1)", "Syntax { offset: 8 }"),
     ("y ~ (a + qss(x,1))", "Syntax { offset: 9 }"),
@@ -213,7 +210,10 @@ static CASES: [(&str, &str); 139] = [
     ("y ~ qss(x,-1)", "Syntax { offset: 10 }"),
     ("y ~ qss(x,+1)", "Syntax { offset: 10 }"),
     ("y ~ qss(.,1)", "Syntax { offset: 8 }"),
-    ("y ~ qss(x,1e38)", "y 1 () qss:x,1e38"),
+    (
+        "y ~ qss(x,1e38)",
+        "y 1 () qss:x,100000000000000000000000000000000000000",
+    ),
     ("y ~ qss(x,2e38)", "NumberTooWide { offset: 10 }"),
     ("y ~ qss(x,1e-39)", "NumberTooWide { offset: 10 }"),
     (
@@ -227,11 +227,11 @@ static CASES: [(&str, &str); 139] = [
     ("y ~ qss(x,1e99) + + b", "NumberTooWide { offset: 10 }"),
     ("y ~ qss(x,3/0)", "Syntax { offset: 11 }"),
     ("y ~ qss(x,3/00)", "Syntax { offset: 11 }"),
-    ("y ~ qss(x,3/04)", "y 1 () qss:x,3/04"),
+    ("y ~ qss(x,3/04)", "y 1 () qss:x,3/4"),
     ("y ~ qss(x,1e)", "Syntax { offset: 11 }"),
     ("y ~ qss(x,1e+)", "Syntax { offset: 11 }"),
     ("y ~ qss(x,1.5.5)", "Syntax { offset: 13 }"),
-    ("y ~ qss(x,1.e-2)", "y 1 () qss:x,1.e-2"),
+    ("y ~ qss(x,1.e-2)", "y 1 () qss:x,1/100"),
     // other tokens that no formula can have there
     ("", "Syntax { offset: 0 }"),
     (" ", "Syntax { offset: 1 }"),

@@ -1,6 +1,5 @@
 use Rattle.std.proofs.Common.{◌≡◌, ◌≤◌, ◌<◌, ◌-◌, Some, take, slice_index}
-use Rattle.formula_grammar.specs.declared.number.NumberPart.TheVariants.{Empty}
-use Rattle.formula_grammar.specs.Numbers.{part_behind}
+use Rattle.formula_grammar.specs.Numbers.{Empty, part_behind}
 use Rattle.formula_grammar.proofs.NumberTexts.{longest_below}
 use Rattle.formula_grammar.proofs.number.number_len.Given as goal
 

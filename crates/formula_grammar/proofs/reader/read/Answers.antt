@@ -14,24 +14,24 @@ loop-token-init c = record {
 pub returns-then-not-can_stand-clause-fault : goal.returns-then-not-can_stand-clause-fault
 returns-then-not-can_stand-clause-fault c =
     let i = c.loop-token.invariant in
-    wrong _ _ _ _ c.take.new.self c.loop-token-test.true i.held i.clean (rw c.if-not-can_stand.true at c.in_ok-can_stand.ensures)
+    wrong _ _ _ _ c.take.new.self c.loop-token-test.true c.token-item.is i.held i.clean (rw c.if-not-can_stand.true at c.in_ok-can_stand.ensures)
 
 pub returns-in-Some-clause-fault : goal.returns-in-Some-clause-fault
 returns-in-Some-clause-fault c =
     let i = c.loop-token.invariant in
-    let held = goes _ _ _ _ _ c.loop-token-test.true i.held (rw c.if-not-can_stand.false at c.in_ok-can_stand.ensures) in
-    first_is_fault _ _ (passed _ _ _ _ _ _ _ c.loop-token-test.true held i.clean i.opened i.last c.in-Some.ensures.fault)
+    let held = goes _ _ _ _ _ c.loop-token-test.true c.token-item.is i.held (rw c.if-not-can_stand.false at c.in_ok-can_stand.ensures) in
+    first_is_fault _ _ (passed _ _ _ _ _ _ _ c.loop-token-test.true c.token-item.is held i.clean i.opened i.last c.in-Some.ensures.fault)
 
 pub loop-token-preserved : goal.loop-token-preserved
 loop-token-preserved c =
     let i = c.loop-token.invariant in
     let lt = c.loop-token-test.true in
-    let held = goes _ _ _ _ _ lt i.held (rw c.if-not-can_stand.false at c.in_ok-can_stand.ensures) in
+    let held = goes _ _ _ _ _ lt c.token-item.is i.held (rw c.if-not-can_stand.false at c.in_ok-can_stand.ensures) in
     record {
       held = held;
-      clean = clean_next _ _ _ _ _ _ lt held i.clean i.opened i.last c.in-None.ensures.fault;
-      opened = depth_next _ _ _ _ _ lt i.opened c.in-None.ensures.opened;
-      last = last_next _ _ _ _ lt c.in-None.ensures.last;
+      clean = clean_next _ _ _ _ _ _ lt c.token-item.is held i.clean i.opened i.last c.in-None.ensures.fault;
+      opened = depth_next _ _ _ _ _ lt c.token-item.is i.opened c.in-None.ensures.opened;
+      last = last_next _ _ _ _ lt c.token-item.is c.in-None.ensures.last;
       few = c.in-None.ensures.few;
     }
 
