@@ -1,5 +1,6 @@
 #!/usr/bin/env python3
-"""Runs the program on inputs that are changed by chance, and fails on what no run may do.
+"""Runs the program on inputs that are changed by chance, and fails on what no run may do, and on a verdict on a certificate other than that
+of checker/quantreg_check.py.
 
     bench/fuzz/fuzz.py PROGRAM COUNT [FIRST]
 
@@ -15,9 +16,11 @@ import sys
 import tempfile
 from concurrent.futures import ThreadPoolExecutor
 
+sys.path.insert(0, os.path.join(os.path.dirname(os.path.abspath(__file__)), "..", "..", "checker"))
+import quantreg_check as checker
+
 MOST_SECONDS = 10
 STATUSES = range(10)
-HERE = os.path.dirname(os.path.abspath(__file__))
 
 # each with formulas that fit it
 TABLES = [
@@ -160,6 +163,15 @@ def made_input(number):
     return words, text if chance.randrange(2) else changed_bytes(chance, text)
 
 
+def other_verdict(source, status, err):
+    """Whether the plain checker finds otherwise of a certificate that the program has read."""
+    false = checker.first_false(checker.read(json.loads(source), checker.CERTIFICATE))
+    if not false:
+        return status != 0
+    condition, index, inner, left, _, right = false
+    return status != 8 or err.decode() != f"quantreg: check: Rejected condition={condition} index={index} inner={inner} left={left} right={right}\n"
+
+
 def complaint(status, out, err):
     """What a run did that none may do, or nothing."""
     if status < 0:
@@ -182,7 +194,10 @@ def ran(program, number):
         run = subprocess.run([program, *words], input=source, capture_output=True, timeout=MOST_SECONDS)
     except subprocess.TimeoutExpired:
         return number, None, f"more than {MOST_SECONDS} s"
-    return number, run, complaint(run.returncode, run.stdout, run.stderr)
+    wrong = complaint(run.returncode, run.stdout, run.stderr)
+    if not wrong and words == ["check"] and run.returncode in (0, 8) and other_verdict(source, run.returncode, run.stderr):
+        wrong = "another verdict than the checker's"
+    return number, run, wrong
 
 
 def main():
