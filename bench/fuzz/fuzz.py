@@ -165,7 +165,10 @@ def made_input(number):
 
 def other_verdict(source, status, err):
     """Whether the plain checker finds otherwise of a certificate that the program has read."""
-    false = checker.first_false(checker.read(json.loads(source), checker.CERTIFICATE))
+    try:
+        false = checker.first_false(checker.read(json.loads(source), checker.CERTIFICATE))
+    except ValueError:
+        return True
     if not false:
         return status != 0
     condition, index, inner, left, _, right = false
