@@ -130,10 +130,13 @@ def options(chance, job, formulas):
     given = {}
     if job in ("process", "certify", "ranks"):
         given["--formula"] = changed_formula(chance, formulas)
-    if job in ("process", "certify"):
+    if job == "sample":
+        given |= {"--number": str(chance.randrange(2**32)), "--rows": str(chance.randrange(30)), "--columns": str(chance.randrange(4))}
+    if job in ("process", "certify", "sample"):
         given["--lo"], given["--hi"] = sorted(chance.choices(["0", "1/4", "1/2", "3/4", "9/10"], k=2)) if chance.randrange(6) else chance.choices(NUMBERS, k=2)
     extra = [("--weights", NAMES), ("--contrasts", ["sas", "sum", "helmert", "treatment", "other"]), ("--pivots", ["0", "1", "50", *NUMBERS]),
-             ("--crit", NUMBERS), ("--rank-at", ["1/2", "1/4,3/4", "0,1", "1/2,", *NUMBERS]), ("--number", NUMBERS)]
+             ("--crit", NUMBERS), ("--rank-at", ["1/2", "1/4,3/4", "0,1", "1/2,", *NUMBERS])]
+    extra += [(name, NUMBERS) for name in ("--number", "--rows", "--columns")]
     for name, values in extra:
         if chance.randrange(12 if name == "--weights" and job != "check" else 40) == 0:
             given[name] = chance.choice(values)
@@ -152,7 +155,7 @@ def options(chance, job, formulas):
 def made_input(number):
     """The words and the bytes of an input, from its number alone."""
     chance = random.Random(number)
-    job = chance.choice(["process"] * 10 + ["certify", "certify", "check", "check", "check", "check", "ranks", "ranks", "other", ""])
+    job = chance.choice(["process"] * 10 + ["certify", "certify", "check", "check", "check", "check", "ranks", "ranks", "sample", "other", ""])
     table, formulas = chance.choice(TABLES)
     words = ([job] if job else []) + options(chance, job, formulas)
     # no argument of a program holds a zero byte
