@@ -40,6 +40,8 @@ job=(process --formula "stack.loss ~ ." --lo 1/2 --hi 1/2)
 nothing=$room/nothing
 printf 'y,x\n1,2\n3,5\n' > "$room/two"
 printf 'y,x\n1,2\n3\n' > "$room/ragged"
+printf 'y,w\n1,1e38\n2,1e38\n3,1e38\n' > "$room/heavy"
+power=100000000000000000000000000000000000000
 # the median of one record, and the same with another coefficient
 row='{"down0":"1","down1":"-1","up0":"0","up1":"1","x":["1"],"y":"7"}'
 segment='"hi":"1/2","lo":"1/2","loss_hi":"0","loss_lo":"0","sides":"*"'
@@ -58,6 +60,7 @@ try "a short record" 1 $'quantreg: table: Ragged record=2 found=1 wanted=2\n' "$
 try "a name that is no column" 1 $'quantreg: formula: UnknownName offset=4\n' "$nothing" "$room/two" process --formula "y ~ z" --lo 1/2 --hi 1/2
 try "one pivot too few" 6 $'quantreg: solver: PivotLimit place=process limit=4\n' "$nothing" "$table" "${job[@]}" --pivots 4
 try "as many pivots as are needed" 0 "" "$report" "$table" "${job[@]}" --pivots 5
+try "weights whose sum is too wide" 7 "quantreg: solver: Overflow place=process quantity=nonbasic-total at=1,1 term=2 op=add left=$power right=$power"$'\n' "$nothing" "$room/heavy" process --formula "y ~ 1" --lo 1/2 --hi 1/2 --weights w
 try "a certificate that is accepted" 0 "" "$room/accepted" "$room/line.json" check
 try "a certificate that is rejected" 8 $'quantreg: check: Rejected condition=7 index=1 inner=1 left=0 right=1\n' "$nothing" "$room/spoilt.json" check
 # a folder can't be read

@@ -28,9 +28,9 @@ __attribute__((destructor)) static void finish(void) {
     }
 }
 
+// Threads may ask at once; a number goes to one of them.
 static int is_refused(void) {
-    requests += 1;
-    return requests == refused;
+    return __atomic_add_fetch(&requests, 1, __ATOMIC_SEQ_CST) == refused;
 }
 
 extern void *__libc_malloc(size_t size);

@@ -1,11 +1,14 @@
 #!/usr/bin/env python3
-"""Runs the program on inputs that are changed by chance, and fails on what no run may do.
+"""Runs the program on inputs that are changed by chance, and fails on what no run may do, and on a verdict on a certificate other than that
+of checker/quantreg_check.py.
 
     bench/fuzz/fuzz.py PROGRAM COUNT [FIRST]
 
 Input number n, from FIRST on, is made from n alone, so each can be made again: with COUNT 1 the words, the status and both outputs
 are printed, and the input is left in the file that is named.
 """
+import copy
+import json
 import os
 import random
 import subprocess
@@ -13,9 +16,11 @@ import sys
 import tempfile
 from concurrent.futures import ThreadPoolExecutor
 
+sys.path.insert(0, os.path.join(os.path.dirname(os.path.abspath(__file__)), "..", "..", "checker"))
+import quantreg_check as checker
+
 MOST_SECONDS = 10
 STATUSES = range(10)
-HERE = os.path.dirname(os.path.abspath(__file__))
 
 # each with formulas that fit it
 TABLES = [
@@ -31,9 +36,64 @@ NUMBERS = ["0", "1", "1/2", "0.25", "1e0", "3/4", "2", "-1", "1/0", "1e99999", "
            "99999999/100000000"]
 BYTES = [b",", b"\n", b"\r\n", b'"', b'""', b"\xff", b"\x00", b"\xef\xbb\xbf", b"NA", b"-", b"/", b"e", b"1e99999999999", b"1/0", b" ", b"`", b"9" * 50]
 NAMES = ["y", "x", "w", "f", "g", "a b", "", "none"]
-CERTIFICATE = (b'{"columns":1,"hi":"1/2","intervals":[],"kind":"quantreg-certificate","lo":"1/2","rows":[{"down0":"1","down1":"-1","up0":"0",'
-               b'"up1":"1","x":["1"],"y":"1"}],"segments":[{"basic_hi":["1/2"],"basic_lo":["1/2"],"coef":["1"],"hi":"1/2","lo":"1/2","loss_hi":"0",'
-               b'"loss_lo":"0","sides":"*"}],"version":1}\n')
+COSTS = {"down0": "1", "down1": "-1", "up0": "0", "up1": "1"}
+
+
+def certificate(responses, entries, segment, interval=None):
+    """A certificate at the quantile 1/2 of records with these responses and entries."""
+    ends = {"hi": "1/2", "lo": "1/2"}
+    rows = [{**COSTS, "x": x.split(), "y": y} for x, y in zip(entries, responses)]
+    top = {"columns": len(rows[0]["x"]), "intervals": [interval] if interval else [], "kind": "quantreg-certificate", "rows": rows}
+    return {**top, **ends, "segments": [{**segment, **ends}], "version": 1}
+
+
+def solution(coef, basic, loss, sides):
+    return {"basic_hi": basic, "basic_lo": basic, "coef": coef, "loss_hi": loss, "loss_lo": loss, "sides": sides}
+
+
+def end(coef, inside, sides, **beyond):
+    return {"coef": coef, "inside": inside, "kind": "infinite" if "ray" in beyond else "finite", "sides": sides, **beyond}
+
+
+# the median of one record; of five, with an interval that no end bounds; and a line, with that of its slope
+CERTIFICATES = [
+    certificate("1", ["1"], solution(["1"], ["0"], "0", "*")),
+    certificate("12345", ["1"] * 5, solution(["3"], ["0"], "3", "--*++"), {
+        "column": 0, "crit": "5", "projection": ["0"], "tau": "1/2", "high": end(["5"], ["-1/2"], "----*", ray=["1"]),
+        "low": end(["1"], ["1/2"], "*++++", ray=["-1"])}),
+    certificate("023", ["1 0", "1 1", "1 3"], solution(["0", "1"], ["-1/3", "-1/6"], "1/2", "*+*"), {
+        "column": 1, "crit": "6/7", "projection": ["4/3", "0"], "tau": "1/2",
+        "high": end(["0", "2"], ["0", "1/2"], "**-", outside=["1/2", "0"], value="2"),
+        "low": end(["3/2", "1/2"], ["1/2", "0"], "-**", outside=["0", "1/2"], value="1/2")}),
+]
+VALUES = [None, True, 0, 1, -1, 0.5, 2**32, [], {}, "finite", "infinite", "*", "+-", "ray"]
+
+
+def places(value):
+    """Each place of a value: the list or object that has it, and its index or key there."""
+    for key in list(value) if isinstance(value, dict) else range(len(value)):
+        yield value, key
+        if isinstance(value[key], (dict, list)):
+            yield from places(value[key])
+
+
+def changed_certificate(chance):
+    """The text of a certificate after a few changes of its keys and values."""
+    top = copy.deepcopy(chance.choice(CERTIFICATES))
+    for _ in range(max(0, chance.randrange(5) - 1)):
+        within, key = chance.choice(list(places(top)))
+        change = chance.randrange(6)
+        if change == 0:
+            del within[key]
+        elif change == 1 and isinstance(within, dict):
+            within[chance.choice([key + "x", "", "x", "kind", "a/b~"])] = within.pop(key)
+        elif change == 2 and isinstance(within, list):
+            within.insert(key, within[key])
+        elif change == 3:
+            within[key] = chance.choice(VALUES)
+        else:
+            within[key] = chance.choice(NUMBERS)
+    return json.dumps(top, sort_keys=True, separators=(",", ":")).encode() + b"\n"
 
 
 def changed_bytes(chance, text):
@@ -70,10 +130,13 @@ def options(chance, job, formulas):
     given = {}
     if job in ("process", "certify", "ranks"):
         given["--formula"] = changed_formula(chance, formulas)
-    if job in ("process", "certify"):
+    if job == "sample":
+        given |= {"--number": str(chance.randrange(2**32)), "--rows": str(chance.randrange(30)), "--columns": str(chance.randrange(4))}
+    if job in ("process", "certify", "sample"):
         given["--lo"], given["--hi"] = sorted(chance.choices(["0", "1/4", "1/2", "3/4", "9/10"], k=2)) if chance.randrange(6) else chance.choices(NUMBERS, k=2)
     extra = [("--weights", NAMES), ("--contrasts", ["sas", "sum", "helmert", "treatment", "other"]), ("--pivots", ["0", "1", "50", *NUMBERS]),
-             ("--crit", NUMBERS), ("--rank-at", ["1/2", "1/4,3/4", "0,1", "1/2,", *NUMBERS]), ("--number", NUMBERS)]
+             ("--crit", NUMBERS), ("--rank-at", ["1/2", "1/4,3/4", "0,1", "1/2,", *NUMBERS])]
+    extra += [(name, NUMBERS) for name in ("--number", "--rows", "--columns")]
     for name, values in extra:
         if chance.randrange(12 if name == "--weights" and job != "check" else 40) == 0:
             given[name] = chance.choice(values)
@@ -92,11 +155,27 @@ def options(chance, job, formulas):
 def made_input(number):
     """The words and the bytes of an input, from its number alone."""
     chance = random.Random(number)
-    job = chance.choice(["process"] * 10 + ["certify", "certify", "check", "check", "check", "check", "ranks", "ranks", "other", ""])
+    job = chance.choice(["process"] * 10 + ["certify", "certify", "check", "check", "check", "check", "ranks", "ranks", "sample", "other", ""])
     table, formulas = chance.choice(TABLES)
     words = ([job] if job else []) + options(chance, job, formulas)
     # no argument of a program holds a zero byte
-    return [word.replace("\0", "0") for word in words], changed_bytes(chance, CERTIFICATE if job == "check" else table)
+    words = [word.replace("\0", "0") for word in words]
+    if job != "check":
+        return words, changed_bytes(chance, table)
+    text = changed_certificate(chance)
+    return words, text if chance.randrange(2) else changed_bytes(chance, text)
+
+
+def other_verdict(source, status, err):
+    """Whether the plain checker finds otherwise of a certificate that the program has read."""
+    try:
+        false = checker.first_false(checker.read(json.loads(source), checker.CERTIFICATE))
+    except ValueError:
+        return True
+    if not false:
+        return status != 0
+    condition, index, inner, left, _, right = false
+    return status != 8 or err.decode() != f"quantreg: check: Rejected condition={condition} index={index} inner={inner} left={left} right={right}\n"
 
 
 def complaint(status, out, err):
@@ -121,7 +200,10 @@ def ran(program, number):
         run = subprocess.run([program, *words], input=source, capture_output=True, timeout=MOST_SECONDS)
     except subprocess.TimeoutExpired:
         return number, None, f"more than {MOST_SECONDS} s"
-    return number, run, complaint(run.returncode, run.stdout, run.stderr)
+    wrong = complaint(run.returncode, run.stdout, run.stderr)
+    if not wrong and words == ["check"] and run.returncode in (0, 8) and other_verdict(source, run.returncode, run.stderr):
+        wrong = "another verdict than the checker's"
+    return number, run, wrong
 
 
 def main():

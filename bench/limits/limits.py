@@ -35,6 +35,19 @@ def drawn(rows, columns):
     return ("\n".join(lines) + "\n").encode()
 
 
+def certificate(rows, columns, segments):
+    """A certificate that no solver made, of constant costs: each segment is tested at every row and column. Rows beyond the basis lie on
+    either side in turn, so that their dual values, 1 and -1, balance, and all residuals are 0."""
+    row = '{"down0":"1","down1":"0","up0":"1","up1":"0","x":[' + ",".join(['"1"'] * columns) + '],"y":"0"}'
+    basic = "[" + ",".join(['"0"'] * columns) + "]"
+    coef = "[" + ",".join(['"1"', '"-1"'] * (columns // 2)) + "]"
+    sides = "*" * columns + "+-" * ((rows - columns) // 2)
+    parts = [f'{{"basic_hi":{basic},"basic_lo":{basic},"coef":{coef},"hi":"{n + 1}/{segments}","lo":"{n}/{segments}","loss_hi":"0","loss_lo":"0",'
+             f'"sides":"{sides}"}}' for n in range(segments)]
+    return (f'{{"columns":{columns},"hi":"1","intervals":[],"kind":"quantreg-certificate","lo":"0","rows":[' + ",".join([row] * rows)
+            + '],"segments":[' + ",".join(parts) + '],"version":1}').encode()
+
+
 def inputs():
     """The name of each input, its words, and its bytes."""
     yield "16,384 x 1,024 cells", FIT, lambda: ("y" + "".join(f",x{n}" for n in range(1023)) + "\n" + ("1" + ",2" * 1023 + "\n") * 16384).encode()
@@ -60,6 +73,8 @@ def inputs():
                                         b'{"down0":"1","down1":"-1","up0":"0","up1":"1","x":["1"],"y":"1"},',
                                         b'{"down0":"1","down1":"-1","up0":"0","up1":"1","x":["1"],"y":"1"}],"segments":[],"version":1}')]:
         yield f"a certificate of {name}", ["check"], lambda before=before, piece=piece, after=after: filled(before, piece, after)
+    for segments in (10, 20, 40):
+        yield f"a certificate of {segments} segments", ["check"], lambda segments=segments: certificate(16384, 128, segments)
 
 
 def measured(program, words, source):

@@ -7,8 +7,8 @@ use std::process::Abort;
 use std::test::Fail;
 
 static CHANGES: [Change; 60] = [
-    (1, 11, "\"columns\":1", (1, 1, 0), (2, 1), (1, 1)),
-    (1, 11, "\"columns\":3", (1, 1, 0), (2, 1), (3, 1)),
+    (1, 11, r#""columns":1"#, (1, 1, 0), (2, 1), (1, 1)),
+    (1, 11, r#""columns":3"#, (1, 1, 0), (2, 1), (3, 1)),
     (19, 1, "0", (3, 2, 4), (1, 1), (0, 1)),
     (19, 1, "11/10", (2, 1, 4), (-1, 10), (0, 1)),
     (19, 1, "2", (2, 1, 4), (-1, 1), (0, 1)),
@@ -71,15 +71,15 @@ static CHANGES: [Change; 60] = [
 
 /// Two rows of one column whose costs are constant, as no table gives them, fitted through the first.
 static HAND: &str =
-    "{\"columns\":1,\"hi\":\"1/2\",\"intervals\":[],\"kind\":\"quantreg-certificate\",\"lo\":\"1/2\",\"rows\":[{\"down0\":\"2\",\"down1\":\"0\",\"up0\":\"2\",\"up1\":\"0\",\"x\":[\"1\"],\"y\":\"1\"},{\"down0\":\"1\",\"down1\":\"0\",\"up0\":\"1\",\"up1\":\"0\",\"x\":[\"1\"],\"y\":\"3\"}],\"segments\":[{\"basic_hi\":[\"-1\"],\"basic_lo\":[\"-1\"],\"coef\":[\"1\"],\"hi\":\"1/2\",\"lo\":\"1/2\",\"loss_hi\":\"2\",\"loss_lo\":\"2\",\"sides\":\"*+\"}],\"version\":1}";
+    r#"{"columns":1,"hi":"1/2","intervals":[],"kind":"quantreg-certificate","lo":"1/2","rows":[{"down0":"2","down1":"0","up0":"2","up1":"0","x":["1"],"y":"1"},{"down0":"1","down1":"0","up0":"1","up1":"0","x":["1"],"y":"3"}],"segments":[{"basic_hi":["-1"],"basic_lo":["-1"],"coef":["1"],"hi":"1/2","lo":"1/2","loss_hi":"2","loss_lo":"2","sides":"*+"}],"version":1}"#;
 
 /// The same rows with coefficients that aren't optimal, and the loss that they have.
 static OFF: &str =
-    "{\"columns\":1,\"hi\":\"1/2\",\"intervals\":[],\"kind\":\"quantreg-certificate\",\"lo\":\"1/2\",\"rows\":[{\"down0\":\"2\",\"down1\":\"0\",\"up0\":\"2\",\"up1\":\"0\",\"x\":[\"1\"],\"y\":\"1\"},{\"down0\":\"1\",\"down1\":\"0\",\"up0\":\"1\",\"up1\":\"0\",\"x\":[\"1\"],\"y\":\"3\"}],\"segments\":[{\"basic_hi\":[\"-1\"],\"basic_lo\":[\"-1\"],\"coef\":[\"2\"],\"hi\":\"1/2\",\"lo\":\"1/2\",\"loss_hi\":\"3\",\"loss_lo\":\"3\",\"sides\":\"*+\"}],\"version\":1}";
+    r#"{"columns":1,"hi":"1/2","intervals":[],"kind":"quantreg-certificate","lo":"1/2","rows":[{"down0":"2","down1":"0","up0":"2","up1":"0","x":["1"],"y":"1"},{"down0":"1","down1":"0","up0":"1","up1":"0","x":["1"],"y":"3"}],"segments":[{"basic_hi":["-1"],"basic_lo":["-1"],"coef":["2"],"hi":"1/2","lo":"1/2","loss_hi":"3","loss_lo":"3","sides":"*+"}],"version":1}"#;
 
 /// Two equal rows, whose dual values jump where two segments meet.
 static TIE: &str =
-    "{\"columns\":1,\"hi\":\"1\",\"intervals\":[],\"kind\":\"quantreg-certificate\",\"lo\":\"0\",\"rows\":[{\"down0\":\"1\",\"down1\":\"-1\",\"up0\":\"0\",\"up1\":\"1\",\"x\":[\"1\"],\"y\":\"0\"},{\"down0\":\"1\",\"down1\":\"-1\",\"up0\":\"0\",\"up1\":\"1\",\"x\":[\"1\"],\"y\":\"0\"}],\"segments\":[{\"basic_hi\":[\"-1/2\"],\"basic_lo\":[\"0\"],\"coef\":[\"0\"],\"hi\":\"1/2\",\"lo\":\"0\",\"loss_hi\":\"0\",\"loss_lo\":\"0\",\"sides\":\"*+\"},{\"basic_hi\":[\"0\"],\"basic_lo\":[\"1/2\"],\"coef\":[\"0\"],\"hi\":\"1\",\"lo\":\"1/2\",\"loss_hi\":\"0\",\"loss_lo\":\"0\",\"sides\":\"*-\"}],\"version\":1}";
+    r#"{"columns":1,"hi":"1","intervals":[],"kind":"quantreg-certificate","lo":"0","rows":[{"down0":"1","down1":"-1","up0":"0","up1":"1","x":["1"],"y":"0"},{"down0":"1","down1":"-1","up0":"0","up1":"1","x":["1"],"y":"0"}],"segments":[{"basic_hi":["-1/2"],"basic_lo":["0"],"coef":["0"],"hi":"1/2","lo":"0","loss_hi":"0","loss_lo":"0","sides":"*+"},{"basic_hi":["0"],"basic_lo":["1/2"],"coef":["0"],"hi":"1","lo":"1/2","loss_hi":"0","loss_lo":"0","sides":"*-"}],"version":1}"#;
 
 #[test]
 fn the_line_is_accepted(rt: HostRuntime) -> Result<(), Fail> {
@@ -118,8 +118,8 @@ fn each_change_is_rejected_by_its_first_false_test(rt: HostRuntime) -> Result<()
 
 #[test]
 fn a_dual_value_above_its_bound_is_rejected(rt: HostRuntime) -> Result<(), Fail> {
-    let old = "\"basic_lo\":[\"3/5\"";
-    let text = changed(rt.alloc(), LINE, old, "\"basic_lo\":[\"4/5\"")?;
+    let old = r#""basic_lo":["3/5""#;
+    let text = changed(rt.alloc(), LINE, old, r#""basic_lo":["4/5""#)?;
     let sides = ((4, 5), (3, 5));
     assert!(rt; is_rejected(rt.alloc(), text.as_bytes(), (4, 2, 2), sides));
     Ok(())
@@ -127,8 +127,8 @@ fn a_dual_value_above_its_bound_is_rejected(rt: HostRuntime) -> Result<(), Fail>
 
 #[test]
 fn a_coefficient_of_another_loss_is_rejected(rt: HostRuntime) -> Result<(), Fail> {
-    let old = "\"coef\":[\"0\",\"1\"]";
-    let text = changed(rt.alloc(), LINE, old, "\"coef\":[\"0\",\"2\"]")?;
+    let old = r#""coef":["0","1"]"#;
+    let text = changed(rt.alloc(), LINE, old, r#""coef":["0","2"]"#)?;
     let sides = ((0, 1), (3, 1));
     assert!(rt; is_rejected(rt.alloc(), text.as_bytes(), (7, 1, 1), sides));
     Ok(())
@@ -138,8 +138,8 @@ fn a_coefficient_of_another_loss_is_rejected(rt: HostRuntime) -> Result<(), Fail
 // stands behind that of the first and the two operations of its cost.
 #[test]
 fn an_operation_that_overflows_bears_its_number(rt: HostRuntime) -> Result<(), Fail> {
-    let greatest = "\"x\":[\"170141183460469231731687303715884105727\",\"0\"]";
-    let first = changed(rt.alloc(), LINE, "\"x\":[\"1\",\"0\"]", greatest)?;
+    let greatest = r#""x":["170141183460469231731687303715884105727","0"]"#;
+    let first = changed(rt.alloc(), LINE, r#""x":["1","0"]"#, greatest)?;
     let product = Operation {
         place: (6, 1, 3),
         term: 1,
@@ -147,8 +147,8 @@ fn an_operation_that_overflows_bears_its_number(rt: HostRuntime) -> Result<(), F
         right: (i128::MAX, 1),
     };
     assert!(rt; overflows(rt.alloc(), first.as_bytes(), &product));
-    let greatest = "\"x\":[\"170141183460469231731687303715884105727\",\"1\"]";
-    let second = changed(rt.alloc(), LINE, "\"x\":[\"1\",\"1\"]", greatest)?;
+    let greatest = r#""x":["170141183460469231731687303715884105727","1"]"#;
+    let second = changed(rt.alloc(), LINE, r#""x":["1","1"]"#, greatest)?;
     let product = Operation {
         term: 4,
         left: (3, 5),

@@ -39,14 +39,14 @@ static RANKED_CHANGES: [Change; 31] = [
     (284, 2, "", (9, 1, 15), (1, 1), (1, 2)),
     (250, 1, "1", (9, 1, 16), (1, 1), (1, 2)),
     (250, 1, "1/2", (9, 1, 16), (1, 2), (0, 1)),
-    (250, 7, "1/2\",\"0", (9, 1, 17), (1, 4), (1, 1)),
+    (250, 7, r#"1/2","0"#, (9, 1, 17), (1, 4), (1, 1)),
     (83, 1, "3", (9, 1, 20), (-1, 1), (0, 1)),
     (157, 1, "+", (9, 1, 21), (-3, 1), (0, 1)),
     (98, 1, "-1", (9, 1, 22), (-1, 1), (-1, 2)),
     (98, 1, "1/2", (9, 1, 23), (1, 2), (0, 1)),
     (169, 1, "3", (9, 1, 25), (3, 1), (2, 1)),
     (142, 1, "1", (9, 1, 26), (1, 1), (1, 2)),
-    (136, 7, "0\",\"1/2", (9, 1, 27), (1, 1), (1, 1)),
+    (136, 7, r#"0","1/2"#, (9, 1, 27), (1, 1), (1, 1)),
     (456, 1, "2", (9, 1, 1), (2, 1), (1, 1)),
 ];
 
@@ -99,8 +99,8 @@ fn a_column_that_the_others_make_has_no_interval(rt: HostRuntime) -> Result<(), 
 // and 1 minus that three, and the squared length 19.
 #[test]
 fn the_bound_of_an_interval_overflows_at_its_last_product(rt: HostRuntime) -> Result<(), Fail> {
-    let greatest = "\"crit\":\"170141183460469231731687303715884105727\"";
-    let text = changed(rt.alloc(), FIVE, "\"crit\":\"5\"", greatest)?;
+    let greatest = r#""crit":"170141183460469231731687303715884105727""#;
+    let text = changed(rt.alloc(), FIVE, r#""crit":"5""#, greatest)?;
     let product = Operation {
         place: (9, 1, 14),
         term: 58,

@@ -15,4 +15,6 @@ mod intervals;
 #[cfg(test)]
 mod limits;
 #[cfg(test)]
+mod spoilt;
+#[cfg(test)]
 mod texts;

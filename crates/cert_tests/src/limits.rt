@@ -5,25 +5,24 @@ use std::alloc::Global;
 use std::process::Abort;
 use std::test::Fail;
 
-static ROW: &str =
-    "{\"down0\":\"1\",\"down1\":\"-1\",\"up0\":\"0\",\"up1\":\"1\",\"x\":[\"1\"],\"y\":\"0\"}";
+static ROW: &str = r#"{"down0":"1","down1":"-1","up0":"0","up1":"1","x":["1"],"y":"0"}"#;
 
 static INTERVAL: &str =
-    "{\"column\":0,\"crit\":\"1\",\"high\":{\"coef\":[],\"inside\":[],\"kind\":\"infinite\",\"ray\":[],\"sides\":\"\"},\"low\":{\"coef\":[],\"inside\":[],\"kind\":\"infinite\",\"ray\":[],\"sides\":\"\"},\"projection\":[],\"tau\":\"1/2\"}";
+    r#"{"column":0,"crit":"1","high":{"coef":[],"inside":[],"kind":"infinite","ray":[],"sides":""},"low":{"coef":[],"inside":[],"kind":"infinite","ray":[],"sides":""},"projection":[],"tau":"1/2"}"#;
 
 // A certificate with so many intervals and rows.
 fn of_size(alloc: Global, intervals: usize, rows: usize) -> Result<String, Fail> {
-    let mut text = String::from_str(alloc, "{\"columns\":1,\"hi\":\"1\",\"intervals\":[")?;
+    let mut text = String::from_str(alloc, r#"{"columns":1,"hi":"1","intervals":["#)?;
     for at in 0..intervals {
         text.push_str(if at == 0 { "" } else { "," })?;
         text.push_str(INTERVAL)?;
     }
-    text.push_str("],\"kind\":\"quantreg-certificate\",\"lo\":\"0\",\"rows\":[")?;
+    text.push_str(r#"],"kind":"quantreg-certificate","lo":"0","rows":["#)?;
     for at in 0..rows {
         text.push_str(if at == 0 { "" } else { "," })?;
         text.push_str(ROW)?;
     }
-    text.push_str("],\"segments\":[],\"version\":1}")?;
+    text.push_str(r#"],"segments":[],"version":1}"#)?;
     Ok(text)
 }
 

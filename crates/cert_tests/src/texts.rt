@@ -33,7 +33,7 @@ fn a_text_is_written_as_it_was_read(rt: HostRuntime) -> Result<(), Fail> {
 
 #[test]
 fn fractions_are_written_in_canonical_form(rt: HostRuntime) -> Result<(), Fail> {
-    let text = changed(rt.alloc(), LINE, "\"hi\":\"3/5\"", "\"hi\" : \"+6.0e-1\"")?;
+    let text = changed(rt.alloc(), LINE, r#""hi":"3/5""#, r#""hi" : "+6.0e-1""#)?;
     let bytes = written(rt.alloc(), text.as_str());
     assert!(rt; bytes.as_slice() == LINE.as_bytes());
     Ok(())

@@ -74,11 +74,46 @@ fn written_certificates_are_accepted(rt: HostRuntime) -> Result<(), Fail> {
     Ok(())
 }
 
-// Each case: what is changed in the certificate of the line, from and to, the exit status, and the line.
-static SPOILT: [(&str, &str, u8, &str); 10] = [
+// Each case: what stands in the certificate of the line, or nothing for all of it, what stands there instead, the
+// exit status, and the line.
+static SPOILT: [(&str, &str, u8, &str); 18] = [
+    ("", "[]", 1, "quantreg: certificate: Shape path=\n"),
+    ("", "{}", 1, "quantreg: certificate: Shape path=/version\n"),
     (
-        "\"version\":1",
-        "\"version\":2",
+        "",
+        r#"{"version":9}"#,
+        1,
+        "quantreg: certificate: Version\n",
+    ),
+    (
+        "",
+        r#"{"version":1}"#,
+        1,
+        "quantreg: certificate: Shape path=/columns\n",
+    ),
+    ("", BRACKETS, 1, "quantreg: certificate: NotJson\n"),
+    // A path is told as names are printed.
+    (
+        "",
+        r#"{"a\u0000\n\u007f\\/~":0,"version":1}"#,
+        1,
+        "quantreg: certificate: Shape path=/a\\x00\\x0a\\x7f\\x5c~1~0\n",
+    ),
+    (
+        r#""y":"2""#,
+        r#""y":"1/0""#,
+        1,
+        "quantreg: certificate: Number path=/rows/1/y\n",
+    ),
+    (
+        r#""sides":"*+*""#,
+        r#""sides":"*+""#,
+        8,
+        "quantreg: check: Rejected condition=1 index=1 inner=2 left=2 right=3\n",
+    ),
+    (
+        r#""version":1"#,
+        r#""version":2"#,
         1,
         "quantreg: certificate: Version\n",
     ),
@@ -89,58 +124,65 @@ static SPOILT: [(&str, &str, u8, &str); 10] = [
         "quantreg: certificate: Shape path=/kind\n",
     ),
     (
-        "\"y\":\"2\"",
-        "\"y\":\"two\"",
+        r#""y":"2""#,
+        r#""y":"two""#,
         1,
         "quantreg: certificate: Number path=/rows/1/y\n",
     ),
     (
-        "\"columns\":2",
-        "\"columns\":129",
+        r#""columns":2"#,
+        r#""columns":129"#,
         1,
         "quantreg: certificate: TooLarge\n",
     ),
     (
-        "\"columns\":2",
-        "\"columns\":3",
+        r#""columns":2"#,
+        r#""columns":3"#,
         8,
         "quantreg: check: Rejected condition=1 index=1 inner=0 left=2 right=3\n",
     ),
     (
-        "\"hi\":\"1\",\"intervals\"",
-        "\"hi\":\"4/5\",\"intervals\"",
+        r#""hi":"1","intervals""#,
+        r#""hi":"4/5","intervals""#,
         8,
         "quantreg: check: Rejected condition=3 index=2 inner=4 left=1 right=4/5\n",
     ),
     (
-        "\"basic_lo\":[\"3/5\"",
-        "\"basic_lo\":[\"4/5\"",
+        r#""basic_lo":["3/5""#,
+        r#""basic_lo":["4/5""#,
         8,
         "quantreg: check: Rejected condition=4 index=2 inner=2 left=4/5 right=3/5\n",
     ),
     (
-        "\"basic_hi\":[\"-2/5\"",
-        "\"basic_hi\":[\"-1/5\"",
+        r#""basic_hi":["-2/5""#,
+        r#""basic_hi":["-1/5""#,
         8,
         "quantreg: check: Rejected condition=6 index=1 inner=3 left=1/5 right=0\n",
     ),
     (
-        "\"coef\":[\"0\",\"1\"]",
-        "\"coef\":[\"0\",\"2\"]",
+        r#""coef":["0","1"]"#,
+        r#""coef":["0","2"]"#,
         8,
         "quantreg: check: Rejected condition=7 index=1 inner=1 left=0 right=3\n",
     ),
     // The loss at 3/5: record 2 lies 2^127 - 2 above the fit, behind the seven operations of record 1.
     (
-        "\"y\":\"2\"",
-        "\"y\":\"170141183460469231731687303715884105727\"",
+        r#""y":"2""#,
+        r#""y":"170141183460469231731687303715884105727""#,
         7,
         "quantreg: solver: Overflow place=check quantity=check-sum at=7,1,3 term=14 op=mul left=3/5 right=170141183460469231731687303715884105726\n",
     ),
 ];
 
-// The check of the certificate of the line, in which the first such text is another.
+// 200 lists, one within the other, and none ends.
+const BRACKETS: &str =
+    "[[[[[[[[[[[[[[[[[[[[[[[[[[[[[[[[[[[[[[[[[[[[[[[[[[[[[[[[[[[[[[[[[[[[[[[[[[[[[[[[[[[[[[[[[[[[[[[[[[[[[[[[[[[[[[[[[[[[[[[[[[[[[[[[[[[[[[[[[[[[[[[[[[[[[[[[[[[[[[[[[[[[[[[[[[[[[[[[[[[[[[[[[[[[[[[[[[[[[[[[";
+
+// The check of the certificate of the line, in which the first such text, or all of it, is another.
 fn spoilt<R: Threads + Sync>(rt: &R, alloc: Global, from: &str, to: &str) -> Result<Left, Fail> {
+    if from.is_empty() {
+        return ran_on(rt, alloc, "check", to.as_bytes());
+    }
     let Some((before, after)) = LINE.split_once(from) else {
         return ran_on(rt, alloc, "check", b"");
     };
