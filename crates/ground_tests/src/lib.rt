@@ -1,5 +1,6 @@
 //! Tests of the lowest crates: fractions, their texts and lists (`frac_core`), streams of bytes
-//! (`port_io`), codings of factors (`contrasts`), and losses with their sites (`loss_model`).
+//! (`port_io`), jobs at once (`rq_fan`), codings of factors (`contrasts`), and losses with their sites
+//! (`loss_model`).
 //!
 //! What is tested is what no clause says: values from outside, printed text, and streams that fail.
 #![tactic(auto)]
@@ -10,6 +11,8 @@ mod codings;
 mod fractions;
 #[cfg(test)]
 mod helpers;
+#[cfg(test)]
+mod jobs;
 #[cfg(test)]
 mod lists;
 #[cfg(test)]
