@@ -6,9 +6,9 @@ use Rattle.rq_words.specs.declared.job.FitJob.{FitJob}
 use Rattle.report_text.specs.declared.report.Refusal.TheVariants.{CertTooLong}
 use Rattle.report_text.specs.declared.report.Halt.{Halt}
 use Rattle.report_text.specs.declared.report.Halt.TheVariants.{Refused, OutOfMemory}
+use Rattle.rq_fit.specs.Stops.{HasProblemCause}
 use Rattle.rq_engine.specs.Answers.{IsCertified}
 use Rattle.rq_engine.specs.Certificates.{IsTooLong}
-use Rattle.rq_engine.specs.Stops.{HasProblemCause}
 
 -- the text of the certificate wasn't found to be short: memory ended, or it is too long
 abbrev pub IsLengthHalt : Cert → Halt → Type 0

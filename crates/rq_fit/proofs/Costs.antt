@@ -1,6 +1,7 @@
 -- Data rows and penalty rows have costs at every quantile.
 use Rattle.std.proofs.Common.{◌≡◌, ◌≢◌, ◌⊎◌, ◌<◌, ◌≤◌, ℕ, zero, suc, [], ◌∷◌, length, pos, arith, inl, inr, refl, sym, ap, subst, ◌∙◌}
 use Rattle.exact_algebra.proofs.OrderLaws.{cmp_ℚ-Less, le_from_not, ≤ℚ-minus}
+use Rattle.exact_algebra.specs.Fraction.{rational}
 use Rattle.exact_algebra.specs.Rational.{ℚ, ◌+ℚ◌, ◌-ℚ◌, ◌*ℚ◌, whole, ◌≤ℚ◌}
 use Rattle.exact_algebra.proofs.RationalLaws.{≤ℚ_refl, ≤ℚ_trans, ring_ℚ}
 use Rattle.exact_algebra.specs.Solver.{number, negated, ◌⊞◌, ◌⊟◌, ◌⊠◌, v0, v1}
@@ -9,10 +10,12 @@ use Rattle.loss_model.proofs.Quotients.{product_not_negative}
 use Rattle.loss_model.specs.Problem.{sample}
 use Rattle.loss_model.specs.Sample.{Sample, up_cost, down_cost}
 use Rattle.pivot_rule.specs.Duals.{HasCosts}
+use Rattle.rq_words.specs.declared.job.FitJob.{FitJob}
 use Rattle.report_text.specs.ReportText.{value}
 use Rattle.rq_program.specs.Costs.{IsPenaltyRow}
 use Rattle.rq_input.specs.Rows.{HasRows}
 use Rattle.rq_input.specs.declared.input.Input.{Input}
+use Rattle.rq_fit.specs.Asks.{IsFitAsk}
 
 -- the weight of a data row is above 0
 above_zero : (p : Sample) (i : ℕ) → IsDataRow p i → ¬ (p.up1 i ≤ℚ whole (pos 0))
@@ -102,3 +105,11 @@ input_costs input theta low high rows =
       | inl before ↦ data_costs p theta i low high (rows.are_data i before)
       | inr behind ↦ penalty_costs p theta i (rows.are_penalties i behind l)
     ]
+
+-- so at both ends of the range that a job asks for
+module _ (job : FitJob) (ask : IsFitAsk job) (input : Input) (rows : HasRows input) where
+  pub low_costs : HasCosts (sample value input.problem) (rational (value job.lo))
+  low_costs = input_costs input (rational (value job.lo)) ask.low (≤ℚ_trans (rational (value job.lo)) (rational (value job.hi)) (whole (pos 1)) ask.ordered ask.high) rows
+
+  pub high_costs : HasCosts (sample value input.problem) (rational (value job.hi))
+  high_costs = input_costs input (rational (value job.hi)) (≤ℚ_trans (whole (pos 0)) (rational (value job.lo)) (rational (value job.hi)) ask.low ask.ordered) ask.high rows

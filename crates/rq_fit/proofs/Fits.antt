@@ -42,17 +42,14 @@ use Rattle.report_text.specs.declared.report.Place.TheVariants as places
 use Rattle.report_text.specs.declared.report.Halt.TheVariants.{Refused, OutOfMemory, PivotLimit, Overflow, Rejected, NotBuilt}
 use Rattle.report_text.specs.declared.report.Refusal.TheVariants.{TooLong, Dependent}
 use Rattle.report_text.specs.declared.report.Refusal.TheVariants as refusals
-use Rattle.rq_input.specs.Inputs.{HasInputCause, IsInput}
-use Rattle.rq_input.specs.declared.input.Input.{Input}
-use Rattle.rq_engine.specs.Answers.{HasFitCause}
-use Rattle.rq_engine.specs.Fit.{IsOptimalAt, IsOptimalWithin, IsRightFit, IsRightSegment, mixed_dual}
-use Rattle.rq_engine.specs.Halts.{interval_halt, short_halt, stop_halt}
-use Rattle.rq_engine.specs.Intervals.{AreRightIntervals, asked_by, asked_over, IsFirstStop}
-use Rattle.rq_engine.specs.RankProblems.{HasIntervalCause}
-use Rattle.rq_engine.specs.declared.intervals.IntervalStop.{IntervalStop}
+use Rattle.rq_fit.specs.Fit.{IsOptimalAt, IsOptimalWithin, IsRightFit, IsRightSegment, mixed_dual}
+use Rattle.rq_fit.specs.Halts.{interval_halt, short_halt, stop_halt}
+use Rattle.rq_fit.specs.Intervals.{AreRightIntervals, asked_by, asked_over, IsFirstStop}
+use Rattle.rq_fit.specs.RankProblems.{HasIntervalCause}
+use Rattle.rq_fit.specs.declared.intervals.IntervalStop.{IntervalStop}
 use Rattle.rank_inversion.specs.declared.column_test.Asked.{Asked}
 use Rattle.report_text.specs.ReportText.{value}
-use Rattle.rq_engine.specs.Stops.{IsSegmentSpill, HasProblemCause, most}
+use Rattle.rq_fit.specs.Stops.{IsSegmentSpill, HasProblemCause, most}
 
 -- ---- the segments
 
@@ -288,39 +285,3 @@ pub segment_unscored : {F : Type 0} (value : F → Fraction) (range : ℕ) (p : 
 segment_unscored value range p n segments k s within here shorts.OutOfMemory unscored = tt
 segment_unscored value range p n segments k s within here (shorts.Overflow spill) unscored =
     record { number = k; segment = s; there = slice_get-get_or segments k s within ∙ ap Some (sym here); operation = unscored }
-
--- why there is no input is why there is no fit
-pub input_cause : (job : FitJob) (ranked : Bool) (bytes : List ℕ) (halt : Halt) → HasInputCause job ranked bytes halt → HasFitCause job ranked bytes halt
-input_cause job ranked bytes (Refused (Dependent combination)) h = absurd h.2.cause
-input_cause job ranked bytes (Refused TooLong) h = h
-input_cause job ranked bytes (Refused (refusals.Table fault)) h = h
-input_cause job ranked bytes (Refused (refusals.Formula fault)) h = h
-input_cause job ranked bytes (Refused refusals.RankWithPenalty) h = h
-input_cause job ranked bytes (Refused (refusals.Design fault)) h = h
-input_cause job ranked bytes (Refused (refusals.Penalty fault)) h = h
-input_cause job ranked bytes (Refused (refusals.Program fault)) h = h
-input_cause job ranked bytes (Refused (refusals.CertTooLong long)) h = absurd h.2.cause
-input_cause job ranked bytes (Refused (refusals.Certificate fault)) h = absurd h.2.cause
-input_cause job ranked bytes OutOfMemory h = h
-input_cause job ranked bytes (PivotLimit place limit trail) h = absurd h.2.cause
-input_cause job ranked bytes (Overflow place trail spill) h = absurd h.2.cause
-input_cause job ranked bytes (Rejected rejection) h = absurd h.2.cause
-input_cause job ranked bytes (NotBuilt part) h = absurd h
-
--- and so is why the problem of an input has no fit
-pub problem_cause : (job : FitJob) (ranked : Bool) (bytes : List ℕ) (input : Input) → IsInput job ranked bytes input → (halt : Halt) → HasProblemCause job (length input.design.rows) input.problem halt → HasFitCause job ranked bytes halt
-problem_cause job ranked bytes input is (Refused (Dependent combination)) h = record { input = input; is = is; cause = h }
-problem_cause job ranked bytes input is (Refused TooLong) h = h
-problem_cause job ranked bytes input is (Refused (refusals.Table fault)) h = absurd h
-problem_cause job ranked bytes input is (Refused (refusals.Formula fault)) h = absurd h
-problem_cause job ranked bytes input is (Refused refusals.RankWithPenalty) h = absurd h
-problem_cause job ranked bytes input is (Refused (refusals.Design fault)) h = absurd h
-problem_cause job ranked bytes input is (Refused (refusals.Penalty fault)) h = absurd h
-problem_cause job ranked bytes input is (Refused (refusals.Program fault)) h = absurd h
-problem_cause job ranked bytes input is (Refused (refusals.CertTooLong long)) h = absurd h
-problem_cause job ranked bytes input is (Refused (refusals.Certificate fault)) h = absurd h
-problem_cause job ranked bytes input is OutOfMemory h = tt
-problem_cause job ranked bytes input is (PivotLimit place limit trail) h = record { input = input; is = is; cause = h }
-problem_cause job ranked bytes input is (Overflow place trail spill) h = record { input = input; is = is; cause = h }
-problem_cause job ranked bytes input is (Rejected rejection) h = absurd h
-problem_cause job ranked bytes input is (NotBuilt part) h = absurd h

@@ -17,10 +17,11 @@ use Rattle.rank_inversion.specs.Stops.{IsIntervalStop, IsLimited, IsWalkStop}
 use Rattle.rank_inversion.specs.declared.column_test.Asked.{Asked}
 use Rattle.rank_inversion.specs.declared.gram.GramInverse.{GramInverse}
 use Rattle.rank_inversion.proofs.Causes.{bound_there, by_gram, by_solve, by_walks}
-use Rattle.rq_engine.specs.Intervals.{AreRightIntervals, asked_at, asked_over, IsFirstStop, IsRightInterval}
-use Rattle.rq_engine.specs.RankProblems.{IsInner, IsRankable}
-use Rattle.rq_engine.proofs.AskedLists.{flat_more, split_flat, split_map, split_within, zip_append}
-use Rattle.rq_engine.proofs.Costs.{data_costs}
+use Rattle.rq_fit.specs.Asks.{IsInner}
+use Rattle.rq_fit.specs.Intervals.{AreRightIntervals, asked_at, asked_over, IsFirstStop, IsRightInterval}
+use Rattle.rq_fit.specs.RankProblems.{IsRankable}
+use Rattle.rq_fit.proofs.AskedLists.{flat_more, split_flat, split_map, split_within, zip_append}
+use Rattle.rq_fit.proofs.Costs.{data_costs}
 
 module _ {F : Type 0} (value : F → Fraction) (p : Problem F) where
   -- what is asked of a problem such as intervals are asked of

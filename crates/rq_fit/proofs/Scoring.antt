@@ -21,32 +21,32 @@ use Rattle.report_text.specs.declared.report.Fit.{Fit}
 use Rattle.report_text.specs.declared.report.Halt.{Halt}
 use Rattle.report_text.specs.declared.report.Place.TheVariants as places
 use Rattle.report_text.specs.declared.report.Halt.TheVariants.{Refused, OutOfMemory, PivotLimit, Overflow, Rejected, NotBuilt}
-use Rattle.rq_input.specs.Inputs.{HasInputCause, IsInput}
 use Rattle.rq_input.specs.Rows.{HasRows}
 use Rattle.rq_input.specs.declared.input.Input.{Input}
-use Rattle.rq_engine.specs.Answers.{HasFitCause, HasRanksCause, IsFitOf}
-use Rattle.rq_engine.specs.Fit.{IsRightFit}
-use Rattle.rq_engine.specs.Halts.{short_halt}
-use Rattle.rq_engine.specs.Ranks.{HasScoringCause}
-use Rattle.rq_engine.specs.Stops.{HasProblemCause, IsScoringSpill, most}
-use Rattle.rq_engine.proofs.Fits.{few_segments, input_cause, problem_cause, process_scorable}
+use Rattle.rq_fit.specs.Asks.{IsFitAsk, IsUnitAsk}
+use Rattle.rq_fit.specs.Fit.{IsFitOf, IsRightFit}
+use Rattle.rq_fit.specs.Halts.{short_halt}
+use Rattle.rq_fit.specs.Ranks.{HasScoringCause}
+use Rattle.rq_fit.specs.Stops.{HasProblemCause, IsScoringSpill, most}
+use Rattle.rq_fit.proofs.Fits.{few_segments, process_scorable}
 
 -- ---- a job over 0 to 1
 
-module _ (job : FitJob) (low : whole (pos 0) ≡ rational (value job.lo)) (high : whole (pos 1) ≡ rational (value job.hi)) where
-  pub from_zero : whole (pos 0) ≤ℚ rational (value job.lo)
-  from_zero = subst (λ z. whole (pos 0) ≤ℚ z) low (≤ℚ_refl (whole (pos 0)))
-
-  pub to_one : rational (value job.hi) ≤ℚ whole (pos 1)
-  to_one = subst (λ z. z ≤ℚ whole (pos 1)) high (≤ℚ_refl (whole (pos 1)))
-
-  pub in_order : rational (value job.lo) ≤ℚ rational (value job.hi)
-  in_order = subst (λ z. z ≤ℚ rational (value job.hi)) low (subst (λ z. whole (pos 0) ≤ℚ z) high (whole-le (pos 0) (pos 1) (omega (arith, ints))))
+module _ (job : FitJob) (ask : IsUnitAsk job) where
+  -- its range lies in 0 to 1
+  pub unit_ask : IsFitAsk job
+  unit_ask =
+      record {
+        low = subst (λ z. whole (pos 0) ≤ℚ z) ask.low (≤ℚ_refl (whole (pos 0)));
+        ordered = subst (λ z. z ≤ℚ rational (value job.hi)) ask.low (subst (λ z. whole (pos 0) ≤ℚ z) ask.high (whole-le (pos 0) (pos 1) (omega (arith, ints))));
+        high = subst (λ z. z ≤ℚ whole (pos 1)) ask.high (≤ℚ_refl (whole (pos 1)));
+        rank = ask.rank;
+      }
 
   pub covers_unit : (fit : Fit) → IsRightFit value job fit → Covers (length fit.problem.rows) (whole (pos 0)) (whole (pos 1)) (segments_of value fit.problem fit.process.segments)
   covers_unit fit right =
-      subst (λ z. Covers (length fit.problem.rows) z (whole (pos 1)) (segments_of value fit.problem fit.process.segments)) (sym low)
-      (subst (λ z. Covers (length fit.problem.rows) (rational (value job.lo)) z (segments_of value fit.problem fit.process.segments)) (sym high) right.covers)
+      subst (λ z. Covers (length fit.problem.rows) z (whole (pos 1)) (segments_of value fit.problem fit.process.segments)) (sym ask.low)
+      (subst (λ z. Covers (length fit.problem.rows) (rational (value job.lo)) z (segments_of value fit.problem fit.process.segments)) (sym ask.high) right.covers)
 
 -- ---- its fit
 
@@ -87,27 +87,3 @@ scoring_fit job input (Overflow (places.Interval column tau) trail spill) h = h
 scoring_fit job input (Overflow places.Check trail spill) h = h
 scoring_fit job input (Rejected rejection) h = h
 scoring_fit job input (NotBuilt part) h = h
-
-ranks_cause : (job : FitJob) (bytes : List ℕ) (halt : Halt) → HasFitCause job true bytes halt → HasRanksCause job bytes halt
-ranks_cause job bytes (Refused refusal) h = h
-ranks_cause job bytes OutOfMemory h = h
-ranks_cause job bytes (PivotLimit place limit trail) h = h
-ranks_cause job bytes (Overflow places.Process trail spill) h = inl h
-ranks_cause job bytes (Overflow (places.Interval column tau) trail spill) h = h
-ranks_cause job bytes (Overflow places.Check trail spill) h = h
-ranks_cause job bytes (Rejected rejection) h = h
-ranks_cause job bytes (NotBuilt part) h = h
-
-pub ranks_input_cause : (job : FitJob) (bytes : List ℕ) (halt : Halt) → HasInputCause job true bytes halt → HasRanksCause job bytes halt
-ranks_input_cause job bytes halt h = ranks_cause job bytes halt (input_cause job true bytes halt h)
-
-pub ranks_scoring_cause : (job : FitJob) (bytes : List ℕ) (input : Input) → IsInput job true bytes input → (halt : Halt) → HasScoringCause job input halt → HasRanksCause job bytes halt
-ranks_scoring_cause job bytes input is (Refused refusal) h = problem_cause job true bytes input is (Refused refusal) h
-ranks_scoring_cause job bytes input is OutOfMemory h = problem_cause job true bytes input is OutOfMemory h
-ranks_scoring_cause job bytes input is (PivotLimit place limit trail) h = problem_cause job true bytes input is (PivotLimit place limit trail) h
-ranks_scoring_cause job bytes input is (Overflow places.Process trail spill) (inl h) = inl (problem_cause job true bytes input is (Overflow places.Process trail spill) h)
-ranks_scoring_cause job bytes input is (Overflow places.Process trail spill) (inr h) = inr (record { input = input; is = is; operation = h })
-ranks_scoring_cause job bytes input is (Overflow (places.Interval column tau) trail spill) h = problem_cause job true bytes input is (Overflow (places.Interval column tau) trail spill) h
-ranks_scoring_cause job bytes input is (Overflow places.Check trail spill) h = problem_cause job true bytes input is (Overflow places.Check trail spill) h
-ranks_scoring_cause job bytes input is (Rejected rejection) h = problem_cause job true bytes input is (Rejected rejection) h
-ranks_scoring_cause job bytes input is (NotBuilt part) h = problem_cause job true bytes input is (NotBuilt part) h

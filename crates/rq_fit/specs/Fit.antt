@@ -17,7 +17,8 @@ use Rattle.tau_process.specs.Processes.{HasResults}
 use Rattle.tau_process.specs.Stops.{IsLimited}
 use Rattle.rq_words.specs.declared.job.FitJob.{FitJob}
 use Rattle.rankscores.specs.Scores.{IsScored}
-use Rattle.rq_engine.specs.Intervals.{AreRightIntervals, asked_by}
+use Rattle.rq_fit.specs.Intervals.{AreRightIntervals, asked_by}
+use Rattle.report_text.specs.ReportText.{value}
 use Rattle.report_text.specs.declared.report.Fit.{Fit}
 use Rattle.rq_input.specs.declared.input.Input.{Input}
 
@@ -73,3 +74,8 @@ pub record IsFitUnder (input : Input) (fit : Fit) : Type 0 where
   pub dropped : fit.dropped ≡ input.design.dropped
   pub names : fit.names ≡ input.design.names ++ input.smoothing.names
   pub data_rows : fit.data_rows ≡ length input.design.rows
+
+-- the right fit for the job, of the problem of the input; what is told of it is the design's
+pub record IsFitOf (job : FitJob) (input : Input) (fit : Fit) : Type 0 where
+  pub under : IsFitUnder input fit
+  pub right : IsRightFit value job fit

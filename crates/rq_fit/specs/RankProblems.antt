@@ -1,16 +1,14 @@
 -- Inner. A problem of which rank intervals are asked for, and what is known before the first of them is made.
-use Rattle.std.specs.Prelude.{ℕ, ◌<◌, All, Option, None, Some, length, pos, ⊤}
+use Rattle.std.specs.Prelude.{ℕ, ◌<◌, length, pos, ⊤}
 use Rattle.exact_algebra.specs.Fraction.{Fraction, rational}
-use Rattle.exact_algebra.specs.Rational.{ℚ, whole, ◌≤ℚ◌}
+use Rattle.exact_algebra.specs.Rational.{whole, ◌≤ℚ◌}
 use Rattle.frac_core.specs.declared.frac128.Frac128.{Frac128}
 use Rattle.loss_model.specs.declared.problem.Problem.{Problem}
 use Rattle.loss_model.specs.declared.stop.Stop.{Stop}
 use Rattle.loss_model.specs.declared.stop.Stop.TheVariants as stops
 use Rattle.loss_model.specs.Dual.{IsDataRow}
 use Rattle.loss_model.specs.Problem.{sample, IsWellShaped}
-use Rattle.loss_model.specs.Strict.{◌<ℚ◌}
 use Rattle.rank_inversion.specs.GramStops.{IsInverted}
-use Rattle.rq_words.specs.declared.job.RankAsk.{RankAsk}
 use Rattle.rq_words.specs.declared.job.FitJob.{FitJob}
 use Rattle.report_text.specs.ReportText.{value}
 use Rattle.report_text.specs.declared.report.Refusal.TheVariants.{Dependent}
@@ -18,22 +16,8 @@ use Rattle.report_text.specs.declared.report.Place.TheVariants as places
 use Rattle.report_text.specs.declared.report.Halt.{Halt}
 use Rattle.report_text.specs.declared.report.Halt.TheVariants.{Refused, OutOfMemory, PivotLimit, Overflow}
 use Rattle.loss_model.specs.StartStop.{IsDependent}
-use Rattle.rq_engine.specs.Stops.{HasStoppedInterval}
-use Rattle.rq_engine.specs.declared.intervals.RankProblem.{RankProblem}
-
--- strictly between 0 and 1
-abbrev pub IsInner : ℚ → Type 0
-IsInner tau = (whole (pos 0) <ℚ tau) × (tau <ℚ whole (pos 1))
-
--- the critical value is at least 0, and the quantiles lie strictly between 0 and 1
-pub record IsRankAsk (rank : RankAsk) : Type 0 where
-  pub crit : whole (pos 0) ≤ℚ rational (value rank.crit)
-  pub taus : All (λ tau. IsInner (rational (value tau))) rank.taus
-
--- if a job asks for intervals, it asks so
-abbrev pub IsRankAskOf : Option RankAsk → Type 0
-IsRankAskOf None = ⊤
-IsRankAskOf (Some rank) = IsRankAsk rank
+use Rattle.rq_fit.specs.Stops.{HasStoppedInterval}
+use Rattle.rq_fit.specs.declared.intervals.RankProblem.{RankProblem}
 
 module _ {F : Type 0} (value : F → Fraction) where
   -- the problem has data rows alone, and the critical value is at least 0

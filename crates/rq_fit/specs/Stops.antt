@@ -25,7 +25,7 @@ use Rattle.report_text.specs.ReportText.{value}
 use Rattle.rankscores.specs.declared.pair.ScorePair.{ScorePair}
 use Rattle.rankscores.specs.Scores.{IsScored}
 use Rattle.rankscores.specs.Spills.{IsScoresSpill, IsWilcoxonSpill}
-use Rattle.rq_engine.specs.Intervals.{IsFirstStop, asked_by}
+use Rattle.rq_fit.specs.Intervals.{IsFirstStop, asked_by}
 
 -- the first n rows are data rows
 module _ {F : Type 0} (value : F → Fraction) (range : ℕ) (p : Problem F) (n : ℕ) where

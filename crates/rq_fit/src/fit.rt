@@ -1,9 +1,8 @@
-//! The job `process`: the input, the process over the range, the scores of its segments, and the rank
-//! intervals that are asked for.
+//! The fit of an input: the process over the range, the scores of its segments, and the rank intervals
+//! that are asked for.
 ghost use Rattle.std.specs.Prelude.{◌≡◌, ◌≢◌, ℕ, ◌<◌, ◌≤◌, ◌^◌, All, is_some, length, pos, true, IfOk, IfErr};
 ghost use Rattle.std.specs.List.{AllZip};
-ghost use Rattle.exact_algebra.specs.Fraction.{rational};
-ghost use Rattle.exact_algebra.specs.Rational.{◌≤ℚ◌, whole};
+ghost use Rattle.exact_algebra.specs.Rational.{whole};
 ghost use Rattle.loss_model.specs.Dual.{IsDataRow};
 ghost use Rattle.loss_model.specs.Problem.{sample, IsWellShaped};
 ghost use Rattle.loss_model.specs.Quantities.{IsShortOf};
@@ -11,11 +10,11 @@ ghost use Rattle.rankscores.specs.Scores.{IsScorable, IsScored};
 ghost use Rattle.report_text.specs.ReportText.{value, IsPrintable};
 ghost use Rattle.report_text.specs.declared.report.Report.TheVariants as reports;
 ghost use Rattle.rq_input.specs.Rows.{HasRows};
-ghost use Rattle.rq_engine.specs.Answers.{HasFitCause, IsFitOf, IsFitOfBytes};
-ghost use Rattle.rq_engine.specs.Fit.{IsFitUnder};
-ghost use Rattle.rq_engine.specs.Intervals.{AreRightIntervals, asked_by};
-ghost use Rattle.rq_engine.specs.RankProblems.{HasIntervalCause, IsRankAskOf};
-ghost use Rattle.rq_engine.specs.Stops.{HasProblemCause, IsSegmentSpill};
+ghost use Rattle.rq_fit.specs.Asks.{IsFitAsk, IsRankAskOf};
+ghost use Rattle.rq_fit.specs.Fit.{IsFitOf, IsFitUnder};
+ghost use Rattle.rq_fit.specs.Intervals.{AreRightIntervals, asked_by};
+ghost use Rattle.rq_fit.specs.RankProblems.{HasIntervalCause};
+ghost use Rattle.rq_fit.specs.Stops.{HasProblemCause, IsSegmentSpill};
 
 use crate::halt::{interval_halt, short_halt, stop_halt};
 use crate::intervals::{all_intervals, joined};
@@ -23,7 +22,7 @@ use frac_core::{Exact, Frac128, List, OutOfMemory};
 use loss_model::{Interval, Problem, Process, Segment, Short};
 use rankscores::{ScorePair, scores};
 use report_text::{Fit, Halt, Place};
-use rq_input::{Input, read_input};
+use rq_input::Input;
 use rq_words::FitJob;
 use std::alloc::Global;
 use tau_process::process;
@@ -106,16 +105,15 @@ fn fit_of(
     })
 }
 
-// The fit of an input over the range of a job, with the rank intervals that it asks for.
-//
-// `Dependent`, and `PivotLimit` and `Overflow` of the process are those of `process`; an overflow of a
-// rankscore comes after it, with the whole trail, and after that the first stop of an interval.
-pub(crate) fn fit_input(alloc: Global, job: &FitJob, input: Input) -> Result<Fit, Halt>
-    requires low { whole (pos 0) ≤ℚ rational (value job.now.lo) }
-    requires ordered { rational (value job.now.lo) ≤ℚ rational (value job.now.hi) }
-    requires high { rational (value job.now.hi) ≤ℚ whole (pos 1) }
+/// The fit of an input over the range of a job, with the rank intervals that it asks for (Koenker 2005;
+/// Koenker and d'Orey 1987); for these the input has no penalty rows.
+///
+/// `Dependent`, and `PivotLimit` and `Overflow` of the process are those of `process`; an overflow of a
+/// rankscore comes after it, with the whole trail, and after that the first stop of an interval, with its
+/// column and its quantile. `OutOfMemory` may come at any step, and no other halt comes.
+pub fn fit_input(alloc: Global, job: &FitJob, input: Input) -> Result<Fit, Halt>
+    requires ask { IsFitAsk job.now }
     requires rows { HasRows input }
-    requires rank { IsRankAskOf job.now.rank }
     requires unpenalised { is_some job.now.rank ≡ true → length input.smoothing.rows ≡ 0 }
     ensures right { IfOk result (IsFitOf job.now input) }
     ensures printable { IfOk result (λ fit. IsPrintable (reports.Process fit)) }
@@ -138,30 +136,5 @@ pub(crate) fn fit_input(alloc: Global, job: &FitJob, input: Input) -> Result<Fit
     match fit_of(input, walked, scores, intervals) {
         Ok(fit) => Ok(fit),
         Err(_) => Err(Halt::OutOfMemory),
-    }
-}
-
-/// The fit over the range of a job, from the bytes of its input. `ranked` says that ranks or rank
-/// intervals are asked for, which refuses smooths.
-pub(crate) fn fit_bytes(
-    alloc: Global,
-    job: &FitJob,
-    ranked: bool,
-    bytes: &[u8],
-) -> Result<Fit, Halt>
-    requires low { whole (pos 0) ≤ℚ rational (value job.now.lo) }
-    requires ordered { rational (value job.now.lo) ≤ℚ rational (value job.now.hi) }
-    requires high { rational (value job.now.hi) ≤ℚ whole (pos 1) }
-    requires long { length job.now.formula < 2 ^ 31 }
-    requires short { length bytes.now ≤ 2 ^ 26 }
-    requires rank { IsRankAskOf job.now.rank }
-    requires taken { is_some job.now.rank ≡ true → ranked ≡ true }
-    ensures right { IfOk result (IsFitOfBytes job.now ranked bytes.now) }
-    ensures printable { IfOk result (λ fit. IsPrintable (reports.Process fit)) }
-    ensures cause { IfErr result (HasFitCause job.now ranked bytes.now) }
-{
-    match read_input(alloc, job, ranked, bytes) {
-        Ok(input) => fit_input(alloc, job, input),
-        Err(halt) => Err(halt),
     }
 }

@@ -1,6 +1,6 @@
 //! The halts of the solver.
 ghost use Rattle.std.specs.Prelude.{◌≡◌};
-ghost use Rattle.rq_engine.specs.Halts.{interval_halt as interval_halt_of, short_halt as short_halt_of, stop_halt as stop_halt_of};
+ghost use Rattle.rq_fit.specs.Halts.{interval_halt as interval_halt_of, short_halt as short_halt_of, stop_halt as stop_halt_of};
 
 use crate::intervals::IntervalStop;
 use frac_core::Frac128;

@@ -9,8 +9,9 @@ ghost use Rattle.exact_algebra.specs.Fraction.{rational};
 ghost use Rattle.br_pivot.specs.Solutions.{IsSolution};
 ghost use Rattle.rank_inversion.specs.Inversions.{IsAskable};
 ghost use Rattle.rank_inversion.specs.Stops.{IsIntervalStop};
-ghost use Rattle.rq_engine.specs.Intervals.{AreRightIntervals, asked_at, asked_over, IsFirstStop, IsRightInterval};
-ghost use Rattle.rq_engine.specs.RankProblems.{IsInner, IsRankable, IsRankProblem};
+ghost use Rattle.rq_fit.specs.Asks.{IsInner};
+ghost use Rattle.rq_fit.specs.Intervals.{AreRightIntervals, asked_at, asked_over, IsFirstStop, IsRightInterval};
+ghost use Rattle.rq_fit.specs.RankProblems.{IsRankable, IsRankProblem};
 
 use br_pivot::{Optimum, solve_at};
 use frac_core::{Exact, List, OutOfMemory};

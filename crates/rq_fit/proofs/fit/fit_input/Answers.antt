@@ -1,23 +1,17 @@
-use Rattle.std.proofs.Common.{arith, length, pos, ap, sym, ◌∙◌}
+use Rattle.std.proofs.Common.{arith, length, ap, sym, ◌∙◌}
 use Rattle.exact_algebra.specs.Fraction.{rational}
-use Rattle.exact_algebra.specs.Rational.{whole}
-use Rattle.exact_algebra.proofs.RationalLaws.{≤ℚ_trans}
 use Rattle.report_text.specs.ReportText.{value}
 use Rattle.rankscores.specs.Scores.{IsScored}
-use Rattle.rq_engine.proofs.Costs.{input_costs}
-use Rattle.rq_engine.proofs.Fits.{few_segments, interval_cause, process_scorable, right_fit, short_cause, stop_cause}
-use Rattle.rq_engine.proofs.Scores.{zip_length}
-use Rattle.rq_engine.proofs.process.fit_input.Goals as goal
+use Rattle.rq_fit.proofs.Costs.{high_costs, low_costs}
+use Rattle.rq_fit.proofs.Fits.{few_segments, interval_cause, process_scorable, right_fit, short_cause, stop_cause}
+use Rattle.rq_fit.proofs.Scores.{zip_length}
+use Rattle.rq_fit.proofs.fit.fit_input.Goals as goal
 
 pub process-requires-clause-costs_lo : goal.process-requires-clause-costs_lo
-process-requires-clause-costs_lo c κs =
-    let lo = rational (value c.args.job.now.lo) in
-    input_costs c.args.input lo c.requires.low (≤ℚ_trans lo (rational (value c.args.job.now.hi)) (whole (pos 1)) c.requires.ordered c.requires.high) c.requires.rows
+process-requires-clause-costs_lo c κs = low_costs c.args.job.now c.requires.ask c.args.input c.requires.rows
 
 pub process-requires-clause-costs_hi : goal.process-requires-clause-costs_hi
-process-requires-clause-costs_hi c κs =
-    let hi = rational (value c.args.job.now.hi) in
-    input_costs c.args.input hi (≤ℚ_trans (whole (pos 0)) (rational (value c.args.job.now.lo)) hi c.requires.low c.requires.ordered) c.requires.high c.requires.rows
+process-requires-clause-costs_hi c κs = high_costs c.args.job.now c.requires.ask c.args.input c.requires.rows
 
 pub returns-in-Err-clause-cause : goal.returns-in-Err-clause-cause
 returns-in-Err-clause-cause c = rw c.stop_halt.ensures (stop_cause c.args.job.now (length c.args.input.design.rows) c.args.input.problem c.in-Err.stop c.in-Err.ensures.stopped)

@@ -1,5 +1,5 @@
-use Rattle.rq_engine.proofs.Fits.{stopped_cause}
-use Rattle.rq_engine.proofs.process.job_intervals.Goals as goal
+use Rattle.rq_fit.proofs.Fits.{stopped_cause}
+use Rattle.rq_fit.proofs.fit.job_intervals.Goals as goal
 
 pub returns-in-Err-clause-cause : goal.returns-in-Err-clause-cause
 returns-in-Err-clause-cause c =

@@ -1,6 +1,6 @@
-use Rattle.rq_engine.proofs.AskedLists.{first_there}
-use Rattle.rq_engine.proofs.RankIntervals.{gram_stops}
-use Rattle.rq_engine.proofs.intervals.all_intervals.Goals as goal
+use Rattle.rq_fit.proofs.AskedLists.{first_there}
+use Rattle.rq_fit.proofs.RankIntervals.{gram_stops}
+use Rattle.rq_fit.proofs.intervals.all_intervals.Goals as goal
 
 pub returns-clause-stopped : goal.returns-clause-stopped
 returns-clause-stopped g c =

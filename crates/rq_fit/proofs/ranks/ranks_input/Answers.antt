@@ -1,15 +1,9 @@
 use Rattle.std.proofs.Common.{arith}
-use Rattle.rq_engine.proofs.Scoring.{all_data, covers_unit, few_fit, few_rows, from_zero, in_order, scorable_fit, scoring_fit, scoring_short, to_one}
-use Rattle.rq_engine.proofs.ranks.ranks_input.Goals as goal
+use Rattle.rq_fit.proofs.Scoring.{all_data, covers_unit, few_fit, few_rows, scorable_fit, scoring_fit, scoring_short, unit_ask}
+use Rattle.rq_fit.proofs.ranks.ranks_input.Goals as goal
 
-pub fit_input-requires-clause-low : goal.fit_input-requires-clause-low
-fit_input-requires-clause-low c = from_zero c.args.job.now c.requires.low c.requires.high
-
-pub fit_input-requires-clause-ordered : goal.fit_input-requires-clause-ordered
-fit_input-requires-clause-ordered c = in_order c.args.job.now c.requires.low c.requires.high
-
-pub fit_input-requires-clause-high : goal.fit_input-requires-clause-high
-fit_input-requires-clause-high c = to_one c.args.job.now c.requires.low c.requires.high
+pub fit_input-requires-clause-ask : goal.fit_input-requires-clause-ask
+fit_input-requires-clause-ask c = unit_ask c.args.job.now c.requires.ask
 
 pub returns-in-Err-clause-cause : goal.returns-in-Err-clause-cause
 returns-in-Err-clause-cause c = scoring_fit c.args.job.now c.args.input c.in-Err.halt c.in-Err.ensures.cause
@@ -27,11 +21,11 @@ pub wilcoxon-requires-clause-scorable : goal.wilcoxon-requires-clause-scorable
 wilcoxon-requires-clause-scorable c κs = scorable_fit c.args.job.now c.args.input c.requires.rows c.requires.unpenalised c.in-Ok.fit c.in-Ok.ensures.right
 
 pub wilcoxon-requires-clause-covers : goal.wilcoxon-requires-clause-covers
-wilcoxon-requires-clause-covers c κs = covers_unit c.args.job.now c.requires.low c.requires.high c.in-Ok.fit c.in-Ok.ensures.right.right
+wilcoxon-requires-clause-covers c κs = covers_unit c.args.job.now c.requires.ask c.in-Ok.fit c.in-Ok.ensures.right.right
 
 pub returns-in-Ok-wilcoxon-clause-right : goal.returns-in-Ok-wilcoxon-clause-right
 returns-in-Ok-wilcoxon-clause-right c =
-    record { fit = c.in-Ok.ensures.right; covers = covers_unit c.args.job.now c.requires.low c.requires.high c.in-Ok.fit c.in-Ok.ensures.right.right; wilcoxon = c.in-Ok-wilcoxon.ensures.scored }
+    record { fit = c.in-Ok.ensures.right; covers = covers_unit c.args.job.now c.requires.ask c.in-Ok.fit c.in-Ok.ensures.right.right; wilcoxon = c.in-Ok-wilcoxon.ensures.scored }
 
 pub returns-in-Err-wilcoxon-clause-cause : goal.returns-in-Err-wilcoxon-clause-cause
 returns-in-Err-wilcoxon-clause-cause c =

@@ -1,5 +1,5 @@
-use Rattle.rq_engine.proofs.RankIntervals.{inner_costs, solve_stops}
-use Rattle.rq_engine.proofs.intervals.RankProblem.at_quantile.Goals as goal
+use Rattle.rq_fit.proofs.RankIntervals.{inner_costs, solve_stops}
+use Rattle.rq_fit.proofs.intervals.RankProblem.at_quantile.Goals as goal
 
 pub solve_at-requires-clause-costs : goal.solve_at-requires-clause-costs
 solve_at-requires-clause-costs g c κs within =

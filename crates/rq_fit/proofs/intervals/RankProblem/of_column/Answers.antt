@@ -1,7 +1,7 @@
-use Rattle.rq_engine.proofs.RankIntervals.{right_by, walks_stop}
+use Rattle.rq_fit.proofs.RankIntervals.{right_by, walks_stop}
 use Rattle.rank_inversion.proofs.Causes.{by_test}
 use Rattle.exact_algebra.specs.Fraction.{rational}
-use Rattle.rq_engine.proofs.intervals.RankProblem.of_column.Goals as goal
+use Rattle.rq_fit.proofs.intervals.RankProblem.of_column.Goals as goal
 
 pub returns-in-Err-clause-stopped : goal.returns-in-Err-clause-stopped
 returns-in-Err-clause-stopped g c =

@@ -1,8 +1,8 @@
 use Rattle.std.proofs.Common.{◌≡◌, ◌+◌, arith, sym, subst}
 use Rattle.loss_model.specs.declared.stop.Stop.TheVariants as stops
-use Rattle.rq_engine.specs.Intervals.{AreRightIntervals, asked_at}
-use Rattle.rq_engine.proofs.RankIntervals.{right_more, stops_at}
-use Rattle.rq_engine.proofs.intervals.RankProblem.of_columns.Goals as goal
+use Rattle.rq_fit.specs.Intervals.{AreRightIntervals, asked_at}
+use Rattle.rq_fit.proofs.RankIntervals.{right_more, stops_at}
+use Rattle.rq_fit.proofs.intervals.RankProblem.of_columns.Goals as goal
 
 pub returns-in-Err-clause-stopped : goal.returns-in-Err-clause-stopped
 returns-in-Err-clause-stopped g c =

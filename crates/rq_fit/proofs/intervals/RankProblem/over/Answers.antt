@@ -1,8 +1,8 @@
 use Rattle.std.proofs.Common.{◌+◌, [], sym, subst, take}
 use Rattle.loss_model.specs.declared.stop.Stop.TheVariants as stops
-use Rattle.rq_engine.specs.Intervals.{AreRightIntervals, asked_over}
-use Rattle.rq_engine.proofs.RankIntervals.{right_over, stops_at, stops_over}
-use Rattle.rq_engine.proofs.intervals.RankProblem.over.Goals as goal
+use Rattle.rq_fit.specs.Intervals.{AreRightIntervals, asked_over}
+use Rattle.rq_fit.proofs.RankIntervals.{right_over, stops_at, stops_over}
+use Rattle.rq_fit.proofs.intervals.RankProblem.over.Goals as goal
 
 pub returns-in-Err-clause-stopped : goal.returns-in-Err-clause-stopped
 returns-in-Err-clause-stopped g c =
