@@ -44,7 +44,7 @@ use Rattle.report_text.specs.declared.report.Report.{Report}
 use Rattle.report_text.specs.declared.report.Report.TheVariants as reports
 use Rattle.report_text.specs.declared.report.Refusal.TheVariants as refusals
 use Rattle.report_text.specs.declared.report.Halt.{Halt}
-use Rattle.report_text.specs.declared.report.Halt.TheVariants.{Refused, OutOfMemory, PivotLimit, Overflow, Rejected, NotBuilt}
+use Rattle.report_text.specs.declared.report.Halt.TheVariants.{Refused, OutOfMemory, PivotLimit, Overflow, Rejected}
 use Rattle.rq_input.specs.declared.input.Input.{Input}
 use Rattle.rq_fit.specs.Asks.{IsFitAsk}
 use Rattle.rq_fit.specs.Fit.{IsRightFit, IsRightSegment}
@@ -52,7 +52,7 @@ use Rattle.rq_fit.specs.Intervals.{AreRightIntervals, IsRightInterval, asked_at,
 use Rattle.rq_fit.proofs.Costs.{high_costs, low_costs}
 use Rattle.rq_fit.proofs.Scores.{zip_length}
 use Rattle.rq_engine.specs.Answers.{HasCause, IsCertified, IsRight}
-use Rattle.rq_engine.specs.Built.{IsJobOf}
+use Rattle.rq_engine.specs.Jobs.{IsJobOf}
 use Rattle.rq_engine.specs.Checks.{IsCertOf}
 use Rattle.rq_engine.proofs.Asked.{asked_job}
 use Rattle.cert_law.specs.Laws.{IsUndecided, Passes}
@@ -214,7 +214,6 @@ module _ (same : SameContent) (cert : Cert) (back : IsCertOf (cert_text cert) ce
   undecided (Overflow place trail spill) h = tt
   undecided (Rejected rejection) h =
       absurd (none_false (tests cert) rejection sound (subst (λ (c : Cert). IsFirstFalse (tests c) rejection) (same_cert h.cert h.is) h.first))
-  undecided (NotBuilt part) h = absurd h
 
 pub written : SameContent → (words : List (List ℕ)) (job : FitJob) (bytes : List ℕ) (cert : Cert) → IsJobOf words (jobs.Certify job) → IsRight (jobs.Certify job) bytes (reports.Certificate cert) → Passes cert
 written same words job bytes cert asked right =

@@ -1,13 +1,14 @@
 -- What words say of the job that they ask for, where it fits a table: its formula is short, its range lies in 0 to 1 and
 -- is that for ranks, and it asks for rank intervals with a critical value of at least 0 at quantiles strictly between 0
--- and 1.
-use Rattle.std.proofs.Common.{◌≡◌, ℕ, ◌<◌, ◌^◌, Bool, true, false, ◌||◌, All, List, [], ◌∷◌, Option, Some, None, length, map, option_map, refl, ⊤}
+-- and 1. A generated table is no larger than tables that are made.
+use Rattle.std.proofs.Common.{◌≡◌, ℕ, ◌<◌, ◌^◌, Bool, true, false, ◌||◌, All, List, [], ◌∷◌, Option, Some, None, length, map, option_map, refl}
+use Rattle.std.specs.Prelude.{⊤}
 use Rattle.std.specs.List.{list_any}
 use Rattle.std.proofs.lemmas.List.Elements.{All-cons, All-nil}
 use Rattle.exact_algebra.specs.Fraction.{rational}
 use Rattle.exact_algebra.specs.Rational.{ℚ, le_ℚ}
 use Rattle.frac_core.specs.declared.frac128.Frac128.{Frac128}
-use Rattle.rq_words.specs.Requests.{fit_request, number, rank_request}
+use Rattle.rq_words.specs.Requests.{fit_request, number, rank_request, sample_request}
 use Rattle.rq_words.specs.Requests as request
 use Rattle.rq_words.specs.Words.{zero, one, is_outside}
 use Rattle.rq_words.specs.declared.job.FitJob.{FitJob}
@@ -16,10 +17,12 @@ use Rattle.rq_words.specs.declared.job.Job.TheVariants.{Process, Ranks, Certify,
 use Rattle.rq_words.specs.declared.job.RankAsk.{RankAsk}
 use Rattle.rq_words.proofs.Orders.{process_range, ranks_range, certify_range}
 use Rattle.rq_words.proofs.RankRequests.{IsSoundOf, words_sound}
+use Rattle.rq_words.proofs.Samples.{words_sample}
 use Rattle.rq_words.proofs.ShortWords.{process_formula, ranks_formula, certify_formula}
 use Rattle.report_text.specs.ReportText.{value}
 use Rattle.rq_fit.specs.Asks.{IsFitAsk, IsInner, IsRankAskOf, IsUnitAsk}
-use Rattle.rq_engine.specs.Built.{IsJobOf}
+use Rattle.rq_engine.specs.Jobs.{IsJobOf, sample_fit}
+use Rattle.rq_engine.specs.SampleAsks.{IsSampleAsk}
 
 either_false : (a b : Bool) → (a || b) ≡ false → (a ≡ false) × (b ≡ false)
 either_false true b h = absurd (cc h)
@@ -45,7 +48,8 @@ abbrev pub IsAskedJob : Job → Type 0
 IsAskedJob (Process fit) = IsFitAsk fit × (length fit.formula < 2 ^ 31)
 IsAskedJob (Ranks fit) = IsUnitAsk fit × (length fit.formula < 2 ^ 31)
 IsAskedJob (Certify fit) = IsFitAsk fit × (length fit.formula < 2 ^ 31)
-IsAskedJob _ = ⊤
+IsAskedJob Check = ⊤
+IsAskedJob (Sample sample) = IsSampleAsk sample
 
 pub asked_job : (words : List (List ℕ)) (job : Job) → IsJobOf words job → IsAskedJob job
 asked_job words (Process fit) asked =
@@ -64,4 +68,7 @@ asked_job words (Certify fit) asked =
     let rank = rank_by fit.rank (words_sound (request.Certify f) f refl words asked) in
     (record { low = range.0; ordered = range.1; high = range.2; rank = rank }, certify_formula words f asked)
 asked_job words Check asked = tt
-asked_job words (Sample sample) asked = tt
+asked_job words (Sample sample) asked =
+    let sound = words_sample (sample_request sample) words asked in
+    let ask : IsFitAsk (sample_fit sample) = record { low = sound.range.0; ordered = sound.range.1; high = sound.range.2; rank = tt } in
+    record { ask = ask; rows = sound.rows; columns = sound.columns }

@@ -4,7 +4,7 @@ use Rattle.report_text.specs.declared.report.Place.TheVariants as places
 use Rattle.report_text.specs.declared.report.Refusal.TheVariants.{TooLong, Dependent}
 use Rattle.report_text.specs.declared.report.Refusal.TheVariants as refusals
 use Rattle.report_text.specs.declared.report.Halt.{Halt}
-use Rattle.report_text.specs.declared.report.Halt.TheVariants.{Refused, OutOfMemory, PivotLimit, Overflow, Rejected, NotBuilt}
+use Rattle.report_text.specs.declared.report.Halt.TheVariants.{Refused, OutOfMemory, PivotLimit, Overflow, Rejected}
 use Rattle.rq_words.specs.declared.job.FitJob.{FitJob}
 use Rattle.rq_input.specs.Inputs.{HasInputCause, IsInput}
 use Rattle.rq_input.specs.Rows.{HasRows}
@@ -29,7 +29,6 @@ input_cause job ranked bytes OutOfMemory h = h
 input_cause job ranked bytes (PivotLimit place limit trail) h = absurd h.2.cause
 input_cause job ranked bytes (Overflow place trail spill) h = absurd h.2.cause
 input_cause job ranked bytes (Rejected rejection) h = absurd h.2.cause
-input_cause job ranked bytes (NotBuilt part) h = absurd h
 
 -- and so is why the problem of an input has no fit
 pub problem_cause : (job : FitJob) (ranked : Bool) (bytes : List ℕ) (input : Input) → IsInput job ranked bytes input → HasRows input → (halt : Halt) → HasProblemCause job (length input.design.rows) input.problem halt → HasFitCause job ranked bytes halt
@@ -47,7 +46,6 @@ problem_cause job ranked bytes input is rows OutOfMemory h = tt
 problem_cause job ranked bytes input is rows (PivotLimit place limit trail) h = record { input = input; is = is; rows = rows; cause = h }
 problem_cause job ranked bytes input is rows (Overflow place trail spill) h = record { input = input; is = is; rows = rows; cause = h }
 problem_cause job ranked bytes input is rows (Rejected rejection) h = absurd h
-problem_cause job ranked bytes input is rows (NotBuilt part) h = absurd h
 
 -- why there is no fit is why there are no Wilcoxon scores
 ranks_cause : (job : FitJob) (bytes : List ℕ) (halt : Halt) → HasFitCause job true bytes halt → HasRanksCause job bytes halt
@@ -58,7 +56,6 @@ ranks_cause job bytes (Overflow places.Process trail spill) h = inl h
 ranks_cause job bytes (Overflow (places.Interval column tau) trail spill) h = h
 ranks_cause job bytes (Overflow places.Check trail spill) h = h
 ranks_cause job bytes (Rejected rejection) h = h
-ranks_cause job bytes (NotBuilt part) h = h
 
 pub ranks_input_cause : (job : FitJob) (bytes : List ℕ) (halt : Halt) → HasInputCause job true bytes halt → HasRanksCause job bytes halt
 ranks_input_cause job bytes halt h = ranks_cause job bytes halt (input_cause job true bytes halt h)
@@ -72,4 +69,3 @@ ranks_scoring_cause job bytes input is rows (Overflow places.Process trail spill
 ranks_scoring_cause job bytes input is rows (Overflow (places.Interval column tau) trail spill) h = problem_cause job true bytes input is rows (Overflow (places.Interval column tau) trail spill) h
 ranks_scoring_cause job bytes input is rows (Overflow places.Check trail spill) h = problem_cause job true bytes input is rows (Overflow places.Check trail spill) h
 ranks_scoring_cause job bytes input is rows (Rejected rejection) h = problem_cause job true bytes input is rows (Rejected rejection) h
-ranks_scoring_cause job bytes input is rows (NotBuilt part) h = problem_cause job true bytes input is rows (NotBuilt part) h

@@ -30,7 +30,7 @@ use Rattle.report_text.specs.ReportText.{value}
 use Rattle.report_text.specs.declared.report.Fit.{Fit}
 use Rattle.report_text.specs.declared.report.Refusal.TheVariants as refusals
 use Rattle.report_text.specs.declared.report.Halt.{Halt}
-use Rattle.report_text.specs.declared.report.Halt.TheVariants.{Refused, OutOfMemory, PivotLimit, Overflow, Rejected, NotBuilt}
+use Rattle.report_text.specs.declared.report.Halt.TheVariants.{Refused, OutOfMemory, PivotLimit, Overflow, Rejected}
 use Rattle.rq_input.specs.Inputs.{HasInputCause, IsInput}
 use Rattle.rq_input.specs.declared.input.Input.{Input}
 use Rattle.rq_input.specs.Rows.{HasRows}
@@ -123,7 +123,6 @@ certify_cause job bytes OutOfMemory h = h
 certify_cause job bytes (PivotLimit place limit trail) h = h
 certify_cause job bytes (Overflow place trail spill) h = h
 certify_cause job bytes (Rejected rejection) h = h
-certify_cause job bytes (NotBuilt part) h = h
 
 -- why there is no input is why there is no certificate
 pub input_certify : (job : FitJob) (bytes : List ℕ) (halt : Halt) → HasInputCause job (is_some job.rank) bytes halt → HasCertifyCause job bytes halt
@@ -145,7 +144,6 @@ problem_certified job input OutOfMemory h = h
 problem_certified job input (PivotLimit place limit trail) h = h
 problem_certified job input (Overflow place trail spill) h = h
 problem_certified job input (Rejected rejection) h = h
-problem_certified job input (NotBuilt part) h = h
 
 -- so is a text that is too long
 pub length_certified : (job : FitJob) (input : Input) (cert : Cert) → IsCertified job input cert → (halt : Halt) → IsLengthHalt cert halt → HasCertifiedCause job input halt
@@ -163,7 +161,6 @@ length_certified job input cert is OutOfMemory h = tt
 length_certified job input cert is (PivotLimit place limit trail) h = absurd h
 length_certified job input cert is (Overflow place trail spill) h = absurd h
 length_certified job input cert is (Rejected rejection) h = absurd h
-length_certified job input cert is (NotBuilt part) h = absurd h
 
 -- and what an input lacks is what the bytes lack
 pub certified_certify : (job : FitJob) (bytes : List ℕ) (input : Input) → IsInput job (is_some job.rank) bytes input → HasRows input → (halt : Halt) → HasCertifiedCause job input halt → HasCertifyCause job bytes halt
@@ -187,4 +184,3 @@ certified_certify job bytes input is rows halt h = by halt h
     by (PivotLimit place limit trail) h = problem_cause job ranked bytes input is rows (PivotLimit place limit trail) h
     by (Overflow place trail spill) h = problem_cause job ranked bytes input is rows (Overflow place trail spill) h
     by (Rejected rejection) h = absurd h
-    by (NotBuilt part) h = absurd h

@@ -1,5 +1,5 @@
 -- Stated. What the engine is asked and answers.
-use Rattle.std.specs.Prelude.{◌⊎◌, ℕ, Bool, true, List, is_some, length}
+use Rattle.std.specs.Prelude.{◌⊎◌, ℕ, Bool, true, false, List, is_some, length}
 use Rattle.exact_algebra.specs.Fraction.{rational}
 use Rattle.frac_core.specs.declared.frac128.Frac128.{Frac128}
 use Rattle.loss_model.specs.declared.process.Trail.{Trail}
@@ -25,6 +25,7 @@ use Rattle.rq_fit.specs.Ranks.{AreRanksOf}
 use Rattle.rq_fit.specs.Stops.{HasProblemCause, IsScoringSpill, most}
 use Rattle.rq_engine.specs.Certificates.{IsCertificateOf, IsTooLong, IsWritten}
 use Rattle.rq_engine.specs.Checks.{HasCheckCause, IsCheckedOf}
+use Rattle.rq_engine.specs.Jobs.{sample_fit, sample_table}
 
 -- ---- the report
 
@@ -47,12 +48,13 @@ pub record IsCertified (job : FitJob) (input : Input) (cert : Cert) : Type 0 whe
 abbrev pub IsCertifiedOfBytes : FitJob → List ℕ → Cert → Type 0
 IsCertifiedOfBytes job bytes cert = (input : Input) × IsInput job (is_some job.rank) bytes input × IsCertified job input cert
 
--- the report is right for the job and for the bytes
+-- the report is right for the job and for the bytes; that of a generated table is of the table's own bytes
 abbrev pub IsRight : Job → List ℕ → Report → Type 0
 IsRight (jobs.Process job) bytes (reports.Process fit) = IsFitOfBytes job (is_some job.rank) bytes fit
 IsRight (jobs.Ranks job) bytes (reports.Ranks ranks) = AreRanksOfBytes job bytes ranks
 IsRight (jobs.Certify job) bytes (reports.Certificate cert) = IsCertifiedOfBytes job bytes cert × IsWritten cert
 IsRight jobs.Check bytes (reports.Checked cert) = IsCheckedOf bytes cert
+IsRight (jobs.Sample job) bytes (reports.Sample fit) = IsFitOfBytes (sample_fit job) false (sample_table job) fit
 IsRight _ bytes report = ⊥
 
 -- ---- why there is none
@@ -100,4 +102,4 @@ HasCause (jobs.Process job) bytes halt = HasFitCause job (is_some job.rank) byte
 HasCause (jobs.Ranks job) bytes halt = HasRanksCause job bytes halt
 HasCause (jobs.Certify job) bytes halt = HasCertifyCause job bytes halt
 HasCause jobs.Check bytes halt = HasCheckCause bytes halt
-HasCause _ bytes halt = ⊥
+HasCause (jobs.Sample job) bytes halt = HasFitCause (sample_fit job) false (sample_table job) halt

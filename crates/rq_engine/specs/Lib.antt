@@ -1,5 +1,6 @@
 pub mod Answers
-pub mod Built
 pub mod Certificates
 pub mod Certifying
 pub mod Checks
+pub mod Jobs
+pub mod SampleAsks

@@ -39,7 +39,7 @@ use Rattle.rq_words.specs.declared.job.RankAsk.{RankAsk}
 use Rattle.report_text.specs.declared.report.Fit.{Fit}
 use Rattle.report_text.specs.declared.report.Halt.{Halt}
 use Rattle.report_text.specs.declared.report.Place.TheVariants as places
-use Rattle.report_text.specs.declared.report.Halt.TheVariants.{Refused, OutOfMemory, PivotLimit, Overflow, Rejected, NotBuilt}
+use Rattle.report_text.specs.declared.report.Halt.TheVariants.{Refused, OutOfMemory, PivotLimit, Overflow, Rejected}
 use Rattle.report_text.specs.declared.report.Refusal.TheVariants.{TooLong, Dependent}
 use Rattle.report_text.specs.declared.report.Refusal.TheVariants as refusals
 use Rattle.rq_fit.specs.Fit.{IsOptimalAt, IsOptimalWithin, IsRightFit, IsRightSegment, mixed_dual}
@@ -263,7 +263,6 @@ interval_cause job n p q scores results short scored (Overflow (places.Interval 
     record { process = q; results = results; short = short; scores = scores; scored = scored; stopped = h }
 interval_cause job n p q scores results short scored (Overflow places.Check trail spill) h = absurd h
 interval_cause job n p q scores results short scored (Rejected rejection) h = absurd h
-interval_cause job n p q scores results short scored (NotBuilt part) h = absurd h
 
 -- so of the interval that stops
 stop_by : (job : FitJob) (p : Problem Frac128) (asked : Asked Frac128) (stop : Stop Frac128) → IsFirstStop value most p job.limit (asked_by job.rank p.columns) asked stop

@@ -20,7 +20,7 @@ use Rattle.report_text.specs.ReportText.{value}
 use Rattle.report_text.specs.declared.report.Fit.{Fit}
 use Rattle.report_text.specs.declared.report.Halt.{Halt}
 use Rattle.report_text.specs.declared.report.Place.TheVariants as places
-use Rattle.report_text.specs.declared.report.Halt.TheVariants.{Refused, OutOfMemory, PivotLimit, Overflow, Rejected, NotBuilt}
+use Rattle.report_text.specs.declared.report.Halt.TheVariants.{Refused, OutOfMemory, PivotLimit, Overflow, Rejected}
 use Rattle.rq_input.specs.Rows.{HasRows}
 use Rattle.rq_input.specs.declared.input.Input.{Input}
 use Rattle.rq_fit.specs.Asks.{IsFitAsk, IsUnitAsk}
@@ -86,4 +86,3 @@ scoring_fit job input (Overflow places.Process trail spill) h = inl h
 scoring_fit job input (Overflow (places.Interval column tau) trail spill) h = h
 scoring_fit job input (Overflow places.Check trail spill) h = h
 scoring_fit job input (Rejected rejection) h = h
-scoring_fit job input (NotBuilt part) h = h

@@ -1,5 +1,5 @@
 //! The text of a generated table.
-ghost use Rattle.std.specs.Prelude.{◌≡◌, ◌++◌, ◌+◌, ◌≤◌, ℕ, OnOk, IfOk, codes, decimal};
+ghost use Rattle.std.specs.Prelude.{◌≡◌, ◌++◌, ◌+◌, ◌≤◌, ◌^◌, ℕ, OnOk, IfOk, codes, decimal, length};
 ghost use Rattle.frac_core.specs.Limits.{most_rows};
 ghost use Rattle.table_maker.specs.Tables.{column_name, header_line, number_after, record_line, table_of};
 
@@ -72,12 +72,13 @@ fn put_record(
 }
 
 /// The table of so many records, and of so many columns beside the response, as bytes of CSV: the header
-/// `y,x1,x2` and so on, and records of whole numbers below 1,000, which the number determines. It refuses
-/// only for memory.
+/// `y,x1,x2` and so on, and records of whole numbers below 1,000, which the number determines; 2^26 bytes at
+/// most. It refuses only for memory.
 pub fn make(alloc: Global, number: u32, rows: u32, columns: u32) -> Result<Vec<u8>, OutOfMemory>
     requires rows { rows ≤ most_rows }
     requires columns { columns ≤ 100 }
-    ensures { IfOk result (λ table. table.items ≡ table_of number rows columns) }
+    ensures is { IfOk result (λ table. table.items ≡ table_of number rows columns) }
+    ensures short { IfOk result (λ table. length table.items ≤ 2 ^ 26) }
 {
     let mut table = Vec::new(alloc);
     let mut generator = Generator::new(number);

@@ -1,5 +1,5 @@
 -- One more cell of a record.
-use Rattle.std.proofs.Common.{◌++◌, ◌+◌, ◌≡◌, codes, decimal, arith, refl, ap, ◌∙◌}
+use Rattle.std.proofs.Common.{◌++◌, ◌+◌, codes, decimal, arith, refl, ap, ◌∙◌}
 use Rattle.std.proofs.lemmas.Result.{on_ok_weaker}
 use Rattle.table_maker.specs.Tables.{next_number, number_after, cell_of, cell, next_cell}
 use Rattle.table_maker.proofs.Steps.{one_more, line_made, after_more}
@@ -9,10 +9,11 @@ pub loop-preserved : goal.loop-preserved
 loop-preserved c = λ number k e.
     let i = c.loop.counter in
     let h = c.loop.invariant number k e in
-    let stepped = ap next_number h.1 ∙ after_more number (k + i) (k + 1 + i) (omega arith) in
-    ( one_more (next_cell number) (k + 1) i (k + 1 + i) _ _ _ refl h.0
-      (c.in_ok-put_cell.ensures ∙ ap (λ n. c.loop.table.items ++ (codes "," ++ decimal n)) (c.next_cell-cell.ensures.cell ∙ ap cell_of stepped))
-    , c.next_cell-cell.ensures.number ∙ stepped ∙ ap (number_after number) (omega arith))
+    let stepped = ap next_number h.1 ∙ after_more number (k + i) (k + 1 + i) (omega arith) in (
+      one_more (next_cell number) (k + 1) i (k + 1 + i) _ _ _ refl h.0
+          (c.in_ok-put_cell.ensures ∙ ap (λ n. c.loop.table.items ++ (codes "," ++ decimal n)) (c.next_cell-cell.ensures.cell ∙ ap cell_of stepped)),
+      c.next_cell-cell.ensures.number ∙ stepped ∙ ap (number_after number) (omega arith),
+    )
 
 pub returns-clause-text : goal.returns-clause-text
 returns-clause-text c =
