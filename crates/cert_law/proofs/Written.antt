@@ -197,6 +197,7 @@ module _ (same : SameContent) (cert : Cert) (back : IsCertOf (cert_text cert) ce
   one_report (reports.Ranks ranks) h = absurd h
   one_report (reports.Certificate other) h = absurd h
   one_report (reports.Checked other) h = ap (λ c. reports.Checked c) (same_cert other h.is)
+  one_report (reports.Sample found) h = absurd h
 
   undecided : (halt : Halt) → HasCause jobs.Check (cert_text cert) halt → IsUndecided halt
   undecided (Refused (refusals.Certificate fault)) h = absurd (cc (sym h.1 ∙ back))

@@ -1,5 +1,5 @@
 -- What stops a run was needed.
-use Rattle.std.specs.Prelude.{◌≡◌, ℕ, ◌*◌, Bool, true, is_some, List}
+use Rattle.std.specs.Prelude.{◌≡◌, ℕ, ◌*◌, Bool, true, false, is_some, List}
 use Rattle.std.proofs.Common.{refl, sym, subst, inl, inr}
 use Rattle.exact_algebra.specs.Fraction.{rational}
 use Rattle.frac_core.specs.declared.frac128.Frac128.{Frac128}
@@ -32,9 +32,10 @@ use Rattle.rq_fit.proofs.Costs.{low_costs}
 use Rattle.rq_fit.proofs.Scoring.{unit_ask}
 use Rattle.rq_engine.specs.Answers as engine
 use Rattle.rq_engine.specs.Answers.{LacksFit}
+use Rattle.rq_engine.specs.Jobs.{sample_fit, sample_table}
 use Rattle.rq_engine.proofs.Asked.{asked_job}
 use Rattle.rq_cli.specs.Outcomes.{Stream, IsHalted, WereRead}
-use Rattle.run_laws.specs.NeededOutcomes.{IsFitJob, WasInput, ReachesItsLimit, ReachesItsIntervalLimit, ReachesLimitAt, OverflowsAt}
+use Rattle.run_laws.specs.NeededOutcomes.{IsFitJob, table_bytes, WasInput, ReachesItsLimit, ReachesItsIntervalLimit, ReachesLimitAt, OverflowsAt}
 use Rattle.run_laws.proofs.AskedIntervals.{asked_there, inner_costs}
 use Rattle.run_laws.proofs.Spilled.{of_fit, of_wilcoxon}
 
@@ -77,9 +78,9 @@ module _ (words : List (List ℕ)) (source source' : Stream) where
   abbrev pub IsDependentInput : Type 0
   IsDependentInput = (fit : FitJob) × (input : Input) × WasInput words source source' fit input × ¬ HasFullRank (sample value input.problem)
 
-  was : (fit : FitJob) (input : Input) (ranked : Bool) (bytes : List ℕ) (job : Job) → IsFitJob job fit ranked → WereRead words source source' job bytes → IsInput fit ranked bytes input → WasInput words source source' fit input
+  was : (fit : FitJob) (input : Input) (ranked : Bool) (bytes : List ℕ) (job : Job) → IsFitJob job fit ranked → WereRead words source source' job bytes → IsInput fit ranked (table_bytes job bytes) input → WasInput words source source' fit input
   was fit input ranked bytes job is_job read is =
-      record { ranked = ranked; bytes = bytes; asked = record { job = job; asked = read.asked; built = read.built; is = is_job }; read = (job, read); is = is }
+      record { ranked = ranked; bytes = bytes; asked = record { job = job; asked = read.asked; is = is_job }; read = (job, read); is = is }
 
   pub limit_needed : (place : Place) (limit : ℕ) (trail : Trail Frac128) → IsHalted words source source' (PivotLimit place limit trail) → IsLimited place limit trail
   limit_needed place limit trail h = by h.job h.read h.cause
@@ -104,14 +105,19 @@ module _ (words : List (List ℕ)) (source source' : Stream) where
         reached fit (is_some fit.rank) h.bytes place limit trail (asked_job words (jobs.Certify fit) read.asked).0 cause,
       )
       by jobs.Check read cause = absurd cause
-      by (jobs.Sample job) read cause = absurd cause
+      by (jobs.Sample job) read cause = (
+        sample_fit job,
+        cause.input,
+        was (sample_fit job) cause.input false h.bytes (jobs.Sample job) (refl, refl) read cause.is,
+        reached (sample_fit job) false (sample_table job) place limit trail (asked_job words (jobs.Sample job) read.asked).ask cause,
+      )
 
   -- ---- dependent columns
 
   pub dependence_needed : (combination : List Frac128) → IsHalted words source source' (Refused (Dependent combination)) → IsDependentInput
   dependence_needed combination h = by h.job h.read h.cause
     where
-      of : (fit : FitJob) (ranked : Bool) (job : Job) → IsFitJob job fit ranked → WereRead words source source' job h.bytes → LacksFit fit ranked h.bytes (Refused (Dependent combination)) → IsDependentInput
+      of : (fit : FitJob) (ranked : Bool) (job : Job) → IsFitJob job fit ranked → WereRead words source source' job h.bytes → LacksFit fit ranked (table_bytes job h.bytes) (Refused (Dependent combination)) → IsDependentInput
       of fit ranked job is_job read cause =
           (fit, cause.input, was fit cause.input ranked h.bytes job is_job read cause.is, dependent (sample value cause.input.problem) _ cause.cause.dependence)
 
@@ -120,7 +126,7 @@ module _ (words : List (List ℕ)) (source source' : Stream) where
       by (jobs.Ranks fit) read cause = of fit true (jobs.Ranks fit) (refl, refl) read cause
       by (jobs.Certify fit) read cause = of fit (is_some fit.rank) (jobs.Certify fit) (refl, refl) read cause
       by jobs.Check read cause = absurd cause
-      by (jobs.Sample job) read cause = absurd cause
+      by (jobs.Sample job) read cause = of (sample_fit job) false (jobs.Sample job) (refl, refl) read cause
 
   -- ---- an overflow
 
@@ -128,25 +134,25 @@ module _ (words : List (List ℕ)) (source source' : Stream) where
   overflow_needed places.Check trail spill h = tt
   overflow_needed places.Process trail spill h = by h.job h.cause
     where
-      of : (fit : FitJob) (ranked : Bool) → LacksFit fit ranked h.bytes (Overflow places.Process trail spill) → DoesOverflow value most spill
-      of fit ranked k = of_fit value most spill k.input.problem _ _ _ _ trail k.cause
+      of : (fit : FitJob) (ranked : Bool) (bytes : List ℕ) → LacksFit fit ranked bytes (Overflow places.Process trail spill) → DoesOverflow value most spill
+      of fit ranked bytes k = of_fit value most spill k.input.problem _ _ _ _ trail k.cause
 
       by : (job : Job) → engine.HasCause job h.bytes (Overflow places.Process trail spill) → DoesOverflow value most spill
-      by (jobs.Process fit) cause = of fit (is_some fit.rank) cause
-      by (jobs.Ranks fit) (inl cause) = of fit true cause
+      by (jobs.Process fit) cause = of fit (is_some fit.rank) h.bytes cause
+      by (jobs.Ranks fit) (inl cause) = of fit true h.bytes cause
       by (jobs.Ranks fit) (inr cause) = of_wilcoxon value most spill cause.input.problem cause.operation.segments cause.operation.operation
-      by (jobs.Certify fit) cause = of fit (is_some fit.rank) cause
+      by (jobs.Certify fit) cause = of fit (is_some fit.rank) h.bytes cause
       by jobs.Check cause = absurd cause
-      by (jobs.Sample job) cause = absurd cause
+      by (jobs.Sample job) cause = of (sample_fit job) false (sample_table job) cause
   overflow_needed (places.Interval column tau) trail spill h = by h.job h.cause
     where
-      of : (fit : FitJob) (ranked : Bool) → LacksFit fit ranked h.bytes (Overflow (places.Interval column tau) trail spill) → DoesOverflow value most spill
-      of fit ranked k =
+      of : (fit : FitJob) (ranked : Bool) (bytes : List ℕ) → LacksFit fit ranked bytes (Overflow (places.Interval column tau) trail spill) → DoesOverflow value most spill
+      of fit ranked bytes k =
           of_interval value most spill k.input.problem column (rational (value tau)) (rational (value k.cause.stopped.0)) fit.limit trail k.cause.stopped.1.cause
 
       by : (job : Job) → engine.HasCause job h.bytes (Overflow (places.Interval column tau) trail spill) → DoesOverflow value most spill
-      by (jobs.Process fit) cause = of fit (is_some fit.rank) cause
-      by (jobs.Ranks fit) cause = of fit true cause
-      by (jobs.Certify fit) cause = of fit (is_some fit.rank) cause
+      by (jobs.Process fit) cause = of fit (is_some fit.rank) h.bytes cause
+      by (jobs.Ranks fit) cause = of fit true h.bytes cause
+      by (jobs.Certify fit) cause = of fit (is_some fit.rank) h.bytes cause
       by jobs.Check cause = absurd cause
-      by (jobs.Sample job) cause = absurd cause
+      by (jobs.Sample job) cause = of (sample_fit job) false (sample_table job) cause

@@ -21,26 +21,27 @@ use Rattle.rq_input.specs.Inputs.{HasInputCause, IsInput}
 use Rattle.rq_input.specs.declared.input.Input.{Input}
 use Rattle.rq_engine.specs.Answers.{IsRight}
 use Rattle.rq_engine.specs.Jobs.{IsJobOf}
-use Rattle.rq_cli.specs.Outcomes.{Stream, IsRun, IsHalted}
+use Rattle.rq_cli.specs.Outcomes.{Stream, IsRun, IsHalted, Reads}
 use Rattle.rq_cli.specs.declared.outcome.Outcome.{Outcome}
 use Rattle.rq_cli.specs.declared.outcome.Outcome.TheVariants.{Done, Refused, OutOfMemory, PivotLimit, Overflow}
-use Rattle.run_laws.specs.NeededOutcomes.{AskFit, WasInput, ReachesLimitAt, OverflowsAt}
+use Rattle.run_laws.specs.NeededOutcomes.{AskFit, WasInput, ReachesLimitAt, OverflowsAt, table_bytes}
 
 -- no count of faults rose
 abbrev pub NoneRose : (source source' out out' err err' : Stream) → Type 0
 NoneRose source source' out out' err err' =
     ¬ Rose source.faults source'.faults × ¬ Rose out.faults out'.faults × ¬ Rose err.faults err'.faults
 
--- the words ask for a fit of a table that this version does; the bytes that the source tells are not too many, have no
--- fault as a table, by the formula, as a design, in what smooths add or as a problem, and their problem has full rank
+-- the words ask for a fit of a table; where it comes from the source, that tells these bytes and not too many; the table's
+-- bytes have no fault as a table, by the formula, as a design, in what smooths add or as a problem, and their problem has
+-- full rank
 pub record IsWellFormed (words : List (List ℕ)) (source : Stream) (bytes : List ℕ) : Type 0 where
   pub fit : FitJob
   pub ranked : Bool
   pub asked : AskFit words fit ranked
-  pub told : source.bytes ≡ Some bytes
-  pub short : length bytes ≤ most_bytes
-  pub sound : (fit : FitJob) (ranked : Bool) → AskFit words fit ranked → (refusal : Refusal) → ¬ HasInputCause fit ranked bytes (halts.Refused refusal)
-  pub rank : (fit : FitJob) (ranked : Bool) (input : Input) → AskFit words fit ranked → IsInput fit ranked bytes input → HasFullRank (sample value input.problem)
+  pub told : Reads asked.job → source.bytes ≡ Some bytes
+  pub short : Reads asked.job → length bytes ≤ most_bytes
+  pub sound : (fit : FitJob) (ranked : Bool) (asked : AskFit words fit ranked) (refusal : Refusal) → ¬ HasInputCause fit ranked (table_bytes asked.job bytes) (halts.Refused refusal)
+  pub rank : (fit : FitJob) (ranked : Bool) (input : Input) (asked : AskFit words fit ranked) → IsInput fit ranked (table_bytes asked.job bytes) input → HasFullRank (sample value input.problem)
 
 -- it has the right report, or reaches its limit, or an operation overflows, or its certificate is too long; want of
 -- memory is the free answer

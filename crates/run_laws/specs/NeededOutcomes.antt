@@ -1,5 +1,5 @@
 -- Law. A run that stops for a limit, for an overflow or for dependent columns had to.
-use Rattle.std.specs.Prelude.{◌≡◌, ℕ, ◌*◌, ◌<◌, Bool, true, is_some, List, ⊤}
+use Rattle.std.specs.Prelude.{◌≡◌, ℕ, ◌*◌, ◌<◌, Bool, true, false, is_some, List, ⊤}
 use Rattle.exact_algebra.specs.Fraction.{rational}
 use Rattle.exact_algebra.specs.Rational.{ℚ}
 use Rattle.frac_core.specs.declared.frac128.Frac128.{Frac128}
@@ -20,31 +20,36 @@ use Rattle.report_text.specs.declared.report.Refusal.TheVariants.{Dependent}
 use Rattle.rq_input.specs.Inputs.{IsInput}
 use Rattle.rq_input.specs.declared.input.Input.{Input}
 use Rattle.rq_fit.specs.Stops.{most}
-use Rattle.rq_engine.specs.Built.{IsBuilt, IsJobOf}
+use Rattle.rq_engine.specs.Jobs.{IsJobOf, sample_fit, sample_table}
 use Rattle.rq_cli.specs.Outcomes.{Stream, IsRun, WereRead}
 use Rattle.rq_cli.specs.declared.outcome.Outcome.TheVariants.{Refused, PivotLimit, Overflow}
 
--- the job is this fit of a table, with or without ranks, as a report or as a certificate
+-- the job is this fit of a table, with or without ranks, as a report, as a certificate or as a summary
 abbrev pub IsFitJob : Job → FitJob → Bool → Type 0
 IsFitJob (jobs.Process job) fit ranked = (job ≡ fit) × (is_some job.rank ≡ ranked)
 IsFitJob (jobs.Ranks job) fit ranked = (job ≡ fit) × (true ≡ ranked)
 IsFitJob (jobs.Certify job) fit ranked = (job ≡ fit) × (is_some job.rank ≡ ranked)
-IsFitJob _ fit ranked = ⊥
+IsFitJob (jobs.Sample job) fit ranked = (sample_fit job ≡ fit) × (false ≡ ranked)
+IsFitJob jobs.Check fit ranked = ⊥
 
--- the words ask for it, and this version does the job
+-- the bytes of the table that a job fits: those of the generated table, or those that it took from the source
+abbrev pub table_bytes : Job → List ℕ → List ℕ
+table_bytes (jobs.Sample job) bytes = sample_table job
+table_bytes job bytes = bytes
+
+-- the words ask for it
 pub record AskFit (words : List (List ℕ)) (fit : FitJob) (ranked : Bool) : Type 0 where
   pub job : Job
   pub asked : IsJobOf words job
-  pub built : IsBuilt job
   pub is : IsFitJob job fit ranked
 
--- the words ask for a fit, and this is the input that the bytes of the source are for it
+-- the words ask for a fit, and this is the input that the bytes of its table are for it
 pub record WasInput (words : List (List ℕ)) (before now : Stream) (fit : FitJob) (input : Input) : Type 0 where
   pub ranked : Bool
   pub bytes : List ℕ
   pub asked : AskFit words fit ranked
   pub read : (job : Job) × WereRead words before now job bytes
-  pub is : IsInput fit ranked bytes input
+  pub is : IsInput fit ranked (table_bytes asked.job bytes) input
 
 -- its lawful trail has as many pivots as the limit of the words says, with one more left; and the limit is less than
 -- twice the bases after the first
