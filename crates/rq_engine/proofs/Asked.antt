@@ -1,7 +1,8 @@
 -- What words say of the job that they ask for, where it fits a table: its formula is short, its range lies in 0 to 1 and
 -- is that for ranks, and it asks for rank intervals with a critical value of at least 0 at quantiles strictly between 0
 -- and 1.
-use Rattle.std.proofs.Common.{◌≡◌, ℕ, ◌<◌, ◌^◌, Bool, true, false, ◌||◌, All, List, [], ◌∷◌, Option, Some, None, length, map, option_map, refl, ⊤}
+use Rattle.std.proofs.Common.{◌≡◌, ℕ, ◌<◌, ◌^◌, Bool, true, false, ◌||◌, All, List, [], ◌∷◌, Option, Some, None, length, map, option_map, refl}
+use Rattle.std.specs.Prelude.{⊤}
 use Rattle.std.specs.List.{list_any}
 use Rattle.std.proofs.lemmas.List.Elements.{All-cons, All-nil}
 use Rattle.exact_algebra.specs.Fraction.{rational}
@@ -10,7 +11,6 @@ use Rattle.frac_core.specs.declared.frac128.Frac128.{Frac128}
 use Rattle.rq_words.specs.Requests.{fit_request, number, rank_request}
 use Rattle.rq_words.specs.Requests as request
 use Rattle.rq_words.specs.Words.{zero, one, is_outside}
-use Rattle.rq_words.specs.declared.job.FitJob.{FitJob}
 use Rattle.rq_words.specs.declared.job.Job.{Job}
 use Rattle.rq_words.specs.declared.job.Job.TheVariants.{Process, Ranks, Certify, Check, Sample}
 use Rattle.rq_words.specs.declared.job.RankAsk.{RankAsk}
