@@ -11,7 +11,6 @@ use Rattle.frac_core.specs.declared.frac128.Frac128.{Frac128}
 use Rattle.rq_words.specs.Requests.{fit_request, number, rank_request, sample_request}
 use Rattle.rq_words.specs.Requests as request
 use Rattle.rq_words.specs.Words.{zero, one, is_outside}
-use Rattle.rq_words.specs.declared.job.FitJob.{FitJob}
 use Rattle.rq_words.specs.declared.job.Job.{Job}
 use Rattle.rq_words.specs.declared.job.Job.TheVariants.{Process, Ranks, Certify, Check, Sample}
 use Rattle.rq_words.specs.declared.job.RankAsk.{RankAsk}

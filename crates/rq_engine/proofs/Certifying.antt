@@ -1,6 +1,5 @@
 -- The certificate of a right fit, and why there is none.
-use Rattle.std.proofs.Common.{◌≡◌, ◌⊎◌, ◌<◌, ◌≤◌, ◌+◌, ◌^◌, ℕ, zero, suc, Bool, Result, Ok, Err, IfErr, List, [], ◌∷◌, ◌++◌, All, Contains, get_or, is_some, length, map, take, slice_index, arith, refl, sym, ap, subst, ◌∙◌}
-use Rattle.std.specs.List.{AllZip}
+use Rattle.std.proofs.Common.{◌≡◌, ◌<◌, ◌≤◌, ℕ, suc, Bool, Result, Ok, Err, IfErr, List, [], ◌∷◌, All, Contains, get_or, is_some, length, map, slice_index, arith, refl, subst, ◌∙◌}
 use Rattle.std.proofs.lemmas.List.Elements.{All-cons, All-nil}
 use Rattle.exact_algebra.specs.Fraction.{Fraction, rational}
 use Rattle.exact_algebra.specs.Rational.{ℚ}
@@ -24,7 +23,6 @@ use Rattle.rank_walk.specs.RankWalks.{Way, rise, fall}
 use Rattle.rank_inversion.specs.declared.column_test.Asked.{Asked}
 use Rattle.cert_text.specs.Kept.{is_finite, is_outside, IsKeptEnd, IsKeptInterval, IsKeptSegment}
 use Rattle.cert_text.specs.declared.cert.Cert.{Cert}
-use Rattle.rankscores.specs.Scores.{IsScorable}
 use Rattle.rq_words.specs.declared.job.FitJob.{FitJob}
 use Rattle.report_text.specs.ReportText.{value}
 use Rattle.report_text.specs.declared.report.Fit.{Fit}
@@ -35,7 +33,7 @@ use Rattle.rq_input.specs.Inputs.{HasInputCause, IsInput}
 use Rattle.rq_input.specs.declared.input.Input.{Input}
 use Rattle.rq_input.specs.Rows.{HasRows}
 use Rattle.rq_fit.specs.Fit.{IsRightFit}
-use Rattle.rq_fit.specs.Intervals.{AreRightIntervals, IsRightInterval, asked_by}
+use Rattle.rq_fit.specs.Intervals.{AreRightIntervals, asked_by}
 use Rattle.rq_fit.specs.Stops.{HasProblemCause}
 use Rattle.rq_fit.proofs.Fits.{process_scorable}
 use Rattle.rq_engine.specs.Answers.{HasCertifyCause, HasFitCause, IsCertified}

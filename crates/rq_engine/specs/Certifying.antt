@@ -1,5 +1,5 @@
 -- Inner. Why an input has no certificate, step by step.
-use Rattle.std.specs.Prelude.{ℕ, length, ⊤}
+use Rattle.std.specs.Prelude.{length, ⊤}
 use Rattle.cert_text.specs.declared.cert.Cert.{Cert}
 use Rattle.rq_input.specs.declared.input.Input.{Input}
 use Rattle.rq_words.specs.declared.job.FitJob.{FitJob}
