@@ -88,8 +88,8 @@ module _ (words : List (List ℕ)) (source source' : Stream) (bytes : List ℕ) 
   were_told job asked reads other taken =
       (subst (λ o. TakesAll o source'.bytes other) (w.told (also_reads words w.asked.job job (one_request words w.asked.job job w.asked.asked asked) reads)) taken).0
 
-  short : ¬ IsTooLong words source source'
-  short h =
+  none_beyond : ¬ IsTooLong words source source'
+  none_beyond h =
       let reads = also_reads words w.asked.job h.job (one_request words w.asked.job h.job w.asked.asked h.asked) h.reads in
       let long : most_bytes + 1 ≤ length bytes = (subst (λ o. TakesFirst o source'.bytes (most_bytes + 1)) (w.told reads) h.came).0 in
       let few : length bytes ≤ most_bytes = w.short reads in
@@ -168,7 +168,7 @@ module _ (words : List (List ℕ)) (source source' : Stream) (bytes : List ℕ) 
       by (Done report) run =
           let a = run.cause in
           (a.job, a.read.asked, right_same a.job report a.bytes bytes (same_table a.job a.bytes a.read) a.right)
-      by (Refused refusals.TooLong) run = absurd (short run.cause)
+      by (Refused refusals.TooLong) run = absurd (none_beyond run.cause)
       by (Refused (refusals.Table fault)) run = absurd (not_refused (refusals.Table fault) (λ n. λ e. cc e) run.cause)
       by (Refused (refusals.Formula fault)) run = absurd (not_refused (refusals.Formula fault) (λ n. λ e. cc e) run.cause)
       by (Refused refusals.RankWithPenalty) run = absurd (not_refused refusals.RankWithPenalty (λ n. λ e. cc e) run.cause)
