@@ -45,7 +45,7 @@ use Rattle.run_laws.proofs.Needed.{limit_needed, overflow_needed}
 
 -- words ask for one request
 module _ (words : List (List ℕ)) where
-  one_request : (job other : Job) → IsJobOf words job → IsJobOf words other → request_of job ≡ request_of other
+  pub one_request : (job other : Job) → IsJobOf words job → IsJobOf words other → request_of job ≡ request_of other
   one_request job other asked again = cc (sym asked ∙ again)
 
   -- a job of these words is done where one is
@@ -61,7 +61,7 @@ module _ (words : List (List ℕ)) where
   also_built (jobs.Sample a) (jobs.Sample b) same built = absurd built
 
   -- words that ask for a fit ask for no check
-  no_check : (job : Job) (fit : FitJob) (ranked : Bool) → IsFitJob job fit ranked → request_of jobs.Check ≡ request_of job → ⊥
+  pub no_check : (job : Job) (fit : FitJob) (ranked : Bool) → IsFitJob job fit ranked → request_of jobs.Check ≡ request_of job → ⊥
   no_check (jobs.Process a) fit ranked is same = absurd (cc same)
   no_check (jobs.Ranks a) fit ranked is same = absurd (cc same)
   no_check (jobs.Certify a) fit ranked is same = absurd (cc same)
@@ -70,14 +70,16 @@ module _ (words : List (List ℕ)) where
 
 -- ---- an input that is well formed
 
+module _ (source source' : Stream) (bytes : List ℕ) (told : source.bytes ≡ Some bytes) where
+  -- the bytes that were read are those that the source tells
+  pub were_told : (other : List ℕ) → TakesAll source.bytes source'.bytes other → other ≡ bytes
+  were_told other taken = (subst (λ o. TakesAll o source'.bytes other) told taken).0
+
+  -- and not more came
+  pub none_beyond : length bytes ≤ most_bytes → ¬ TakesFirst source.bytes source'.bytes (most_bytes + 1)
+  none_beyond few came = let long : most_bytes + 1 ≤ length bytes = (subst (λ o. TakesFirst o source'.bytes (most_bytes + 1)) told came).0 in omega (arith, long, few)
+
 module _ (words : List (List ℕ)) (source source' : Stream) (bytes : List ℕ) (w : IsWellFormed words source bytes) where
-  -- the bytes that were read are these
-  were_told : (other : List ℕ) → TakesAll source.bytes source'.bytes other → other ≡ bytes
-  were_told other taken = (subst (λ o. TakesAll o source'.bytes other) w.told taken).0
-
-  short : ¬ TakesFirst source.bytes source'.bytes (most_bytes + 1)
-  short came = let long : most_bytes + 1 ≤ length bytes = (subst (λ o. TakesFirst o source'.bytes (most_bytes + 1)) w.told came).0 in omega (arith, long, w.short)
-
   sound : (fit : FitJob) (ranked : Bool) (refusal : Refusal) (other : List ℕ) → other ≡ bytes → AskFit words fit ranked → ¬ HasFitCause fit ranked other (halts.Refused refusal)
   sound fit ranked refusal other same asked cause = by refusal (subst (λ b. HasFitCause fit ranked b (halts.Refused refusal)) same cause)
     where
@@ -99,7 +101,7 @@ module _ (words : List (List ℕ)) (source source' : Stream) (bytes : List ℕ) 
 
   fit_refused : (fit : FitJob) (ranked : Bool) (job : Job) → IsFitJob job fit ranked → (refusal : Refusal) (other : List ℕ) → WereRead words source source' job other → ¬ HasFitCause fit ranked other (halts.Refused refusal)
   fit_refused fit ranked job is refusal other read cause =
-      sound fit ranked refusal other (were_told other read.whole) (record { job = job; asked = read.asked; built = read.built; is = is }) cause
+      sound fit ranked refusal other (were_told source source' bytes w.told other read.whole) (record { job = job; asked = read.asked; built = read.built; is = is }) cause
 
   -- the certificate that is too long aside, no certificate is refused but as a fit is
   certify_refused : (fit : FitJob) (refusal : Refusal) → ((n : ℕ) → refusal ≢ refusals.CertTooLong n) → (other : List ℕ) → WereRead words source source' (jobs.Certify fit) other → ¬ HasCertifyCause fit other (halts.Refused refusal)
@@ -141,8 +143,8 @@ module _ (words : List (List ℕ)) (source source' : Stream) (bytes : List ℕ) 
       by : (outcome : Outcome) → IsRun words source source' out out' err err' outcome → IsAnswer words source source' bytes outcome
       by (Done report) run =
           let a = run.cause in
-          (a.job, a.read.asked, subst (λ b. IsRight a.job b report) (were_told a.bytes a.read.whole) a.right)
-      by (Refused refusals.TooLong) run = absurd (short run.cause.came)
+          (a.job, a.read.asked, subst (λ b. IsRight a.job b report) (were_told source source' bytes w.told a.bytes a.read.whole) a.right)
+      by (Refused refusals.TooLong) run = absurd (none_beyond source source' bytes w.told w.short run.cause.came)
       by (Refused (refusals.Table fault)) run = absurd (not_refused (refusals.Table fault) (λ n. λ e. cc e) run.cause)
       by (Refused (refusals.Formula fault)) run = absurd (not_refused (refusals.Formula fault) (λ n. λ e. cc e) run.cause)
       by (Refused refusals.RankWithPenalty) run = absurd (not_refused refusals.RankWithPenalty (λ n. λ e. cc e) run.cause)
@@ -170,7 +172,7 @@ module _ (words : List (List ℕ)) (source source' : Stream) (bytes : List ℕ) 
 
 module _ (words : List (List ℕ)) (source source' : Stream) where
   -- where the words ask for a fit, a right report is of a fit of an input that was read
-  report_fit : (first : FitJob) (kind : Bool) → AskFit words first kind → (report : Report) → IsAnswered words source source' report → (fit : FitJob) × (input : Input) × (f : Fit) × WasInput words source source' fit input × IsFitOf fit input f
+  pub report_fit : (first : FitJob) (kind : Bool) → AskFit words first kind → (report : Report) → IsAnswered words source source' report → (fit : FitJob) × (input : Input) × (f : Fit) × WasInput words source source' fit input × IsFitOf fit input f
   report_fit first kind asked report h = by h.job report h.read h.right
     where
       was : (fit : FitJob) (input : Input) (ranked : Bool) (job : Job) → IsFitJob job fit ranked → WereRead words source source' job h.bytes → IsInput fit ranked h.bytes input → WasInput words source source' fit input
