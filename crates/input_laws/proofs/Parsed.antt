@@ -33,7 +33,7 @@ module _ (one : OneFormula) (text : Text) (names : List Text) where
       let tree = one_tree p.formula q.formula p.is q.is in
       let meaning : p.meaning ≡ q.meaning = same_meaning p.meaning q.meaning (sym p.means ∙ ap (meaning_of text names) tree ∙ q.means) in
       let ordered =
-          one_order size q.meaning p.ordered q.ordered p.by_size.sorted (subst (λ m. IsStableByKey size nat_cmp m p.ordered) meaning p.by_size.stable) q.by_size.sorted q.by_size.stable in
+      one_order size q.meaning p.ordered q.ordered p.by_size.sorted (subst (λ m. IsStableByKey size nat_cmp m p.ordered) meaning p.by_size.stable) q.by_size.sorted q.by_size.stable in
       let response = p.response ∙ ap (λ f. name_at names (column_at text names f.head.response)) tree ∙ sym q.response in
       let intercept = p.intercept ∙ ap (λ f. has_intercept f.items) tree ∙ sym q.intercept in
       let terms = p.terms ∙ ap (λ f. map (spoken_term names (variables_in text names f)) p.ordered) tree ∙ ap (map (spoken_term names (variables_in text names q.formula))) ordered ∙ sym q.terms in

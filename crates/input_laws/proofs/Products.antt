@@ -22,7 +22,7 @@ reduces_within range v n d w some same =
     let e : v.num *ℤ pos d ≡ n *ℤ pos v.den = cross_from v (record { num = n; den = d }) w.positive some same in
     let sizes : unsigned_abs v.num * d ≡ unsigned_abs n * v.den = sym (unsigned_abs-mul v.num (pos d)) ∙ ap unsigned_abs e ∙ unsigned_abs-mul n (pos v.den) in
     let divides : v.den ∣ d =
-        dvd_from_coprime v.den (unsigned_abs v.num) d (gcd_comm v.den (unsigned_abs v.num) ∙ w.lowest) (subst (λ m. v.den ∣ m) (sym sizes) (dvd-mul_left v.den (unsigned_abs n))) in
+    dvd_from_coprime v.den (unsigned_abs v.num) d (gcd_comm v.den (unsigned_abs v.num) ∙ w.lowest) (subst (λ m. v.den ∣ m) (sym sizes) (dvd-mul_left v.den (unsigned_abs n))) in
     by (d / v.den) (quotient_pos d v.den some divides) (div-mul_cancel v.den divides) sizes
   where
     associate : (a b c : ℕ) → a * (b * c) ≡ (a * b) * c
@@ -31,8 +31,8 @@ reduces_within range v n d w some same =
     by : (k : ℕ) → 0 < k → k * v.den ≡ d → unsigned_abs v.num * d ≡ unsigned_abs n * v.den → ReducesWithin range n d
     by k kp whole sizes =
         let num : unsigned_abs n ≡ unsigned_abs v.num * k =
-            sym (mul-div_cancel (unsigned_abs n) w.positive) ∙ ap (λ m. m / v.den) (sym sizes ∙ ap (λ m. unsigned_abs v.num * m) (sym whole) ∙ associate (unsigned_abs v.num) k v.den)
-            ∙ mul-div_cancel (unsigned_abs v.num * k) w.positive in
+        sym (mul-div_cancel (unsigned_abs n) w.positive) ∙ ap (λ m. m / v.den) (sym sizes ∙ ap (λ m. unsigned_abs v.num * m) (sym whole) ∙ associate (unsigned_abs v.num) k v.den)
+        ∙ mul-div_cancel (unsigned_abs v.num * k) w.positive in
         let den : d ≡ v.den * k = sym whole ∙ mul_comm k v.den in
         let divisor : gcd (unsigned_abs n) d ≡ k = ap₂ gcd num den ∙ gcd-mul (unsigned_abs v.num) v.den k kp ∙ ap (λ m. m * k) w.lowest ∙ one-mul k in
         record {
