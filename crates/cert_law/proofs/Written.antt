@@ -1,5 +1,5 @@
 -- The certificate of a right fit is sound, within the limits, and passes.
-use Rattle.std.proofs.Common.{◌≡◌, ◌≤◌, ◌*◌, ◌^◌, ℕ, List, [], ◌∷◌, ◌++◌, All, Option, Some, None, length, map, option_map, slice_index, arith, refl, sym, ap, subst, ◌∙◌}
+use Rattle.std.proofs.Common.{◌≡◌, ◌≤◌, ◌*◌, ◌^◌, ℕ, List, [], ◌∷◌, All, Option, Some, None, length, map, option_map, slice_index, arith, refl, sym, ap, subst, ◌∙◌}
 use Rattle.std.specs.List.{range_with_len}
 use Rattle.std.proofs.lemmas.List.{length-append, length-map}
 use Rattle.std.proofs.lemmas.List.FromFn.{length-range_with_len}
@@ -27,12 +27,7 @@ use Rattle.cert_text.specs.Laws.{SameContent}
 use Rattle.cert_text.specs.Limits.{IsWithinLimits}
 use Rattle.cert_text.specs.Trees.{cert_text}
 use Rattle.cert_text.specs.declared.cert.Cert.{Cert}
-use Rattle.cert_checker.specs.Certificates.{tests}
 use Rattle.cert_checker.specs.Intervals.{beyond_list}
-use Rattle.cert_checker.specs.Tests.{Part, Test, ArePartsTrue, AreTrue, Holds}
-use Rattle.cert_checker.specs.Verdicts.{IsFirstFalse}
-use Rattle.cert_checker.specs.Formulas.{worth}
-use Rattle.cert_checker.specs.declared.verdict.Rejection.{Rejection}
 use Rattle.rq_words.specs.Requests.{fit_request, number, rank_request}
 use Rattle.rq_words.specs.declared.job.FitJob.{FitJob}
 use Rattle.rq_words.specs.declared.job.RankAsk.{RankAsk}
@@ -40,24 +35,20 @@ use Rattle.rq_words.specs.declared.job.Job.TheVariants as jobs
 use Rattle.rq_words.proofs.FewQuantiles.{certify_few}
 use Rattle.report_text.specs.ReportText.{value}
 use Rattle.report_text.specs.declared.report.Fit.{Fit}
-use Rattle.report_text.specs.declared.report.Report.{Report}
 use Rattle.report_text.specs.declared.report.Report.TheVariants as reports
-use Rattle.report_text.specs.declared.report.Refusal.TheVariants as refusals
-use Rattle.report_text.specs.declared.report.Halt.{Halt}
-use Rattle.report_text.specs.declared.report.Halt.TheVariants.{Refused, OutOfMemory, PivotLimit, Overflow, Rejected}
 use Rattle.rq_input.specs.declared.input.Input.{Input}
 use Rattle.rq_fit.specs.Asks.{IsFitAsk}
 use Rattle.rq_fit.specs.Fit.{IsRightFit, IsRightSegment}
 use Rattle.rq_fit.specs.Intervals.{AreRightIntervals, IsRightInterval, asked_at, asked_by, asked_over}
 use Rattle.rq_fit.proofs.Costs.{high_costs, low_costs}
 use Rattle.rq_fit.proofs.Scores.{zip_length}
-use Rattle.rq_engine.specs.Answers.{HasCause, IsCertified, IsRight}
+use Rattle.rq_engine.specs.Answers.{IsCertified, IsRight}
 use Rattle.rq_engine.specs.Jobs.{IsJobOf}
-use Rattle.rq_engine.specs.Checks.{IsCertOf}
 use Rattle.rq_engine.proofs.Asked.{asked_job}
-use Rattle.cert_law.specs.Laws.{IsUndecided, Passes}
+use Rattle.cert_law.specs.Laws.{Passes}
 use Rattle.cert_law.specs.Sound.{AreCosts, AreSound, IsSound, IsSoundEnding, IsSoundInterval, IsSoundSegment}
 use Rattle.cert_law.proofs.All.{all_true}
+use Rattle.cert_law.proofs.Checking.{one_report, undecided}
 use Rattle.cert_law.proofs.Lengths.{cert_long}
 
 -- ---- segments
@@ -172,53 +163,9 @@ module _ (words : List (List ℕ)) (job : FitJob) (asked : IsJobOf words (jobs.C
           intervals = omega (arith, many, zipped, few_asked certified.fit.problem.columns right.shaped.columns job.rank refl);
         }
 
--- ---- what `check` answers
-
-at_test : (before : List Test) (t : Test) (after : List Test) → AreTrue (before ++ t ∷ after) → ArePartsTrue t.parts
-at_test [] t after h = h.0
-at_test (x ∷ before) t after h = at_test before t after h.1
-
-at_part : (before : List Part) (p : Part) (after : List Part) → ArePartsTrue (before ++ p ∷ after) → Holds p.relation (worth p.left) (worth p.right)
-at_part [] p after h = h.0
-at_part (x ∷ before) p after h = at_part before p after h.1
-
--- tests that are all true have no first that is false
-none_false : (ts : List Test) (r : Rejection) → AreTrue ts → IsFirstFalse ts r → ⊥
-none_false ts r all h =
-    let parts = at_test h.before h.test h.after (subst AreTrue h.tests all) in
-    h.refused.false (at_part h.refused.before h.refused.part h.refused.after (subst ArePartsTrue h.refused.parts parts))
-
-module _ (same : SameContent) (cert : Cert) (back : IsCertOf (cert_text cert) cert) (sound : AreTrue (tests cert)) where
-  same_cert : (other : Cert) → IsCertOf (cert_text cert) other → other ≡ cert
-  same_cert other h = same other cert (cc (sym h ∙ back))
-
-  one_report : (report : Report) → IsRight jobs.Check (cert_text cert) report → report ≡ reports.Checked cert
-  one_report (reports.Process found) h = absurd h
-  one_report (reports.Ranks ranks) h = absurd h
-  one_report (reports.Certificate other) h = absurd h
-  one_report (reports.Checked other) h = ap (λ c. reports.Checked c) (same_cert other h.is)
-  one_report (reports.Sample found) h = absurd h
-
-  undecided : (halt : Halt) → HasCause jobs.Check (cert_text cert) halt → IsUndecided halt
-  undecided (Refused (refusals.Certificate fault)) h = absurd (cc (sym h.1 ∙ back))
-  undecided (Refused (refusals.CertTooLong n)) h = absurd h
-  undecided (Refused (refusals.Dependent combination)) h = absurd h
-  undecided (Refused refusals.TooLong) h = absurd h
-  undecided (Refused (refusals.Table fault)) h = absurd h
-  undecided (Refused (refusals.Formula fault)) h = absurd h
-  undecided (Refused refusals.RankWithPenalty) h = absurd h
-  undecided (Refused (refusals.Design fault)) h = absurd h
-  undecided (Refused (refusals.Penalty fault)) h = absurd h
-  undecided (Refused (refusals.Program fault)) h = absurd h
-  undecided OutOfMemory h = tt
-  undecided (PivotLimit place limit trail) h = absurd h
-  undecided (Overflow place trail spill) h = tt
-  undecided (Rejected rejection) h =
-      absurd (none_false (tests cert) rejection sound (subst (λ (c : Cert). IsFirstFalse (tests c) rejection) (same_cert h.cert h.is) h.first))
-
 pub written : SameContent → (words : List (List ℕ)) (job : FitJob) (bytes : List ℕ) (cert : Cert) → IsJobOf words (jobs.Certify job) → IsRight (jobs.Certify job) bytes (reports.Certificate cert) → Passes cert
 written same words job bytes cert asked right =
     let within = is_within words job asked right.0.0 cert right.0.2 right.1.short in
     let back = right.1.back within in
     let sound = all_true cert (is_sound words job asked right.0.0 cert right.0.2) in
-    record { within = within; back = back; sound = sound; report = one_report same cert back sound; halt = undecided same cert back sound }
+    record { within = within; back = back; sound = sound; report = one_report same (cert_text cert) cert back sound; halt = undecided same (cert_text cert) cert back sound }

@@ -45,7 +45,7 @@ use Rattle.run_laws.proofs.Needed.{limit_needed, overflow_needed}
 
 -- words ask for one request
 module _ (words : List (List ℕ)) where
-  one_request : (job other : Job) → IsJobOf words job → IsJobOf words other → request_of job ≡ request_of other
+  pub one_request : (job other : Job) → IsJobOf words job → IsJobOf words other → request_of job ≡ request_of other
   one_request job other asked again = cc (sym asked ∙ again)
 
   -- a job of these words reads the source where one does
@@ -61,7 +61,7 @@ module _ (words : List (List ℕ)) where
   also_reads (jobs.Sample a) (jobs.Sample b) same reads = absurd reads
 
   -- words that ask for a fit ask for no check
-  no_check : (job : Job) (fit : FitJob) (ranked : Bool) → IsFitJob job fit ranked → request_of jobs.Check ≡ request_of job → ⊥
+  pub no_check : (job : Job) (fit : FitJob) (ranked : Bool) → IsFitJob job fit ranked → request_of jobs.Check ≡ request_of job → ⊥
   no_check (jobs.Process a) fit ranked is same = absurd (cc same)
   no_check (jobs.Ranks a) fit ranked is same = absurd (cc same)
   no_check (jobs.Certify a) fit ranked is same = absurd (cc same)
@@ -82,26 +82,35 @@ right_same (jobs.Sample job) (reports.Sample f) a b same h = h
 
 -- ---- an input that is well formed
 
-module _ (words : List (List ℕ)) (source source' : Stream) (bytes : List ℕ) (w : IsWellFormed words source bytes) where
-  -- the bytes that a job read are these
-  were_told : (job : Job) → IsJobOf words job → Reads job → (other : List ℕ) → TakesAll source.bytes source'.bytes other → other ≡ bytes
-  were_told job asked reads other taken =
-      (subst (λ o. TakesAll o source'.bytes other) (w.told (also_reads words w.asked.job job (one_request words w.asked.job job w.asked.asked asked) reads)) taken).0
+module _ (source source' : Stream) (bytes : List ℕ) (told : source.bytes ≡ Some bytes) where
+  -- the bytes that were read are those that the source tells
+  pub were_told : (other : List ℕ) → TakesAll source.bytes source'.bytes other → other ≡ bytes
+  were_told other taken = (subst (λ o. TakesAll o source'.bytes other) told taken).0
 
-  none_beyond : ¬ IsTooLong words source source'
-  none_beyond h =
-      let reads = also_reads words w.asked.job h.job (one_request words w.asked.job h.job w.asked.asked h.asked) h.reads in
-      let long : most_bytes + 1 ≤ length bytes = (subst (λ o. TakesFirst o source'.bytes (most_bytes + 1)) (w.told reads) h.came).0 in
-      let few : length bytes ≤ most_bytes = w.short reads in
-      omega (arith, long, few)
+  -- and not more came
+  pub none_beyond : length bytes ≤ most_bytes → ¬ TakesFirst source.bytes source'.bytes (most_bytes + 1)
+  none_beyond few came = let long : most_bytes + 1 ≤ length bytes = (subst (λ o. TakesFirst o source'.bytes (most_bytes + 1)) told came).0 in omega (arith, long, few)
 
-  -- and so are those of its table
-  same_table : (job : Job) (other : List ℕ) → WereRead words source source' job other → table_bytes job other ≡ table_bytes job bytes
-  same_table (jobs.Process fit) other read = were_told (jobs.Process fit) read.asked tt other read.taken
-  same_table (jobs.Ranks fit) other read = were_told (jobs.Ranks fit) read.asked tt other read.taken
-  same_table (jobs.Certify fit) other read = were_told (jobs.Certify fit) read.asked tt other read.taken
-  same_table jobs.Check other read = were_told jobs.Check read.asked tt other read.taken
+module _ (words : List (List ℕ)) (source source' : Stream) (bytes : List ℕ) (first : FitJob) (kind : Bool) (asked : AskFit words first kind) (told : Reads asked.job → source.bytes ≡ Some bytes) where
+  told_to : (job : Job) → IsJobOf words job → Reads job → source.bytes ≡ Some bytes
+  told_to job this reads = told (also_reads words asked.job job (one_request words asked.job job asked.asked this) reads)
+
+  -- a job that fits read the bytes of this table
+  pub same_table : (job : Job) (other : List ℕ) → WereRead words source source' job other → table_bytes job other ≡ table_bytes job bytes
+  same_table (jobs.Process fit) other read = were_told source source' bytes (told_to (jobs.Process fit) read.asked tt) other read.taken
+  same_table (jobs.Ranks fit) other read = were_told source source' bytes (told_to (jobs.Ranks fit) read.asked tt) other read.taken
+  same_table (jobs.Certify fit) other read = were_told source source' bytes (told_to (jobs.Certify fit) read.asked tt) other read.taken
+  same_table jobs.Check other read = were_told source source' bytes (told_to jobs.Check read.asked tt) other read.taken
   same_table (jobs.Sample job) other read = refl
+
+module _ (words : List (List ℕ)) (source source' : Stream) (bytes : List ℕ) (w : IsWellFormed words source bytes) where
+  this_table : (job : Job) (other : List ℕ) → WereRead words source source' job other → table_bytes job other ≡ table_bytes job bytes
+  this_table = same_table words source source' bytes w.fit w.ranked w.asked w.told
+
+  short : ¬ IsTooLong words source source'
+  short h =
+      let reads = also_reads words w.asked.job h.job (one_request words w.asked.job h.job w.asked.asked h.asked) h.reads in
+      none_beyond source source' bytes (w.told reads) (w.short reads) h.came
 
   sound : (fit : FitJob) (ranked : Bool) (refusal : Refusal) (asked : AskFit words fit ranked) → ¬ HasFitCause fit ranked (table_bytes asked.job bytes) (halts.Refused refusal)
   sound fit ranked refusal asked cause = by refusal cause
@@ -125,11 +134,11 @@ module _ (words : List (List ℕ)) (source source' : Stream) (bytes : List ℕ) 
   fit_refused : (fit : FitJob) (ranked : Bool) (job : Job) → IsFitJob job fit ranked → (refusal : Refusal) (other : List ℕ) → WereRead words source source' job other → ¬ HasFitCause fit ranked (table_bytes job other) (halts.Refused refusal)
   fit_refused fit ranked job is refusal other read cause =
       let asked : AskFit words fit ranked = record { job = job; asked = read.asked; is = is } in
-      sound fit ranked refusal asked (subst (λ b. HasFitCause fit ranked b (halts.Refused refusal)) (same_table job other read) cause)
+      sound fit ranked refusal asked (subst (λ b. HasFitCause fit ranked b (halts.Refused refusal)) (this_table job other read) cause)
 
   -- the certificate that is too long aside, no certificate is refused but as a fit is
   certify_refused : (fit : FitJob) (refusal : Refusal) → ((n : ℕ) → refusal ≢ refusals.CertTooLong n) → (other : List ℕ) → WereRead words source source' (jobs.Certify fit) other → ¬ HasCertifyCause fit other (halts.Refused refusal)
-  certify_refused fit (refusals.CertTooLong n) short other read cause = short n refl
+  certify_refused fit (refusals.CertTooLong n) other_than other read cause = other_than n refl
   certify_refused fit (refusals.Dependent combination) short other read cause = fit_refused fit (is_some fit.rank) (jobs.Certify fit) (refl, refl) (refusals.Dependent combination) other read cause
   certify_refused fit refusals.TooLong short other read cause = fit_refused fit (is_some fit.rank) (jobs.Certify fit) (refl, refl) refusals.TooLong other read cause
   certify_refused fit (refusals.Table fault) short other read cause = fit_refused fit (is_some fit.rank) (jobs.Certify fit) (refl, refl) (refusals.Table fault) other read cause
@@ -167,8 +176,8 @@ module _ (words : List (List ℕ)) (source source' : Stream) (bytes : List ℕ) 
       by : (outcome : Outcome) → IsRun words source source' out out' err err' outcome → IsAnswer words source source' bytes outcome
       by (Done report) run =
           let a = run.cause in
-          (a.job, a.read.asked, right_same a.job report a.bytes bytes (same_table a.job a.bytes a.read) a.right)
-      by (Refused refusals.TooLong) run = absurd (none_beyond run.cause)
+          (a.job, a.read.asked, right_same a.job report a.bytes bytes (this_table a.job a.bytes a.read) a.right)
+      by (Refused refusals.TooLong) run = absurd (short run.cause)
       by (Refused (refusals.Table fault)) run = absurd (not_refused (refusals.Table fault) (λ n. λ e. cc e) run.cause)
       by (Refused (refusals.Formula fault)) run = absurd (not_refused (refusals.Formula fault) (λ n. λ e. cc e) run.cause)
       by (Refused refusals.RankWithPenalty) run = absurd (not_refused refusals.RankWithPenalty (λ n. λ e. cc e) run.cause)
@@ -194,12 +203,12 @@ module _ (words : List (List ℕ)) (source source' : Stream) (bytes : List ℕ) 
 
 module _ (words : List (List ℕ)) (source source' : Stream) where
   -- where the words ask for a fit, a right report is of a fit of an input that was read
-  report_fit : (first : FitJob) (kind : Bool) → AskFit words first kind → (report : Report) → IsAnswered words source source' report → (fit : FitJob) × (input : Input) × (f : Fit) × WasInput words source source' fit input × IsFitOf fit input f
+  pub report_fit : (first : FitJob) (kind : Bool) → AskFit words first kind → (report : Report) → IsAnswered words source source' report → (fit : FitJob) × (input : Input) × (f : Fit) × WasInput words source source' fit input × IsFitOf fit input f
   report_fit first kind asked report h = by h.job report h.read h.right
     where
       was : (fit : FitJob) (input : Input) (ranked : Bool) (job : Job) → IsFitJob job fit ranked → WereRead words source source' job h.bytes → IsInput fit ranked (table_bytes job h.bytes) input → WasInput words source source' fit input
       was fit input ranked job is_job read is =
-          record { ranked = ranked; bytes = h.bytes; asked = record { job = job; asked = read.asked; is = is_job }; read = (job, read); is = is }
+          record { ranked = ranked; bytes = h.bytes; asked = record { job = job; asked = read.asked; is = is_job }; read = read; is = is }
 
       by : (job : Job) (report : Report) → WereRead words source source' job h.bytes → IsRight job h.bytes report → (fit : FitJob) × (input : Input) × (f : Fit) × WasInput words source source' fit input × IsFitOf fit input f
       by (jobs.Process fit) (reports.Process f) read right = (fit, right.0, f, was fit right.0 (is_some fit.rank) (jobs.Process fit) (refl, refl) read right.1, right.2)

@@ -2,3 +2,5 @@ pub mod AskedIntervals
 pub mod Spilled
 pub mod Needed
 pub mod Complete
+pub mod Checked
+pub mod Unposed

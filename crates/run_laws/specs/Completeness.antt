@@ -1,4 +1,4 @@
--- Law. A job whose input is well formed is answered.
+-- Law. A job whose input is well formed is answered, and a certificate whose conditions are true.
 use Rattle.std.specs.Prelude.{◌≡◌, ℕ, ◌*◌, ◌≤◌, Bool, List, Some, length, ⊤}
 use Rattle.exact_algebra.specs.Fraction.{rational}
 use Rattle.frac_core.specs.declared.frac128.Frac128.{Frac128}
@@ -9,18 +9,24 @@ use Rattle.port_io.specs.Counts.{Rose}
 use Rattle.port_io.specs.Told.{most_bytes}
 use Rattle.pivot_bound.specs.BoundLaws.{further_bases}
 use Rattle.tau_process.specs.Stops.{IsLimited}
+use Rattle.cert_text.specs.declared.cert.Cert.{Cert}
+use Rattle.cert_checker.specs.Certificates.{tests}
+use Rattle.cert_checker.specs.Tests.{AreTrue}
 use Rattle.rq_words.specs.declared.job.FitJob.{FitJob}
 use Rattle.rq_words.specs.declared.job.Job.{Job}
+use Rattle.rq_words.specs.declared.job.Job.TheVariants as jobs
 use Rattle.report_text.specs.ReportText.{value}
 use Rattle.report_text.specs.declared.report.Place.{Place}
 use Rattle.report_text.specs.declared.report.Place.TheVariants as places
 use Rattle.report_text.specs.declared.report.Refusal.{Refusal}
-use Rattle.report_text.specs.declared.report.Refusal.TheVariants.{CertTooLong}
+use Rattle.report_text.specs.declared.report.Refusal.TheVariants.{CertTooLong, Dependent}
+use Rattle.report_text.specs.declared.report.Report.TheVariants as reports
 use Rattle.report_text.specs.declared.report.Halt.TheVariants as halts
 use Rattle.rq_input.specs.Inputs.{HasInputCause, IsInput}
 use Rattle.rq_input.specs.declared.input.Input.{Input}
 use Rattle.rq_engine.specs.Answers.{IsRight}
 use Rattle.rq_engine.specs.Jobs.{IsJobOf}
+use Rattle.rq_engine.specs.Checks.{IsCertOf}
 use Rattle.rq_cli.specs.Outcomes.{Stream, IsRun, IsHalted, Reads}
 use Rattle.rq_cli.specs.declared.outcome.Outcome.{Outcome}
 use Rattle.rq_cli.specs.declared.outcome.Outcome.TheVariants.{Done, Refused, OutOfMemory, PivotLimit, Overflow}
@@ -60,6 +66,49 @@ Completeness =
     (words : List (List ℕ)) (source source' out out' err err' : Stream) (bytes : List ℕ) (outcome : Outcome)
     → IsRun words source source' out out' err err' outcome → NoneRose source source' out out' err err'
     → IsWellFormed words source bytes → IsAnswer words source source' bytes outcome
+
+-- the outcome is no report and no stop of a fit: neither a limit nor an overflow, dependent columns or a certificate that
+-- is too long
+abbrev pub IsUnposed : Outcome → Type 0
+IsUnposed (Done report) = ⊥
+IsUnposed (PivotLimit place limit trail) = ⊥
+IsUnposed (Overflow place trail spill) = ⊥
+IsUnposed (Refused (Dependent combination)) = ⊥
+IsUnposed (Refused (CertTooLong n)) = ⊥
+IsUnposed _ = ⊤
+
+-- where the words ask for a fit, and the table's bytes have a fault as a table, by the formula, as a design, in what smooths add
+-- or as a problem, it is neither: so such a refusal comes exactly where there is such a fault, save for memory and for
+-- streams that fail
+abbrev pub FaultIsAnswered : Type 0
+FaultIsAnswered =
+    (words : List (List ℕ)) (source source' out out' err err' : Stream) (bytes : List ℕ) (outcome : Outcome) (first : FitJob) (kind : Bool)
+    (asked : AskFit words first kind) → (Reads asked.job → source.bytes ≡ Some bytes)
+    → ((fit : FitJob) (ranked : Bool) (asked : AskFit words fit ranked) → (refusal : Refusal) × HasInputCause fit ranked (table_bytes asked.job bytes) (halts.Refused refusal))
+    → IsRun words source source' out out' err err' outcome → IsUnposed outcome
+
+-- the words ask for a check, and the bytes that the source tells are not too many; they are this certificate, and all
+-- its conditions are true
+pub record IsPassing (words : List (List ℕ)) (source : Stream) (bytes : List ℕ) (cert : Cert) : Type 0 where
+  pub asked : IsJobOf words jobs.Check
+  pub told : source.bytes ≡ Some bytes
+  pub short : length bytes ≤ most_bytes
+  pub is : IsCertOf bytes cert
+  pub sound : AreTrue (tests cert)
+
+-- it is accepted, or an operation of a test overflows; want of memory is the free answer
+abbrev pub IsAccepted : List (List ℕ) → (source source' : Stream) → Cert → Outcome → Type 0
+IsAccepted words source source' cert (Done report) = report ≡ reports.Checked cert
+IsAccepted words source source' cert (Overflow place trail spill) = IsHalted words source source' (halts.Overflow place trail spill)
+IsAccepted words source source' cert OutOfMemory = ⊤
+IsAccepted words source source' cert _ = ⊥
+
+-- so is every certificate whose conditions are true, while nothing fails
+abbrev pub CheckIsAnswered : Type 0
+CheckIsAnswered =
+    (words : List (List ℕ)) (source source' out out' err err' : Stream) (bytes : List ℕ) (cert : Cert) (outcome : Outcome)
+    → IsRun words source source' out out' err err' outcome → NoneRose source source' out out' err err'
+    → IsPassing words source bytes cert → IsAccepted words source source' cert outcome
 
 -- some trail of the problem reaches the limit of the words
 abbrev pub IsLimitedInput : FitJob → Input → Type 0
