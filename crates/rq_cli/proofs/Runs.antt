@@ -1,17 +1,17 @@
 -- From the steps of a run to what the run did.
-use Rattle.std.proofs.Common.{◌≡◌, ℕ, ◌<◌, List, [], Option, None, Some, Result, Ok, Err, OnOk, OnErr, arith, refl, sym, ap, subst, inl, inr}
+use Rattle.std.proofs.Common.{◌≡◌, ℕ, ◌<◌, List, Option, None, Some, Result, Ok, Err, OnOk, OnErr, arith, refl, sym, ap, subst, inl, inr}
 use Rattle.std.specs.Io.KnownBytes.{Appends, Keeps}
 use Rattle.rq_words.specs.declared.job.Job.{Job}
 use Rattle.rq_words.specs.declared.job.Job.TheVariants as jobs
 use Rattle.port_io.specs.Counts.{CountsFaults}
-use Rattle.port_io.specs.Told.{AppendsPart, TakesAll}
+use Rattle.port_io.specs.Told.{AppendsPart}
 use Rattle.rq_engine.specs.Answers as engine
 use Rattle.report_text.specs.ReportText.{report_text}
 use Rattle.report_text.specs.declared.report.Report.{Report}
 use Rattle.report_text.specs.declared.report.Refusal.TheVariants.{TooLong, Table, Formula, RankWithPenalty, Design, Penalty, Program, Dependent, CertTooLong, Certificate}
 use Rattle.report_text.specs.declared.report.Halt.{Halt}
 use Rattle.report_text.specs.declared.report.Halt.TheVariants as halts
-use Rattle.rq_cli.specs.Outcomes.{Stream, OnDone, OnFault, outcome_line, Reads, Takes, WereRead, HasCause, IsAnswered, IsErrorFault, IsFault, WasTried, IsRun}
+use Rattle.rq_cli.specs.Outcomes.{Stream, OnDone, OnFault, outcome_line, WereRead, HasCause, IsAnswered, IsErrorFault, IsFault, WasTried, IsRun}
 use Rattle.rq_cli.specs.Steps.{outcome_of, WasTold, WasPrinted}
 use Rattle.rq_cli.specs.declared.outcome.Outcome.{Outcome}
 use Rattle.rq_cli.specs.declared.trouble.Trouble.TheVariants as troubles
@@ -29,22 +29,6 @@ never_long (jobs.Ranks fit) bytes cause = cause
 never_long (jobs.Certify fit) bytes cause = cause
 never_long jobs.Check bytes cause = cause
 never_long (jobs.Sample sample) bytes cause = cause
-
--- a job that reads the source takes all that it holds
-pub takes_all : (job : Job) (before now : Stream) (bytes : List ℕ) → Reads job → TakesAll before.bytes now.bytes bytes → Takes job before now bytes
-takes_all (jobs.Process fit) before now bytes reads h = h
-takes_all (jobs.Ranks fit) before now bytes reads h = h
-takes_all (jobs.Certify fit) before now bytes reads h = h
-takes_all jobs.Check before now bytes reads h = h
-takes_all (jobs.Sample sample) before now bytes reads h = absurd reads
-
--- and another one leaves it
-pub takes_nothing : (job : Job) (before : Stream) → ¬ Reads job → Takes job before before []
-takes_nothing (jobs.Process fit) before none = absurd (none tt)
-takes_nothing (jobs.Ranks fit) before none = absurd (none tt)
-takes_nothing (jobs.Certify fit) before none = absurd (none tt)
-takes_nothing jobs.Check before none = absurd (none tt)
-takes_nothing (jobs.Sample sample) before none = (refl, refl)
 
 -- the cause of a halt is that of its outcome
 pub halt_cause : (words : List (List ℕ)) (source source' : Stream) (job : Job) (bytes : List ℕ) → WereRead words source source' job bytes → (halt : Halt) → engine.HasCause job bytes halt → IsFault words source source' (outcome_of (troubles.Halt halt))
