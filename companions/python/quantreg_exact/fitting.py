@@ -94,8 +94,7 @@ def fit(
 
     `data` is a data frame, whose index is left out, or the path of a CSV file. A quantile is a number text, a fraction, or
     a float by its shortest decimal. `weights` names a column; `crit` with `rank_at` (one quantile or several) asks for rank
-    intervals. Raises QuantregError with the program's fault line where there is no report, such as NotBuilt for what this
-    version of the program doesn't do yet.
+    intervals. Raises QuantregError with the program's fault line where there is no report.
     """
     hi = lo if hi is None else hi
     options = {"formula": formula, "lo": lo, "hi": hi, "weights": weights, "contrasts": contrasts}

@@ -3,4 +3,5 @@ mod Passing
 mod Ranked
 mod All
 mod Lengths
+pub mod Checking
 mod Written

@@ -1,12 +1,11 @@
 -- The certificate of a right fit is sound, within the limits, and passes.
-use Rattle.std.proofs.Common.{◌≡◌, ◌≤◌, ◌*◌, ◌^◌, ℕ, List, [], ◌∷◌, ◌++◌, All, Option, Some, None, length, map, option_map, pos, slice_index, arith, refl, sym, ap, subst, ◌∙◌}
+use Rattle.std.proofs.Common.{◌≡◌, ◌≤◌, ◌*◌, ◌^◌, ℕ, List, [], ◌∷◌, All, Option, Some, None, length, map, option_map, slice_index, arith, refl, sym, ap, subst, ◌∙◌}
 use Rattle.std.specs.List.{range_with_len}
 use Rattle.std.proofs.lemmas.List.{length-append, length-map}
 use Rattle.std.proofs.lemmas.List.FromFn.{length-range_with_len}
 use Rattle.std.proofs.lemmas.List.Elements.{All-cons, All-nil}
 use Rattle.exact_algebra.specs.Fraction.{rational}
-use Rattle.exact_algebra.specs.Rational.{ℚ, whole, ◌≤ℚ◌}
-use Rattle.exact_algebra.proofs.RationalLaws.{≤ℚ_trans}
+use Rattle.exact_algebra.specs.Rational.{ℚ}
 use Rattle.frac_core.specs.declared.frac128.Frac128.{Frac128}
 use Rattle.loss_model.specs.declared.interval.Bound.{Bound}
 use Rattle.loss_model.specs.declared.interval.Bound.TheVariants.{Finite, Infinite}
@@ -28,12 +27,7 @@ use Rattle.cert_text.specs.Laws.{SameContent}
 use Rattle.cert_text.specs.Limits.{IsWithinLimits}
 use Rattle.cert_text.specs.Trees.{cert_text}
 use Rattle.cert_text.specs.declared.cert.Cert.{Cert}
-use Rattle.cert_checker.specs.Certificates.{tests}
 use Rattle.cert_checker.specs.Intervals.{beyond_list}
-use Rattle.cert_checker.specs.Tests.{Part, Test, ArePartsTrue, AreTrue, Holds}
-use Rattle.cert_checker.specs.Verdicts.{IsFirstFalse}
-use Rattle.cert_checker.specs.Formulas.{worth}
-use Rattle.cert_checker.specs.declared.verdict.Rejection.{Rejection}
 use Rattle.rq_words.specs.Requests.{fit_request, number, rank_request}
 use Rattle.rq_words.specs.declared.job.FitJob.{FitJob}
 use Rattle.rq_words.specs.declared.job.RankAsk.{RankAsk}
@@ -41,24 +35,20 @@ use Rattle.rq_words.specs.declared.job.Job.TheVariants as jobs
 use Rattle.rq_words.proofs.FewQuantiles.{certify_few}
 use Rattle.report_text.specs.ReportText.{value}
 use Rattle.report_text.specs.declared.report.Fit.{Fit}
-use Rattle.report_text.specs.declared.report.Report.{Report}
 use Rattle.report_text.specs.declared.report.Report.TheVariants as reports
-use Rattle.report_text.specs.declared.report.Refusal.TheVariants as refusals
-use Rattle.report_text.specs.declared.report.Halt.{Halt}
-use Rattle.report_text.specs.declared.report.Halt.TheVariants.{Refused, OutOfMemory, PivotLimit, Overflow, Rejected, NotBuilt}
-use Rattle.rq_input.specs.Rows.{HasRows}
 use Rattle.rq_input.specs.declared.input.Input.{Input}
-use Rattle.rq_engine.specs.Answers.{HasCause, IsCertified, IsRight}
-use Rattle.rq_engine.specs.Built.{IsJobOf}
-use Rattle.rq_engine.specs.Checks.{IsCertOf}
-use Rattle.rq_engine.specs.Fit.{IsRightFit, IsRightSegment}
-use Rattle.rq_engine.specs.Intervals.{AreRightIntervals, IsRightInterval, asked_at, asked_by, asked_over}
-use Rattle.rq_engine.proofs.Asked.{certify_range}
-use Rattle.rq_engine.proofs.Costs.{input_costs}
-use Rattle.rq_engine.proofs.Scores.{zip_length}
-use Rattle.cert_law.specs.Laws.{IsUndecided, Passes}
+use Rattle.rq_fit.specs.Asks.{IsFitAsk}
+use Rattle.rq_fit.specs.Fit.{IsRightFit, IsRightSegment}
+use Rattle.rq_fit.specs.Intervals.{AreRightIntervals, IsRightInterval, asked_at, asked_by, asked_over}
+use Rattle.rq_fit.proofs.Costs.{high_costs, low_costs}
+use Rattle.rq_fit.proofs.Scores.{zip_length}
+use Rattle.rq_engine.specs.Answers.{IsCertified, IsRight}
+use Rattle.rq_engine.specs.Jobs.{IsJobOf}
+use Rattle.rq_engine.proofs.Asked.{asked_job}
+use Rattle.cert_law.specs.Laws.{Passes}
 use Rattle.cert_law.specs.Sound.{AreCosts, AreSound, IsSound, IsSoundEnding, IsSoundInterval, IsSoundSegment}
 use Rattle.cert_law.proofs.All.{all_true}
+use Rattle.cert_law.proofs.Checking.{one_report, undecided}
 use Rattle.cert_law.proofs.Lengths.{cert_long}
 
 -- ---- segments
@@ -71,9 +61,9 @@ sound_segment p s h = record {
 }
 
 -- the costs of an input's rows, of which the problem is one
-costs_of : (input : Input) (p : Problem Frac128) (theta : ℚ) → p ≡ input.problem → whole (pos 0) ≤ℚ theta → theta ≤ℚ whole (pos 1) → HasRows input → AreCosts p theta
-costs_of input p theta same low high rows =
-    let h = subst (λ (q : Problem Frac128). HasCosts (sample value q) theta) (sym same) (input_costs input theta low high rows) in
+costs_of : (input : Input) (p : Problem Frac128) (theta : ℚ) → p ≡ input.problem → HasCosts (sample value input.problem) theta → AreCosts p theta
+costs_of input p theta same costs =
+    let h = subst (λ (q : Problem Frac128). HasCosts (sample value q) theta) (sym same) costs in
     λ i l. (h.up i l, h.down i l)
 
 -- ---- intervals
@@ -131,17 +121,17 @@ module _ (words : List (List ℕ)) (job : FitJob) (asked : IsJobOf words (jobs.C
     right : IsRightFit value job certified.fit
     right = certified.right.right
 
-    range : (whole (pos 0) ≤ℚ rational (value job.lo)) × (rational (value job.lo) ≤ℚ rational (value job.hi)) × (rational (value job.hi) ≤ℚ whole (pos 1))
-    range = certify_range words job asked
+    ask : IsFitAsk job
+    ask = (asked_job words (jobs.Certify job) asked).0
 
     are_sound : AreSound certified.fit.problem job.lo job.hi certified.fit.process.segments
     are_sound =
         let same = certified.right.under.problem_is in
         record {
           shaped = right.shaped;
-          ordered = range.1;
-          costs_lo = costs_of input certified.fit.problem (rational (value job.lo)) same range.0 (≤ℚ_trans (rational (value job.lo)) (rational (value job.hi)) (whole (pos 1)) range.1 range.2) certified.rows;
-          costs_hi = costs_of input certified.fit.problem (rational (value job.hi)) same (≤ℚ_trans (whole (pos 0)) (rational (value job.lo)) (rational (value job.hi)) range.0 range.1) range.2 certified.rows;
+          ordered = ask.ordered;
+          costs_lo = costs_of input certified.fit.problem (rational (value job.lo)) same (low_costs job ask input certified.rows);
+          costs_hi = costs_of input certified.fit.problem (rational (value job.hi)) same (high_costs job ask input certified.rows);
           covers = right.covers;
           each = λ k d l. sound_segment certified.fit.problem _ (right.segments k d l);
         }
@@ -173,53 +163,9 @@ module _ (words : List (List ℕ)) (job : FitJob) (asked : IsJobOf words (jobs.C
           intervals = omega (arith, many, zipped, few_asked certified.fit.problem.columns right.shaped.columns job.rank refl);
         }
 
--- ---- what `check` answers
-
-at_test : (before : List Test) (t : Test) (after : List Test) → AreTrue (before ++ t ∷ after) → ArePartsTrue t.parts
-at_test [] t after h = h.0
-at_test (x ∷ before) t after h = at_test before t after h.1
-
-at_part : (before : List Part) (p : Part) (after : List Part) → ArePartsTrue (before ++ p ∷ after) → Holds p.relation (worth p.left) (worth p.right)
-at_part [] p after h = h.0
-at_part (x ∷ before) p after h = at_part before p after h.1
-
--- tests that are all true have no first that is false
-none_false : (ts : List Test) (r : Rejection) → AreTrue ts → IsFirstFalse ts r → ⊥
-none_false ts r all h =
-    let parts = at_test h.before h.test h.after (subst AreTrue h.tests all) in
-    h.refused.false (at_part h.refused.before h.refused.part h.refused.after (subst ArePartsTrue h.refused.parts parts))
-
-module _ (same : SameContent) (cert : Cert) (back : IsCertOf (cert_text cert) cert) (sound : AreTrue (tests cert)) where
-  same_cert : (other : Cert) → IsCertOf (cert_text cert) other → other ≡ cert
-  same_cert other h = same other cert (cc (sym h ∙ back))
-
-  one_report : (report : Report) → IsRight jobs.Check (cert_text cert) report → report ≡ reports.Checked cert
-  one_report (reports.Process found) h = absurd h
-  one_report (reports.Ranks ranks) h = absurd h
-  one_report (reports.Certificate other) h = absurd h
-  one_report (reports.Checked other) h = ap (λ c. reports.Checked c) (same_cert other h.is)
-
-  undecided : (halt : Halt) → HasCause jobs.Check (cert_text cert) halt → IsUndecided halt
-  undecided (Refused (refusals.Certificate fault)) h = absurd (cc (sym h.1 ∙ back))
-  undecided (Refused (refusals.CertTooLong n)) h = absurd h
-  undecided (Refused (refusals.Dependent combination)) h = absurd h
-  undecided (Refused refusals.TooLong) h = absurd h
-  undecided (Refused (refusals.Table fault)) h = absurd h
-  undecided (Refused (refusals.Formula fault)) h = absurd h
-  undecided (Refused refusals.RankWithPenalty) h = absurd h
-  undecided (Refused (refusals.Design fault)) h = absurd h
-  undecided (Refused (refusals.Penalty fault)) h = absurd h
-  undecided (Refused (refusals.Program fault)) h = absurd h
-  undecided OutOfMemory h = tt
-  undecided (PivotLimit place limit trail) h = absurd h
-  undecided (Overflow place trail spill) h = tt
-  undecided (Rejected rejection) h =
-      absurd (none_false (tests cert) rejection sound (subst (λ (c : Cert). IsFirstFalse (tests c) rejection) (same_cert h.cert h.is) h.first))
-  undecided (NotBuilt part) h = absurd h
-
 pub written : SameContent → (words : List (List ℕ)) (job : FitJob) (bytes : List ℕ) (cert : Cert) → IsJobOf words (jobs.Certify job) → IsRight (jobs.Certify job) bytes (reports.Certificate cert) → Passes cert
 written same words job bytes cert asked right =
     let within = is_within words job asked right.0.0 cert right.0.2 right.1.short in
     let back = right.1.back within in
     let sound = all_true cert (is_sound words job asked right.0.0 cert right.0.2) in
-    record { within = within; back = back; sound = sound; report = one_report same cert back sound; halt = undecided same cert back sound }
+    record { within = within; back = back; sound = sound; report = one_report same (cert_text cert) cert back sound; halt = undecided same (cert_text cert) cert back sound }

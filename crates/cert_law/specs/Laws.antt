@@ -12,7 +12,7 @@ use Rattle.report_text.specs.declared.report.Report.TheVariants as reports
 use Rattle.report_text.specs.declared.report.Halt.{Halt}
 use Rattle.report_text.specs.declared.report.Halt.TheVariants.{OutOfMemory, Overflow}
 use Rattle.rq_engine.specs.Answers.{HasCause, IsRight}
-use Rattle.rq_engine.specs.Built.{IsJobOf}
+use Rattle.rq_engine.specs.Jobs.{IsJobOf}
 use Rattle.rq_engine.specs.Checks.{IsCertOf}
 
 -- want of memory, or an operation that overflows

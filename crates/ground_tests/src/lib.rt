@@ -1,6 +1,6 @@
 //! Tests of the lowest crates: fractions, their texts and lists (`frac_core`), streams of bytes
-//! (`port_io`), jobs at once (`rq_fan`), codings of factors (`contrasts`), and losses with their sites
-//! (`loss_model`).
+//! (`port_io`), jobs at once (`rq_fan`), codings of factors (`contrasts`), generated tables (`table_maker`), and losses with
+//! their sites (`loss_model`).
 //!
 //! What is tested is what no clause says: values from outside, printed text, and streams that fail.
 #![tactic(auto)]
@@ -9,6 +9,8 @@
 mod codings;
 #[cfg(test)]
 mod fractions;
+#[cfg(test)]
+mod generated;
 #[cfg(test)]
 mod helpers;
 #[cfg(test)]

@@ -30,7 +30,7 @@ use Rattle.report_text.specs.declared.report.Place.TheVariants.{Process, Interva
 use Rattle.report_text.specs.declared.report.Refusal.{Refusal}
 use Rattle.report_text.specs.declared.report.Refusal.TheVariants.{TooLong, Table, Formula, RankWithPenalty, Design, Penalty, Program, Dependent, CertTooLong, Certificate}
 use Rattle.report_text.specs.declared.report.Halt.{Halt}
-use Rattle.report_text.specs.declared.report.Halt.TheVariants.{Refused, OutOfMemory, PivotLimit, Overflow, Rejected, NotBuilt}
+use Rattle.report_text.specs.declared.report.Halt.TheVariants.{Refused, OutOfMemory, PivotLimit, Overflow, Rejected}
 use Rattle.report_text.specs.declared.report.Fault.{Fault}
 use Rattle.report_text.specs.declared.report.Fault.TheVariants as faults
 
@@ -206,7 +206,6 @@ halt_line OutOfMemory = memory_line
 halt_line (PivotLimit place limit trail) = line (codes "solver") (codes "PivotLimit") (word (codes "place") (place_text place) ∷ number (codes "limit") limit ∷ [])
 halt_line (Overflow place trail spill) = line (codes "solver") (codes "Overflow") (word (codes "place") (place_text place) ∷ spill_text spill ∷ [])
 halt_line (Rejected rejection) = rejection_line rejection
-halt_line (NotBuilt part) = line (codes "build") (codes "NotBuilt") (number (codes "part") part ∷ [])
 
 -- the line of each fault
 abbrev pub fault_line : Fault → List ℕ

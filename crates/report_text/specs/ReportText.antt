@@ -1,6 +1,6 @@
 -- Stated. The printed text of a report: lines of words with one space between them. A type F of fractions
 -- is seen by a function into pairs.
-use Rattle.std.specs.Prelude.{◌≡◌, ◌≤◌, ℕ, ◌+◌, ◌-◌, Bool, true, false, nat_lt, List, [], ◌∷◌, ◌++◌, length, codes, decimal, ⊤}
+use Rattle.std.specs.Prelude.{◌≡◌, ◌≤◌, ℕ, ◌+◌, ◌-◌, Bool, true, false, nat_lt, List, [], ◌∷◌, ◌++◌, length, slice_get, Option, Some, codes, decimal, ⊤}
 use Rattle.std.specs.List.{flat_map, zip}
 use Rattle.exact_algebra.specs.Fraction.{Fraction}
 use Rattle.frac_core.specs.NumberText.{number_text_of}
@@ -17,7 +17,7 @@ use Rattle.rankscores.specs.declared.pair.ScorePair.{ScorePair}
 use Rattle.report_text.specs.declared.report.Fit.{Fit}
 use Rattle.report_text.specs.declared.report.RanksFit.{RanksFit}
 use Rattle.report_text.specs.declared.report.Report.{Report}
-use Rattle.report_text.specs.declared.report.Report.TheVariants.{Process, Ranks, Certificate, Checked}
+use Rattle.report_text.specs.declared.report.Report.TheVariants.{Process, Ranks, Certificate, Checked, Sample}
 use Rattle.report_text.specs.Names.{name_bytes}
 
 -- the texts of the items, which are numbered from i, one after another
@@ -67,8 +67,8 @@ module _ {F : Type 0} (value : F → Fraction) where
   coef_line j b = codes "coef " ++ decimal j ++ codes " " ++ number_text_of (value b) ++ codes "\n"
 
   -- the loss at both ends
-  unfoldable pub loss_line : Segment F → List ℕ
-  loss_line s = codes "loss " ++ number_text_of (value s.loss_lo) ++ codes " " ++ number_text_of (value s.loss_hi) ++ codes "\n"
+  unfoldable pub loss_line : F → F → List ℕ
+  loss_line lo hi = codes "loss " ++ number_text_of (value lo) ++ codes " " ++ number_text_of (value hi) ++ codes "\n"
 
   -- the rankscores of a row of the basis at both ends, rows counted from 1
   unfoldable pub basic_line : ScorePair F → List ℕ
@@ -77,7 +77,7 @@ module _ {F : Type 0} (value : F → Fraction) where
   -- one segment: its range, its coefficients, its losses, its scores and its basic rows
   unfoldable pub segment_text : ℕ → ℕ → Segment F × List (ScorePair F) → List ℕ
   segment_text n i (s, pairs) =
-      segment_line i s ++ numbered coef_line 1 s.vertex.coef ++ loss_line s ++ scores_line n s.vertex.sides ++ flat_map basic_line pairs
+      segment_line i s ++ numbered coef_line 1 s.vertex.coef ++ loss_line s.loss_lo s.loss_hi ++ scores_line n s.vertex.sides ++ flat_map basic_line pairs
 
   -- an end of an interval, or this word where it is infinite
   abbrev pub bound_text : List ℕ → Bound F → List ℕ
@@ -135,12 +135,32 @@ size_lines cert =
 unfoldable pub checked_text : Cert → List ℕ
 checked_text cert = codes "quantreg check 1\n" ++ size_lines cert ++ codes "accepted\n" ++ codes "end\n"
 
+-- the loss of the first segment at its low end, and of the last one at its high end
+unfoldable pub outer_loss_line : Option (Segment Frac128) → Option (Segment Frac128) → List ℕ
+outer_loss_line (Some first) (Some last) = loss_line value first.loss_lo last.loss_hi
+outer_loss_line _ _ = []
+
+-- the losses at both ends of the range, where there is a segment
+abbrev pub range_loss_line : List (Segment Frac128) → List ℕ
+range_loss_line segments = outer_loss_line (slice_get segments 0) (slice_get segments (length segments - 1))
+
+-- how large the fit of a generated table is
+unfoldable pub sample_head : Fit → List ℕ
+sample_head fit =
+    codes "quantreg sample 1\n" ++ records_line fit.kept fit.dropped ++ count_line (codes "columns") fit.problem.columns
+    ++ count_line (codes "segments") (length fit.process.segments)
+
+-- the report of a generated table: that, how many pivots were made, and what is lost at both ends
+unfoldable pub sample_text : Fit → List ℕ
+sample_text fit = sample_head fit ++ pivots_line (length fit.process.trail.steps) ++ range_loss_line fit.process.segments ++ codes "end\n"
+
 -- the text of a report; that of a certificate is the certificate
 abbrev pub report_text : Report → List ℕ
 report_text (Process fit) = fit_text fit
 report_text (Ranks ranks) = ranks_text ranks
 report_text (Certificate cert) = cert_text cert
 report_text (Checked cert) = checked_text cert
+report_text (Sample fit) = sample_text fit
 
 -- a fit has one list of scores per segment, and no more data rows than rows
 abbrev pub IsPrintable : Report → Type 0
@@ -148,3 +168,4 @@ IsPrintable (Process fit) = (length fit.scores ≡ length fit.process.segments) 
 IsPrintable (Ranks ranks) = ⊤
 IsPrintable (Certificate cert) = ⊤
 IsPrintable (Checked cert) = ⊤
+IsPrintable (Sample fit) = ⊤

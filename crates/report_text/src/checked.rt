@@ -8,7 +8,7 @@ use frac_core::OutOfMemory;
 
 impl Page {
     #[tactic(auto, unfolding(crate::specs::ReportText::count_line))]
-    fn count_line(&mut self, name: &[u8], count: u64) -> Result<(), OutOfMemory>
+    pub(crate) fn count_line(&mut self, name: &[u8], count: u64) -> Result<(), OutOfMemory>
         ensures { OnOk result (self.new ≡ self.old ++ count_line name.now count) }
     {
         self.put(name)?;

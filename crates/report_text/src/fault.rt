@@ -263,9 +263,6 @@ impl Page {
                 )
             }
             Halt::Rejected(rejection) => self.rejection_line(rejection),
-            Halt::NotBuilt { part } => {
-                self.line(b"build", b"NotBuilt", &[Number(b"part", *part as u32)])
-            }
         }
     }
 }

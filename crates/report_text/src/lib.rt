@@ -19,6 +19,7 @@ mod page;
 mod quantity;
 mod ranks;
 mod report;
+mod sample;
 
 pub use fault::{MEMORY_LINE, SINK_LINE, SOURCE_LINE, fault_line};
 pub use lines::report_bytes;

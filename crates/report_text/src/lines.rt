@@ -81,13 +81,13 @@ impl Page {
     }
 
     #[tactic(auto, unfolding(crate::specs::ReportText::loss_line))]
-    fn loss_line<F: Exact>(&mut self, segment: &Segment<F>) -> Result<(), OutOfMemory>
-        ensures { OnOk result (self.new ≡ self.old ++ loss_line F.value segment.now) }
+    pub(crate) fn loss_line<F: Exact>(&mut self, lo: F, hi: F) -> Result<(), OutOfMemory>
+        ensures { OnOk result (self.new ≡ self.old ++ loss_line F.value lo hi) }
     {
         self.put(b"loss ")?;
-        self.put_number(segment.loss_lo)?;
+        self.put_number(lo)?;
         self.put(b" ")?;
-        self.put_number(segment.loss_hi)?;
+        self.put_number(hi)?;
         self.put(b"\n")
     }
 
@@ -165,7 +165,7 @@ impl Page {
     {
         self.segment_line(number, segment)?;
         self.coef_lines(segment.vertex.coef.as_slice())?;
-        self.loss_line(segment)?;
+        self.loss_line(segment.loss_lo, segment.loss_hi)?;
         self.scores_line(data_rows, segment.vertex.sides.as_slice())?;
         self.basic_lines(pairs)
     }
@@ -245,6 +245,7 @@ pub fn report_bytes(alloc: Global, report: &Report) -> Result<Vec<u8>, OutOfMemo
         Report::Ranks(ranks) => page.ranks(ranks)?,
         Report::Certificate(cert) => return write_cert(alloc, cert),
         Report::Checked(cert) => page.checked(cert)?,
+        Report::Sample(fit) => page.sample(fit)?,
     }
     Ok(page.into_bytes())
 }

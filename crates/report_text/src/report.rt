@@ -42,6 +42,8 @@ pub enum Report {
     Certificate(Cert),
     /// A certificate all of whose conditions are true.
     Checked(Cert),
+    /// A fit of a generated table, of which a summary is printed.
+    Sample(Fit),
 }
 
 /// Why an input has no report. No fault in it is want of memory.
@@ -100,10 +102,6 @@ pub enum Halt {
     },
     /// A condition of the certificate is false: the first test that is, with its two sides.
     Rejected(Rejection),
-    /// It asks for a job that this version does not do, which is part 1.
-    NotBuilt {
-        part: u8,
-    },
 }
 
 /// What is told on standard error.

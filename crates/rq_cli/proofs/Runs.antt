@@ -15,7 +15,7 @@ use Rattle.rq_cli.specs.Outcomes.{Stream, OnDone, OnFault, outcome_line, WereRea
 use Rattle.rq_cli.specs.Steps.{outcome_of, WasTold, WasPrinted}
 use Rattle.rq_cli.specs.declared.outcome.Outcome.{Outcome}
 use Rattle.rq_cli.specs.declared.trouble.Trouble.TheVariants as troubles
-use Rattle.rq_cli.specs.declared.outcome.Outcome.TheVariants.{Done, Refused, Usage, SourceFault, SinkFault, OutOfMemory, PivotLimit, Overflow, Rejected, NotBuilt}
+use Rattle.rq_cli.specs.declared.outcome.Outcome.TheVariants.{Done, Refused, Usage, SourceFault, SinkFault, OutOfMemory, PivotLimit, Overflow, Rejected}
 
 -- a write whose answer isn't looked at
 pub tried : {T E : Type 0} (r : Result T E) (before now : Stream) (line : List ℕ) → OnOk r (Appends before.bytes now.bytes line) → OnErr r (AppendsPart before.bytes now.bytes line) → CountsFaults before.faults now.faults r → WasTried before now line
@@ -29,14 +29,6 @@ never_long (jobs.Ranks fit) bytes cause = cause
 never_long (jobs.Certify fit) bytes cause = cause
 never_long jobs.Check bytes cause = cause
 never_long (jobs.Sample sample) bytes cause = cause
-
--- nor asks for what it doesn't do
-never_unbuilt : (job : Job) (bytes : List ℕ) (part : ℕ) → engine.HasCause job bytes (halts.NotBuilt part) → ⊥
-never_unbuilt (jobs.Process fit) bytes part cause = cause
-never_unbuilt (jobs.Ranks fit) bytes part cause = cause
-never_unbuilt (jobs.Certify fit) bytes part cause = cause
-never_unbuilt jobs.Check bytes part cause = cause
-never_unbuilt (jobs.Sample sample) bytes part cause = cause
 
 -- the cause of a halt is that of its outcome
 pub halt_cause : (words : List (List ℕ)) (source source' : Stream) (job : Job) (bytes : List ℕ) → WereRead words source source' job bytes → (halt : Halt) → engine.HasCause job bytes halt → IsFault words source source' (outcome_of (troubles.Halt halt))
@@ -54,7 +46,6 @@ halt_cause words source source' job bytes read halts.OutOfMemory cause = tt
 halt_cause words source source' job bytes read (halts.PivotLimit place limit trail) cause = record { job = job; bytes = bytes; read = read; cause = cause }
 halt_cause words source source' job bytes read (halts.Overflow place trail spill) cause = record { job = job; bytes = bytes; read = read; cause = cause }
 halt_cause words source source' job bytes read (halts.Rejected rejection) cause = record { job = job; bytes = bytes; read = read; cause = cause }
-halt_cause words source source' job bytes read (halts.NotBuilt part) cause = absurd (never_unbuilt job bytes part cause)
 
 keeps : (bytes : Option (List ℕ)) → Keeps bytes bytes
 keeps None = tt
@@ -97,7 +88,6 @@ module _ (words : List (List ℕ)) (source source' out out' err err' : Stream) w
   on_fault (PivotLimit _ _ _) P h = h
   on_fault (Overflow _ _ _) P h = h
   on_fault (Rejected _) P h = h
-  on_fault (NotBuilt _) P h = h
 
   not_done : (fault : Outcome) (P : Report → Type 0) → IsFault words source source' fault → OnDone fault P
   not_done (Done report) P h = absurd h
@@ -109,7 +99,6 @@ module _ (words : List (List ℕ)) (source source' out out' err err' : Stream) w
   not_done (PivotLimit _ _ _) P h = tt
   not_done (Overflow _ _ _) P h = tt
   not_done (Rejected _) P h = tt
-  not_done (NotBuilt _) P h = tt
 
   fault_cause : (fault : Outcome) → IsFault words source source' fault → HasCause words source source' out out' err err' fault
   fault_cause (Done _) h = absurd h
@@ -121,7 +110,6 @@ module _ (words : List (List ℕ)) (source source' out out' err err' : Stream) w
   fault_cause (PivotLimit _ _ _) h = h
   fault_cause (Overflow _ _ _) h = h
   fault_cause (Rejected _) h = h
-  fault_cause (NotBuilt _) h = h
 
   -- the line of a fault that was told, or half of it
   pub told_run : (fault outcome : Outcome) → IsFault words source source' fault → (source.faults < source'.faults → fault ≡ SourceFault) → out' ≡ out → WasTold fault outcome err err' → IsRun words source source' out out' err err' outcome

@@ -2,7 +2,7 @@
 use Rattle.std.specs.Prelude.{◌≡◌, ℕ, List, Option, None}
 use Rattle.rq_cli.specs.Outcomes.{Stream, stream, IsRun}
 use Rattle.rq_cli.specs.declared.outcome.Outcome.{Outcome}
-use Rattle.rq_cli.specs.declared.outcome.Outcome.TheVariants.{Done, Refused, Usage, SourceFault, SinkFault, OutOfMemory, PivotLimit, Overflow, Rejected, NotBuilt}
+use Rattle.rq_cli.specs.declared.outcome.Outcome.TheVariants.{Done, Refused, Usage, SourceFault, SinkFault, OutOfMemory, PivotLimit, Overflow, Rejected}
 
 -- the status of an outcome
 abbrev pub code_of : Outcome → ℕ
@@ -15,7 +15,6 @@ code_of OutOfMemory = 5
 code_of (PivotLimit _ _ _) = 6
 code_of (Overflow _ _ _) = 7
 code_of (Rejected _) = 8
-code_of (NotBuilt _) = 9
 
 -- a run of the words over this input, and outputs that tell no bytes, ends with the status
 pub record IsStatus (words : List (List ℕ)) (input : Option (List ℕ)) (status : ℕ) : Type 0 where

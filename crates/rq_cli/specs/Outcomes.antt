@@ -5,6 +5,7 @@ use Rattle.port_io.specs.Counts.{Rose}
 use Rattle.port_io.specs.Told.{most_bytes, TakesAll, TakesFirst, AppendsPart}
 use Rattle.rq_words.specs.Words.{words_of}
 use Rattle.rq_words.specs.declared.job.Job.{Job}
+use Rattle.rq_words.specs.declared.job.Job.TheVariants as jobs
 use Rattle.rq_engine.specs.Answers as engine
 use Rattle.rq_engine.specs.Answers.{IsRight}
 use Rattle.report_text.specs.FaultText.{source_line, sink_line, memory_line, halt_line, usage_line}
@@ -13,9 +14,9 @@ use Rattle.report_text.specs.declared.report.Refusal.TheVariants.{TooLong}
 use Rattle.report_text.specs.declared.report.Report.{Report}
 use Rattle.report_text.specs.declared.report.Halt.{Halt}
 use Rattle.report_text.specs.declared.report.Halt.TheVariants as halts
-use Rattle.rq_engine.specs.Built.{IsBuilt, IsJobOf}
+use Rattle.rq_engine.specs.Jobs.{IsJobOf}
 use Rattle.rq_cli.specs.declared.outcome.Outcome.{Outcome}
-use Rattle.rq_cli.specs.declared.outcome.Outcome.TheVariants.{Done, Refused, Usage, SourceFault, SinkFault, OutOfMemory, PivotLimit, Overflow, Rejected, NotBuilt}
+use Rattle.rq_cli.specs.declared.outcome.Outcome.TheVariants.{Done, Refused, Usage, SourceFault, SinkFault, OutOfMemory, PivotLimit, Overflow, Rejected}
 
 -- a fact of the report
 abbrev pub OnDone : Outcome → (Report → Type 0) → Type 0
@@ -39,7 +40,6 @@ outcome_line OutOfMemory = memory_line
 outcome_line (PivotLimit place limit trail) = halt_line (halts.PivotLimit place limit trail)
 outcome_line (Overflow place trail spill) = halt_line (halts.Overflow place trail spill)
 outcome_line (Rejected rejection) = halt_line (halts.Rejected rejection)
-outcome_line (NotBuilt part) = halt_line (halts.NotBuilt part)
 
 -- the bytes of a source or a sink, where it tells them, and its count of faults
 pub record Stream : Type 0 where
@@ -50,11 +50,20 @@ pub record Stream : Type 0 where
 abbrev pub stream : Option (List ℕ) → ℕ → Stream
 stream bytes faults = record { bytes = bytes; faults = faults }
 
--- the words ask for a job that is done, and these bytes of the source were read to its end
+-- the job reads its source: every one but that of a generated table
+abbrev pub Reads : Job → Type 0
+Reads (jobs.Sample sample) = ⊥
+Reads job = ⊤
+
+-- what a job takes from the source: all of its bytes, to the end; where the table is generated nothing
+abbrev pub Takes : Job → (before now : Stream) → List ℕ → Type 0
+Takes (jobs.Sample sample) before now bytes = (now ≡ before) × (bytes ≡ [])
+Takes job before now bytes = TakesAll before.bytes now.bytes bytes
+
+-- the words ask for the job, which took these bytes from the source
 pub record WereRead (words : List (List ℕ)) (before now : Stream) (job : Job) (bytes : List ℕ) : Type 0 where
   pub asked : IsJobOf words job
-  pub built : IsBuilt job
-  pub whole : TakesAll before.bytes now.bytes bytes
+  pub taken : Takes job before now bytes
   pub short : length bytes ≤ most_bytes
 
 -- the report is right for the job of the words and for the bytes of the source
@@ -63,12 +72,6 @@ pub record IsAnswered (words : List (List ℕ)) (before now : Stream) (report : 
   pub bytes : List ℕ
   pub read : WereRead words before now job bytes
   pub right : IsRight job bytes report
-
--- the words ask for a job that this version doesn't do
-pub record IsNotBuilt (words : List (List ℕ)) : Type 0 where
-  pub job : Job
-  pub asked : IsJobOf words job
-  pub other : ¬ IsBuilt job
 
 -- the bytes of the source have no report for the job of the words, for the cause of this halt
 pub record IsHalted (words : List (List ℕ)) (before now : Stream) (halt : Halt) : Type 0 where
@@ -81,26 +84,25 @@ pub record IsHalted (words : List (List ℕ)) (before now : Stream) (halt : Halt
 pub record IsTooLong (words : List (List ℕ)) (before now : Stream) : Type 0 where
   pub job : Job
   pub asked : IsJobOf words job
-  pub built : IsBuilt job
+  pub reads : Reads job
   pub came : TakesFirst before.bytes now.bytes (most_bytes + 1)
 
--- the words ask for a job that is done
-pub record AskBuilt (words : List (List ℕ)) : Type 0 where
+-- the words ask for a job that reads its source
+pub record AskSource (words : List (List ℕ)) : Type 0 where
   pub job : Job
   pub asked : IsJobOf words job
-  pub built : IsBuilt job
+  pub reads : Reads job
 
 -- the words and what came of the source are the cause of this fault; want of memory, the free answer, needs none
 abbrev pub IsFault : List (List ℕ) → Stream → Stream → Outcome → Type 0
 IsFault words before now (Refused TooLong) = IsTooLong words before now
 IsFault words before now (Refused refusal) = IsHalted words before now (halts.Refused refusal)
 IsFault words before now (Usage fault) = words_of words ≡ Err fault
-IsFault words before now SourceFault = AskBuilt words × Rose before.faults now.faults
+IsFault words before now SourceFault = AskSource words × Rose before.faults now.faults
 IsFault words before now OutOfMemory = ⊤
 IsFault words before now (PivotLimit place limit trail) = IsHalted words before now (halts.PivotLimit place limit trail)
 IsFault words before now (Overflow place trail spill) = IsHalted words before now (halts.Overflow place trail spill)
 IsFault words before now (Rejected rejection) = IsHalted words before now (halts.Rejected rejection)
-IsFault words before now (NotBuilt part) = (part ≡ 1) × IsNotBuilt words
 IsFault words before now (Done _) = ⊥
 IsFault words before now SinkFault = ⊥
 

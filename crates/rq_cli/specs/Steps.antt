@@ -3,6 +3,8 @@ use Rattle.std.specs.Prelude.{◌≡◌, ◌⊎◌, ℕ, List}
 use Rattle.std.specs.Io.KnownBytes.{Appends, Keeps}
 use Rattle.port_io.specs.Counts.{Rose}
 use Rattle.port_io.specs.Told.{AppendsPart}
+use Rattle.rq_words.specs.declared.job.Job.{Job}
+use Rattle.rq_engine.specs.Jobs.{IsJobOf}
 use Rattle.report_text.specs.FaultText.{sink_line}
 use Rattle.report_text.specs.ReportText.{report_text}
 use Rattle.report_text.specs.declared.report.Report.{Report}
@@ -24,11 +26,14 @@ outcome_of (troubles.Halt halts.OutOfMemory) = outcomes.OutOfMemory
 outcome_of (troubles.Halt (halts.PivotLimit place limit trail)) = outcomes.PivotLimit place limit trail
 outcome_of (troubles.Halt (halts.Overflow place trail spill)) = outcomes.Overflow place trail spill
 outcome_of (troubles.Halt (halts.Rejected rejection)) = outcomes.Rejected rejection
-outcome_of (troubles.Halt (halts.NotBuilt part)) = outcomes.NotBuilt part
 
 -- the words have this trouble, whatever the source holds
 abbrev pub IsWordTrouble : List (List ℕ) → Trouble → Type 0
 IsWordTrouble words trouble = (before now : Stream) → IsFault words before now (outcome_of trouble)
+
+-- reading the source for the job has this trouble, whatever words ask for it
+abbrev pub IsSourceTrouble : Job → (before now : Stream) → Trouble → Type 0
+IsSourceTrouble job before now trouble = (words : List (List ℕ)) → IsJobOf words job → IsFault words before now (outcome_of trouble)
 
 -- the line of the fault was added
 pub record IsTold (fault outcome : Outcome) (err err' : Stream) : Type 0 where

@@ -37,10 +37,6 @@ pub enum Outcome {
     },
     /// The certificate is rejected: the first of its tests that is false, with its two sides.
     Rejected(Rejection),
-    /// The words ask for what this version does not do.
-    NotBuilt {
-        part: u8,
-    },
 }
 
 impl Outcome {
@@ -58,7 +54,6 @@ impl Outcome {
             Outcome::PivotLimit { .. } => 6,
             Outcome::Overflow { .. } => 7,
             Outcome::Rejected(_) => 8,
-            Outcome::NotBuilt { .. } => 9,
         }
     }
 }

@@ -1,25 +1,26 @@
 //! The top call.
-ghost use Rattle.std.specs.Prelude.{◌≡◌, ◌≢◌, ◌⊎◌, ◌<◌, ◌≤◌, map, string_bytes, IfOk, IfErr, OnOk};
-ghost use Rattle.rq_engine.specs.Built.{IsBuilt, IsJobOf};
+ghost use Rattle.std.specs.Prelude.{◌≡◌, ◌≢◌, ◌⊎◌, ◌↔◌, ◌<◌, ◌≤◌, length, map, string_bytes, IfOk, IfErr, IsTrue, OnOk};
+ghost use Rattle.rq_engine.specs.Jobs.{IsJobOf};
 ghost use Rattle.report_text.specs.ReportText.{report_text};
-ghost use Rattle.rq_cli.specs.Outcomes.{outcome_line, stream, AskBuilt, IsAnswered, IsFault, IsRun};
-ghost use Rattle.rq_cli.specs.Steps.{outcome_of, IsWordTrouble, WasTold, WasPrinted};
+ghost use Rattle.rq_cli.specs.Outcomes.{outcome_line, stream, AskSource, IsAnswered, IsFault, IsRun, Reads, Takes};
+ghost use Rattle.port_io.specs.Told.{most_bytes};
+ghost use Rattle.rq_cli.specs.Steps.{outcome_of, IsSourceTrouble, IsWordTrouble, WasTold, WasPrinted};
 
 use crate::outcome::Outcome;
 use crate::trouble::Trouble;
 use port_io::{Failed, ReadFault, Sink, Source, read_all, write_all};
 use report_text::{Halt, MEMORY_LINE, Refusal, Report, SINK_LINE, SOURCE_LINE, report_bytes};
-use rq_engine::{answer, is_built};
+use rq_engine::answer;
 use rq_words::{Job, WordFault, read_words};
 use std::alloc::Global;
 use std::thread::Threads;
 
-/// All that the program does: reads the source where the words ask for a job, and writes the
+/// All that the program does: reads the source where the words ask for a job that has one, and writes the
 /// report to `out` or the line of a fault to `err`.
 ///
 /// The whole text is made before the first byte of it is written. `Usage` comes exactly where the
-/// words are refused by that fault, and `NotBuilt` with part 1 exactly where they ask for a job that
-/// this version doesn't do; both leave the source untouched. `Refused` comes exactly where more than
+/// words are refused by that fault. It leaves the source untouched, and so does the job `sample`, which
+/// makes its own table. `Refused` comes exactly where more than
 /// 2^26 bytes come, or where this is the first fault: of the bytes as a table, of the formula over its
 /// names, of their design, of what its smooths add, or of the problem; for `check` of the bytes as a
 /// certificate; as `CertTooLong` where the text of a certificate to be written is longer than 2^26
@@ -29,8 +30,8 @@ use std::thread::Threads;
 /// overflows: of the fit, of a rank interval or of the checker. A stop of an interval is that of the
 /// first one that stops. `Rejected` comes exactly where a condition of
 /// a certificate is false: it is the first, all tests before it being true.
-/// `SourceFault` comes only where the words ask for a job that this version does and the source's
-/// count of faults rose in this call; where it grew there is no other outcome, unless the line of
+/// `SourceFault` comes only where the words ask for a job that reads the source and its count of faults
+/// rose in this call; where it grew there is no other outcome, unless the line of
 /// `SourceFault` couldn't be told. `SinkFault` comes only where the count of `out` or of `err` rose;
 /// where one grew there is no other outcome. `OutOfMemory` may come in place of what would follow,
 /// and never after a write to `out`.
@@ -46,7 +47,7 @@ pub fn run<R: Threads + Sync, S: Source, K: Sink, E: Sink>(
         (stream (S.left source.old) (S.faults source.old)) (stream (S.left source.new) (S.faults source.new))
         (stream (K.written out.old) (K.faults out.old)) (stream (K.written out.new) (K.faults out.new))
         (stream (E.written err.old) (E.faults err.old)) (stream (E.written err.new) (E.faults err.new)) result }
-    ensures unread { ¬ AskBuilt (map string_bytes words.now) → source.new ≡ source.old }
+    ensures unread { ¬ AskSource (map string_bytes words.now) → source.new ≡ source.old }
 {
     match work(rt, alloc, words, source) {
         Ok((report, text)) => print(report, &text, out, err),
@@ -68,17 +69,15 @@ fn work<R: Threads + Sync, S: Source>(
         (stream (S.left source.old) (S.faults source.old)) (stream (S.left source.new) (S.faults source.new)) (outcome_of trouble)) }
     ensures steady { OnOk result (S.faults source.new ≤ S.faults source.old) }
     ensures grew { IfErr result (λ trouble. S.faults source.old < S.faults source.new → trouble ≡ Trouble.Source) }
-    ensures unread { ¬ AskBuilt (map string_bytes words.now) → source.new ≡ source.old }
+    ensures unread { ¬ AskSource (map string_bytes words.now) → source.new ≡ source.old }
 {
     let job = match read_job(alloc, words) {
         Ok(job) => job,
         Err(trouble) => return Err(trouble),
     };
-    let bytes = match read_all(alloc, source) {
+    let bytes = match read_source(alloc, &job, source) {
         Ok(bytes) => bytes,
-        Err(ReadFault::Failed) => return Err(Trouble::Source),
-        Err(ReadFault::TooLong) => return Err(Trouble::Halt(Halt::Refused(Refusal::TooLong))),
-        Err(ReadFault::OutOfMemory) => return Err(Trouble::Halt(Halt::OutOfMemory)),
+        Err(trouble) => return Err(trouble),
     };
     let report = match answer(rt, alloc, &job, &bytes) {
         Ok(report) => report,
@@ -90,22 +89,54 @@ fn work<R: Threads + Sync, S: Source>(
     }
 }
 
-// The job that the words ask for, if this version does it.
+// The job that the words ask for.
 fn read_job(alloc: Global, words: &[String]) -> Result<Job, Trouble>
     ensures asked { IfOk result (IsJobOf (map string_bytes words.now)) }
-    ensures built { IfOk result IsBuilt }
     ensures refused { IfErr result (IsWordTrouble (map string_bytes words.now)) }
 {
     match read_words(alloc, words) {
-        Ok(job) => {
-            if is_built(&job) {
-                Ok(job)
-            } else {
-                Err(Trouble::Halt(Halt::NotBuilt { part: 1 }))
-            }
-        }
+        Ok(job) => Ok(job),
         Err(WordFault::OutOfMemory) => Err(Trouble::Halt(Halt::OutOfMemory)),
         Err(fault) => Err(Trouble::Words(fault)),
+    }
+}
+
+// Whether the job reads its source.
+fn reads(job: &Job) -> bool
+    ensures { IsTrue result ↔ Reads job.now }
+{
+    match job {
+        Job::Process(_) => true,
+        Job::Ranks(_) => true,
+        Job::Certify(_) => true,
+        Job::Check => true,
+        Job::Sample(_) => false,
+    }
+}
+
+// The bytes that a job takes from the source.
+fn read_source<S: Source>(
+    alloc: Global,
+    job: &Job,
+    source: &mut S,
+) -> Result<Vec<u8>, Trouble>
+    ensures taken { IfOk result (λ bytes. Takes job.now
+        (stream (S.left source.old) (S.faults source.old)) (stream (S.left source.new) (S.faults source.new)) bytes.items) }
+    ensures short { IfOk result (λ bytes. length bytes.items ≤ most_bytes) }
+    ensures cause { IfErr result (λ trouble. IsSourceTrouble job.now
+        (stream (S.left source.old) (S.faults source.old)) (stream (S.left source.new) (S.faults source.new)) trouble) }
+    ensures steady { OnOk result (S.faults source.new ≤ S.faults source.old) }
+    ensures grew { IfErr result (λ trouble. S.faults source.old < S.faults source.new → trouble ≡ Trouble.Source) }
+    ensures unread { ¬ Reads job.now → source.new ≡ source.old }
+{
+    if !reads(job) {
+        return Ok(Vec::new(alloc));
+    }
+    match read_all(alloc, source) {
+        Ok(bytes) => Ok(bytes),
+        Err(ReadFault::Failed) => Err(Trouble::Source),
+        Err(ReadFault::TooLong) => Err(Trouble::Halt(Halt::Refused(Refusal::TooLong))),
+        Err(ReadFault::OutOfMemory) => Err(Trouble::Halt(Halt::OutOfMemory)),
     }
 }
 

@@ -16,8 +16,7 @@ pub(crate) enum Trouble {
     Words(WordFault),
     /// The source failed.
     Source,
-    /// No memory was found, the input has no report, a certificate is rejected, or this version doesn't do
-    /// what is asked for.
+    /// No memory was found, the input has no report, or a certificate is rejected.
     Halt(Halt),
 }
 
@@ -65,7 +64,6 @@ impl Trouble {
                 spill,
             },
             Trouble::Halt(Halt::Rejected(rejection)) => Outcome::Rejected(rejection),
-            Trouble::Halt(Halt::NotBuilt { part }) => Outcome::NotBuilt { part },
         }
     }
 }

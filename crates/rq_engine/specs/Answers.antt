@@ -1,13 +1,10 @@
 -- Stated. What the engine is asked and answers.
-use Rattle.std.specs.Prelude.{◌⊎◌, ℕ, Bool, true, List, is_some, length, pos}
+use Rattle.std.specs.Prelude.{◌⊎◌, ℕ, Bool, true, false, List, is_some, length}
 use Rattle.exact_algebra.specs.Fraction.{rational}
-use Rattle.exact_algebra.specs.Rational.{whole}
 use Rattle.frac_core.specs.declared.frac128.Frac128.{Frac128}
 use Rattle.loss_model.specs.declared.process.Trail.{Trail}
 use Rattle.loss_model.specs.declared.spill.Spill.{Spill}
-use Rattle.loss_model.specs.Segment.{Covers, segments_of}
 use Rattle.cert_text.specs.declared.cert.Cert.{Cert}
-use Rattle.rankscores.specs.Wilcoxon.{AreWilcoxon}
 use Rattle.rq_input.specs.Inputs.{HasInputCause, IsInput}
 use Rattle.rq_input.specs.Rows.{HasRows}
 use Rattle.rq_input.specs.declared.input.Input.{Input}
@@ -23,28 +20,18 @@ use Rattle.report_text.specs.declared.report.Refusal.TheVariants.{Dependent, Cer
 use Rattle.report_text.specs.declared.report.Place.TheVariants as places
 use Rattle.report_text.specs.declared.report.Halt.{Halt}
 use Rattle.report_text.specs.declared.report.Halt.TheVariants.{Refused, PivotLimit, Overflow}
+use Rattle.rq_fit.specs.Fit.{IsFitOf}
+use Rattle.rq_fit.specs.Ranks.{AreRanksOf}
+use Rattle.rq_fit.specs.Stops.{HasProblemCause, IsScoringSpill, most}
 use Rattle.rq_engine.specs.Certificates.{IsCertificateOf, IsTooLong, IsWritten}
 use Rattle.rq_engine.specs.Checks.{HasCheckCause, IsCheckedOf}
-use Rattle.rq_engine.specs.Fit.{IsFitUnder, IsRightFit}
-use Rattle.rq_engine.specs.Stops.{HasProblemCause, IsScoringSpill, most}
+use Rattle.rq_engine.specs.Jobs.{sample_fit, sample_table}
 
 -- ---- the report
-
--- the right fit for the job, of the problem of the input; what is told of it is the design's
-pub record IsFitOf (job : FitJob) (input : Input) (fit : Fit) : Type 0 where
-  pub under : IsFitUnder input fit
-  pub right : IsRightFit value job fit
 
 -- the fit is right for the input that the bytes are; that has no smooths where ranks are asked for
 abbrev pub IsFitOfBytes : FitJob → Bool → List ℕ → Fit → Type 0
 IsFitOfBytes job ranked bytes fit = (input : Input) × IsInput job ranked bytes input × IsFitOf job input fit
-
--- the segments of a right fit cover 0 to 1, and these are the Wilcoxon scores of its rows (Gutenbrunner and Jurečková
--- 1992)
-pub record AreRanksOf (job : FitJob) (input : Input) (ranks : RanksFit) : Type 0 where
-  pub fit : IsFitOf job input ranks.fit
-  pub covers : Covers (length ranks.fit.problem.rows) (whole (pos 0)) (whole (pos 1)) (segments_of value ranks.fit.problem ranks.fit.process.segments)
-  pub wilcoxon : AreWilcoxon value ranks.fit.problem ranks.fit.process.segments ranks.wilcoxon
 
 -- they are right for the input that the bytes are, which has no smooths
 abbrev pub AreRanksOfBytes : FitJob → List ℕ → RanksFit → Type 0
@@ -61,20 +48,22 @@ pub record IsCertified (job : FitJob) (input : Input) (cert : Cert) : Type 0 whe
 abbrev pub IsCertifiedOfBytes : FitJob → List ℕ → Cert → Type 0
 IsCertifiedOfBytes job bytes cert = (input : Input) × IsInput job (is_some job.rank) bytes input × IsCertified job input cert
 
--- the report is right for the job and for the bytes
+-- the report is right for the job and for the bytes; that of a generated table is of the table's own bytes
 abbrev pub IsRight : Job → List ℕ → Report → Type 0
 IsRight (jobs.Process job) bytes (reports.Process fit) = IsFitOfBytes job (is_some job.rank) bytes fit
 IsRight (jobs.Ranks job) bytes (reports.Ranks ranks) = AreRanksOfBytes job bytes ranks
 IsRight (jobs.Certify job) bytes (reports.Certificate cert) = IsCertifiedOfBytes job bytes cert × IsWritten cert
 IsRight jobs.Check bytes (reports.Checked cert) = IsCheckedOf bytes cert
+IsRight (jobs.Sample job) bytes (reports.Sample fit) = IsFitOfBytes (sample_fit job) false (sample_table job) fit
 IsRight _ bytes report = ⊥
 
 -- ---- why there is none
 
--- the problem of the bytes has no fit, for this halt
+-- the problem of the bytes has no fit, for this halt; its rows are data rows and then penalty rows
 pub record LacksFit (job : FitJob) (ranked : Bool) (bytes : List ℕ) (halt : Halt) : Type 0 where
   pub input : Input
   pub is : IsInput job ranked bytes input
+  pub rows : HasRows input
   pub cause : HasProblemCause job (length input.design.rows) input.problem halt
 
 -- why bytes have no fit: their problem has none, or there is no problem
@@ -88,6 +77,7 @@ HasFitCause job ranked bytes halt = HasInputCause job ranked bytes halt
 pub record LacksScores (job : FitJob) (bytes : List ℕ) (trail : Trail Frac128) (spill : Spill Frac128) : Type 0 where
   pub input : Input
   pub is : IsInput job true bytes input
+  pub rows : HasRows input
   pub operation : IsScoringSpill value most input.problem (rational (value job.lo)) (rational (value job.hi)) job.limit trail spill
 
 -- why bytes have no Wilcoxon scores: they have no fit, or such an operation overflows
@@ -112,4 +102,4 @@ HasCause (jobs.Process job) bytes halt = HasFitCause job (is_some job.rank) byte
 HasCause (jobs.Ranks job) bytes halt = HasRanksCause job bytes halt
 HasCause (jobs.Certify job) bytes halt = HasCertifyCause job bytes halt
 HasCause jobs.Check bytes halt = HasCheckCause bytes halt
-HasCause _ bytes halt = ⊥
+HasCause (jobs.Sample job) bytes halt = HasFitCause (sample_fit job) false (sample_table job) halt

@@ -2,18 +2,19 @@
 ghost use Rattle.std.specs.Prelude.{◌≤◌, ◌^◌, ℕ, List, length, IfOk, IfErr};
 ghost use Rattle.report_text.specs.ReportText.{IsPrintable};
 ghost use Rattle.rq_engine.specs.Answers.{HasCause, IsRight};
-ghost use Rattle.rq_engine.specs.Built.{IsBuilt, IsJobOf};
+ghost use Rattle.rq_engine.specs.Jobs.{IsJobOf};
 
 use crate::certify::certify_bytes;
 use crate::check::check_bytes;
 use crate::process::fit_bytes;
 use crate::ranks::ranks_bytes;
+use crate::sample::fit_sample;
 use report_text::{Halt, Report};
 use rq_words::Job;
 use std::alloc::Global;
 use std::thread::Threads;
 
-/// The report of a job that this version does, from the bytes of its input.
+/// The report of a job from the bytes of its input; the job `sample` makes its own table and looks at none.
 ///
 /// `Refused` is the first fault: of the bytes as a table, of the formula over the table's names, of
 /// the design, of what its smooths add, or of the problem; or `Dependent`, only where the columns of
@@ -31,7 +32,6 @@ pub fn answer<R: Threads + Sync>(
     bytes: &[u8],
 ) -> Result<Report, Halt>
     requires asked { (words : List (List ℕ)) × IsJobOf words job.now }
-    requires built { IsBuilt job.now }
     requires short { length bytes.now ≤ 2 ^ 26 }
     ensures right { IfOk result (IsRight job.now bytes.now) }
     ensures printable { IfOk result IsPrintable }
@@ -62,6 +62,11 @@ pub fn answer<R: Threads + Sync>(
                 Err(halt) => Err(halt),
             }
         }
-        Job::Sample(_) => unreachable!(),
+        Job::Sample(sample_job) => {
+            match fit_sample(alloc, sample_job) {
+                Ok(fit) => Ok(Report::Sample(fit)),
+                Err(halt) => Err(halt),
+            }
+        }
     }
 }

@@ -19,7 +19,7 @@ use Rattle.rq_program.specs.declared.fault.ProgramFault.TheVariants as programs
 use Rattle.rq_words.specs.declared.job.FitJob.{FitJob}
 use Rattle.report_text.specs.declared.report.Refusal.TheVariants as refusals
 use Rattle.report_text.specs.declared.report.Halt.{Halt}
-use Rattle.report_text.specs.declared.report.Halt.TheVariants.{Refused, OutOfMemory, NotBuilt}
+use Rattle.report_text.specs.declared.report.Halt.TheVariants.{Refused, OutOfMemory}
 use Rattle.rq_input.specs.Models.{IsDesigned, IsModel, IsProblemOf, IsSmoothed}
 use Rattle.rq_input.specs.declared.input.Input.{Input}
 
@@ -98,5 +98,4 @@ abbrev pub HasInputCause : FitJob → Bool → List ℕ → Halt → Type 0
 HasInputCause job ranked bytes (Refused refusals.TooLong) = ⊥
 HasInputCause job ranked bytes (Refused (refusals.Table fault)) = table_of bytes ≡ Err fault
 HasInputCause job ranked bytes OutOfMemory = ⊤
-HasInputCause job ranked bytes (NotBuilt part) = ⊥
 HasInputCause job ranked bytes halt = (table : Table) × AreTable bytes table × HasTableCause job ranked table halt

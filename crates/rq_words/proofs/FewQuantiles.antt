@@ -16,7 +16,7 @@ use Rattle.rq_words.specs.declared.command.Kind.{Kind}
 use Rattle.rq_words.specs.declared.command.Kind.TheVariants as kind
 use Rattle.rq_words.specs.declared.job.WordFault.{WordFault}
 use Rattle.rq_words.specs.declared.job.WordFault.TheVariants.{BadContrasts, BadNumber, BadOption, UnknownJob}
-use Rattle.rq_words.proofs.Orders.{step_ok, found_ok, no_fault}
+use Rattle.rq_words.proofs.Orders.{step_ok, found_ok, short_ok, no_fault}
 
 -- a list of quantiles, if there is one
 abbrev AreFew : Option (List ℚ) → Type 0
@@ -60,7 +60,7 @@ option_few (Some text) r fault h = given_few (quantiles text) r fault (quantiles
 -- ---- the numbers of the options
 
 -- a step that is passed has an answer
-step_both : {A B : Type 0} (r : Result A WordFault) (next : A → Result B WordFault) (x : B) → (r >>= next) ≡ Ok x → (a : A) × (r ≡ Ok a) × (next a ≡ Ok x)
+pub step_both : {A B : Type 0} (r : Result A WordFault) (next : A → Result B WordFault) (x : B) → (r >>= next) ≡ Ok x → (a : A) × (r ≡ Ok a) × (next a ≡ Ok x)
 step_both (Ok a) next x h = (a, refl, h)
 step_both (Err fault) next x h = absurd (cc h)
 
@@ -114,10 +114,6 @@ checked_few kind found r h =
     let chosen = step_ok (option BadContrasts found (codes "contrasts") Treatment coding) _ _ numbers.2 in
     let sound = no_fault (fault_of numbers.0) (request_for kind found numbers.0 chosen.0) _ chosen.1 in
     subst HasFew sound.1 (request_few kind found numbers.0 chosen.0 (numbers_few found numbers.0 numbers.1))
-
-short_ok : {B : Type 0} (b : Bool) (r : Result B WordFault) (fault : WordFault) (x : B) → (if b then Err fault else r) ≡ Ok x → r ≡ Ok x
-short_ok true r fault x h = absurd (cc h)
-short_ok false r fault x h = h
 
 job_few : (kind : Kind) (words : List Text) (r : Request) → words_of_job kind words ≡ Ok r → HasFew r
 unfolding words_of_job

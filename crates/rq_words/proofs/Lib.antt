@@ -6,3 +6,4 @@ pub mod Orders
 pub mod ShortWords
 pub mod RankRequests
 pub mod FewQuantiles
+pub mod Samples

@@ -3,7 +3,7 @@ use Rattle.std.proofs.Common.{◌≡◌, Bool, true, false, not, ◌&&◌, List,
 use Rattle.std.specs.List.{list_any}
 use Rattle.std.specs.Option.{option_map_or}
 use Rattle.clap.specs.Words.{Row, Text}
-use Rattle.exact_algebra.specs.Rational.{le_ℚ, ◌≤ℚ◌}
+use Rattle.exact_algebra.specs.Rational.{ℚ, le_ℚ, ◌≤ℚ◌}
 use Rattle.contrasts.specs.declared.Coding.{Coding}
 use Rattle.contrasts.specs.declared.Coding.TheVariants.{Treatment}
 use Rattle.rq_words.specs.Commands.{command_of, kind_of, options_of, read_by}
@@ -24,7 +24,7 @@ pub found_ok : {A B : Type 0} (o : Option A) (next : A → Result B WordFault) (
 found_ok (Some a) next fault x h = (a, h)
 found_ok None next fault x h = absurd (cc h)
 
-short_ok : {B : Type 0} (b : Bool) (r : Result B WordFault) (fault : WordFault) (x : B) → (if b then Err fault else r) ≡ Ok x → r ≡ Ok x
+pub short_ok : {B : Type 0} (b : Bool) (r : Result B WordFault) (fault : WordFault) (x : B) → (if b then Err fault else r) ≡ Ok x → r ≡ Ok x
 short_ok true r fault x h = absurd (cc h)
 short_ok false r fault x h = h
 
@@ -32,7 +32,7 @@ pub no_fault : {B : Type 0} (o : Option WordFault) (y x : B) → option_map_or (
 no_fault (Some fault) y x h = absurd (cc h)
 no_fault None y x h = (refl, cc h)
 
-in_order : (n : OptionNumbers) → fault_of n ≡ None → is_in_order n.lo n.hi ≡ true
+pub in_order : (n : OptionNumbers) → fault_of n ≡ None → is_in_order n.lo n.hi ≡ true
 unfolding fault_of
 in_order n h = by (is_in_order n.lo n.hi) _ h
   where
@@ -78,26 +78,26 @@ words_in_order (job ∷ rest) r h =
     let kind = found_ok (kind_of job) (λ kind. words_of_job kind (job ∷ rest)) UnknownJob _ h in
     job_in_order kind.0 (job ∷ rest) r kind.1
 
-both : (a b : Bool) → (a && b) ≡ true → (a ≡ true) × (b ≡ true)
+pub both : (a b : Bool) → (a && b) ≡ true → (a ≡ true) × (b ≡ true)
 both true b h = (refl, h)
 both false b h = absurd (cc h)
 
-abbrev IsRange : FitRequest → Type 0
-IsRange f = (zero ≤ℚ f.lo) × (f.lo ≤ℚ f.hi) × (f.hi ≤ℚ one)
+abbrev IsRange : ℚ → ℚ → Type 0
+IsRange lo hi = (zero ≤ℚ lo) × (lo ≤ℚ hi) × (hi ≤ℚ one)
 
-range_of : (f : FitRequest) → is_in_order f.lo f.hi ≡ true → IsRange f
-range_of f order =
-    let high = both (le_ℚ zero f.lo && le_ℚ f.lo f.hi) (le_ℚ f.hi one) order in
-    let within = both (le_ℚ zero f.lo) (le_ℚ f.lo f.hi) high.0 in
+pub range_of : (lo hi : ℚ) → is_in_order lo hi ≡ true → IsRange lo hi
+range_of lo hi order =
+    let high = both (le_ℚ zero lo && le_ℚ lo hi) (le_ℚ hi one) order in
+    let within = both (le_ℚ zero lo) (le_ℚ lo hi) high.0 in
     (record { le = within.0 }, record { le = within.1 }, record { le = high.1 })
 
 -- the range of a process that the words ask for
 pub process_range : (words : List Text) (f : FitRequest) → words_of words ≡ Ok (request.Process f) → (zero ≤ℚ f.lo) × (f.lo ≤ℚ f.hi) × (f.hi ≤ℚ one)
-process_range words f h = range_of f (words_in_order words (request.Process f) h)
+process_range words f h = range_of f.lo f.hi (words_in_order words (request.Process f) h)
 
 -- and that of a certificate
 pub certify_range : (words : List Text) (f : FitRequest) → words_of words ≡ Ok (request.Certify f) → (zero ≤ℚ f.lo) × (f.lo ≤ℚ f.hi) × (f.hi ≤ℚ one)
-certify_range words f h = range_of f (words_in_order words (request.Certify f) h)
+certify_range words f h = range_of f.lo f.hi (words_in_order words (request.Certify f) h)
 
 -- ranks are taken over 0 to 1
 unit_range : (kind : Kind) (found : List Row) (n : OptionNumbers) (chosen : Coding) (f : FitRequest) → request_for kind found n chosen ≡ request.Ranks f → (zero ≡ f.lo) × (one ≡ f.hi)

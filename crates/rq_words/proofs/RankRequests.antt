@@ -14,16 +14,12 @@ use Rattle.rq_words.specs.declared.command.Kind.{Kind}
 use Rattle.rq_words.specs.declared.command.Kind.TheVariants as kind
 use Rattle.rq_words.specs.declared.job.WordFault.{WordFault}
 use Rattle.rq_words.specs.declared.job.WordFault.TheVariants.{BadContrasts, BadOption, BadRange, BadTauForRank, NegativeLimit, RankHalf, UnknownJob}
-use Rattle.rq_words.proofs.Orders.{step_ok, found_ok, no_fault}
+use Rattle.rq_words.proofs.Orders.{step_ok, found_ok, short_ok, no_fault}
 
 -- a test that finds no fault fails, and so do those behind it
 untold : (b : Bool) (fault : WordFault) (rest : Option WordFault) → (if b then Some fault else rest) ≡ None → (b ≡ false) × (rest ≡ None)
 untold true fault rest h = absurd (cc h)
 untold false fault rest h = (refl, h)
-
-short_ok : {B : Type 0} (b : Bool) (r : Result B WordFault) (fault : WordFault) (x : B) → (if b then Err fault else r) ≡ Ok x → r ≡ Ok x
-short_ok true r fault x h = absurd (cc h)
-short_ok false r fault x h = h
 
 -- ---- the request
 

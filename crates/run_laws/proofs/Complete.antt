@@ -1,5 +1,5 @@
 -- A job whose input is well formed is answered.
-use Rattle.std.specs.Prelude.{◌≡◌, ◌≢◌, ◌⊎◌, ℕ, ◌+◌, ◌*◌, ◌<◌, ◌≤◌, Bool, true, is_some, List, Option, Some, None, option_map, length, slice_index}
+use Rattle.std.specs.Prelude.{◌≡◌, ◌≢◌, ◌⊎◌, ℕ, ◌+◌, ◌*◌, ◌<◌, ◌≤◌, Bool, true, false, is_some, List, Option, Some, None, option_map, length, slice_index}
 use Rattle.std.proofs.Common.{arith, refl, sym, ap, subst, ◌∙◌, inl, inr}
 use Rattle.exact_algebra.specs.Fraction.{rational}
 use Rattle.frac_core.specs.declared.frac128.Frac128.{Frac128}
@@ -27,61 +27,95 @@ use Rattle.report_text.specs.declared.report.Report.{Report}
 use Rattle.report_text.specs.declared.report.Report.TheVariants as reports
 use Rattle.report_text.specs.declared.report.Halt.TheVariants as halts
 use Rattle.rq_input.specs.Inputs.{IsInput}
-use Rattle.rq_input.specs.Rows.{HasRows}
 use Rattle.rq_input.specs.declared.input.Input.{Input}
+use Rattle.rq_fit.specs.Fit.{IsFitOf}
 use Rattle.rq_engine.specs.Answers as engine
-use Rattle.rq_engine.specs.Answers.{IsRight, IsFitOf, HasFitCause, HasCertifyCause}
-use Rattle.rq_engine.specs.Built.{IsBuilt, IsJobOf}
-use Rattle.rq_cli.specs.Outcomes.{Stream, IsRun, IsAnswered, IsHalted, IsOutputFault, IsErrorFault, WereRead}
+use Rattle.rq_engine.specs.Answers.{IsRight, HasFitCause, HasCertifyCause}
+use Rattle.rq_engine.specs.Jobs.{IsJobOf, sample_fit}
+use Rattle.rq_cli.specs.Outcomes.{Stream, IsRun, IsAnswered, IsHalted, IsOutputFault, IsErrorFault, IsTooLong, Reads, WereRead}
 use Rattle.rq_cli.specs.declared.outcome.Outcome.{Outcome}
-use Rattle.rq_cli.specs.declared.outcome.Outcome.TheVariants.{Done, Refused, Usage, SourceFault, SinkFault, OutOfMemory, PivotLimit, Overflow, Rejected, NotBuilt}
+use Rattle.rq_cli.specs.declared.outcome.Outcome.TheVariants.{Done, Refused, Usage, SourceFault, SinkFault, OutOfMemory, PivotLimit, Overflow, Rejected}
 use Rattle.stop_laws.proofs.Needed.{dependent, process_full}
 use Rattle.interval_laws.proofs.Needed.{interval_full}
-use Rattle.run_laws.specs.Completeness.{NoneRose, IsWellFormed, IsAnswer, IsLimitedInput, IsNoReport, IsUnfitted}
-use Rattle.run_laws.specs.NeededOutcomes.{IsFitJob, AskFit, WasInput, ReachesLimitAt}
+use Rattle.run_laws.specs.Completeness.{NoneRose, IsWellFormed, IsAnswer, IsLimitedInput, IsNoReport, IsUnfitted, parts_of}
+use Rattle.run_laws.specs.NeededOutcomes.{IsFitJob, AskFit, WasInput, ReachesLimitAt, table_bytes}
 use Rattle.run_laws.proofs.Needed.{limit_needed, overflow_needed}
 
 -- ---- words
 
 -- words ask for one request
 module _ (words : List (List ℕ)) where
-  one_request : (job other : Job) → IsJobOf words job → IsJobOf words other → request_of job ≡ request_of other
+  pub one_request : (job other : Job) → IsJobOf words job → IsJobOf words other → request_of job ≡ request_of other
   one_request job other asked again = cc (sym asked ∙ again)
 
-  -- a job of these words is done where one is
-  also_built : (job other : Job) → request_of job ≡ request_of other → IsBuilt other → IsBuilt job
-  also_built (jobs.Process a) other same built = tt
-  also_built (jobs.Ranks a) other same built = tt
-  also_built (jobs.Certify a) other same built = tt
-  also_built jobs.Check other same built = tt
-  also_built (jobs.Sample a) (jobs.Process b) same built = absurd (cc same)
-  also_built (jobs.Sample a) (jobs.Ranks b) same built = absurd (cc same)
-  also_built (jobs.Sample a) (jobs.Certify b) same built = absurd (cc same)
-  also_built (jobs.Sample a) jobs.Check same built = absurd (cc same)
-  also_built (jobs.Sample a) (jobs.Sample b) same built = absurd built
+  -- a job of these words reads the source where one does
+  also_reads : (job other : Job) → request_of job ≡ request_of other → Reads other → Reads job
+  also_reads (jobs.Process a) other same reads = tt
+  also_reads (jobs.Ranks a) other same reads = tt
+  also_reads (jobs.Certify a) other same reads = tt
+  also_reads jobs.Check other same reads = tt
+  also_reads (jobs.Sample a) (jobs.Process b) same reads = absurd (cc same)
+  also_reads (jobs.Sample a) (jobs.Ranks b) same reads = absurd (cc same)
+  also_reads (jobs.Sample a) (jobs.Certify b) same reads = absurd (cc same)
+  also_reads (jobs.Sample a) jobs.Check same reads = absurd (cc same)
+  also_reads (jobs.Sample a) (jobs.Sample b) same reads = absurd reads
 
   -- words that ask for a fit ask for no check
-  no_check : (job : Job) (fit : FitJob) (ranked : Bool) → IsFitJob job fit ranked → request_of jobs.Check ≡ request_of job → ⊥
+  pub no_check : (job : Job) (fit : FitJob) (ranked : Bool) → IsFitJob job fit ranked → request_of jobs.Check ≡ request_of job → ⊥
   no_check (jobs.Process a) fit ranked is same = absurd (cc same)
   no_check (jobs.Ranks a) fit ranked is same = absurd (cc same)
   no_check (jobs.Certify a) fit ranked is same = absurd (cc same)
   no_check jobs.Check fit ranked is same = is
-  no_check (jobs.Sample a) fit ranked is same = is
+  no_check (jobs.Sample a) fit ranked is same = absurd (cc same)
+
+-- a report that is right for bytes is right for others of the same table
+right_same : (job : Job) (report : Report) (a b : List ℕ) → table_bytes job a ≡ table_bytes job b → IsRight job a report → IsRight job b report
+right_same (jobs.Process fit) report a b same h = subst (λ x. IsRight (jobs.Process fit) x report) same h
+right_same (jobs.Ranks fit) report a b same h = subst (λ x. IsRight (jobs.Ranks fit) x report) same h
+right_same (jobs.Certify fit) report a b same h = subst (λ x. IsRight (jobs.Certify fit) x report) same h
+right_same jobs.Check report a b same h = subst (λ x. IsRight jobs.Check x report) same h
+right_same (jobs.Sample job) (reports.Process f) a b same h = absurd h
+right_same (jobs.Sample job) (reports.Ranks f) a b same h = absurd h
+right_same (jobs.Sample job) (reports.Certificate c) a b same h = absurd h
+right_same (jobs.Sample job) (reports.Checked c) a b same h = absurd h
+right_same (jobs.Sample job) (reports.Sample f) a b same h = h
 
 -- ---- an input that is well formed
 
+module _ (source source' : Stream) (bytes : List ℕ) (told : source.bytes ≡ Some bytes) where
+  -- the bytes that were read are those that the source tells
+  pub were_told : (other : List ℕ) → TakesAll source.bytes source'.bytes other → other ≡ bytes
+  were_told other taken = (subst (λ o. TakesAll o source'.bytes other) told taken).0
+
+  -- and not more came
+  pub none_beyond : length bytes ≤ most_bytes → ¬ TakesFirst source.bytes source'.bytes (most_bytes + 1)
+  none_beyond few came = let long : most_bytes + 1 ≤ length bytes = (subst (λ o. TakesFirst o source'.bytes (most_bytes + 1)) told came).0 in omega (arith, long, few)
+
+module _ (words : List (List ℕ)) (source source' : Stream) (bytes : List ℕ) (first : FitJob) (kind : Bool) (asked : AskFit words first kind) (told : Reads asked.job → source.bytes ≡ Some bytes) where
+  told_to : (job : Job) → IsJobOf words job → Reads job → source.bytes ≡ Some bytes
+  told_to job this reads = told (also_reads words asked.job job (one_request words asked.job job asked.asked this) reads)
+
+  -- a job that fits read the bytes of this table
+  pub same_table : (job : Job) (other : List ℕ) → WereRead words source source' job other → table_bytes job other ≡ table_bytes job bytes
+  same_table (jobs.Process fit) other read = were_told source source' bytes (told_to (jobs.Process fit) read.asked tt) other read.taken
+  same_table (jobs.Ranks fit) other read = were_told source source' bytes (told_to (jobs.Ranks fit) read.asked tt) other read.taken
+  same_table (jobs.Certify fit) other read = were_told source source' bytes (told_to (jobs.Certify fit) read.asked tt) other read.taken
+  same_table jobs.Check other read = were_told source source' bytes (told_to jobs.Check read.asked tt) other read.taken
+  same_table (jobs.Sample job) other read = refl
+
 module _ (words : List (List ℕ)) (source source' : Stream) (bytes : List ℕ) (w : IsWellFormed words source bytes) where
-  -- the bytes that were read are these
-  were_told : (other : List ℕ) → TakesAll source.bytes source'.bytes other → other ≡ bytes
-  were_told other taken = (subst (λ o. TakesAll o source'.bytes other) w.told taken).0
+  this_table : (job : Job) (other : List ℕ) → WereRead words source source' job other → table_bytes job other ≡ table_bytes job bytes
+  this_table = same_table words source source' bytes w.fit w.ranked w.asked w.told
 
-  short : ¬ TakesFirst source.bytes source'.bytes (most_bytes + 1)
-  short came = let long : most_bytes + 1 ≤ length bytes = (subst (λ o. TakesFirst o source'.bytes (most_bytes + 1)) w.told came).0 in omega (arith, long, w.short)
+  short : ¬ IsTooLong words source source'
+  short h =
+      let reads = also_reads words w.asked.job h.job (one_request words w.asked.job h.job w.asked.asked h.asked) h.reads in
+      none_beyond source source' bytes (w.told reads) (w.short reads) h.came
 
-  sound : (fit : FitJob) (ranked : Bool) (refusal : Refusal) (other : List ℕ) → other ≡ bytes → AskFit words fit ranked → ¬ HasFitCause fit ranked other (halts.Refused refusal)
-  sound fit ranked refusal other same asked cause = by refusal (subst (λ b. HasFitCause fit ranked b (halts.Refused refusal)) same cause)
+  sound : (fit : FitJob) (ranked : Bool) (refusal : Refusal) (asked : AskFit words fit ranked) → ¬ HasFitCause fit ranked (table_bytes asked.job bytes) (halts.Refused refusal)
+  sound fit ranked refusal asked cause = by refusal cause
     where
-      by : (refusal : Refusal) → HasFitCause fit ranked bytes (halts.Refused refusal) → ⊥
+      by : (refusal : Refusal) → HasFitCause fit ranked (table_bytes asked.job bytes) (halts.Refused refusal) → ⊥
       by (refusals.Dependent combination) h = dependent (sample value h.input.problem) _ h.cause.dependence (w.rank fit ranked h.input asked h.is)
       by refusals.TooLong h = w.sound fit ranked asked refusals.TooLong h
       by (refusals.Table fault) h = w.sound fit ranked asked (refusals.Table fault) h
@@ -97,13 +131,14 @@ module _ (words : List (List ℕ)) (source source' : Stream) (bytes : List ℕ) 
   unchecked : IsJobOf words jobs.Check → ⊥
   unchecked asked = no_check words w.asked.job w.fit w.ranked w.asked.is (one_request words jobs.Check w.asked.job asked w.asked.asked)
 
-  fit_refused : (fit : FitJob) (ranked : Bool) (job : Job) → IsFitJob job fit ranked → (refusal : Refusal) (other : List ℕ) → WereRead words source source' job other → ¬ HasFitCause fit ranked other (halts.Refused refusal)
+  fit_refused : (fit : FitJob) (ranked : Bool) (job : Job) → IsFitJob job fit ranked → (refusal : Refusal) (other : List ℕ) → WereRead words source source' job other → ¬ HasFitCause fit ranked (table_bytes job other) (halts.Refused refusal)
   fit_refused fit ranked job is refusal other read cause =
-      sound fit ranked refusal other (were_told other read.whole) (record { job = job; asked = read.asked; built = read.built; is = is }) cause
+      let asked : AskFit words fit ranked = record { job = job; asked = read.asked; is = is } in
+      sound fit ranked refusal asked (subst (λ b. HasFitCause fit ranked b (halts.Refused refusal)) (this_table job other read) cause)
 
   -- the certificate that is too long aside, no certificate is refused but as a fit is
   certify_refused : (fit : FitJob) (refusal : Refusal) → ((n : ℕ) → refusal ≢ refusals.CertTooLong n) → (other : List ℕ) → WereRead words source source' (jobs.Certify fit) other → ¬ HasCertifyCause fit other (halts.Refused refusal)
-  certify_refused fit (refusals.CertTooLong n) short other read cause = short n refl
+  certify_refused fit (refusals.CertTooLong n) other_than other read cause = other_than n refl
   certify_refused fit (refusals.Dependent combination) short other read cause = fit_refused fit (is_some fit.rank) (jobs.Certify fit) (refl, refl) (refusals.Dependent combination) other read cause
   certify_refused fit refusals.TooLong short other read cause = fit_refused fit (is_some fit.rank) (jobs.Certify fit) (refl, refl) refusals.TooLong other read cause
   certify_refused fit (refusals.Table fault) short other read cause = fit_refused fit (is_some fit.rank) (jobs.Certify fit) (refl, refl) (refusals.Table fault) other read cause
@@ -122,7 +157,7 @@ module _ (words : List (List ℕ)) (source source' : Stream) (bytes : List ℕ) 
       by (jobs.Ranks fit) read cause = fit_refused fit true (jobs.Ranks fit) (refl, refl) refusal h.bytes read cause
       by (jobs.Certify fit) read cause = certify_refused fit refusal short h.bytes read cause
       by jobs.Check read cause = unchecked read.asked
-      by (jobs.Sample job) read cause = absurd cause
+      by (jobs.Sample job) read cause = fit_refused (sample_fit job) false (jobs.Sample job) (refl, refl) refusal h.bytes read cause
 
   -- and none is rejected
   not_rejected : (rejection : Rejection) → ¬ IsHalted words source source' (halts.Rejected rejection)
@@ -133,7 +168,7 @@ module _ (words : List (List ℕ)) (source source' : Stream) (bytes : List ℕ) 
       by (jobs.Ranks fit) read cause = absurd cause.2.cause
       by (jobs.Certify fit) read cause = absurd cause.2.cause
       by jobs.Check read cause = unchecked read.asked
-      by (jobs.Sample job) read cause = absurd cause
+      by (jobs.Sample job) read cause = absurd cause.2.cause
 
   pub answered : (out out' err err' : Stream) (outcome : Outcome) → IsRun words source source' out out' err err' outcome → NoneRose source source' out out' err err' → IsAnswer words source source' bytes outcome
   answered out out' err err' outcome run none = by outcome run
@@ -141,8 +176,8 @@ module _ (words : List (List ℕ)) (source source' : Stream) (bytes : List ℕ) 
       by : (outcome : Outcome) → IsRun words source source' out out' err err' outcome → IsAnswer words source source' bytes outcome
       by (Done report) run =
           let a = run.cause in
-          (a.job, a.read.asked, subst (λ b. IsRight a.job b report) (were_told a.bytes a.read.whole) a.right)
-      by (Refused refusals.TooLong) run = absurd (short run.cause.came)
+          (a.job, a.read.asked, right_same a.job report a.bytes bytes (this_table a.job a.bytes a.read) a.right)
+      by (Refused refusals.TooLong) run = absurd (short run.cause)
       by (Refused (refusals.Table fault)) run = absurd (not_refused (refusals.Table fault) (λ n. λ e. cc e) run.cause)
       by (Refused (refusals.Formula fault)) run = absurd (not_refused (refusals.Formula fault) (λ n. λ e. cc e) run.cause)
       by (Refused refusals.RankWithPenalty) run = absurd (not_refused refusals.RankWithPenalty (λ n. λ e. cc e) run.cause)
@@ -163,38 +198,44 @@ module _ (words : List (List ℕ)) (source source' : Stream) (bytes : List ℕ) 
       by (PivotLimit place limit trail) run = limit_needed words source source' place limit trail run.cause
       by (Overflow place trail spill) run = overflow_needed words source source' place trail spill run.cause
       by (Rejected rejection) run = absurd (not_rejected rejection run.cause)
-      by (NotBuilt part) run =
-          absurd (run.cause.1.other (also_built words run.cause.1.job w.asked.job (one_request words run.cause.1.job w.asked.job run.cause.1.asked w.asked.asked) w.asked.built))
 
 -- ---- limits
 
 module _ (words : List (List ℕ)) (source source' : Stream) where
   -- where the words ask for a fit, a right report is of a fit of an input that was read
-  report_fit : (first : FitJob) (kind : Bool) → AskFit words first kind → (report : Report) → IsAnswered words source source' report → (fit : FitJob) × (input : Input) × (f : Fit) × WasInput words source source' fit input × IsFitOf fit input f
+  pub report_fit : (first : FitJob) (kind : Bool) → AskFit words first kind → (report : Report) → IsAnswered words source source' report → (fit : FitJob) × (input : Input) × (f : Fit) × WasInput words source source' fit input × IsFitOf fit input f
   report_fit first kind asked report h = by h.job report h.read h.right
     where
-      was : (fit : FitJob) (input : Input) (ranked : Bool) (job : Job) → IsFitJob job fit ranked → WereRead words source source' job h.bytes → IsInput fit ranked h.bytes input → WasInput words source source' fit input
+      was : (fit : FitJob) (input : Input) (ranked : Bool) (job : Job) → IsFitJob job fit ranked → WereRead words source source' job h.bytes → IsInput fit ranked (table_bytes job h.bytes) input → WasInput words source source' fit input
       was fit input ranked job is_job read is =
-          record { ranked = ranked; bytes = h.bytes; asked = record { job = job; asked = read.asked; built = read.built; is = is_job }; read = (job, read); is = is }
+          record { ranked = ranked; bytes = h.bytes; asked = record { job = job; asked = read.asked; is = is_job }; read = read; is = is }
 
       by : (job : Job) (report : Report) → WereRead words source source' job h.bytes → IsRight job h.bytes report → (fit : FitJob) × (input : Input) × (f : Fit) × WasInput words source source' fit input × IsFitOf fit input f
       by (jobs.Process fit) (reports.Process f) read right = (fit, right.0, f, was fit right.0 (is_some fit.rank) (jobs.Process fit) (refl, refl) read right.1, right.2)
       by (jobs.Process fit) (reports.Ranks f) read right = absurd right
       by (jobs.Process fit) (reports.Certificate c) read right = absurd right
       by (jobs.Process fit) (reports.Checked c) read right = absurd right
+      by (jobs.Process fit) (reports.Sample f) read right = absurd right
       by (jobs.Ranks fit) (reports.Process f) read right = absurd right
       by (jobs.Ranks fit) (reports.Ranks f) read right = (fit, right.0, f.fit, was fit right.0 true (jobs.Ranks fit) (refl, refl) read right.1, right.2.fit)
       by (jobs.Ranks fit) (reports.Certificate c) read right = absurd right
       by (jobs.Ranks fit) (reports.Checked c) read right = absurd right
+      by (jobs.Ranks fit) (reports.Sample f) read right = absurd right
       by (jobs.Certify fit) (reports.Process f) read right = absurd right
       by (jobs.Certify fit) (reports.Ranks f) read right = absurd right
       by (jobs.Certify fit) (reports.Certificate c) read right = (fit, right.0.0, right.0.2.fit, was fit right.0.0 (is_some fit.rank) (jobs.Certify fit) (refl, refl) read right.0.1, right.0.2.right)
       by (jobs.Certify fit) (reports.Checked c) read right = absurd right
+      by (jobs.Certify fit) (reports.Sample f) read right = absurd right
       by jobs.Check (reports.Process f) read right = absurd right
       by jobs.Check (reports.Ranks f) read right = absurd right
       by jobs.Check (reports.Certificate c) read right = absurd right
       by jobs.Check (reports.Checked c) read right = absurd (no_check words asked.job first kind asked.is (one_request words jobs.Check asked.job read.asked asked.asked))
-      by (jobs.Sample job) report read right = absurd right
+      by jobs.Check (reports.Sample f) read right = absurd right
+      by (jobs.Sample job) (reports.Process f) read right = absurd right
+      by (jobs.Sample job) (reports.Ranks f) read right = absurd right
+      by (jobs.Sample job) (reports.Certificate c) read right = absurd right
+      by (jobs.Sample job) (reports.Checked c) read right = absurd right
+      by (jobs.Sample job) (reports.Sample f) read right = (sample_fit job, right.0, f, was (sample_fit job) right.0 false (jobs.Sample job) (refl, refl) read right.1, right.2)
 
   pub limited : (first : FitJob) (kind : Bool) → AskFit words first kind → (out out' err err' : Stream) (outcome : Outcome) → IsRun words source source' out out' err err' outcome
       → ((fit : FitJob) (input : Input) → WasInput words source source' fit input → IsLimitedInput fit input) → IsNoReport outcome
@@ -209,17 +250,22 @@ module _ (words : List (List ℕ)) (source source' : Stream) where
   limited first kind asked out out' err err' (PivotLimit place limit trail) run reaches = tt
   limited first kind asked out out' err err' (Overflow place trail spill) run reaches = tt
   limited first kind asked out out' err err' (Rejected rejection) run reaches = tt
-  limited first kind asked out out' err err' (NotBuilt part) run reaches = tt
 
-  pub ample : (out out' err err' : Stream) (limit : ℕ) (trail : Trail Frac128)
-      → ((fit : FitJob) (input : Input) → WasInput words source source' fit input → HasRows input × ((2 * further_bases (sample value input.problem)) ≤ fit.limit))
-      → ¬ IsRun words source source' out out' err err' (PivotLimit places.Process limit trail)
-  ample out out' err err' limit trail long run =
-      let needed = limit_needed words source source' places.Process limit trail run.cause in
-      let enough : HasRows needed.1 × ((2 * further_bases (sample value needed.1.problem)) ≤ needed.0.limit) = long needed.0 needed.1 needed.2 in
-      let below : limit < 2 * further_bases (sample value needed.1.problem) = needed.3.below enough.0 in
-      let shown : limit ≡ needed.0.limit = needed.3.shown in
-      omega (arith, enough.1, shown, below)
+  -- what a trail that reaches a limit says of it
+  limit_below : (place : Place) (fit : FitJob) (input : Input) (limit : ℕ) (trail : Trail Frac128) → ReachesLimitAt place fit input limit trail
+      → (limit ≡ fit.limit) × (limit < parts_of place * further_bases (sample value input.problem))
+  limit_below places.Process fit input limit trail h = (h.shown, h.below)
+  limit_below (places.Interval column tau) fit input limit trail h = (h.shown, h.below)
+  limit_below places.Check fit input limit trail h = absurd h
+
+  pub ample : (out out' err err' : Stream) (place : Place) (limit : ℕ) (trail : Trail Frac128)
+      → ((fit : FitJob) (input : Input) → WasInput words source source' fit input → (parts_of place * further_bases (sample value input.problem)) ≤ fit.limit)
+      → ¬ IsRun words source source' out out' err err' (PivotLimit place limit trail)
+  ample out out' err err' place limit trail long run =
+      let needed = limit_needed words source source' place limit trail run.cause in
+      let enough : (parts_of place * further_bases (sample value needed.1.problem)) ≤ needed.0.limit = long needed.0 needed.1 needed.2 in
+      let below = limit_below place needed.0 needed.1 limit trail needed.3 in
+      omega (arith, enough, below.0, below.1)
 
   -- ---- dependent columns
 
@@ -245,4 +291,3 @@ module _ (words : List (List ℕ)) (source source' : Stream) where
   unfitted first kind asked out out' err err' OutOfMemory run dependent = tt
   unfitted first kind asked out out' err err' (Overflow place trail spill) run dependent = tt
   unfitted first kind asked out out' err err' (Rejected rejection) run dependent = tt
-  unfitted first kind asked out out' err err' (NotBuilt part) run dependent = tt

@@ -1,3 +1,6 @@
+pub mod AskedIntervals
 pub mod Spilled
 pub mod Needed
 pub mod Complete
+pub mod Checked
+pub mod Unposed

@@ -1,4 +1,4 @@
--- Law. A job whose input is well formed is answered.
+-- Law. A job whose input is well formed is answered, and a certificate whose conditions are true.
 use Rattle.std.specs.Prelude.{◌≡◌, ℕ, ◌*◌, ◌≤◌, Bool, List, Some, length, ⊤}
 use Rattle.exact_algebra.specs.Fraction.{rational}
 use Rattle.frac_core.specs.declared.frac128.Frac128.{Frac128}
@@ -9,38 +9,45 @@ use Rattle.port_io.specs.Counts.{Rose}
 use Rattle.port_io.specs.Told.{most_bytes}
 use Rattle.pivot_bound.specs.BoundLaws.{further_bases}
 use Rattle.tau_process.specs.Stops.{IsLimited}
+use Rattle.cert_text.specs.declared.cert.Cert.{Cert}
+use Rattle.cert_checker.specs.Certificates.{tests}
+use Rattle.cert_checker.specs.Tests.{AreTrue}
 use Rattle.rq_words.specs.declared.job.FitJob.{FitJob}
 use Rattle.rq_words.specs.declared.job.Job.{Job}
+use Rattle.rq_words.specs.declared.job.Job.TheVariants as jobs
 use Rattle.report_text.specs.ReportText.{value}
+use Rattle.report_text.specs.declared.report.Place.{Place}
 use Rattle.report_text.specs.declared.report.Place.TheVariants as places
 use Rattle.report_text.specs.declared.report.Refusal.{Refusal}
-use Rattle.report_text.specs.declared.report.Refusal.TheVariants.{CertTooLong}
+use Rattle.report_text.specs.declared.report.Refusal.TheVariants.{CertTooLong, Dependent}
+use Rattle.report_text.specs.declared.report.Report.TheVariants as reports
 use Rattle.report_text.specs.declared.report.Halt.TheVariants as halts
 use Rattle.rq_input.specs.Inputs.{HasInputCause, IsInput}
-use Rattle.rq_input.specs.Rows.{HasRows}
 use Rattle.rq_input.specs.declared.input.Input.{Input}
 use Rattle.rq_engine.specs.Answers.{IsRight}
-use Rattle.rq_engine.specs.Built.{IsJobOf}
-use Rattle.rq_cli.specs.Outcomes.{Stream, IsRun, IsHalted}
+use Rattle.rq_engine.specs.Jobs.{IsJobOf}
+use Rattle.rq_engine.specs.Checks.{IsCertOf}
+use Rattle.rq_cli.specs.Outcomes.{Stream, IsRun, IsHalted, Reads}
 use Rattle.rq_cli.specs.declared.outcome.Outcome.{Outcome}
 use Rattle.rq_cli.specs.declared.outcome.Outcome.TheVariants.{Done, Refused, OutOfMemory, PivotLimit, Overflow}
-use Rattle.run_laws.specs.NeededOutcomes.{AskFit, WasInput, ReachesLimitAt, OverflowsAt}
+use Rattle.run_laws.specs.NeededOutcomes.{AskFit, WasInput, ReachesLimitAt, OverflowsAt, table_bytes}
 
 -- no count of faults rose
 abbrev pub NoneRose : (source source' out out' err err' : Stream) → Type 0
 NoneRose source source' out out' err err' =
     ¬ Rose source.faults source'.faults × ¬ Rose out.faults out'.faults × ¬ Rose err.faults err'.faults
 
--- the words ask for a fit of a table that this version does; the bytes that the source tells are not too many, have no
--- fault as a table, by the formula, as a design, in what smooths add or as a problem, and their problem has full rank
+-- the words ask for a fit of a table; where it comes from the source, that tells these bytes and not too many; the table's
+-- bytes have no fault as a table, by the formula, as a design, in what smooths add or as a problem, and their problem has
+-- full rank
 pub record IsWellFormed (words : List (List ℕ)) (source : Stream) (bytes : List ℕ) : Type 0 where
   pub fit : FitJob
   pub ranked : Bool
   pub asked : AskFit words fit ranked
-  pub told : source.bytes ≡ Some bytes
-  pub short : length bytes ≤ most_bytes
-  pub sound : (fit : FitJob) (ranked : Bool) → AskFit words fit ranked → (refusal : Refusal) → ¬ HasInputCause fit ranked bytes (halts.Refused refusal)
-  pub rank : (fit : FitJob) (ranked : Bool) (input : Input) → AskFit words fit ranked → IsInput fit ranked bytes input → HasFullRank (sample value input.problem)
+  pub told : Reads asked.job → source.bytes ≡ Some bytes
+  pub short : Reads asked.job → length bytes ≤ most_bytes
+  pub sound : (fit : FitJob) (ranked : Bool) (asked : AskFit words fit ranked) (refusal : Refusal) → ¬ HasInputCause fit ranked (table_bytes asked.job bytes) (halts.Refused refusal)
+  pub rank : (fit : FitJob) (ranked : Bool) (input : Input) (asked : AskFit words fit ranked) → IsInput fit ranked (table_bytes asked.job bytes) input → HasFullRank (sample value input.problem)
 
 -- it has the right report, or reaches its limit, or an operation overflows, or its certificate is too long; want of
 -- memory is the free answer
@@ -60,6 +67,49 @@ Completeness =
     → IsRun words source source' out out' err err' outcome → NoneRose source source' out out' err err'
     → IsWellFormed words source bytes → IsAnswer words source source' bytes outcome
 
+-- the outcome is no report and no stop of a fit: neither a limit nor an overflow, dependent columns or a certificate that
+-- is too long
+abbrev pub IsUnposed : Outcome → Type 0
+IsUnposed (Done report) = ⊥
+IsUnposed (PivotLimit place limit trail) = ⊥
+IsUnposed (Overflow place trail spill) = ⊥
+IsUnposed (Refused (Dependent combination)) = ⊥
+IsUnposed (Refused (CertTooLong n)) = ⊥
+IsUnposed _ = ⊤
+
+-- where the words ask for a fit, and the table's bytes have a fault as a table, by the formula, as a design, in what smooths add
+-- or as a problem, it is neither: so such a refusal comes exactly where there is such a fault, save for memory and for
+-- streams that fail
+abbrev pub FaultIsAnswered : Type 0
+FaultIsAnswered =
+    (words : List (List ℕ)) (source source' out out' err err' : Stream) (bytes : List ℕ) (outcome : Outcome) (first : FitJob) (kind : Bool)
+    (asked : AskFit words first kind) → (Reads asked.job → source.bytes ≡ Some bytes)
+    → ((fit : FitJob) (ranked : Bool) (asked : AskFit words fit ranked) → (refusal : Refusal) × HasInputCause fit ranked (table_bytes asked.job bytes) (halts.Refused refusal))
+    → IsRun words source source' out out' err err' outcome → IsUnposed outcome
+
+-- the words ask for a check, and the bytes that the source tells are not too many; they are this certificate, and all
+-- its conditions are true
+pub record IsPassing (words : List (List ℕ)) (source : Stream) (bytes : List ℕ) (cert : Cert) : Type 0 where
+  pub asked : IsJobOf words jobs.Check
+  pub told : source.bytes ≡ Some bytes
+  pub short : length bytes ≤ most_bytes
+  pub is : IsCertOf bytes cert
+  pub sound : AreTrue (tests cert)
+
+-- it is accepted, or an operation of a test overflows; want of memory is the free answer
+abbrev pub IsAccepted : List (List ℕ) → (source source' : Stream) → Cert → Outcome → Type 0
+IsAccepted words source source' cert (Done report) = report ≡ reports.Checked cert
+IsAccepted words source source' cert (Overflow place trail spill) = IsHalted words source source' (halts.Overflow place trail spill)
+IsAccepted words source source' cert OutOfMemory = ⊤
+IsAccepted words source source' cert _ = ⊥
+
+-- so is every certificate whose conditions are true, while nothing fails
+abbrev pub CheckIsAnswered : Type 0
+CheckIsAnswered =
+    (words : List (List ℕ)) (source source' out out' err err' : Stream) (bytes : List ℕ) (cert : Cert) (outcome : Outcome)
+    → IsRun words source source' out out' err err' outcome → NoneRose source source' out out' err err'
+    → IsPassing words source bytes cert → IsAccepted words source source' cert outcome
+
 -- some trail of the problem reaches the limit of the words
 abbrev pub IsLimitedInput : FitJob → Input → Type 0
 IsLimitedInput fit input =
@@ -78,12 +128,19 @@ LimitIsAnswered =
     → ((fit : FitJob) (input : Input) → WasInput words source source' fit input → IsLimitedInput fit input)
     → IsNoReport outcome
 
--- where no fewer pivots are allowed than twice the bases after the first, the limit doesn't stop the process
+-- how often the bases after the first may come: in the solve and in the walk of a process, and in the solve and in both
+-- walks of an interval
+abbrev pub parts_of : Place → ℕ
+parts_of places.Process = 2
+parts_of (places.Interval column tau) = 3
+parts_of places.Check = 0
+
+-- where no fewer pivots are allowed than that, the limit doesn't stop the process or the interval
 abbrev pub AmpleLimitIsNeverReached : Type 0
 AmpleLimitIsNeverReached =
-    (words : List (List ℕ)) (source source' out out' err err' : Stream) (limit : ℕ) (trail : Trail Frac128)
-    → ((fit : FitJob) (input : Input) → WasInput words source source' fit input → HasRows input × ((2 * further_bases (sample value input.problem)) ≤ fit.limit))
-    → ¬ IsRun words source source' out out' err err' (PivotLimit places.Process limit trail)
+    (words : List (List ℕ)) (source source' out out' err err' : Stream) (place : Place) (limit : ℕ) (trail : Trail Frac128)
+    → ((fit : FitJob) (input : Input) → WasInput words source source' fit input → (parts_of place * further_bases (sample value input.problem)) ≤ fit.limit)
+    → ¬ IsRun words source source' out out' err err' (PivotLimit place limit trail)
 
 -- the outcome is neither a report nor a limit
 abbrev pub IsUnfitted : Outcome → Type 0

@@ -1,5 +1,5 @@
 -- Law. A run that stops for a limit, for an overflow or for dependent columns had to.
-use Rattle.std.specs.Prelude.{◌≡◌, ℕ, ◌*◌, ◌<◌, Bool, true, is_some, List, ⊤}
+use Rattle.std.specs.Prelude.{◌≡◌, ℕ, ◌*◌, ◌<◌, Bool, true, false, is_some, List, ⊤}
 use Rattle.exact_algebra.specs.Fraction.{rational}
 use Rattle.exact_algebra.specs.Rational.{ℚ}
 use Rattle.frac_core.specs.declared.frac128.Frac128.{Frac128}
@@ -7,7 +7,6 @@ use Rattle.loss_model.specs.declared.process.Trail.{Trail}
 use Rattle.loss_model.specs.declared.spill.Spill.{Spill}
 use Rattle.loss_model.specs.FullRank.{HasFullRank}
 use Rattle.loss_model.specs.Problem.{sample}
-use Rattle.pivot_rule.specs.Duals.{HasCosts}
 use Rattle.walk_rule.specs.WalkTrails.{ReachesProcessLimit, ReachesIntervalLimit}
 use Rattle.pivot_bound.specs.BoundLaws.{further_bases}
 use Rattle.stop_laws.specs.NeededStops.{DoesOverflow}
@@ -19,49 +18,53 @@ use Rattle.report_text.specs.declared.report.Place.{Place}
 use Rattle.report_text.specs.declared.report.Place.TheVariants as places
 use Rattle.report_text.specs.declared.report.Refusal.TheVariants.{Dependent}
 use Rattle.rq_input.specs.Inputs.{IsInput}
-use Rattle.rq_input.specs.Rows.{HasRows}
 use Rattle.rq_input.specs.declared.input.Input.{Input}
-use Rattle.rq_engine.specs.Built.{IsBuilt, IsJobOf}
-use Rattle.rq_engine.specs.Stops.{most}
+use Rattle.rq_fit.specs.Stops.{most}
+use Rattle.rq_engine.specs.Jobs.{IsJobOf, sample_fit, sample_table}
 use Rattle.rq_cli.specs.Outcomes.{Stream, IsRun, WereRead}
 use Rattle.rq_cli.specs.declared.outcome.Outcome.TheVariants.{Refused, PivotLimit, Overflow}
 
--- the job is this fit of a table, with or without ranks, as a report or as a certificate
+-- the job is this fit of a table, with or without ranks, as a report, as a certificate or as a summary
 abbrev pub IsFitJob : Job → FitJob → Bool → Type 0
 IsFitJob (jobs.Process job) fit ranked = (job ≡ fit) × (is_some job.rank ≡ ranked)
 IsFitJob (jobs.Ranks job) fit ranked = (job ≡ fit) × (true ≡ ranked)
 IsFitJob (jobs.Certify job) fit ranked = (job ≡ fit) × (is_some job.rank ≡ ranked)
-IsFitJob _ fit ranked = ⊥
+IsFitJob (jobs.Sample job) fit ranked = (sample_fit job ≡ fit) × (false ≡ ranked)
+IsFitJob jobs.Check fit ranked = ⊥
 
--- the words ask for it, and this version does the job
+-- the bytes of the table that a job fits: those of the generated table, or those that it took from the source
+abbrev pub table_bytes : Job → List ℕ → List ℕ
+table_bytes (jobs.Sample job) bytes = sample_table job
+table_bytes job bytes = bytes
+
+-- the words ask for it
 pub record AskFit (words : List (List ℕ)) (fit : FitJob) (ranked : Bool) : Type 0 where
   pub job : Job
   pub asked : IsJobOf words job
-  pub built : IsBuilt job
   pub is : IsFitJob job fit ranked
 
--- the words ask for a fit, and this is the input that the bytes of the source are for it
+-- the words ask for a fit, and this is the input that the bytes of its table are for it
 pub record WasInput (words : List (List ℕ)) (before now : Stream) (fit : FitJob) (input : Input) : Type 0 where
   pub ranked : Bool
   pub bytes : List ℕ
   pub asked : AskFit words fit ranked
-  pub read : (job : Job) × WereRead words before now job bytes
-  pub is : IsInput fit ranked bytes input
+  pub read : WereRead words before now asked.job bytes
+  pub is : IsInput fit ranked (table_bytes asked.job bytes) input
 
 -- its lawful trail has as many pivots as the limit of the words says, with one more left; and the limit is less than
--- twice the bases after the first, where the rows are those that `read_input` gives: data rows, and then penalty rows
+-- twice the bases after the first
 pub record ReachesItsLimit (fit : FitJob) (input : Input) (limit : ℕ) (trail : Trail Frac128) : Type 0 where
   pub shown : limit ≡ fit.limit
   pub reached : ReachesProcessLimit value (sample value input.problem) (rational (value fit.lo)) (rational (value fit.hi)) limit trail
-  pub below : HasRows input → limit < 2 * further_bases (sample value input.problem)
+  pub below : limit < 2 * further_bases (sample value input.problem)
 
 -- so has that of the interval of a column at a quantile; and the limit is less than three times the bases after the
--- first, where the rows have costs there
+-- first
 pub record ReachesItsIntervalLimit (fit : FitJob) (input : Input) (column : ℕ) (tau : Frac128) (limit : ℕ) (trail : Trail Frac128) : Type 0 where
   pub shown : limit ≡ fit.limit
   pub bound : ℚ
   pub reached : ReachesIntervalLimit value (sample value input.problem) (rational (value tau)) column bound limit trail
-  pub below : HasCosts (sample value input.problem) (rational (value tau)) → column < input.problem.columns → limit < 3 * further_bases (sample value input.problem)
+  pub below : limit < 3 * further_bases (sample value input.problem)
 
 -- that of the place
 abbrev pub ReachesLimitAt : Place → FitJob → Input → ℕ → Trail Frac128 → Type 0

@@ -1,7 +1,10 @@
 //! The laws of a run. Each function does nothing: its contract is the law.
 
-ghost use Rattle.run_laws.specs.Completeness.{Completeness, LimitIsAnswered, AmpleLimitIsNeverReached, DependenceIsAnswered};
+ghost use Rattle.run_laws.specs.Completeness.{Completeness, CheckIsAnswered, FaultIsAnswered, LimitIsAnswered, AmpleLimitIsNeverReached, DependenceIsAnswered};
 ghost use Rattle.run_laws.specs.NeededOutcomes.{LimitIsNeeded, OverflowIsNeeded, DependenceIsNeeded};
+
+use cert_text::same_content;
+use input_laws::laws::inputs_have_no_fault;
 
 /// A run that stops for a limit, for an overflow or for dependent columns had to: the lawful trail of the
 /// problem reaches the limit, which is less than the bases of both parts; the operation overflows; the
@@ -14,10 +17,18 @@ pub fn needed()
 
 /// While source and sinks don't fail, a job whose input is well formed and of full rank is answered, by its
 /// report, by its limit or by an overflow, save for memory; by its report not where a trail reaches the limit,
-/// and by the limit not where that is ample. Where the columns are dependent it is answered by neither.
+/// and by the limit not where that is ample. Where the columns are dependent it is answered by neither, and
+/// where the bytes have a fault by none of these: such a refusal comes exactly where there is one. So a
+/// certificate whose conditions are all true is accepted, save for memory and an operation of a test that
+/// overflows.
 pub fn complete()
     ensures answered { Completeness }
+    ensures faults { FaultIsAnswered }
+    ensures checked { CheckIsAnswered }
     ensures limited { LimitIsAnswered }
     ensures ample { AmpleLimitIsNeverReached }
     ensures dependent { DependenceIsAnswered }
-{}
+{
+    same_content();
+    inputs_have_no_fault();
+}

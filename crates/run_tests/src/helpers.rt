@@ -34,7 +34,8 @@ pub(crate) struct Outputs {
     pub tellings: &'static [u32],
 }
 
-static SOUND: Outputs = Outputs {
+/// Outputs that take all.
+pub(crate) static SOUND: Outputs = Outputs {
     room: 32_768,
     writes: &[],
     tellings: &[],

@@ -20,6 +20,8 @@ mod ranks;
 #[cfg(test)]
 mod rows;
 #[cfg(test)]
+mod samples;
+#[cfg(test)]
 mod smooths;
 #[cfg(test)]
 mod stops;

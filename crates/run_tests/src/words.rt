@@ -63,8 +63,8 @@ fn other_formulas_and_quantiles_are_told(rt: HostRuntime) -> Result<(), Fail> {
     Ok(())
 }
 
-// Each case: words that are refused, or that ask for what this version doesn't do.
-static COMMANDS: [(&str, u8, &str); 19] = [
+// Each case: words that are refused.
+static COMMANDS: [(&str, u8, &str); 18] = [
     ("", 2, "quantreg: usage: NoJob\n"),
     ("fit", 2, "quantreg: usage: UnknownJob\n"),
     ("--help", 2, "quantreg: usage: UnknownJob\n"),
@@ -120,11 +120,6 @@ static COMMANDS: [(&str, u8, &str); 19] = [
         "certify|--formula|y ~ q|--lo|1/2|--hi|1/2",
         1,
         "quantreg: formula: UnknownName offset=4\n",
-    ),
-    (
-        "sample|--number|1|--rows|2|--columns|1|--lo|0|--hi|1",
-        9,
-        "quantreg: build: NotBuilt part=1\n",
     ),
     (
         "ranks|--formula|y ~ qss(y, 1)",

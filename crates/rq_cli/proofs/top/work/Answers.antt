@@ -7,5 +7,5 @@ returns-in-Err-clause-cause g c = c.in-Err.ensures.refused _ _
 pub returns-in-Err-answer-clause-cause : goal.returns-in-Err-answer-clause-cause
 returns-in-Err-answer-clause-cause g c =
     halt_cause _ _ _ c.in-Ok.job c.deref.result.now
-    (record { asked = c.in-Ok.ensures.asked; built = c.in-Ok.ensures.built; whole = rw c.deref.ensures.value c.in-Ok-read_all.ensures.whole; short = rw c.deref.ensures.value c.in-Ok-read_all.ensures.short })
+    (record { asked = c.in-Ok.ensures.asked; taken = rw c.deref.ensures.value c.in-Ok-read_source.ensures.taken; short = rw c.deref.ensures.value c.in-Ok-read_source.ensures.short })
     c.in-Err-answer.halt c.in-Err-answer.ensures.cause

@@ -1,11 +1,15 @@
 use Rattle.run_laws.proofs.Complete.{answered, limited, ample, unfitted}
+use Rattle.run_laws.proofs.Checked.{accepted}
+use Rattle.run_laws.proofs.Unposed.{unposed}
 use Rattle.run_laws.proofs.laws.complete.Goals as goal
 
 pub returns : goal.returns
 returns c =
     record {
       answered = λ words source source' out out' err err' bytes outcome run none w. answered words source source' bytes w out out' err err' outcome run none;
+      faults = λ words source source' out out' err err' bytes outcome first kind asked told faulty run. unposed c.inputs_have_no_fault.ensures words source source' bytes first kind asked told faulty out out' err err' outcome run;
+      checked = λ words source source' out out' err err' bytes cert outcome run none passing. accepted c.same_content.ensures words source source' bytes cert passing out out' err err' outcome run none;
       limited = λ words source source' out out' err err' outcome first kind asked run reaches. limited words source source' first kind asked out out' err err' outcome run reaches;
-      ample = λ words source source' out out' err err' limit trail long run. ample words source source' out out' err err' limit trail long run;
+      ample = λ words source source' out out' err err' place limit trail long run. ample words source source' out out' err err' place limit trail long run;
       dependent = λ words source source' out out' err err' outcome first kind asked run dependent. unfitted words source source' first kind asked out out' err err' outcome run dependent;
     }

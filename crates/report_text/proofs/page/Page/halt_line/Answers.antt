@@ -9,8 +9,5 @@ returns-in-PivotLimit c = rw c.in-PivotLimit.is c.line.ensures
 pub returns-in-Overflow : goal.returns-in-Overflow
 returns-in-Overflow c = rw c.in-Overflow.is c.line-in-Overflow.ensures
 
-pub returns-in-NotBuilt : goal.returns-in-NotBuilt
-returns-in-NotBuilt c = rw c.in-NotBuilt.is c.line-in-NotBuilt.ensures
-
 pub returns-in-Rejected : goal.returns-in-Rejected
 returns-in-Rejected c = rw c.in-Rejected.is c.rejection_line.ensures

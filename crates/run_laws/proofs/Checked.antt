@@ -1,0 +1,82 @@
+-- A certificate whose conditions are all true is accepted.
+use Rattle.std.specs.Prelude.{◌≡◌, ◌⊎◌, ℕ, List}
+use Rattle.std.proofs.Common.{refl, sym, subst, ◌∙◌, inl, inr}
+use Rattle.cert_text.specs.Laws.{SameContent}
+use Rattle.cert_text.specs.declared.cert.Cert.{Cert}
+use Rattle.rq_words.specs.Requests.{request_of}
+use Rattle.rq_words.specs.declared.job.Job.{Job}
+use Rattle.rq_words.specs.declared.job.Job.TheVariants as jobs
+use Rattle.report_text.specs.declared.report.Refusal.{Refusal}
+use Rattle.report_text.specs.declared.report.Refusal.TheVariants as refusals
+use Rattle.report_text.specs.declared.report.Halt.{Halt}
+use Rattle.report_text.specs.declared.report.Halt.TheVariants as halts
+use Rattle.rq_engine.specs.Answers as engine
+use Rattle.rq_engine.specs.Answers.{IsRight}
+use Rattle.rq_engine.specs.Jobs.{IsJobOf}
+use Rattle.rq_cli.specs.Outcomes.{Stream, IsRun, IsHalted, IsOutputFault, IsErrorFault, WereRead}
+use Rattle.rq_cli.specs.declared.outcome.Outcome.{Outcome}
+use Rattle.rq_cli.specs.declared.outcome.Outcome.TheVariants.{Done, Refused, Usage, SourceFault, SinkFault, OutOfMemory, PivotLimit, Overflow, Rejected}
+use Rattle.cert_law.specs.Laws.{IsUndecided}
+use Rattle.cert_law.proofs.Checking.{one_report, undecided}
+use Rattle.run_laws.specs.Completeness.{NoneRose, IsPassing, IsAccepted}
+use Rattle.run_laws.proofs.Complete.{none_beyond, one_request, were_told}
+
+-- words that ask for a check ask for no other job
+check_alone : (job : Job) → request_of job ≡ request_of jobs.Check → job ≡ jobs.Check
+check_alone (jobs.Process fit) same = absurd (cc same)
+check_alone (jobs.Ranks fit) same = absurd (cc same)
+check_alone (jobs.Certify fit) same = absurd (cc same)
+check_alone jobs.Check same = refl
+check_alone (jobs.Sample sample) same = absurd (cc same)
+
+module _ (same : SameContent) (words : List (List ℕ)) (source source' : Stream) (bytes : List ℕ) (cert : Cert) (w : IsPassing words source bytes cert) where
+  is_check : (job : Job) → IsJobOf words job → job ≡ jobs.Check
+  is_check job asked = check_alone job (one_request words job jobs.Check asked w.asked)
+
+  -- the bytes that were read are these
+  same_bytes : (job : Job) (other : List ℕ) → WereRead words source source' job other → other ≡ bytes
+  same_bytes job other read = by (subst (λ (job : Job). WereRead words source source' job other) (is_check job read.asked) read)
+    where
+      by : WereRead words source source' jobs.Check other → other ≡ bytes
+      by read = were_told source source' bytes w.told other read.taken
+
+  -- a halt of the run is one of the check of these bytes
+  halted : (halt : Halt) → IsHalted words source source' halt → IsUndecided halt
+  halted halt h =
+      undecided same bytes cert w.is w.sound halt
+      (subst (λ b. engine.HasCause jobs.Check b halt) (same_bytes h.job h.bytes h.read)
+      (subst (λ (job : Job). engine.HasCause job h.bytes halt) (is_check h.job h.read.asked) h.cause))
+
+  not_refused : (refusal : Refusal) → IsHalted words source source' (halts.Refused refusal) → ⊥
+  not_refused refusal h = halted (halts.Refused refusal) h
+
+  pub accepted : (out out' err err' : Stream) (outcome : Outcome) → IsRun words source source' out out' err err' outcome → NoneRose source source' out out' err err' → IsAccepted words source source' cert outcome
+  accepted out out' err err' outcome run none = by outcome run
+    where
+      by : (outcome : Outcome) → IsRun words source source' out out' err err' outcome → IsAccepted words source source' cert outcome
+      by (Done report) run =
+          let a = run.cause in
+          one_report same bytes cert w.is w.sound report
+          (subst (λ b. IsRight jobs.Check b report) (same_bytes a.job a.bytes a.read)
+          (subst (λ (job : Job). IsRight job a.bytes report) (is_check a.job a.read.asked) a.right))
+      by (Refused refusals.TooLong) run = absurd (none_beyond source source' bytes w.told w.short run.cause.came)
+      by (Refused (refusals.Table fault)) run = absurd (not_refused (refusals.Table fault) run.cause)
+      by (Refused (refusals.Formula fault)) run = absurd (not_refused (refusals.Formula fault) run.cause)
+      by (Refused refusals.RankWithPenalty) run = absurd (not_refused refusals.RankWithPenalty run.cause)
+      by (Refused (refusals.Design fault)) run = absurd (not_refused (refusals.Design fault) run.cause)
+      by (Refused (refusals.Penalty fault)) run = absurd (not_refused (refusals.Penalty fault) run.cause)
+      by (Refused (refusals.Program fault)) run = absurd (not_refused (refusals.Program fault) run.cause)
+      by (Refused (refusals.CertTooLong n)) run = absurd (not_refused (refusals.CertTooLong n) run.cause)
+      by (Refused (refusals.Certificate fault)) run = absurd (not_refused (refusals.Certificate fault) run.cause)
+      by (Refused (refusals.Dependent combination)) run = absurd (not_refused (refusals.Dependent combination) run.cause)
+      by (Usage fault) run = absurd (cc (sym run.cause ∙ w.asked))
+      by SourceFault run = absurd (none.0 run.cause.1)
+      by SinkFault run = failed run.cause
+        where
+          failed : IsOutputFault words source source' out out' err err' ⊎ ((fault : Outcome) × IsErrorFault words source source' out out' err err' fault) → ⊥
+          failed (inl h) = none.1 h.rose
+          failed (inr h) = none.2 h.1.rose
+      by OutOfMemory run = tt
+      by (PivotLimit place limit trail) run = absurd (halted (halts.PivotLimit place limit trail) run.cause)
+      by (Overflow place trail spill) run = run.cause
+      by (Rejected rejection) run = absurd (halted (halts.Rejected rejection) run.cause)

@@ -1,0 +1,114 @@
+-- Where bytes have a fault, there is no report and no stop of a fit.
+use Rattle.std.specs.Prelude.{◌≡◌, ℕ, Bool, true, false, is_some, List, Some}
+use Rattle.std.proofs.Common.{refl, subst, inl, inr}
+use Rattle.frac_core.specs.declared.frac128.Frac128.{Frac128}
+use Rattle.loss_model.specs.declared.problem.Problem.{Problem}
+use Rattle.loss_model.specs.declared.process.Trail.{Trail}
+use Rattle.loss_model.specs.declared.spill.Spill.{Spill}
+use Rattle.loss_model.specs.Problem.{IsWellShaped}
+use Rattle.rq_words.specs.declared.job.FitJob.{FitJob}
+use Rattle.rq_words.specs.declared.job.Job.{Job}
+use Rattle.rq_words.specs.declared.job.Job.TheVariants as jobs
+use Rattle.report_text.specs.declared.report.Place.{Place}
+use Rattle.report_text.specs.declared.report.Place.TheVariants as places
+use Rattle.report_text.specs.declared.report.Refusal.{Refusal}
+use Rattle.report_text.specs.declared.report.Refusal.TheVariants as refusals
+use Rattle.report_text.specs.declared.report.Halt.{Halt}
+use Rattle.report_text.specs.declared.report.Halt.TheVariants as halts
+use Rattle.rq_input.specs.Inputs.{HasInputCause, IsInput}
+use Rattle.rq_input.specs.declared.input.Input.{Input}
+use Rattle.input_laws.specs.Laws.{InputsHaveNoFault}
+use Rattle.rq_engine.specs.Answers as engine
+use Rattle.rq_engine.specs.Answers.{LacksFit}
+use Rattle.rq_engine.specs.Jobs.{sample_fit}
+use Rattle.rq_cli.specs.Outcomes.{Stream, IsRun, IsHalted, Reads, WereRead}
+use Rattle.rq_cli.specs.declared.outcome.Outcome.{Outcome}
+use Rattle.rq_cli.specs.declared.outcome.Outcome.TheVariants.{Done, Refused, Usage, SourceFault, SinkFault, OutOfMemory, PivotLimit, Overflow, Rejected}
+use Rattle.run_laws.specs.Completeness.{IsUnposed}
+use Rattle.run_laws.specs.NeededOutcomes.{AskFit, IsFitJob, table_bytes}
+use Rattle.run_laws.proofs.Complete.{no_check, one_request, report_fit, same_table}
+
+module _ (law : InputsHaveNoFault) (words : List (List ℕ)) (source source' : Stream) (bytes : List ℕ) (first : FitJob) (kind : Bool) (asked : AskFit words first kind) (told : Reads asked.job → source.bytes ≡ Some bytes)
+    (faulty : (fit : FitJob) (ranked : Bool) (asked : AskFit words fit ranked) → (refusal : Refusal) × HasInputCause fit ranked (table_bytes asked.job bytes) (halts.Refused refusal)) where
+  -- bytes that were read for a fit are no input within the limits
+  no_input : (fit : FitJob) (ranked : Bool) (ask : AskFit words fit ranked) (other : List ℕ) → WereRead words source source' ask.job other → (input : Input) → IsInput fit ranked (table_bytes ask.job other) input → IsWellShaped input.problem → ⊥
+  no_input fit ranked ask other read input there shaped =
+      let fault = faulty fit ranked ask in
+      let same = same_table words source source' bytes first kind asked told ask.job other read in
+      law fit ranked (table_bytes ask.job bytes) input fault.0 (subst (λ b. IsInput fit ranked b input) same there) shaped fault.1
+
+  ask_of : (job : Job) (fit : FitJob) (ranked : Bool) → IsFitJob job fit ranked → (other : List ℕ) → WereRead words source source' job other → AskFit words fit ranked
+  ask_of job fit ranked is other read = record { job = job; asked = read.asked; is = is }
+
+  no_stop : (job : Job) (fit : FitJob) (ranked : Bool) → IsFitJob job fit ranked → (other : List ℕ) → WereRead words source source' job other → (halt : Halt) → LacksFit fit ranked (table_bytes job other) halt → ⊥
+  no_stop job fit ranked is other read halt h = no_input fit ranked (ask_of job fit ranked is other read) other read h.input h.is h.rows.shaped
+
+  -- the words ask for no check
+  unchecked : (other : List ℕ) → WereRead words source source' jobs.Check other → ⊥
+  unchecked other read = no_check words asked.job first kind asked.is (one_request words jobs.Check asked.job read.asked asked.asked)
+
+  dependent : (combination : List Frac128) → IsHalted words source source' (halts.Refused (refusals.Dependent combination)) → ⊥
+  dependent combination h = by h.job h.read h.cause
+    where
+      by : (job : Job) → WereRead words source source' job h.bytes → engine.HasCause job h.bytes (halts.Refused (refusals.Dependent combination)) → ⊥
+      by (jobs.Process fit) read cause = no_stop (jobs.Process fit) fit (is_some fit.rank) (refl, refl) h.bytes read _ cause
+      by (jobs.Ranks fit) read cause = no_stop (jobs.Ranks fit) fit true (refl, refl) h.bytes read _ cause
+      by (jobs.Certify fit) read cause = no_stop (jobs.Certify fit) fit (is_some fit.rank) (refl, refl) h.bytes read _ cause
+      by jobs.Check read cause = unchecked h.bytes read
+      by (jobs.Sample job) read cause = no_stop (jobs.Sample job) (sample_fit job) false (refl, refl) h.bytes read _ cause
+
+  too_long : (n : ℕ) → IsHalted words source source' (halts.Refused (refusals.CertTooLong n)) → ⊥
+  too_long n h = by h.job h.read h.cause
+    where
+      by : (job : Job) → WereRead words source source' job h.bytes → engine.HasCause job h.bytes (halts.Refused (refusals.CertTooLong n)) → ⊥
+      by (jobs.Process fit) read cause = cause.2.cause
+      by (jobs.Ranks fit) read cause = cause.2.cause
+      by (jobs.Certify fit) read cause = no_input fit (is_some fit.rank) (ask_of (jobs.Certify fit) fit (is_some fit.rank) (refl, refl) h.bytes read) h.bytes read cause.right.0 cause.right.1 cause.right.2.rows.shaped
+      by jobs.Check read cause = unchecked h.bytes read
+      by (jobs.Sample job) read cause = cause.2.cause
+
+  limited : (place : Place) (limit : ℕ) (trail : Trail Frac128) → IsHalted words source source' (halts.PivotLimit place limit trail) → ⊥
+  limited place limit trail h = by h.job h.read h.cause
+    where
+      by : (job : Job) → WereRead words source source' job h.bytes → engine.HasCause job h.bytes (halts.PivotLimit place limit trail) → ⊥
+      by (jobs.Process fit) read cause = no_stop (jobs.Process fit) fit (is_some fit.rank) (refl, refl) h.bytes read _ cause
+      by (jobs.Ranks fit) read cause = no_stop (jobs.Ranks fit) fit true (refl, refl) h.bytes read _ cause
+      by (jobs.Certify fit) read cause = no_stop (jobs.Certify fit) fit (is_some fit.rank) (refl, refl) h.bytes read _ cause
+      by jobs.Check read cause = unchecked h.bytes read
+      by (jobs.Sample job) read cause = no_stop (jobs.Sample job) (sample_fit job) false (refl, refl) h.bytes read _ cause
+
+  spilled : (place : Place) (trail : Trail Frac128) (spill : Spill Frac128) → IsHalted words source source' (halts.Overflow place trail spill) → ⊥
+  spilled place trail spill h = by place h.job h.read h.cause
+    where
+      by : (place : Place) (job : Job) → WereRead words source source' job h.bytes → engine.HasCause job h.bytes (halts.Overflow place trail spill) → ⊥
+      by place (jobs.Process fit) read cause = no_stop (jobs.Process fit) fit (is_some fit.rank) (refl, refl) h.bytes read _ cause
+      by places.Process (jobs.Ranks fit) read (inl cause) = no_stop (jobs.Ranks fit) fit true (refl, refl) h.bytes read _ cause
+      by places.Process (jobs.Ranks fit) read (inr cause) = no_input fit true (ask_of (jobs.Ranks fit) fit true (refl, refl) h.bytes read) h.bytes read cause.input cause.is cause.rows.shaped
+      by (places.Interval column tau) (jobs.Ranks fit) read cause = no_stop (jobs.Ranks fit) fit true (refl, refl) h.bytes read _ cause
+      by places.Check (jobs.Ranks fit) read cause = no_stop (jobs.Ranks fit) fit true (refl, refl) h.bytes read _ cause
+      by place (jobs.Certify fit) read cause = no_stop (jobs.Certify fit) fit (is_some fit.rank) (refl, refl) h.bytes read _ cause
+      by place jobs.Check read cause = unchecked h.bytes read
+      by place (jobs.Sample job) read cause = no_stop (jobs.Sample job) (sample_fit job) false (refl, refl) h.bytes read _ cause
+
+  pub unposed : (out out' err err' : Stream) (outcome : Outcome) → IsRun words source source' out out' err err' outcome → IsUnposed outcome
+  unposed out out' err err' (Done report) run =
+      let h = report_fit words source source' first kind asked report run.cause in
+      let was = h.3 in
+      no_input h.0 was.ranked was.asked was.bytes was.read h.1 was.is (subst (λ (p : Problem Frac128). IsWellShaped p) h.4.under.problem_is h.4.right.shaped)
+  unposed out out' err err' (PivotLimit place limit trail) run = limited place limit trail run.cause
+  unposed out out' err err' (Overflow place trail spill) run = spilled place trail spill run.cause
+  unposed out out' err err' (Refused (refusals.Dependent combination)) run = dependent combination run.cause
+  unposed out out' err err' (Refused (refusals.CertTooLong n)) run = too_long n run.cause
+  unposed out out' err err' (Refused refusals.TooLong) run = tt
+  unposed out out' err err' (Refused (refusals.Table fault)) run = tt
+  unposed out out' err err' (Refused (refusals.Formula fault)) run = tt
+  unposed out out' err err' (Refused refusals.RankWithPenalty) run = tt
+  unposed out out' err err' (Refused (refusals.Design fault)) run = tt
+  unposed out out' err err' (Refused (refusals.Penalty fault)) run = tt
+  unposed out out' err err' (Refused (refusals.Program fault)) run = tt
+  unposed out out' err err' (Refused (refusals.Certificate fault)) run = tt
+  unposed out out' err err' (Usage fault) run = tt
+  unposed out out' err err' SourceFault run = tt
+  unposed out out' err err' SinkFault run = tt
+  unposed out out' err err' OutOfMemory run = tt
+  unposed out out' err err' (Rejected rejection) run = tt
