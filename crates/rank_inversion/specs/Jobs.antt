@@ -1,4 +1,4 @@
--- Stated. What a job of a rank interval is asked, and that it answers what `interval` does.
+-- Inner. What a job of a rank interval is asked, and that it answers what `interval` does.
 use Rattle.std.specs.Prelude.{ℕ, ◌-◌, ◌^◌, IfErr, IfOk, Result}
 use Rattle.exact_algebra.specs.Fraction.{Fraction, rational}
 use Rattle.frac_core.specs.declared.frac128.Frac128.{Frac128}
