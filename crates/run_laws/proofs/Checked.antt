@@ -35,10 +35,9 @@ module _ (same : SameContent) (words : List (List ℕ)) (source source' : Stream
 
   -- the bytes that were read are these
   same_bytes : (job : Job) (other : List ℕ) → WereRead words source source' job other → other ≡ bytes
-  same_bytes job other read = by (subst (λ (job : Job). WereRead words source source' job other) (is_check job read.asked) read)
-    where
-      by : WereRead words source source' jobs.Check other → other ≡ bytes
-      by read = were_told source source' bytes w.told other read.taken
+  same_bytes job other read =
+      let checked : WereRead words source source' jobs.Check other = subst (λ (job : Job). WereRead words source source' job other) (is_check job read.asked) read in
+      were_told source source' bytes w.told other checked.taken
 
   -- a halt of the run is one of the check of these bytes
   halted : (halt : Halt) → IsHalted words source source' halt → IsUndecided halt

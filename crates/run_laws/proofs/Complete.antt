@@ -32,7 +32,7 @@ use Rattle.rq_fit.specs.Fit.{IsFitOf}
 use Rattle.rq_engine.specs.Answers as engine
 use Rattle.rq_engine.specs.Answers.{IsRight, HasFitCause, HasCertifyCause}
 use Rattle.rq_engine.specs.Jobs.{IsJobOf, sample_fit}
-use Rattle.rq_cli.specs.Outcomes.{Stream, IsRun, IsAnswered, IsHalted, IsOutputFault, IsErrorFault, IsTooLong, Reads, WereRead}
+use Rattle.rq_cli.specs.Outcomes.{Stream, IsRun, IsAnswered, IsHalted, IsOutputFault, IsErrorFault, IsTooLong, Reads, Takes, WereRead}
 use Rattle.rq_cli.specs.declared.outcome.Outcome.{Outcome}
 use Rattle.rq_cli.specs.declared.outcome.Outcome.TheVariants.{Done, Refused, Usage, SourceFault, SinkFault, OutOfMemory, PivotLimit, Overflow, Rejected}
 use Rattle.stop_laws.proofs.Needed.{dependent, process_full}
@@ -91,26 +91,43 @@ module _ (source source' : Stream) (bytes : List ℕ) (told : source.bytes ≡ S
   pub none_beyond : length bytes ≤ most_bytes → ¬ TakesFirst source.bytes source'.bytes (most_bytes + 1)
   none_beyond few came = let long : most_bytes + 1 ≤ length bytes = (subst (λ o. TakesFirst o source'.bytes (most_bytes + 1)) told came).0 in omega (arith, long, few)
 
-module _ (words : List (List ℕ)) (source source' : Stream) (bytes : List ℕ) (first : FitJob) (kind : Bool) (asked : AskFit words first kind) (told : Reads asked.job → source.bytes ≡ Some bytes) where
-  told_to : (job : Job) → IsJobOf words job → Reads job → source.bytes ≡ Some bytes
-  told_to job this reads = told (also_reads words asked.job job (one_request words asked.job job asked.asked this) reads)
+-- what a job that reads the source takes from it
+takes_all : (source source' : Stream) (job : Job) (bytes : List ℕ) → Reads job → Takes job source source' bytes → TakesAll source.bytes source'.bytes bytes
+takes_all source source' (jobs.Process fit) bytes reads taken = taken
+takes_all source source' (jobs.Ranks fit) bytes reads taken = taken
+takes_all source source' (jobs.Certify fit) bytes reads taken = taken
+takes_all source source' jobs.Check bytes reads taken = taken
+takes_all source source' (jobs.Sample job) bytes reads taken = absurd reads
 
-  -- a job that fits read the bytes of this table
-  pub same_table : (job : Job) (other : List ℕ) → WereRead words source source' job other → table_bytes job other ≡ table_bytes job bytes
-  same_table (jobs.Process fit) other read = were_told source source' bytes (told_to (jobs.Process fit) read.asked tt) other read.taken
-  same_table (jobs.Ranks fit) other read = were_told source source' bytes (told_to (jobs.Ranks fit) read.asked tt) other read.taken
-  same_table (jobs.Certify fit) other read = were_told source source' bytes (told_to (jobs.Certify fit) read.asked tt) other read.taken
-  same_table jobs.Check other read = were_told source source' bytes (told_to jobs.Check read.asked tt) other read.taken
-  same_table (jobs.Sample job) other read = refl
+module _ (words : List (List ℕ)) (source source' : Stream) (bytes : List ℕ) (fit : FitJob) (ranked : Bool) (asked : AskFit words fit ranked) (told : Reads asked.job → source.bytes ≡ Some bytes) where
+  -- a job of these words that reads the source takes the bytes that it tells
+  pub told_to : (job : Job) → IsJobOf words job → Reads job → source.bytes ≡ Some bytes
+  told_to job again reads = told (also_reads words asked.job job (one_request words asked.job job asked.asked again) reads)
+
+  -- so the table of a job is that of these bytes
+  pub same_table : (asker : Job) → IsJobOf words asker → (job : Job) (other : List ℕ) → WereRead words source source' job other → table_bytes asker other ≡ table_bytes asker bytes
+  same_table asker again job other read = by asker again
+    where
+      whole : (asker : Job) → IsJobOf words asker → Reads asker → other ≡ bytes
+      whole asker again reads =
+          let here : Reads job = also_reads words job asker (one_request words job asker read.asked again) reads in
+          were_told source source' bytes (told_to job read.asked here) other (takes_all source source' job other here read.taken)
+
+      by : (asker : Job) → IsJobOf words asker → table_bytes asker other ≡ table_bytes asker bytes
+      by (jobs.Process fit) again = whole (jobs.Process fit) again tt
+      by (jobs.Ranks fit) again = whole (jobs.Ranks fit) again tt
+      by (jobs.Certify fit) again = whole (jobs.Certify fit) again tt
+      by jobs.Check again = whole jobs.Check again tt
+      by (jobs.Sample job) again = refl
 
 module _ (words : List (List ℕ)) (source source' : Stream) (bytes : List ℕ) (w : IsWellFormed words source bytes) where
-  this_table : (job : Job) (other : List ℕ) → WereRead words source source' job other → table_bytes job other ≡ table_bytes job bytes
-  this_table = same_table words source source' bytes w.fit w.ranked w.asked w.told
-
   short : ¬ IsTooLong words source source'
   short h =
-      let reads = also_reads words w.asked.job h.job (one_request words w.asked.job h.job w.asked.asked h.asked) h.reads in
-      none_beyond source source' bytes (w.told reads) (w.short reads) h.came
+      none_beyond source source' bytes (told_to words source source' bytes w.fit w.ranked w.asked w.told h.job h.asked h.reads)
+      (w.short (also_reads words w.asked.job h.job (one_request words w.asked.job h.job w.asked.asked h.asked) h.reads)) h.came
+
+  same_bytes : (job : Job) (other : List ℕ) → WereRead words source source' job other → table_bytes job other ≡ table_bytes job bytes
+  same_bytes job other read = same_table words source source' bytes w.fit w.ranked w.asked w.told job read.asked job other read
 
   sound : (fit : FitJob) (ranked : Bool) (refusal : Refusal) (asked : AskFit words fit ranked) → ¬ HasFitCause fit ranked (table_bytes asked.job bytes) (halts.Refused refusal)
   sound fit ranked refusal asked cause = by refusal cause
@@ -134,11 +151,11 @@ module _ (words : List (List ℕ)) (source source' : Stream) (bytes : List ℕ) 
   fit_refused : (fit : FitJob) (ranked : Bool) (job : Job) → IsFitJob job fit ranked → (refusal : Refusal) (other : List ℕ) → WereRead words source source' job other → ¬ HasFitCause fit ranked (table_bytes job other) (halts.Refused refusal)
   fit_refused fit ranked job is refusal other read cause =
       let asked : AskFit words fit ranked = record { job = job; asked = read.asked; is = is } in
-      sound fit ranked refusal asked (subst (λ b. HasFitCause fit ranked b (halts.Refused refusal)) (this_table job other read) cause)
+      sound fit ranked refusal asked (subst (λ b. HasFitCause fit ranked b (halts.Refused refusal)) (same_bytes job other read) cause)
 
   -- the certificate that is too long aside, no certificate is refused but as a fit is
   certify_refused : (fit : FitJob) (refusal : Refusal) → ((n : ℕ) → refusal ≢ refusals.CertTooLong n) → (other : List ℕ) → WereRead words source source' (jobs.Certify fit) other → ¬ HasCertifyCause fit other (halts.Refused refusal)
-  certify_refused fit (refusals.CertTooLong n) other_than other read cause = other_than n refl
+  certify_refused fit (refusals.CertTooLong n) short other read cause = short n refl
   certify_refused fit (refusals.Dependent combination) short other read cause = fit_refused fit (is_some fit.rank) (jobs.Certify fit) (refl, refl) (refusals.Dependent combination) other read cause
   certify_refused fit refusals.TooLong short other read cause = fit_refused fit (is_some fit.rank) (jobs.Certify fit) (refl, refl) refusals.TooLong other read cause
   certify_refused fit (refusals.Table fault) short other read cause = fit_refused fit (is_some fit.rank) (jobs.Certify fit) (refl, refl) (refusals.Table fault) other read cause
@@ -176,7 +193,7 @@ module _ (words : List (List ℕ)) (source source' : Stream) (bytes : List ℕ) 
       by : (outcome : Outcome) → IsRun words source source' out out' err err' outcome → IsAnswer words source source' bytes outcome
       by (Done report) run =
           let a = run.cause in
-          (a.job, a.read.asked, right_same a.job report a.bytes bytes (this_table a.job a.bytes a.read) a.right)
+          (a.job, a.read.asked, right_same a.job report a.bytes bytes (same_bytes a.job a.bytes a.read) a.right)
       by (Refused refusals.TooLong) run = absurd (short run.cause)
       by (Refused (refusals.Table fault)) run = absurd (not_refused (refusals.Table fault) (λ n. λ e. cc e) run.cause)
       by (Refused (refusals.Formula fault)) run = absurd (not_refused (refusals.Formula fault) (λ n. λ e. cc e) run.cause)
@@ -208,7 +225,7 @@ module _ (words : List (List ℕ)) (source source' : Stream) where
     where
       was : (fit : FitJob) (input : Input) (ranked : Bool) (job : Job) → IsFitJob job fit ranked → WereRead words source source' job h.bytes → IsInput fit ranked (table_bytes job h.bytes) input → WasInput words source source' fit input
       was fit input ranked job is_job read is =
-          record { ranked = ranked; bytes = h.bytes; asked = record { job = job; asked = read.asked; is = is_job }; read = read; is = is }
+          record { ranked = ranked; bytes = h.bytes; asked = record { job = job; asked = read.asked; is = is_job }; read = (job, read); is = is }
 
       by : (job : Job) (report : Report) → WereRead words source source' job h.bytes → IsRight job h.bytes report → (fit : FitJob) × (input : Input) × (f : Fit) × WasInput words source source' fit input × IsFitOf fit input f
       by (jobs.Process fit) (reports.Process f) read right = (fit, right.0, f, was fit right.0 (is_some fit.rank) (jobs.Process fit) (refl, refl) read right.1, right.2)

@@ -80,7 +80,7 @@ module _ (words : List (List ℕ)) (source source' : Stream) where
 
   was : (fit : FitJob) (input : Input) (ranked : Bool) (bytes : List ℕ) (job : Job) → IsFitJob job fit ranked → WereRead words source source' job bytes → IsInput fit ranked (table_bytes job bytes) input → WasInput words source source' fit input
   was fit input ranked bytes job is_job read is =
-      record { ranked = ranked; bytes = bytes; asked = record { job = job; asked = read.asked; is = is_job }; read = read; is = is }
+      record { ranked = ranked; bytes = bytes; asked = record { job = job; asked = read.asked; is = is_job }; read = (job, read); is = is }
 
   pub limit_needed : (place : Place) (limit : ℕ) (trail : Trail Frac128) → IsHalted words source source' (PivotLimit place limit trail) → IsLimited place limit trail
   limit_needed place limit trail h = by h.job h.read h.cause

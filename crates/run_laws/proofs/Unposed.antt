@@ -29,19 +29,19 @@ use Rattle.run_laws.specs.NeededOutcomes.{AskFit, IsFitJob, table_bytes}
 use Rattle.run_laws.proofs.Complete.{no_check, one_request, report_fit, same_table}
 
 module _ (law : InputsHaveNoFault) (words : List (List ℕ)) (source source' : Stream) (bytes : List ℕ) (first : FitJob) (kind : Bool) (asked : AskFit words first kind) (told : Reads asked.job → source.bytes ≡ Some bytes)
-    (faulty : (fit : FitJob) (ranked : Bool) (asked : AskFit words fit ranked) → (refusal : Refusal) × HasInputCause fit ranked (table_bytes asked.job bytes) (halts.Refused refusal)) where
+    (faulty : (fit : FitJob) (ranked : Bool) (ask : AskFit words fit ranked) → (refusal : Refusal) × HasInputCause fit ranked (table_bytes ask.job bytes) (halts.Refused refusal)) where
   -- bytes that were read for a fit are no input within the limits
-  no_input : (fit : FitJob) (ranked : Bool) (ask : AskFit words fit ranked) (other : List ℕ) → WereRead words source source' ask.job other → (input : Input) → IsInput fit ranked (table_bytes ask.job other) input → IsWellShaped input.problem → ⊥
-  no_input fit ranked ask other read input there shaped =
+  no_input : (fit : FitJob) (ranked : Bool) (ask : AskFit words fit ranked) (job : Job) (other : List ℕ) → WereRead words source source' job other → (input : Input) → IsInput fit ranked (table_bytes ask.job other) input → IsWellShaped input.problem → ⊥
+  no_input fit ranked ask job other read input there shaped =
       let fault = faulty fit ranked ask in
-      let same = same_table words source source' bytes first kind asked told ask.job other read in
-      law fit ranked (table_bytes ask.job bytes) input fault.0 (subst (λ b. IsInput fit ranked b input) same there) shaped fault.1
+      law fit ranked (table_bytes ask.job bytes) input fault.0
+      (subst (λ b. IsInput fit ranked b input) (same_table words source source' bytes first kind asked told ask.job ask.asked job other read) there) shaped fault.1
 
-  ask_of : (job : Job) (fit : FitJob) (ranked : Bool) → IsFitJob job fit ranked → (other : List ℕ) → WereRead words source source' job other → AskFit words fit ranked
+  abbrev ask_of : (job : Job) (fit : FitJob) (ranked : Bool) → IsFitJob job fit ranked → (other : List ℕ) → WereRead words source source' job other → AskFit words fit ranked
   ask_of job fit ranked is other read = record { job = job; asked = read.asked; is = is }
 
   no_stop : (job : Job) (fit : FitJob) (ranked : Bool) → IsFitJob job fit ranked → (other : List ℕ) → WereRead words source source' job other → (halt : Halt) → LacksFit fit ranked (table_bytes job other) halt → ⊥
-  no_stop job fit ranked is other read halt h = no_input fit ranked (ask_of job fit ranked is other read) other read h.input h.is h.rows.shaped
+  no_stop job fit ranked is other read halt h = no_input fit ranked (ask_of job fit ranked is other read) job other read h.input h.is h.rows.shaped
 
   -- the words ask for no check
   unchecked : (other : List ℕ) → WereRead words source source' jobs.Check other → ⊥
@@ -63,7 +63,7 @@ module _ (law : InputsHaveNoFault) (words : List (List ℕ)) (source source' : S
       by : (job : Job) → WereRead words source source' job h.bytes → engine.HasCause job h.bytes (halts.Refused (refusals.CertTooLong n)) → ⊥
       by (jobs.Process fit) read cause = cause.2.cause
       by (jobs.Ranks fit) read cause = cause.2.cause
-      by (jobs.Certify fit) read cause = no_input fit (is_some fit.rank) (ask_of (jobs.Certify fit) fit (is_some fit.rank) (refl, refl) h.bytes read) h.bytes read cause.right.0 cause.right.1 cause.right.2.rows.shaped
+      by (jobs.Certify fit) read cause = no_input fit (is_some fit.rank) (ask_of (jobs.Certify fit) fit (is_some fit.rank) (refl, refl) h.bytes read) (jobs.Certify fit) h.bytes read cause.right.0 cause.right.1 cause.right.2.rows.shaped
       by jobs.Check read cause = unchecked h.bytes read
       by (jobs.Sample job) read cause = cause.2.cause
 
@@ -83,7 +83,7 @@ module _ (law : InputsHaveNoFault) (words : List (List ℕ)) (source source' : S
       by : (place : Place) (job : Job) → WereRead words source source' job h.bytes → engine.HasCause job h.bytes (halts.Overflow place trail spill) → ⊥
       by place (jobs.Process fit) read cause = no_stop (jobs.Process fit) fit (is_some fit.rank) (refl, refl) h.bytes read _ cause
       by places.Process (jobs.Ranks fit) read (inl cause) = no_stop (jobs.Ranks fit) fit true (refl, refl) h.bytes read _ cause
-      by places.Process (jobs.Ranks fit) read (inr cause) = no_input fit true (ask_of (jobs.Ranks fit) fit true (refl, refl) h.bytes read) h.bytes read cause.input cause.is cause.rows.shaped
+      by places.Process (jobs.Ranks fit) read (inr cause) = no_input fit true (ask_of (jobs.Ranks fit) fit true (refl, refl) h.bytes read) (jobs.Ranks fit) h.bytes read cause.input cause.is cause.rows.shaped
       by (places.Interval column tau) (jobs.Ranks fit) read cause = no_stop (jobs.Ranks fit) fit true (refl, refl) h.bytes read _ cause
       by places.Check (jobs.Ranks fit) read cause = no_stop (jobs.Ranks fit) fit true (refl, refl) h.bytes read _ cause
       by place (jobs.Certify fit) read cause = no_stop (jobs.Certify fit) fit (is_some fit.rank) (refl, refl) h.bytes read _ cause
@@ -94,7 +94,7 @@ module _ (law : InputsHaveNoFault) (words : List (List ℕ)) (source source' : S
   unposed out out' err err' (Done report) run =
       let h = report_fit words source source' first kind asked report run.cause in
       let was = h.3 in
-      no_input h.0 was.ranked was.asked was.bytes was.read h.1 was.is (subst (λ (p : Problem Frac128). IsWellShaped p) h.4.under.problem_is h.4.right.shaped)
+      no_input h.0 was.ranked was.asked was.read.0 was.bytes was.read.1 h.1 was.is (subst (λ (p : Problem Frac128). IsWellShaped p) h.4.under.problem_is h.4.right.shaped)
   unposed out out' err err' (PivotLimit place limit trail) run = limited place limit trail run.cause
   unposed out out' err err' (Overflow place trail spill) run = spilled place trail spill run.cause
   unposed out out' err err' (Refused (refusals.Dependent combination)) run = dependent combination run.cause

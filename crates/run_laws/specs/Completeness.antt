@@ -25,8 +25,8 @@ use Rattle.report_text.specs.declared.report.Halt.TheVariants as halts
 use Rattle.rq_input.specs.Inputs.{HasInputCause, IsInput}
 use Rattle.rq_input.specs.declared.input.Input.{Input}
 use Rattle.rq_engine.specs.Answers.{IsRight}
-use Rattle.rq_engine.specs.Jobs.{IsJobOf}
 use Rattle.rq_engine.specs.Checks.{IsCertOf}
+use Rattle.rq_engine.specs.Jobs.{IsJobOf}
 use Rattle.rq_cli.specs.Outcomes.{Stream, IsRun, IsHalted, Reads}
 use Rattle.rq_cli.specs.declared.outcome.Outcome.{Outcome}
 use Rattle.rq_cli.specs.declared.outcome.Outcome.TheVariants.{Done, Refused, OutOfMemory, PivotLimit, Overflow}
@@ -77,14 +77,14 @@ IsUnposed (Refused (Dependent combination)) = ⊥
 IsUnposed (Refused (CertTooLong n)) = ⊥
 IsUnposed _ = ⊤
 
--- where the words ask for a fit, and the table's bytes have a fault as a table, by the formula, as a design, in what smooths add
--- or as a problem, it is neither: so such a refusal comes exactly where there is such a fault, save for memory and for
--- streams that fail
+-- where the words ask for a fit, and the bytes of its table have a fault as a table, by the formula, as a design, in what
+-- smooths add or as a problem, it is neither: so such a refusal comes exactly where there is such a fault, save for memory
+-- and for streams that fail
 abbrev pub FaultIsAnswered : Type 0
 FaultIsAnswered =
-    (words : List (List ℕ)) (source source' out out' err err' : Stream) (bytes : List ℕ) (outcome : Outcome) (first : FitJob) (kind : Bool)
-    (asked : AskFit words first kind) → (Reads asked.job → source.bytes ≡ Some bytes)
-    → ((fit : FitJob) (ranked : Bool) (asked : AskFit words fit ranked) → (refusal : Refusal) × HasInputCause fit ranked (table_bytes asked.job bytes) (halts.Refused refusal))
+    (words : List (List ℕ)) (source source' out out' err err' : Stream) (bytes : List ℕ) (outcome : Outcome) (first : FitJob) (kind : Bool) (asked : AskFit words first kind)
+    → (Reads asked.job → source.bytes ≡ Some bytes)
+    → ((fit : FitJob) (ranked : Bool) (ask : AskFit words fit ranked) → (refusal : Refusal) × HasInputCause fit ranked (table_bytes ask.job bytes) (halts.Refused refusal))
     → IsRun words source source' out out' err err' outcome → IsUnposed outcome
 
 -- the words ask for a check, and the bytes that the source tells are not too many; they are this certificate, and all

@@ -48,7 +48,7 @@ pub record WasInput (words : List (List ℕ)) (before now : Stream) (fit : FitJo
   pub ranked : Bool
   pub bytes : List ℕ
   pub asked : AskFit words fit ranked
-  pub read : WereRead words before now asked.job bytes
+  pub read : (job : Job) × WereRead words before now job bytes
   pub is : IsInput fit ranked (table_bytes asked.job bytes) input
 
 -- its lawful trail has as many pivots as the limit of the words says, with one more left; and the limit is less than
