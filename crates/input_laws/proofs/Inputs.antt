@@ -1,5 +1,5 @@
 -- Bytes that are an input have no fault.
-use Rattle.std.proofs.Common.{◌≡◌, ◌≢◌, ◌≤◌, ◌^◌, ℕ, Bool, true, List, Result, Ok, Err, length, arith, refl, sym, ap, subst, ◌∙◌}
+use Rattle.std.proofs.Common.{◌≡◌, ◌≤◌, ℕ, Bool, true, List, Result, Ok, length, arith, sym, subst, ◌∙◌}
 use Rattle.exact_algebra.specs.Rational.{ℚ}
 use Rattle.loss_model.specs.Problem.{IsWellShaped}
 use Rattle.data_frame.specs.Tables.{TableOf, table_of}
@@ -17,8 +17,8 @@ use Rattle.report_text.specs.declared.report.Halt.TheVariants.{Refused}
 use Rattle.tv_penalty.specs.Faults.{HasCause as HasPenaltyCause}
 use Rattle.rq_program.specs.Faults.{HasCause as HasProgramCause}
 use Rattle.design_matrix.specs.Faults.{HasCause as HasDesignCause}
-use Rattle.rq_input.specs.Inputs.{AreTable, HasInputCause, HasSmooth, HasTableCause, IsInput, IsModelInput, LacksModelInput, LacksProblem, LacksSmoothing}
-use Rattle.rq_input.specs.Models.{IsDesigned, IsModel, IsSmoothed}
+use Rattle.rq_input.specs.Inputs.{AreTable, HasInputCause, HasTableCause, IsInput, IsModelInput, LacksProblem, LacksSmoothing}
+use Rattle.rq_input.specs.Models.{IsModel, IsSmoothed}
 use Rattle.rq_input.specs.declared.input.Input.{Input}
 use Rattle.input_laws.proofs.Parsed.{no_fault, one_formula}
 use Rattle.input_laws.proofs.Same.{same_table}

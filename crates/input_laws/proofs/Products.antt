@@ -1,11 +1,10 @@
 -- A product that is a fraction of the program is no multiplication that overflows.
-use Rattle.std.proofs.Common.{◌≡◌, ◌≤◌, ◌<◌, ◌+◌, ◌-◌, ◌*◌, ◌/◌, ◌^◌, ℕ, zero, suc, ℤ, pos, ◌*ℤ◌, unsigned_abs, List, [], ◌∷◌, All, length, take, get_or, Contains, arith, refl, sym, ap, ap₂, subst, ◌∙◌, one-mul}
+use Rattle.std.proofs.Common.{◌≡◌, ◌≤◌, ◌<◌, ◌-◌, ◌*◌, ◌/◌, ◌^◌, ℕ, zero, suc, ℤ, pos, ◌*ℤ◌, unsigned_abs, List, [], ◌∷◌, length, take, get_or, arith, refl, sym, ap, ap₂, subst, ◌∙◌, one-mul}
 use Rattle.std.proofs.Math.Nat.{dvd-mul_left, div-mul_cancel, mul-div_cancel, mul_comm}
 use Rattle.std.proofs.lemmas.Int.{unsigned_abs-mul}
 use Rattle.std.specs.Int.{◌∣◌}
 use Rattle.exact_algebra.specs.Fraction.{Fraction, rational}
 use Rattle.exact_algebra.specs.Rational.{ℚ, ◌*ℚ◌, whole}
-use Rattle.exact_algebra.specs.Solver.{identity, ◌⊠◌, v0, v1, v2}
 use Rattle.exact_algebra.proofs.Quotients.{cross_from, product_is}
 use Rattle.frac_core.specs.Gcd.{gcd}
 use Rattle.frac_core.specs.GcdLaws.{dvd_from_coprime, gcd-mul, gcd_comm, quotient_pos}
@@ -14,7 +13,7 @@ use Rattle.frac_core.specs.declared.frac128.Frac128.{Frac128}
 use Rattle.loss_model.specs.declared.spill.Spill.{Spill}
 use Rattle.design_matrix.specs.Designs.{AllFit, OverflowsFirst, OverflowsInColumn}
 use Rattle.design_matrix.specs.Parts.{Part, factors}
-use Rattle.design_matrix.specs.Products.{Fits, product, product_onto, value}
+use Rattle.design_matrix.specs.Products.{Fits, product_onto, value}
 
 -- what equals a fraction in lowest terms within the range reduces to one
 reduces_within : (range : ℕ) (v : Fraction) (n : ℤ) (d : ℕ) → IsWithin range v → 1 ≤ d → rational v ≡ rational (record { num = n; den = d }) → ReducesWithin range n d

@@ -1,5 +1,5 @@
 -- Where nothing is wrong with a design, with what smooths add to it and with a problem, there is no fault.
-use Rattle.std.proofs.Common.{◌≡◌, ◌≢◌, ◌⊎◌, ◌≤◌, ◌<◌, ◌+◌, ℕ, true, List, [], ◌∷◌, Option, Some, None, length, map, zip, min, arith, inl, inr, refl, sym, ap, subst, ◌∙◌}
+use Rattle.std.proofs.Common.{◌≡◌, ◌≢◌, ◌+◌, ℕ, true, List, [], ◌∷◌, Option, length, map, zip, min, arith, inl, inr, refl, sym, ap, ◌∙◌}
 use Rattle.std.proofs.lemmas.List.{length-append, length-map}
 use Rattle.std.proofs.lemmas.Slice.Zip.{length-zip}
 use Rattle.contrasts.specs.declared.Coding.{Coding}
@@ -20,7 +20,7 @@ use Rattle.design_matrix.specs.declared.fault.DesignFault.{DesignFault}
 use Rattle.design_matrix.specs.declared.fault.DesignFault.TheVariants as designs
 use Rattle.tv_penalty.specs.Faults.{AreSound, HasCause as HasPenaltyCause, IsFirstFault, IsSound, Setting, columns_in, setting_of}
 use Rattle.tv_penalty.specs.Operations.{NoneOverflows, OverflowsFirst, SitedOperation}
-use Rattle.tv_penalty.specs.Smoothings.{exact_penalty, exact_smoothing, part_of, smoothing_by, smoothing_of}
+use Rattle.tv_penalty.specs.Smoothings.{exact_penalty, exact_smoothing, smoothing_of}
 use Rattle.tv_penalty.specs.declared.Smoothing.{Smoothing}
 use Rattle.tv_penalty.specs.declared.fault.PenaltyFault.{PenaltyFault}
 use Rattle.tv_penalty.specs.declared.fault.PenaltyFault.TheVariants as penalties
