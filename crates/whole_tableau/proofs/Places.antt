@@ -1,5 +1,5 @@
 -- What whole numbers keep is a basis.
-use Rattle.std.specs.Prelude.{◌≡◌, ◌≢◌, ◌⊎◌, ℕ, ℤ, ◌<◌, ◌≤◌, Bool, true, false, ◌==◌, if◌then◌else◌, List, [], ◌∷◌, length, slice_index, slice_set, get_or, Option, pos}
+use Rattle.std.specs.Prelude.{◌≡◌, ◌≢◌, ◌⊎◌, ℕ, ℤ, ◌<◌, ◌≤◌, ◌^◌, All, unsigned_abs, Bool, true, false, ◌==◌, if◌then◌else◌, List, [], ◌∷◌, length, slice_index, slice_set, get_or, Option, pos}
 use Rattle.std.specs.Option.{option_map_or}
 use Rattle.std.proofs.Common.{arith, refl, sym, ap, subst, ◌∙◌, inl, inr}
 use Rattle.std.proofs.lemmas.Bool.{cases_lt}
@@ -15,6 +15,7 @@ use Rattle.exact_matrices.proofs.TermLaws.{if-same, if-other}
 use Rattle.exact_matrices.specs.Matrices.{AreInverse, coordinate}
 use Rattle.exact_matrices.proofs.MatrixLaws.{AreInverse-same}
 use Rattle.exact_matrices.specs.Exchange.{with_row}
+use Rattle.exact_matrices.specs.Selections.{AreDistinct}
 use Rattle.loss_model.specs.declared.problem.Row.{Row}
 use Rattle.loss_model.specs.declared.problem.Problem.{Problem}
 use Rattle.loss_model.specs.Problem.{sample, value_at}
@@ -29,6 +30,8 @@ use Rattle.scaled_model.specs.Scaled.{unscaled}
 use Rattle.scaled_model.proofs.ScalingLaws.{unscaled_basis, coord-scaled}
 use Rattle.whole_rows.specs.declared.rows.WholeRow.{WholeRow}
 use Rattle.whole_rows.specs.Wholes.{factor_at, factor_value, sample_of_rows}
+use Rattle.whole_solution.specs.declared.basis.WholeBasis.{WholeBasis}
+use Rattle.whole_solution.specs.Standing.{IsWholeBasis}
 use Rattle.whole_solution.proofs.Reading.{row_read}
 use Rattle.whole_tableau.specs.declared.setting.Setting.{Setting}
 use Rattle.whole_tableau.specs.Kept.{Kept, IsSetting, IsKept, wholes_of, place}
@@ -57,6 +60,20 @@ basis_from n rows at a inv = record { distinct = record { within = within; apart
         sym (if-same j j (whole (pos 1)) (whole (pos 0)) refl) ∙ sym (inv.left j j lj lj)
         ∙ ap (λ i. sum_ℚ n (λ m. (sample_of_rows n rows).x i m *ℚ a m j)) same
         ∙ inv.left k j lk lj ∙ if-other k j (whole (pos 1)) (whole (pos 0)) other)
+
+-- a basis of rows with this inverse, in whole numbers
+pub is_whole_basis : (b : WholeBasis) (n : ℕ) → length b.inverse.now.columns ≡ n → length b.basis.now.rows ≡ n → IsWholeSquare b.inverse.now → length b.rows.now < 2 ^ 32
+    → All (λ r. length r.x ≡ n) b.rows.now → All (λ r. All (λ e. unsigned_abs e ≤ b.limit) r.x) b.rows.now
+    → AreInverse n (λ j k. (sample_of_rows n b.rows.now).x (slice_index b.basis.now.rows j) k) (inverse_of b.inverse.now) → IsWholeBasis b
+is_whole_basis b n same size shape few wide small inv =
+    record {
+      size = size ∙ sym same;
+      shape = shape;
+      few = few;
+      wide = subst (λ n. All (λ r. length r.x ≡ n) b.rows.now) (sym same) wide;
+      small = small;
+      distinct = subst (λ n. AreDistinct (slice_index b.basis.now.rows) n (length b.rows.now)) (sym same) (basis_from n b.rows.now (slice_index b.basis.now.rows) (inverse_of b.inverse.now) inv).distinct;
+    }
 
 -- the inverse is 0 outside
 whole_ends : (n : ℕ) (s : WholeSquare) (f : ℕ → ℚ) → IsWholeSquare s → length s.columns ≡ n → EndsAt n (unscaled f (inverse_of s))
