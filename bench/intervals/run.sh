@@ -1,7 +1,6 @@
 #!/usr/bin/env bash
-# Times rank intervals of all columns at the median on generated tables of numbers below 16 (with larger ones the inverse of the Gram
-# matrix outgrows 128 bits): the fit alone, and with the intervals, each the best of three
-# runs in seconds of a processor. Where R stands with its package quantreg, what rq.fit.br(ci = TRUE) takes on the same table follows,
+# Times rank intervals of all columns at the median on generated tables of numbers below 16: the fit alone, and with the
+# intervals, each the best of three runs in seconds of a processor. Where R stands with its package quantreg, what rq.fit.br(ci = TRUE) takes on the same table follows,
 # reading not counted.
 #
 # usage: run.sh PROGRAM

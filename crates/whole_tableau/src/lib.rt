@@ -8,10 +8,10 @@
 
 mod body;
 mod ends;
+mod parts;
 mod refusal;
 mod setting;
 mod solving;
-mod values;
 mod vertex;
 mod walking;
 
