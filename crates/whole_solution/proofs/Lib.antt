@@ -3,4 +3,5 @@ pub mod Made
 pub mod Reading
 pub mod ShareProducts
 pub mod Balanced
-pub mod Weights
+pub mod Same
+pub mod Moved

@@ -6,10 +6,7 @@ use Rattle.std.proofs.lemmas.Option.{slice_get_read}
 use Rattle.exact_algebra.specs.Rational.{ℚ, ◌*ℚ◌, neg_ℚ, whole}
 use Rattle.exact_algebra.specs.RationalSums.{sum_ℚ}
 use Rattle.exact_algebra.proofs.RationalSumLaws.{sum_ℚ-same}
-use Rattle.std.specs.List.{All}
-use Rattle.std.proofs.lemmas.List.Elements.{All-append, All-cons, All-nil}
-use Rattle.whole_inverse.specs.Shares.{share, share_at, share_entries, whole_at}
-use Rattle.whole_solution.proofs.Balanced.{share_at-one}
+use Rattle.whole_inverse.specs.Shares.{share, share_at, whole_at}
 use Rattle.whole_rows.specs.declared.rows.WholeRow.{WholeRow}
 use Rattle.whole_rows.specs.Wholes.{of_whole, sample_of_rows}
 use Rattle.loss_model.specs.declared.vertex.Side.{Side}
@@ -17,7 +14,8 @@ use Rattle.loss_model.specs.declared.vertex.Side.TheVariants.{Up, Down, Basic}
 use Rattle.basis_model.specs.declared.part.Part.{Part}
 use Rattle.basis_model.specs.declared.part.Part.TheVariants.{Constant, Linear}
 use Rattle.basis_model.specs.Basis.{bound_part}
-use Rattle.whole_solution.specs.Standing.{bound_of, side_in}
+use Rattle.whole_solution.specs.Standing.{side_in}
+use Rattle.whole_solution.specs.Weighing.{bound_of}
 
 -- a number of a row that was read
 pub row_read : (rows : List WholeRow) (i : ℕ) (r : WholeRow) (f : WholeRow → ℚ) → i < length rows → r ≡ get_or rows i r → of_whole rows f i ≡ f r
@@ -73,16 +71,3 @@ size_pushed (y ∷ made) x zero e = absurd (omega arith)
 size_pushed (y ∷ made) x (suc n) e =
     let h = size_pushed made x n (omega arith) in
     omega arith
-
--- one column more at the end
-pub entries_pushed : (made : List (List ℤ)) (xs : List ℤ) (n m : ℕ) (f : ℕ → ℕ → ℚ) → length made ≡ n → ((k i : ℕ) → k < n → i < m → share_entries (pos 1) made k i ≡ f k i) → ((i : ℕ) → i < m → whole_at xs i ≡ f n i) → (k i : ℕ) → k < n + 1 → i < m → share_entries (pos 1) (made ++ xs ∷ []) k i ≡ f k i
-entries_pushed [] xs zero m f size h e zero i l li = share_at-one xs i ∙ e i li
-entries_pushed [] xs zero m f size h e (suc k) i l li = absurd (omega arith)
-entries_pushed [] xs (suc n) m f size h e k i l li = absurd (omega arith)
-entries_pushed (y ∷ made) xs zero m f size h e k i l li = absurd (omega arith)
-entries_pushed (y ∷ made) xs (suc n) m f size h e zero i l li = h 0 i (omega arith) li
-entries_pushed (y ∷ made) xs (suc n) m f size h e (suc k) i l li =
-    entries_pushed made xs n m (λ k. f (suc k)) (omega arith) (λ k i l. h (suc k) i (omega arith)) e k i (omega arith) li
-
-pub long_pushed : (made : List (List ℤ)) (xs : List ℤ) (m : ℕ) → All (λ xs. length xs ≡ m) made → length xs ≡ m → All (λ xs. length xs ≡ m) (made ++ xs ∷ [])
-long_pushed made xs m h e = All-append (λ xs. length xs ≡ m) made (xs ∷ []) h (All-cons (λ xs. length xs ≡ m) xs [] e (All-nil (λ xs. length xs ≡ m)))

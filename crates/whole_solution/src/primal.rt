@@ -1,5 +1,5 @@
 //! The numerators of the coefficients at a basis, and of the residuals of all rows.
-ghost use Rattle.std.specs.Prelude.{◌≡◌, ℕ, ℤ, ◌<◌, ◌≤◌, ◌≤ℤ◌, All, length, slice_index, unsigned_abs, IfOk, IfSome, pos};
+ghost use Rattle.std.specs.Prelude.{◌≡◌, ℕ, ℤ, ◌<◌, ◌≤◌, ◌≤ℤ◌, ◌*ℤ◌, All, length, slice_index, unsigned_abs, IfOk, IfSome, pos};
 ghost use Rattle.exact_algebra.specs.Rational.{◌-ℚ◌, ◌*ℚ◌, whole};
 ghost use Rattle.exact_algebra.specs.RationalSums.{sum_ℚ};
 ghost use Rattle.basis_model.specs.Basis.{coefficient};
@@ -7,6 +7,7 @@ ghost use Rattle.whole_inverse.specs.Shares.{share, share_at, shares, whole_at};
 ghost use Rattle.whole_inverse.specs.Squares.{inverse_of};
 ghost use Rattle.whole_rows.specs.Wholes.{of_whole, sample_of_rows};
 
+use crate::room::room_for;
 use frac_core::List;
 use loss_model::Basis;
 use std::alloc::Global;
@@ -104,12 +105,23 @@ pub fn coefficients(
     Ok(made)
 }
 
+/// A response times the determinant.
+fn level_of(y: i64, determinant: i128) -> Option<i128>
+    ensures { IfSome result (λ n. n ≡ y *ℤ determinant) }
+{
+    match i64::try_from(determinant) {
+        // Of numbers of 64 bits the product has room, and the compiler knows it.
+        Ok(narrow) => i128::from(y).checked_mul(i128::from(narrow)),
+        Err(_) => i128::from(y).checked_mul(determinant),
+    }
+}
+
 /// The numerator of what is left of a response, over the determinant over which the fit stands.
 fn residual_numerator(y: i64, fit: i128, determinant: i128) -> Option<i128>
     requires { pos 1 ≤ℤ determinant }
     ensures { IfSome result (λ r. share r determinant ≡ whole y -ℚ share fit determinant) }
 {
-    let level = i128::from(y).checked_mul(determinant)?;
+    let level = level_of(y, determinant)?;
     let rest = level.checked_sub(fit)?;
     Some(rest)
 }
@@ -137,7 +149,7 @@ pub fn residuals(
     ensures size { IfOk result (λ made. length made ≡ length rows.now) }
     ensures each { IfOk result (λ made. (i : ℕ) → i < length rows.now → share_at determinant made i ≡ of_whole rows.now (λ r. whole r.y) i -ℚ share_at determinant fits.now i) }
 {
-    let mut made = List::new(alloc);
+    let mut made = room_for(alloc, rows.len())?;
     for i in 0..rows.len() {
         let number = residual_of(rows[i].y, fits[i], determinant)?;
         if made.push(number).is_err() {

@@ -6,6 +6,7 @@ ghost use Rattle.wide_int.specs.Numbers.{sizes};
 ghost use Rattle.whole_inverse.specs.Shares.{share_at, whole_at};
 ghost use Rattle.whole_rows.specs.Wholes.{of_whole};
 
+use crate::room::room_for;
 use frac_core::List;
 use std::alloc::Global;
 use whole_inverse::{Obstacle, product_within};
@@ -25,7 +26,7 @@ fn bounded_products(
     ensures size { IfOk result (λ made. length made ≡ length rows.now) }
     ensures each { IfOk result (λ made. (d : ℤ) (i : ℕ) → i < length rows.now → share_at d made i ≡ sum_ℚ (length column.now) (λ k. of_whole rows.now (λ r. whole_at r.x k) i *ℚ share_at d column.now k)) }
 {
-    let mut made = List::new(alloc);
+    let mut made = room_for(alloc, rows.len())?;
     for i in 0..rows.len() {
         let row = &rows[i];
         let number = product_within(row.x.as_slice(), column, limit);

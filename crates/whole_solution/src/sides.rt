@@ -1,6 +1,7 @@
 //! The sides of all rows.
 ghost use Rattle.std.specs.Prelude.{◌≡◌, ◌≢◌, ℕ, ℤ, ◌<◌, ◌≤◌, ◌≤ℤ◌, All, length, slice_index, unsigned_abs, IfOk, pos};
 ghost use Rattle.exact_matrices.specs.Selections.{is_among};
+ghost use Rattle.loss_model.specs.declared.vertex.Side.TheVariants.{Basic};
 ghost use Rattle.loss_model.specs.Sample.{residual};
 ghost use Rattle.basis_model.specs.Perturbed.{perturbed_side};
 ghost use Rattle.basis_model.specs.Basis.{coefficient, outside_row, side_at};
@@ -10,6 +11,7 @@ ghost use Rattle.whole_rows.specs.Wholes.{sample_of_rows};
 ghost use Rattle.whole_solution.specs.Standing.{side_in, IsWholeBasis};
 
 use crate::basis::WholeBasis;
+use crate::room::room_for;
 use crate::signs::{perturbed_sign, side_of_number};
 use frac_core::List;
 use loss_model::Side;
@@ -27,6 +29,20 @@ fn is_held(basis: &[u32], row: u32) -> bool
         }
     }
     found
+}
+
+/// The side `Basic` for each row.
+pub fn basic_sides(alloc: Global, rows: usize) -> Result<List<Side>, Obstacle>
+    ensures size { IfOk result (λ made. length made ≡ rows) }
+    ensures each { IfOk result (λ made. (i : ℕ) → i < rows → side_in made i ≡ Basic) }
+{
+    let mut made = List::new(alloc);
+    for _ in 0..rows {
+        if made.push(Side::Basic).is_err() {
+            return Err(Obstacle::OutOfMemory);
+        }
+    }
+    Ok(made)
 }
 
 impl<'a> WholeBasis<'a> {
@@ -75,7 +91,7 @@ impl<'a> WholeBasis<'a> {
         ensures each { let s = self.now.inverse.now in let p = sample_of_rows (length s.columns) self.now.rows.now in let at = slice_index self.now.basis.now.rows in
             IfOk result (λ made. (i : ℕ) → i < p.rows → side_in made i ≡ side_at p at (inverse_of s) i) }
     {
-        let mut made = List::new(alloc);
+        let mut made = room_for(alloc, residuals.len())?;
         for row in 0..residuals.len() {
             let side = self.side_of_row(row as u32, residuals[row])?;
             if made.push(side).is_err() {

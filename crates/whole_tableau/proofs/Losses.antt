@@ -1,11 +1,11 @@
 -- The loss at a basis in two parts.
-use Rattle.std.specs.Prelude.{◌≡◌, ◌≢◌, ℕ, ℤ, ◌<◌, List, [], ◌∷◌, length, slice_index, pos}
+use Rattle.std.specs.Prelude.{◌≡◌, ◌≢◌, ℕ, zero, suc, ℤ, ◌<◌, [], ◌∷◌, length, pos}
 use Rattle.std.proofs.Common.{refl, sym, ap, ap₂, subst, ◌∙◌}
-use Rattle.exact_algebra.specs.Solver.{number, negated, ◌⊞◌, ◌⊠◌, v0, v1, v2, v3, v4}
-use Rattle.exact_algebra.specs.Rational.{ℚ, ◌+ℚ◌, ◌*ℚ◌, neg_ℚ, inverse, whole, ◌≤ℚ◌}
+use Rattle.exact_algebra.specs.Solver.{number, negated, ◌⊞◌, ◌⊟◌, ◌⊠◌, v0, v1, v2, v3, v4}
+use Rattle.exact_algebra.specs.Rational.{ℚ, ◌+ℚ◌, ◌-ℚ◌, ◌*ℚ◌, neg_ℚ, inverse, whole, ◌≤ℚ◌}
 use Rattle.exact_algebra.proofs.RationalLaws.{ring_ℚ, ≤ℚ_refl}
 use Rattle.exact_algebra.specs.RationalSums.{sum_ℚ}
-use Rattle.exact_algebra.proofs.RationalSumLaws.{sum_ℚ-same, sum_ℚ-scale, sum_ℚ-add}
+use Rattle.exact_algebra.proofs.RationalSumLaws.{sum_ℚ-same, sum_ℚ-scale, sum_ℚ-add, sum_ℚ-zero, sum_ℚ-mix}
 use Rattle.loss_model.specs.declared.vertex.Side.{Side}
 use Rattle.loss_model.specs.declared.vertex.Side.TheVariants.{Up, Down, Basic}
 use Rattle.loss_model.specs.Sample.{Sample, residual, row_loss, loss, up_cost, down_cost}
@@ -18,11 +18,10 @@ use Rattle.pivot_rule.proofs.Sides.{on_side}
 use Rattle.scaled_model.specs.Scaled.{IsScaled, unscaled}
 use Rattle.scaled_model.proofs.ScalingLaws.{residual-scaled, side_at-scaled}
 use Rattle.whole_inverse.specs.Shares.{share_at, whole_at}
-use Rattle.whole_inverse.specs.Squares.{inverse_of}
-use Rattle.whole_rows.specs.Wholes.{sample_of_rows}
 use Rattle.whole_solution.specs.declared.solution.WholeSolution.{WholeSolution}
+use Rattle.whole_solution.specs.declared.totals.Totals.{Totals}
 use Rattle.whole_solution.specs.Standing.{IsWholeSolution, side_in}
-use Rattle.whole_tableau.specs.Kept.{Kept, wholes_of}
+use Rattle.whole_solution.specs.Weighing.{weighed, AreTotals}
 use Rattle.whole_tableau.specs.Ends.{loss_part}
 use Rattle.whole_tableau.proofs.Factors.{taken_away}
 
@@ -82,11 +81,29 @@ module _ (p q : Sample) (s : ℕ → ℚ) (ly lc : ℚ) (h : IsScaled p q s ly l
       ∙ ap (λ z. (ly *ℚ z) *ℚ inverse ly) (taken_away lc (loss_part p at (unscaled s a) part) other)
       ∙ taken_away ly (loss_part p at (unscaled s a) part) some
 
--- the sum of the products in whole numbers is a part of their loss
-pub loss_sum : {F : Type 0} (k : Kept F) (sol : WholeSolution) → IsWholeSolution (wholes_of k) (slice_index k.rows) (inverse_of k.square) k.square.determinant sol → (part : Part) (bounds : List ℤ) (sum : ℚ)
-    → length bounds ≡ length k.setting.wholes.rows → ((n i : ℕ) → i < length k.setting.wholes.rows → whole_at bounds i ≡ bound_part (sample_of_rows n k.setting.wholes.rows) part i (side_in sol.sides i))
-    → sum ≡ sum_ℚ (length bounds) (λ i. whole_at bounds i *ℚ share_at k.square.determinant sol.residuals i) → sum ≡ loss_part (wholes_of k) (slice_index k.rows) (inverse_of k.square) part
-loss_sum k sol is part bounds sum size each e =
-    e ∙ ap (λ n. sum_ℚ n (λ i. whole_at bounds i *ℚ share_at k.square.determinant sol.residuals i)) size
-    ∙ sum_ℚ-same (length k.setting.wholes.rows) (λ i. whole_at bounds i *ℚ share_at k.square.determinant sol.residuals i) (λ i. bound_part (wholes_of k) part i (side_at (wholes_of k) (slice_index k.rows) (inverse_of k.square) i) *ℚ residual (wholes_of k) (coefficient (wholes_of k) (slice_index k.rows) (inverse_of k.square)) i)
-    (λ i li. ap₂ (λ x y. x *ℚ y) (each k.problem.columns i li ∙ ap (λ (o : Side). bound_part (wholes_of k) part i o) (is.sides i li)) (is.residuals i li))
+-- a sum of products with what is left of numbers, by columns
+by_columns : (m n : ℕ) (y b : ℕ → ℚ) (x : ℕ → ℕ → ℚ) (c : ℕ → ℚ)
+    → sum_ℚ m (λ i. y i *ℚ b i) -ℚ sum_ℚ n (λ k. c k *ℚ sum_ℚ m (λ i. x i k *ℚ b i)) ≡ sum_ℚ m (λ i. b i *ℚ (y i -ℚ sum_ℚ n (λ k. x i k *ℚ c k)))
+by_columns zero n y b x c =
+    ap (λ z. whole (pos 0) -ℚ z) (sum_ℚ-same n (λ k. c k *ℚ whole (pos 0)) (λ k. whole (pos 0)) (λ k lk. ring_ℚ (c k ∷ []) (v0 ⊠ number (pos 0)) (number (pos 0)) refl) ∙ sum_ℚ-zero n)
+    ∙ ring_ℚ [] (number (pos 0) ⊟ number (pos 0)) (number (pos 0)) refl
+by_columns (suc m) n y b x c =
+    ap (λ z. (sum_ℚ m (λ i. y i *ℚ b i) +ℚ (y m *ℚ b m)) -ℚ z)
+    (sum_ℚ-same n (λ k. c k *ℚ (sum_ℚ m (λ i. x i k *ℚ b i) +ℚ (x m k *ℚ b m))) (λ k. (whole (pos 1) *ℚ (c k *ℚ sum_ℚ m (λ i. x i k *ℚ b i))) +ℚ (b m *ℚ (x m k *ℚ c k)))
+    (λ k lk. ring_ℚ (c k ∷ sum_ℚ m (λ i. x i k *ℚ b i) ∷ x m k ∷ b m ∷ []) (v0 ⊠ (v1 ⊞ v2 ⊠ v3)) (number (pos 1) ⊠ (v0 ⊠ v1) ⊞ v3 ⊠ (v2 ⊠ v0)) refl)
+    ∙ sum_ℚ-mix n (whole (pos 1)) (b m) (λ k. c k *ℚ sum_ℚ m (λ i. x i k *ℚ b i)) (λ k. x m k *ℚ c k))
+    ∙ ring_ℚ (sum_ℚ m (λ i. y i *ℚ b i) ∷ y m ∷ b m ∷ sum_ℚ n (λ k. c k *ℚ sum_ℚ m (λ i. x i k *ℚ b i)) ∷ sum_ℚ n (λ k. x m k *ℚ c k) ∷ [])
+    ((v0 ⊞ v1 ⊠ v2) ⊟ (number (pos 1) ⊠ v3 ⊞ v2 ⊠ v4)) ((v0 ⊟ v3) ⊞ v2 ⊠ (v1 ⊟ v4)) refl
+    ∙ ap (λ z. z +ℚ (b m *ℚ (y m -ℚ sum_ℚ n (λ k. x m k *ℚ c k)))) (by_columns m n y b x c)
+
+-- what the rows weigh in the residuals is a part of the loss
+pub loss_by_totals : (p : Sample) (at : ℕ → ℕ) (a : ℕ → ℕ → ℚ) (d : ℤ) (sol : WholeSolution) → IsWholeSolution p at a d sol → (part : Part) (t : Totals) → AreTotals p (side_in sol.sides) part t
+    → whole t.response -ℚ sum_ℚ (length sol.coef) (λ k. share_at d sol.coef k *ℚ whole_at t.columns k) ≡ loss_part p at a part
+loss_by_totals p at a d sol is part t are =
+    ap₂ (λ x y. x -ℚ y) are.response
+    (ap (λ n. sum_ℚ n (λ k. share_at d sol.coef k *ℚ whole_at t.columns k)) is.columns
+    ∙ sum_ℚ-same p.columns (λ k. share_at d sol.coef k *ℚ whole_at t.columns k) (λ k. coefficient p at a k *ℚ weighed p (side_in sol.sides) part (λ i. p.x i k) p.rows)
+    (λ k lk. ap₂ (λ x y. x *ℚ y) (is.coef k lk) (are.columns k lk)))
+    ∙ by_columns p.rows p.columns p.y (λ i. bound_part p part i (side_in sol.sides i)) p.x (coefficient p at a)
+    ∙ sum_ℚ-same p.rows (λ i. bound_part p part i (side_in sol.sides i) *ℚ residual p (coefficient p at a) i) (λ i. bound_part p part i (side_at p at a i) *ℚ residual p (coefficient p at a) i)
+    (λ i li. ap (λ (o : Side). bound_part p part i o *ℚ residual p (coefficient p at a) i) (is.sides i li))

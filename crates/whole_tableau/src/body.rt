@@ -22,9 +22,9 @@ use std::marker::Model;
 use tableau_model::{Failure, Step};
 use whole_inverse::{Obstacle, WholeInverse};
 use whole_solution::{WholeBasis, WholeSolution};
-use whole_start::whole_start;
+use whole_start::{WholeStart, whole_start};
 
-/// A basis of a problem, and the inverse of its rows in whole numbers.
+/// A basis of a problem, the inverse of its rows in whole numbers, and what stands there.
 #[derive(Drop)]
 pub struct WholeTableau<'a, F: Exact> {
     alloc: Global,
@@ -32,6 +32,15 @@ pub struct WholeTableau<'a, F: Exact> {
     setting: Setting,
     basis: Basis,
     inverse: WholeInverse,
+    solution: WholeSolution,
+}
+
+/// The basis after a step, the inverse of its rows, and what stands there.
+#[derive(Drop)]
+struct Next {
+    basis: Basis,
+    inverse: WholeInverse,
+    solution: WholeSolution,
 }
 
 impl<'a, F: Exact> Model for WholeTableau<'a, F> {
@@ -39,35 +48,37 @@ impl<'a, F: Exact> Model for WholeTableau<'a, F> {
 
     ghost Value = { Kept F };
 
-    ghost view = { λ t. record { problem = t.problem.now; setting = t.setting; rows = t.basis.rows; square = t.inverse } };
+    ghost view = { λ t. record { problem = t.problem.now; setting = t.setting; rows = t.basis.rows; square = t.inverse; solution = t.solution } };
 
-    ghost invariant = { λ t. IsKept F.value (record { problem = t.problem.now; setting = t.setting; rows = t.basis.rows; square = t.inverse }) };
+    ghost invariant = { λ t. IsKept F.value (record { problem = t.problem.now; setting = t.setting; rows = t.basis.rows; square = t.inverse; solution = t.solution }) };
 }
 
 impl<'a, F: Exact> WholeTableau<'a, F> {
-    /// The basis of these rows of a problem, whose entries in whole numbers have this inverse.
+    /// The start of a problem, and what stands there.
     fn at(
         alloc: Global,
         problem: &'a Problem<F>,
         setting: Setting,
-        basis: Basis,
-        inverse: WholeInverse,
+        start: WholeStart,
+        solution: WholeSolution,
     ) -> WholeTableau<'a, F>
         requires shaped { IsWellShaped problem.now }
         requires setting { IsSetting F.value problem.now setting }
-        requires size { length basis.rows ≡ problem.now.columns }
-        requires square { length inverse.columns ≡ problem.now.columns }
-        requires inverse { AreInverse problem.now.columns (λ j k. (sample_of_rows problem.now.columns setting.wholes.rows).x (slice_index basis.rows j) k) (inverse_of inverse) }
+        requires size { length start.basis.rows ≡ problem.now.columns }
+        requires square { length start.inverse.columns ≡ problem.now.columns }
+        requires inverse { AreInverse problem.now.columns (λ j k. (sample_of_rows problem.now.columns setting.wholes.rows).x (slice_index start.basis.rows j) k) (inverse_of start.inverse) }
+        requires solution { IsWholeSolution (sample_of_rows problem.now.columns setting.wholes.rows) (slice_index start.basis.rows) (inverse_of start.inverse) start.inverse.determinant solution }
         ensures problem { result.problem ≡ problem.now }
-        ensures rows { result.rows ≡ basis.rows }
+        ensures rows { result.rows ≡ start.basis.rows }
     {
-        inverse.shape();
+        start.inverse.shape();
         WholeTableau {
             alloc,
             problem,
             setting,
-            basis,
-            inverse,
+            basis: start.basis,
+            inverse: start.inverse,
+            solution,
         }
     }
 
@@ -80,7 +91,15 @@ impl<'a, F: Exact> WholeTableau<'a, F> {
         let setting = setting_of(alloc, problem)?;
         let rows = setting.wholes.rows.as_slice();
         let start = whole_start(alloc, rows, problem.columns, setting.limit)?;
-        Ok(WholeTableau::at(alloc, problem, setting, start.basis, start.inverse))
+        start.inverse.shape();
+        let held = WholeBasis {
+            rows,
+            basis: &start.basis,
+            inverse: &start.inverse,
+            limit: setting.limit,
+        };
+        let solution = held.solution(alloc)?;
+        Ok(WholeTableau::at(alloc, problem, setting, start, solution))
     }
 
     /// Where its lists are made.
@@ -134,14 +153,44 @@ impl<'a, F: Exact> WholeTableau<'a, F> {
     }
 
     /// What stands at the basis, in whole numbers.
-    pub(crate) fn solution(&self) -> Result<WholeSolution, Obstacle>
-        ensures kept { IfOk result (λ s. IsKept F.value self.now) }
-        ensures solution { IfOk result (IsWholeSolution (wholes_of self.now) (slice_index self.now.rows) (inverse_of self.now.square) self.now.square.determinant) }
+    pub(crate) fn solution(&self) -> &WholeSolution
+        ensures kept { IsKept F.value self.now }
+        ensures is { result.now ≡ self.now.solution }
+        ensures solution { IsWholeSolution (wholes_of self.now) (slice_index self.now.rows) (inverse_of self.now.square) self.now.square.determinant result.now }
+    {
+        &self.solution
+    }
+
+    /// The basis after a row has taken a position at which its coordinate isn't 0.
+    fn next(&self, step: Step) -> Result<Next, Obstacle>
+        requires position { step.position < self.now.problem.columns }
+        requires row { step.row < length self.now.problem.rows }
+        requires some { coord (sample F.value self.now.problem) (place F.value self.now).inverse step.row step.position ≢ whole (pos 0) }
+        ensures kept { IfOk result (λ n. IsKept F.value (record { problem = self.now.problem; setting = self.now.setting; rows = n.basis.rows; square = n.inverse; solution = n.solution })) }
+        ensures rows { IfOk result (λ n. n.basis.rows ≡ slice_set self.now.rows step.position step.row) }
     {
         let held = self.held();
-        let columns = self.setting().columns.as_slice();
-        let solution = held.solution(self.alloc(), columns)?;
-        Ok(solution)
+        let rows = held.rows;
+        let chosen = &rows[step.row as usize];
+        let x = chosen.x.as_slice();
+        let inverse = held.inverse.exchanged(step.position, x, held.limit)?;
+        inverse.shape();
+        let mut taken = List::copy(self.alloc(), held.basis.rows.as_slice())?;
+        taken.replace(step.position, step.row);
+        let basis = Basis { rows: taken };
+        let after = WholeBasis {
+            rows,
+            basis: &basis,
+            inverse: &inverse,
+            limit: held.limit,
+        };
+        let before = self.solution();
+        let solution = after.solution_after(self.alloc(), before)?;
+        Ok(Next {
+            basis,
+            inverse,
+            solution,
+        })
     }
 
     /// Lets a row take a position at which its coordinate isn't 0.
@@ -153,16 +202,15 @@ impl<'a, F: Exact> WholeTableau<'a, F> {
         ensures problem { OnOk result (self.new.problem ≡ self.old.problem) }
         ensures rows { OnOk result (self.new.rows ≡ slice_set self.old.rows step.position step.row) }
     {
-        let rows = self.setting.wholes.rows.as_slice();
-        let chosen = &rows[step.row as usize];
-        let x = chosen.x.as_slice();
-        match self.inverse.exchange(step.position, x, self.setting.limit) {
-            Ok(()) => {}
-            Err(obstacle) => return Err(obstacle),
+        match self.next(step) {
+            Ok(next) => {
+                self.basis = next.basis;
+                self.inverse = next.inverse;
+                self.solution = next.solution;
+                Ok(())
+            }
+            Err(obstacle) => Err(obstacle),
         }
-        self.inverse.shape();
-        self.basis.rows.replace(step.position, step.row);
-        Ok(())
     }
 
     /// The same. What is refused is refused to each question of which this is the step.

@@ -7,12 +7,13 @@ ghost use Rattle.tableau_model.specs.Places.{at_of, sample_of};
 ghost use Rattle.tableau_model.specs.Questions.{walking};
 ghost use Rattle.tableau_model.specs.Refusals.{IsRefusalAt, IsRefusedOf};
 ghost use Rattle.tableau_model.specs.WalkAnswers.{IsSegmentHere};
+ghost use Rattle.whole_inverse.specs.Shares.{share};
 ghost use Rattle.whole_inverse.specs.Squares.{inverse_of};
 ghost use Rattle.whole_rows.specs.Wholes.{factor_value};
 ghost use Rattle.whole_solution.specs.Standing.{IsWholeSolution};
 ghost use Rattle.whole_tableau.specs.Kept.{IsKept, place, wholes_of};
 ghost use Rattle.whole_tableau.specs.Values.{AreParts};
-ghost use Rattle.whole_tableau.specs.Ends.{IsLossPart, AreLosses, IsEndAt};
+ghost use Rattle.whole_tableau.specs.Ends.{loss_part, IsLossPart, AreLosses, IsEndAt};
 
 use crate::body::WholeTableau;
 use crate::refusal::failure;
@@ -23,8 +24,8 @@ use fraction_tableau::{ascending, by_row};
 use loss_model::{Basis, Segment, Vertex};
 use tableau_model::Failure;
 use whole_fractions::{value_over, value_under};
-use whole_inverse::{Obstacle, product};
-use whole_solution::{WholeSolution, row_bounds};
+use whole_inverse::Obstacle;
+use whole_solution::WholeSolution;
 
 /// The loss at a basis, which at theta is `constant + linear * theta`.
 #[derive(Clone, Copy)]
@@ -65,6 +66,25 @@ fn loss_at<F: Exact>(losses: Losses<F>, theta: F) -> Result<F, Obstacle>
 }
 
 impl<'a, F: Exact> WholeTableau<'a, F> {
+    /// The numerator of a part of the loss in whole numbers.
+    fn loss_number(
+        &self,
+        solution: &WholeSolution,
+        determinant: i128,
+        part: Part,
+    ) -> Result<i128, Obstacle>
+        requires kept { IsKept F.value self.now }
+        requires determinant { determinant ≡ self.now.square.determinant }
+        requires solution { IsWholeSolution (wholes_of self.now) (slice_index self.now.rows) (inverse_of self.now.square) self.now.square.determinant solution.now }
+        ensures { IfOk result (λ n. share n determinant ≡ loss_part (wholes_of self.now) (slice_index self.now.rows) (inverse_of self.now.square) part) }
+    {
+        let coef = solution.coef.as_slice();
+        match part {
+            Part::Constant => solution.weights.constant.residual(coef, determinant),
+            Part::Linear => solution.weights.linear.residual(coef, determinant),
+        }
+    }
+
     /// A part of the loss.
     fn loss_part(
         &self,
@@ -80,13 +100,7 @@ impl<'a, F: Exact> WholeTableau<'a, F> {
         let wholes = &self.setting().wholes;
         let cost: F = value_over(wholes.cost.over, wholes.cost.under)?;
         let response: F = value_over(wholes.response.over, wholes.response.under)?;
-        let held = row_bounds(
-            self.alloc(),
-            wholes.rows.as_slice(),
-            solution.sides.as_slice(),
-            part,
-        )?;
-        let sum = product(held.as_slice(), solution.residuals.as_slice())?;
+        let sum = self.loss_number(solution, determinant, part)?;
         let value = value_under(sum, determinant, cost)?;
         let loss = over(value, response)?;
         Ok(loss)
@@ -129,20 +143,21 @@ impl<'a, F: Exact> WholeTableau<'a, F> {
     fn stay(&self, from: F, to: F) -> Result<Segment<F>, Obstacle>
         ensures { IfOk result (IsSegmentHere F.value (place F.value self.now) (rational (F.value from)) (rational (F.value to))) }
     {
-        let solution = self.solution()?;
+        let solution = self.solution();
         let determinant = self.determinant();
-        let coef = self.coefficients(&solution, determinant)?;
-        let parts = self.dual_parts(&solution, determinant)?;
-        let losses = self.losses(&solution, determinant)?;
+        let coef = self.coefficients(solution, determinant)?;
+        let parts = self.dual_parts(solution, determinant)?;
+        let losses = self.losses(solution, determinant)?;
         let sorted = ascending(self.alloc(), self.basis().rows.as_slice())?;
         let low = self.end_at(&parts, losses, sorted.as_slice(), from)?;
         let high = self.end_at(&parts, losses, sorted.as_slice(), to)?;
+        let sides = List::copy(self.alloc(), solution.sides.as_slice())?;
         Ok(Segment {
             lo: from,
             hi: to,
             vertex: Vertex {
                 basis: Basis { rows: sorted },
-                sides: solution.sides,
+                sides,
                 coef,
             },
             basic_lo: low.basic,

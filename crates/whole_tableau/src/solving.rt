@@ -22,11 +22,11 @@ impl<'a, F: Exact> WholeTableau<'a, F> {
         ensures { IfOk result (IsSolvingAnswer F.value (place F.value self.now) (rational (F.value theta))) }
     {
         let quantile = Quantile::of(theta)?;
-        let solution = self.solution()?;
+        let solution = self.solution();
         let held = self.held();
         let station = Station {
             basis: &held,
-            solution: &solution,
+            solution,
         };
         let columns = self.problem().columns;
         let step = solving_step::<F>(self.alloc(), &station, quantile, columns)?;

@@ -97,18 +97,19 @@ impl<'a, F: Exact> WholeTableau<'a, F> {
     fn fit(&self, theta: F) -> Result<Fitted<F>, Obstacle>
         ensures { IfOk result (IsFitted F.value (place F.value self.now) (rational (F.value theta))) }
     {
-        let solution = self.solution()?;
+        let solution = self.solution();
         let determinant = self.determinant();
-        let coef = self.coefficients(&solution, determinant)?;
-        let parts = self.dual_parts(&solution, determinant)?;
+        let coef = self.coefficients(solution, determinant)?;
+        let parts = self.dual_parts(solution, determinant)?;
         let duals = self.duals(&parts, theta)?;
         let rows = self.basis().rows.as_slice();
         let sorted = ascending(self.alloc(), rows)?;
         let basic = by_row(self.alloc(), rows, sorted.as_slice(), duals.as_slice())?;
+        let sides = List::copy(self.alloc(), solution.sides.as_slice())?;
         Ok(Fitted {
             vertex: Vertex {
                 basis: Basis { rows: sorted },
-                sides: solution.sides,
+                sides,
                 coef,
             },
             basic,

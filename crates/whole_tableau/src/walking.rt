@@ -58,11 +58,11 @@ impl<'a, F: Exact> WholeTableau<'a, F> {
         if !from.compare(hi).is_lt() {
             return Ok(None);
         }
-        let solution = self.solution()?;
+        let solution = self.solution();
         let held = self.held();
         let station = Station {
             basis: &held,
-            solution: &solution,
+            solution,
         };
         match station.first_crossing(self.problem().columns) {
             Ok(None) => Ok(None),

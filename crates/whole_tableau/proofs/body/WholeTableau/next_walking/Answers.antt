@@ -25,27 +25,27 @@ returns-then-not-is_lt g c =
 pub first_crossing-requires-clause-station : goal.first_crossing-requires-clause-station
 first_crossing-requires-clause-station g c =
     let held = c.held-held.ensures in
-    (is_station g.F.Exact.value c.args.self.now held.kept _ held.rows held.at held.inverse held.basis c.in_ok-solution.ensures.solution).station
+    (is_station g.F.Exact.value c.args.self.now held.kept _ held.rows held.at held.inverse held.basis c.solution-solution.ensures.solution).station
 
 pub first_crossing-requires-clause-columns : goal.first_crossing-requires-clause-columns
 first_crossing-requires-clause-columns g c =
     let held = c.held-held.ensures in
-    let t : Station = record { basis = record { ref_ptr = (0, 0); now = c.held-held.result }; solution = record { ref_ptr = (0, 0); now = c.in_ok-solution.solution } } in
-    rw (c.problem.ensures) (columns_are g.F.Exact.value c.args.self.now held.kept t (is_station g.F.Exact.value c.args.self.now held.kept t held.rows held.at held.inverse held.basis c.in_ok-solution.ensures.solution))
+    let t : Station = record { basis = record { ref_ptr = (0, 0); now = c.held-held.result }; solution = c.solution-solution.result } in
+    rw (c.problem.ensures) (columns_are g.F.Exact.value c.args.self.now held.kept t (is_station g.F.Exact.value c.args.self.now held.kept t held.rows held.at held.inverse held.basis c.solution-solution.ensures.solution))
 
 pub returns-in-Ok-None : goal.returns-in-Ok-None
 returns-in-Ok-None g c =
     let value = g.F.Exact.value in
     let k = c.args.self.now in
     let held = c.held-held.ensures in
-    let t : Station = record { basis = record { ref_ptr = (0, 0); now = c.held-held.result }; solution = record { ref_ptr = (0, 0); now = c.in_ok-solution.solution } } in
-    none_left value k held.kept t (is_station value k held.kept t held.rows held.at held.inverse held.basis c.in_ok-solution.ensures.solution) (rational (value c.args.from)) (rational (value c.args.hi))
+    let t : Station = record { basis = record { ref_ptr = (0, 0); now = c.held-held.result }; solution = c.solution-solution.result } in
+    none_left value k held.kept t (is_station value k held.kept t held.rows held.at held.inverse held.basis c.solution-solution.ensures.solution) (rational (value c.args.from)) (rational (value c.args.hi))
     (rw (c.in-Ok-None.field-0-is, c.problem.ensures) at (c.in-Ok-None.ensures {u = tt}))
 
 pub step_at-requires-clause-station : goal.step_at-requires-clause-station
 step_at-requires-clause-station g c κs within =
     let held = c.held-held.ensures in
-    is_station g.F.Exact.value c.args.self.now held.kept _ held.rows held.at held.inverse held.basis c.in_ok-solution.ensures.solution
+    is_station g.F.Exact.value c.args.self.now held.kept _ held.rows held.at held.inverse held.basis c.solution-solution.ensures.solution
 
 pub step_at-requires-clause-position : goal.step_at-requires-clause-position
 step_at-requires-clause-position g c κs within =
@@ -57,17 +57,17 @@ step_at-requires-clause-crosses g c κs within =
     let value = g.F.Exact.value in
     let k = c.args.self.now in
     let held = c.held-held.ensures in
-    let t : Station = record { basis = record { ref_ptr = (0, 0); now = c.held-held.result }; solution = record { ref_ptr = (0, 0); now = c.in_ok-solution.solution } } in
+    let t : Station = record { basis = record { ref_ptr = (0, 0); now = c.held-held.result }; solution = c.solution-solution.result } in
     let first = rw (c.in-Ok-Some.field-0-is, c.problem.ensures) at (c.in-Ok-Some.ensures {u = tt}) in
-    (next value k held.kept t (is_station value k held.kept t held.rows held.at held.inverse held.basis c.in_ok-solution.ensures.solution) (rational (value c.args.from)) (rational (value c.args.hi)) c.requires.optimal c.in-Ok-Some.next first).crosses
+    (next value k held.kept t (is_station value k held.kept t held.rows held.at held.inverse held.basis c.solution-solution.ensures.solution) (rational (value c.args.from)) (rational (value c.args.hi)) c.requires.optimal c.in-Ok-Some.next first).crosses
 
 pub returns-in-Ok-Some : goal.returns-in-Ok-Some
 returns-in-Ok-Some g c =
     let value = g.F.Exact.value in
     let k = c.args.self.now in
     let held = c.held-held.ensures in
-    let t : Station = record { basis = record { ref_ptr = (0, 0); now = c.held-held.result }; solution = record { ref_ptr = (0, 0); now = c.in_ok-solution.solution } } in
+    let t : Station = record { basis = record { ref_ptr = (0, 0); now = c.held-held.result }; solution = c.solution-solution.result } in
     let first = rw (c.in-Ok-Some.field-0-is, c.problem.ensures) at (c.in-Ok-Some.ensures {u = tt}) in
     IfOk-weaker c.step_at.result _ _
-    (step_is value k held.kept t (is_station value k held.kept t held.rows held.at held.inverse held.basis c.in_ok-solution.ensures.solution) (rational (value c.args.from)) (rational (value c.args.hi)) c.requires.optimal c.in-Ok-Some.next first)
+    (step_is value k held.kept t (is_station value k held.kept t held.rows held.at held.inverse held.basis c.solution-solution.ensures.solution) (rational (value c.args.from)) (rational (value c.args.hi)) c.requires.optimal c.in-Ok-Some.next first)
     c.step_at.ensures

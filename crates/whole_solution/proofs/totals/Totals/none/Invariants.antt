@@ -1,0 +1,10 @@
+use Rattle.std.proofs.Common.{◌≡◌, ℕ, ◌<◌, length, pos}
+use Rattle.exact_algebra.specs.Rational.{whole}
+use Rattle.whole_inverse.specs.Shares.{whole_at}
+use Rattle.whole_solution.proofs.totals.Totals.none.Given as goal
+
+abbrev pub invariant-loop : goal.invariant-loop
+invariant-loop l = record {
+  size : length l.made ≡ l.counter;
+  each : (k : ℕ) → k < l.counter → whole_at l.made k ≡ whole (pos 0);
+}

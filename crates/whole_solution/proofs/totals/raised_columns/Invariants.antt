@@ -1,0 +1,10 @@
+use Rattle.std.proofs.Common.{◌≡◌, ℕ, ◌<◌, length}
+use Rattle.exact_algebra.specs.Rational.{◌+ℚ◌, ◌*ℚ◌, whole}
+use Rattle.whole_inverse.specs.Shares.{whole_at}
+use Rattle.whole_solution.proofs.totals.raised_columns.Given as goal
+
+abbrev pub invariant-loop-k : goal.invariant-loop-k
+invariant-loop-k l = record {
+  size : length l.made ≡ l.k;
+  each : (k : ℕ) → k < l.k → whole_at l.made k ≡ whole_at l.totals k +ℚ (whole_at l.x k *ℚ whole l.weight);
+}

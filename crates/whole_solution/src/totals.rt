@@ -1,0 +1,246 @@
+//! What all rows weigh by their bounds, kept as rows change sides.
+//!
+//! From one basis to the next few rows change sides, so that the totals are not made anew.
+ghost use Rattle.std.specs.Prelude.{◌≡◌, ℕ, ℤ, ◌<◌, ◌+ℤ◌, ◌*ℤ◌, ◌≤ℤ◌, neg_ℤ, pos, All, List as list, length, IfOk, IfSome, IsTrue};
+ghost use Rattle.exact_algebra.specs.Rational.{◌+ℚ◌, ◌-ℚ◌, ◌*ℚ◌, whole};
+ghost use Rattle.exact_algebra.specs.RationalSums.{sum_ℚ};
+ghost use Rattle.wide_int.specs.Numbers.{total as sum};
+ghost use Rattle.loss_model.specs.declared.vertex.Side.TheVariants.{Basic};
+ghost use Rattle.whole_inverse.specs.Shares.{share, share_at, whole_at};
+ghost use Rattle.whole_rows.specs.Wholes.{sample_of_rows};
+ghost use Rattle.whole_rows.specs.declared.rows.WholeRow.{WholeRow as Row};
+ghost use Rattle.whole_solution.specs.Standing.{side_in};
+ghost use Rattle.whole_solution.specs.Weighing.{bound_of, AreRaised, AreTurned, AreWeights};
+
+use crate::bounds::bound;
+use basis_model::Part;
+use frac_core::List;
+use loss_model::Side;
+use std::alloc::Global;
+use whole_inverse::Obstacle;
+use whole_rows::WholeRow;
+use wide_int::{Wide, wide_sum};
+
+/// What all rows weigh on their sides by a part of their bounds: the totals of their entries in each column, and that of
+/// their responses.
+#[derive(Drop)]
+pub struct Totals {
+    pub columns: List<i128>,
+    pub response: i128,
+}
+
+/// The same by both parts of their bounds.
+#[derive(Drop)]
+pub struct Weights {
+    pub constant: Totals,
+    pub linear: Totals,
+}
+
+/// A row's change of sides.
+#[derive(Clone, Copy)]
+struct Turn {
+    from: Side,
+    to: Side,
+}
+
+impl Turn {
+    /// Whether the side stays.
+    fn stays(self) -> bool
+        ensures { IsTrue result → self.to ≡ self.from }
+    {
+        match (self.from, self.to) {
+            (Side::Up, Side::Up) => true,
+            (Side::Down, Side::Down) => true,
+            (Side::Basic, Side::Basic) => true,
+            _ => false,
+        }
+    }
+}
+
+/// The difference of two bounds.
+fn difference(after: i64, before: i64) -> Result<i128, Obstacle>
+    ensures { IfOk result (λ n. n ≡ after +ℤ neg_ℤ before) }
+{
+    match i128::from(after).checked_sub(i128::from(before)) {
+        Some(n) => Ok(n),
+        None => Err(Obstacle::TooWide),
+    }
+}
+
+/// What a row weighs more by a part of its bounds after it has changed sides.
+fn change(chosen: &WholeRow, turn: Turn, part: Part) -> Result<i128, Obstacle>
+    ensures { IfOk result (λ w. whole w ≡ bound_of chosen.now part turn.to -ℚ bound_of chosen.now part turn.from) }
+{
+    let after = bound(chosen, turn.to, part)?;
+    let before = bound(chosen, turn.from, part)?;
+    let weight = difference(after, before)?;
+    Ok(weight)
+}
+
+/// A total after a number of some weight was added.
+fn raised(total: i128, weight: i128, number: i64) -> Result<i128, Obstacle>
+    ensures { IfOk result (λ n. n ≡ total +ℤ (weight *ℤ number)) }
+{
+    match weight.checked_mul(i128::from(number)) {
+        Some(more) => match total.checked_add(more) {
+            Some(sum) => Ok(sum),
+            None => Err(Obstacle::TooWide),
+        },
+        None => Err(Obstacle::TooWide),
+    }
+}
+
+/// The totals of the columns after a row's entries of some weight were added.
+fn raised_columns(
+    alloc: Global,
+    totals: &[i128],
+    x: &[i64],
+    weight: i128,
+) -> Result<List<i128>, Obstacle>
+    requires { length x.now ≡ length totals.now }
+    ensures size { IfOk result (λ made. length made ≡ length totals.now) }
+    ensures each { IfOk result (λ made. (k : ℕ) → k < length totals.now → whole_at made k ≡ whole_at totals.now k +ℚ (whole_at x.now k *ℚ whole weight)) }
+{
+    let mut made = List::new(alloc);
+    for k in 0..totals.len() {
+        let total = raised(totals[k], weight, x[k])?;
+        if made.push(total).is_err() {
+            return Err(Obstacle::OutOfMemory);
+        }
+    }
+    Ok(made)
+}
+
+impl Totals {
+    /// The totals of no row.
+    fn none(alloc: Global, columns: u32) -> Result<Totals, Obstacle>
+        ensures size { IfOk result (λ t. length t.columns ≡ columns) }
+        ensures columns { IfOk result (λ t. (k : ℕ) → k < columns → whole_at t.columns k ≡ whole (pos 0)) }
+        ensures response { IfOk result (λ t. t.response ≡ pos 0) }
+    {
+        let mut made = List::new(alloc);
+        for _ in 0..columns {
+            if made.push(0).is_err() {
+                return Err(Obstacle::OutOfMemory);
+            }
+        }
+        Ok(Totals {
+            columns: made,
+            response: 0,
+        })
+    }
+
+    /// The same totals in lists of their own.
+    fn copy(&self, alloc: Global) -> Result<Totals, Obstacle>
+        ensures { IfOk result (λ t. t ≡ self.now) }
+    {
+        let columns = List::copy(alloc, self.columns.as_slice())?;
+        Ok(Totals {
+            columns,
+            response: self.response,
+        })
+    }
+
+    /// The totals after a row has changed sides.
+    fn turned(
+        &self,
+        alloc: Global,
+        chosen: &WholeRow,
+        turn: Turn,
+        part: Part,
+    ) -> Result<Totals, Obstacle>
+        requires { length chosen.now.x ≡ length self.now.columns }
+        ensures { IfOk result (AreRaised chosen.now (bound_of chosen.now part turn.to -ℚ bound_of chosen.now part turn.from) self.now) }
+    {
+        let weight = change(chosen, turn, part)?;
+        let columns = raised_columns(alloc, self.columns.as_slice(), chosen.x.as_slice(), weight)?;
+        let response = raised(self.response, weight, chosen.y)?;
+        Ok(Totals { columns, response })
+    }
+}
+
+/// A total times the determinant less a sum of products.
+fn rest(total: i128, determinant: i128, xs: &[i128], ys: &[i128]) -> Option<i128>
+    requires { length xs.now ≡ length ys.now }
+    ensures { IfSome result (λ n. n ≡ (total *ℤ determinant) +ℤ neg_ℤ (sum xs.now ys.now)) }
+{
+    let sum = wide_sum(xs, ys)?;
+    let number = Wide::product(total, determinant).plus(sum.negation())?;
+    number.narrow()
+}
+
+impl Totals {
+    /// What the rows weigh in the residuals of these coefficients, whose numerators stand over the determinant, as does
+    /// its own.
+    pub fn residual(&self, coef: &[i128], determinant: i128) -> Result<i128, Obstacle>
+        requires same { length coef.now ≡ length self.now.columns }
+        requires some { pos 1 ≤ℤ determinant }
+        ensures { IfOk result (λ n. share n determinant ≡ whole self.now.response -ℚ sum_ℚ (length coef.now) (λ k. share_at determinant coef.now k *ℚ whole_at self.now.columns k)) }
+    {
+        match rest(self.response, determinant, coef, self.columns.as_slice()) {
+            Some(number) => Ok(number),
+            None => Err(Obstacle::TooWide),
+        }
+    }
+}
+
+impl Weights {
+    /// The weights of rows none of which is counted.
+    pub fn none(alloc: Global, columns: u32) -> Result<Weights, Obstacle>
+        ensures { IfOk result (λ w. (rows : list Row) → AreWeights (sample_of_rows columns rows) (λ i. Basic) w) }
+    {
+        let constant = Totals::none(alloc, columns)?;
+        let linear = Totals::none(alloc, columns)?;
+        Ok(Weights { constant, linear })
+    }
+
+    /// The same weights in lists of their own.
+    fn copy(&self, alloc: Global) -> Result<Weights, Obstacle>
+        ensures { IfOk result (λ w. w ≡ self.now) }
+    {
+        let constant = self.constant.copy(alloc)?;
+        let linear = self.linear.copy(alloc)?;
+        Ok(Weights { constant, linear })
+    }
+
+    /// The weights after a row has changed sides.
+    fn turned(&self, alloc: Global, chosen: &WholeRow, turn: Turn) -> Result<Weights, Obstacle>
+        requires constant { length chosen.now.x ≡ length self.now.constant.columns }
+        requires linear { length chosen.now.x ≡ length self.now.linear.columns }
+        ensures { IfOk result (AreTurned chosen.now turn.from turn.to self.now) }
+    {
+        let constant = self.constant.turned(alloc, chosen, turn, Part::Constant)?;
+        let linear = self.linear.turned(alloc, chosen, turn, Part::Linear)?;
+        Ok(Weights { constant, linear })
+    }
+
+    /// The weights of rows on new sides, from those on the old ones.
+    pub fn after(
+        &self,
+        alloc: Global,
+        rows: &[WholeRow],
+        old: &[Side],
+        new: &[Side],
+    ) -> Result<Weights, Obstacle>
+        requires old { length old.now ≡ length rows.now }
+        requires new { length new.now ≡ length rows.now }
+        requires wide { All (λ r. length r.x ≡ length self.now.constant.columns) rows.now }
+        requires weights { AreWeights (sample_of_rows (length self.now.constant.columns) rows.now) (side_in old.now) self.now }
+        ensures { IfOk result (AreWeights (sample_of_rows (length self.now.constant.columns) rows.now) (side_in new.now)) }
+    {
+        let mut weights = self.copy(alloc)?;
+        for i in 0..rows.len() {
+            let turn = Turn {
+                from: old[i],
+                to: new[i],
+            };
+            if !turn.stays() {
+                match weights.turned(alloc, &rows[i], turn) {
+                    Ok(next) => weights = next,
+                    Err(obstacle) => return Err(obstacle),
+                }
+            }
+        }
+        Ok(weights)
+    }
+}
