@@ -47,8 +47,10 @@ pub(crate) fn in_wholes<F: Exact>(
     problem: &Problem<F>,
     (lo, hi): (F, F),
 ) -> Option<Process<F>> {
-    assert!(rt; is_shaped(problem) && is_ordered(lo, hi));
-    assert!(rt; has_costs(problem, lo) && has_costs(problem, hi));
+    assert!(rt; is_shaped(problem));
+    assert!(rt; is_ordered(lo, hi));
+    assert!(rt; has_costs(problem, lo));
+    assert!(rt; has_costs(problem, hi));
     match Progress::begin_in_wholes(alloc, problem) {
         Ok(begun) => Some(walked_from(rt, alloc, begun, lo, hi)),
         Err(_) => None,
@@ -62,8 +64,10 @@ fn in_fractions<F: Exact>(
     problem: &Problem<F>,
     (lo, hi): (F, F),
 ) -> Option<Process<F>> {
-    assert!(rt; is_shaped(problem) && is_ordered(lo, hi));
-    assert!(rt; has_costs(problem, lo) && has_costs(problem, hi));
+    assert!(rt; is_shaped(problem));
+    assert!(rt; is_ordered(lo, hi));
+    assert!(rt; has_costs(problem, lo));
+    assert!(rt; has_costs(problem, hi));
     match Progress::begin(alloc, problem) {
         Ok(begun) => Some(walked_from(rt, alloc, begun, lo, hi)),
         Err(_) => None,
