@@ -6,12 +6,13 @@ use Rattle.rq_words.specs.declared.job.Job.TheVariants as jobs
 use Rattle.port_io.specs.Counts.{CountsFaults}
 use Rattle.port_io.specs.Told.{AppendsPart}
 use Rattle.rq_engine.specs.Answers as engine
+use Rattle.rq_engine.specs.Jobs.{IsJobOf}
 use Rattle.report_text.specs.ReportText.{report_text}
 use Rattle.report_text.specs.declared.report.Report.{Report}
 use Rattle.report_text.specs.declared.report.Refusal.TheVariants.{TooLong, Table, Formula, RankWithPenalty, Design, Penalty, Program, Dependent, CertTooLong, Certificate}
 use Rattle.report_text.specs.declared.report.Halt.{Halt}
 use Rattle.report_text.specs.declared.report.Halt.TheVariants as halts
-use Rattle.rq_cli.specs.Outcomes.{Stream, OnDone, OnFault, outcome_line, WereRead, HasCause, IsAnswered, IsErrorFault, IsFault, WasTried, IsRun}
+use Rattle.rq_cli.specs.Outcomes.{Stream, OnDone, OnFault, outcome_line, AskSource, Reads, WereRead, HasCause, IsAnswered, IsErrorFault, IsFault, WasTried, IsRun}
 use Rattle.rq_cli.specs.Steps.{outcome_of, WasTold, WasPrinted}
 use Rattle.rq_cli.specs.declared.outcome.Outcome.{Outcome}
 use Rattle.rq_cli.specs.declared.trouble.Trouble.TheVariants as troubles
@@ -29,6 +30,10 @@ never_long (jobs.Ranks fit) bytes cause = cause
 never_long (jobs.Certify fit) bytes cause = cause
 never_long jobs.Check bytes cause = cause
 never_long (jobs.Sample sample) bytes cause = cause
+
+-- where words ask for no job that reads the source, theirs doesn't
+pub left_alone : (words : List (List ℕ)) (job : Job) → IsJobOf words job → ¬ AskSource words → ¬ Reads job
+left_alone words job asked none reads = none (record { job = job; asked = asked; reads = reads })
 
 -- the cause of a halt is that of its outcome
 pub halt_cause : (words : List (List ℕ)) (source source' : Stream) (job : Job) (bytes : List ℕ) → WereRead words source source' job bytes → (halt : Halt) → engine.HasCause job bytes halt → IsFault words source source' (outcome_of (troubles.Halt halt))
