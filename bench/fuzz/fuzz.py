@@ -14,7 +14,7 @@ import tempfile
 from concurrent.futures import ThreadPoolExecutor
 
 MOST_SECONDS = 10
-STATUSES = range(10)
+STATUSES = range(9)
 HERE = os.path.dirname(os.path.abspath(__file__))
 
 # each with formulas that fit it

@@ -115,11 +115,7 @@ fn reads(job: &Job) -> bool
 }
 
 // The bytes that a job takes from the source.
-fn read_source<S: Source>(
-    alloc: Global,
-    job: &Job,
-    source: &mut S,
-) -> Result<Vec<u8>, Trouble>
+fn read_source<S: Source>(alloc: Global, job: &Job, source: &mut S) -> Result<Vec<u8>, Trouble>
     ensures taken { IfOk result (λ bytes. Takes job.now
         (stream (S.left source.old) (S.faults source.old)) (stream (S.left source.new) (S.faults source.new)) bytes.items) }
     ensures short { IfOk result (λ bytes. length bytes.items ≤ most_bytes) }
