@@ -205,11 +205,12 @@ static FAULTS: [(&str, &str, &[u8], u8, &str); 12] = [
         7,
         "quantreg: solver: Overflow place=process quantity=nonbasic-total at=1,1 term=2 op=add left=100000000000000000000000000000000000000 right=100000000000000000000000000000000000000\n",
     ),
-    // What a unit above the fit costs at 1/2 has a denominator of 2 * 10^38.
+    // What a unit above the fit costs at 1/2 has a denominator of 2 * 10^38. Whole numbers would have costs of 1
+    // and 10^48.
     (
         "y ~ 1",
         "w",
-        b"y,w\n1,1e-38\n",
+        b"y,w\n1,1e-38\n2,1e10\n",
         7,
         "quantreg: solver: Overflow place=process quantity=cost-value at=1,0 term=2 op=mul left=1/100000000000000000000000000000000000000 right=1/2\n",
     ),
