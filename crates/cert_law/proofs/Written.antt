@@ -1,12 +1,11 @@
 -- The certificate of a right fit is sound, within the limits, and passes.
-use Rattle.std.proofs.Common.{◌≡◌, ◌≤◌, ◌*◌, ◌^◌, ℕ, List, [], ◌∷◌, ◌++◌, All, Option, Some, None, length, map, option_map, pos, slice_index, arith, refl, sym, ap, subst, ◌∙◌}
+use Rattle.std.proofs.Common.{◌≡◌, ◌≤◌, ◌*◌, ◌^◌, ℕ, List, [], ◌∷◌, ◌++◌, All, Option, Some, None, length, map, option_map, slice_index, arith, refl, sym, ap, subst, ◌∙◌}
 use Rattle.std.specs.List.{range_with_len}
 use Rattle.std.proofs.lemmas.List.{length-append, length-map}
 use Rattle.std.proofs.lemmas.List.FromFn.{length-range_with_len}
 use Rattle.std.proofs.lemmas.List.Elements.{All-cons, All-nil}
 use Rattle.exact_algebra.specs.Fraction.{rational}
-use Rattle.exact_algebra.specs.Rational.{ℚ, whole, ◌≤ℚ◌}
-use Rattle.exact_algebra.proofs.RationalLaws.{≤ℚ_trans}
+use Rattle.exact_algebra.specs.Rational.{ℚ}
 use Rattle.frac_core.specs.declared.frac128.Frac128.{Frac128}
 use Rattle.loss_model.specs.declared.interval.Bound.{Bound}
 use Rattle.loss_model.specs.declared.interval.Bound.TheVariants.{Finite, Infinite}
@@ -46,16 +45,16 @@ use Rattle.report_text.specs.declared.report.Report.TheVariants as reports
 use Rattle.report_text.specs.declared.report.Refusal.TheVariants as refusals
 use Rattle.report_text.specs.declared.report.Halt.{Halt}
 use Rattle.report_text.specs.declared.report.Halt.TheVariants.{Refused, OutOfMemory, PivotLimit, Overflow, Rejected, NotBuilt}
-use Rattle.rq_input.specs.Rows.{HasRows}
 use Rattle.rq_input.specs.declared.input.Input.{Input}
+use Rattle.rq_fit.specs.Asks.{IsFitAsk}
+use Rattle.rq_fit.specs.Fit.{IsRightFit, IsRightSegment}
+use Rattle.rq_fit.specs.Intervals.{AreRightIntervals, IsRightInterval, asked_at, asked_by, asked_over}
+use Rattle.rq_fit.proofs.Costs.{high_costs, low_costs}
+use Rattle.rq_fit.proofs.Scores.{zip_length}
 use Rattle.rq_engine.specs.Answers.{HasCause, IsCertified, IsRight}
 use Rattle.rq_engine.specs.Built.{IsJobOf}
 use Rattle.rq_engine.specs.Checks.{IsCertOf}
-use Rattle.rq_engine.specs.Fit.{IsRightFit, IsRightSegment}
-use Rattle.rq_engine.specs.Intervals.{AreRightIntervals, IsRightInterval, asked_at, asked_by, asked_over}
-use Rattle.rq_engine.proofs.Asked.{certify_range}
-use Rattle.rq_engine.proofs.Costs.{input_costs}
-use Rattle.rq_engine.proofs.Scores.{zip_length}
+use Rattle.rq_engine.proofs.Asked.{asked_job}
 use Rattle.cert_law.specs.Laws.{IsUndecided, Passes}
 use Rattle.cert_law.specs.Sound.{AreCosts, AreSound, IsSound, IsSoundEnding, IsSoundInterval, IsSoundSegment}
 use Rattle.cert_law.proofs.All.{all_true}
@@ -71,9 +70,9 @@ sound_segment p s h = record {
 }
 
 -- the costs of an input's rows, of which the problem is one
-costs_of : (input : Input) (p : Problem Frac128) (theta : ℚ) → p ≡ input.problem → whole (pos 0) ≤ℚ theta → theta ≤ℚ whole (pos 1) → HasRows input → AreCosts p theta
-costs_of input p theta same low high rows =
-    let h = subst (λ (q : Problem Frac128). HasCosts (sample value q) theta) (sym same) (input_costs input theta low high rows) in
+costs_of : (input : Input) (p : Problem Frac128) (theta : ℚ) → p ≡ input.problem → HasCosts (sample value input.problem) theta → AreCosts p theta
+costs_of input p theta same costs =
+    let h = subst (λ (q : Problem Frac128). HasCosts (sample value q) theta) (sym same) costs in
     λ i l. (h.up i l, h.down i l)
 
 -- ---- intervals
@@ -131,17 +130,17 @@ module _ (words : List (List ℕ)) (job : FitJob) (asked : IsJobOf words (jobs.C
     right : IsRightFit value job certified.fit
     right = certified.right.right
 
-    range : (whole (pos 0) ≤ℚ rational (value job.lo)) × (rational (value job.lo) ≤ℚ rational (value job.hi)) × (rational (value job.hi) ≤ℚ whole (pos 1))
-    range = certify_range words job asked
+    ask : IsFitAsk job
+    ask = (asked_job words (jobs.Certify job) asked).0
 
     are_sound : AreSound certified.fit.problem job.lo job.hi certified.fit.process.segments
     are_sound =
         let same = certified.right.under.problem_is in
         record {
           shaped = right.shaped;
-          ordered = range.1;
-          costs_lo = costs_of input certified.fit.problem (rational (value job.lo)) same range.0 (≤ℚ_trans (rational (value job.lo)) (rational (value job.hi)) (whole (pos 1)) range.1 range.2) certified.rows;
-          costs_hi = costs_of input certified.fit.problem (rational (value job.hi)) same (≤ℚ_trans (whole (pos 0)) (rational (value job.lo)) (rational (value job.hi)) range.0 range.1) range.2 certified.rows;
+          ordered = ask.ordered;
+          costs_lo = costs_of input certified.fit.problem (rational (value job.lo)) same (low_costs job ask input certified.rows);
+          costs_hi = costs_of input certified.fit.problem (rational (value job.hi)) same (high_costs job ask input certified.rows);
           covers = right.covers;
           each = λ k d l. sound_segment certified.fit.problem _ (right.segments k d l);
         }

@@ -1,34 +1,67 @@
--- The range of a job that the words ask for lies in 0 to 1.
-use Rattle.std.proofs.Common.{◌≡◌, ℕ, ◌^◌, ◌<◌, length, List, pos}
+-- What words say of the job that they ask for, where it fits a table: its formula is short, its range lies in 0 to 1 and
+-- is that for ranks, and it asks for rank intervals with a critical value of at least 0 at quantiles strictly between 0
+-- and 1.
+use Rattle.std.proofs.Common.{◌≡◌, ℕ, ◌<◌, ◌^◌, Bool, true, false, ◌||◌, All, List, [], ◌∷◌, Option, Some, None, length, map, option_map, refl}
+use Rattle.std.specs.Prelude.{⊤}
+use Rattle.std.specs.List.{list_any}
+use Rattle.std.proofs.lemmas.List.Elements.{All-cons, All-nil}
 use Rattle.exact_algebra.specs.Fraction.{rational}
-use Rattle.exact_algebra.specs.Rational.{whole, ◌≤ℚ◌}
-use Rattle.rq_words.specs.Requests.{fit_request}
-use Rattle.rq_words.specs.declared.job.FitJob.{FitJob}
-use Rattle.rq_words.specs.declared.job.Job.TheVariants.{Process, Ranks, Certify}
-use Rattle.rq_words.proofs.Orders.{process_range, ranks_range, certify_range as words_range}
-use Rattle.rq_words.proofs.ShortWords.{process_formula, ranks_formula, certify_formula as words_formula}
-use Rattle.rq_engine.specs.Built.{IsJobOf}
+use Rattle.exact_algebra.specs.Rational.{ℚ, le_ℚ}
+use Rattle.frac_core.specs.declared.frac128.Frac128.{Frac128}
+use Rattle.rq_words.specs.Requests.{fit_request, number, rank_request}
+use Rattle.rq_words.specs.Requests as request
+use Rattle.rq_words.specs.Words.{zero, one, is_outside}
+use Rattle.rq_words.specs.declared.job.Job.{Job}
+use Rattle.rq_words.specs.declared.job.Job.TheVariants.{Process, Ranks, Certify, Check, Sample}
+use Rattle.rq_words.specs.declared.job.RankAsk.{RankAsk}
+use Rattle.rq_words.proofs.Orders.{process_range, ranks_range, certify_range}
+use Rattle.rq_words.proofs.RankRequests.{IsSoundOf, words_sound}
+use Rattle.rq_words.proofs.ShortWords.{process_formula, ranks_formula, certify_formula}
 use Rattle.report_text.specs.ReportText.{value}
+use Rattle.rq_fit.specs.Asks.{IsFitAsk, IsInner, IsRankAskOf, IsUnitAsk}
+use Rattle.rq_engine.specs.Built.{IsJobOf}
 
-pub asked_range : (words : List (List ℕ)) (fit : FitJob) → IsJobOf words (Process fit)
-    → (whole (pos 0) ≤ℚ rational (value fit.lo)) × (rational (value fit.lo) ≤ℚ rational (value fit.hi)) × (rational (value fit.hi) ≤ℚ whole (pos 1))
-asked_range words fit asked = process_range words (fit_request fit) asked
+either_false : (a b : Bool) → (a || b) ≡ false → (a ≡ false) × (b ≡ false)
+either_false true b h = absurd (cc h)
+either_false false b h = (refl, h)
 
--- its formula is shorter than 2^31 bytes
-pub asked_formula : (words : List (List ℕ)) (fit : FitJob) → IsJobOf words (Process fit) → length fit.formula < 2 ^ 31
-asked_formula words fit asked = process_formula words (fit_request fit) asked
+inner_by : (tau : ℚ) → is_outside tau ≡ false → IsInner tau
+inner_by tau h =
+    let both = either_false (le_ℚ tau zero) (le_ℚ one tau) h in
+    (λ low. absurd (cc (low.le, both.0)), λ high. absurd (cc (high.le, both.1)))
 
--- that of ranks is 0 to 1
-pub asked_unit : (words : List (List ℕ)) (fit : FitJob) → IsJobOf words (Ranks fit) → (whole (pos 0) ≡ rational (value fit.lo)) × (whole (pos 1) ≡ rational (value fit.hi))
-asked_unit words fit asked = ranks_range words (fit_request fit) asked
+all_inner : (taus : List Frac128) → list_any is_outside (map number taus) ≡ false → All (λ tau. IsInner (rational (value tau))) taus
+all_inner [] h = All-nil (λ tau. IsInner (rational (value tau)))
+all_inner (tau ∷ taus) h =
+    let both = either_false (is_outside (number tau)) (list_any is_outside (map number taus)) h in
+    All-cons (λ tau. IsInner (rational (value tau))) tau taus (inner_by (number tau) both.0) (all_inner taus both.1)
 
-pub asked_ranks : (words : List (List ℕ)) (fit : FitJob) → IsJobOf words (Ranks fit) → length fit.formula < 2 ^ 31
-asked_ranks words fit asked = ranks_formula words (fit_request fit) asked
+rank_by : (rank : Option RankAsk) → IsSoundOf (option_map rank_request rank) → IsRankAskOf rank
+rank_by None h = tt
+rank_by (Some rank) h = record { crit = h.crit; taus = all_inner rank.taus h.taus }
 
--- that of a certificate
-pub certify_range : (words : List (List ℕ)) (fit : FitJob) → IsJobOf words (Certify fit)
-    → (whole (pos 0) ≤ℚ rational (value fit.lo)) × (rational (value fit.lo) ≤ℚ rational (value fit.hi)) × (rational (value fit.hi) ≤ℚ whole (pos 1))
-certify_range words fit asked = words_range words (fit_request fit) asked
+-- what is known of a job that words ask for
+abbrev pub IsAskedJob : Job → Type 0
+IsAskedJob (Process fit) = IsFitAsk fit × (length fit.formula < 2 ^ 31)
+IsAskedJob (Ranks fit) = IsUnitAsk fit × (length fit.formula < 2 ^ 31)
+IsAskedJob (Certify fit) = IsFitAsk fit × (length fit.formula < 2 ^ 31)
+IsAskedJob _ = ⊤
 
-pub certify_formula : (words : List (List ℕ)) (fit : FitJob) → IsJobOf words (Certify fit) → length fit.formula < 2 ^ 31
-certify_formula words fit asked = words_formula words (fit_request fit) asked
+pub asked_job : (words : List (List ℕ)) (job : Job) → IsJobOf words job → IsAskedJob job
+asked_job words (Process fit) asked =
+    let f = fit_request fit in
+    let range = process_range words f asked in
+    let rank = rank_by fit.rank (words_sound (request.Process f) f refl words asked) in
+    (record { low = range.0; ordered = range.1; high = range.2; rank = rank }, process_formula words f asked)
+asked_job words (Ranks fit) asked =
+    let f = fit_request fit in
+    let range = ranks_range words f asked in
+    let rank = rank_by fit.rank (words_sound (request.Ranks f) f refl words asked) in
+    (record { low = range.0; high = range.1; rank = rank }, ranks_formula words f asked)
+asked_job words (Certify fit) asked =
+    let f = fit_request fit in
+    let range = certify_range words f asked in
+    let rank = rank_by fit.rank (words_sound (request.Certify f) f refl words asked) in
+    (record { low = range.0; ordered = range.1; high = range.2; rank = rank }, certify_formula words f asked)
+asked_job words Check asked = tt
+asked_job words (Sample sample) asked = tt

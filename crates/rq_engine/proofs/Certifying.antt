@@ -1,6 +1,5 @@
 -- The certificate of a right fit, and why there is none.
-use Rattle.std.proofs.Common.{◌≡◌, ◌⊎◌, ◌<◌, ◌≤◌, ◌+◌, ◌^◌, ℕ, zero, suc, Bool, Result, Ok, Err, IfErr, List, [], ◌∷◌, ◌++◌, All, Contains, get_or, is_some, length, map, take, slice_index, arith, refl, sym, ap, subst, ◌∙◌}
-use Rattle.std.specs.List.{AllZip}
+use Rattle.std.proofs.Common.{◌≡◌, ◌<◌, ◌≤◌, ℕ, suc, Bool, Result, Ok, Err, IfErr, List, [], ◌∷◌, All, Contains, get_or, is_some, length, map, slice_index, arith, refl, subst, ◌∙◌}
 use Rattle.std.proofs.lemmas.List.Elements.{All-cons, All-nil}
 use Rattle.exact_algebra.specs.Fraction.{Fraction, rational}
 use Rattle.exact_algebra.specs.Rational.{ℚ}
@@ -24,7 +23,6 @@ use Rattle.rank_walk.specs.RankWalks.{Way, rise, fall}
 use Rattle.rank_inversion.specs.declared.column_test.Asked.{Asked}
 use Rattle.cert_text.specs.Kept.{is_finite, is_outside, IsKeptEnd, IsKeptInterval, IsKeptSegment}
 use Rattle.cert_text.specs.declared.cert.Cert.{Cert}
-use Rattle.rankscores.specs.Scores.{IsScorable}
 use Rattle.rq_words.specs.declared.job.FitJob.{FitJob}
 use Rattle.report_text.specs.ReportText.{value}
 use Rattle.report_text.specs.declared.report.Fit.{Fit}
@@ -33,12 +31,14 @@ use Rattle.report_text.specs.declared.report.Halt.{Halt}
 use Rattle.report_text.specs.declared.report.Halt.TheVariants.{Refused, OutOfMemory, PivotLimit, Overflow, Rejected, NotBuilt}
 use Rattle.rq_input.specs.Inputs.{HasInputCause, IsInput}
 use Rattle.rq_input.specs.declared.input.Input.{Input}
+use Rattle.rq_input.specs.Rows.{HasRows}
+use Rattle.rq_fit.specs.Fit.{IsRightFit}
+use Rattle.rq_fit.specs.Intervals.{AreRightIntervals, asked_by}
+use Rattle.rq_fit.specs.Stops.{HasProblemCause}
+use Rattle.rq_fit.proofs.Fits.{process_scorable}
 use Rattle.rq_engine.specs.Answers.{HasCertifyCause, HasFitCause, IsCertified}
 use Rattle.rq_engine.specs.Certifying.{HasCertifiedCause, IsLengthHalt}
-use Rattle.rq_engine.specs.Fit.{IsRightFit}
-use Rattle.rq_engine.specs.Intervals.{AreRightIntervals, IsRightInterval, asked_by}
-use Rattle.rq_engine.specs.Stops.{HasProblemCause}
-use Rattle.rq_engine.proofs.Fits.{input_cause, problem_cause, process_scorable}
+use Rattle.rq_engine.proofs.Causes.{input_cause, problem_cause}
 use Rattle.rq_engine.proofs.Listed.{listed_vertex}
 
 -- ---- what a certificate keeps
@@ -164,8 +164,8 @@ length_certified job input cert is (Rejected rejection) h = absurd h
 length_certified job input cert is (NotBuilt part) h = absurd h
 
 -- and what an input lacks is what the bytes lack
-pub certified_certify : (job : FitJob) (bytes : List ℕ) (input : Input) → IsInput job (is_some job.rank) bytes input → (halt : Halt) → HasCertifiedCause job input halt → HasCertifyCause job bytes halt
-certified_certify job bytes input is halt h = by halt h
+pub certified_certify : (job : FitJob) (bytes : List ℕ) (input : Input) → IsInput job (is_some job.rank) bytes input → HasRows input → (halt : Halt) → HasCertifiedCause job input halt → HasCertifyCause job bytes halt
+certified_certify job bytes input is rows halt h = by halt h
   where
     ranked : Bool
     ranked = is_some job.rank
@@ -173,7 +173,7 @@ certified_certify job bytes input is halt h = by halt h
     by : (halt : Halt) → HasCertifiedCause job input halt → HasCertifyCause job bytes halt
     by (Refused (refusals.CertTooLong n)) h = record { cert = h.0; right = (input, is, h.1); long = h.2 }
     by (Refused (refusals.Certificate fault)) h = absurd h
-    by (Refused (refusals.Dependent combination)) h = problem_cause job ranked bytes input is (Refused (refusals.Dependent combination)) h
+    by (Refused (refusals.Dependent combination)) h = problem_cause job ranked bytes input is rows (Refused (refusals.Dependent combination)) h
     by (Refused refusals.TooLong) h = absurd h
     by (Refused (refusals.Table fault)) h = absurd h
     by (Refused (refusals.Formula fault)) h = absurd h
@@ -182,7 +182,7 @@ certified_certify job bytes input is halt h = by halt h
     by (Refused (refusals.Penalty fault)) h = absurd h
     by (Refused (refusals.Program fault)) h = absurd h
     by OutOfMemory h = tt
-    by (PivotLimit place limit trail) h = problem_cause job ranked bytes input is (PivotLimit place limit trail) h
-    by (Overflow place trail spill) h = problem_cause job ranked bytes input is (Overflow place trail spill) h
+    by (PivotLimit place limit trail) h = problem_cause job ranked bytes input is rows (PivotLimit place limit trail) h
+    by (Overflow place trail spill) h = problem_cause job ranked bytes input is rows (Overflow place trail spill) h
     by (Rejected rejection) h = absurd h
     by (NotBuilt part) h = absurd h

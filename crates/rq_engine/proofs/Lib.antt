@@ -1,11 +1,5 @@
 pub mod Asked
-pub mod AskedLists
+pub mod Causes
 pub mod Certifying
 pub mod Checks
-pub mod Costs
-pub mod Fits
 pub mod Listed
-pub mod RankAsks
-pub mod RankIntervals
-pub mod Scores
-pub mod Scoring

@@ -1,13 +1,10 @@
 -- Stated. What the engine is asked and answers.
-use Rattle.std.specs.Prelude.{◌⊎◌, ℕ, Bool, true, List, is_some, length, pos}
+use Rattle.std.specs.Prelude.{◌⊎◌, ℕ, Bool, true, List, is_some, length}
 use Rattle.exact_algebra.specs.Fraction.{rational}
-use Rattle.exact_algebra.specs.Rational.{whole}
 use Rattle.frac_core.specs.declared.frac128.Frac128.{Frac128}
 use Rattle.loss_model.specs.declared.process.Trail.{Trail}
 use Rattle.loss_model.specs.declared.spill.Spill.{Spill}
-use Rattle.loss_model.specs.Segment.{Covers, segments_of}
 use Rattle.cert_text.specs.declared.cert.Cert.{Cert}
-use Rattle.rankscores.specs.Wilcoxon.{AreWilcoxon}
 use Rattle.rq_input.specs.Inputs.{HasInputCause, IsInput}
 use Rattle.rq_input.specs.Rows.{HasRows}
 use Rattle.rq_input.specs.declared.input.Input.{Input}
@@ -23,28 +20,17 @@ use Rattle.report_text.specs.declared.report.Refusal.TheVariants.{Dependent, Cer
 use Rattle.report_text.specs.declared.report.Place.TheVariants as places
 use Rattle.report_text.specs.declared.report.Halt.{Halt}
 use Rattle.report_text.specs.declared.report.Halt.TheVariants.{Refused, PivotLimit, Overflow}
+use Rattle.rq_fit.specs.Fit.{IsFitOf}
+use Rattle.rq_fit.specs.Ranks.{AreRanksOf}
+use Rattle.rq_fit.specs.Stops.{HasProblemCause, IsScoringSpill, most}
 use Rattle.rq_engine.specs.Certificates.{IsCertificateOf, IsTooLong, IsWritten}
 use Rattle.rq_engine.specs.Checks.{HasCheckCause, IsCheckedOf}
-use Rattle.rq_engine.specs.Fit.{IsFitUnder, IsRightFit}
-use Rattle.rq_engine.specs.Stops.{HasProblemCause, IsScoringSpill, most}
 
 -- ---- the report
-
--- the right fit for the job, of the problem of the input; what is told of it is the design's
-pub record IsFitOf (job : FitJob) (input : Input) (fit : Fit) : Type 0 where
-  pub under : IsFitUnder input fit
-  pub right : IsRightFit value job fit
 
 -- the fit is right for the input that the bytes are; that has no smooths where ranks are asked for
 abbrev pub IsFitOfBytes : FitJob → Bool → List ℕ → Fit → Type 0
 IsFitOfBytes job ranked bytes fit = (input : Input) × IsInput job ranked bytes input × IsFitOf job input fit
-
--- the segments of a right fit cover 0 to 1, and these are the Wilcoxon scores of its rows (Gutenbrunner and Jurečková
--- 1992)
-pub record AreRanksOf (job : FitJob) (input : Input) (ranks : RanksFit) : Type 0 where
-  pub fit : IsFitOf job input ranks.fit
-  pub covers : Covers (length ranks.fit.problem.rows) (whole (pos 0)) (whole (pos 1)) (segments_of value ranks.fit.problem ranks.fit.process.segments)
-  pub wilcoxon : AreWilcoxon value ranks.fit.problem ranks.fit.process.segments ranks.wilcoxon
 
 -- they are right for the input that the bytes are, which has no smooths
 abbrev pub AreRanksOfBytes : FitJob → List ℕ → RanksFit → Type 0
@@ -71,10 +57,11 @@ IsRight _ bytes report = ⊥
 
 -- ---- why there is none
 
--- the problem of the bytes has no fit, for this halt
+-- the problem of the bytes has no fit, for this halt; its rows are data rows and then penalty rows
 pub record LacksFit (job : FitJob) (ranked : Bool) (bytes : List ℕ) (halt : Halt) : Type 0 where
   pub input : Input
   pub is : IsInput job ranked bytes input
+  pub rows : HasRows input
   pub cause : HasProblemCause job (length input.design.rows) input.problem halt
 
 -- why bytes have no fit: their problem has none, or there is no problem
@@ -88,6 +75,7 @@ HasFitCause job ranked bytes halt = HasInputCause job ranked bytes halt
 pub record LacksScores (job : FitJob) (bytes : List ℕ) (trail : Trail Frac128) (spill : Spill Frac128) : Type 0 where
   pub input : Input
   pub is : IsInput job true bytes input
+  pub rows : HasRows input
   pub operation : IsScoringSpill value most input.problem (rational (value job.lo)) (rational (value job.hi)) job.limit trail spill
 
 -- why bytes have no Wilcoxon scores: they have no fit, or such an operation overflows

@@ -1,14 +1,14 @@
 -- Inner. Why an input has no certificate, step by step.
-use Rattle.std.specs.Prelude.{ℕ, length, ⊤}
+use Rattle.std.specs.Prelude.{length, ⊤}
 use Rattle.cert_text.specs.declared.cert.Cert.{Cert}
 use Rattle.rq_input.specs.declared.input.Input.{Input}
 use Rattle.rq_words.specs.declared.job.FitJob.{FitJob}
 use Rattle.report_text.specs.declared.report.Refusal.TheVariants.{CertTooLong}
 use Rattle.report_text.specs.declared.report.Halt.{Halt}
 use Rattle.report_text.specs.declared.report.Halt.TheVariants.{Refused, OutOfMemory}
+use Rattle.rq_fit.specs.Stops.{HasProblemCause}
 use Rattle.rq_engine.specs.Answers.{IsCertified}
 use Rattle.rq_engine.specs.Certificates.{IsTooLong}
-use Rattle.rq_engine.specs.Stops.{HasProblemCause}
 
 -- the text of the certificate wasn't found to be short: memory ended, or it is too long
 abbrev pub IsLengthHalt : Cert → Halt → Type 0

@@ -3,9 +3,3 @@ pub mod Built
 pub mod Certificates
 pub mod Certifying
 pub mod Checks
-pub mod Fit
-pub mod Halts
-pub mod Intervals
-pub mod RankProblems
-pub mod Ranks
-pub mod Stops

@@ -1,20 +1,17 @@
 //! The job `certify`: the fit of the job `process`, as a certificate.
-ghost use Rattle.std.specs.Prelude.{◌≡◌, ◌<◌, ◌≤◌, ◌^◌, All, is_some, length, map, pos, true, IfOk, IfErr, OnOk};
-ghost use Rattle.exact_algebra.specs.Fraction.{rational};
-ghost use Rattle.exact_algebra.specs.Rational.{◌≤ℚ◌, whole};
+ghost use Rattle.std.specs.Prelude.{◌≡◌, ◌<◌, ◌≤◌, ◌^◌, All, is_some, length, map, true, IfOk, IfErr, OnOk};
 ghost use Rattle.cert_text.specs.Kept.{IsKeptInterval, IsKeptSegment};
-ghost use Rattle.report_text.specs.ReportText.{value};
 ghost use Rattle.rq_input.specs.Rows.{HasRows};
+ghost use Rattle.rq_fit.specs.Asks.{IsFitAsk};
 ghost use Rattle.rq_engine.specs.Answers.{HasCertifyCause, IsCertified, IsCertifiedOfBytes};
 ghost use Rattle.rq_engine.specs.Certificates.{IsCertificateOf, IsWritten};
 ghost use Rattle.rq_engine.specs.Certifying.{HasCertifiedCause, IsLengthHalt};
-ghost use Rattle.rq_engine.specs.RankProblems.{IsRankAskOf};
 
-use crate::process::fit_input;
 use cert_text::{Cert, write_cert};
 use frac_core::{Exact, Frac128, List, OutOfMemory};
 use loss_model::{Interval, IntervalProof};
 use report_text::{Fit, Halt, Refusal};
+use rq_fit::fit_input;
 use rq_input::{Input, read_input};
 use rq_words::FitJob;
 use std::alloc::Global;
@@ -77,11 +74,8 @@ fn test_length(alloc: Global, cert: &Cert) -> Result<(), Halt>
 //
 // Its halts are those of the fit, and then `CertTooLong`.
 fn certify_input(alloc: Global, job: &FitJob, input: Input) -> Result<Cert, Halt>
-    requires low { whole (pos 0) ≤ℚ rational (value job.now.lo) }
-    requires ordered { rational (value job.now.lo) ≤ℚ rational (value job.now.hi) }
-    requires high { rational (value job.now.hi) ≤ℚ whole (pos 1) }
+    requires ask { IsFitAsk job.now }
     requires rows { HasRows input }
-    requires rank { IsRankAskOf job.now.rank }
     requires unpenalised { is_some job.now.rank ≡ true → length input.smoothing.rows ≡ 0 }
     ensures right { IfOk result (IsCertified job.now input) }
     ensures written { IfOk result IsWritten }
@@ -104,12 +98,9 @@ fn certify_input(alloc: Global, job: &FitJob, input: Input) -> Result<Cert, Halt
 /// The certificate of the fit over the range of a job, from the bytes of its input, if its text isn't
 /// longer than 2^26 bytes.
 pub(crate) fn certify_bytes(alloc: Global, job: &FitJob, bytes: &[u8]) -> Result<Cert, Halt>
-    requires low { whole (pos 0) ≤ℚ rational (value job.now.lo) }
-    requires ordered { rational (value job.now.lo) ≤ℚ rational (value job.now.hi) }
-    requires high { rational (value job.now.hi) ≤ℚ whole (pos 1) }
+    requires ask { IsFitAsk job.now }
     requires long { length job.now.formula < 2 ^ 31 }
     requires few { length bytes.now ≤ 2 ^ 26 }
-    requires rank { IsRankAskOf job.now.rank }
     ensures right { IfOk result (IsCertifiedOfBytes job.now bytes.now) }
     ensures written { IfOk result IsWritten }
     ensures cause { IfErr result (HasCertifyCause job.now bytes.now) }

@@ -1,145 +1,15 @@
-//! The job `process`: the input, the process over the range, the scores of its segments, and the rank
-//! intervals that are asked for.
-ghost use Rattle.std.specs.Prelude.{◌≡◌, ◌≢◌, ℕ, ◌<◌, ◌≤◌, ◌^◌, All, is_some, length, pos, true, IfOk, IfErr};
-ghost use Rattle.std.specs.List.{AllZip};
-ghost use Rattle.exact_algebra.specs.Fraction.{rational};
-ghost use Rattle.exact_algebra.specs.Rational.{◌≤ℚ◌, whole};
-ghost use Rattle.loss_model.specs.Dual.{IsDataRow};
-ghost use Rattle.loss_model.specs.Problem.{sample, IsWellShaped};
-ghost use Rattle.loss_model.specs.Quantities.{IsShortOf};
-ghost use Rattle.rankscores.specs.Scores.{IsScorable, IsScored};
-ghost use Rattle.report_text.specs.ReportText.{value, IsPrintable};
+//! The job `process`: the fit over the range, with the rank intervals that are asked for.
+ghost use Rattle.std.specs.Prelude.{◌≡◌, ◌<◌, ◌≤◌, ◌^◌, is_some, length, true, IfOk, IfErr};
+ghost use Rattle.report_text.specs.ReportText.{IsPrintable};
 ghost use Rattle.report_text.specs.declared.report.Report.TheVariants as reports;
-ghost use Rattle.rq_input.specs.Rows.{HasRows};
-ghost use Rattle.rq_engine.specs.Answers.{HasFitCause, IsFitOf, IsFitOfBytes};
-ghost use Rattle.rq_engine.specs.Fit.{IsFitUnder};
-ghost use Rattle.rq_engine.specs.Intervals.{AreRightIntervals, asked_by};
-ghost use Rattle.rq_engine.specs.RankProblems.{HasIntervalCause, IsRankAskOf};
-ghost use Rattle.rq_engine.specs.Stops.{HasProblemCause, IsSegmentSpill};
+ghost use Rattle.rq_fit.specs.Asks.{IsFitAsk};
+ghost use Rattle.rq_engine.specs.Answers.{HasFitCause, IsFitOfBytes};
 
-use crate::halt::{interval_halt, short_halt, stop_halt};
-use crate::intervals::{all_intervals, joined};
-use frac_core::{Exact, Frac128, List, OutOfMemory};
-use loss_model::{Interval, Problem, Process, Segment, Short};
-use rankscores::{ScorePair, scores};
-use report_text::{Fit, Halt, Place};
-use rq_input::{Input, read_input};
+use report_text::{Fit, Halt};
+use rq_fit::fit_input;
+use rq_input::read_input;
 use rq_words::FitJob;
 use std::alloc::Global;
-use tau_process::process;
-
-// The rankscores of the basic rows of each segment of a problem whose first `data_rows` rows are data
-// rows. Of a later row they are its dual values.
-fn all_scores<F: Exact>(
-    alloc: Global,
-    problem: &Problem<F>,
-    data_rows: u32,
-    segments: &[Segment<F>],
-) -> Result<List<List<ScorePair<F>>>, Short<F>>
-    requires scorable { All (IsScorable problem.now) segments.now }
-    requires few { length segments.now ≤ 2 ^ 32 }
-    requires weighted { (i : ℕ) → i < data_rows → (sample F.value problem.now).up1 i ≢ whole (pos 0) }
-    ensures scored { IfOk result (AllZip (IsScored F.value problem.now data_rows) segments.now) }
-    ensures spilled { IfErr result (IsShortOf (IsSegmentSpill F.value F.range problem.now data_rows segments.now)) }
-{
-    let mut all = List::new(alloc);
-    for (number, segment) in segments.iter().enumerate() {
-        let pairs = scores(alloc, problem, data_rows, segment, number as u32)?;
-        all.add(pairs)?;
-    }
-    Ok(all)
-}
-
-// The rank intervals that a job asks for.
-//
-// A stop of one of them is that of the first, with its column and its quantile.
-fn job_intervals(
-    alloc: Global,
-    job: &FitJob,
-    problem: &Problem<Frac128>,
-) -> Result<List<Interval<Frac128>>, Halt>
-    requires asked { IsRankAskOf job.now.rank }
-    requires shaped { IsWellShaped problem.now }
-    requires data { is_some job.now.rank ≡ true → (i : ℕ) → i < length problem.now.rows → IsDataRow (sample value problem.now) i }
-    ensures right { IfOk result (AreRightIntervals value problem.now job.now.limit (asked_by job.now.rank problem.now.columns)) }
-    ensures cause { IfErr result (HasIntervalCause job.now problem.now) }
-{
-    let Some(rank) = &job.rank else {
-        return Ok(List::new(alloc));
-    };
-    match all_intervals(alloc, problem, rank.crit, rank.taus.as_slice(), job.limit) {
-        Ok(intervals) => Ok(intervals),
-        Err(stopped) => Err(interval_halt(stopped)),
-    }
-}
-
-// The fit of an input. It refuses only for memory.
-fn fit_of(
-    input: Input,
-    process: Process<Frac128>,
-    scores: List<List<ScorePair<Frac128>>>,
-    intervals: List<Interval<Frac128>>,
-) -> Result<Fit, OutOfMemory>
-    requires { length input.design.rows < 2 ^ 32 }
-    ensures process { IfOk result (λ fit. fit.process ≡ process) }
-    ensures scores { IfOk result (λ fit. fit.scores ≡ scores) }
-    ensures intervals { IfOk result (λ fit. fit.intervals ≡ intervals) }
-    ensures under { IfOk result (IsFitUnder input) }
-{
-    let Input {
-        design,
-        smoothing,
-        problem,
-    } = input;
-    let data_rows = design.rows.as_slice().len() as u32;
-    // The names of the columns of the design, and then those of its smooths.
-    let names = joined(design.names, smoothing.names)?;
-    Ok(Fit {
-        kept: data_rows,
-        dropped: design.dropped,
-        names,
-        data_rows,
-        problem,
-        process,
-        scores,
-        intervals,
-    })
-}
-
-// The fit of an input over the range of a job, with the rank intervals that it asks for.
-//
-// `Dependent`, and `PivotLimit` and `Overflow` of the process are those of `process`; an overflow of a
-// rankscore comes after it, with the whole trail, and after that the first stop of an interval.
-pub(crate) fn fit_input(alloc: Global, job: &FitJob, input: Input) -> Result<Fit, Halt>
-    requires low { whole (pos 0) ≤ℚ rational (value job.now.lo) }
-    requires ordered { rational (value job.now.lo) ≤ℚ rational (value job.now.hi) }
-    requires high { rational (value job.now.hi) ≤ℚ whole (pos 1) }
-    requires rows { HasRows input }
-    requires rank { IsRankAskOf job.now.rank }
-    requires unpenalised { is_some job.now.rank ≡ true → length input.smoothing.rows ≡ 0 }
-    ensures right { IfOk result (IsFitOf job.now input) }
-    ensures printable { IfOk result (λ fit. IsPrintable (reports.Process fit)) }
-    ensures cause { IfErr result (HasProblemCause job.now (length input.design.rows) input.problem) }
-{
-    let walked = match process(alloc, &input.problem, job.lo, job.hi, job.limit) {
-        Ok(walked) => walked,
-        Err(stop) => return Err(stop_halt(Place::Process, stop)),
-    };
-    let data_rows = input.design.rows.as_slice().len() as u32;
-    let segments = walked.segments.as_slice();
-    let scores = match all_scores(alloc, &input.problem, data_rows, segments) {
-        Ok(scores) => scores,
-        Err(short) => return Err(short_halt(short, walked.trail)),
-    };
-    let intervals = match job_intervals(alloc, job, &input.problem) {
-        Ok(intervals) => intervals,
-        Err(halt) => return Err(halt),
-    };
-    match fit_of(input, walked, scores, intervals) {
-        Ok(fit) => Ok(fit),
-        Err(_) => Err(Halt::OutOfMemory),
-    }
-}
 
 /// The fit over the range of a job, from the bytes of its input. `ranked` says that ranks or rank
 /// intervals are asked for, which refuses smooths.
@@ -149,12 +19,9 @@ pub(crate) fn fit_bytes(
     ranked: bool,
     bytes: &[u8],
 ) -> Result<Fit, Halt>
-    requires low { whole (pos 0) ≤ℚ rational (value job.now.lo) }
-    requires ordered { rational (value job.now.lo) ≤ℚ rational (value job.now.hi) }
-    requires high { rational (value job.now.hi) ≤ℚ whole (pos 1) }
+    requires ask { IsFitAsk job.now }
     requires long { length job.now.formula < 2 ^ 31 }
     requires short { length bytes.now ≤ 2 ^ 26 }
-    requires rank { IsRankAskOf job.now.rank }
     requires taken { is_some job.now.rank ≡ true → ranked ≡ true }
     ensures right { IfOk result (IsFitOfBytes job.now ranked bytes.now) }
     ensures printable { IfOk result (λ fit. IsPrintable (reports.Process fit)) }

@@ -27,17 +27,17 @@ use Rattle.report_text.specs.declared.report.Report.{Report}
 use Rattle.report_text.specs.declared.report.Report.TheVariants as reports
 use Rattle.report_text.specs.declared.report.Halt.TheVariants as halts
 use Rattle.rq_input.specs.Inputs.{IsInput}
-use Rattle.rq_input.specs.Rows.{HasRows}
 use Rattle.rq_input.specs.declared.input.Input.{Input}
+use Rattle.rq_fit.specs.Fit.{IsFitOf}
 use Rattle.rq_engine.specs.Answers as engine
-use Rattle.rq_engine.specs.Answers.{IsRight, IsFitOf, HasFitCause, HasCertifyCause}
+use Rattle.rq_engine.specs.Answers.{IsRight, HasFitCause, HasCertifyCause}
 use Rattle.rq_engine.specs.Built.{IsBuilt, IsJobOf}
 use Rattle.rq_cli.specs.Outcomes.{Stream, IsRun, IsAnswered, IsHalted, IsOutputFault, IsErrorFault, WereRead}
 use Rattle.rq_cli.specs.declared.outcome.Outcome.{Outcome}
 use Rattle.rq_cli.specs.declared.outcome.Outcome.TheVariants.{Done, Refused, Usage, SourceFault, SinkFault, OutOfMemory, PivotLimit, Overflow, Rejected, NotBuilt}
 use Rattle.stop_laws.proofs.Needed.{dependent, process_full}
 use Rattle.interval_laws.proofs.Needed.{interval_full}
-use Rattle.run_laws.specs.Completeness.{NoneRose, IsWellFormed, IsAnswer, IsLimitedInput, IsNoReport, IsUnfitted}
+use Rattle.run_laws.specs.Completeness.{NoneRose, IsWellFormed, IsAnswer, IsLimitedInput, IsNoReport, IsUnfitted, parts_of}
 use Rattle.run_laws.specs.NeededOutcomes.{IsFitJob, AskFit, WasInput, ReachesLimitAt}
 use Rattle.run_laws.proofs.Needed.{limit_needed, overflow_needed}
 
@@ -211,15 +211,21 @@ module _ (words : List (List ℕ)) (source source' : Stream) where
   limited first kind asked out out' err err' (Rejected rejection) run reaches = tt
   limited first kind asked out out' err err' (NotBuilt part) run reaches = tt
 
-  pub ample : (out out' err err' : Stream) (limit : ℕ) (trail : Trail Frac128)
-      → ((fit : FitJob) (input : Input) → WasInput words source source' fit input → HasRows input × ((2 * further_bases (sample value input.problem)) ≤ fit.limit))
-      → ¬ IsRun words source source' out out' err err' (PivotLimit places.Process limit trail)
-  ample out out' err err' limit trail long run =
-      let needed = limit_needed words source source' places.Process limit trail run.cause in
-      let enough : HasRows needed.1 × ((2 * further_bases (sample value needed.1.problem)) ≤ needed.0.limit) = long needed.0 needed.1 needed.2 in
-      let below : limit < 2 * further_bases (sample value needed.1.problem) = needed.3.below enough.0 in
-      let shown : limit ≡ needed.0.limit = needed.3.shown in
-      omega (arith, enough.1, shown, below)
+  -- what a trail that reaches a limit says of it
+  limit_below : (place : Place) (fit : FitJob) (input : Input) (limit : ℕ) (trail : Trail Frac128) → ReachesLimitAt place fit input limit trail
+      → (limit ≡ fit.limit) × (limit < parts_of place * further_bases (sample value input.problem))
+  limit_below places.Process fit input limit trail h = (h.shown, h.below)
+  limit_below (places.Interval column tau) fit input limit trail h = (h.shown, h.below)
+  limit_below places.Check fit input limit trail h = absurd h
+
+  pub ample : (out out' err err' : Stream) (place : Place) (limit : ℕ) (trail : Trail Frac128)
+      → ((fit : FitJob) (input : Input) → WasInput words source source' fit input → (parts_of place * further_bases (sample value input.problem)) ≤ fit.limit)
+      → ¬ IsRun words source source' out out' err err' (PivotLimit place limit trail)
+  ample out out' err err' place limit trail long run =
+      let needed = limit_needed words source source' place limit trail run.cause in
+      let enough : (parts_of place * further_bases (sample value needed.1.problem)) ≤ needed.0.limit = long needed.0 needed.1 needed.2 in
+      let below = limit_below place needed.0 needed.1 limit trail needed.3 in
+      omega (arith, enough, below.0, below.1)
 
   -- ---- dependent columns
 

@@ -1,3 +1,4 @@
+pub mod AskedIntervals
 pub mod Spilled
 pub mod Needed
 pub mod Complete

@@ -1,9 +1,7 @@
 -- What stops a run was needed.
-use Rattle.std.specs.Prelude.{◌≡◌, ℕ, ◌*◌, Bool, true, is_some, List, pos}
+use Rattle.std.specs.Prelude.{◌≡◌, ℕ, ◌*◌, Bool, true, is_some, List}
 use Rattle.std.proofs.Common.{refl, sym, subst, inl, inr}
 use Rattle.exact_algebra.specs.Fraction.{rational}
-use Rattle.exact_algebra.specs.Rational.{whole, ◌≤ℚ◌}
-use Rattle.exact_algebra.proofs.RationalLaws.{≤ℚ_trans}
 use Rattle.frac_core.specs.declared.frac128.Frac128.{Frac128}
 use Rattle.loss_model.specs.declared.process.Trail.{Trail}
 use Rattle.loss_model.specs.declared.spill.Spill.{Spill}
@@ -17,8 +15,6 @@ use Rattle.stop_laws.proofs.Needed.{below, dependent}
 use Rattle.interval_laws.proofs.Needed.{interval_needed}
 use Rattle.interval_laws.proofs.Spilled.{of_interval}
 use Rattle.pivot_bound.proofs.Bounds.{process_within}
-use Rattle.rq_words.specs.Requests.{fit_request}
-use Rattle.rq_words.proofs.Orders.{certify_range}
 use Rattle.rq_words.specs.declared.job.FitJob.{FitJob}
 use Rattle.rq_words.specs.declared.job.Job.{Job}
 use Rattle.rq_words.specs.declared.job.Job.TheVariants as jobs
@@ -28,67 +24,50 @@ use Rattle.report_text.specs.declared.report.Place.TheVariants as places
 use Rattle.report_text.specs.declared.report.Refusal.TheVariants.{Dependent}
 use Rattle.report_text.specs.declared.report.Halt.TheVariants.{Refused, PivotLimit, Overflow}
 use Rattle.rq_input.specs.Inputs.{IsInput}
+use Rattle.rq_input.specs.Rows.{HasRows}
 use Rattle.rq_input.specs.declared.input.Input.{Input}
+use Rattle.rq_fit.specs.Asks.{IsFitAsk}
+use Rattle.rq_fit.specs.Stops.{HasStoppedInterval, most}
+use Rattle.rq_fit.proofs.Costs.{low_costs}
+use Rattle.rq_fit.proofs.Scoring.{unit_ask}
 use Rattle.rq_engine.specs.Answers as engine
 use Rattle.rq_engine.specs.Answers.{LacksFit}
-use Rattle.rq_engine.specs.Built.{IsJobOf}
-use Rattle.rq_engine.specs.Stops.{HasStoppedInterval, most}
-use Rattle.rq_engine.proofs.Asked.{asked_range, asked_unit}
-use Rattle.rq_engine.proofs.Costs.{input_costs}
-use Rattle.rq_engine.proofs.Scoring.{from_zero, to_one, in_order}
+use Rattle.rq_engine.proofs.Asked.{asked_job}
 use Rattle.rq_cli.specs.Outcomes.{Stream, IsHalted, WereRead}
 use Rattle.run_laws.specs.NeededOutcomes.{IsFitJob, WasInput, ReachesItsLimit, ReachesItsIntervalLimit, ReachesLimitAt, OverflowsAt}
+use Rattle.run_laws.proofs.AskedIntervals.{asked_there, inner_costs}
 use Rattle.run_laws.proofs.Spilled.{of_fit, of_wilcoxon}
-
--- the low end of the range that words ask for is a quantile
-record IsQuantile (fit : FitJob) : Type 0 where
-  low : whole (pos 0) ≤ℚ rational (value fit.lo)
-  high : rational (value fit.lo) ≤ℚ whole (pos 1)
-
-process_low : (words : List (List ℕ)) (fit : FitJob) → IsJobOf words (jobs.Process fit) → IsQuantile fit
-process_low words fit asked =
-    let range = asked_range words fit asked in
-    record { low = range.0; high = ≤ℚ_trans (rational (value fit.lo)) (rational (value fit.hi)) (whole (pos 1)) range.1 range.2 }
-
-certify_low : (words : List (List ℕ)) (fit : FitJob) → IsJobOf words (jobs.Certify fit) → IsQuantile fit
-certify_low words fit asked =
-    let range = certify_range words (fit_request fit) asked in
-    record { low = range.0; high = ≤ℚ_trans (rational (value fit.lo)) (rational (value fit.hi)) (whole (pos 1)) range.1 range.2 }
-
-ranks_low : (words : List (List ℕ)) (fit : FitJob) → IsJobOf words (jobs.Ranks fit) → IsQuantile fit
-ranks_low words fit asked =
-    let unit = asked_unit words fit asked in
-    record { low = from_zero fit unit.0 unit.1; high = ≤ℚ_trans (rational (value fit.lo)) (rational (value fit.hi)) (whole (pos 1)) (in_order fit unit.0 unit.1) (to_one fit unit.0 unit.1) }
 
 -- ---- a limit
 
-reached_process : (fit : FitJob) (input : Input) (ranked : Bool) (bytes : List ℕ) (limit : ℕ) (trail : Trail Frac128) → IsQuantile fit → IsInput fit ranked bytes input → limit ≡ fit.limit
+reached_process : (fit : FitJob) (input : Input) (limit : ℕ) (trail : Trail Frac128) → IsFitAsk fit → HasRows input → limit ≡ fit.limit
     → ReachesProcessLimit value (sample value input.problem) (rational (value fit.lo)) (rational (value fit.hi)) fit.limit trail → ReachesItsLimit fit input limit trail
-reached_process fit input ranked bytes limit trail quantile is shown h =
+reached_process fit input limit trail ask rows shown h =
     let there = subst (λ n. ReachesProcessLimit value (sample value input.problem) (rational (value fit.lo)) (rational (value fit.hi)) n trail) (sym shown) h in
     record {
       shown = shown;
       reached = there;
-      below = λ rows. below (2 * further_bases (sample value input.problem)) limit (ReachesProcessLimit value (sample value input.problem) (rational (value fit.lo)) (rational (value fit.hi)) limit trail) there
-          (λ long. process_within value (sample value input.problem) (rational (value fit.lo)) (rational (value fit.hi)) limit trail
-          (input_costs input (rational (value fit.lo)) quantile.low quantile.high rows) long);
+      below = below (2 * further_bases (sample value input.problem)) limit (ReachesProcessLimit value (sample value input.problem) (rational (value fit.lo)) (rational (value fit.hi)) limit trail) there
+          (λ long. process_within value (sample value input.problem) (rational (value fit.lo)) (rational (value fit.hi)) limit trail (low_costs fit ask input rows) long);
     }
 
-reached_interval : (fit : FitJob) (input : Input) (column : ℕ) (tau : Frac128) (limit : ℕ) (trail : Trail Frac128) → HasStoppedInterval fit input.problem column tau (stops.PivotLimit limit trail) → ReachesItsIntervalLimit fit input column tau limit trail
-reached_interval fit input column tau limit trail h =
+reached_interval : (fit : FitJob) (input : Input) (column : ℕ) (tau : Frac128) (limit : ℕ) (trail : Trail Frac128) → IsFitAsk fit → HasRows input → HasStoppedInterval fit input.problem column tau (stops.PivotLimit limit trail)
+    → ReachesItsIntervalLimit fit input column tau limit trail
+reached_interval fit input column tau limit trail ask rows h =
     let cause = h.1.cause in
+    let asked = asked_there input.problem.columns fit.rank ask.rank h.1.earlier _ h.1.later h.1.order in
     record {
       shown = cause.0;
       bound = cause.1.0;
       reached = subst (λ n. ReachesIntervalLimit value (sample value input.problem) (rational (value tau)) column cause.1.0 n trail) (sym cause.0) cause.1.2;
-      below = λ costs inside.
-          interval_needed value most input.problem column (rational (value tau)) (rational (value h.0)) fit.limit (stops.PivotLimit limit trail) costs inside cause;
+      below =
+          interval_needed value most input.problem column (rational (value tau)) (rational (value h.0)) fit.limit (stops.PivotLimit limit trail) (inner_costs input (rational (value tau)) asked.1 rows) asked.0 cause;
     }
 
-reached : (fit : FitJob) (ranked : Bool) (bytes : List ℕ) (place : Place) (limit : ℕ) (trail : Trail Frac128) → IsQuantile fit → (h : LacksFit fit ranked bytes (PivotLimit place limit trail)) → ReachesLimitAt place fit h.input limit trail
-reached fit ranked bytes places.Process limit trail quantile h = reached_process fit h.input ranked bytes limit trail quantile h.is h.cause.0 h.cause.1
-reached fit ranked bytes (places.Interval column tau) limit trail quantile h = reached_interval fit h.input column tau limit trail h.cause.stopped
-reached fit ranked bytes places.Check limit trail quantile h = absurd h.cause
+reached : (fit : FitJob) (ranked : Bool) (bytes : List ℕ) (place : Place) (limit : ℕ) (trail : Trail Frac128) → IsFitAsk fit → (h : LacksFit fit ranked bytes (PivotLimit place limit trail)) → ReachesLimitAt place fit h.input limit trail
+reached fit ranked bytes places.Process limit trail ask h = reached_process fit h.input limit trail ask h.rows h.cause.0 h.cause.1
+reached fit ranked bytes (places.Interval column tau) limit trail ask h = reached_interval fit h.input column tau limit trail ask h.rows h.cause.stopped
+reached fit ranked bytes places.Check limit trail ask h = absurd h.cause
 
 -- a job and its bytes, of which the input was read
 module _ (words : List (List ℕ)) (source source' : Stream) where
@@ -110,19 +89,19 @@ module _ (words : List (List ℕ)) (source source' : Stream) where
         fit,
         cause.input,
         was fit cause.input (is_some fit.rank) h.bytes (jobs.Process fit) (refl, refl) read cause.is,
-        reached fit (is_some fit.rank) h.bytes place limit trail (process_low words fit read.asked) cause,
+        reached fit (is_some fit.rank) h.bytes place limit trail (asked_job words (jobs.Process fit) read.asked).0 cause,
       )
       by (jobs.Ranks fit) read cause = (
         fit,
         cause.input,
         was fit cause.input true h.bytes (jobs.Ranks fit) (refl, refl) read cause.is,
-        reached fit true h.bytes place limit trail (ranks_low words fit read.asked) cause,
+        reached fit true h.bytes place limit trail (unit_ask fit (asked_job words (jobs.Ranks fit) read.asked).0) cause,
       )
       by (jobs.Certify fit) read cause = (
         fit,
         cause.input,
         was fit cause.input (is_some fit.rank) h.bytes (jobs.Certify fit) (refl, refl) read cause.is,
-        reached fit (is_some fit.rank) h.bytes place limit trail (certify_low words fit read.asked) cause,
+        reached fit (is_some fit.rank) h.bytes place limit trail (asked_job words (jobs.Certify fit) read.asked).0 cause,
       )
       by jobs.Check read cause = absurd cause
       by (jobs.Sample job) read cause = absurd cause

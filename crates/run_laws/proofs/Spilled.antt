@@ -14,7 +14,7 @@ use Rattle.loss_model.specs.Vertex.{dual_value}
 use Rattle.rankscores.specs.Spills.{score_site, score_operations, IsEndSpill, IsScoresSpill, IsAreaSpill, IsIntegrationSpill, IsWilcoxonSpill}
 use Rattle.stop_laws.specs.NeededStops.{DoesOverflow}
 use Rattle.stop_laws.proofs.Spilled.{operation, among, of_process}
-use Rattle.rq_engine.specs.Stops.{IsFitSpill}
+use Rattle.rq_fit.specs.Stops.{IsFitSpill}
 
 module _ {F : Type 0} (value : F → Fraction) (range : ℕ) (s : Spill F) (p : Problem F) where
   abbrev Here : Type 0

@@ -12,12 +12,12 @@ use Rattle.tau_process.specs.Stops.{IsLimited}
 use Rattle.rq_words.specs.declared.job.FitJob.{FitJob}
 use Rattle.rq_words.specs.declared.job.Job.{Job}
 use Rattle.report_text.specs.ReportText.{value}
+use Rattle.report_text.specs.declared.report.Place.{Place}
 use Rattle.report_text.specs.declared.report.Place.TheVariants as places
 use Rattle.report_text.specs.declared.report.Refusal.{Refusal}
 use Rattle.report_text.specs.declared.report.Refusal.TheVariants.{CertTooLong}
 use Rattle.report_text.specs.declared.report.Halt.TheVariants as halts
 use Rattle.rq_input.specs.Inputs.{HasInputCause, IsInput}
-use Rattle.rq_input.specs.Rows.{HasRows}
 use Rattle.rq_input.specs.declared.input.Input.{Input}
 use Rattle.rq_engine.specs.Answers.{IsRight}
 use Rattle.rq_engine.specs.Built.{IsJobOf}
@@ -78,12 +78,19 @@ LimitIsAnswered =
     → ((fit : FitJob) (input : Input) → WasInput words source source' fit input → IsLimitedInput fit input)
     → IsNoReport outcome
 
--- where no fewer pivots are allowed than twice the bases after the first, the limit doesn't stop the process
+-- how often the bases after the first may come: in the solve and in the walk of a process, and in the solve and in both
+-- walks of an interval
+abbrev pub parts_of : Place → ℕ
+parts_of places.Process = 2
+parts_of (places.Interval column tau) = 3
+parts_of places.Check = 0
+
+-- where no fewer pivots are allowed than that, the limit doesn't stop the process or the interval
 abbrev pub AmpleLimitIsNeverReached : Type 0
 AmpleLimitIsNeverReached =
-    (words : List (List ℕ)) (source source' out out' err err' : Stream) (limit : ℕ) (trail : Trail Frac128)
-    → ((fit : FitJob) (input : Input) → WasInput words source source' fit input → HasRows input × ((2 * further_bases (sample value input.problem)) ≤ fit.limit))
-    → ¬ IsRun words source source' out out' err err' (PivotLimit places.Process limit trail)
+    (words : List (List ℕ)) (source source' out out' err err' : Stream) (place : Place) (limit : ℕ) (trail : Trail Frac128)
+    → ((fit : FitJob) (input : Input) → WasInput words source source' fit input → (parts_of place * further_bases (sample value input.problem)) ≤ fit.limit)
+    → ¬ IsRun words source source' out out' err err' (PivotLimit place limit trail)
 
 -- the outcome is neither a report nor a limit
 abbrev pub IsUnfitted : Outcome → Type 0

@@ -7,7 +7,6 @@ use Rattle.loss_model.specs.declared.process.Trail.{Trail}
 use Rattle.loss_model.specs.declared.spill.Spill.{Spill}
 use Rattle.loss_model.specs.FullRank.{HasFullRank}
 use Rattle.loss_model.specs.Problem.{sample}
-use Rattle.pivot_rule.specs.Duals.{HasCosts}
 use Rattle.walk_rule.specs.WalkTrails.{ReachesProcessLimit, ReachesIntervalLimit}
 use Rattle.pivot_bound.specs.BoundLaws.{further_bases}
 use Rattle.stop_laws.specs.NeededStops.{DoesOverflow}
@@ -19,10 +18,9 @@ use Rattle.report_text.specs.declared.report.Place.{Place}
 use Rattle.report_text.specs.declared.report.Place.TheVariants as places
 use Rattle.report_text.specs.declared.report.Refusal.TheVariants.{Dependent}
 use Rattle.rq_input.specs.Inputs.{IsInput}
-use Rattle.rq_input.specs.Rows.{HasRows}
 use Rattle.rq_input.specs.declared.input.Input.{Input}
+use Rattle.rq_fit.specs.Stops.{most}
 use Rattle.rq_engine.specs.Built.{IsBuilt, IsJobOf}
-use Rattle.rq_engine.specs.Stops.{most}
 use Rattle.rq_cli.specs.Outcomes.{Stream, IsRun, WereRead}
 use Rattle.rq_cli.specs.declared.outcome.Outcome.TheVariants.{Refused, PivotLimit, Overflow}
 
@@ -49,19 +47,19 @@ pub record WasInput (words : List (List ℕ)) (before now : Stream) (fit : FitJo
   pub is : IsInput fit ranked bytes input
 
 -- its lawful trail has as many pivots as the limit of the words says, with one more left; and the limit is less than
--- twice the bases after the first, where the rows are those that `read_input` gives: data rows, and then penalty rows
+-- twice the bases after the first
 pub record ReachesItsLimit (fit : FitJob) (input : Input) (limit : ℕ) (trail : Trail Frac128) : Type 0 where
   pub shown : limit ≡ fit.limit
   pub reached : ReachesProcessLimit value (sample value input.problem) (rational (value fit.lo)) (rational (value fit.hi)) limit trail
-  pub below : HasRows input → limit < 2 * further_bases (sample value input.problem)
+  pub below : limit < 2 * further_bases (sample value input.problem)
 
 -- so has that of the interval of a column at a quantile; and the limit is less than three times the bases after the
--- first, where the rows have costs there
+-- first
 pub record ReachesItsIntervalLimit (fit : FitJob) (input : Input) (column : ℕ) (tau : Frac128) (limit : ℕ) (trail : Trail Frac128) : Type 0 where
   pub shown : limit ≡ fit.limit
   pub bound : ℚ
   pub reached : ReachesIntervalLimit value (sample value input.problem) (rational (value tau)) column bound limit trail
-  pub below : HasCosts (sample value input.problem) (rational (value tau)) → column < input.problem.columns → limit < 3 * further_bases (sample value input.problem)
+  pub below : limit < 3 * further_bases (sample value input.problem)
 
 -- that of the place
 abbrev pub ReachesLimitAt : Place → FitJob → Input → ℕ → Trail Frac128 → Type 0

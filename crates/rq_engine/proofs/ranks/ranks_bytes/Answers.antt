@@ -1,6 +1,4 @@
-use Rattle.std.proofs.Common.{refl, true}
-use Rattle.rq_engine.specs.Answers.{HasRanksCause}
-use Rattle.rq_engine.proofs.Scoring.{ranks_input_cause, ranks_scoring_cause}
+use Rattle.rq_engine.proofs.Causes.{ranks_input_cause}
 use Rattle.rq_engine.proofs.ranks.ranks_bytes.Goals as goal
 
 pub returns-in-Err-clause-cause : goal.returns-in-Err-clause-cause

@@ -1,0 +1,75 @@
+-- Why an input, or its problem, gives no report is why its bytes give none.
+use Rattle.std.proofs.Common.{ℕ, Bool, true, List, length, inl, inr}
+use Rattle.report_text.specs.declared.report.Place.TheVariants as places
+use Rattle.report_text.specs.declared.report.Refusal.TheVariants.{TooLong, Dependent}
+use Rattle.report_text.specs.declared.report.Refusal.TheVariants as refusals
+use Rattle.report_text.specs.declared.report.Halt.{Halt}
+use Rattle.report_text.specs.declared.report.Halt.TheVariants.{Refused, OutOfMemory, PivotLimit, Overflow, Rejected, NotBuilt}
+use Rattle.rq_words.specs.declared.job.FitJob.{FitJob}
+use Rattle.rq_input.specs.Inputs.{HasInputCause, IsInput}
+use Rattle.rq_input.specs.Rows.{HasRows}
+use Rattle.rq_input.specs.declared.input.Input.{Input}
+use Rattle.rq_fit.specs.Ranks.{HasScoringCause}
+use Rattle.rq_fit.specs.Stops.{HasProblemCause}
+use Rattle.rq_engine.specs.Answers.{HasFitCause, HasRanksCause}
+
+-- why there is no input is why there is no fit
+pub input_cause : (job : FitJob) (ranked : Bool) (bytes : List ℕ) (halt : Halt) → HasInputCause job ranked bytes halt → HasFitCause job ranked bytes halt
+input_cause job ranked bytes (Refused (Dependent combination)) h = absurd h.2.cause
+input_cause job ranked bytes (Refused TooLong) h = h
+input_cause job ranked bytes (Refused (refusals.Table fault)) h = h
+input_cause job ranked bytes (Refused (refusals.Formula fault)) h = h
+input_cause job ranked bytes (Refused refusals.RankWithPenalty) h = h
+input_cause job ranked bytes (Refused (refusals.Design fault)) h = h
+input_cause job ranked bytes (Refused (refusals.Penalty fault)) h = h
+input_cause job ranked bytes (Refused (refusals.Program fault)) h = h
+input_cause job ranked bytes (Refused (refusals.CertTooLong long)) h = absurd h.2.cause
+input_cause job ranked bytes (Refused (refusals.Certificate fault)) h = absurd h.2.cause
+input_cause job ranked bytes OutOfMemory h = h
+input_cause job ranked bytes (PivotLimit place limit trail) h = absurd h.2.cause
+input_cause job ranked bytes (Overflow place trail spill) h = absurd h.2.cause
+input_cause job ranked bytes (Rejected rejection) h = absurd h.2.cause
+input_cause job ranked bytes (NotBuilt part) h = absurd h
+
+-- and so is why the problem of an input has no fit
+pub problem_cause : (job : FitJob) (ranked : Bool) (bytes : List ℕ) (input : Input) → IsInput job ranked bytes input → HasRows input → (halt : Halt) → HasProblemCause job (length input.design.rows) input.problem halt → HasFitCause job ranked bytes halt
+problem_cause job ranked bytes input is rows (Refused (Dependent combination)) h = record { input = input; is = is; rows = rows; cause = h }
+problem_cause job ranked bytes input is rows (Refused TooLong) h = h
+problem_cause job ranked bytes input is rows (Refused (refusals.Table fault)) h = absurd h
+problem_cause job ranked bytes input is rows (Refused (refusals.Formula fault)) h = absurd h
+problem_cause job ranked bytes input is rows (Refused refusals.RankWithPenalty) h = absurd h
+problem_cause job ranked bytes input is rows (Refused (refusals.Design fault)) h = absurd h
+problem_cause job ranked bytes input is rows (Refused (refusals.Penalty fault)) h = absurd h
+problem_cause job ranked bytes input is rows (Refused (refusals.Program fault)) h = absurd h
+problem_cause job ranked bytes input is rows (Refused (refusals.CertTooLong long)) h = absurd h
+problem_cause job ranked bytes input is rows (Refused (refusals.Certificate fault)) h = absurd h
+problem_cause job ranked bytes input is rows OutOfMemory h = tt
+problem_cause job ranked bytes input is rows (PivotLimit place limit trail) h = record { input = input; is = is; rows = rows; cause = h }
+problem_cause job ranked bytes input is rows (Overflow place trail spill) h = record { input = input; is = is; rows = rows; cause = h }
+problem_cause job ranked bytes input is rows (Rejected rejection) h = absurd h
+problem_cause job ranked bytes input is rows (NotBuilt part) h = absurd h
+
+-- why there is no fit is why there are no Wilcoxon scores
+ranks_cause : (job : FitJob) (bytes : List ℕ) (halt : Halt) → HasFitCause job true bytes halt → HasRanksCause job bytes halt
+ranks_cause job bytes (Refused refusal) h = h
+ranks_cause job bytes OutOfMemory h = h
+ranks_cause job bytes (PivotLimit place limit trail) h = h
+ranks_cause job bytes (Overflow places.Process trail spill) h = inl h
+ranks_cause job bytes (Overflow (places.Interval column tau) trail spill) h = h
+ranks_cause job bytes (Overflow places.Check trail spill) h = h
+ranks_cause job bytes (Rejected rejection) h = h
+ranks_cause job bytes (NotBuilt part) h = h
+
+pub ranks_input_cause : (job : FitJob) (bytes : List ℕ) (halt : Halt) → HasInputCause job true bytes halt → HasRanksCause job bytes halt
+ranks_input_cause job bytes halt h = ranks_cause job bytes halt (input_cause job true bytes halt h)
+
+pub ranks_scoring_cause : (job : FitJob) (bytes : List ℕ) (input : Input) → IsInput job true bytes input → HasRows input → (halt : Halt) → HasScoringCause job input halt → HasRanksCause job bytes halt
+ranks_scoring_cause job bytes input is rows (Refused refusal) h = problem_cause job true bytes input is rows (Refused refusal) h
+ranks_scoring_cause job bytes input is rows OutOfMemory h = problem_cause job true bytes input is rows OutOfMemory h
+ranks_scoring_cause job bytes input is rows (PivotLimit place limit trail) h = problem_cause job true bytes input is rows (PivotLimit place limit trail) h
+ranks_scoring_cause job bytes input is rows (Overflow places.Process trail spill) (inl h) = inl (problem_cause job true bytes input is rows (Overflow places.Process trail spill) h)
+ranks_scoring_cause job bytes input is rows (Overflow places.Process trail spill) (inr h) = inr (record { input = input; is = is; rows = rows; operation = h })
+ranks_scoring_cause job bytes input is rows (Overflow (places.Interval column tau) trail spill) h = problem_cause job true bytes input is rows (Overflow (places.Interval column tau) trail spill) h
+ranks_scoring_cause job bytes input is rows (Overflow places.Check trail spill) h = problem_cause job true bytes input is rows (Overflow places.Check trail spill) h
+ranks_scoring_cause job bytes input is rows (Rejected rejection) h = problem_cause job true bytes input is rows (Rejected rejection) h
+ranks_scoring_cause job bytes input is rows (NotBuilt part) h = problem_cause job true bytes input is rows (NotBuilt part) h

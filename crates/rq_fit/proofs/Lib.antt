@@ -1,0 +1,6 @@
+pub mod AskedLists
+pub mod Costs
+pub mod Fits
+pub mod RankIntervals
+pub mod Scores
+pub mod Scoring

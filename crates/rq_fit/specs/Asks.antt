@@ -1,0 +1,35 @@
+-- Inner. What is known of a job whose words ask for a fit.
+use Rattle.std.specs.Prelude.{◌≡◌, All, Option, None, Some, pos, ⊤}
+use Rattle.exact_algebra.specs.Fraction.{rational}
+use Rattle.exact_algebra.specs.Rational.{ℚ, whole, ◌≤ℚ◌}
+use Rattle.loss_model.specs.Strict.{◌<ℚ◌}
+use Rattle.rq_words.specs.declared.job.RankAsk.{RankAsk}
+use Rattle.rq_words.specs.declared.job.FitJob.{FitJob}
+use Rattle.report_text.specs.ReportText.{value}
+
+-- strictly between 0 and 1
+abbrev pub IsInner : ℚ → Type 0
+IsInner tau = (whole (pos 0) <ℚ tau) × (tau <ℚ whole (pos 1))
+
+-- the critical value is at least 0, and the quantiles lie strictly between 0 and 1
+pub record IsRankAsk (rank : RankAsk) : Type 0 where
+  pub crit : whole (pos 0) ≤ℚ rational (value rank.crit)
+  pub taus : All (λ tau. IsInner (rational (value tau))) rank.taus
+
+-- if a job asks for intervals, it asks so
+abbrev pub IsRankAskOf : Option RankAsk → Type 0
+IsRankAskOf None = ⊤
+IsRankAskOf (Some rank) = IsRankAsk rank
+
+-- the range lies in 0 to 1, and in order
+pub record IsFitAsk (job : FitJob) : Type 0 where
+  pub low : whole (pos 0) ≤ℚ rational (value job.lo)
+  pub ordered : rational (value job.lo) ≤ℚ rational (value job.hi)
+  pub high : rational (value job.hi) ≤ℚ whole (pos 1)
+  pub rank : IsRankAskOf job.rank
+
+-- it is 0 to 1
+pub record IsUnitAsk (job : FitJob) : Type 0 where
+  pub low : whole (pos 0) ≡ rational (value job.lo)
+  pub high : whole (pos 1) ≡ rational (value job.hi)
+  pub rank : IsRankAskOf job.rank

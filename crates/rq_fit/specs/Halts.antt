@@ -1,0 +1,29 @@
+-- Inner. The halts of the solver: want of memory is its own.
+use Rattle.frac_core.specs.declared.frac128.Frac128.{Frac128}
+use Rattle.loss_model.specs.declared.process.Trail.{Trail}
+use Rattle.loss_model.specs.declared.spill.Short.{Short}
+use Rattle.loss_model.specs.declared.spill.Short.TheVariants as shorts
+use Rattle.loss_model.specs.declared.stop.Stop.{Stop}
+use Rattle.loss_model.specs.declared.stop.Stop.TheVariants as stops
+use Rattle.report_text.specs.declared.report.Refusal.TheVariants.{Dependent}
+use Rattle.report_text.specs.declared.report.Place.{Place}
+use Rattle.report_text.specs.declared.report.Place.TheVariants.{Process, Interval}
+use Rattle.report_text.specs.declared.report.Halt.{Halt}
+use Rattle.report_text.specs.declared.report.Halt.TheVariants.{Refused, OutOfMemory, PivotLimit, Overflow}
+use Rattle.rq_fit.specs.declared.intervals.IntervalStop.{IntervalStop}
+
+-- the halt of a stop of the solver at a place
+abbrev pub stop_halt : Place → Stop Frac128 → Halt
+stop_halt place stops.OutOfMemory = OutOfMemory
+stop_halt place (stops.PivotLimit limit trail) = PivotLimit place limit trail
+stop_halt place (stops.Overflow trail spill) = Overflow place trail spill
+stop_halt place (stops.Dependent combination) = Refused (Dependent combination)
+
+-- that of an interval, at its column and its quantile
+abbrev pub interval_halt : IntervalStop Frac128 → Halt
+interval_halt stopped = stop_halt (Interval stopped.asked.column stopped.asked.tau) stopped.stop
+
+-- after the walk the trail is whole
+abbrev pub short_halt : Short Frac128 → Trail Frac128 → Halt
+short_halt shorts.OutOfMemory trail = OutOfMemory
+short_halt (shorts.Overflow spill) trail = Overflow Process trail spill

@@ -1,0 +1,53 @@
+//! The halts of the solver.
+ghost use Rattle.std.specs.Prelude.{◌≡◌};
+ghost use Rattle.rq_fit.specs.Halts.{interval_halt as interval_halt_of, short_halt as short_halt_of, stop_halt as stop_halt_of};
+
+use crate::intervals::IntervalStop;
+use frac_core::Frac128;
+use loss_model::{Short, Stop, Trail};
+use report_text::{Halt, Place, Refusal};
+
+/// The halt of a stop at a place.
+pub(crate) fn stop_halt(place: Place, stop: Stop<Frac128>) -> Halt
+    ensures { result ≡ stop_halt_of place stop }
+{
+    match stop {
+        Stop::OutOfMemory => Halt::OutOfMemory,
+        Stop::PivotLimit { limit, trail } => Halt::PivotLimit {
+            place,
+            limit,
+            trail,
+        },
+        Stop::Overflow { trail, spill } => Halt::Overflow {
+            place,
+            trail,
+            spill,
+        },
+        Stop::Dependent { combination } => Halt::Refused(Refusal::Dependent { combination }),
+    }
+}
+
+/// The halt of an interval that stops, at its column and its quantile.
+pub(crate) fn interval_halt(stopped: IntervalStop<Frac128>) -> Halt
+    ensures { result ≡ interval_halt_of stopped }
+{
+    let place = Place::Interval {
+        column: stopped.asked.column,
+        tau: stopped.asked.tau,
+    };
+    stop_halt(place, stopped.stop)
+}
+
+/// The halt after the walk, whose trail is whole.
+pub(crate) fn short_halt(short: Short<Frac128>, trail: Trail<Frac128>) -> Halt
+    ensures { result ≡ short_halt_of short trail }
+{
+    match short {
+        Short::OutOfMemory => Halt::OutOfMemory,
+        Short::Overflow(spill) => Halt::Overflow {
+            place: Place::Process,
+            trail,
+            spill,
+        },
+    }
+}

@@ -1,0 +1,20 @@
+//! From the problem of an input to its fit.
+//!
+//! The one contract: `fit_input` gives the right fit of an input for a job, or a halt with its cause, as
+//! `specs/Fit.antt` and `specs/Stops.antt` define both, and `ranks_input` the same over 0 to 1 with the
+//! Wilcoxon scores (`specs/Ranks.antt`). A job knows its range and the rank intervals that it asks for;
+//! what its report or its certificate is made of stands above.
+//!
+//! It stands on `rq_input` for the input, on `tau_process` for the segments and the trail, on `rankscores`,
+//! on `rank_inversion` and the solve of `br_pivot` for rank intervals, and on `report_text` for the types
+//! that it answers with.
+//! Its tests are those of whole runs, in the crate `run_tests`.
+#![tactic(auto)]
+
+mod fit;
+mod halt;
+mod intervals;
+mod ranks;
+
+pub use fit::fit_input;
+pub use ranks::ranks_input;
