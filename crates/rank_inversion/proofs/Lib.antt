@@ -9,6 +9,6 @@ mod StepLaws
 mod LookLaws
 mod WalkLaws
 mod NoStep
-mod Costs
+pub mod Costs
 pub mod Causes
 mod Inverted

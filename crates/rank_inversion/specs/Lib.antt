@@ -10,3 +10,4 @@ pub mod Looks
 pub mod Walks
 pub mod Inversions
 pub mod Intervals
+pub mod Jobs

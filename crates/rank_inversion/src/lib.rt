@@ -4,9 +4,9 @@
 //! The one contract for the layers above: `interval` bounds exactly the tested values that hold, with the
 //! lawful trail of the solve and of both walks, and what a certificate states of both ends; or it says what it
 //! had to stop for. Its parts are offered for intervals of many columns: `gram_inverse` once for a problem,
-//! `rank_test` once for a column, the solve of `br_pivot` once for a quantile, and `interval_from`. It stands on
-//! `br_pivot` for the solve, on the basis in fractions of `fraction_tableau` for the walks, and on the laws
-//! of `rank_walk`.
+//! `rank_test` once for a column, the solve of `br_pivot` once for a quantile, and `interval_from`. `IntervalJob` is
+//! an interval as a job of `rq_fan`. The crate stands on `br_pivot` for the solve, on the basis in fractions of
+//! `fraction_tableau` for the walks, on the laws of `rank_walk`, and on `rq_fan` for its job.
 #![tactic(auto)]
 
 mod column_test;
@@ -14,6 +14,7 @@ mod course;
 mod ends;
 mod gram;
 mod inversion;
+mod job;
 mod look;
 mod projection;
 mod station;
@@ -22,4 +23,5 @@ mod walking;
 pub use column_test::{Asked, RankTest, rank_test};
 pub use gram::{GramInverse, gram_inverse};
 pub use inversion::{interval, interval_from};
+pub use job::IntervalJob;
 pub use projection::{Projected, project};
