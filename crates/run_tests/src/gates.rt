@@ -9,6 +9,7 @@ use std::test::Fail;
 const MOST_LOOKS: u32 = 100_000_000;
 
 /// A gate at which the jobs at the places 0 and 1 look for each other.
+#[derive(Drop)]
 struct Meeting {
     first: AtomicBool,
     second: AtomicBool,
