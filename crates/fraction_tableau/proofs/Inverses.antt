@@ -1,18 +1,11 @@
 -- The inverse of a solve is that of a basis, and stays so.
-use Rattle.std.specs.Prelude.{◌≡◌, ◌≢◌, ◌⊎◌, ℕ, ◌<◌, ◌≤◌, List, [], ◌∷◌, length, slice_get, slice_index, slice_set, option_map, get_or, Option, Some, None, pos}
+use Rattle.std.specs.Prelude.{◌≡◌, ℕ, ◌≤◌, List, [], length, slice_get, slice_index, slice_set, Option, pos}
 use Rattle.std.specs.Option.{option_map_or}
-use Rattle.std.proofs.Common.{arith, refl, sym, ap, subst, ◌∙◌, inl, inr, length-set}
-use Rattle.std.proofs.lemmas.Bool.{cases_lt}
+use Rattle.std.proofs.Common.{arith, refl, sym, ap, subst, ◌∙◌, length-set}
 use Rattle.std.proofs.lemmas.List.{map-set}
-use Rattle.std.proofs.lemmas.Option.{slice_get_past, slice_get-get_or, slice_get-map}
+use Rattle.std.proofs.lemmas.Option.{slice_get_past}
 use Rattle.exact_algebra.specs.Fraction.{Fraction, rational}
-use Rattle.exact_algebra.specs.Solver.{number, ◌⊠◌, v0}
-use Rattle.exact_algebra.specs.Rational.{ℚ, ◌*ℚ◌, whole}
-use Rattle.exact_algebra.proofs.RationalLaws.{ring_ℚ}
-use Rattle.exact_algebra.specs.RationalSums.{sum_ℚ}
-use Rattle.exact_algebra.proofs.RationalSumLaws.{sum_ℚ-same, sum_ℚ-zero}
-use Rattle.exact_algebra.proofs.Inverses.{one-zero}
-use Rattle.exact_matrices.proofs.TermLaws.{if-same, if-other}
+use Rattle.exact_algebra.specs.Rational.{ℚ, whole}
 use Rattle.exact_matrices.specs.Matrices.{AreInverse, coordinate}
 use Rattle.exact_matrices.proofs.MatrixLaws.{AreInverse-same}
 use Rattle.loss_model.specs.declared.problem.Row.{Row}
@@ -20,26 +13,17 @@ use Rattle.loss_model.specs.declared.problem.Problem.{Problem}
 use Rattle.loss_model.specs.Problem.{value_at, sample}
 use Rattle.loss_model.specs.Greedy.{basis_rows}
 use Rattle.basis_inverse.specs.Square.{Square, entries, inverse_entry, IsInverse}
+pub use Rattle.basis_inverse.proofs.Bases.{basis_entries}
+use Rattle.basis_inverse.proofs.Bases.{distinct_rows}
+use Rattle.basis_inverse.proofs.Lists.{beyond_ends}
 use Rattle.basis_inverse.proofs.Underway.{IsRead, at_row}
 use Rattle.basis_model.specs.Basis.{IsBasis}
 use Rattle.basic_solution.specs.Bases.{HasBasis}
 use Rattle.pivot_rule.specs.Trails.{EndsAt}
 use Rattle.fraction_tableau.specs.Inverses.{IsInverseOf}
 
--- the matrix of a basis has the entries of its rows
-pub basis_entries : {F : Type 0} (value : F → Fraction) (p : Problem F) (basis : List ℕ) (j k : ℕ) → j < length basis → entries value (basis_rows p basis) j k ≡ (sample value p).x (slice_index basis j) k
-basis_entries {F} value p basis j k l =
-    ap (λ (o : Option (List F)). option_map_or (λ xs. value_at value xs k) o (whole (pos 0)))
-    (slice_get-map (λ i. option_map_or (λ (r : Row F). r.x) (slice_get p.rows i) []) basis j
-    ∙ ap (λ (o : Option ℕ). option_map (λ i. option_map_or (λ (r : Row F). r.x) (slice_get p.rows i) []) o) (slice_get-get_or basis j 0 l))
-    ∙ by (slice_get p.rows (slice_index basis j))
-  where
-    by : (o : Option (Row F)) → value_at value (option_map_or (λ r. r.x) o []) k ≡ option_map_or (λ r. value_at value r.x k) o (whole (pos 0))
-    by None = refl
-    by (Some r) = refl
-
 pub basis_of : {F : Type 0} (value : F → Fraction) (p : Problem F) (basis : List ℕ) (s : Square F) → IsInverseOf value p basis s → IsBasis (sample value p) (slice_index basis) (inverse_entry value s)
-basis_of {F} value p basis s h = record { distinct = record { within = within; apart = apart }; inverse = inv }
+basis_of {F} value p basis s h = record { distinct = distinct_rows p.columns (length p.rows) (sample value p).x (slice_index basis) (inverse_entry value s) none inv; inverse = inv }
   where
     inv : AreInverse p.columns (λ j k. (sample value p).x (slice_index basis j) k) (inverse_entry value s)
     inv =
@@ -47,43 +31,12 @@ basis_of {F} value p basis s h = record { distinct = record { within = within; a
         (subst (λ n. AreInverse n (entries value s.rows) (inverse_entry value s)) h.square h.inverse.both)
         (λ j k lj lk. sym (ap (λ rows. entries value rows j k) h.rows ∙ basis_entries value p basis j k (omega (arith, h.size)))) (λ k j lk lj. refl)
 
-    -- the row of a position past the end would be 0
-    within : (j : ℕ) → j < p.columns → slice_index basis j < length p.rows
-    within j lj = by (cases_lt (slice_index basis j) (length p.rows))
-      where
-        by : (slice_index basis j < length p.rows) ⊎ (length p.rows ≤ slice_index basis j) → slice_index basis j < length p.rows
-        by (inl l) = l
-        by (inr past) =
-            absurd (one-zero (
-            sym (if-same j j (whole (pos 1)) (whole (pos 0)) refl) ∙ sym (inv.left j j lj lj)
-            ∙ sum_ℚ-same p.columns (λ k. (sample value p).x (slice_index basis j) k *ℚ inverse_entry value s k j) (λ k. whole (pos 0))
-            (λ k lk. ap (λ (o : Option (Row F)). option_map_or (λ r. value_at value r.x k) o (whole (pos 0)) *ℚ inverse_entry value s k j) (slice_get_past p.rows (slice_index basis j) past) ∙ ring_ℚ (inverse_entry value s k j ∷ []) (number (pos 0) ⊠ v0) (number (pos 0)) refl)
-            ∙ sum_ℚ-zero p.columns))
-
-    apart : (j k : ℕ) → j < k → k < p.columns → slice_index basis j ≢ slice_index basis k
-    apart j k ljk lk same =
-        let lj : j < p.columns = omega arith in
-        let other : k ≢ j = λ e. omega arith in
-        one-zero (
-        sym (if-same j j (whole (pos 1)) (whole (pos 0)) refl) ∙ sym (inv.left j j lj lj)
-        ∙ ap (λ i. sum_ℚ p.columns (λ m. (sample value p).x i m *ℚ inverse_entry value s m j)) same
-        ∙ inv.left k j lk lj ∙ if-other k j (whole (pos 1)) (whole (pos 0)) other)
+    none : (i k : ℕ) → length p.rows ≤ i → (sample value p).x i k ≡ whole (pos 0)
+    none i k past = ap (λ (o : Option (Row F)). option_map_or (λ r. value_at value r.x k) o (whole (pos 0))) (slice_get_past p.rows i past)
 
 -- the inverse is 0 outside
 pub ends_of : {F : Type 0} (value : F → Fraction) (p : Problem F) (basis : List ℕ) (s : Square F) → IsInverseOf value p basis s → EndsAt p.columns (inverse_entry value s)
-ends_of {F} value p basis s h k j h' = by (cases_lt j (length s.columns))
-  where
-    by : (j < length s.columns) ⊎ (length s.columns ≤ j) → inverse_entry value s k j ≡ whole (pos 0)
-    by (inr past) = ap (λ (o : Option (List F)). option_map_or (λ xs. value_at value xs k) o (whole (pos 0))) (slice_get_past s.columns j past)
-    by (inl lj) =
-        let long : length (get_or s.columns j []) ≡ length s.columns = h.inverse.square j [] lj in
-        let past : length (get_or s.columns j []) ≤ k = at (cases_lt k p.columns) long in
-        ap (λ (o : Option (List F)). option_map_or (λ xs. value_at value xs k) o (whole (pos 0))) (slice_get-get_or s.columns j [] lj)
-        ∙ ap (λ (o : Option F). option_map_or (λ v. rational (value v)) o (whole (pos 0))) (slice_get_past (get_or s.columns j []) k past)
-      where
-        at : (k < p.columns) ⊎ (p.columns ≤ k) → length (get_or s.columns j []) ≡ length s.columns → length (get_or s.columns j []) ≤ k
-        at (inl lk) e = absurd (h' (lk, omega (arith, h.square)))
-        at (inr past) e = omega (arith, h.square)
+ends_of value p basis s h k j out = beyond_ends (λ v. rational (value v)) s.columns p.columns k j h.square h.inverse.square out
 
 -- what holds of a row that was read holds of the row of its number
 pub at_read : {F : Type 0} (value : F → Fraction) (p : Problem F) (i : ℕ) (r : Row F) (xs : List F) → IsRead p i r xs → (P : ℕ → (ℕ → ℚ) → Type 0) → P (length xs) (value_at value xs) → P p.columns ((sample value p).x i)

@@ -13,4 +13,6 @@ mod helpers;
 #[cfg(test)]
 mod limits;
 #[cfg(test)]
+mod wide;
+#[cfg(test)]
 mod worked;

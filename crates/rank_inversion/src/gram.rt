@@ -19,6 +19,7 @@ use loss_model::{
 };
 use rank_law::laws;
 use std::alloc::Global;
+use whole_start::greedy_start;
 
 /// The inverse of the Gram matrix of the weighted columns of a problem, by which every column is projected
 /// on the others; and the greedy start of its rows, by position.
@@ -242,7 +243,9 @@ fn gram_stop<F: Exact>(
 /// Inverts the Gram matrix of the weighted columns, by the greedy start of its rows, which are taken in
 /// order (normal equations of weighted least squares).
 ///
-/// An overflow of a weighted entry or of an entry of the matrix carries a trail whose lists are empty, one of
+/// The start is made in whole numbers, whose numerators stay as short as the determinants of the matrix, and where these
+/// refuse, as with an entry of more than 64 bits, in fractions, whose entries under way may be far wider than those of the
+/// inverse. An overflow of a weighted entry or of an entry of the matrix carries a trail whose lists are empty, one of
 /// the start of the Gram rows the start that was reached. `Dependent` comes where the columns are dependent.
 pub fn gram_inverse<F: Exact>(
     alloc: Global,
@@ -258,7 +261,7 @@ pub fn gram_inverse<F: Exact>(
         Ok(gram) => gram,
         Err(short) => return Err(early_stop(alloc, problem, short)),
     };
-    match start(alloc, &gram) {
+    match greedy_start(alloc, &gram) {
         Ok(started) => Ok(GramInverse {
             inverse: started.inverse,
             basis: started.basis,

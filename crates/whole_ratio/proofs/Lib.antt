@@ -2,4 +2,3 @@ pub mod Signs
 pub mod Movers
 pub mod Ties
 pub mod FirstLaws
-pub mod ValueLists

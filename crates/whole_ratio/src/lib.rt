@@ -8,7 +8,5 @@
 mod first;
 mod line;
 mod order;
-mod values;
 
 pub use line::{Line, Mover};
-pub use values::{value_over, values_over};

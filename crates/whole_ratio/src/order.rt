@@ -7,10 +7,10 @@ ghost use Rattle.basis_model.specs.Basis.{coord, coefficient};
 ghost use Rattle.whole_ratio.specs.Lines.{IsLine, IsMover, model, at_of, inverse_at, is_moving, comes_before, IsRowValues};
 
 use crate::line::{Line, Mover};
-use crate::values::{value_over, values_over};
 use frac_core::{Exact, List};
 use lex_rule::{Ratio, lex_less};
 use std::alloc::Global;
+use whole_fractions::{value_over, values_over};
 use whole_inverse::Obstacle;
 use wide_int::Natural;
 

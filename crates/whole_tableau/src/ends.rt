@@ -16,15 +16,14 @@ ghost use Rattle.whole_tableau.specs.Ends.{IsLossPart, AreLosses, IsEndAt};
 
 use crate::body::WholeTableau;
 use crate::refusal::failure;
-use crate::values::value_under;
 use crate::vertex::DualParts;
 use basis_model::Part;
 use frac_core::{Exact, List};
 use fraction_tableau::{ascending, by_row};
 use loss_model::{Basis, Segment, Vertex};
 use tableau_model::Failure;
+use whole_fractions::{value_over, value_under};
 use whole_inverse::{Obstacle, product};
-use whole_ratio::value_over;
 use whole_solution::{WholeSolution, row_bounds};
 
 /// The loss at a basis, which at theta is `constant + linear * theta`.

@@ -12,7 +12,6 @@ mod parts;
 mod refusal;
 mod setting;
 mod solving;
-mod values;
 mod vertex;
 mod walking;
 

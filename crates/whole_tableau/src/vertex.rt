@@ -14,13 +14,12 @@ ghost use Rattle.whole_tableau.specs.Values.{AreParts};
 
 use crate::body::WholeTableau;
 use crate::refusal::{failure, obstacle_of};
-use crate::values::{scaled, values_under};
 use frac_core::{Exact, List};
 use fraction_tableau::{ascending, by_row, duals_at};
 use loss_model::{Basis, Vertex};
 use tableau_model::{Failure, Fitted};
+use whole_fractions::{scaled, value_over, values_under};
 use whole_inverse::Obstacle;
-use whole_ratio::value_over;
 use whole_solution::WholeSolution;
 
 /// The two parts of the dual values of the basis by position, which at theta are `constant + linear * theta`.

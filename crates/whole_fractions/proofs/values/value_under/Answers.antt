@@ -3,7 +3,7 @@ use Rattle.std.proofs.Common.{rules, ◌≡◌, ap, ◌∙◌}
 use Rattle.exact_algebra.specs.Fraction.{rational}
 use Rattle.exact_algebra.specs.Rational.{◌*ℚ◌, inverse}
 use Rattle.whole_inverse.specs.Shares.{share}
-use Rattle.whole_tableau.proofs.values.value_under.Goals as goal
+use Rattle.whole_fractions.proofs.values.value_under.Goals as goal
 
 pub returns-in-Ok : goal.returns-in-Ok
 returns-in-Ok g c =

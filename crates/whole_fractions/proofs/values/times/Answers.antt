@@ -3,7 +3,7 @@ use Rattle.std.proofs.Common.{rules, ◌≡◌, ap, ◌∙◌}
 use Rattle.exact_algebra.specs.Fraction.{rational}
 use Rattle.exact_algebra.specs.Rational.{◌*ℚ◌}
 use Rattle.whole_rows.specs.Wholes.{factor_value}
-use Rattle.whole_tableau.proofs.values.times.Goals as goal
+use Rattle.whole_fractions.proofs.values.times.Goals as goal
 
 pub returns-in-Ok : goal.returns-in-Ok
 returns-in-Ok g c =

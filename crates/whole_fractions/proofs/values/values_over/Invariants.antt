@@ -1,7 +1,7 @@
 use Rattle.std.proofs.Common.{◌≡◌, ℕ, ◌<◌, length}
 use Rattle.loss_model.specs.Problem.{value_at}
 use Rattle.whole_inverse.specs.Shares.{share_at}
-use Rattle.whole_ratio.proofs.values.values_over.Given as goal
+use Rattle.whole_fractions.proofs.values.values_over.Given as goal
 
 abbrev pub invariant-loop-i : goal.invariant-loop-i
 invariant-loop-i g l = record {

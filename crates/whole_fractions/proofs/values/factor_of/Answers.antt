@@ -8,7 +8,7 @@ use Rattle.exact_algebra.proofs.RationalLaws.{*ℚ-inverse}
 use Rattle.exact_algebra.proofs.Inverses.{one-zero}
 use Rattle.whole_rows.specs.declared.factor.Factor.{Factor}
 use Rattle.whole_rows.specs.Wholes.{factor_value}
-use Rattle.whole_tableau.proofs.values.factor_of.Goals as goal
+use Rattle.whole_fractions.proofs.values.factor_of.Goals as goal
 
 pub returns-else-k-factors : goal.returns-else-k-factors
 returns-else-k-factors c =

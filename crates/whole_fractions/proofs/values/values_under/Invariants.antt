@@ -3,7 +3,7 @@ use Rattle.exact_algebra.specs.Fraction.{rational}
 use Rattle.exact_algebra.specs.Rational.{◌*ℚ◌, inverse}
 use Rattle.loss_model.specs.Problem.{value_at}
 use Rattle.whole_inverse.specs.Shares.{share_at}
-use Rattle.whole_tableau.proofs.values.values_under.Given as goal
+use Rattle.whole_fractions.proofs.values.values_under.Given as goal
 
 abbrev pub invariant-loop-i : goal.invariant-loop-i
 invariant-loop-i g l = record {

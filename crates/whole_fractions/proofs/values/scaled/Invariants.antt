@@ -2,7 +2,7 @@ use Rattle.std.proofs.Common.{◌≡◌, ℕ, ◌<◌, length}
 use Rattle.exact_algebra.specs.Rational.{◌*ℚ◌}
 use Rattle.loss_model.specs.Problem.{value_at}
 use Rattle.whole_rows.specs.Wholes.{factor_at}
-use Rattle.whole_tableau.proofs.values.scaled.Given as goal
+use Rattle.whole_fractions.proofs.values.scaled.Given as goal
 
 abbrev pub invariant-loop-k : goal.invariant-loop-k
 invariant-loop-k g l = record {

@@ -1,0 +1,2 @@
+mod ValueLists
+pub mod Inverses
