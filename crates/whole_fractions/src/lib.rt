@@ -5,8 +5,10 @@
 //! stands on `whole_inverse` and `whole_rows` for the whole numbers, and on `basis_inverse` for the inverse in fractions.
 #![tactic(auto)]
 
+mod sums;
 mod inverse;
 mod values;
 
+pub use sums::{affine, affine_values};
 pub use inverse::fraction_inverse;
 pub use values::{scaled, value_over, value_under, values_over, values_under};
