@@ -8,6 +8,7 @@
 //! Its tests stand in the crate `ground_tests`.
 #![tactic(auto)]
 
+mod arith;
 mod bounded;
 mod digits;
 mod divisor;
@@ -22,6 +23,7 @@ mod number_writer;
 mod parts;
 mod text;
 
+pub use arith::{Arith, ArithOp};
 pub use exact::{Exact, Op, OpKind};
 pub use frac64::Frac64;
 pub use frac128::Frac128;
