@@ -17,14 +17,14 @@ use Rattle.tableau_model.specs.Places.{Place}
 use Rattle.tableau.specs.declared.solving.Solution.{Solution}
 use Rattle.tableau.specs.Bodies.{place_of, IsTaken}
 use Rattle.tableau.specs.Solving.{IsSolution as IsFound}
-use Rattle.br_pivot.specs.declared.solve.Optimum.{Optimum}
+use Rattle.br_pivot.specs.declared.solve.Solved.{Solved}
 use Rattle.br_pivot.specs.Answers.{IsOptimum}
 
 module _ {F : Type 0} (value : F → Fraction) (theta : ℚ) (limit : ℕ) (s : Solution F) (basis : Basis) (square : Square F) where
   abbrev p : Problem F
   p = (place_of value s.reached.tableau).task.problem
 
-  abbrev made : Optimum F
+  abbrev made : Solved F
   made = record { vertex = s.fitted.vertex; basic = s.fitted.basic; inverse = square; basis = basis; trail = s.reached.trail }
 
   -- what holds of the rows and the inverse of the place holds of those that were taken

@@ -12,21 +12,21 @@ use Rattle.basis_inverse.specs.Square.{inverse_entry}
 use Rattle.pivot_rule.specs.Duals.{HasCosts}
 use Rattle.pivot_rule.proofs.Solved.{full_rank}
 use Rattle.pivot_rule.proofs.Unique.{one_trail}
-use Rattle.br_pivot.specs.declared.solve.Optimum.{Optimum}
+use Rattle.br_pivot.specs.declared.solve.Solved.{Solved}
 use Rattle.br_pivot.specs.Answers.{IsOptimum, IsAnswer}
 use Rattle.br_pivot.specs.Solutions.{IsSolution}
 use Rattle.br_pivot.specs.Solves.{IsLimited, IsLimitAnswer}
 use Rattle.fraction_tableau.proofs.Inverses.{basis_of, ends_of}
 
 module _ {F : Type 0} (value : F → Fraction) (range : ℕ) (p : Problem F) (theta : ℚ) (limit : ℕ) where
-  solution_limited : (s : Optimum F) → HasCosts (sample value p) theta → IsSolution value p theta s → length s.trail.steps ≤ limit → ¬ IsLimited value (sample value p) theta limit
+  solution_limited : (s : Solved F) → HasCosts (sample value p) theta → IsSolution value p theta s → length s.trail.steps ≤ limit → ¬ IsLimited value (sample value p) theta limit
   solution_limited s costs h short (trail, reached) =
       one_trail value (sample value p) theta costs s.trail trail s.basis.rows limit h.lawful
       (record { size = h.inverse.size; a = inverse_entry value s.inverse; is_basis = basis_of value p s.basis.rows s.inverse h.inverse; ends = ends_of value p s.basis.rows s.inverse h.inverse; holds = h.stop })
       short reached
 
   -- a solution within the limit is an answer
-  pub optimum_answers : HasCosts (sample value p) theta → (s : Optimum F) → IsOptimum value p theta limit s → IsAnswer value range p theta limit (Ok s)
+  pub optimum_answers : HasCosts (sample value p) theta → (s : Solved F) → IsOptimum value p theta limit s → IsAnswer value range p theta limit (Ok s)
   optimum_answers costs s h = record { optimum = h; stopped = tt; limited = solution_limited s costs h.solution h.short }
 
   -- and so is the stop of a start

@@ -6,18 +6,18 @@ use Rattle.exact_algebra.specs.Rational.{ℚ}
 use Rattle.loss_model.specs.declared.problem.Problem.{Problem}
 use Rattle.loss_model.specs.declared.stop.Stop.{Stop}
 use Rattle.loss_model.specs.Problem.{sample}
-use Rattle.br_pivot.specs.declared.solve.Optimum.{Optimum}
+use Rattle.br_pivot.specs.declared.solve.Solved.{Solved}
 use Rattle.br_pivot.specs.Solutions.{IsSolution}
 use Rattle.br_pivot.specs.Solves.{IsSolveStop, IsLimited, IsLimitAnswer}
 
 module _ {F : Type 0} (value : F → Fraction) where
   -- a solution within the limit
-  pub record IsOptimum (p : Problem F) (theta : ℚ) (limit : ℕ) (s : Optimum F) : Type 0 where
+  pub record IsOptimum (p : Problem F) (theta : ℚ) (limit : ℕ) (s : Solved F) : Type 0 where
     pub solution : IsSolution value p theta s
     pub short : length s.trail.steps ≤ limit
 
   -- such a solution, or a stop with its cause; and neither a solution nor a dependence where a trail reaches the limit
-  pub record IsAnswer (range : ℕ) (p : Problem F) (theta : ℚ) (limit : ℕ) (r : Result (Optimum F) (Stop F)) : Type 0 where
+  pub record IsAnswer (range : ℕ) (p : Problem F) (theta : ℚ) (limit : ℕ) (r : Result (Solved F) (Stop F)) : Type 0 where
     pub optimum : IfOk r (IsOptimum p theta limit)
     pub stopped : IfErr r (IsSolveStop value range p theta limit)
     pub limited : IsLimited value (sample value p) theta limit → IsLimitAnswer r

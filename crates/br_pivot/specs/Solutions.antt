@@ -12,12 +12,12 @@ use Rattle.pivot_rule.specs.Steps.{HasNoNegativeSlope}
 use Rattle.pivot_rule.specs.Trails.{IsSolvingTrail}
 use Rattle.pivot_rule.specs.Results.{IsVertexAt, AreBasicDuals}
 use Rattle.fraction_tableau.specs.Inverses.{IsInverseOf}
-use Rattle.br_pivot.specs.declared.solve.Optimum.{Optimum}
+use Rattle.br_pivot.specs.declared.solve.Solved.{Solved}
 
 -- an optimal solution at theta: the coefficients minimise, the dual values of all rows, by the sides
 -- and the basic values, are feasible and of equal cost; and they are those of the basis to which the
 -- lawful trail leads, at which no step is left
-pub record IsSolution {F : Type 0} (value : F → Fraction) (p : Problem F) (theta : ℚ) (s : Optimum F) : Type 0 where
+pub record IsSolution {F : Type 0} (value : F → Fraction) (p : Problem F) (theta : ℚ) (s : Solved F) : Type 0 where
   pub minimises : Minimises (sample value p) theta (value_at value s.vertex.coef)
   pub dual : IsDual (sample value p) theta (value_at value s.vertex.coef) (dual_value value p s.vertex s.basic theta)
   pub lawful : IsSolvingTrail value (sample value p) theta s.trail s.basis.rows

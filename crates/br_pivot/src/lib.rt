@@ -10,4 +10,4 @@
 
 mod solve;
 
-pub use solve::{Optimum, solve_at};
+pub use solve::{Solved, solve_at};

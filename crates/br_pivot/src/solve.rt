@@ -20,7 +20,7 @@ use whole_inverse::Obstacle;
 /// An optimal vertex with the dual values of its basic rows, ascending; and how it was reached: the
 /// basis by position, its inverse, and the trail that leads to it.
 #[derive(Drop)]
-pub struct Optimum<F: Exact> {
+pub struct Solved<F: Exact> {
     pub vertex: Vertex<F>,
     pub basic: List<F>,
     pub inverse: Inverse<F>,
@@ -33,7 +33,7 @@ fn with_inverse<'a, F: Exact>(
     solution: Solution<'a, F>,
     theta: F,
     limit: u32,
-) -> Result<Optimum<F>, Halt<F>>
+) -> Result<Solved<F>, Halt<F>>
     requires costs { HasCosts (sample_of F.value (place_of F.value solution.reached.tableau)) (rational (F.value theta)) }
     requires solution { IsFound F.value (place_of F.value solution.reached.tableau).task (rational (F.value theta)) limit solution }
     ensures optimum { IfOk result (IsOptimum F.value (place_of F.value solution.entry.reached.tableau).task.problem (rational (F.value theta)) limit) }
@@ -43,7 +43,7 @@ fn with_inverse<'a, F: Exact>(
     let _limit = limit;
     let Solution { fitted, reached } = solution;
     match reached.tableau.into_parts() {
-        Ok((basis, inverse)) => Ok(Optimum {
+        Ok((basis, inverse)) => Ok(Solved {
             vertex: fitted.vertex,
             basic: fitted.basic,
             inverse,
@@ -59,7 +59,7 @@ fn optimum_from<'a, F: Exact>(
     begun: Progress<'a, F>,
     theta: F,
     limit: u32,
-) -> Result<Optimum<F>, Halt<F>>
+) -> Result<Solved<F>, Halt<F>>
     requires costs { HasCosts (sample_of F.value (place_of F.value begun.tableau)) (rational (F.value theta)) }
     requires begun { IsBegun F.value (place_of F.value begun.tableau).task begun }
     ensures optimum { IfOk result (IsOptimum F.value (place_of F.value begun.entry.tableau).task.problem (rational (F.value theta)) limit) }
@@ -77,7 +77,7 @@ fn solve_from<'a, F: Exact>(
     begun: Progress<'a, F>,
     theta: F,
     limit: u32,
-) -> Option<Result<Optimum<F>, Stop<F>>>
+) -> Option<Result<Solved<F>, Stop<F>>>
     requires costs { HasCosts (sample_of F.value (place_of F.value begun.tableau)) (rational (F.value theta)) }
     requires begun { IsBegun F.value (place_of F.value begun.tableau).task begun }
     ensures answer { IfSome result (IsAnswer F.value F.range (place_of F.value begun.entry.tableau).task.problem (rational (F.value theta)) limit) }
@@ -98,7 +98,7 @@ fn solve_in_wholes<F: Exact>(
     problem: &Problem<F>,
     theta: F,
     limit: u32,
-) -> Option<Result<Optimum<F>, Stop<F>>>
+) -> Option<Result<Solved<F>, Stop<F>>>
     requires shaped { IsWellShaped problem.now }
     requires costs { HasCosts (sample F.value problem.now) (rational (F.value theta)) }
     ensures { IfSome result (IsAnswer F.value F.range problem.now (rational (F.value theta)) limit) }
@@ -116,7 +116,7 @@ fn solve_in_fractions<F: Exact>(
     problem: &Problem<F>,
     theta: F,
     limit: u32,
-) -> Result<Optimum<F>, Stop<F>>
+) -> Result<Solved<F>, Stop<F>>
     requires shaped { IsWellShaped problem.now }
     requires costs { HasCosts (sample F.value problem.now) (rational (F.value theta)) }
     ensures { IsAnswer F.value F.range problem.now (rational (F.value theta)) limit result }
@@ -140,7 +140,7 @@ pub fn solve_at<F: Exact>(
     problem: &Problem<F>,
     theta: F,
     limit: u32,
-) -> Result<Optimum<F>, Stop<F>>
+) -> Result<Solved<F>, Stop<F>>
     requires shaped { IsWellShaped problem.now }
     requires costs { HasCosts (sample F.value problem.now) (rational (F.value theta)) }
     ensures solution { IfOk result (IsSolution F.value problem.now (rational (F.value theta))) }

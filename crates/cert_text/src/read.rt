@@ -153,7 +153,7 @@ fn parse(alloc: Global, bytes: &[u8]) -> Result<Value, CertFault>
 /// Reads the text of a certificate.
 ///
 /// The faults are looked for in this order. `NotJson` comes exactly where the bytes are no JSON in UTF-8, by
-/// `serde_json`, which takes at most 128 levels of nesting and the last value of a key that stands twice.
+/// `serde_json`, which takes at most 127 levels of nesting and the last value of a key that stands twice.
 /// `Shape` comes with an empty path where the top is no object, and with the path `/version` where it has no
 /// unsigned number there; `Version` where that isn't 1. Then every object is gone through key by key, in the
 /// order of their bytes, and every list item by item, and what a key has comes before the next key: `Shape`

@@ -1,4 +1,4 @@
--- Law. Dual values that complement numbers of the rows (complementary slackness; Koenker 2005, chapter 6),
+-- Stated. Dual values that complement numbers of the rows (complementary slackness; Koenker 2005, chapter 6),
 -- with no word on what the dual values weigh. The numbers are the residuals of coefficients, or how these
 -- change along a direction.
 use Rattle.std.specs.Prelude.{◌≡◌, ℕ, ◌<◌, pos}

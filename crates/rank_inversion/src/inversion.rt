@@ -19,7 +19,7 @@ use crate::column_test::{Asked, RankTest, rank_test};
 use crate::course::{Course, Way};
 use crate::gram::gram_inverse;
 use crate::walking::{Arrival, Walk, WalkHalt, walk_to_end};
-use br_pivot::{Optimum, solve_at};
+use br_pivot::{Solved, solve_at};
 use frac_core::{Exact, List, OutOfMemory};
 use fraction_tableau::FractionTableau;
 use loss_model::{Basis, Exchange, Interval, IntervalProof, Problem, Spill, Stop, Trail};
@@ -30,7 +30,7 @@ use std::alloc::Global;
 #[derive(Drop)]
 struct Inversion<'a, F: Exact> {
     problem: &'a Problem<F>,
-    solved: &'a Optimum<F>,
+    solved: &'a Solved<F>,
     asked: Asked<F>,
     bound: F,
     limit: u32,
@@ -40,7 +40,7 @@ struct Inversion<'a, F: Exact> {
 fn solved_basis<'a, F: Exact>(
     alloc: Global,
     problem: &'a Problem<F>,
-    solved: &Optimum<F>,
+    solved: &Solved<F>,
 ) -> Result<FractionTableau<'a, F>, OutOfMemory>
     requires { IsKept F.value (record { problem = problem.now; rows = solved.now.basis.rows; square = solved.now.inverse }) }
     ensures { IfOk result (λ t. t ≡ record { problem = problem.now; rows = solved.now.basis.rows; square = solved.now.inverse }) }
@@ -223,7 +223,7 @@ impl<'a, F: Exact> Inversion<'a, F> {
 pub fn interval_from<F: Exact>(
     alloc: Global,
     problem: &Problem<F>,
-    solved: &Optimum<F>,
+    solved: &Solved<F>,
     test: RankTest<F>,
     limit: u32,
 ) -> Result<Interval<F>, Stop<F>>

@@ -1,4 +1,4 @@
--- Law. Ends of a rank interval in ℚ, and what is known at an end: by the walk that leads to it, or by what
+-- Stated. Ends of a rank interval in ℚ, and what is known at an end: by the walk that leads to it, or by what
 -- a certificate states.
 use Rattle.std.specs.Prelude.{ℕ, pos}
 use Rattle.exact_algebra.specs.Rational.{ℚ, ◌*ℚ◌, whole, ◌≤ℚ◌}

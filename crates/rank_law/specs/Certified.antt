@@ -1,4 +1,4 @@
--- Law. What a certificate states of an interval, over the types of the program, and what that shows of the
+-- Stated. What a certificate states of an interval, over the types of the program, and what that shows of the
 -- values that hold, whoever wrote it.
 use Rattle.std.specs.Prelude.{◌≡◌, ℕ, ◌<◌, List, length, slice_get, slice_index, Some, pos, negsuc}
 use Rattle.exact_algebra.specs.Fraction.{Fraction, rational}

@@ -1,4 +1,4 @@
--- Law. The Gram matrix of the weighted columns, and the projection that its inverse gives: the normal
+-- Stated. The Gram matrix of the weighted columns, and the projection that its inverse gives: the normal
 -- equations of weighted least squares.
 use Rattle.std.specs.Prelude.{◌≡◌, ◌≢◌, ◌↔◌, ℕ, ◌<◌, ◌==◌, if◌then◌else◌, List, slice_index, pos}
 use Rattle.exact_algebra.specs.Rational.{ℚ, ◌*ℚ◌, neg_ℚ, inverse, whole}

@@ -1,4 +1,4 @@
--- Law. The inversion of a rank test (Koenker 2005, section 3.5; Gutenbrunner, Jurečková, Koenker and
+-- Stated. The inversion of a rank test (Koenker 2005, section 3.5; Gutenbrunner, Jurečková, Koenker and
 -- Portnoy 1993): a value xi of coefficient j is tested by the dual values of the fit of the other columns
 -- to the responses y - x_j * xi, which is the restricted problem. tau is the quantile, crit the critical
 -- value, and the weight of row i is up1 i.

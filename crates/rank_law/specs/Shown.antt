@@ -1,4 +1,4 @@
--- Law. What a certificate states of an end of an interval, in ℚ: coefficients b, a side for each row, dual
+-- Stated. What a certificate states of an end of an interval, in ℚ: coefficients b, a side for each row, dual
 -- values by these sides, and what lies beyond; and that this shows the end.
 use Rattle.std.specs.Prelude.{◌≡◌, ◌⊎◌, ℕ, ◌<◌, pos, negsuc}
 use Rattle.exact_algebra.specs.Rational.{ℚ, ◌*ℚ◌, neg_ℚ, whole, ◌≤ℚ◌}

@@ -1,4 +1,4 @@
--- Law. Breakpoints of the walks of an interval by what the column is to weigh, s, as they are computed.
+-- Stated. Breakpoints of the walks of an interval by what the column is to weigh, s, as they are computed.
 use Rattle.std.specs.Prelude.{◌≡◌, ◌↔◌, ℕ, ◌<◌, pos}
 use Rattle.exact_algebra.specs.Rational.{ℚ, ◌-ℚ◌, ◌*ℚ◌, neg_ℚ, inverse, whole}
 use Rattle.loss_model.specs.Sample.{Sample, up_cost, down_cost}

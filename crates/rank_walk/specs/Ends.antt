@@ -1,4 +1,4 @@
--- Law. What a walk of an interval hands out at its end, over the types of the program: the vertex of its
+-- Stated. What a walk of an interval hands out at its end, over the types of the program: the vertex of its
 -- last basis, dual values of the basic rows, and what lies beyond.
 use Rattle.std.specs.Prelude.{◌≡◌, ℕ, ◌<◌, false, List, length, slice_index}
 use Rattle.exact_algebra.specs.Fraction.{Fraction, rational}

@@ -1,4 +1,4 @@
--- Law. Rank intervals by their lawful trails: the fit to all columns, the rising walk and the falling one
+-- Stated. Rank intervals by their lawful trails: the fit to all columns, the rising walk and the falling one
 -- from it, and what they hand out; and that such an interval is exact.
 use Rattle.std.specs.Prelude.{◌↔◌, ℕ, ◌<◌, List, length, slice_index, pos}
 use Rattle.exact_algebra.specs.Fraction.{Fraction, rational}

@@ -1,4 +1,4 @@
--- Law. The walks of a rank interval over the bases of a problem (Koenker 2005, section 3.5): the rising one
+-- Stated. The walks of a rank interval over the bases of a problem (Koenker 2005, section 3.5): the rising one
 -- gives the high end, and the falling one the low end.
 use Rattle.std.specs.Prelude.{◌≡◌, ◌↔◌, ℕ, ◌<◌, false, pos, negsuc}
 use Rattle.exact_algebra.specs.Rational.{ℚ, ◌*ℚ◌, whole, ◌≤ℚ◌}

@@ -13,7 +13,7 @@ ghost use Rattle.rq_fit.specs.Asks.{IsInner};
 ghost use Rattle.rq_fit.specs.Intervals.{AreRightIntervals, asked_at, asked_over, IsFirstStop, IsRightInterval};
 ghost use Rattle.rq_fit.specs.RankProblems.{IsRankable, IsRankProblem};
 
-use br_pivot::{Optimum, solve_at};
+use br_pivot::{Solved, solve_at};
 use frac_core::{Exact, List, OutOfMemory};
 use loss_model::{Interval, Problem, Stop};
 use rank_inversion::{Asked, GramInverse, gram_inverse, interval_from, rank_test};
@@ -53,7 +53,7 @@ impl<'a, F: Exact> RankProblem<'a, F> {
     fn of_column(
         &self,
         alloc: Global,
-        solved: &Optimum<F>,
+        solved: &Solved<F>,
         asked: Asked<F>,
     ) -> Result<Interval<F>, Stop<F>>
         requires ready { IsRankProblem F.value self.now }
@@ -78,7 +78,7 @@ impl<'a, F: Exact> RankProblem<'a, F> {
         &self,
         alloc: Global,
         tau: F,
-        solved: &Optimum<F>,
+        solved: &Solved<F>,
     ) -> Result<List<Interval<F>>, IntervalStop<F>>
         requires ready { IsRankProblem F.value self.now }
         requires tau { IsInner (rational (F.value tau)) }

@@ -6,7 +6,7 @@
 use crate::bodies::in_wholes;
 use crate::digest::digest_of;
 use crate::helpers::{Ratio, draw, expect, fraction, ratio, solve, walk};
-use br_pivot::Optimum;
+use br_pivot::Solved;
 use frac_core::{Exact, Frac128, List};
 use loss_model::{Problem, Process, Row};
 use std::alloc::{AllocError, Global};
@@ -88,7 +88,7 @@ static BASIC: [Ratio; 10] = [
     (11117588799420701660123670157, 55359008019870615168204574394),
 ];
 
-fn median(rt: &impl Abort, alloc: Global) -> Result<Optimum<Frac128>, AllocError> {
+fn median(rt: &impl Abort, alloc: Global) -> Result<Solved<Frac128>, AllocError> {
     let table = drawn_table(rt, alloc, 10)?;
     match solve(rt, alloc, &table, fraction(rt, (1, 2)), 1000) {
         Ok(solved) => Ok(solved),

@@ -1,7 +1,7 @@
 //! Solves worked by hand: a trail of two pivots under each limit, overflows, and dependent columns.
 
 use crate::helpers::{Data, Ratio, expect, fraction, problem, ratio, solve};
-use br_pivot::Optimum;
+use br_pivot::Solved;
 use frac_core::{Exact, Frac64, Frac128, OpKind};
 use loss_model::{Quantity, Side, Site, Stop, Trail};
 use std::alloc::{AllocError, Global};
@@ -60,7 +60,7 @@ static BESIDE: [Side; 6] = [
     Side::Basic,
 ];
 
-fn expect_apart<F: Exact>(rt: &impl Abort, solved: &Optimum<F>, theta: F) {
+fn expect_apart<F: Exact>(rt: &impl Abort, solved: &Solved<F>, theta: F) {
     expect_trail(rt, &solved.trail, theta, &BOTH);
     assert!(rt; solved.basis.rows.as_slice() == [5, 3].as_slice());
     assert!(rt; solved.vertex.basis.rows.as_slice() == [3, 5].as_slice());

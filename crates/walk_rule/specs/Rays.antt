@@ -1,4 +1,4 @@
--- Law. Where a walk of a tested value ends without a row that moves towards 0: the direction in which the
+-- Stated. Where a walk of a tested value ends without a row that moves towards 0: the direction in which the
 -- coefficients may go on for ever.
 use Rattle.std.specs.Prelude.{ℕ}
 use Rattle.exact_algebra.specs.Rational.{ℚ, ◌*ℚ◌, neg_ℚ, inverse}

@@ -9,5 +9,5 @@ mod limit;
 mod rows;
 
 pub use factor::Factor;
-pub use limit::{limit_of, response_limit_of};
+pub use limit::limit_of;
 pub use rows::{WholeProblem, WholeRow, whole_problem};

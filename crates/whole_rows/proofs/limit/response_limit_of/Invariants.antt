@@ -1,6 +1,0 @@
-use Rattle.std.proofs.Common.{◌≡◌, ℕ, ◌<◌, ◌≤◌, unsigned_abs, get_or}
-use Rattle.whole_rows.specs.declared.rows.WholeRow.{WholeRow}
-use Rattle.whole_rows.proofs.limit.response_limit_of.Given as goal
-
-abbrev pub invariant-loop-i : goal.invariant-loop-i
-invariant-loop-i l = (j : ℕ) (r : WholeRow) → j < l.i → unsigned_abs (get_or l.rows j r).y ≤ l.top
