@@ -4,3 +4,8 @@ pub mod Parsed
 pub mod Products
 pub mod Sound
 pub mod Inputs
+pub mod GeneratedRecords
+pub mod GeneratedCells
+pub mod GeneratedFormula
+pub mod GeneratedDesign
+pub mod GeneratedInputs
