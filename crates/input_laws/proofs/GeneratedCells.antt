@@ -1,11 +1,10 @@
 -- The bytes of a generated table are a table without a fault, all of whose columns are numbers in every record.
-use Rattle.std.proofs.Common.{◌≡◌, ◌≢◌, ◌⊎◌, ℕ, zero, suc, ◌+◌, ◌*◌, ◌-◌, ◌^◌, ◌<◌, ◌≤◌, ◌==◌, ◌&&◌, Bool, true, false, cond, pos, unsigned_abs, nat_lt, is_some, IsAscii, List, [], ◌∷◌, ◌++◌, Option, Some, None, Result, Ok, Err, is_ok, map, length, take, get_or, codes, decimal, arith, lit<, refl, sym, ap, ap₂, subst, ◌∙◌}
+use Rattle.std.proofs.Common.{◌≡◌, ℕ, zero, suc, ◌+◌, ◌*◌, ◌-◌, ◌^◌, ◌<◌, ◌≤◌, Bool, true, false, pos, unsigned_abs, nat_lt, is_some, List, [], ◌∷◌, ◌++◌, Option, Some, None, Ok, map, length, take, get_or, codes, decimal, arith, lit<, refl, sym, ap, subst, ◌∙◌}
 use Rattle.std.specs.List.{AllByRecursion, list_all, list_any, range_with_len}
-use Rattle.std.specs.Option.{option_or}
 use Rattle.std.specs.Str.{bytes_eq, is_utf8}
 use Rattle.std.specs.Str.Parse.{AllDigits}
 use Rattle.std.proofs.lemmas.Bool.{false_from_ne_true, ltb-true, ne_eqb}
-use Rattle.std.proofs.lemmas.Fmt.{IsAscii-decimal, decimal_injective, decimal_is_IsNumeral, decimal_nonempty}
+use Rattle.std.proofs.lemmas.Fmt.{IsAscii-decimal, decimal_injective, decimal_is_IsNumeral}
 use Rattle.std.proofs.lemmas.List.{length-map, take_all}
 use Rattle.std.proofs.lemmas.List.FromFn.{get_or-map-range_with_len, length-map-range_with_len, map-range_with_len_more}
 use Rattle.std.proofs.lemmas.Slice.Eq.{bytes_eq-Decides}
@@ -22,10 +21,9 @@ use Rattle.frac_core.proofs.NumberLaws.{reads_back}
 use Rattle.data_frame.specs.Cells.{ColumnOf, numbers, factor, too_wide, bare, column_of, is_blank, is_missing, number_in, number_or_none, some_number, without_leading_blanks, without_trailing_blanks}
 use Rattle.data_frame.specs.Columns.{cell_at, cells_at, columns_from}
 use Rattle.data_frame.specs.Faults.{first_fault, header_fault, name_fault, names_fault, rows_fault}
-use Rattle.data_frame.specs.Records.{Row, Text, are_text, records_of}
+use Rattle.data_frame.specs.Records.{Text, are_text, records_of}
 use Rattle.data_frame.specs.Tables.{TableOf, table_of_records, table_under}
 use Rattle.data_frame.specs.Tables.{table_of as table_of_bytes}
-use Rattle.data_frame.specs.declared.fault.TableFault.{TableFault}
 use Rattle.data_frame.proofs.Blanks.{no_leading_blank, no_trailing_blank}
 use Rattle.data_frame.proofs.Faults.{whole}
 use Rattle.data_frame.proofs.Numeric.{holds_number, number_column}
@@ -121,9 +119,9 @@ sound number rows n few narrow = rw (header_sound n narrow) (rows_sound number n
 abbrev pub generated_table : ℕ → ℕ → ℕ → TableOf ℚ
 generated_table number rows n = table_under (header_fields n) (map (record_fields number n) (range_with_len 0 rows))
 
-pub is_table : (number rows n : ℕ) → rows ≤ most_rows → suc n ≤ 100 → table_of_bytes (table_of number rows (suc n)) ≡ Ok (generated_table number rows (suc n))
+pub is_table : (number rows n : ℕ) → rows ≤ most_rows → n ≤ 100 → table_of_bytes (table_of number rows n) ≡ Ok (generated_table number rows n)
 unfolding records_of table_of_records
-is_table number rows n few narrow = rw (read_records number rows n narrow, sound number rows (suc n) few narrow) refl
+is_table number rows n few narrow = rw (read_records number rows n narrow, sound number rows n few narrow) refl
 
 -- ---- cells
 

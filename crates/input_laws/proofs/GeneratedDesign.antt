@@ -1,8 +1,7 @@
 -- Where all columns of a table are numbers in every record, and every term is one of them, there is nothing wrong with
 -- the design.
-use Rattle.std.proofs.Common.{◌≡◌, ◌≢◌, ℕ, zero, suc, ◌+◌, ◌*◌, ◌/◌, ◌<◌, ◌≤◌, ◌==◌, ◌&&◌, Bool, true, false, cond, All, is_some, List, [], ◌∷◌, ◌++◌, Option, Some, None, map, length, get_or, filter, codes, option_map, option_and_then, position, slice_get, unwrap_or, flat_map, nat_lt, not, pos, arith, inl, inr, refl, sym, ap, ap₂, subst, ◌∙◌}
-use Rattle.std.specs.List.{AllByRecursion, list_all, position_or_len, range_with_len}
-use Rattle.std.specs.Option.{option_or}
+use Rattle.std.proofs.Common.{◌≡◌, ◌≢◌, ℕ, zero, suc, ◌+◌, ◌/◌, ◌<◌, ◌≤◌, Bool, true, false, is_some, List, [], ◌∷◌, ◌++◌, Option, Some, None, map, length, get_or, filter, codes, option_map, position, unwrap_or, flat_map, nat_lt, pos, arith, inl, inr, refl, sym, ap, subst, ◌∙◌}
+use Rattle.std.specs.List.{AllByRecursion, position_or_len, range_with_len}
 use Rattle.std.specs.Ordering.{is_lt, is_ne}
 use Rattle.std.specs.Str.{bytes_eq}
 use Rattle.std.proofs.lemmas.Bool.{cases_Bool, false_from_ne_true, lt-ltb, ltb-true, ne_eqb}
@@ -24,12 +23,12 @@ use Rattle.formula_parser.specs.Scope.{name_at}
 use Rattle.formula_parser.specs.declared.formula.Formula.{Formula}
 use Rattle.formula_parser.specs.declared.formula.Term.{Term}
 use Rattle.formula_parser.specs.declared.formula.Variable.{Variable}
-use Rattle.design_matrix.specs.Cells.{Column, Table, column_of, is_complete, is_kept, is_present, kept, used_names, weight_sign, weights_in}
+use Rattle.design_matrix.specs.Cells.{Column, Table, column_of, is_complete, is_kept, is_present, kept, used_names, weight_sign}
 use Rattle.design_matrix.specs.CodedVariable.{CodedVariable, coded_term, coded_terms, coded_variable, values_in, width, width_in}
 use Rattle.design_matrix.specs.Designs.{OverflowsFirst}
 use Rattle.design_matrix.specs.Faults.{HasCause, factor_fault, fault_of, late_fault, levels_fault, rows_fault, terms_fault, used_fault, weight_fault, weights_fault, wide_fault, widths_fault}
 use Rattle.design_matrix.specs.Lists.{each, first_some}
-use Rattle.design_matrix.specs.Parts.{Part, chosen, columns_in, columns_of, count, factors, term_columns}
+use Rattle.design_matrix.specs.Parts.{Part, chosen, columns_in, columns_of, count, term_columns}
 use Rattle.design_matrix.specs.declared.fault.DesignFault.{DesignFault}
 use Rattle.design_matrix.specs.declared.fault.DesignFault.TheVariants as designs
 use Rattle.loss_model.specs.declared.spill.Spill.{Spill}

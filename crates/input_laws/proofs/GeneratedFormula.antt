@@ -1,5 +1,5 @@
 -- The formula of a generated table, over its names: the response on all other columns.
-use Rattle.std.proofs.Common.{◌≡◌, ◌≢◌, ℕ, zero, suc, ◌+◌, ◌<◌, ◌≤◌, ◌==◌, ◌&&◌, not, Bool, true, false, cond, All, List, [], ◌∷◌, ◌++◌, Option, Some, None, Result, Ok, Err, map, length, get_or, drop, take, zip, filter, codes, arith, refl, sym, ap, subst, ◌∙◌, append-nil, take-append-drop}
+use Rattle.std.proofs.Common.{◌≡◌, ◌≢◌, ℕ, zero, suc, ◌+◌, ◌<◌, ◌≤◌, ◌==◌, not, Bool, true, false, All, List, [], ◌∷◌, ◌++◌, Some, None, Ok, map, length, drop, take, filter, codes, arith, refl, sym, ap, subst, ◌∙◌, append-nil, take-append-drop}
 use Rattle.std.specs.List.{list_any, range_with_len}
 use Rattle.std.proofs.lemmas.Bool.{eq-eqb, lt-ltb, ne_eqb}
 use Rattle.std.proofs.lemmas.List.{length-map}
@@ -7,20 +7,17 @@ use Rattle.std.proofs.lemmas.List.Elements.{All-cons, All-map, All-nil}
 use Rattle.std.proofs.lemmas.List.FromFn.{length-range_with_len, map-range_with_len_more}
 use Rattle.std.proofs.lemmas.List.Sorted.{All-permutation, length_permutation}
 use native.Mathlib.Decide.{dec_lt}
-use Rattle.formula_grammar.specs.Codes.{has_intercept, items_code, smooths_of}
-use Rattle.formula_grammar.specs.Faults.{IsCleanBelow, IsFaultAt, IsFormula, NoFormulaHasFaults, limit_at}
+use Rattle.formula_grammar.specs.Codes.{has_intercept, smooths_of}
+use Rattle.formula_grammar.specs.Faults.{IsCleanBelow, IsFormula, NoFormulaHasFaults, limit_at}
 use Rattle.formula_grammar.specs.Grammar.{Begins, OneFormula, Start, Bare, One, Lone, Plain, Dot, formula_tokens}
 use Rattle.formula_grammar.specs.Grammar.{Formula as Tree, Term as term_item}
 use Rattle.formula_grammar.specs.Tokens.{name_or_word, tokens}
-use Rattle.formula_grammar.specs.declared.fault.ReadFault.{ReadFault}
 use Rattle.formula_grammar.specs.declared.fault.ReadFault.TheVariants as read_fault
 use Rattle.formula_parser.specs.Parsed.{IsFault, IsParsed, meaning_of, meant_smooth, members, spoken_term, spoken_variable, told_smooth, variables_in, others_of, unknown_name}
 use Rattle.formula_parser.specs.Scope.{Text, column_at, column_of, dot_terms, each_once, name_at, only_term, other_columns, same, variable, with_variable}
-use Rattle.formula_parser.specs.Terms.{Terms}
 use Rattle.formula_parser.specs.declared.formula.Formula.{Formula}
 use Rattle.formula_parser.specs.declared.formula.Smooth.{Smooth}
 use Rattle.formula_parser.specs.declared.formula.Term.{Term}
-use Rattle.formula_parser.specs.declared.formula.Variable.{Variable}
 use Rattle.formula_parser.specs.declared.fault.FormulaFault.{FormulaFault}
 use Rattle.formula_parser.specs.declared.fault.FormulaFault.TheVariants.{OutOfMemory, Syntax, UnknownName, TooDeep, TooManyTerms, PowerRange, NumberTooWide}
 

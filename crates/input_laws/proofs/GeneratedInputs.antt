@@ -1,5 +1,5 @@
 -- The bytes of a generated table have no fault by the formula that is fitted to them.
-use Rattle.std.proofs.Common.{◌≡◌, ◌≢◌, ℕ, suc, ◌+◌, ◌<◌, ◌≤◌, Bool, true, false, zero, get_or, List, [], ◌∷◌, Option, None, Result, Ok, Err, map, length, codes, arith, inl, inr, refl, sym, ap, subst, ◌∙◌}
+use Rattle.std.proofs.Common.{◌≡◌, ◌≢◌, ℕ, suc, ◌+◌, ◌≤◌, Bool, true, false, get_or, List, [], ◌∷◌, Option, None, Result, Ok, map, length, codes, arith, inl, inr, refl, sym, ap, subst, ◌∙◌}
 use Rattle.std.specs.List.{AllByRecursion, range_with_len}
 use Rattle.std.proofs.lemmas.List.{length-map}
 use Rattle.exact_algebra.specs.Rational.{ℚ}
@@ -71,37 +71,37 @@ no_names smoothing intercept rows is = ap (λ s. length s.names) is
 read_once : (r : Result (TableOf ℚ) TableFault) (a b : TableOf ℚ) → r ≡ Ok a → r ≡ Ok b → a ≡ b
 read_once r a b h k = cc (sym h ∙ k)
 
-module _ (one : OneFormula) (none : NoFormulaHasFaults) (job : FitJob) (formula : job.formula ≡ dot_formula) (unweighted : job.weights ≡ None) (number rows n : ℕ) (some : 1 ≤ rows) (few : rows ≤ most_rows) (narrow : suc n ≤ 100) where
-  module _ (table : Table) (is : AreTable (table_of number rows (suc n)) table) where
-    same : exact_table table ≡ generated_table number rows (suc n)
-    same = read_once (table_of_bytes (table_of number rows (suc n))) (exact_table table) (generated_table number rows (suc n)) is (is_table number rows n few narrow)
+module _ (one : OneFormula) (none : NoFormulaHasFaults) (job : FitJob) (formula : job.formula ≡ dot_formula) (unweighted : job.weights ≡ None) (number rows n : ℕ) (some : 1 ≤ rows) (few : rows ≤ most_rows) (narrow : n ≤ 100) where
+  module _ (table : Table) (is : AreTable (table_of number rows n) table) where
+    same : exact_table table ≡ generated_table number rows n
+    same = read_once (table_of_bytes (table_of number rows n)) (exact_table table) (generated_table number rows n) is (is_table number rows n few narrow)
 
-    names : table.names ≡ header_fields (suc n)
-    names = ap (λ t. t.names) same ∙ table_names number rows (suc n)
+    names : table.names ≡ header_fields n
+    names = ap (λ t. t.names) same ∙ table_names number rows n
 
     full : AllByRecursion (IsFull rows) table.columns
-    full = all_exact_full rows table.columns (subst (AllByRecursion (IsFull rows)) (sym (ap (λ t. t.columns) same)) (all_full number rows (suc n)))
+    full = all_exact_full rows table.columns (subst (AllByRecursion (IsFull rows)) (sym (ap (λ t. t.columns) same)) (all_full number rows n))
 
     many : length table.columns ≡ length table.names
-    many = sym (length-map table.columns exact_column) ∙ ap (λ t. length t.columns) same ∙ columns_number number rows (suc n) ∙ ap length (sym names)
+    many = sym (length-map table.columns exact_column) ∙ ap (λ t. length t.columns) same ∙ columns_number number rows n ∙ ap length (sym names)
 
     -- the formula that is fitted
     columns : (model : Formula) → IsParsed job.formula table.names model → AreColumns table.names model
     columns model parsed =
-        subst (λ ns. AreColumns ns model) (sym names) (said (map name_field (range_with_len 1 (suc n))) one model (subst (λ ns. IsParsed dot_formula ns model) names (subst (λ t. IsParsed t table.names model) formula parsed)))
+        subst (λ ns. AreColumns ns model) (sym names) (said (map name_field (range_with_len 1 n)) one model (subst (λ ns. IsParsed dot_formula ns model) names (subst (λ t. IsParsed t table.names model) formula parsed)))
 
     no_formula : (fault : FormulaFault) → fault ≢ formulas.OutOfMemory → ¬ IsFault job.formula table.names fault
     no_formula fault named h =
-        no_formula_fault (map name_field (range_with_len 1 (suc n))) one none fault named (subst (λ ns. IsFault dot_formula ns fault) names (subst (λ t. IsFault t table.names fault) formula h))
+        no_formula_fault (map name_field (range_with_len 1 n)) one none fault named (subst (λ ns. IsFault dot_formula ns fault) names (subst (λ t. IsFault t table.names fault) formula h))
 
     records : table.records ≡ rows
-    records = ap (λ t. t.records) same ∙ table_records number rows (suc n)
+    records = ap (λ t. t.records) same ∙ table_records number rows n
 
     first : get_or table.names 0 [] ≡ codes "y"
     first = ap (λ ns. get_or ns 0 []) names
 
     small : length table.names ≤ most_columns
-    small = omega (arith, ap length names, header_length (suc n), narrow)
+    small = omega (arith, ap length names, header_length n, narrow)
 
     module _ (model : Formula) (parsed : IsParsed job.formula table.names model) where
       no_design : (fault : DesignFault) → fault ≢ designs.OutOfMemory → ¬ HasDesignCause table model job.coding job.weights fault
@@ -150,7 +150,7 @@ module _ (one : OneFormula) (none : NoFormulaHasFaults) (job : FitJob) (formula 
     no_table_cause (refusals.CertTooLong length) h = h.cause
     no_table_cause (refusals.Certificate fault) h = h.cause
 
-  pub none_wrong : (refusal : Refusal) → ¬ HasInputCause job false (table_of number rows (suc n)) (Refused refusal)
+  pub none_wrong : (refusal : Refusal) → ¬ HasInputCause job false (table_of number rows n) (Refused refusal)
   none_wrong refusals.TooLong h = h
   none_wrong (refusals.Table fault) h = absurd (cc (sym h ∙ is_table number rows n few narrow))
   none_wrong (refusals.Formula fault) h = no_table_cause h.0 h.1 (refusals.Formula fault) h.2
@@ -162,7 +162,6 @@ module _ (one : OneFormula) (none : NoFormulaHasFaults) (job : FitJob) (formula 
   none_wrong (refusals.CertTooLong length) h = no_table_cause h.0 h.1 (refusals.CertTooLong length) h.2
   none_wrong (refusals.Certificate fault) h = no_table_cause h.0 h.1 (refusals.Certificate fault) h.2
 
--- a generated table of at least one record and one column
+-- a generated table of at least one record
 pub no_fault : OneFormula → NoFormulaHasFaults → GeneratedTablesHaveNoFault
-no_fault one none job number rows zero refusal formula unweighted some few wide narrow = absurd (omega (arith, wide))
-no_fault one none job number rows (suc n) refusal formula unweighted some few wide narrow = none_wrong one none job formula unweighted number rows n some few narrow refusal
+no_fault one none job number rows n refusal formula unweighted some few narrow = none_wrong one none job formula unweighted number rows n some few narrow refusal

@@ -3,7 +3,7 @@ use Rattle.std.proofs.Common.{◌≡◌, ℕ, zero, suc, ◌+◌, ◌*◌, ◌^�
 use Rattle.std.specs.List.{flat_map, list_any, range_with_len}
 use Rattle.std.specs.Str.Parse.{AllDigits}
 use Rattle.std.proofs.lemmas.Bool.{ne_eqb}
-use Rattle.std.proofs.lemmas.Fmt.{decimal_is_IsNumeral}
+use Rattle.std.proofs.lemmas.Fmt.{decimal_is_IsNumeral, decimal_nonempty}
 use Rattle.std.proofs.lemmas.List.{length-append}
 use Rattle.std.proofs.lemmas.Str.Parse.{digit_from_value}
 use Rattle.csv.specs.Machine.{next_record}
@@ -56,11 +56,12 @@ unfolding fields_text
 behind_commas f a zero plain = refl
 behind_commas f a (suc n) plain = rw (plain a (omega arith), behind_commas f (a + 1) n (λ k l. plain k (omega (arith, l)))) refl
 
--- a line of plain fields, of which there are at least two, is the text of their record
-line_text : (x : List ℕ) (f : ℕ → List ℕ) (a n : ℕ) → IsPlain x → ((k : ℕ) → k < a + suc n → IsPlain (f k))
-    → row_text default_writer (x ∷ map f (range_with_len a (suc n))) ≡ (x ++ flat_map (λ k. 44 ∷ f k) (range_with_len a (suc n))) ++ codes "\n"
-unfolding is_blank
-line_text x f a n first plain = rw (first, behind_commas f a (suc n) plain) refl
+-- a line of plain fields, the first of which is not empty, is the text of their record
+line_text : (x : List ℕ) (f : ℕ → List ℕ) (a n : ℕ) → IsPlain x → 0 < length x → ((k : ℕ) → k < a + n → IsPlain (f k))
+    → row_text default_writer (x ∷ map f (range_with_len a n)) ≡ (x ++ flat_map (λ k. 44 ∷ f k) (range_with_len a n)) ++ codes "\n"
+unfolding is_blank fields_text
+line_text x f a zero first some plain = rw (first, ne_eqb (length x) 0 (λ e. omega (arith, e, some))) refl
+line_text x f a (suc n) first some plain = rw (first, behind_commas f a (suc n) plain) refl
 
 -- ---- the whole text
 
@@ -74,20 +75,20 @@ name_plain c h = decimal_plain c h
 cell_plain : (number k : ℕ) → IsPlain (cell_field number k)
 cell_plain number k = decimal_plain (cell number k) (omega arith)
 
-header_text : (n : ℕ) → suc n ≤ 100 → row_text default_writer (header_fields (suc n)) ≡ header_line (suc n)
-header_text n few = line_text (codes "y") name_field 1 n refl (λ c l. name_plain c (omega (arith, l, few)))
+header_text : (n : ℕ) → n ≤ 100 → row_text default_writer (header_fields n) ≡ header_line n
+header_text n few = line_text (codes "y") name_field 1 n refl (omega arith) (λ c l. name_plain c (omega (arith, l, few)))
 
-record_text : (number n r : ℕ) → row_text default_writer (record_fields number (suc n) r) ≡ record_of number (suc n) r
+record_text : (number n r : ℕ) → row_text default_writer (record_fields number n r) ≡ record_of number n r
 record_text number n r =
-    let k = r * (suc n + 1) + 1 in
-    line_text (cell_field number k) (cell_field number) (k + 1) n (cell_plain number k) (λ i l. cell_plain number i)
+    let k = r * (n + 1) + 1 in
+    line_text (cell_field number k) (cell_field number) (k + 1) n (cell_plain number k) (decimal_nonempty (cell number k) (omega arith)) (λ i l. cell_plain number i)
 
-records_text : (number n a rows : ℕ) → rows_text (map (record_fields number (suc n)) (range_with_len a rows)) ≡ flat_map (record_of number (suc n)) (range_with_len a rows)
+records_text : (number n a rows : ℕ) → rows_text (map (record_fields number n) (range_with_len a rows)) ≡ flat_map (record_of number n) (range_with_len a rows)
 unfolding rows_text
 records_text number n a zero = refl
 records_text number n a (suc rows) = rw (record_text number n a, records_text number n (a + 1) rows) refl
 
-table_text : (number rows n : ℕ) → suc n ≤ 100 → rows_text (generated_records number rows (suc n)) ≡ table_of number rows (suc n)
+table_text : (number rows n : ℕ) → n ≤ 100 → rows_text (generated_records number rows n) ≡ table_of number rows n
 unfolding rows_text
 table_text number rows n few = ap₂ (λ a b. a ++ b) (header_text n few) (records_text number n 0 rows)
 
@@ -128,11 +129,11 @@ whole_records number columns a zero = refl
 whole_records number columns a (suc rows) = ap (λ t. record_fields number columns a ∷ t) (whole_records number columns (a + 1) rows)
 
 -- the records of the bytes of a generated table
-pub read_records : (number rows n : ℕ) → suc n ≤ 100 → records default_config (strip_bom (table_of number rows (suc n))) ≡ generated_records number rows (suc n)
+pub read_records : (number rows n : ℕ) → n ≤ 100 → records default_config (strip_bom (table_of number rows n)) ≡ generated_records number rows n
 read_records number rows n few =
-    let all = generated_records number rows (suc n) in
+    let all = generated_records number rows n in
     let text = table_text number rows n few in
-    let stripped : strip_bom (table_of number rows (suc n)) ≡ table_of number rows (suc n) = unmarked _ in
+    let stripped : strip_bom (table_of number rows n) ≡ table_of number rows n = unmarked _ in
     ap (records default_config) (stripped ∙ sym text)
     ∙ all_read all (length (rows_text all) + 1) (omega (arith, long_enough all))
-    ∙ ap (λ t. header_fields (suc n) ∷ t) (whole_records number (suc n) 0 rows)
+    ∙ ap (λ t. header_fields n ∷ t) (whole_records number n 0 rows)

@@ -16,9 +16,9 @@ InputsHaveNoFault =
     (job : FitJob) (ranked : Bool) (bytes : List ℕ) (input : Input) (refusal : Refusal)
     → IsInput job ranked bytes input → IsWellShaped input.problem → ¬ HasInputCause job ranked bytes (Refused refusal)
 
--- nothing is wrong with the bytes of a generated table that has a record and a column, where the response is fitted on
+-- nothing is wrong with the bytes of a generated table that has a record, where the response is fitted on
 -- all other columns without weights
 abbrev pub GeneratedTablesHaveNoFault : Type 0
 GeneratedTablesHaveNoFault =
     (job : FitJob) (number rows columns : ℕ) (refusal : Refusal) → job.formula ≡ codes "y ~ ." → job.weights ≡ None
-    → 1 ≤ rows → rows ≤ most_rows → 1 ≤ columns → columns ≤ 100 → ¬ HasInputCause job false (table_of number rows columns) (Refused refusal)
+    → 1 ≤ rows → rows ≤ most_rows → columns ≤ 100 → ¬ HasInputCause job false (table_of number rows columns) (Refused refusal)
