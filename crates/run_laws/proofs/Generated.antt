@@ -1,10 +1,9 @@
 -- A generated table of full rank is answered.
-use Rattle.std.specs.Prelude.{◌≡◌, ℕ, ◌≤◌, Bool, false, List, [], None}
-use Rattle.std.proofs.Common.{arith, refl, sym, ap, subst, ◌∙◌}
-use Rattle.frac_core.specs.Limits.{most_rows}
+use Rattle.std.specs.Prelude.{ℕ, Bool, false, List, []}
+use Rattle.std.proofs.Common.{refl, sym, subst, ◌∙◌}
 use Rattle.loss_model.specs.FullRank.{HasFullRank}
 use Rattle.loss_model.specs.Problem.{sample}
-use Rattle.rq_words.specs.Requests.{SampleRequest, request_of, sample_request}
+use Rattle.rq_words.specs.Requests.{sample_request}
 use Rattle.rq_words.specs.declared.job.FitJob.{FitJob}
 use Rattle.rq_words.specs.declared.job.Job.{Job}
 use Rattle.rq_words.specs.declared.job.Job.TheVariants as jobs
@@ -19,12 +18,12 @@ use Rattle.rq_input.specs.declared.input.Input.{Input}
 use Rattle.input_laws.specs.Laws.{GeneratedTablesHaveNoFault}
 use Rattle.rq_engine.specs.Answers as engine
 use Rattle.rq_engine.specs.Jobs.{IsJobOf, sample_fit, sample_table}
-use Rattle.rq_cli.specs.Outcomes.{Stream, IsRun, IsHalted, Reads}
+use Rattle.rq_cli.specs.Outcomes.{Stream, IsRun, IsHalted}
 use Rattle.rq_cli.specs.declared.outcome.Outcome.{Outcome}
 use Rattle.rq_cli.specs.declared.outcome.Outcome.TheVariants.{Done, Refused, Usage, SourceFault, SinkFault, OutOfMemory, PivotLimit, Overflow, Rejected}
 use Rattle.run_laws.specs.Completeness.{IsAnswer, IsGenerated, IsNotTooLong, IsWellFormed, NoneRose}
 use Rattle.run_laws.specs.NeededOutcomes.{AskFit, IsFitJob, table_bytes}
-use Rattle.run_laws.proofs.Complete.{answered, one_request}
+use Rattle.run_laws.proofs.Complete.{answered}
 
 module _ (law : GeneratedTablesHaveNoFault) (words : List (List ℕ)) (g : IsGenerated words) where
   -- words that ask for a generated table ask for no other job
