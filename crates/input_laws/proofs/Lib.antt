@@ -9,3 +9,4 @@ pub mod GeneratedCells
 pub mod GeneratedFormula
 pub mod GeneratedDesign
 pub mod GeneratedInputs
+pub mod OneFault

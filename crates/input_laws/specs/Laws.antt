@@ -16,6 +16,13 @@ InputsHaveNoFault =
     (job : FitJob) (ranked : Bool) (bytes : List ℕ) (input : Input) (refusal : Refusal)
     → IsInput job ranked bytes input → IsWellShaped input.problem → ¬ HasInputCause job ranked bytes (Refused refusal)
 
+-- the bytes of a job have one fault at most: of a table, of the formula, of the design, of what smooths add, or of the
+-- problem
+abbrev pub OneInputFault : Type 0
+OneInputFault =
+    (job : FitJob) (ranked : Bool) (bytes : List ℕ) (a b : Refusal) → HasInputCause job ranked bytes (Refused a)
+    → HasInputCause job ranked bytes (Refused b) → a ≡ b
+
 -- nothing is wrong with the bytes of a generated table that has a record, where the response is fitted on
 -- all other columns without weights
 abbrev pub GeneratedTablesHaveNoFault : Type 0

@@ -1,6 +1,6 @@
 //! The laws of inputs and faults. No function here does anything: its contract is the law.
 
-ghost use Rattle.input_laws.specs.Laws.{GeneratedTablesHaveNoFault, InputsHaveNoFault};
+ghost use Rattle.input_laws.specs.Laws.{GeneratedTablesHaveNoFault, InputsHaveNoFault, OneInputFault};
 
 use formula_grammar::{one_formula, one_outcome};
 
@@ -9,6 +9,14 @@ use formula_grammar::{one_formula, one_outcome};
 /// these refusals comes only where there is no such input.
 pub fn inputs_have_no_fault()
     ensures { InputsHaveNoFault }
+{
+    one_formula();
+    one_outcome();
+}
+
+/// The bytes of a job have one fault at most; so the one that is named is the first.
+pub fn one_input_fault()
+    ensures { OneInputFault }
 {
     one_formula();
     one_outcome();
