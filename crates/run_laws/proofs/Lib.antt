@@ -4,4 +4,3 @@ pub mod Needed
 pub mod Complete
 pub mod Checked
 pub mod Unposed
-pub mod Generated
