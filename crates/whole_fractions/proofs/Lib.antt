@@ -1,2 +1,3 @@
 mod ValueLists
 pub mod Inverses
+mod Breakpoints

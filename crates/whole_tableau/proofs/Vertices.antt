@@ -3,23 +3,26 @@ use Rattle.std.specs.Prelude.{◌≡◌, ℕ, ℤ, ◌<◌, List, length, slice_
 use Rattle.std.proofs.Common.{arith, sym, ap, ap₂, subst, ◌∙◌}
 use Rattle.std.proofs.lemmas.Option.{slice_get-get_or}
 use Rattle.exact_algebra.specs.Fraction.{Fraction, rational}
-use Rattle.exact_algebra.specs.Rational.{◌*ℚ◌, inverse}
+use Rattle.exact_algebra.specs.Rational.{ℚ, ◌+ℚ◌, ◌*ℚ◌, inverse}
 use Rattle.loss_model.specs.declared.vertex.Side.{Side}
 use Rattle.loss_model.specs.declared.vertex.Side.TheVariants.{Basic}
 use Rattle.loss_model.specs.Problem.{sample, value_at}
 use Rattle.basis_model.specs.declared.part.Part.{Part}
+use Rattle.basis_model.specs.declared.part.Part.TheVariants.{Constant, Linear}
 use Rattle.basis_model.specs.Basis.{basic_dual}
 use Rattle.scaled_model.specs.Scaled.{unscaled}
 use Rattle.scaled_model.proofs.ScalingLaws.{coefficient-scaled, side_at-scaled, basic_dual-scaled}
-use Rattle.fraction_tableau.specs.Standing.{AreCoefficients, AreSides}
+use Rattle.fraction_tableau.specs.Standing.{AreCoefficients, AreSides, AreDuals}
 use Rattle.whole_inverse.specs.Shares.{share_at}
 use Rattle.whole_inverse.specs.Squares.{inverse_of}
 use Rattle.whole_rows.specs.Wholes.{factor_at, factor_value}
 use Rattle.whole_solution.specs.declared.solution.WholeSolution.{WholeSolution}
 use Rattle.whole_solution.specs.Standing.{IsWholeSolution}
 use Rattle.whole_solution.proofs.Reading.{side_read}
+use Rattle.whole_fractions.specs.declared.reading.Reading.{Reading}
+use Rattle.whole_tableau.specs.Values.{IsReading}
 use Rattle.whole_tableau.specs.Kept.{Kept, IsKept, wholes_of, place}
-use Rattle.whole_tableau.proofs.Factors.{positive_some, taken_away, coefficient_back}
+use Rattle.whole_tableau.proofs.Factors.{positive_some, coefficient_back, affine_times}
 use Rattle.whole_tableau.proofs.Stations.{rows_within}
 
 module _ {F : Type 0} (value : F → Fraction) (k : Kept F) (h : IsKept value k) (sol : WholeSolution) (is : IsWholeSolution (wholes_of k) (slice_index k.rows) (inverse_of k.square) k.square.determinant sol) where
@@ -39,16 +42,25 @@ module _ {F : Type 0} (value : F → Fraction) (k : Kept F) (h : IsKept value k)
             (coefficient-scaled (sample value k.problem) (wholes_of k) (factor_at k.setting.wholes.factors) (factor_value k.setting.wholes.response) (factor_value k.setting.wholes.cost) h.setting.scaled (inverse_of k.square) (slice_index k.rows) (rows_within value k h) i);
       }
 
-  -- a part of the dual values, from its numerators
-  pub part_by : (part : Part) (d : ℤ) → d ≡ k.square.determinant → (numerators : List ℤ) (cost : F) (values : List F) → rational (value cost) ≡ factor_value k.setting.wholes.cost
-      → length numerators ≡ k.problem.columns → ((j : ℕ) → j < k.problem.columns → share_at k.square.determinant numerators j ≡ basic_dual (wholes_of k) (slice_index k.rows) (inverse_of k.square) part j)
-      → ((i : ℕ) → i < length numerators → value_at value values i ≡ share_at d numerators i *ℚ inverse (rational (value cost)))
-      → (j : ℕ) → j < k.problem.columns → value_at value values j ≡ basic_dual (sample value k.problem) (slice_index k.rows) (unscaled (factor_at k.setting.wholes.factors) (inverse_of k.square)) part j
-  part_by part d same numerators cost values factor long each made j lj =
-      let inside : j < length numerators = omega (arith, long, lj) in
-      made j inside ∙ ap₂ (λ x y. x *ℚ inverse y) (ap (λ d. share_at d numerators j) same ∙ each j lj
-      ∙ basic_dual-scaled (sample value k.problem) (wholes_of k) (factor_at k.setting.wholes.factors) (factor_value k.setting.wholes.response) (factor_value k.setting.wholes.cost) h.setting.scaled (inverse_of k.square) (slice_index k.rows) (rows_within value k h) h.setting.response part j) factor
-      ∙ taken_away (factor_value k.setting.wholes.cost) _ (positive_some (factor_value k.setting.wholes.cost) h.setting.cost)
+  part_by : (part : Part) (j : ℕ) → basic_dual (wholes_of k) (slice_index k.rows) (inverse_of k.square) part j *ℚ inverse (factor_value k.setting.wholes.cost) ≡ basic_dual (sample value k.problem) (slice_index k.rows) (unscaled (factor_at k.setting.wholes.factors) (inverse_of k.square)) part j
+  part_by part j = basic_dual-scaled (sample value k.problem) (wholes_of k) (factor_at k.setting.wholes.factors) (factor_value k.setting.wholes.response) (factor_value k.setting.wholes.cost) h.setting.scaled (inverse_of k.square) (slice_index k.rows) (rows_within value k h) h.setting.response part j
+
+  -- the dual values at theta, from the numerators of their parts
+  pub duals_by : (theta : ℚ) (r : Reading F) → IsReading value k theta r → (duals : List F) → length duals ≡ length sol.constant
+      → ((j : ℕ) → j < length sol.constant → value_at value duals j ≡ (share_at r.denominator sol.constant j +ℚ (share_at r.denominator sol.linear j *ℚ rational (value r.theta))) *ℚ inverse (rational (value r.factor)))
+      → AreDuals value (place value k) theta duals
+  duals_by theta r reads duals size made =
+      record {
+        size = size ∙ is.constants;
+        each = λ j lj.
+            let inside : j < length sol.constant = omega (arith, is.constants, lj) in
+            made j inside
+            ∙ ap₂ (λ d t. (share_at d sol.constant j +ℚ (share_at d sol.linear j *ℚ t)) *ℚ inverse (rational (value r.factor))) reads.denominator reads.theta
+            ∙ ap₂ (λ x y. (x +ℚ (y *ℚ theta)) *ℚ inverse (rational (value r.factor))) (is.constant j lj) (is.linear j lj)
+            ∙ affine_times _ _ theta (inverse (rational (value r.factor)))
+            ∙ ap (λ f. (basic_dual (wholes_of k) (slice_index k.rows) (inverse_of k.square) Constant j *ℚ inverse f) +ℚ ((basic_dual (wholes_of k) (slice_index k.rows) (inverse_of k.square) Linear j *ℚ inverse f) *ℚ theta)) reads.factor
+            ∙ ap₂ (λ x y. x +ℚ (y *ℚ theta)) (part_by Constant j) (part_by Linear j);
+      }
 
   pub sides_by : AreSides value (place value k) sol.sides
   sides_by =
