@@ -1,3 +1,2 @@
 mod ValueLists
 pub mod Inverses
-mod Breakpoints

@@ -6,9 +6,7 @@
 #![tactic(auto)]
 
 mod inverse;
-mod reading;
 mod values;
 
 pub use inverse::fraction_inverse;
-pub use reading::Reading;
 pub use values::{scaled, value_over, value_under, values_over, values_under};

@@ -13,12 +13,13 @@ ghost use Rattle.whole_tableau.specs.Kept.{IsKept, place, wholes_of};
 ghost use Rattle.whole_tableau.specs.Values.{IsReading};
 
 use crate::body::WholeTableau;
+use crate::reading::Reading;
 use crate::refusal::failure;
 use frac_core::{Exact, List};
 use fraction_tableau::{ascending, by_row};
 use loss_model::{Basis, Vertex};
 use tableau_model::{Failure, Fitted};
-use whole_fractions::{Reading, scaled, value_over, values_under};
+use whole_fractions::{scaled, value_over, values_under};
 use whole_inverse::Obstacle;
 use whole_solution::WholeSolution;
 
