@@ -1,12 +1,13 @@
-use Rattle.std.proofs.Common.{rules, ◌≡◌, ◌<◌, All, length, map, IfOk, IfErr, ℕ, ◌+◌, ◌-◌, ◌*◌, ◌≤◌, ◌/◌, ◌%◌, Bool, true, false, nat_eq, nat_lt, List, [], ◌∷◌, ◌++◌, slice_index_or, slice_set, bit_and, bit_or, Fits, w8, w32, w64, Bor, MutBor}
-use Rattle.exact_algebra.specs.Fraction.{rational}
 use Rattle.rank_inversion.specs.Jobs.{range, value}
-use Rattle.interval_jobs.specs.Answers.{IsIntervalAnswer, IsSolveAnswer, IsStart}
-use Rattle.interval_jobs.specs.Intervals.{AreRightIntervals, asked_at, asked_over, IsFirstStop}
-use Rattle.interval_jobs.specs.RankProblems.{IsInner, IsRankable, IsRankProblem, IsSolvable}
-use Rattle.interval_jobs.specs.Until.{AreAnswered}
+use Rattle.interval_jobs.proofs.Ends.{first_first, first_there}
+use Rattle.interval_jobs.proofs.RankIntervals.{gram_stops}
 use Rattle.interval_jobs.proofs.intervals.all_intervals.Goals as goal
 
--- src/intervals.rt:202:1
 pub returns-clause-stopped : goal.returns-clause-stopped
-returns-clause-stopped g c = ?
+returns-clause-stopped g c =
+    let p = c.args.problem.now in
+    let asks = c.args.asks.now in
+    let tau = c.in-Some.first.now in
+    let first = first_there asks.taus.now tau (c.in-Some.ensures {u = tt}).value in
+    first_first value range p asks.limit asks.crit asks.taus.now tau c.in-Err.stop first.0 first.1 c.requires.rankable.shaped.some
+    (gram_stops value p asks.limit range asks.crit tau c.in-Err.stop (c.in-Err.ensures {u = tt}).stopped)

@@ -8,7 +8,7 @@ use Rattle.interval_jobs.proofs.intervals.RankProblem+Frac128.solves.Goals as go
 pub returns : goal.returns
 returns g c =
     let self = c.args.self.now in
-    let answers = c.in_ok-answers.field-0.items in
+    let answers = c.in_ok-answers.answers.items in
     IfOk-weaker c.until_stop.result _ _ (λ until h.
     answered_until (IsSolveAnswer value range self) c.args.taus.now answers until.done.items until.stop
-    (zip_of (λ tau. (self, tau)) (λ job answer. IsSolveAnswer value range job.0 job.1 answer) c.args.taus.now c.in_ok-jobs.field-0.items answers c.in_ok-jobs.ensures c.in_ok-answers.ensures) h) c.until_stop.ensures
+    (zip_of (λ tau. (self, tau)) (λ job answer. IsSolveAnswer value range job.0 job.1 answer) c.args.taus.now c.in_ok-jobs.jobs.items answers c.in_ok-jobs.ensures c.in_ok-answers.ensures) h) c.until_stop.ensures

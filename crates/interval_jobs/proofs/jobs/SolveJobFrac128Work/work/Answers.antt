@@ -1,4 +1,4 @@
 use Rattle.interval_jobs.proofs.jobs.SolveJobFrac128Work.work.Goals as goal
 
 pub returns : goal.returns
-returns g c = rw (← c.self.view_is) c.solve.ensures
+returns c = rw (← c.self.view_is) c.solve.ensures
