@@ -15,8 +15,7 @@ use Rattle.interval_jobs.specs.declared.asks.RankProblem.{RankProblem}
 use Rattle.interval_jobs.specs.declared.asks.SolvedAt.{SolvedAt}
 use Rattle.interval_jobs.specs.Answers.{first_asked, IsIntervalAnswer, IsSolveAnswer, IsSolvedAt, IsStart, IsStopOf}
 use Rattle.interval_jobs.specs.Intervals.{AreRightIntervals, asked_at, asked_over, IsFirstStop}
-use Rattle.interval_jobs.specs.RankProblems.{IsInner}
-use Rattle.interval_jobs.specs.Until.{AreAnswered, IsStoppedAfter}
+use Rattle.interval_jobs.specs.Until.{AreAnswered}
 
 -- what is asked at a quantile begins with its first column
 begins : {F : Type 0} (crit : F) (n : ℕ) (tau : F) → 1 ≤ n → (rest : List (Asked F)) × (asked_at crit n tau ≡ record { column = 0; tau = tau; crit = crit } ∷ rest)
@@ -75,7 +74,7 @@ module _ {F : Type 0} (value : F → Fraction) (range : ℕ) (v : RankProblem F)
     interval_first solve_stop made s solves h =
         let f = front taus starts solve_stop solves in
         let whole : asked_of taus ≡ h.earlier ++ h.here ∷ (h.later ++ asked_of f.0) =
-            ap asked_of f.1 ∙ flat_map-append (asked_at v.crit v.problem.now.columns) (taus_of starts) f.0 ∙ ap (λ l. l ++ asked_of f.0) h.order ∙ append_assoc h.earlier (h.here ∷ h.later) (asked_of f.0) in
+        ap asked_of f.1 ∙ flat_map-append (asked_at v.crit v.problem.now.columns) (taus_of starts) f.0 ∙ ap (λ l. l ++ asked_of f.0) h.order ∙ append_assoc h.earlier (h.here ∷ h.later) (asked_of f.0) in
         first_by (asked_of taus) h.earlier (h.later ++ asked_of f.0) h.here made s whole h.answered h.stopped
 
     -- no interval stops, but the next solve
@@ -86,8 +85,8 @@ module _ {F : Type 0} (value : F → Fraction) (range : ℕ) (v : RankProblem F)
         let f : List (Asked F) = asked_of (taus_of starts) in
         let earlier : asked_of solves.earlier ≡ f = ap asked_of (sym (same_taus solves.earlier starts solves.answered)) in
         let whole : asked_of taus ≡ f ++ first_asked v solves.here ∷ (b.0 ++ asked_of solves.later) =
-            ap asked_of solves.order ∙ flat_map-append (asked_at v.crit v.problem.now.columns) solves.earlier (solves.here ∷ solves.later)
-            ∙ ap (λ l. l ++ (asked_at v.crit v.problem.now.columns solves.here ++ asked_of solves.later)) earlier ∙ ap (λ l. f ++ (l ++ asked_of solves.later)) b.1 in
+        ap asked_of solves.order ∙ flat_map-append (asked_at v.crit v.problem.now.columns) solves.earlier (solves.here ∷ solves.later)
+        ∙ ap (λ l. l ++ (asked_at v.crit v.problem.now.columns solves.here ++ asked_of solves.later)) earlier ∙ ap (λ l. f ++ (l ++ asked_of solves.later)) b.1 in
         first_by (asked_of taus) f (b.0 ++ asked_of solves.later) (first_asked v solves.here) made s whole right solves.stopped
 
     -- nothing stops

@@ -1,5 +1,5 @@
 -- The work for one quantile and for one column: what it needs, and why it stops.
-use Rattle.std.proofs.Common.{◌≡◌, ℕ, ◌<◌, ◌≤◌, length, pos, subst}
+use Rattle.std.proofs.Common.{◌≡◌, ℕ, ◌<◌, ◌≤◌, pos, subst}
 use Rattle.exact_algebra.specs.Fraction.{Fraction, rational}
 use Rattle.exact_algebra.specs.Rational.{whole}
 use Rattle.exact_algebra.proofs.OrderLaws.{le_from_not}

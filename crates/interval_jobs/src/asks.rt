@@ -73,11 +73,7 @@ impl<'a, F: Exact> RankProblem<'a, F> {
     }
 
     /// The solve at a quantile, which every column begins with.
-    pub(crate) fn solve(
-        &self,
-        alloc: Global,
-        tau: F,
-    ) -> Result<SolvedAt<F>, IntervalStop<F>>
+    pub(crate) fn solve(&self, alloc: Global, tau: F) -> Result<SolvedAt<F>, IntervalStop<F>>
         requires { IsSolvable F.value self.now tau }
         ensures { IsSolveAnswer F.value F.range self.now tau result }
     {

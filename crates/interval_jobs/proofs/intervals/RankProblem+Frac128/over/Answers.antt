@@ -1,8 +1,8 @@
-use Rattle.std.proofs.Common.{map, None, Some, sym, subst}
+use Rattle.std.proofs.Common.{map, subst}
 use Rattle.loss_model.specs.declared.stop.Stop.TheVariants as stops
 use Rattle.rank_inversion.specs.Jobs.{range, value}
 use Rattle.interval_jobs.specs.Answers.{IsIntervalAnswer, IsSolveAnswer}
-use Rattle.interval_jobs.specs.Intervals.{AreRightIntervals, asked_over}
+use Rattle.interval_jobs.specs.Intervals.{asked_over}
 use Rattle.interval_jobs.specs.Until.{AreAnswered}
 use Rattle.interval_jobs.proofs.Ends.{first_first, interval_first, none_stops, solve_first, starts_there}
 use Rattle.interval_jobs.proofs.intervals.RankProblem+Frac128.over.Goals as goal

@@ -1,4 +1,3 @@
-use Rattle.std.proofs.Common.{map}
 use Rattle.std.proofs.lemmas.Result.{IfOk-weaker}
 use Rattle.rank_inversion.specs.Jobs.{range, value}
 use Rattle.interval_jobs.specs.Answers.{IsSolveAnswer}
