@@ -37,7 +37,7 @@ pub(crate) fn fit_sample<R: Threads + Sync, G: Gate>(
     job: &SampleJob,
     gate: &G,
 ) -> Result<Fit, Halt>
-    requires { IsSampleAsk job.now }
+    requires ask { IsSampleAsk job.now }
     ensures right { IfOk result (IsFitOfBytes (sample_fit_of job.now) false (sample_table job.now)) }
     ensures cause { IfErr result (HasFitCause (sample_fit_of job.now) false (sample_table job.now)) }
 {

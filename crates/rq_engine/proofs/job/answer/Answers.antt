@@ -20,5 +20,5 @@ certify_bytes-requires-clause-ask g c κs within = (subst IsAskedJob c.in-Certif
 pub certify_bytes-requires-clause-long : goal.certify_bytes-requires-clause-long
 certify_bytes-requires-clause-long g c κs within = (subst IsAskedJob c.in-Certify.is (asked_job c.requires.asked.0 c.args.job.now c.requires.asked.1)).1
 
-pub fit_sample-requires : goal.fit_sample-requires
-fit_sample-requires g c κs within = subst IsAskedJob c.in-Sample.is (asked_job c.requires.asked.0 c.args.job.now c.requires.asked.1)
+pub fit_sample-requires-clause-ask : goal.fit_sample-requires-clause-ask
+fit_sample-requires-clause-ask g c κs within = subst IsAskedJob c.in-Sample.is (asked_job c.requires.asked.0 c.args.job.now c.requires.asked.1)
