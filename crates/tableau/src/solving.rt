@@ -61,7 +61,7 @@ fn full_start(alloc: Global, rows: &[u32]) -> Result<List<Option<u32>>, OutOfMem
 }
 
 /// The halt of a loop for what refused its next step.
-fn halt_of<F: Exact>(refused: Failure<F>, trail: Trail<F>) -> Halt<F>
+pub fn halt_of<F: Exact>(refused: Failure<F>, trail: Trail<F>) -> Halt<F>
     ensures { IsHaltOf refused trail result }
 {
     match refused {
