@@ -31,6 +31,14 @@ never_long (jobs.Certify fit) bytes cause = cause
 never_long jobs.Check bytes cause = cause
 never_long (jobs.Sample sample) bytes cause = cause
 
+-- want of memory needs no cause
+pub memory_cause : (job : Job) (bytes : List ℕ) → engine.HasCause job bytes halts.OutOfMemory
+memory_cause (jobs.Process fit) bytes = tt
+memory_cause (jobs.Ranks fit) bytes = tt
+memory_cause (jobs.Certify fit) bytes = tt
+memory_cause jobs.Check bytes = tt
+memory_cause (jobs.Sample sample) bytes = tt
+
 -- where words ask for no job that reads the source, theirs doesn't
 pub left_alone : (words : List (List ℕ)) (job : Job) → IsJobOf words job → ¬ AskSource words → ¬ Reads job
 left_alone words job asked none reads = none (record { job = job; asked = asked; reads = reads })

@@ -1,5 +1,6 @@
 //! The top call.
-ghost use Rattle.std.specs.Prelude.{◌≡◌, ◌≢◌, ◌⊎◌, ◌↔◌, ◌<◌, ◌≤◌, length, map, string_bytes, IfOk, IfErr, IsTrue, OnOk};
+ghost use Rattle.std.specs.Prelude.{◌≡◌, ◌≢◌, ◌⊎◌, ◌↔◌, ℕ, List, ◌<◌, ◌≤◌, length, map, string_bytes, IfOk, IfErr, IsTrue, OnOk};
+ghost use Rattle.rq_engine.specs.Answers.{HasCause, IsRight};
 ghost use Rattle.rq_engine.specs.Jobs.{IsJobOf};
 ghost use Rattle.report_text.specs.ReportText.{report_text};
 ghost use Rattle.rq_cli.specs.Outcomes.{outcome_line, stream, AskSource, IsAnswered, IsFault, IsRun, Reads, Takes};
@@ -84,13 +85,33 @@ fn work<R: Threads + Sync, S: Source, G: Gate>(
         Ok(bytes) => bytes,
         Err(trouble) => return Err(trouble),
     };
-    let report = match answer(rt, alloc, &job, &bytes, gate) {
+    match written(rt, alloc, &job, &bytes, gate) {
+        Ok(done) => Ok(done),
+        Err(halt) => Err(Trouble::Halt(halt)),
+    }
+}
+
+// The report of a job for the bytes, with its text. It stands alone for the check's sake: what it lets go at each exit is large.
+fn written<R: Threads + Sync, G: Gate>(
+    rt: &R,
+    alloc: Global,
+    job: &Job,
+    bytes: &[u8],
+    gate: &G,
+) -> Result<(Report, Vec<u8>), Halt>
+    requires asked { (words : List (List ℕ)) × IsJobOf words job.now }
+    requires short { length bytes.now ≤ most_bytes }
+    ensures right { IfOk result (λ done. IsRight job.now bytes.now done.0) }
+    ensures text { IfOk result (λ done. done.1.items ≡ report_text done.0) }
+    ensures cause { IfErr result (HasCause job.now bytes.now) }
+{
+    let report = match answer(rt, alloc, job, bytes, gate) {
         Ok(report) => report,
-        Err(halt) => return Err(Trouble::Halt(halt)),
+        Err(halt) => return Err(halt),
     };
     match report_bytes(alloc, &report) {
         Ok(text) => Ok((report, text)),
-        Err(_) => Err(Trouble::Halt(Halt::OutOfMemory)),
+        Err(_) => Err(Halt::OutOfMemory),
     }
 }
 
