@@ -4,3 +4,4 @@ pub mod Needed
 pub mod Complete
 pub mod Checked
 pub mod Unposed
+pub mod Generated

@@ -1,5 +1,5 @@
 -- Law. A job whose input is well formed is answered, and a certificate whose conditions are true.
-use Rattle.std.specs.Prelude.{◌≡◌, ℕ, ◌*◌, ◌≤◌, Bool, List, Some, length, ⊤}
+use Rattle.std.specs.Prelude.{◌≡◌, ℕ, ◌*◌, ◌≤◌, Bool, false, List, [], Some, length, ⊤}
 use Rattle.exact_algebra.specs.Fraction.{rational}
 use Rattle.frac_core.specs.declared.frac128.Frac128.{Frac128}
 use Rattle.loss_model.specs.declared.process.Trail.{Trail}
@@ -15,6 +15,7 @@ use Rattle.cert_checker.specs.Tests.{AreTrue}
 use Rattle.rq_words.specs.declared.job.FitJob.{FitJob}
 use Rattle.rq_words.specs.declared.job.Job.{Job}
 use Rattle.rq_words.specs.declared.job.Job.TheVariants as jobs
+use Rattle.rq_words.specs.declared.job.SampleJob.{SampleJob}
 use Rattle.report_text.specs.ReportText.{value}
 use Rattle.report_text.specs.declared.report.Place.{Place}
 use Rattle.report_text.specs.declared.report.Place.TheVariants as places
@@ -26,7 +27,7 @@ use Rattle.rq_input.specs.Inputs.{HasInputCause, IsInput}
 use Rattle.rq_input.specs.declared.input.Input.{Input}
 use Rattle.rq_engine.specs.Answers.{IsRight}
 use Rattle.rq_engine.specs.Checks.{IsCertOf}
-use Rattle.rq_engine.specs.Jobs.{IsJobOf}
+use Rattle.rq_engine.specs.Jobs.{IsJobOf, sample_fit, sample_table}
 use Rattle.rq_cli.specs.Outcomes.{Stream, IsRun, IsHalted, Reads}
 use Rattle.rq_cli.specs.declared.outcome.Outcome.{Outcome}
 use Rattle.rq_cli.specs.declared.outcome.Outcome.TheVariants.{Done, Refused, OutOfMemory, PivotLimit, Overflow}
@@ -66,6 +67,25 @@ Completeness =
     (words : List (List ℕ)) (source source' out out' err err' : Stream) (bytes : List ℕ) (outcome : Outcome)
     → IsRun words source source' out out' err err' outcome → NoneRose source source' out out' err err'
     → IsWellFormed words source bytes → IsAnswer words source source' bytes outcome
+
+-- the outcome is no certificate that is too long
+abbrev pub IsNotTooLong : Outcome → Type 0
+IsNotTooLong (Refused (CertTooLong n)) = ⊥
+IsNotTooLong _ = ⊤
+
+-- the words ask for a generated table of at least one record, and its problem has full rank
+pub record IsGenerated (words : List (List ℕ)) : Type 0 where
+  pub first : SampleJob
+  pub asked : IsJobOf words (jobs.Sample first)
+  pub some : (job : SampleJob) → IsJobOf words (jobs.Sample job) → 1 ≤ job.rows
+  pub rank : (job : SampleJob) (input : Input) → IsJobOf words (jobs.Sample job) → IsInput (sample_fit job) false (sample_table job) input → HasFullRank (sample value input.problem)
+
+-- so is every run for a generated table; its bytes have no fault, and it has no certificate
+abbrev pub SampleIsAnswered : Type 0
+SampleIsAnswered =
+    (words : List (List ℕ)) (source source' out out' err err' : Stream) (outcome : Outcome)
+    → IsRun words source source' out out' err err' outcome → NoneRose source source' out out' err err'
+    → IsGenerated words → IsAnswer words source source' [] outcome × IsNotTooLong outcome
 
 -- the outcome is no report and no stop of a fit: neither a limit nor an overflow, dependent columns or a certificate that
 -- is too long

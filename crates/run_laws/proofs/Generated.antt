@@ -1,0 +1,94 @@
+-- A generated table of full rank is answered.
+use Rattle.std.specs.Prelude.{ℕ, Bool, false, List, []}
+use Rattle.std.proofs.Common.{refl, sym, subst, ◌∙◌}
+use Rattle.loss_model.specs.FullRank.{HasFullRank}
+use Rattle.loss_model.specs.Problem.{sample}
+use Rattle.rq_words.specs.Requests.{sample_request}
+use Rattle.rq_words.specs.declared.job.FitJob.{FitJob}
+use Rattle.rq_words.specs.declared.job.Job.{Job}
+use Rattle.rq_words.specs.declared.job.Job.TheVariants as jobs
+use Rattle.rq_words.specs.declared.job.SampleJob.{SampleJob}
+use Rattle.rq_words.proofs.Samples.{words_sample}
+use Rattle.report_text.specs.ReportText.{value}
+use Rattle.report_text.specs.declared.report.Refusal.{Refusal}
+use Rattle.report_text.specs.declared.report.Refusal.TheVariants as refusals
+use Rattle.report_text.specs.declared.report.Halt.TheVariants as halts
+use Rattle.rq_input.specs.Inputs.{HasInputCause, IsInput}
+use Rattle.rq_input.specs.declared.input.Input.{Input}
+use Rattle.input_laws.specs.Laws.{GeneratedTablesHaveNoFault}
+use Rattle.rq_engine.specs.Answers as engine
+use Rattle.rq_engine.specs.Jobs.{IsJobOf, sample_fit, sample_table}
+use Rattle.rq_cli.specs.Outcomes.{Stream, IsRun, IsHalted}
+use Rattle.rq_cli.specs.declared.outcome.Outcome.{Outcome}
+use Rattle.rq_cli.specs.declared.outcome.Outcome.TheVariants.{Done, Refused, Usage, SourceFault, SinkFault, OutOfMemory, PivotLimit, Overflow, Rejected}
+use Rattle.run_laws.specs.Completeness.{IsAnswer, IsGenerated, IsNotTooLong, IsWellFormed, NoneRose}
+use Rattle.run_laws.specs.NeededOutcomes.{AskFit, IsFitJob, table_bytes}
+use Rattle.run_laws.proofs.Complete.{answered}
+
+module _ (law : GeneratedTablesHaveNoFault) (words : List (List ℕ)) (g : IsGenerated words) where
+  -- words that ask for a generated table ask for no other job
+  alone : (job : Job) → IsJobOf words job → (P : Job → Type 0) → ((s : SampleJob) → IsJobOf words (jobs.Sample s) → P (jobs.Sample s)) → P job
+  alone (jobs.Process fit) asked P p = absurd (cc (sym asked ∙ g.asked))
+  alone (jobs.Ranks fit) asked P p = absurd (cc (sym asked ∙ g.asked))
+  alone (jobs.Certify fit) asked P p = absurd (cc (sym asked ∙ g.asked))
+  alone jobs.Check asked P p = absurd (cc (sym asked ∙ g.asked))
+  alone (jobs.Sample s) asked P p = p s asked
+
+  -- its bytes have no fault
+  table_sound : (s : SampleJob) → IsJobOf words (jobs.Sample s) → (refusal : Refusal) → ¬ HasInputCause (sample_fit s) false (sample_table s) (halts.Refused refusal)
+  table_sound s asked refusal =
+      let known = words_sample (sample_request s) words asked in
+      law (sample_fit s) s.number s.rows s.columns refusal refl refl (g.some s asked) known.rows known.columns
+
+  sound : (fit : FitJob) (ranked : Bool) (asked : AskFit words fit ranked) (refusal : Refusal) → ¬ HasInputCause fit ranked (table_bytes asked.job []) (halts.Refused refusal)
+  sound fit ranked asked refusal =
+      alone asked.job asked.asked (λ job. IsFitJob job fit ranked → ¬ HasInputCause fit ranked (table_bytes job []) (halts.Refused refusal))
+      (λ s again is. subst (λ f. ¬ HasInputCause f ranked (sample_table s) (halts.Refused refusal)) is.0
+      (subst (λ r. ¬ HasInputCause (sample_fit s) r (sample_table s) (halts.Refused refusal)) is.1 (table_sound s again refusal))) asked.is
+
+  rank : (fit : FitJob) (ranked : Bool) (input : Input) (asked : AskFit words fit ranked) → IsInput fit ranked (table_bytes asked.job []) input → HasFullRank (sample value input.problem)
+  rank fit ranked input asked =
+      alone asked.job asked.asked (λ job. IsFitJob job fit ranked → IsInput fit ranked (table_bytes job []) input → HasFullRank (sample value input.problem))
+      (λ s again is. subst (λ f. IsInput f ranked (sample_table s) input → HasFullRank (sample value input.problem)) is.0
+      (subst (λ r. IsInput (sample_fit s) r (sample_table s) input → HasFullRank (sample value input.problem)) is.1 (g.rank s input again))) asked.is
+
+  well_formed : (source : Stream) → IsWellFormed words source []
+  well_formed source = record {
+    fit = sample_fit g.first;
+    ranked = false;
+    asked = record { job = jobs.Sample g.first; asked = g.asked; is = (refl, refl) };
+    told = λ reads. absurd reads;
+    short = λ reads. absurd reads;
+    sound = sound;
+    rank = rank;
+  }
+
+  module _ (source source' : Stream) where
+    -- and it has no certificate
+    short : (n : ℕ) → ¬ IsHalted words source source' (halts.Refused (refusals.CertTooLong n))
+    short n h = alone h.job h.read.asked (λ job. engine.HasCause job h.bytes (halts.Refused (refusals.CertTooLong n)) → ⊥) (λ s again cause. cause.2.cause) h.cause
+
+    not_too_long : (out out' err err' : Stream) (outcome : Outcome) → IsRun words source source' out out' err err' outcome → IsNotTooLong outcome
+    not_too_long out out' err err' (Done report) run = tt
+    not_too_long out out' err err' (Refused refusals.TooLong) run = tt
+    not_too_long out out' err err' (Refused (refusals.Table fault)) run = tt
+    not_too_long out out' err err' (Refused (refusals.Formula fault)) run = tt
+    not_too_long out out' err err' (Refused refusals.RankWithPenalty) run = tt
+    not_too_long out out' err err' (Refused (refusals.Design fault)) run = tt
+    not_too_long out out' err err' (Refused (refusals.Penalty fault)) run = tt
+    not_too_long out out' err err' (Refused (refusals.Program fault)) run = tt
+    not_too_long out out' err err' (Refused (refusals.CertTooLong n)) run = short n run.cause
+    not_too_long out out' err err' (Refused (refusals.Certificate fault)) run = tt
+    not_too_long out out' err err' (Refused (refusals.Dependent combination)) run = tt
+    not_too_long out out' err err' (Usage fault) run = tt
+    not_too_long out out' err err' SourceFault run = tt
+    not_too_long out out' err err' SinkFault run = tt
+    not_too_long out out' err err' OutOfMemory run = tt
+    not_too_long out out' err err' (PivotLimit place limit trail) run = tt
+    not_too_long out out' err err' (Overflow place trail spill) run = tt
+    not_too_long out out' err err' (Rejected rejection) run = tt
+
+    pub sample_answered : (out out' err err' : Stream) (outcome : Outcome) → IsRun words source source' out out' err err' outcome → NoneRose source source' out out' err err'
+        → IsAnswer words source source' [] outcome × IsNotTooLong outcome
+    sample_answered out out' err err' outcome run none =
+        (answered words source source' [] (well_formed source) out out' err err' outcome run none, not_too_long out out' err err' outcome run)
