@@ -1,6 +1,6 @@
 //! Tests of the lowest crates: fractions, their texts and lists (`frac_core`), streams of bytes
 //! (`port_io`), jobs at once (`rq_fan`), codings of factors (`contrasts`), generated tables (`table_maker`), and losses with
-//! their sites (`loss_model`).
+//! their sites (`loss_model`), and what is of 64 bits in 128 and back (`frac_core`, `loss_model`).
 //!
 //! What is tested is what no clause says: values from outside, printed text, and streams that fail.
 #![tactic(auto)]
@@ -23,3 +23,5 @@ mod losses;
 mod number_texts;
 #[cfg(test)]
 mod streams;
+#[cfg(test)]
+mod widths;
