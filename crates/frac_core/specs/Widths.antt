@@ -1,4 +1,4 @@
--- Stated. The fraction that a value of either type stands for.
+-- Inner. The fraction that a value of either type stands for.
 use Rattle.exact_algebra.specs.Fraction.{Fraction}
 use Rattle.frac_core.specs.declared.frac64.Frac64.{Frac64}
 use Rattle.frac_core.specs.declared.frac128.Frac128.{Frac128}

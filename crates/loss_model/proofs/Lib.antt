@@ -10,3 +10,4 @@ pub mod Products
 pub mod Residuals
 pub mod Prices
 pub mod Narrowed
+pub mod Widened

@@ -1,4 +1,4 @@
--- Stated. The shared types with their numbers replaced by a function's, and which problems have numbers of 64 bits.
+-- Inner. The shared types with their numbers replaced by a function's, and which problems have numbers of 64 bits.
 use Rattle.std.specs.Prelude.{◌-◌, ◌^◌, List, map, All}
 use Rattle.frac_core.specs.declared.frac128.Frac128.{Frac128}
 use Rattle.frac_core.specs.Overflow.{IsWithin}

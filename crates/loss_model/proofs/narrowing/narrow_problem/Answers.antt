@@ -1,4 +1,4 @@
-use Rattle.std.proofs.Common.{◌≡◌, true, false, map, ap, ◌∙◌}
+use Rattle.std.proofs.Common.{◌≡◌, map, ap, ◌∙◌}
 use Rattle.frac_core.specs.Widths.{narrow_value, wide_value}
 use Rattle.loss_model.specs.Widths.{row_by}
 use Rattle.loss_model.proofs.Narrowed.{shaped_alike, rows_fit}
