@@ -41,6 +41,9 @@ quantity_name quantities.Statistic = codes "statistic"
 quantity_name quantities.DesignEntry = codes "design-entry"
 quantity_name quantities.PenaltyEntry = codes "penalty-entry"
 quantity_name quantities.CheckSum = codes "check-sum"
+quantity_name quantities.Prediction = codes "prediction"
+quantity_name quantities.StepLength = codes "step-length"
+quantity_name quantities.StepPlace = codes "step-place"
 
 -- the indices i, j and k of a quantity as they are printed. Records, parts and ends, the entries of
 -- perturbed ratios and the indices of a check-sum stand as they are; all others are counted from 1
@@ -69,6 +72,9 @@ printed quantities.Statistic i j k = One i
 printed quantities.DesignEntry i j k = Two i (j + 1)
 printed quantities.PenaltyEntry i j k = Two (i + 1) (j + 1)
 printed quantities.CheckSum i j k = Three i j k
+printed quantities.Prediction i j k = Two i (j + 1)
+printed quantities.StepLength i j k = One (i + 1)
+printed quantities.StepPlace i j k = Two i (j + 1)
 
 -- the indices of a site as they are printed
 abbrev pub indices : Site → PrintedIndices

@@ -52,6 +52,9 @@ pub(crate) fn quantity_name(quantity: Quantity) -> &'static [u8]
         Quantity::DesignEntry => b"design-entry",
         Quantity::PenaltyEntry => b"penalty-entry",
         Quantity::CheckSum => b"check-sum",
+        Quantity::Prediction => b"prediction",
+        Quantity::StepLength => b"step-length",
+        Quantity::StepPlace => b"step-place",
     }
 }
 
@@ -86,5 +89,8 @@ pub(crate) fn indices(site: &Site) -> PrintedIndices
         Quantity::DesignEntry => PrintedIndices::Two(first, second + 1),
         Quantity::PenaltyEntry => PrintedIndices::Two(first + 1, second + 1),
         Quantity::CheckSum => PrintedIndices::Three(first, second, third),
+        Quantity::Prediction => PrintedIndices::Two(first, second + 1),
+        Quantity::StepLength => PrintedIndices::One(first + 1),
+        Quantity::StepPlace => PrintedIndices::Two(first, second + 1),
     }
 }
