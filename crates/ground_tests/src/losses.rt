@@ -3,7 +3,7 @@
 ghost use Rattle.std.specs.Prelude.{◌≡◌, ◌↔◌, IsTrue, length};
 ghost use Rattle.loss_model.specs.Problem.{IsWellShaped};
 
-use crate::helpers::{Ratio, crosses, fraction, ratio};
+use crate::helpers::{Ratio, crosses, fraction, list, ratio};
 use frac_core::{Exact, Frac128, List, OpKind};
 use loss_model::{
     Problem, Process, Quantity, Row, Short, Site, Spill, loss_at, minus_at, over_at, plus_at,
@@ -40,14 +40,6 @@ const EIGHTH: [Ratio; 4] = [(1, 8), (0, 1), (1, 8), (0, 1)];
 
 /// The widest number.
 const M: i128 = Frac128::RANGE;
-
-fn list(rt: &impl Abort, alloc: Global, values: &[Ratio]) -> Result<List<Frac128>, AllocError> {
-    let mut made = Vec::new(alloc);
-    for value in values {
-        made.push(fraction(rt, *value))?;
-    }
-    Ok(List::from(made))
-}
 
 fn row(rt: &impl Abort, alloc: Global, (x, y, costs): &Plain) -> Result<Row<Frac128>, AllocError> {
     let mut entries = Vec::new(alloc);
