@@ -20,8 +20,8 @@ module _ {F : Type 0} (value : F → Fraction) (x offsets : List F) where
   joined (s ∷ t ∷ rest) lo hi some first last links = (
     first,
     joined (t ∷ rest) (rational (value s.hi)) hi (omega arith) (sym (links 0 (omega arith)))
-    (ap (of_segment (s ∷ t ∷ rest) (λ s. rational (value s.hi))) one_less ∙ last)
-    (λ j l. links (suc j) (omega (arith, l)) ∙ ap (of_segment (s ∷ t ∷ rest) (λ s. rational (value s.lo))) (next j)),
+        (ap (of_segment (s ∷ t ∷ rest) (λ s. rational (value s.hi))) one_less ∙ last)
+        (λ j l. links (suc j) (omega (arith, l)) ∙ ap (of_segment (s ∷ t ∷ rest) (λ s. rational (value s.lo))) (next j)),
   )
     where
       one_less : suc (length (t ∷ rest) - 1) ≡ length (s ∷ t ∷ rest) - 1

@@ -23,7 +23,7 @@ module _ {F : Type 0} (value : F → Fraction) where
     abbrev pub IsOffsetSpill : Site → ℚ → List F → Spill F → Type 0
     IsOffsetSpill site first offsets s =
         AtSome (length offsets) (λ k.
-          IsOperation value range (record site { term = site.term + k + 1; kind = Add }) (first +ℚ sum_ℚ k (value_at value offsets)) (value_at value offsets k) s)
+        IsOperation value range (record site { term = site.term + k + 1; kind = Add }) (first +ℚ sum_ℚ k (value_at value offsets)) (value_at value offsets k) s)
 
     -- an operation of a prediction: of the products, and then of the offsets
     abbrev pub IsPredictionSpill : Site → List F → List F → List F → Spill F → Type 0
@@ -47,13 +47,13 @@ module _ {F : Type 0} (value : F → Fraction) (range : ℕ) where
   abbrev pub IsLengthSpill : List Piece → Spill F → Type 0
   IsLengthSpill pieces s =
       AtSome (length pieces) (λ j.
-        IsOperation value range (record (site_of StepLength j 0 1) { kind = Sub }) (of_piece pieces (λ p. p.hi) j) (of_piece pieces (λ p. p.lo) j) s)
+      IsOperation value range (record (site_of StepLength j 0 1) { kind = Sub }) (of_piece pieces (λ p. p.hi) j) (of_piece pieces (λ p. p.lo) j) s)
 
   -- the high end of one of the steps of a rearrangement of this record's: its low end plus its length
   abbrev pub IsPlaceSpill : ℕ → List Piece → Spill F → Type 0
   IsPlaceSpill rec pieces s =
       AtSome (length pieces) (λ j.
-        IsOperation value range (record (site_of StepPlace rec j 1) { kind = Add }) (of_piece pieces (λ p. p.lo) j) (of_piece pieces length_of j) s)
+      IsOperation value range (record (site_of StepPlace rec j 1) { kind = Add }) (of_piece pieces (λ p. p.lo) j) (of_piece pieces length_of j) s)
 
   -- an operation of the rearrangement of steps
   abbrev pub IsRearrangementSpill : ℚ → ℚ → ℕ → List Piece → Spill F → Type 0

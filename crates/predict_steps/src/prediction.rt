@@ -46,12 +46,7 @@ pub fn steps<F: Exact>(
 }
 
 // The sum of the entries times the coefficients, plus the offsets. The site's term is 0.
-fn prediction<F: Exact>(
-    site: Site,
-    x: &[F],
-    coef: &[F],
-    offsets: &[F],
-) -> Result<F, Spill<F>>
+fn prediction<F: Exact>(site: Site, x: &[F], coef: &[F], offsets: &[F]) -> Result<F, Spill<F>>
     requires same { length x.now ≡ length coef.now }
     requires terms { site.term + (length x.now + length offsets.now) < 2 ^ 32 }
     ensures exact { IfOk result (λ r. rational (F.value r) ≡ prediction_of F.value x.now offsets.now coef.now) }
