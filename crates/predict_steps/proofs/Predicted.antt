@@ -2,10 +2,10 @@
 use Rattle.std.specs.Prelude.{◌≡◌, ℕ, ◌+◌, ◌<◌, List, [], ◌∷◌, length, get_or, pos}
 use Rattle.std.proofs.Common.{refl, sym, ap, subst, ◌∙◌}
 use Rattle.exact_algebra.specs.Fraction.{Fraction, rational}
-use Rattle.exact_algebra.specs.Rational.{ℚ, ◌+ℚ◌, ◌*ℚ◌, whole}
+use Rattle.exact_algebra.specs.Rational.{ℚ, ◌+ℚ◌, whole}
 use Rattle.exact_algebra.specs.RationalSums.{sum_ℚ}
 use Rattle.exact_algebra.specs.Solver.{number, ◌⊞◌, v0, v1, v2}
-use Rattle.exact_algebra.proofs.RationalLaws.{ring_ℚ, zero-+ℚ}
+use Rattle.exact_algebra.proofs.RationalLaws.{ring_ℚ}
 use Rattle.exact_algebra.proofs.RationalSumLaws.{sum_ℚ-next}
 use Rattle.frac_core.specs.Overflow.{Overflows}
 use Rattle.frac_core.specs.declared.exact.OpKind.TheVariants.{Add}
@@ -17,10 +17,6 @@ use Rattle.predict_steps.specs.Spills.{IsOffsetSpill}
 
 pub plus_none : (x : ℚ) → x ≡ x +ℚ whole (pos 0)
 plus_none x = ring_ℚ (x ∷ []) v0 (v0 ⊞ number (pos 0)) refl
-
--- a sum that began at 0, and then another
-pub plus_rest : (fitted sum rest r : ℚ) → fitted ≡ whole (pos 0) +ℚ sum → r ≡ fitted +ℚ rest → r ≡ sum +ℚ rest
-plus_rest fitted sum rest r is h = h ∙ ap (λ z. z +ℚ rest) (is ∙ zero-+ℚ sum)
 
 module _ {F : Type 0} (value : F → Fraction) (first : ℚ) (offsets : List F) (k : ℕ) (x sum : F) (within : k < length offsets) (here : x ≡ get_or offsets k x)
     (before : rational (value sum) ≡ first +ℚ sum_ℚ k (value_at value offsets)) where
