@@ -10,6 +10,7 @@ pub mod Usable
 pub mod Lengths
 pub mod Building
 pub mod Ascending
+pub mod Asked
 pub mod Searches
 pub mod Shapes
 pub mod Chosen

@@ -484,7 +484,7 @@ fn term(alloc: Global, text: &str) -> Result<Term, Fail> {
     })
 }
 
-fn formula(alloc: Global, text: &str) -> Result<Formula, Fail> {
+pub(crate) fn formula(alloc: Global, text: &str) -> Result<Formula, Fail> {
     let mut terms = Vec::new(alloc);
     for word in text.split(' ').skip(1) {
         terms.push(term(alloc, word)?)?;
@@ -543,7 +543,7 @@ fn tell(alloc: Global, design: &Design) -> Result<String, Fail> {
     Ok(told)
 }
 
-fn tell_fault(alloc: Global, fault: &DesignFault) -> Result<String, Fail> {
+pub(crate) fn tell_fault(alloc: Global, fault: &DesignFault) -> Result<String, Fail> {
     Ok(match fault {
         DesignFault::UnknownWeights => String::from_str(alloc, "UnknownWeights")?,
         DesignFault::WeightNotNumeric => String::from_str(alloc, "WeightNotNumeric")?,
@@ -562,6 +562,10 @@ fn tell_fault(alloc: Global, fault: &DesignFault) -> Result<String, Fail> {
         DesignFault::Overflow(spill) => {
             let (rec, column, term) = (spill.site.first, spill.site.second, spill.site.term);
             format!(in alloc; "Overflow {rec} {column} {term}")?
+        }
+        DesignFault::UnknownLevel { rec, factor } => {
+            let name = factor.as_str();
+            format!(in alloc; "UnknownLevel {rec} {name}")?
         }
         _ => String::from_str(alloc, "another fault")?,
     })
