@@ -45,7 +45,7 @@ fn explained<'a>(
     push_predictors(&mut names, model)?;
     let mut columns = Vec::with_capacity(alloc, names.len())?;
     for name in &names {
-        columns.push(column(frame, name))?;
+        columns.push(column(frame, *name))?;
     }
     Ok(Explained {
         response: column(frame, model.response.as_str()),

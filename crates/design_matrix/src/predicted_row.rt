@@ -174,7 +174,7 @@ pub fn predict_row(
         frame,
         model,
         contrasts: coding,
-        records: &records,
+        records: records.as_slice(),
     };
     let x = last_entries(alloc, &coder, rec)?;
     Ok(PredictRow {
