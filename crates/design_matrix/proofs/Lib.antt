@@ -11,6 +11,7 @@ pub mod Lengths
 pub mod Building
 pub mod Ascending
 pub mod Asked
+pub mod Known
 pub mod Searches
 pub mod Shapes
 pub mod Chosen
