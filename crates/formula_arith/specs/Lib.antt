@@ -1,0 +1,5 @@
+pub mod Arithmetics
+pub mod Codes
+pub mod Values
+pub mod Evaluations
+pub mod Machine
