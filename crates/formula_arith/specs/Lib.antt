@@ -2,4 +2,5 @@ pub mod Arithmetics
 pub mod Codes
 pub mod Values
 pub mod Evaluations
+pub mod Texts
 pub mod Machine

@@ -3,6 +3,9 @@ pub mod Terms
 pub mod Known
 pub mod Meaning
 pub mod Stack
+pub mod Columns
+pub mod Arithmetics
+pub mod ArithTrees
 pub mod Scope
 pub mod Parsed
 pub mod Spoken

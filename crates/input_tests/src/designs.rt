@@ -471,6 +471,7 @@ fn variable(alloc: Global, word: &str) -> Result<Variable, Fail> {
     Ok(Variable {
         name: Text::new(alloc, inner.unwrap_or(word))?,
         as_factor: inner.is_some(),
+        arith: None,
     })
 }
 
@@ -494,6 +495,7 @@ fn formula(alloc: Global, text: &str) -> Result<Formula, Fail> {
         intercept: text.starts_with('1'),
         terms: List::from(terms),
         smooths: List::new(alloc),
+        offsets: List::new(alloc),
     })
 }
 

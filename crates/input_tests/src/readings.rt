@@ -4,7 +4,7 @@
 //! the empty list, and an operator stands with its offset. A fault is told as `Debug` writes it.
 
 use crate::helpers::{expect_answer, push_many, push_number};
-use formula_grammar::{ReadFault, Reading, SmoothPart, Span, Step, read, tokens_of};
+use formula_grammar::{ArithPart, ArithStep, ReadFault, Reading, SmoothPart, Span, Step, read, tokens_of};
 use std::alloc::Global;
 use std::process::Abort;
 use std::test::Fail;
@@ -23,21 +23,51 @@ fn tell_operator(alloc: Global, told: &mut String, mark: char, at: u32) -> Resul
     Ok(())
 }
 
-fn tell_step(alloc: Global, told: &mut String, text: &str, step: Step) -> Result<(), Fail> {
+fn tell_arith_step(
+    alloc: Global,
+    told: &mut String,
+    text: &str,
+    step: ArithStep,
+) -> Result<(), Fail> {
+    match step {
+        ArithStep::Load { name } => tell_span(told, text, name),
+        ArithStep::Constant { number } => push_number(told, alloc, number.value()),
+        ArithStep::Negate => Ok(told.push_str("neg")?),
+        ArithStep::Add => Ok(told.push('+')?),
+        ArithStep::Sub => Ok(told.push('-')?),
+        ArithStep::Mul => Ok(told.push('*')?),
+        ArithStep::Power { exponent } => tell_operator(alloc, told, '^', exponent),
+    }
+}
+
+// An arithmetic: how many tokens it has, and its steps.
+fn tell_part(alloc: Global, told: &mut String, text: &str, part: &ArithPart) -> Result<(), Fail> {
+    told.push_str("I")?;
+    told.push_str(part.tokens.as_slice().len().to_string(alloc)?.as_str())?;
+    told.push('[')?;
+    for (i, step) in part.steps.as_slice().iter().enumerate() {
+        told.push_str(if i == 0 { "" } else { " " })?;
+        tell_arith_step(alloc, told, text, *step)?;
+    }
+    Ok(told.push(']')?)
+}
+
+fn tell_step(alloc: Global, told: &mut String, text: &str, step: &Step) -> Result<(), Fail> {
     match step {
         Step::Load { name, as_factor } => {
-            told.push_str(if as_factor { "factor:" } else { "" })?;
-            tell_span(told, text, name)
+            told.push_str(if *as_factor { "factor:" } else { "" })?;
+            tell_span(told, text, *name)
         }
+        Step::LoadArith { part } => tell_part(alloc, told, text, part),
         Step::LoadAll => Ok(told.push('.')?),
         Step::Nothing => Ok(told.push_str("()")?),
-        Step::Add { at } => tell_operator(alloc, told, '+', at),
-        Step::Remove { at } => tell_operator(alloc, told, '-', at),
-        Step::Multiply { at } => tell_operator(alloc, told, '*', at),
-        Step::Interact { at } => tell_operator(alloc, told, ':', at),
+        Step::Add { at } => tell_operator(alloc, told, '+', *at),
+        Step::Remove { at } => tell_operator(alloc, told, '-', *at),
+        Step::Multiply { at } => tell_operator(alloc, told, '*', *at),
+        Step::Interact { at } => tell_operator(alloc, told, ':', *at),
         Step::Raise { exponent, at } => {
-            tell_operator(alloc, told, '^', exponent)?;
-            tell_operator(alloc, told, '@', at)
+            tell_operator(alloc, told, '^', *exponent)?;
+            tell_operator(alloc, told, '@', *at)
         }
     }
 }
@@ -60,11 +90,15 @@ fn tell(alloc: Global, text: &str, reading: &Reading) -> Result<String, Fail> {
     told.push_str(if reading.intercept { " 1" } else { " 0" })?;
     for step in reading.steps.as_slice() {
         told.push(' ')?;
-        tell_step(alloc, &mut told, text, *step)?;
+        tell_step(alloc, &mut told, text, step)?;
     }
     for smooth in reading.smooths.as_slice() {
         told.push(' ')?;
         tell_smooth(alloc, &mut told, text, *smooth)?;
+    }
+    for offset in reading.offsets.as_slice() {
+        told.push_str(" offset:")?;
+        tell_part(alloc, &mut told, text, offset)?;
     }
     Ok(told)
 }
