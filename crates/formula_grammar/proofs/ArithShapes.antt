@@ -4,16 +4,16 @@ use Rattle.std.proofs.lemmas.Bool.Decides.{nat_tests}
 use Rattle.formula_grammar.specs.Words.{Sign, Plus, Minus, Digits, Kind, Name, Number, Signed, Star, Caret, Open, Close, Token, ArithPart, ArithStep}
 use Rattle.formula_grammar.specs.declared.reading.ArithStep.TheVariants as step
 use Rattle.formula_grammar.specs.Arithmetics.{token, Bare, Led, Arith, Aprod, Apow, Plain, Raised, Group, arith_tokens}
-use Rattle.formula_grammar.specs.ArithCodes.{arith_code, aprod_code, apow_code, aatom_code, arith_signed_step, part_of}
-use Rattle.formula_grammar.specs.ArithMachine.{ArithLevel, ArithPhase, ArithReader, arith_bare, arith_ends_at, arith_part, arith_read, arith_sign_step, arith_sum_end, leading_step, product_step}
-use Rattle.formula_grammar.specs.ArithMachine.arith_phase as phase
+use Rattle.formula_grammar.specs.ArithCodes.{arith_code, aprod_code, apow_code, aatom_code, part_of}
+use Rattle.formula_grammar.specs.ArithMachine.{ArithLevel, ArithPhase, ArithReader, ArithSign, Between, Leading, arith_ends_at, arith_part, arith_read, arith_sign_step, arith_sum_end, product_step}
+use Rattle.formula_grammar.specs.declared.arith_reader.ArithPhase.TheVariants as phase
 use Rattle.formula_grammar.proofs.ArithAutomaton.{ArithLeft, ArithFront, ArithLeads, ArithAfter, Hole, Top, Within, ArithState, Begins, Needs, Holds, Raises, onto_aprod, onto_arith, arith_so_far, arith_step, arith_ending}
 use Rattle.formula_grammar.proofs.ArithShown.{arith_shown, arith_shows, ending_shown, some_is}
 
-abbrev pending : ArithFront → Option ArithStep
+abbrev pending : ArithFront → Option ArithSign
 pending (ArithLeads Bare) = None
-pending (ArithLeads (Led x n)) = leading_step x
-pending (ArithAfter a x n) = Some (arith_signed_step x)
+pending (ArithLeads (Led x n)) = Some (Leading x)
+pending (ArithAfter a x n) = Some (Between x)
 
 abbrev arith_level : Option ArithLeft → ArithFront → ArithLevel
 arith_level l f = record { sum = pending f; product = is_some l }

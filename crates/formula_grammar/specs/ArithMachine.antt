@@ -2,9 +2,11 @@
 use Rattle.std.specs.Prelude.{ℕ, ◌==◌, Bool, true, false, List, [], ◌∷◌, ◌++◌, length, Option, Some, None}
 use Rattle.formula_grammar.specs.Words.{Sign, Plus, Minus, Digits, Kind, Name, Number, Signed, Star, Caret, Open, Close, Token, ArithPart, ArithStep}
 use Rattle.formula_grammar.specs.declared.reading.ArithStep.TheVariants as arith
+pub use Rattle.formula_grammar.specs.declared.arith_levels.ArithSign.{ArithSign}
+pub use Rattle.formula_grammar.specs.declared.arith_levels.ArithSign.TheVariants.{Leading, Between}
 pub use Rattle.formula_grammar.specs.declared.arith_levels.ArithLevel.{ArithLevel}
 pub use Rattle.formula_grammar.specs.declared.arith_reader.ArithPhase.{ArithPhase}
-pub use Rattle.formula_grammar.specs.declared.arith_reader.ArithPhase.TheVariants as arith_phase
+use Rattle.formula_grammar.specs.declared.arith_reader.ArithPhase.TheVariants as arith_phase
 pub use Rattle.formula_grammar.specs.declared.arith_reader.ArithReader.{ArithReader}
 use Rattle.formula_grammar.specs.Numerals.{power_of}
 use Rattle.formula_grammar.specs.ArithCodes.{arith_signed_step}
@@ -17,20 +19,17 @@ arith_bare = record { sum = None; product = false }
 abbrev pub arith_fresh : ArithReader
 arith_fresh = record { tokens = []; steps = []; level = arith_bare; outer = []; phase = arith_phase.Opening }
 
--- the step of a leading sign
-abbrev pub leading_step : Sign → Option ArithStep
-leading_step Plus = None
-leading_step Minus = Some arith.Negate
-
 -- the step that ends a product
 abbrev pub product_step : Bool → List ArithStep
 product_step true = arith.Mul ∷ []
 product_step false = []
 
 -- the step of the sign that a token ends
-abbrev pub arith_sign_step : Option ArithStep → List ArithStep
+abbrev pub arith_sign_step : Option ArithSign → List ArithStep
 arith_sign_step None = []
-arith_sign_step (Some s) = s ∷ []
+arith_sign_step (Some (Leading Plus)) = []
+arith_sign_step (Some (Leading Minus)) = arith.Negate ∷ []
+arith_sign_step (Some (Between s)) = arith_signed_step s ∷ []
 
 -- the steps that end a sum
 abbrev pub arith_sum_end : ArithLevel → List ArithStep
@@ -45,7 +44,7 @@ arith_operand_read r k = None
 
 -- where a sum begins
 abbrev pub arith_opening_read : ArithReader → Kind → Option ArithReader
-arith_opening_read r (Signed s) = Some (record r { level = record { sum = leading_step s; product = false }; phase = arith_phase.Operand })
+arith_opening_read r (Signed s) = Some (record r { level = record { sum = Some (Leading s); product = false }; phase = arith_phase.Operand })
 arith_opening_read r k = arith_operand_read r k
 
 -- a parenthesis that closes one of the arithmetic's
@@ -56,7 +55,7 @@ arith_close_read r (w ∷ ws) = Some (record r { steps = r.steps ++ arith_sum_en
 -- behind a power
 abbrev pub arith_power_read : ArithReader → Kind → Option ArithReader
 arith_power_read r Star = Some (record r { steps = r.steps ++ product_step r.level.product; level = record { sum = r.level.sum; product = true }; phase = arith_phase.Operand })
-arith_power_read r (Signed s) = Some (record r { steps = r.steps ++ arith_sum_end r.level; level = record { sum = Some (arith_signed_step s); product = false }; phase = arith_phase.Operand })
+arith_power_read r (Signed s) = Some (record r { steps = r.steps ++ arith_sum_end r.level; level = record { sum = Some (Between s); product = false }; phase = arith_phase.Operand })
 arith_power_read r Close = arith_close_read r r.outer
 arith_power_read r k = None
 

@@ -1,15 +1,23 @@
 ghost use Rattle.std.specs.Prelude.{◌≡◌, ◌∷◌, [], length, MatchOption, OnOk, ◌==◌};
 
-use crate::reading::ArithStep;
+use crate::token::Sign;
 use frac_core::OutOfMemory;
 use std::alloc::Global;
 use std::marker::Model;
 
-/// The steps that wait for their right operand in one sum of an arithmetic: that of its sign, and
-/// whether a product does.
+/// A sign of an arithmetic.
+#[derive(Clone, Copy)]
+pub(crate) enum ArithSign {
+    /// It stands in front of the first product of a sum.
+    Leading(Sign),
+    Between(Sign),
+}
+
+/// The operators that wait for their right operand in one sum of an arithmetic: its sign, and
+/// whether a star does.
 #[derive(Clone, Copy)]
 pub(crate) struct ArithLevel {
-    pub sum: Option<ArithStep>,
+    pub sum: Option<ArithSign>,
     pub product: bool,
 }
 

@@ -1,11 +1,11 @@
 //! Arithmetics, from tokens to code.
 
 ghost use Rattle.std.specs.Prelude.{◌≡◌, ◌++◌, ◌∷◌, [], None, Some, IfOk, OnOk};
-ghost use Rattle.formula_grammar.specs.ArithMachine.{arith_atom_read, arith_ends_at, arith_close_read, arith_exponent_read, arith_fresh, arith_opening_read, arith_operand_read, arith_part, arith_power_read, arith_read, arith_sum_end, leading_step, product_step};
+ghost use Rattle.formula_grammar.specs.ArithMachine.{arith_atom_read, arith_ends_at, arith_close_read, arith_exponent_read, arith_fresh, arith_opening_read, arith_operand_read, arith_part, arith_power_read, arith_read, arith_sum_end, product_step};
 ghost use Rattle.formula_grammar.specs.ArithCodes.{arith_signed_step};
 ghost use Rattle.formula_grammar.specs.Machine.{Reads};
 
-use crate::arith_levels::{ArithLevel, ArithLevels};
+use crate::arith_levels::{ArithLevel, ArithLevels, ArithSign};
 use crate::reading::{ArithPart, ArithStep};
 use crate::token::{Kind, Numeral, Sign, Token};
 use frac_core::{List, OutOfMemory};
@@ -38,16 +38,6 @@ const BARE: ArithLevel = ArithLevel {
     sum: None,
     product: false,
 };
-
-// The step of a leading sign, if it has one.
-fn leading_step(sign: Sign) -> Option<ArithStep>
-    ensures { result ≡ leading_step sign }
-{
-    match sign {
-        Sign::Plus => None,
-        Sign::Minus => Some(ArithStep::Negate),
-    }
-}
 
 // The step of a sign between two operands.
 fn signed_step(sign: Sign) -> ArithStep
@@ -97,7 +87,9 @@ impl ArithReader {
         self.end_product()?;
         match self.level.sum {
             None => Ok(()),
-            Some(step) => self.emit(step),
+            Some(ArithSign::Leading(Sign::Plus)) => Ok(()),
+            Some(ArithSign::Leading(Sign::Minus)) => self.emit(ArithStep::Negate),
+            Some(ArithSign::Between(sign)) => self.emit(signed_step(sign)),
         }
     }
 
@@ -132,7 +124,7 @@ impl ArithReader {
         match kind {
             Kind::Signed(sign) => {
                 self.level = ArithLevel {
-                    sum: leading_step(sign),
+                    sum: Some(ArithSign::Leading(sign)),
                     product: false,
                 };
                 self.phase = ArithPhase::Operand;
@@ -171,7 +163,7 @@ impl ArithReader {
             Kind::Signed(sign) => {
                 self.end_sum()?;
                 self.level = ArithLevel {
-                    sum: Some(signed_step(sign)),
+                    sum: Some(ArithSign::Between(sign)),
                     product: false,
                 };
                 self.phase = ArithPhase::Operand;
