@@ -4,3 +4,9 @@ pub mod Parsed
 pub mod Products
 pub mod Sound
 pub mod Inputs
+pub mod GeneratedRecords
+pub mod GeneratedCells
+pub mod GeneratedFormula
+pub mod GeneratedDesign
+pub mod GeneratedInputs
+pub mod OneFault

@@ -25,7 +25,7 @@ same_smooth a b e =
 
 module _ (one : OneFormula) (text : Text) (names : List Text) where
   -- the tokens of the text are those of one tree
-  one_tree : (f g : Tree) → IsFormula (tokens text) f → IsFormula (tokens text) g → f ≡ g
+  pub one_tree : (f g : Tree) → IsFormula (tokens text) f → IsFormula (tokens text) g → f ≡ g
   one_tree f g h k = one f g (sym h.reads ∙ k.reads)
 
   pub one_formula : (a b : Formula) → IsParsed text names a → IsParsed text names b → a ≡ b

@@ -59,7 +59,7 @@ module _ (table : Table) (model : Formula) (coding : Coding) (weights : Option T
 
 -- ---- what smooths add
 
-none_overflows : (ops : List SitedOperation) (spill : Spill Frac128) → NoneOverflows ops → OverflowsFirst ops spill → ⊥
+pub none_overflows : (ops : List SitedOperation) (spill : Spill Frac128) → NoneOverflows ops → OverflowsFirst ops spill → ⊥
 none_overflows [] spill none h = h
 none_overflows (op ∷ ops) spill none (inl is) = none.0 (spill, is)
 none_overflows (op ∷ ops) spill none (inr later) = none_overflows ops spill none.1 later.1
@@ -96,7 +96,7 @@ module _ (table : Table) (model : Formula) (design : Design) (a b : Smoothing) (
   alike : exact_smoothing a ≡ exact_smoothing b
   alike = p.added ∙ sym q.added
 
-  as_many_rows : row_count design a ≡ row_count design b
+  pub as_many_rows : row_count design a ≡ row_count design b
   as_many_rows = ap (λ n. length design.rows + n) (sym (length-map a.rows exact_penalty) ∙ ap (λ s. length s.rows) alike ∙ length-map b.rows exact_penalty)
 
   as_many_columns : columns_of design a ≡ columns_of design b

@@ -1,5 +1,7 @@
--- Law. Bytes that are an input have no fault, so a refusal comes only where there is none.
-use Rattle.std.specs.Prelude.{ℕ, Bool, List}
+-- Law. Bytes that are an input have no fault, so a refusal comes only where there is none; nor has a generated table.
+use Rattle.std.specs.Prelude.{◌≡◌, ◌≤◌, ℕ, Bool, false, List, None, codes}
+use Rattle.frac_core.specs.Limits.{most_rows}
+use Rattle.table_maker.specs.Tables.{table_of}
 use Rattle.loss_model.specs.Problem.{IsWellShaped}
 use Rattle.rq_words.specs.declared.job.FitJob.{FitJob}
 use Rattle.report_text.specs.declared.report.Refusal.{Refusal}
@@ -13,3 +15,17 @@ abbrev pub InputsHaveNoFault : Type 0
 InputsHaveNoFault =
     (job : FitJob) (ranked : Bool) (bytes : List ℕ) (input : Input) (refusal : Refusal)
     → IsInput job ranked bytes input → IsWellShaped input.problem → ¬ HasInputCause job ranked bytes (Refused refusal)
+
+-- the bytes of a job have one fault at most: of a table, of the formula, of the design, of what smooths add, or of the
+-- problem
+abbrev pub OneInputFault : Type 0
+OneInputFault =
+    (job : FitJob) (ranked : Bool) (bytes : List ℕ) (a b : Refusal) → HasInputCause job ranked bytes (Refused a)
+    → HasInputCause job ranked bytes (Refused b) → a ≡ b
+
+-- nothing is wrong with the bytes of a generated table that has a record, where the response is fitted on
+-- all other columns without weights
+abbrev pub GeneratedTablesHaveNoFault : Type 0
+GeneratedTablesHaveNoFault =
+    (job : FitJob) (number rows columns : ℕ) (refusal : Refusal) → job.formula ≡ codes "y ~ ." → job.weights ≡ None
+    → 1 ≤ rows → rows ≤ most_rows → columns ≤ 100 → ¬ HasInputCause job false (table_of number rows columns) (Refused refusal)

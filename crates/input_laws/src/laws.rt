@@ -1,6 +1,6 @@
-//! The law of inputs and faults. The function does nothing: its contract is the law.
+//! The laws of inputs and faults. No function here does anything: its contract is the law.
 
-ghost use Rattle.input_laws.specs.Laws.{InputsHaveNoFault};
+ghost use Rattle.input_laws.specs.Laws.{GeneratedTablesHaveNoFault, InputsHaveNoFault, OneInputFault};
 
 use formula_grammar::{one_formula, one_outcome};
 
@@ -9,6 +9,23 @@ use formula_grammar::{one_formula, one_outcome};
 /// these refusals comes only where there is no such input.
 pub fn inputs_have_no_fault()
     ensures { InputsHaveNoFault }
+{
+    one_formula();
+    one_outcome();
+}
+
+/// The bytes of a job have one fault at most; so the one that is named is the first.
+pub fn one_input_fault()
+    ensures { OneInputFault }
+{
+    one_formula();
+    one_outcome();
+}
+
+/// A generated table has no fault as a table, and none by the formula that the job `sample` fits to it: of the
+/// design, of what smooths add, or of the problem. So its problem stands whatever number it is made from.
+pub fn generated_tables_have_no_fault()
+    ensures { GeneratedTablesHaveNoFault }
 {
     one_formula();
     one_outcome();

@@ -11,6 +11,8 @@ mod drawn;
 #[cfg(test)]
 mod helpers;
 #[cfg(test)]
+mod jobs;
+#[cfg(test)]
 mod limits;
 #[cfg(test)]
 mod wide;

@@ -6,6 +6,7 @@ ghost use Rattle.rq_cli.specs.Codes.{IsStatus};
 use crate::outcome::Outcome;
 use crate::top::run;
 use port_io::{StdSink, StdSource};
+use rq_fan::Open;
 use std::alloc::{Alloc, AllocError, Global};
 use std::env;
 use std::env::Env;
@@ -58,5 +59,5 @@ pub fn status<R: Threads + Sync, I: Read + Drop, O: Write + Drop, E: Write + Dro
     let mut source = StdSource::new(input);
     let mut out = StdSink::new(output);
     let mut err = StdSink::new(errors);
-    run(rt, alloc, words, &mut source, &mut out, &mut err).code()
+    run(rt, alloc, words, &mut source, &mut out, &mut err, &Open).code()
 }

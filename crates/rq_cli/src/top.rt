@@ -11,6 +11,7 @@ use crate::trouble::Trouble;
 use port_io::{Failed, ReadFault, Sink, Source, read_all, write_all};
 use report_text::{Halt, MEMORY_LINE, Refusal, Report, SINK_LINE, SOURCE_LINE, report_bytes};
 use rq_engine::answer;
+use rq_fan::Gate;
 use rq_words::{Job, WordFault, read_words};
 use std::alloc::Global;
 use std::thread::Threads;
@@ -35,13 +36,16 @@ use std::thread::Threads;
 /// `SourceFault` couldn't be told. `SinkFault` comes only where the count of `out` or of `err` rose;
 /// where one grew there is no other outcome. `OutOfMemory` may come in place of what would follow,
 /// and never after a write to `out`.
-pub fn run<R: Threads + Sync, S: Source, K: Sink, E: Sink>(
+///
+/// The rank intervals are jobs at once. Each enters the gate, with its place among them, before it works.
+pub fn run<R: Threads + Sync, S: Source, K: Sink, E: Sink, G: Gate>(
     rt: &R,
     alloc: Global,
     words: &[String],
     source: &mut S,
     out: &mut K,
     err: &mut E,
+    gate: &G,
 ) -> Outcome
     ensures ran { IsRun (map string_bytes words.now)
         (stream (S.left source.old) (S.faults source.old)) (stream (S.left source.new) (S.faults source.new))
@@ -49,18 +53,19 @@ pub fn run<R: Threads + Sync, S: Source, K: Sink, E: Sink>(
         (stream (E.written err.old) (E.faults err.old)) (stream (E.written err.new) (E.faults err.new)) result }
     ensures unread { ¬ AskSource (map string_bytes words.now) → source.new ≡ source.old }
 {
-    match work(rt, alloc, words, source) {
+    match work(rt, alloc, words, source, gate) {
         Ok((report, text)) => print(report, &text, out, err),
         Err(trouble) => tell(alloc, trouble, err),
     }
 }
 
 // The report of the words and the source with its text, or what keeps the run from it.
-fn work<R: Threads + Sync, S: Source>(
+fn work<R: Threads + Sync, S: Source, G: Gate>(
     rt: &R,
     alloc: Global,
     words: &[String],
     source: &mut S,
+    gate: &G,
 ) -> Result<(Report, Vec<u8>), Trouble>
     ensures answered { IfOk result (λ done. IsAnswered (map string_bytes words.now)
         (stream (S.left source.old) (S.faults source.old)) (stream (S.left source.new) (S.faults source.new)) done.0) }
@@ -79,7 +84,7 @@ fn work<R: Threads + Sync, S: Source>(
         Ok(bytes) => bytes,
         Err(trouble) => return Err(trouble),
     };
-    let report = match answer(rt, alloc, &job, &bytes) {
+    let report = match answer(rt, alloc, &job, &bytes, gate) {
         Ok(report) => report,
         Err(halt) => return Err(Trouble::Halt(halt)),
     };

@@ -11,10 +11,12 @@ use cert_text::{Cert, write_cert};
 use frac_core::{Exact, Frac128, List, OutOfMemory};
 use loss_model::{Interval, IntervalProof};
 use report_text::{Fit, Halt, Refusal};
+use rq_fan::Gate;
 use rq_fit::fit_input;
 use rq_input::{Input, read_input};
 use rq_words::FitJob;
 use std::alloc::Global;
+use std::thread::Threads;
 
 /// The most bytes of a certificate's text.
 const MOST_BYTES: u64 = 1 << 26;
@@ -73,7 +75,13 @@ fn test_length(alloc: Global, cert: &Cert) -> Result<(), Halt>
 // The certificate of an input.
 //
 // Its halts are those of the fit, and then `CertTooLong`.
-fn certify_input(alloc: Global, job: &FitJob, input: Input) -> Result<Cert, Halt>
+fn certify_input<R: Threads + Sync, G: Gate>(
+    rt: &R,
+    alloc: Global,
+    job: &FitJob,
+    input: Input,
+    gate: &G,
+) -> Result<Cert, Halt>
     requires ask { IsFitAsk job.now }
     requires rows { HasRows input }
     requires unpenalised { is_some job.now.rank ≡ true → length input.smoothing.rows ≡ 0 }
@@ -81,7 +89,7 @@ fn certify_input(alloc: Global, job: &FitJob, input: Input) -> Result<Cert, Halt
     ensures written { IfOk result IsWritten }
     ensures cause { IfErr result (HasCertifiedCause job.now input) }
 {
-    let fit = match fit_input(alloc, job, input) {
+    let fit = match fit_input(rt, alloc, job, input, gate) {
         Ok(fit) => fit,
         Err(halt) => return Err(halt),
     };
@@ -97,7 +105,13 @@ fn certify_input(alloc: Global, job: &FitJob, input: Input) -> Result<Cert, Halt
 
 /// The certificate of the fit over the range of a job, from the bytes of its input, if its text isn't
 /// longer than 2^26 bytes.
-pub(crate) fn certify_bytes(alloc: Global, job: &FitJob, bytes: &[u8]) -> Result<Cert, Halt>
+pub(crate) fn certify_bytes<R: Threads + Sync, G: Gate>(
+    rt: &R,
+    alloc: Global,
+    job: &FitJob,
+    bytes: &[u8],
+    gate: &G,
+) -> Result<Cert, Halt>
     requires ask { IsFitAsk job.now }
     requires long { length job.now.formula < 2 ^ 31 }
     requires few { length bytes.now ≤ 2 ^ 26 }
@@ -106,7 +120,7 @@ pub(crate) fn certify_bytes(alloc: Global, job: &FitJob, bytes: &[u8]) -> Result
     ensures cause { IfErr result (HasCertifyCause job.now bytes.now) }
 {
     match read_input(alloc, job, job.rank.is_some(), bytes) {
-        Ok(input) => certify_input(alloc, job, input),
+        Ok(input) => certify_input(rt, alloc, job, input, gate),
         Err(halt) => Err(halt),
     }
 }

@@ -10,6 +10,7 @@ use crate::process::fit_bytes;
 use crate::ranks::ranks_bytes;
 use crate::sample::fit_sample;
 use report_text::{Halt, Report};
+use rq_fan::Gate;
 use rq_words::Job;
 use std::alloc::Global;
 use std::thread::Threads;
@@ -25,11 +26,14 @@ use std::thread::Threads;
 /// and `Overflow` only where an operation of the solve at the low end, of the walk, of a rankscore, of
 /// that interval or of a Wilcoxon score overflows. A stop of an interval is that of the first that
 /// stops, quantile by quantile as given and column by column within. `OutOfMemory` may come at any step.
-pub fn answer<R: Threads + Sync>(
-    _rt: &R,
+///
+/// The rank intervals are jobs at once, and each enters the gate with its place in that order before it works.
+pub fn answer<R: Threads + Sync, G: Gate>(
+    rt: &R,
     alloc: Global,
     job: &Job,
     bytes: &[u8],
+    gate: &G,
 ) -> Result<Report, Halt>
     requires asked { (words : List (List ℕ)) × IsJobOf words job.now }
     requires short { length bytes.now ≤ 2 ^ 26 }
@@ -39,19 +43,19 @@ pub fn answer<R: Threads + Sync>(
 {
     match job {
         Job::Process(fit_job) => {
-            match fit_bytes(alloc, fit_job, fit_job.rank.is_some(), bytes) {
+            match fit_bytes(rt, alloc, fit_job, fit_job.rank.is_some(), bytes, gate) {
                 Ok(fit) => Ok(Report::Process(fit)),
                 Err(halt) => Err(halt),
             }
         }
         Job::Ranks(fit_job) => {
-            match ranks_bytes(alloc, fit_job, bytes) {
+            match ranks_bytes(rt, alloc, fit_job, bytes, gate) {
                 Ok(ranks) => Ok(Report::Ranks(ranks)),
                 Err(halt) => Err(halt),
             }
         }
         Job::Certify(fit_job) => {
-            match certify_bytes(alloc, fit_job, bytes) {
+            match certify_bytes(rt, alloc, fit_job, bytes, gate) {
                 Ok(cert) => Ok(Report::Certificate(cert)),
                 Err(halt) => Err(halt),
             }
@@ -63,7 +67,7 @@ pub fn answer<R: Threads + Sync>(
             }
         }
         Job::Sample(sample_job) => {
-            match fit_sample(alloc, sample_job) {
+            match fit_sample(rt, alloc, sample_job, gate) {
                 Ok(fit) => Ok(Report::Sample(fit)),
                 Err(halt) => Err(halt),
             }

@@ -6,18 +6,22 @@ ghost use Rattle.rq_fit.specs.Asks.{IsFitAsk};
 ghost use Rattle.rq_engine.specs.Answers.{HasFitCause, IsFitOfBytes};
 
 use report_text::{Fit, Halt};
+use rq_fan::Gate;
 use rq_fit::fit_input;
 use rq_input::read_input;
 use rq_words::FitJob;
 use std::alloc::Global;
+use std::thread::Threads;
 
 /// The fit over the range of a job, from the bytes of its input. `ranked` says that ranks or rank
 /// intervals are asked for, which refuses smooths.
-pub(crate) fn fit_bytes(
+pub(crate) fn fit_bytes<R: Threads + Sync, G: Gate>(
+    rt: &R,
     alloc: Global,
     job: &FitJob,
     ranked: bool,
     bytes: &[u8],
+    gate: &G,
 ) -> Result<Fit, Halt>
     requires ask { IsFitAsk job.now }
     requires long { length job.now.formula < 2 ^ 31 }
@@ -28,7 +32,7 @@ pub(crate) fn fit_bytes(
     ensures cause { IfErr result (HasFitCause job.now ranked bytes.now) }
 {
     match read_input(alloc, job, ranked, bytes) {
-        Ok(input) => fit_input(alloc, job, input),
+        Ok(input) => fit_input(rt, alloc, job, input, gate),
         Err(halt) => Err(halt),
     }
 }

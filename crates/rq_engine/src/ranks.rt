@@ -4,13 +4,21 @@ ghost use Rattle.rq_fit.specs.Asks.{IsUnitAsk};
 ghost use Rattle.rq_engine.specs.Answers.{AreRanksOfBytes, HasRanksCause};
 
 use report_text::{Halt, RanksFit};
+use rq_fan::Gate;
 use rq_fit::ranks_input;
 use rq_input::read_input;
 use rq_words::FitJob;
 use std::alloc::Global;
+use std::thread::Threads;
 
 /// The Wilcoxon scores over 0 to 1, from the bytes of a job's input.
-pub(crate) fn ranks_bytes(alloc: Global, job: &FitJob, bytes: &[u8]) -> Result<RanksFit, Halt>
+pub(crate) fn ranks_bytes<R: Threads + Sync, G: Gate>(
+    rt: &R,
+    alloc: Global,
+    job: &FitJob,
+    bytes: &[u8],
+    gate: &G,
+) -> Result<RanksFit, Halt>
     requires ask { IsUnitAsk job.now }
     requires long { length job.now.formula < 2 ^ 31 }
     requires short { length bytes.now ≤ 2 ^ 26 }
@@ -18,7 +26,7 @@ pub(crate) fn ranks_bytes(alloc: Global, job: &FitJob, bytes: &[u8]) -> Result<R
     ensures cause { IfErr result (HasRanksCause job.now bytes.now) }
 {
     match read_input(alloc, job, true, bytes) {
-        Ok(input) => ranks_input(alloc, job, input),
+        Ok(input) => ranks_input(rt, alloc, job, input, gate),
         Err(halt) => Err(halt),
     }
 }

@@ -8,8 +8,10 @@ use crate::process::fit_bytes;
 use contrasts::Coding;
 use frac_core::{OutOfMemory, Text};
 use report_text::{Fit, Halt};
+use rq_fan::Gate;
 use rq_words::{FitJob, SampleJob};
 use std::alloc::Global;
+use std::thread::Threads;
 use table_maker::make;
 
 // The fit that the job asks for: the response on all other columns.
@@ -29,8 +31,13 @@ fn sample_fit(alloc: Global, job: &SampleJob) -> Result<FitJob, OutOfMemory>
 }
 
 /// The fit of the generated table over the range of a job. Its halts are those of the fit of any table.
-pub(crate) fn fit_sample(alloc: Global, job: &SampleJob) -> Result<Fit, Halt>
-    requires { IsSampleAsk job.now }
+pub(crate) fn fit_sample<R: Threads + Sync, G: Gate>(
+    rt: &R,
+    alloc: Global,
+    job: &SampleJob,
+    gate: &G,
+) -> Result<Fit, Halt>
+    requires ask { IsSampleAsk job.now }
     ensures right { IfOk result (IsFitOfBytes (sample_fit_of job.now) false (sample_table job.now)) }
     ensures cause { IfErr result (HasFitCause (sample_fit_of job.now) false (sample_table job.now)) }
 {
@@ -42,7 +49,7 @@ pub(crate) fn fit_sample(alloc: Global, job: &SampleJob) -> Result<Fit, Halt>
         Ok(table) => table,
         Err(_) => return Err(Halt::OutOfMemory),
     };
-    match fit_bytes(alloc, &fit_job, false, &table) {
+    match fit_bytes(rt, alloc, &fit_job, false, &table, gate) {
         Ok(fit) => Ok(fit),
         Err(halt) => Err(halt),
     }

@@ -1,6 +1,4 @@
-pub mod AskedLists
 pub mod Costs
 pub mod Fits
-pub mod RankIntervals
 pub mod Scores
 pub mod Scoring

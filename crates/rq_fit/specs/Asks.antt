@@ -2,14 +2,10 @@
 use Rattle.std.specs.Prelude.{◌≡◌, All, Option, None, Some, pos, ⊤}
 use Rattle.exact_algebra.specs.Fraction.{rational}
 use Rattle.exact_algebra.specs.Rational.{ℚ, whole, ◌≤ℚ◌}
-use Rattle.loss_model.specs.Strict.{◌<ℚ◌}
 use Rattle.rq_words.specs.declared.job.RankAsk.{RankAsk}
 use Rattle.rq_words.specs.declared.job.FitJob.{FitJob}
 use Rattle.report_text.specs.ReportText.{value}
-
--- strictly between 0 and 1
-abbrev pub IsInner : ℚ → Type 0
-IsInner tau = (whole (pos 0) <ℚ tau) × (tau <ℚ whole (pos 1))
+pub use Rattle.interval_jobs.specs.RankProblems.{IsInner}
 
 -- the critical value is at least 0, and the quantiles lie strictly between 0 and 1
 pub record IsRankAsk (rank : RankAsk) : Type 0 where

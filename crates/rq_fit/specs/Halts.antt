@@ -10,7 +10,7 @@ use Rattle.report_text.specs.declared.report.Place.{Place}
 use Rattle.report_text.specs.declared.report.Place.TheVariants.{Process, Interval}
 use Rattle.report_text.specs.declared.report.Halt.{Halt}
 use Rattle.report_text.specs.declared.report.Halt.TheVariants.{Refused, OutOfMemory, PivotLimit, Overflow}
-use Rattle.rq_fit.specs.declared.intervals.IntervalStop.{IntervalStop}
+use Rattle.interval_jobs.specs.declared.asks.IntervalStop.{IntervalStop}
 
 -- the halt of a stop of the solver at a place
 abbrev pub stop_halt : Place → Stop Frac128 → Halt

@@ -1,6 +1,6 @@
 //! The fit of an input: the process over the range, the scores of its segments, and the rank intervals
 //! that are asked for.
-ghost use Rattle.std.specs.Prelude.{◌≡◌, ◌≢◌, ℕ, ◌<◌, ◌≤◌, ◌^◌, All, is_some, length, pos, true, IfOk, IfErr};
+ghost use Rattle.std.specs.Prelude.{◌≡◌, ◌≢◌, ℕ, ◌<◌, ◌≤◌, ◌^◌, ◌++◌, All, is_some, length, pos, true, IfOk, IfErr};
 ghost use Rattle.std.specs.List.{AllZip};
 ghost use Rattle.exact_algebra.specs.Rational.{whole};
 ghost use Rattle.loss_model.specs.Dual.{IsDataRow};
@@ -17,14 +17,16 @@ ghost use Rattle.rq_fit.specs.RankProblems.{HasIntervalCause};
 ghost use Rattle.rq_fit.specs.Stops.{HasProblemCause, IsSegmentSpill};
 
 use crate::halt::{interval_halt, short_halt, stop_halt};
-use crate::intervals::{all_intervals, joined};
 use frac_core::{Exact, Frac128, List, OutOfMemory};
+use interval_jobs::{RankAsks, all_intervals};
 use loss_model::{Interval, Problem, Process, Segment, Short};
 use rankscores::{ScorePair, scores};
 use report_text::{Fit, Halt, Place};
+use rq_fan::Gate;
 use rq_input::Input;
 use rq_words::FitJob;
 use std::alloc::Global;
+use std::thread::Threads;
 use tau_process::process;
 
 // The rankscores of the basic rows of each segment of a problem whose first `data_rows` rows are data
@@ -49,13 +51,15 @@ fn all_scores<F: Exact>(
     Ok(all)
 }
 
-// The rank intervals that a job asks for.
+// The rank intervals that a job asks for, as jobs that enter the gate.
 //
 // A stop of one of them is that of the first, with its column and its quantile.
-fn job_intervals(
+fn job_intervals<R: Threads + Sync, G: Gate>(
+    rt: &R,
     alloc: Global,
     job: &FitJob,
     problem: &Problem<Frac128>,
+    gate: &G,
 ) -> Result<List<Interval<Frac128>>, Halt>
     requires asked { IsRankAskOf job.now.rank }
     requires shaped { IsWellShaped problem.now }
@@ -66,9 +70,26 @@ fn job_intervals(
     let Some(rank) = &job.rank else {
         return Ok(List::new(alloc));
     };
-    match all_intervals(alloc, problem, rank.crit, rank.taus.as_slice(), job.limit) {
+    let asks = RankAsks {
+        crit: rank.crit,
+        taus: rank.taus.as_slice(),
+        limit: job.limit,
+    };
+    match all_intervals(rt, alloc, problem, &asks, gate) {
         Ok(intervals) => Ok(intervals),
         Err(stopped) => Err(interval_halt(stopped)),
+    }
+}
+
+// The items of two lists, one after the other.
+fn joined<T: Drop>(first: List<T>, second: List<T>) -> Result<List<T>, OutOfMemory>
+    ensures { IfOk result (λ items. items ≡ first ++ second) }
+{
+    let mut items = first.into_vec();
+    let mut rest = second.into_vec();
+    match items.append(&mut rest) {
+        Ok(()) => Ok(List::from(items)),
+        Err(_) => Err(OutOfMemory),
     }
 }
 
@@ -110,8 +131,15 @@ fn fit_of(
 ///
 /// `Dependent`, and `PivotLimit` and `Overflow` of the process are those of `process`; an overflow of a
 /// rankscore comes after it, with the whole trail, and after that the first stop of an interval, with its
-/// column and its quantile. `OutOfMemory` may come at any step, and no other halt comes.
-pub fn fit_input(alloc: Global, job: &FitJob, input: Input) -> Result<Fit, Halt>
+/// column and its quantile. `OutOfMemory` may come at any step, and no other halt comes. Each interval is a job
+/// of its own, which enters the gate with its place among them before it works.
+pub fn fit_input<R: Threads + Sync, G: Gate>(
+    rt: &R,
+    alloc: Global,
+    job: &FitJob,
+    input: Input,
+    gate: &G,
+) -> Result<Fit, Halt>
     requires ask { IsFitAsk job.now }
     requires rows { HasRows input }
     requires unpenalised { is_some job.now.rank ≡ true → length input.smoothing.rows ≡ 0 }
@@ -129,7 +157,7 @@ pub fn fit_input(alloc: Global, job: &FitJob, input: Input) -> Result<Fit, Halt>
         Ok(scores) => scores,
         Err(short) => return Err(short_halt(short, walked.trail)),
     };
-    let intervals = match job_intervals(alloc, job, &input.problem) {
+    let intervals = match job_intervals(rt, alloc, job, &input.problem, gate) {
         Ok(intervals) => intervals,
         Err(halt) => return Err(halt),
     };

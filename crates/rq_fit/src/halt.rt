@@ -2,8 +2,8 @@
 ghost use Rattle.std.specs.Prelude.{◌≡◌};
 ghost use Rattle.rq_fit.specs.Halts.{interval_halt as interval_halt_of, short_halt as short_halt_of, stop_halt as stop_halt_of};
 
-use crate::intervals::IntervalStop;
 use frac_core::Frac128;
+use interval_jobs::IntervalStop;
 use loss_model::{Short, Stop, Trail};
 use report_text::{Halt, Place, Refusal};
 

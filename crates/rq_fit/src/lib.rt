@@ -6,14 +6,12 @@
 //! what its report or its certificate is made of stands above.
 //!
 //! It stands on `rq_input` for the input, on `tau_process` for the segments and the trail, on `rankscores`,
-//! on `rank_inversion` and the solve of `br_pivot` for rank intervals, and on `report_text` for the types
-//! that it answers with.
+//! on `interval_jobs` for rank intervals, and on `report_text` for the types that it answers with.
 //! Its tests are those of whole runs, in the crate `run_tests`.
 #![tactic(auto)]
 
 mod fit;
 mod halt;
-mod intervals;
 mod ranks;
 
 pub use fit::fit_input;

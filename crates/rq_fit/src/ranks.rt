@@ -8,15 +8,23 @@ use crate::fit::fit_input;
 use crate::halt::short_halt;
 use rankscores::wilcoxon;
 use report_text::{Halt, RanksFit};
+use rq_fan::Gate;
 use rq_input::Input;
 use rq_words::FitJob;
 use std::alloc::Global;
+use std::thread::Threads;
 
 /// The fit of an input without penalty rows over 0 to 1, and its Wilcoxon scores (Gutenbrunner and
 /// Jurečková 1992).
 ///
 /// Its halts are those of the fit, and then an overflow of a Wilcoxon score, with the whole trail.
-pub fn ranks_input(alloc: Global, job: &FitJob, input: Input) -> Result<RanksFit, Halt>
+pub fn ranks_input<R: Threads + Sync, G: Gate>(
+    rt: &R,
+    alloc: Global,
+    job: &FitJob,
+    input: Input,
+    gate: &G,
+) -> Result<RanksFit, Halt>
     requires ask { IsUnitAsk job.now }
     requires rows { HasRows input }
     requires unpenalised { length input.smoothing.rows ≡ 0 }
@@ -25,7 +33,7 @@ pub fn ranks_input(alloc: Global, job: &FitJob, input: Input) -> Result<RanksFit
 {
     // A limit of 32 bits: there are no more segments than the site of a score can number.
     let _limit = job.limit;
-    let fit = match fit_input(alloc, job, input) {
+    let fit = match fit_input(rt, alloc, job, input, gate) {
         Ok(fit) => fit,
         Err(halt) => return Err(halt),
     };

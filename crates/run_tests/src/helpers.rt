@@ -2,6 +2,7 @@
 
 use port_io::{MemSink, Source, SureSource};
 use rq_cli::run;
+use rq_fan::{Gate, Open};
 use std::alloc::Global;
 use std::process::Abort;
 use std::str::from_utf8;
@@ -65,21 +66,22 @@ pub(crate) fn ran_into<R: Threads + Sync, S: Source>(
     mut err: MemSink,
 ) -> Result<Left, Fail> {
     let words = words_of(alloc, line)?;
-    let status = status_of(rt, alloc, &words, source, &mut out, &mut err);
+    let status = status_of(rt, alloc, &words, source, &mut out, &mut err, &Open);
     left_on(alloc, status, &out, &err)
 }
 
 // The run and its status. It has no clause: a test compares what is left, and needs nothing of what is
 // proved.
-fn status_of<R: Threads + Sync, S: Source>(
+fn status_of<R: Threads + Sync, S: Source, G: Gate>(
     rt: &R,
     alloc: Global,
     words: &[String],
     source: &mut S,
     out: &mut MemSink,
     err: &mut MemSink,
+    gate: &G,
 ) -> u8 {
-    run(rt, alloc, words, source, out, err).code()
+    run(rt, alloc, words, source, out, err, gate).code()
 }
 
 fn left_on(alloc: Global, status: u8, out: &MemSink, err: &MemSink) -> Result<Left, Fail> {
@@ -114,6 +116,22 @@ pub(crate) fn ran_on<R: Threads + Sync>(
 ) -> Result<Left, Fail> {
     let mut source = SureSource::new(table.to_vec(alloc)?);
     ran(rt, alloc, line, &mut source, &SOUND)
+}
+
+/// A run of the words on a table, where nothing fails, whose jobs pass this gate.
+pub(crate) fn ran_past<R: Threads + Sync, G: Gate>(
+    rt: &R,
+    alloc: Global,
+    line: &str,
+    table: &[u8],
+    gate: &G,
+) -> Result<Left, Fail> {
+    let words = words_of(alloc, line)?;
+    let mut source = SureSource::new(table.to_vec(alloc)?);
+    let mut out = sink(alloc, 4096, &[])?;
+    let mut err = sink(alloc, 4096, &[])?;
+    let status = status_of(rt, alloc, &words, &mut source, &mut out, &mut err, gate);
+    left_on(alloc, status, &out, &err)
 }
 
 /// The run printed this report and nothing else.

@@ -6,6 +6,8 @@ mod certificates;
 #[cfg(test)]
 mod formulas;
 #[cfg(test)]
+mod gates;
+#[cfg(test)]
 mod helpers;
 #[cfg(test)]
 mod hostile;

@@ -11,5 +11,5 @@ mod solving;
 mod walking;
 
 pub use bodies::Tableau;
-pub use solving::{Halt, Progress, Solution, halt_of, solve, solve_over, stop_of};
+pub use solving::{Halt, Progress, Solution, solve, solve_over, stop_of};
 pub use walking::{Walk, walk_range};

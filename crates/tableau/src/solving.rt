@@ -5,6 +5,7 @@ ghost use Rattle.loss_model.specs.Problem.{IsWellShaped};
 ghost use Rattle.loss_model.specs.Greedy.{IsGreedyBasis};
 ghost use Rattle.loss_model.specs.StartStop.{IsStartStop};
 ghost use Rattle.pivot_rule.specs.Duals.{HasCosts};
+ghost use Rattle.tableau.specs.declared.solving.Halt.TheVariants.{PivotLimit};
 ghost use Rattle.tableau_model.specs.Places.{in_fractions, in_wholes, sample_of};
 ghost use Rattle.tableau_model.specs.Questions.{solving, IsStepOf};
 ghost use Rattle.tableau_model.specs.Refusals.{IsRefusedOf};
@@ -60,7 +61,7 @@ fn full_start(alloc: Global, rows: &[u32]) -> Result<List<Option<u32>>, OutOfMem
 }
 
 /// The halt of a loop for what refused its next step.
-pub fn halt_of<F: Exact>(refused: Failure<F>, trail: Trail<F>) -> Halt<F>
+fn halt_of<F: Exact>(refused: Failure<F>, trail: Trail<F>) -> Halt<F>
     ensures { IsHaltOf refused trail result }
 {
     match refused {
@@ -126,6 +127,20 @@ impl<'a, F: Exact> Progress<'a, F> {
         Ok(begun)
     }
 
+    /// Halts for what refused the next step. The tableau goes, and the trail goes on.
+    pub(crate) fn halt(self, refused: Failure<F>) -> Halt<F>
+        ensures { IsHaltOf refused self.entry.trail result }
+    {
+        halt_of(refused, self.trail)
+    }
+
+    /// Halts at the limit.
+    pub(crate) fn halt_at_limit(self) -> Halt<F>
+        ensures { result ≡ PivotLimit self.entry.trail }
+    {
+        Halt::PivotLimit { trail: self.trail }
+    }
+
     /// Makes the solving step. After a refusal the trail is as before.
     fn make_step(&mut self, theta: F, step: Step) -> Result<(), Failure<F>>
         requires underway { IsUnderway F.value (rational (F.value theta)) self.old }
@@ -183,13 +198,13 @@ pub fn solve_over<'a, F: Exact>(
         match solve.advance(theta) {
             Ok(true) => {}
             Ok(false) => return Ok(solve),
-            Err(refused) => return Err(halt_of(refused, solve.trail)),
+            Err(refused) => return Err(solve.halt(refused)),
         }
     }
     match solve.tableau.solving_step(theta) {
         Ok(None) => Ok(solve),
-        Ok(Some(_)) => Err(Halt::PivotLimit { trail: solve.trail }),
-        Err(refused) => Err(halt_of(refused, solve.trail)),
+        Ok(Some(_)) => Err(solve.halt_at_limit()),
+        Err(refused) => Err(solve.halt(refused)),
     }
 }
 
@@ -210,7 +225,7 @@ fn finish<'a, F: Exact>(
             fitted,
             reached: at,
         }),
-        Err(refused) => Err(halt_of(refused, at.trail)),
+        Err(refused) => Err(at.halt(refused)),
     }
 }
 

@@ -10,11 +10,12 @@ ghost use Rattle.tableau_model.specs.Questions.{walking};
 ghost use Rattle.tableau_model.specs.Refusals.{IsRefusalAt, IsRefusedOf};
 ghost use Rattle.tableau_model.specs.WalkAnswers.{IsOptimalFrom, IsStepTo};
 ghost use Rattle.tableau.specs.Bodies.{place_of};
-ghost use Rattle.tableau.specs.Solving.{IsRefusal, IsSolved};
+ghost use Rattle.tableau.specs.Solving.{IsHaltOf, IsRefusal, IsSolved};
+ghost use Rattle.tableau.specs.declared.solving.Halt.TheVariants.{PivotLimit};
 ghost use Rattle.tableau.specs.Walking.{AreSegmentsAfter, IsWalked, IsWalkedOrStill, IsWalking, IsWalkedOut, IsWalkDone, IsWalkHalted, now_of, here_of};
 
 use crate::bodies::Tableau;
-use crate::solving::{Halt, Progress, halt_of};
+use crate::solving::{Halt, Progress};
 use frac_core::{Exact, List};
 use loss_model::{Exchange, Process, Segment};
 use std::alloc::Global;
@@ -70,6 +71,20 @@ fn put_segment<'a, F: Exact>(
 }
 
 impl<'a, F: Exact> Walk<'a, F> {
+    /// Halts for what refused the next step.
+    fn halt(self, refused: Failure<F>) -> Halt<F>
+        ensures { IsHaltOf refused self.entry.reached.trail result }
+    {
+        self.reached.halt(refused)
+    }
+
+    /// Halts at the limit.
+    fn halt_at_limit(self) -> Halt<F>
+        ensures { result ≡ PivotLimit self.entry.reached.trail }
+    {
+        self.reached.halt_at_limit()
+    }
+
     /// Makes a walking step. After a refusal the trail is as before.
     fn make_step(&mut self, step: Exchange<F>, hi: F) -> Result<(), Failure<F>>
         requires step { IsStepTo F.value (here_of F.value self.old) (now_of F.value self.old) (rational (F.value hi)) step }
@@ -141,15 +156,13 @@ fn walk_over<'a, F: Exact>(
         match walk.advance(hi) {
             Ok(true) => {}
             Ok(false) => return Ok(walk),
-            Err(refused) => return Err(halt_of(refused, walk.reached.trail)),
+            Err(refused) => return Err(walk.halt(refused)),
         }
     }
     match walk.reached.tableau.walking_step(walk.now, hi) {
         Ok(None) => Ok(walk),
-        Ok(Some(_)) => Err(Halt::PivotLimit {
-            trail: walk.reached.trail,
-        }),
-        Err(refused) => Err(halt_of(refused, walk.reached.trail)),
+        Ok(Some(_)) => Err(walk.halt_at_limit()),
+        Err(refused) => Err(walk.halt(refused)),
     }
 }
 
@@ -181,7 +194,7 @@ fn end_walk<'a, F: Exact>(
             }),
             Err(_) => Err(Halt::OutOfMemory),
         },
-        Err(refused) => Err(halt_of(refused, reached.trail)),
+        Err(refused) => Err(reached.halt(refused)),
     }
 }
 

@@ -9,6 +9,7 @@
 mod body;
 mod ends;
 mod parts;
+mod reading;
 mod refusal;
 mod setting;
 mod solving;

@@ -10,24 +10,18 @@ ghost use Rattle.whole_inverse.specs.Squares.{inverse_of};
 ghost use Rattle.whole_solution.specs.Standing.{IsWholeSolution};
 ghost use Rattle.fraction_tableau.specs.Standing.{AreDuals, AreCoefficients};
 ghost use Rattle.whole_tableau.specs.Kept.{IsKept, place, wholes_of};
-ghost use Rattle.whole_tableau.specs.Values.{AreParts};
+ghost use Rattle.whole_tableau.specs.Values.{IsReading};
 
 use crate::body::WholeTableau;
-use crate::refusal::{failure, obstacle_of};
+use crate::reading::Reading;
+use crate::refusal::failure;
 use frac_core::{Exact, List};
-use fraction_tableau::{ascending, by_row, duals_at};
+use fraction_tableau::{ascending, by_row};
 use loss_model::{Basis, Vertex};
 use tableau_model::{Failure, Fitted};
 use whole_fractions::{scaled, value_over, values_under};
 use whole_inverse::Obstacle;
 use whole_solution::WholeSolution;
-
-/// The two parts of the dual values of the basis by position, which at theta are `constant + linear * theta`.
-#[derive(Drop)]
-pub struct DualParts<F> {
-    pub constant: List<F>,
-    pub linear: List<F>,
-}
 
 impl<'a, F: Exact> WholeTableau<'a, F> {
     /// The coefficients.
@@ -53,44 +47,30 @@ impl<'a, F: Exact> WholeTableau<'a, F> {
         Ok(coef)
     }
 
-    /// The two parts of the dual values.
-    pub(crate) fn dual_parts(
-        &self,
-        solution: &WholeSolution,
-        determinant: i128,
-    ) -> Result<DualParts<F>, Obstacle>
-        requires kept { IsKept F.value self.now }
-        requires determinant { determinant ≡ self.now.square.determinant }
-        requires solution { IsWholeSolution (wholes_of self.now) (slice_index self.now.rows) (inverse_of self.now.square) self.now.square.determinant solution.now }
-        ensures { IfOk result (AreParts F.value (place F.value self.now)) }
+    /// How numerators over the determinant that are affine in the quantile are read at theta, divided by the factor of the
+    /// costs.
+    pub(crate) fn reading(&self, theta: F) -> Result<Reading<F>, Obstacle>
+        ensures { IfOk result (IsReading F.value self.now (rational (F.value theta))) }
     {
         let wholes = &self.setting().wholes;
-        let cost: F = value_over(wholes.cost.over, wholes.cost.under)?;
-        let constant = values_under(
-            self.alloc(),
-            solution.constant.as_slice(),
-            determinant,
-            cost,
-        )?;
-        let linear = values_under(self.alloc(), solution.linear.as_slice(), determinant, cost)?;
-        Ok(DualParts { constant, linear })
+        let factor: F = value_over(wholes.cost.over, wholes.cost.under)?;
+        Ok(Reading {
+            theta,
+            denominator: self.determinant(),
+            factor,
+        })
     }
 
     /// The dual values at theta, by position.
-    pub(crate) fn duals(&self, parts: &DualParts<F>, theta: F) -> Result<List<F>, Obstacle>
-        requires kept { IsKept F.value self.now }
-        requires parts { AreParts F.value (place F.value self.now) parts.now }
+    pub(crate) fn duals(&self, theta: F) -> Result<List<F>, Obstacle>
         ensures { IfOk result (AreDuals F.value (place F.value self.now) (rational (F.value theta))) }
     {
-        match duals_at(
-            self.alloc(),
-            parts.constant.as_slice(),
-            parts.linear.as_slice(),
-            theta,
-        ) {
-            Ok(duals) => Ok(duals),
-            Err(short) => Err(obstacle_of(short)),
-        }
+        let solution = self.solution();
+        let reading = self.reading(theta)?;
+        let constants = solution.constant.as_slice();
+        let linears = solution.linear.as_slice();
+        let duals = reading.values(self.alloc(), constants, linears)?;
+        Ok(duals)
     }
 
     /// The vertex of the basis with the dual values of its rows at theta, ascending.
@@ -100,8 +80,7 @@ impl<'a, F: Exact> WholeTableau<'a, F> {
         let solution = self.solution();
         let determinant = self.determinant();
         let coef = self.coefficients(solution, determinant)?;
-        let parts = self.dual_parts(solution, determinant)?;
-        let duals = self.duals(&parts, theta)?;
+        let duals = self.duals(theta)?;
         let rows = self.basis().rows.as_slice();
         let sorted = ascending(self.alloc(), rows)?;
         let basic = by_row(self.alloc(), rows, sorted.as_slice(), duals.as_slice())?;

@@ -5,6 +5,8 @@
 #![tactic(auto)]
 
 #[cfg(test)]
+mod breakpoints;
+#[cfg(test)]
 mod segments;
 #[cfg(test)]
 mod wide;

@@ -8,40 +8,40 @@ use Rattle.rq_fit.proofs.Scores.{zip_length}
 use Rattle.rq_fit.proofs.fit.fit_input.Goals as goal
 
 pub process-requires-clause-costs_lo : goal.process-requires-clause-costs_lo
-process-requires-clause-costs_lo c κs = low_costs c.args.job.now c.requires.ask c.args.input c.requires.rows
+process-requires-clause-costs_lo g c κs = low_costs c.args.job.now c.requires.ask c.args.input c.requires.rows
 
 pub process-requires-clause-costs_hi : goal.process-requires-clause-costs_hi
-process-requires-clause-costs_hi c κs = high_costs c.args.job.now c.requires.ask c.args.input c.requires.rows
+process-requires-clause-costs_hi g c κs = high_costs c.args.job.now c.requires.ask c.args.input c.requires.rows
 
 pub returns-in-Err-clause-cause : goal.returns-in-Err-clause-cause
-returns-in-Err-clause-cause c = rw c.stop_halt.ensures (stop_cause c.args.job.now (length c.args.input.design.rows) c.args.input.problem c.in-Err.stop c.in-Err.ensures.stopped)
+returns-in-Err-clause-cause g c = rw c.stop_halt.ensures (stop_cause c.args.job.now (length c.args.input.design.rows) c.args.input.problem c.in-Err.stop c.in-Err.ensures.stopped)
 
 pub all_scores-requires-clause-scorable : goal.all_scores-requires-clause-scorable
-all_scores-requires-clause-scorable c κs =
+all_scores-requires-clause-scorable g c κs =
     rw c.as_slice-segments.ensures
     (process_scorable value c.args.input.problem (rational (value c.args.job.now.lo)) (rational (value c.args.job.now.hi)) c.in-Ok.walked c.in-Ok.ensures.process.results)
 
 pub all_scores-requires-clause-few : goal.all_scores-requires-clause-few
-all_scores-requires-clause-few c κs =
+all_scores-requires-clause-few g c κs =
     let few = few_segments value c.args.input.problem (rational (value c.args.job.now.lo)) (rational (value c.args.job.now.hi)) c.in-Ok.walked c.in-Ok.ensures.process.results in
     omega (arith, ap length c.as_slice-segments.ensures, few, c.in-Ok.ensures.short)
 
 pub returns-in-Err-all_scores-clause-cause : goal.returns-in-Err-all_scores-clause-cause
-returns-in-Err-all_scores-clause-cause c =
+returns-in-Err-all_scores-clause-cause g c =
     rw c.short_halt.ensures
     (short_cause c.args.job.now (length c.args.input.design.rows) c.args.input.problem c.in-Ok.walked c.in-Ok.ensures.process.results c.in-Ok.ensures.short c.in-Err-all_scores.short
     (rw c.as_slice-segments.ensures at (rw c.as_slice.ensures at c.in-Err-all_scores.ensures.spilled)))
 
 pub job_intervals-requires-clause-data : goal.job_intervals-requires-clause-data
-job_intervals-requires-clause-data c some i l = c.requires.rows.are_data i (omega (arith, c.requires.rows.size, c.requires.unpenalised some, l))
+job_intervals-requires-clause-data g c κs within some i l = c.requires.rows.are_data i (omega (arith, c.requires.rows.size, c.requires.unpenalised some, l))
 
 pub returns-in-Err-job_intervals-clause-cause : goal.returns-in-Err-job_intervals-clause-cause
-returns-in-Err-job_intervals-clause-cause c =
+returns-in-Err-job_intervals-clause-cause g c =
     interval_cause c.args.job.now (length c.args.input.design.rows) c.args.input.problem c.in-Ok.walked c.in-Ok-all_scores.scores c.in-Ok.ensures.process.results c.in-Ok.ensures.short
     (rw c.as_slice-segments.ensures at (rw c.as_slice.ensures at c.in-Ok-all_scores.ensures.scored)) c.in-Err-job_intervals.halt c.in-Err-job_intervals.ensures.cause
 
 pub returns-in-Ok-fit_of-clause-right : goal.returns-in-Ok-fit_of-clause-right
-returns-in-Ok-fit_of-clause-right c =
+returns-in-Ok-fit_of-clause-right g c =
     let under = c.in-Ok-fit_of.ensures.under in
     record {
       under = under;
@@ -51,7 +51,7 @@ returns-in-Ok-fit_of-clause-right c =
     }
 
 pub returns-in-Ok-fit_of-clause-printable : goal.returns-in-Ok-fit_of-clause-printable
-returns-in-Ok-fit_of-clause-printable c =
+returns-in-Ok-fit_of-clause-printable g c =
     let under = c.in-Ok-fit_of.ensures.under in
     let scored = rw c.as_slice-segments.ensures at (rw c.as_slice.ensures at c.in-Ok-all_scores.ensures.scored) in
     let each = zip_length (IsScored value c.args.input.problem (length c.args.input.design.rows)) c.in-Ok.walked.segments c.in-Ok-all_scores.scores scored in (

@@ -19,7 +19,7 @@ returns-in-Err-clause-halted g c =
     let lo = rational (value c.args.lo) in
     let hi = rational (value c.args.hi) in
     let out = c.requires.out in
-    walk_refused value task lo hi g.F.Exact.range c.args.limit w w.reached.trail c.in-Err.refused c.halt_of.result out.walking out.short
+    walk_refused value task lo hi g.F.Exact.range c.args.limit w w.reached.trail c.in-Err.refused c.halt.result out.walking out.short
     (refusal_kept value g.F.Exact.range (here_of value w) (walking (now_of value w) hi) w.reached.trail c.in-Err.refused
     ((c.in-Err.ensures {u = tt}).refused hi (last_end value task lo hi c.args.limit w out c.requires.costs)))
-    c.halt_of.ensures
+    c.halt.ensures

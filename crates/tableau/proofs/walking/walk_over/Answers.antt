@@ -1,8 +1,8 @@
-use Rattle.std.proofs.Common.{◌≡◌, ◌≤◌, ◌+◌, length, sym, ap, arith, ◌∙◌}
+use Rattle.std.proofs.Common.{◌≡◌, ◌+◌, length, sym, ap, subst, arith, ◌∙◌}
 use Rattle.std.proofs.lemmas.List.{length_push}
 use Rattle.exact_algebra.specs.Fraction.{rational}
 use Rattle.tableau_model.specs.Questions.{walking}
-use Rattle.tableau.specs.Walking.{now_of, here_of}
+use Rattle.tableau.specs.Walking.{now_of, here_of, IsWalkHalted}
 use Rattle.tableau.proofs.Halts.{refusal_kept}
 use Rattle.tableau.proofs.Walks.{costs_here, optimal_now, goes_on, walk_refused, limit_walked}
 use Rattle.tableau.proofs.walking.walk_over.Goals as goal
@@ -71,8 +71,8 @@ returns-in-Err-clause-halted g c =
     let hi = rational (value c.args.hi) in
     let w = c.loop.walk in
     let h = c.loop.invariant.walking in
-    walk_refused value task lo hi g.F.Exact.range c.args.limit w c.advance.new.self.reached.trail c.in-Err.refused c.halt_of.result h
-    (omega (arith, c.loop.invariant.counted, c.loop-test.true)) (c.in-Err.ensures {u = tt}).refused c.halt_of.ensures
+    walk_refused value task lo hi g.F.Exact.range c.args.limit w c.advance.new.self.reached.trail c.in-Err.refused c.halt.result h
+    (omega (arith, c.loop.invariant.counted, c.loop-test.true)) (c.in-Err.ensures {u = tt}).refused c.halt.ensures
 
 pub loop-preserved : goal.loop-preserved
 loop-preserved g c =
@@ -110,10 +110,11 @@ returns-in-Ok-Some-clause-halted g c =
     let w = c.loop.walk in
     let h = c.loop.invariant.walking in
     let step = rw c.in-Ok-Some.field-0-is at (c.in-Ok-Some.ensures {u = tt}).step in
-    limit_walked value task lo hi c.args.limit w c.in-Ok-Some.field-0-0 h (omega (arith, c.loop.invariant.counted, c.loop-test.false, c.loop.invariant.short)) step
+    subst (IsWalkHalted value g.F.Exact.range task lo hi c.args.limit) (sym c.halt_at_limit.ensures)
+    (limit_walked value task lo hi c.args.limit w c.in-Ok-Some.field-0-0 h (omega (arith, c.loop.invariant.counted, c.loop-test.false, c.loop.invariant.short)) step)
 
-pub returns-clause-halted : goal.returns-clause-halted
-returns-clause-halted g c =
+pub returns-in-Err-walking_step-clause-halted : goal.returns-in-Err-walking_step-clause-halted
+returns-in-Err-walking_step-clause-halted g c =
     let value = g.F.Exact.value in
     let task = (here_of value c.args.from).task in
     let lo = rational (value c.args.lo) in
@@ -121,6 +122,6 @@ returns-clause-halted g c =
     let w = c.loop.walk in
     let h = c.loop.invariant.walking in
     let asked = walking (now_of value w) hi in
-    walk_refused value task lo hi g.F.Exact.range c.args.limit w w.reached.trail c.in-Err-walking_step.refused c.halt_of-in-Err-walking_step.result h
+    walk_refused value task lo hi g.F.Exact.range c.args.limit w w.reached.trail c.in-Err-walking_step.refused c.halt-in-Err-walking_step.result h
     (omega (arith, c.loop.invariant.counted, c.loop-test.false, c.loop.invariant.short))
-    (refusal_kept value g.F.Exact.range (here_of value w) asked w.reached.trail c.in-Err-walking_step.refused (c.in-Err-walking_step.ensures {u = tt}).refused) c.halt_of-in-Err-walking_step.ensures
+    (refusal_kept value g.F.Exact.range (here_of value w) asked w.reached.trail c.in-Err-walking_step.refused (c.in-Err-walking_step.ensures {u = tt}).refused) c.halt-in-Err-walking_step.ensures

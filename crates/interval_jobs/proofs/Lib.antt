@@ -1,0 +1,4 @@
+mod Ends
+mod Listed
+mod RankIntervals
+mod Untils

@@ -1,0 +1,15 @@
+use Rattle.std.proofs.Common.{map}
+use Rattle.std.proofs.lemmas.Result.{IfOk-weaker}
+use Rattle.rank_inversion.specs.Jobs.{range, value}
+use Rattle.interval_jobs.specs.Answers.{IsIntervalAnswer}
+use Rattle.interval_jobs.specs.Intervals.{asked_over}
+use Rattle.interval_jobs.proofs.Untils.{answered_until, zip_of}
+use Rattle.interval_jobs.proofs.intervals.RankProblem+Frac128.intervals.Goals as goal
+
+pub returns : goal.returns
+returns g c =
+    let self = c.args.self.now in
+    let answers = c.in_ok-answers.answers.items in
+    IfOk-weaker c.until_stop.result _ _ (λ until h.
+    answered_until (IsIntervalAnswer value range self) (asked_over self.crit self.problem.now.columns (map (λ at. at.tau) c.args.solves.now)) answers until.done.items until.stop
+    (zip_of (λ asked. (self, asked)) (λ job answer. IsIntervalAnswer value range job.0 job.1 answer) (asked_over self.crit self.problem.now.columns (map (λ at. at.tau) c.args.solves.now)) c.in_ok-jobs.jobs.items answers c.in_ok-jobs.ensures c.in_ok-answers.ensures) h) c.until_stop.ensures

@@ -1,0 +1,13 @@
+use Rattle.std.proofs.lemmas.Result.{IfOk-weaker}
+use Rattle.rank_inversion.specs.Jobs.{range, value}
+use Rattle.interval_jobs.specs.Answers.{IsSolveAnswer}
+use Rattle.interval_jobs.proofs.Untils.{answered_until, zip_of}
+use Rattle.interval_jobs.proofs.intervals.RankProblem+Frac128.solves.Goals as goal
+
+pub returns : goal.returns
+returns g c =
+    let self = c.args.self.now in
+    let answers = c.in_ok-answers.answers.items in
+    IfOk-weaker c.until_stop.result _ _ (λ until h.
+    answered_until (IsSolveAnswer value range self) c.args.taus.now answers until.done.items until.stop
+    (zip_of (λ tau. (self, tau)) (λ job answer. IsSolveAnswer value range job.0 job.1 answer) c.args.taus.now c.in_ok-jobs.jobs.items answers c.in_ok-jobs.ensures c.in_ok-answers.ensures) h) c.until_stop.ensures

@@ -1,0 +1,4 @@
+pub mod Answers
+pub mod Intervals
+pub mod RankProblems
+pub mod Until

@@ -1,0 +1,79 @@
+//! The jobs: the solve at a quantile, and the interval of a column from there.
+//!
+//! They are done over `Frac128`: what an implementation of `Work` for every type of fractions would hand to a
+//! thread isn't covered by the toolchain yet.
+ghost use Rattle.interval_jobs.specs.Answers.{IsIntervalAnswer, IsSolveAnswer};
+ghost use Rattle.rank_inversion.specs.Jobs.{range, value};
+
+use crate::asks::{IntervalStop, RankProblem, SolvedAt};
+use br_pivot::Solved;
+use frac_core::{Exact, Frac128};
+use loss_model::Interval;
+use rank_inversion::Asked;
+use rq_fan::{Gate, Work};
+use std::alloc::Global;
+use std::marker::Model;
+
+/// The solve at a quantile. Contracts see the problem and the quantile.
+#[derive(Drop)]
+pub(crate) struct SolveJob<'a, F: Exact> {
+    pub alloc: Global,
+    pub ranked: RankProblem<'a, F>,
+    pub tau: F,
+}
+
+impl<'a, F: Exact> Model for SolveJob<'a, F> {
+    ghost use Rattle.interval_jobs.specs.RankProblems.{IsSolvable};
+    ghost use Rattle.interval_jobs.specs.declared.asks.RankProblem.{RankProblem};
+
+    ghost Value = { RankProblem F × F };
+
+    ghost view = { λ j. (j.ranked, j.tau) };
+
+    ghost invariant = { λ j. IsSolvable F.value j.ranked j.tau };
+}
+
+impl<'a> Work for SolveJob<'a, Frac128> {
+    type Answer = Result<SolvedAt<Frac128>, IntervalStop<Frac128>>;
+
+    ghost answers = { λ job answer. IsSolveAnswer value range job.0 job.1 answer };
+
+    fn work(self) -> Result<SolvedAt<Frac128>, IntervalStop<Frac128>> {
+        self.ranked.solve(self.alloc, self.tau)
+    }
+}
+
+/// The interval of a column, from the solve at its quantile. It enters the gate with its place before it works.
+/// Contracts see the problem and what is asked.
+#[derive(Drop)]
+pub(crate) struct ColumnJob<'a, 'b, F: Exact, G> {
+    pub alloc: Global,
+    pub ranked: RankProblem<'a, F>,
+    pub solved: &'b Solved<F>,
+    pub asked: Asked<F>,
+    pub gate: &'b G,
+    pub place: u32,
+}
+
+impl<'a, 'b, F: Exact, G> Model for ColumnJob<'a, 'b, F, G> {
+    ghost use Rattle.rank_inversion.specs.declared.column_test.Asked.{Asked};
+    ghost use Rattle.interval_jobs.specs.RankProblems.{IsWalkable};
+    ghost use Rattle.interval_jobs.specs.declared.asks.RankProblem.{RankProblem};
+
+    ghost Value = { RankProblem F × Asked F };
+
+    ghost view = { λ j. (j.ranked, j.asked) };
+
+    ghost invariant = { λ j. IsWalkable F.value j.ranked j.asked j.solved.now };
+}
+
+impl<'a, 'b, G: Gate> Work for ColumnJob<'a, 'b, Frac128, G> {
+    type Answer = Result<Interval<Frac128>, IntervalStop<Frac128>>;
+
+    ghost answers = { λ job answer. IsIntervalAnswer value range job.0 job.1 answer };
+
+    fn work(self) -> Result<Interval<Frac128>, IntervalStop<Frac128>> {
+        self.gate.enter(self.place);
+        self.ranked.interval(self.alloc, self.solved, self.asked)
+    }
+}
