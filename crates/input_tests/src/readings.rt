@@ -4,7 +4,9 @@
 //! the empty list, and an operator stands with its offset. A fault is told as `Debug` writes it.
 
 use crate::helpers::Told;
-use formula_grammar::{ArithPart, ArithStep, ReadFault, Reading, SmoothPart, Span, Step, read, tokens_of};
+use formula_grammar::{
+    ArithPart, ArithStep, ReadFault, Reading, SmoothPart, Span, Step, read, tokens_of,
+};
 use std::alloc::Global;
 use std::process::Abort;
 use std::test::Fail;
