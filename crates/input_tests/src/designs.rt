@@ -6,245 +6,74 @@
 
 ghost use Rattle.std.specs.Prelude.{◌<◌, ◌^◌, All, IsTrue, length};
 
-use crate::helpers::{expect_answer, push_number};
+use crate::helpers::{Told, frame_of};
 use contrasts::Coding;
-use data_frame::read_table;
+use data_frame::Frame;
 use design_matrix::{Design, DesignFault, DesignRow, build};
 use formula_parser::{Formula, Term, Variable};
-use frac_core::{Exact, Frac128, List, Text};
+use frac_core::{Exact, Frac128, List, OutOfMemory, Text};
 use std::alloc::Global;
 use std::process::Abort;
-use std::test::Fail;
 
 static TABLE: &[u8] =
     b"y,f,g,x,z\n1,b,v,3,2\n2,a,u,1,5\n3,c,v,-1,2\n4,a,v,1/2,NA\n5,b,u,2,5\n6,c,,4,2\n";
 
-/// The terms of a formula behind 1 for an intercept and 0 for none, a coding, and the design: the
-/// names of its columns, and each row with the number of its record.
-#[derive(Clone, Copy)]
-struct Case {
-    terms: &'static str,
-    coding: Coding,
-    design: &'static str,
-}
+/// The terms of a formula behind 1 for an intercept and 0 for none, and the design: the names of its columns, and each
+/// row with the number of its record.
+static TREATMENT: &str = "
+1 f => (Intercept),fb,fc | 1: 1 1 0 | 2: 1 0 0 | 3: 1 0 1 | 4: 1 0 0 | 5: 1 1 0 | 6: 1 0 1
+1 f x f:x => (Intercept),fb,fc,x,fb:x,fc:x | 1: 1 1 0 3 3 0 | 2: 1 0 0 1 0 0 | 3: 1 0 1 -1 0 -1 | 4: 1 0 0 1/2 0 0 | 5: 1 1 0 2 2 0 | 6: 1 0 1 4 0 4
+1 f g f:g => (Intercept),fb,fc,gv,fb:gv,fc:gv | 1: 1 1 0 1 1 0 | 2: 1 0 0 0 0 0 | 3: 1 0 1 1 0 1 | 4: 1 0 0 1 0 0 | 5: 1 1 0 0 0 0
+0 f g f:g => fa,fb,fc,gv,fb:gv,fc:gv | 1: 0 1 0 1 1 0 | 2: 1 0 0 0 0 0 | 3: 0 0 1 1 0 1 | 4: 1 0 0 1 0 0 | 5: 0 1 0 0 0 0
+0 x f:x => x,fb:x,fc:x | 1: 3 3 0 | 2: 1 0 0 | 3: -1 0 -1 | 4: 1/2 0 0 | 5: 2 2 0 | 6: 4 0 4
+0 f:g => fa:gu,fb:gu,fc:gu,fa:gv,fb:gv,fc:gv | 1: 0 0 0 0 1 0 | 2: 1 0 0 0 0 0 | 3: 0 0 0 0 0 1 | 4: 0 0 0 1 0 0 | 5: 0 1 0 0 0 0
+0 factor(z) => factor(z)2,factor(z)5 | 1: 1 0 | 2: 0 1 | 3: 1 0 | 5: 0 1 | 6: 1 0
+1 z f g z:f f:g => (Intercept),z,fb,fc,gv,z:fb,z:fc,fb:gv,fc:gv | 1: 1 2 1 0 1 2 0 1 0 | 2: 1 5 0 0 0 0 0 0 0 | 3: 1 2 0 1 1 0 2 0 1 | 5: 1 5 1 0 0 5 0 0 0
+";
 
-static CASES: [Case; 43] = [
-    Case {
-        terms: "1 f",
-        coding: Coding::Treatment,
-        design: "(Intercept),fb,fc | 1: 1 1 0 | 2: 1 0 0 | 3: 1 0 1 | 4: 1 0 0 | 5: 1 1 0 | 6: 1 0 1",
-    },
-    Case {
-        terms: "1 f",
-        coding: Coding::Sas,
-        design: "(Intercept),fa,fb | 1: 1 0 1 | 2: 1 1 0 | 3: 1 0 0 | 4: 1 1 0 | 5: 1 0 1 | 6: 1 0 0",
-    },
-    Case {
-        terms: "1 f",
-        coding: Coding::Sum,
-        design: "(Intercept),f1,f2 | 1: 1 0 1 | 2: 1 1 0 | 3: 1 -1 -1 | 4: 1 1 0 | 5: 1 0 1 | 6: 1 -1 -1",
-    },
-    Case {
-        terms: "1 f",
-        coding: Coding::Helmert,
-        design: "(Intercept),f1,f2 | 1: 1 1 -1 | 2: 1 -1 -1 | 3: 1 0 2 | 4: 1 -1 -1 | 5: 1 1 -1 | 6: 1 0 2",
-    },
-    Case {
-        terms: "0 f",
-        coding: Coding::Sas,
-        design: "fa,fb,fc | 1: 0 1 0 | 2: 1 0 0 | 3: 0 0 1 | 4: 1 0 0 | 5: 0 1 0 | 6: 0 0 1",
-    },
-    Case {
-        terms: "0 f",
-        coding: Coding::Helmert,
-        design: "fa,fb,fc | 1: 0 1 0 | 2: 1 0 0 | 3: 0 0 1 | 4: 1 0 0 | 5: 0 1 0 | 6: 0 0 1",
-    },
-    Case {
-        terms: "1 x",
-        coding: Coding::Sum,
-        design: "(Intercept),x | 1: 1 3 | 2: 1 1 | 3: 1 -1 | 4: 1 1/2 | 5: 1 2 | 6: 1 4",
-    },
-    Case {
-        terms: "0 x",
-        coding: Coding::Helmert,
-        design: "x | 1: 3 | 2: 1 | 3: -1 | 4: 1/2 | 5: 2 | 6: 4",
-    },
-    Case {
-        terms: "1 f x f:x",
-        coding: Coding::Treatment,
-        design: "(Intercept),fb,fc,x,fb:x,fc:x | 1: 1 1 0 3 3 0 | 2: 1 0 0 1 0 0 | 3: 1 0 1 -1 0 -1 | 4: 1 0 0 1/2 0 0 | 5: 1 1 0 2 2 0 | 6: 1 0 1 4 0 4",
-    },
-    Case {
-        terms: "1 f x f:x",
-        coding: Coding::Sas,
-        design: "(Intercept),fa,fb,x,fa:x,fb:x | 1: 1 0 1 3 0 3 | 2: 1 1 0 1 1 0 | 3: 1 0 0 -1 0 0 | 4: 1 1 0 1/2 1/2 0 | 5: 1 0 1 2 0 2 | 6: 1 0 0 4 0 0",
-    },
-    Case {
-        terms: "1 f x f:x",
-        coding: Coding::Sum,
-        design: "(Intercept),f1,f2,x,f1:x,f2:x | 1: 1 0 1 3 0 3 | 2: 1 1 0 1 1 0 | 3: 1 -1 -1 -1 1 1 | 4: 1 1 0 1/2 1/2 0 | 5: 1 0 1 2 0 2 | 6: 1 -1 -1 4 -4 -4",
-    },
-    Case {
-        terms: "1 f x f:x",
-        coding: Coding::Helmert,
-        design: "(Intercept),f1,f2,x,f1:x,f2:x | 1: 1 1 -1 3 3 -3 | 2: 1 -1 -1 1 -1 -1 | 3: 1 0 2 -1 0 -2 | 4: 1 -1 -1 1/2 -1/2 -1/2 | 5: 1 1 -1 2 2 -2 | 6: 1 0 2 4 0 8",
-    },
-    Case {
-        terms: "1 f g",
-        coding: Coding::Sas,
-        design: "(Intercept),fa,fb,gu | 1: 1 0 1 0 | 2: 1 1 0 1 | 3: 1 0 0 0 | 4: 1 1 0 0 | 5: 1 0 1 1",
-    },
-    Case {
-        terms: "1 f g",
-        coding: Coding::Helmert,
-        design: "(Intercept),f1,f2,g1 | 1: 1 1 -1 1 | 2: 1 -1 -1 -1 | 3: 1 0 2 1 | 4: 1 -1 -1 1 | 5: 1 1 -1 -1",
-    },
-    Case {
-        terms: "1 f g f:g",
-        coding: Coding::Treatment,
-        design: "(Intercept),fb,fc,gv,fb:gv,fc:gv | 1: 1 1 0 1 1 0 | 2: 1 0 0 0 0 0 | 3: 1 0 1 1 0 1 | 4: 1 0 0 1 0 0 | 5: 1 1 0 0 0 0",
-    },
-    Case {
-        terms: "1 f g f:g",
-        coding: Coding::Sas,
-        design: "(Intercept),fa,fb,gu,fa:gu,fb:gu | 1: 1 0 1 0 0 0 | 2: 1 1 0 1 1 0 | 3: 1 0 0 0 0 0 | 4: 1 1 0 0 0 0 | 5: 1 0 1 1 0 1",
-    },
-    Case {
-        terms: "1 f g f:g",
-        coding: Coding::Sum,
-        design: "(Intercept),f1,f2,g1,f1:g1,f2:g1 | 1: 1 0 1 -1 0 -1 | 2: 1 1 0 1 1 0 | 3: 1 -1 -1 -1 1 1 | 4: 1 1 0 -1 -1 0 | 5: 1 0 1 1 0 1",
-    },
-    Case {
-        terms: "1 f g f:g",
-        coding: Coding::Helmert,
-        design: "(Intercept),f1,f2,g1,f1:g1,f2:g1 | 1: 1 1 -1 1 1 -1 | 2: 1 -1 -1 -1 1 1 | 3: 1 0 2 1 0 2 | 4: 1 -1 -1 1 -1 -1 | 5: 1 1 -1 -1 -1 1",
-    },
-    Case {
-        terms: "0 f g",
-        coding: Coding::Helmert,
-        design: "fa,fb,fc,g1 | 1: 0 1 0 1 | 2: 1 0 0 -1 | 3: 0 0 1 1 | 4: 1 0 0 1 | 5: 0 1 0 -1",
-    },
-    Case {
-        terms: "0 f g",
-        coding: Coding::Sas,
-        design: "fa,fb,fc,gu | 1: 0 1 0 0 | 2: 1 0 0 1 | 3: 0 0 1 0 | 4: 1 0 0 0 | 5: 0 1 0 1",
-    },
-    Case {
-        terms: "0 f g f:g",
-        coding: Coding::Treatment,
-        design: "fa,fb,fc,gv,fb:gv,fc:gv | 1: 0 1 0 1 1 0 | 2: 1 0 0 0 0 0 | 3: 0 0 1 1 0 1 | 4: 1 0 0 1 0 0 | 5: 0 1 0 0 0 0",
-    },
-    Case {
-        terms: "0 f g f:g",
-        coding: Coding::Sum,
-        design: "fa,fb,fc,g1,f1:g1,f2:g1 | 1: 0 1 0 -1 0 -1 | 2: 1 0 0 1 1 0 | 3: 0 0 1 -1 1 1 | 4: 1 0 0 -1 -1 0 | 5: 0 1 0 1 0 1",
-    },
-    Case {
-        terms: "1 x f:x",
-        coding: Coding::Sas,
-        design: "(Intercept),x,fa:x,fb:x | 1: 1 3 0 3 | 2: 1 1 1 0 | 3: 1 -1 0 0 | 4: 1 1/2 1/2 0 | 5: 1 2 0 2 | 6: 1 4 0 0",
-    },
-    Case {
-        terms: "1 x f:x",
-        coding: Coding::Helmert,
-        design: "(Intercept),x,f1:x,f2:x | 1: 1 3 3 -3 | 2: 1 1 -1 -1 | 3: 1 -1 0 -2 | 4: 1 1/2 -1/2 -1/2 | 5: 1 2 2 -2 | 6: 1 4 0 8",
-    },
-    Case {
-        terms: "0 x f:x",
-        coding: Coding::Sum,
-        design: "x,f1:x,f2:x | 1: 3 0 3 | 2: 1 1 0 | 3: -1 1 1 | 4: 1/2 1/2 0 | 5: 2 0 2 | 6: 4 -4 -4",
-    },
-    Case {
-        terms: "0 x f:x",
-        coding: Coding::Treatment,
-        design: "x,fb:x,fc:x | 1: 3 3 0 | 2: 1 0 0 | 3: -1 0 -1 | 4: 1/2 0 0 | 5: 2 2 0 | 6: 4 0 4",
-    },
-    Case {
-        terms: "1 f:x",
-        coding: Coding::Helmert,
-        design: "(Intercept),fa:x,fb:x,fc:x | 1: 1 0 3 0 | 2: 1 1 0 0 | 3: 1 0 0 -1 | 4: 1 1/2 0 0 | 5: 1 0 2 0 | 6: 1 0 0 4",
-    },
-    Case {
-        terms: "1 f:x",
-        coding: Coding::Sas,
-        design: "(Intercept),fa:x,fb:x,fc:x | 1: 1 0 3 0 | 2: 1 1 0 0 | 3: 1 0 0 -1 | 4: 1 1/2 0 0 | 5: 1 0 2 0 | 6: 1 0 0 4",
-    },
-    Case {
-        terms: "0 f:g",
-        coding: Coding::Treatment,
-        design: "fa:gu,fb:gu,fc:gu,fa:gv,fb:gv,fc:gv | 1: 0 0 0 0 1 0 | 2: 1 0 0 0 0 0 | 3: 0 0 0 0 0 1 | 4: 0 0 0 1 0 0 | 5: 0 1 0 0 0 0",
-    },
-    Case {
-        terms: "0 f:g",
-        coding: Coding::Sum,
-        design: "fa:gu,fb:gu,fc:gu,fa:gv,fb:gv,fc:gv | 1: 0 0 0 0 1 0 | 2: 1 0 0 0 0 0 | 3: 0 0 0 0 0 1 | 4: 0 0 0 1 0 0 | 5: 0 1 0 0 0 0",
-    },
-    Case {
-        terms: "1 f:g",
-        coding: Coding::Sas,
-        design: "(Intercept),fa:gu,fb:gu,fc:gu,fa:gv,fb:gv,fc:gv | 1: 1 0 0 0 0 1 0 | 2: 1 1 0 0 0 0 0 | 3: 1 0 0 0 0 0 1 | 4: 1 0 0 0 1 0 0 | 5: 1 0 1 0 0 0 0",
-    },
-    Case {
-        terms: "1 f:g",
-        coding: Coding::Helmert,
-        design: "(Intercept),fa:gu,fb:gu,fc:gu,fa:gv,fb:gv,fc:gv | 1: 1 0 0 0 0 1 0 | 2: 1 1 0 0 0 0 0 | 3: 1 0 0 0 0 0 1 | 4: 1 0 0 0 1 0 0 | 5: 1 0 1 0 0 0 0",
-    },
-    Case {
-        terms: "1 x z x:z",
-        coding: Coding::Sum,
-        design: "(Intercept),x,z,x:z | 1: 1 3 2 6 | 2: 1 1 5 5 | 3: 1 -1 2 -2 | 5: 1 2 5 10 | 6: 1 4 2 8",
-    },
-    Case {
-        terms: "1 factor(x)",
-        coding: Coding::Helmert,
-        design: "(Intercept),factor(x)1,factor(x)2,factor(x)3,factor(x)4,factor(x)5 | 1: 1 0 0 0 4 -1 | 2: 1 0 2 -1 -1 -1 | 3: 1 -1 -1 -1 -1 -1 | 4: 1 1 -1 -1 -1 -1 | 5: 1 0 0 3 -1 -1 | 6: 1 0 0 0 0 5",
-    },
-    Case {
-        terms: "1 factor(x)",
-        coding: Coding::Sas,
-        design: "(Intercept),factor(x)-1,factor(x)1/2,factor(x)1,factor(x)2,factor(x)3 | 1: 1 0 0 0 0 1 | 2: 1 0 0 1 0 0 | 3: 1 1 0 0 0 0 | 4: 1 0 1 0 0 0 | 5: 1 0 0 0 1 0 | 6: 1 0 0 0 0 0",
-    },
-    Case {
-        terms: "0 factor(z)",
-        coding: Coding::Treatment,
-        design: "factor(z)2,factor(z)5 | 1: 1 0 | 2: 0 1 | 3: 1 0 | 5: 0 1 | 6: 1 0",
-    },
-    Case {
-        terms: "0 factor(z)",
-        coding: Coding::Sum,
-        design: "factor(z)2,factor(z)5 | 1: 1 0 | 2: 0 1 | 3: 1 0 | 5: 0 1 | 6: 1 0",
-    },
-    Case {
-        terms: "1 factor(z) f",
-        coding: Coding::Sas,
-        design: "(Intercept),factor(z)2,fa,fb | 1: 1 1 0 1 | 2: 1 0 1 0 | 3: 1 1 0 0 | 5: 1 0 0 1 | 6: 1 1 0 0",
-    },
-    Case {
-        terms: "1 factor(z) f",
-        coding: Coding::Helmert,
-        design: "(Intercept),factor(z)1,f1,f2 | 1: 1 -1 1 -1 | 2: 1 1 -1 -1 | 3: 1 -1 0 2 | 5: 1 1 1 -1 | 6: 1 -1 0 2",
-    },
-    Case {
-        terms: "1 z f g z:f f:g",
-        coding: Coding::Sum,
-        design: "(Intercept),z,f1,f2,g1,z:f1,z:f2,f1:g1,f2:g1 | 1: 1 2 0 1 -1 0 2 0 -1 | 2: 1 5 1 0 1 5 0 1 0 | 3: 1 2 -1 -1 -1 -2 -2 1 1 | 5: 1 5 0 1 1 0 5 0 1",
-    },
-    Case {
-        terms: "1 z f g z:f f:g",
-        coding: Coding::Treatment,
-        design: "(Intercept),z,fb,fc,gv,z:fb,z:fc,fb:gv,fc:gv | 1: 1 2 1 0 1 2 0 1 0 | 2: 1 5 0 0 0 0 0 0 0 | 3: 1 2 0 1 1 0 2 0 1 | 5: 1 5 1 0 0 5 0 0 0",
-    },
-    Case {
-        terms: "1 x f x:f:g",
-        coding: Coding::Helmert,
-        design: "(Intercept),x,f1,f2,x:fa:gu,x:fb:gu,x:fc:gu,x:fa:gv,x:fb:gv,x:fc:gv | 1: 1 3 1 -1 0 0 0 0 3 0 | 2: 1 1 -1 -1 1 0 0 0 0 0 | 3: 1 -1 0 2 0 0 0 0 0 -1 | 4: 1 1/2 -1 -1 0 0 0 1/2 0 0 | 5: 1 2 1 -1 0 2 0 0 0 0",
-    },
-    Case {
-        terms: "1 x f x:f:g",
-        coding: Coding::Sas,
-        design: "(Intercept),x,fa,fb,x:fa:gu,x:fb:gu,x:fc:gu,x:fa:gv,x:fb:gv,x:fc:gv | 1: 1 3 0 1 0 0 0 0 3 0 | 2: 1 1 1 0 1 0 0 0 0 0 | 3: 1 -1 0 0 0 0 0 0 0 -1 | 4: 1 1/2 1 0 0 0 0 1/2 0 0 | 5: 1 2 0 1 0 2 0 0 0 0",
-    },
-];
+static SAS: &str = "
+1 f => (Intercept),fa,fb | 1: 1 0 1 | 2: 1 1 0 | 3: 1 0 0 | 4: 1 1 0 | 5: 1 0 1 | 6: 1 0 0
+0 f => fa,fb,fc | 1: 0 1 0 | 2: 1 0 0 | 3: 0 0 1 | 4: 1 0 0 | 5: 0 1 0 | 6: 0 0 1
+1 f x f:x => (Intercept),fa,fb,x,fa:x,fb:x | 1: 1 0 1 3 0 3 | 2: 1 1 0 1 1 0 | 3: 1 0 0 -1 0 0 | 4: 1 1 0 1/2 1/2 0 | 5: 1 0 1 2 0 2 | 6: 1 0 0 4 0 0
+1 f g => (Intercept),fa,fb,gu | 1: 1 0 1 0 | 2: 1 1 0 1 | 3: 1 0 0 0 | 4: 1 1 0 0 | 5: 1 0 1 1
+1 f g f:g => (Intercept),fa,fb,gu,fa:gu,fb:gu | 1: 1 0 1 0 0 0 | 2: 1 1 0 1 1 0 | 3: 1 0 0 0 0 0 | 4: 1 1 0 0 0 0 | 5: 1 0 1 1 0 1
+0 f g => fa,fb,fc,gu | 1: 0 1 0 0 | 2: 1 0 0 1 | 3: 0 0 1 0 | 4: 1 0 0 0 | 5: 0 1 0 1
+1 x f:x => (Intercept),x,fa:x,fb:x | 1: 1 3 0 3 | 2: 1 1 1 0 | 3: 1 -1 0 0 | 4: 1 1/2 1/2 0 | 5: 1 2 0 2 | 6: 1 4 0 0
+1 f:x => (Intercept),fa:x,fb:x,fc:x | 1: 1 0 3 0 | 2: 1 1 0 0 | 3: 1 0 0 -1 | 4: 1 1/2 0 0 | 5: 1 0 2 0 | 6: 1 0 0 4
+1 f:g => (Intercept),fa:gu,fb:gu,fc:gu,fa:gv,fb:gv,fc:gv | 1: 1 0 0 0 0 1 0 | 2: 1 1 0 0 0 0 0 | 3: 1 0 0 0 0 0 1 | 4: 1 0 0 0 1 0 0 | 5: 1 0 1 0 0 0 0
+1 factor(x) => (Intercept),factor(x)-1,factor(x)1/2,factor(x)1,factor(x)2,factor(x)3 | 1: 1 0 0 0 0 1 | 2: 1 0 0 1 0 0 | 3: 1 1 0 0 0 0 | 4: 1 0 1 0 0 0 | 5: 1 0 0 0 1 0 | 6: 1 0 0 0 0 0
+1 factor(z) f => (Intercept),factor(z)2,fa,fb | 1: 1 1 0 1 | 2: 1 0 1 0 | 3: 1 1 0 0 | 5: 1 0 0 1 | 6: 1 1 0 0
+1 x f x:f:g => (Intercept),x,fa,fb,x:fa:gu,x:fb:gu,x:fc:gu,x:fa:gv,x:fb:gv,x:fc:gv | 1: 1 3 0 1 0 0 0 0 3 0 | 2: 1 1 1 0 1 0 0 0 0 0 | 3: 1 -1 0 0 0 0 0 0 0 -1 | 4: 1 1/2 1 0 0 0 0 1/2 0 0 | 5: 1 2 0 1 0 2 0 0 0 0
+";
+
+static SUM: &str = "
+1 f => (Intercept),f1,f2 | 1: 1 0 1 | 2: 1 1 0 | 3: 1 -1 -1 | 4: 1 1 0 | 5: 1 0 1 | 6: 1 -1 -1
+1 x => (Intercept),x | 1: 1 3 | 2: 1 1 | 3: 1 -1 | 4: 1 1/2 | 5: 1 2 | 6: 1 4
+1 f x f:x => (Intercept),f1,f2,x,f1:x,f2:x | 1: 1 0 1 3 0 3 | 2: 1 1 0 1 1 0 | 3: 1 -1 -1 -1 1 1 | 4: 1 1 0 1/2 1/2 0 | 5: 1 0 1 2 0 2 | 6: 1 -1 -1 4 -4 -4
+1 f g f:g => (Intercept),f1,f2,g1,f1:g1,f2:g1 | 1: 1 0 1 -1 0 -1 | 2: 1 1 0 1 1 0 | 3: 1 -1 -1 -1 1 1 | 4: 1 1 0 -1 -1 0 | 5: 1 0 1 1 0 1
+0 f g f:g => fa,fb,fc,g1,f1:g1,f2:g1 | 1: 0 1 0 -1 0 -1 | 2: 1 0 0 1 1 0 | 3: 0 0 1 -1 1 1 | 4: 1 0 0 -1 -1 0 | 5: 0 1 0 1 0 1
+0 x f:x => x,f1:x,f2:x | 1: 3 0 3 | 2: 1 1 0 | 3: -1 1 1 | 4: 1/2 1/2 0 | 5: 2 0 2 | 6: 4 -4 -4
+0 f:g => fa:gu,fb:gu,fc:gu,fa:gv,fb:gv,fc:gv | 1: 0 0 0 0 1 0 | 2: 1 0 0 0 0 0 | 3: 0 0 0 0 0 1 | 4: 0 0 0 1 0 0 | 5: 0 1 0 0 0 0
+1 x z x:z => (Intercept),x,z,x:z | 1: 1 3 2 6 | 2: 1 1 5 5 | 3: 1 -1 2 -2 | 5: 1 2 5 10 | 6: 1 4 2 8
+0 factor(z) => factor(z)2,factor(z)5 | 1: 1 0 | 2: 0 1 | 3: 1 0 | 5: 0 1 | 6: 1 0
+1 z f g z:f f:g => (Intercept),z,f1,f2,g1,z:f1,z:f2,f1:g1,f2:g1 | 1: 1 2 0 1 -1 0 2 0 -1 | 2: 1 5 1 0 1 5 0 1 0 | 3: 1 2 -1 -1 -1 -2 -2 1 1 | 5: 1 5 0 1 1 0 5 0 1
+";
+
+static HELMERT: &str = "
+1 f => (Intercept),f1,f2 | 1: 1 1 -1 | 2: 1 -1 -1 | 3: 1 0 2 | 4: 1 -1 -1 | 5: 1 1 -1 | 6: 1 0 2
+0 f => fa,fb,fc | 1: 0 1 0 | 2: 1 0 0 | 3: 0 0 1 | 4: 1 0 0 | 5: 0 1 0 | 6: 0 0 1
+0 x => x | 1: 3 | 2: 1 | 3: -1 | 4: 1/2 | 5: 2 | 6: 4
+1 f x f:x => (Intercept),f1,f2,x,f1:x,f2:x | 1: 1 1 -1 3 3 -3 | 2: 1 -1 -1 1 -1 -1 | 3: 1 0 2 -1 0 -2 | 4: 1 -1 -1 1/2 -1/2 -1/2 | 5: 1 1 -1 2 2 -2 | 6: 1 0 2 4 0 8
+1 f g => (Intercept),f1,f2,g1 | 1: 1 1 -1 1 | 2: 1 -1 -1 -1 | 3: 1 0 2 1 | 4: 1 -1 -1 1 | 5: 1 1 -1 -1
+1 f g f:g => (Intercept),f1,f2,g1,f1:g1,f2:g1 | 1: 1 1 -1 1 1 -1 | 2: 1 -1 -1 -1 1 1 | 3: 1 0 2 1 0 2 | 4: 1 -1 -1 1 -1 -1 | 5: 1 1 -1 -1 -1 1
+0 f g => fa,fb,fc,g1 | 1: 0 1 0 1 | 2: 1 0 0 -1 | 3: 0 0 1 1 | 4: 1 0 0 1 | 5: 0 1 0 -1
+1 x f:x => (Intercept),x,f1:x,f2:x | 1: 1 3 3 -3 | 2: 1 1 -1 -1 | 3: 1 -1 0 -2 | 4: 1 1/2 -1/2 -1/2 | 5: 1 2 2 -2 | 6: 1 4 0 8
+1 f:x => (Intercept),fa:x,fb:x,fc:x | 1: 1 0 3 0 | 2: 1 1 0 0 | 3: 1 0 0 -1 | 4: 1 1/2 0 0 | 5: 1 0 2 0 | 6: 1 0 0 4
+1 f:g => (Intercept),fa:gu,fb:gu,fc:gu,fa:gv,fb:gv,fc:gv | 1: 1 0 0 0 0 1 0 | 2: 1 1 0 0 0 0 0 | 3: 1 0 0 0 0 0 1 | 4: 1 0 0 0 1 0 0 | 5: 1 0 1 0 0 0 0
+1 factor(x) => (Intercept),factor(x)1,factor(x)2,factor(x)3,factor(x)4,factor(x)5 | 1: 1 0 0 0 4 -1 | 2: 1 0 2 -1 -1 -1 | 3: 1 -1 -1 -1 -1 -1 | 4: 1 1 -1 -1 -1 -1 | 5: 1 0 0 3 -1 -1 | 6: 1 0 0 0 0 5
+1 factor(z) f => (Intercept),factor(z)1,f1,f2 | 1: 1 -1 1 -1 | 2: 1 1 -1 -1 | 3: 1 -1 0 2 | 5: 1 1 1 -1 | 6: 1 -1 0 2
+1 x f x:f:g => (Intercept),x,f1,f2,x:fa:gu,x:fb:gu,x:fc:gu,x:fa:gv,x:fb:gv,x:fc:gv | 1: 1 3 1 -1 0 0 0 0 3 0 | 2: 1 1 -1 -1 1 0 0 0 0 0 | 3: 1 -1 0 2 0 0 0 0 0 -1 | 4: 1 1/2 -1 -1 0 0 0 1/2 0 0 | 5: 1 2 1 -1 0 2 0 0 0 0
+";
 
 /// A table, the terms of a formula, and the design or why there is none.
 #[derive(Clone, Copy)]
@@ -464,7 +293,7 @@ static WEIGHTED: [Weighted; 20] = [
     },
 ];
 
-fn variable(alloc: Global, word: &str) -> Result<Variable, Fail> {
+fn variable(alloc: Global, word: &str) -> Result<Variable, OutOfMemory> {
     let inner = word
         .strip_prefix("factor(")
         .and_then(|rest| rest.strip_suffix(")"));
@@ -474,25 +303,23 @@ fn variable(alloc: Global, word: &str) -> Result<Variable, Fail> {
     })
 }
 
-fn term(alloc: Global, text: &str) -> Result<Term, Fail> {
-    let mut variables = Vec::new(alloc);
+fn term(alloc: Global, text: &str) -> Result<Term, OutOfMemory> {
+    let mut variables = List::new(alloc);
     for word in text.split(':') {
-        variables.push(variable(alloc, word)?)?;
+        variables.add(variable(alloc, word)?)?;
     }
-    Ok(Term {
-        variables: List::from(variables),
-    })
+    Ok(Term { variables })
 }
 
-fn formula(alloc: Global, text: &str) -> Result<Formula, Fail> {
-    let mut terms = Vec::new(alloc);
+fn formula(alloc: Global, text: &str) -> Result<Formula, OutOfMemory> {
+    let mut terms = List::new(alloc);
     for word in text.split(' ').skip(1) {
-        terms.push(term(alloc, word)?)?;
+        terms.add(term(alloc, word)?)?;
     }
     Ok(Formula {
         response: Text::new(alloc, "y")?,
         intercept: text.starts_with('1'),
-        terms: List::from(terms),
+        terms,
         smooths: List::new(alloc),
     })
 }
@@ -509,122 +336,138 @@ pub(crate) fn are_short(terms: &[Term]) -> bool
 }
 
 // A row by the number of its record, its weight where that isn't 1, and its entries.
-fn tell_row(alloc: Global, told: &mut String, row: &DesignRow) -> Result<(), Fail> {
-    told.push_str(" | ")?;
-    told.push_str(row.rec.to_string(alloc)?.as_str())?;
+fn tell_row(told: &mut Told, row: &DesignRow) {
+    told.put(" | ");
+    told.put_count(row.rec as usize);
     if row.weight != Frac128::one() {
-        told.push('*')?;
-        push_number(told, alloc, row.weight)?;
+        told.put("*");
+        told.put_number(row.weight);
     }
-    told.push(':')?;
-    for entry in row.x.as_slice() {
-        told.push(' ')?;
-        push_number(told, alloc, *entry)?;
-    }
-    Ok(())
+    told.put(": ");
+    told.put_numbers(row.x.as_slice());
 }
 
-fn tell_names(told: &mut String, names: &[Text]) -> Result<(), Fail> {
-    for (place, name) in names.iter().enumerate() {
-        if place > 0 {
-            told.push(',')?;
-        }
-        told.push_str(name.as_str())?;
-    }
-    Ok(())
-}
-
-fn tell(alloc: Global, design: &Design) -> Result<String, Fail> {
-    let mut told = String::new(alloc);
-    tell_names(&mut told, design.names.as_slice())?;
+fn tell_design(told: &mut Told, design: &Design) {
+    told.put_names(design.names.as_slice(), ",");
     for row in design.rows.as_slice() {
-        tell_row(alloc, &mut told, row)?;
+        tell_row(told, row);
     }
-    Ok(told)
 }
 
-fn tell_fault(alloc: Global, fault: &DesignFault) -> Result<String, Fail> {
-    Ok(match fault {
-        DesignFault::UnknownWeights => String::from_str(alloc, "UnknownWeights")?,
-        DesignFault::WeightNotNumeric => String::from_str(alloc, "WeightNotNumeric")?,
-        DesignFault::NegativeWeight { rec } => format!(in alloc; "NegativeWeight {rec}")?,
-        DesignFault::ResponseNotNumeric => String::from_str(alloc, "ResponseNotNumeric")?,
+// A fault by its name, and what it names behind it.
+fn tell_fault(told: &mut Told, fault: &DesignFault) {
+    match fault {
+        DesignFault::UnknownWeights => told.put("UnknownWeights"),
+        DesignFault::WeightNotNumeric => told.put("WeightNotNumeric"),
+        DesignFault::NegativeWeight { rec } => told.put_named("NegativeWeight ", *rec),
+        DesignFault::ResponseNotNumeric => told.put("ResponseNotNumeric"),
         DesignFault::NumberTooWide { rec, column } => {
-            let name = column.as_str();
-            format!(in alloc; "NumberTooWide {rec} {name}")?
+            told.put_named("NumberTooWide ", *rec);
+            told.put(" ");
+            told.put(column.as_str());
         }
-        DesignFault::NoRows => String::from_str(alloc, "NoRows")?,
+        DesignFault::NoRows => told.put("NoRows"),
         DesignFault::OneLevel { factor } => {
-            let name = factor.as_str();
-            format!(in alloc; "OneLevel {name}")?
+            told.put("OneLevel ");
+            told.put(factor.as_str());
         }
-        DesignFault::NoColumns => String::from_str(alloc, "NoColumns")?,
-        DesignFault::Overflow(spill) => {
-            let (rec, column, term) = (spill.site.first, spill.site.second, spill.site.term);
-            format!(in alloc; "Overflow {rec} {column} {term}")?
-        }
-        _ => String::from_str(alloc, "another fault")?,
-    })
+        DesignFault::NoColumns => told.put("NoColumns"),
+        DesignFault::Overflow(spill) => told.put_site(spill.site),
+        _ => told.put("another fault"),
+    }
 }
 
-fn answer(
-    alloc: Global,
-    table: &[u8],
-    terms: &str,
+// What a formula over a table comes to.
+#[derive(Clone, Copy)]
+struct Asked {
+    table: &'static [u8],
+    terms: &'static str,
     coding: Coding,
-    weights: Option<&str>,
-) -> Result<String, Fail> {
-    if table.len() > 1 << 26 {
-        return Err(Fail::from("too long"));
-    }
-    let Ok(frame) = read_table(alloc, table) else {
-        return Err(Fail::from("no table"));
-    };
-    let model = formula(alloc, terms)?;
+    weights: Option<&'static str>,
+}
+
+// The design of a formula, none where one of its terms is too long.
+fn design_of(
+    alloc: Global,
+    frame: &Frame,
+    model: &Formula,
+    asked: Asked,
+) -> Option<Result<Design, DesignFault>> {
     if !are_short(model.terms.as_slice()) {
-        return Err(Fail::from("a long term"));
+        return None;
     }
-    match build(alloc, &frame, &model, coding, weights) {
-        Ok(design) => tell(alloc, &design),
-        Err(fault) => tell_fault(alloc, &fault),
+    Some(build(alloc, frame, model, asked.coding, asked.weights))
+}
+
+fn tell(told: &mut Told, frame: &Frame, asked: Asked) {
+    match formula(told.alloc(), asked.terms) {
+        Ok(model) => match design_of(told.alloc(), frame, &model, asked) {
+            Some(Ok(design)) => tell_design(told, &design),
+            Some(Err(fault)) => tell_fault(told, &fault),
+            None => told.put("a long term"),
+        },
+        Err(_) => told.put("no formula"),
     }
 }
 
-#[test]
-fn designs_of_all_codings(rt: HostRuntime) -> Result<(), Fail> {
-    for case in &CASES {
-        let told = answer(rt.alloc(), TABLE, case.terms, case.coding, None)?;
-        assert!(rt;
-            told.as_str() == case.design,
-            "{} {:?}: {told}",
-            case.terms,
-            case.coding
-        );
+// What is asked is answered so.
+fn expect(rt: &(impl Abort + AllocGlobal), asked: Asked, want: &str) {
+    let mut told = Told::new(rt.alloc());
+    match frame_of(rt.alloc(), asked.table) {
+        Some(frame) => tell(&mut told, &frame, asked),
+        None => told.put("no table"),
     }
-    Ok(())
+    told.expect(rt, want, asked.terms);
+}
+
+// The designs under a coding are these. Gives how many there are.
+fn run(rt: &(impl Abort + AllocGlobal), coding: Coding, cases: &'static str) -> u32 {
+    let mut count = 0u32;
+    for line in cases.lines() {
+        if let Some((terms, want)) = line.split_once(" => ") {
+            let asked = Asked {
+                table: TABLE,
+                terms,
+                coding,
+                weights: None,
+            };
+            expect(rt, asked, want);
+            count = count.wrapping_add(1);
+        }
+    }
+    count
 }
 
 #[test]
-fn hostile_tables(rt: HostRuntime) -> Result<(), Fail> {
+fn designs_of_all_codings(rt: HostRuntime) {
+    assert!(&rt; run(&rt, Coding::Treatment, TREATMENT) == 8);
+    assert!(&rt; run(&rt, Coding::Sas, SAS) == 12);
+    assert!(&rt; run(&rt, Coding::Sum, SUM) == 10);
+    assert!(&rt; run(&rt, Coding::Helmert, HELMERT) == 13);
+}
+
+#[test]
+fn hostile_tables(rt: HostRuntime) {
     for case in &HOSTILE {
-        let told = answer(rt.alloc(), case.table, case.terms, Coding::Treatment, None)?;
-        expect_answer(&rt, told.as_str(), case.answer, case.terms);
+        let asked = Asked {
+            table: case.table,
+            terms: case.terms,
+            coding: Coding::Treatment,
+            weights: None,
+        };
+        expect(&rt, asked, case.answer);
     }
-    Ok(())
 }
 
 #[test]
-fn weights_and_their_faults(rt: HostRuntime) -> Result<(), Fail> {
+fn weights_and_their_faults(rt: HostRuntime) {
     for case in &WEIGHTED {
-        let weights = Some(case.weights);
-        let told = answer(
-            rt.alloc(),
-            case.table,
-            case.terms,
-            Coding::Treatment,
-            weights,
-        )?;
-        expect_answer(&rt, told.as_str(), case.answer, case.answer);
+        let asked = Asked {
+            table: case.table,
+            terms: case.terms,
+            coding: Coding::Treatment,
+            weights: Some(case.weights),
+        };
+        expect(&rt, asked, case.answer);
     }
-    Ok(())
 }

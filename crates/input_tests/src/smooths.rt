@@ -2,15 +2,14 @@
 //! from the definitions.
 
 use crate::designs::are_short;
-use crate::helpers::{expect_answer, push_number};
+use crate::helpers::{Told, frame_of};
 use contrasts::Coding;
-use data_frame::{Frame, read_table};
+use data_frame::Frame;
 use design_matrix::{Design, build};
 use formula_parser::{Formula, parse};
-use frac_core::{Frac128, List, Text};
+use frac_core::{Exact, Frac128};
 use std::alloc::Global;
 use std::process::Abort;
-use std::test::Fail;
 use tv_penalty::{PenaltyFault, PenaltyRow, Smoothing, knots, l1_rows, qss_columns, qss_rows};
 
 /// A table, a formula, and what its smooths add: the names, the entries of each row of the design, and
@@ -106,218 +105,207 @@ static CASES: [Case; 15] = [
     },
 ];
 
-fn push_numbers(told: &mut String, alloc: Global, numbers: &[Frac128]) -> Result<(), Fail> {
-    for (place, number) in numbers.iter().enumerate() {
-        if place > 0 {
-            told.push(' ')?;
-        }
-        push_number(told, alloc, *number)?;
-    }
-    Ok(())
-}
-
-fn push_names(told: &mut String, names: &[Text]) -> Result<(), Fail> {
-    for (place, name) in names.iter().enumerate() {
-        if place > 0 {
-            told.push(' ')?;
-        }
-        told.push_str(name.as_str())?;
-    }
-    Ok(())
-}
-
-fn push_penalties(told: &mut String, alloc: Global, rows: &[PenaltyRow]) -> Result<(), Fail> {
+fn tell_penalties(told: &mut Told, rows: &[PenaltyRow]) {
     for row in rows {
-        told.push(' ')?;
-        push_number(told, alloc, row.lambda)?;
-        told.push_str(": ")?;
-        push_numbers(told, alloc, row.x.as_slice())?;
+        told.put(" ");
+        told.put_number(row.lambda);
+        told.put(": ");
+        told.put_numbers(row.x.as_slice());
     }
-    Ok(())
 }
 
-fn tell(alloc: Global, smoothing: &Smoothing) -> Result<String, Fail> {
-    let mut told = String::new(alloc);
-    push_names(&mut told, smoothing.names.as_slice())?;
+fn tell_smoothing(told: &mut Told, smoothing: &Smoothing) {
+    told.put_names(smoothing.names.as_slice(), " ");
     for entries in smoothing.columns.as_slice() {
-        told.push_str("; ")?;
-        push_numbers(&mut told, alloc, entries.as_slice())?;
+        told.put("; ");
+        told.put_numbers(entries.as_slice());
     }
-    told.push_str(" |")?;
-    push_penalties(&mut told, alloc, smoothing.rows.as_slice())?;
-    Ok(told)
+    told.put(" |");
+    tell_penalties(told, smoothing.rows.as_slice());
 }
 
-fn tell_fault(alloc: Global, fault: &PenaltyFault) -> Result<String, Fail> {
-    Ok(match fault {
-        PenaltyFault::OutOfMemory => String::from_str(alloc, "OutOfMemory")?,
+fn tell_fault(told: &mut Told, fault: &PenaltyFault) {
+    match fault {
+        PenaltyFault::OutOfMemory => told.put("OutOfMemory"),
         PenaltyFault::NotNumeric { name } => {
-            let name = name.as_str();
-            format!(in alloc; "NotNumeric {name}")?
+            told.put("NotNumeric ");
+            told.put(name.as_str());
         }
         PenaltyFault::TooFewKnots { name } => {
-            let name = name.as_str();
-            format!(in alloc; "TooFewKnots {name}")?
+            told.put("TooFewKnots ");
+            told.put(name.as_str());
         }
-        PenaltyFault::Overflow(spill) => {
-            let (smooth, knot, term) = (spill.site.first, spill.site.second, spill.site.term);
-            format!(in alloc; "Overflow {smooth} {knot} {term}")?
-        }
-        PenaltyFault::TooManyColumns => String::from_str(alloc, "TooManyColumns")?,
-    })
-}
-
-fn frame_of(alloc: Global, table: &[u8]) -> Result<Frame, Fail> {
-    if table.len() > 1 << 26 {
-        return Err(Fail::from("too long"));
-    }
-    match read_table(alloc, table) {
-        Ok(frame) => Ok(frame),
-        Err(_) => Err(Fail::from("no table")),
+        PenaltyFault::Overflow(spill) => told.put_site(spill.site),
+        PenaltyFault::TooManyColumns => told.put("TooManyColumns"),
     }
 }
 
-fn model_of(alloc: Global, frame: &Frame, formula: &str) -> Result<Formula, Fail> {
+/// A table, a formula over it, and its design without smooths.
+#[derive(Drop)]
+struct Input {
+    frame: Frame,
+    model: Formula,
+    design: Design,
+}
+
+fn model_of(alloc: Global, frame: &Frame, formula: &str) -> Option<Formula> {
     if formula.len() > 1 << 20 {
-        return Err(Fail::from("too long"));
+        return None;
     }
-    match parse(alloc, formula, frame.names()) {
-        Ok(model) => Ok(model),
-        Err(_) => Err(Fail::from("no formula")),
-    }
+    parse(alloc, formula, frame.names()).ok()
 }
 
-fn design_of(alloc: Global, frame: &Frame, model: &Formula) -> Result<Design, Fail> {
+fn design_of(alloc: Global, frame: &Frame, model: &Formula) -> Option<Design> {
     if !are_short(model.terms.as_slice()) {
-        return Err(Fail::from("a long term"));
+        return None;
     }
-    match build(alloc, frame, model, Coding::Treatment, None) {
-        Ok(design) => Ok(design),
-        Err(_) => Err(Fail::from("no design")),
-    }
+    build(alloc, frame, model, Coding::Treatment, None).ok()
 }
 
-// What the smooths add, with penalty rows or without.
-fn answer(alloc: Global, table: &[u8], formula: &str, penalised: bool) -> Result<String, Fail> {
+fn input_of(alloc: Global, table: &[u8], formula: &str) -> Option<Input> {
     let frame = frame_of(alloc, table)?;
     let model = model_of(alloc, &frame, formula)?;
     let design = design_of(alloc, &frame, &model)?;
-    let added = if penalised {
-        qss_rows(alloc, &frame, &design, &model)
-    } else {
-        qss_columns(alloc, &frame, &design, &model)
-    };
+    Some(Input {
+        frame,
+        model,
+        design,
+    })
+}
+
+fn tell_added(told: &mut Told, added: Result<Smoothing, PenaltyFault>) {
     match added {
-        Ok(smoothing) => tell(alloc, &smoothing),
-        Err(fault) => tell_fault(alloc, &fault),
+        Ok(smoothing) => tell_smoothing(told, &smoothing),
+        Err(fault) => tell_fault(told, &fault),
+    }
+}
+
+// What the smooths add, with penalty rows.
+fn tell_rows(told: &mut Told, table: &[u8], formula: &str) {
+    match input_of(told.alloc(), table, formula) {
+        Some(input) => {
+            let added = qss_rows(told.alloc(), &input.frame, &input.design, &input.model);
+            tell_added(told, added);
+        }
+        None => told.put("no input"),
+    }
+}
+
+// And without.
+fn tell_columns(told: &mut Told, table: &[u8], formula: &str) {
+    match input_of(told.alloc(), table, formula) {
+        Some(input) => {
+            let added = qss_columns(told.alloc(), &input.frame, &input.design, &input.model);
+            tell_added(told, added);
+        }
+        None => told.put("no input"),
     }
 }
 
 // The knots of the first smooth.
-fn first_knots(alloc: Global, table: &[u8], formula: &str) -> Result<String, Fail> {
-    let frame = frame_of(alloc, table)?;
-    let model = model_of(alloc, &frame, formula)?;
-    let design = design_of(alloc, &frame, &model)?;
-    let Some(smooth) = model.smooths.as_slice().first() else {
-        return Err(Fail::from("no smooth"));
+fn tell_knots(told: &mut Told, input: &Input) {
+    let Some(smooth) = input.model.smooths.as_slice().first() else {
+        return told.put("no smooth");
     };
-    match knots(alloc, &frame, &design, smooth) {
-        Ok(knots) => {
-            let mut told = String::new(alloc);
-            push_numbers(&mut told, alloc, knots.as_slice())?;
-            Ok(told)
-        }
-        Err(fault) => tell_fault(alloc, &fault),
-    }
-}
-
-// Records with x from 1 to a number, and the response 0.
-fn counted_table(alloc: Global, records: u32) -> Result<String, Fail> {
-    let mut table = String::from_str(alloc, "y,x\n")?;
-    for record in 0..records {
-        table.push_str("0,")?;
-        table.push_str(record.to_string(alloc)?.as_str())?;
-        table.push('\n')?;
-    }
-    Ok(table)
-}
-
-fn counted_penalties(alloc: Global, records: u32) -> Result<usize, Fail> {
-    let table = counted_table(alloc, records)?;
-    let frame = frame_of(alloc, table.as_bytes())?;
-    let model = model_of(alloc, &frame, "y ~ qss(x, 1)")?;
-    let design = design_of(alloc, &frame, &model)?;
-    match qss_rows(alloc, &frame, &design, &model) {
-        Ok(smoothing) => Ok(smoothing.rows.as_slice().len()),
-        Err(PenaltyFault::TooManyColumns) => Ok(0),
-        Err(_) => Err(Fail::from("another fault")),
+    match knots(told.alloc(), &input.frame, &input.design, smooth) {
+        Ok(knots) => told.put_numbers(knots.as_slice()),
+        Err(fault) => tell_fault(told, &fault),
     }
 }
 
 #[test]
-fn smooths_of_small_tables(rt: HostRuntime) -> Result<(), Fail> {
+fn smooths_of_small_tables(rt: HostRuntime) {
     for case in &CASES {
-        let told = answer(rt.alloc(), case.table, case.formula, true)?;
-        expect_answer(&rt, told.as_str(), case.answer, case.formula);
+        let mut told = Told::new(rt.alloc());
+        tell_rows(&mut told, case.table, case.formula);
+        told.expect(&rt, case.answer, case.formula);
     }
-    Ok(())
 }
 
 #[test]
-fn columns_without_penalty_rows(rt: HostRuntime) -> Result<(), Fail> {
-    let told = answer(rt.alloc(), b"y,x\n0,0\n2,1\n0,2\n", "y ~ qss(x, 1)", false)?;
+fn columns_without_penalty_rows(rt: HostRuntime) {
+    let mut told = Told::new(rt.alloc());
+    tell_columns(&mut told, b"y,x\n0,0\n2,1\n0,2\n", "y ~ qss(x, 1)");
     let want = "qss(x)[1] qss(x)[2]; 0 0; 1 0; 0 1 |";
-    expect_answer(&rt, told.as_str(), want, "columns alone");
-    Ok(())
+    told.expect(&rt, want, "columns alone");
 }
 
+/// Tables, and the knots of x in each: values that ascend once each, and two values alone.
+static KNOTS: [(&[u8], &str); 2] = [
+    (b"y,x\n1,0.5\n2,3\n3,1/2\nNA,9\n4,2\n5,-1\n", "-1 1/2 2 3"),
+    (b"y,f,x\n0,a,0\n2,b,1\n0,c,1\n", "TooFewKnots x"),
+];
+
 #[test]
-fn knots_ascend_once_each(rt: HostRuntime) -> Result<(), Fail> {
-    let table = b"y,x\n1,0.5\n2,3\n3,1/2\nNA,9\n4,2\n5,-1\n";
-    let told = first_knots(rt.alloc(), table, "y ~ qss(x, 1)")?;
-    expect_answer(&rt, told.as_str(), "-1 1/2 2 3", "knots");
-    let told = first_knots(rt.alloc(), b"y,f,x\n0,a,0\n2,b,1\n0,c,1\n", "y ~ qss(x, 1)")?;
-    expect_answer(&rt, told.as_str(), "TooFewKnots x", "two values");
-    Ok(())
+fn knots_ascend_once_each(rt: HostRuntime) {
+    for (table, want) in &KNOTS {
+        let mut told = Told::new(rt.alloc());
+        match input_of(rt.alloc(), table, "y ~ qss(x, 1)") {
+            Some(input) => tell_knots(&mut told, &input),
+            None => told.put("no input"),
+        }
+        told.expect(&rt, want, want);
+    }
 }
+
+// Records with x from 0 on, and the response 0.
+fn put_records(table: &mut Told, records: u32) {
+    table.put("y,x\n");
+    for record in 0..records {
+        table.put_named("0,", record);
+        table.put("\n");
+    }
+}
+
+// How many penalty rows the smooth of such a table has.
+fn tell_size(told: &mut Told, records: u32) {
+    let mut table = Told::new(told.alloc());
+    put_records(&mut table, records);
+    let Some(input) = input_of(told.alloc(), table.as_str().as_bytes(), "y ~ qss(x, 1)") else {
+        return told.put("no input");
+    };
+    match qss_rows(told.alloc(), &input.frame, &input.design, &input.model) {
+        Ok(smoothing) => told.put_count(smoothing.rows.as_slice().len()),
+        Err(fault) => tell_fault(told, &fault),
+    }
+}
+
+static SIZES: [(u32, &str); 3] = [
+    (128, "126"),
+    (129, "TooManyColumns"),
+    (200, "TooManyColumns"),
+];
 
 // Beside an intercept 128 values give 127 columns, which are as many as a problem may have.
 #[test]
-fn as_many_columns_as_there_may_be(rt: HostRuntime) -> Result<(), Fail> {
-    let most = counted_penalties(rt.alloc(), 128)?;
-    assert!(rt; most == 126, "{most}");
-    let more = counted_penalties(rt.alloc(), 129)?;
-    assert!(rt; more == 0, "{more}");
-    let table = counted_penalties(rt.alloc(), 200)?;
-    assert!(rt; table == 0, "{table}");
-    Ok(())
+fn as_many_columns_as_there_may_be(rt: HostRuntime) {
+    for (records, want) in &SIZES {
+        let mut told = Told::new(rt.alloc());
+        tell_size(&mut told, *records);
+        told.expect(&rt, want, "so many records");
+    }
 }
 
-fn lasso(alloc: Global, columns: u32, first: u32) -> Result<String, Fail> {
+// The penalty rows of single coefficients.
+fn tell_lasso(told: &mut Told, columns: u32, first: u32, lambda: Frac128) {
     if first > columns {
-        return Err(Fail::from("beyond the columns"));
+        return told.put("beyond the columns");
     }
-    let Some(two) = <Frac128 as frac_core::Exact>::from_parts(2, 1) else {
-        return Err(Fail::from("no number"));
-    };
-    let Ok(rows) = l1_rows(alloc, columns, first, two) else {
-        return Err(Fail::from("no memory"));
-    };
-    let mut told = String::new(alloc);
-    push_penalties(&mut told, alloc, rows.as_slice())?;
-    Ok(told)
+    match l1_rows(told.alloc(), columns, first, lambda) {
+        Ok(rows) => tell_penalties(told, rows.as_slice()),
+        Err(fault) => tell_fault(told, &fault),
+    }
 }
+
+/// So many columns, the first that is penalised, and the rows.
+static SINGLE: [(u32, u32, &str); 2] = [(3, 1, " 2: 0 1 0 2: 0 0 1"), (2, 2, "")];
 
 #[test]
-fn rows_of_single_coefficients(rt: HostRuntime) -> Result<(), Fail> {
-    let told = lasso(rt.alloc(), 3, 1)?;
-    expect_answer(
-        &rt,
-        told.as_str(),
-        " 2: 0 1 0 2: 0 0 1",
-        "from the second on",
-    );
-    let told = lasso(rt.alloc(), 2, 2)?;
-    expect_answer(&rt, told.as_str(), "", "none");
-    Ok(())
+fn rows_of_single_coefficients(rt: HostRuntime) {
+    let two = <Frac128 as Exact>::from_parts(2, 1).expect(&rt, "a fraction in range");
+    for (columns, first, want) in &SINGLE {
+        let mut told = Told::new(rt.alloc());
+        tell_lasso(&mut told, *columns, *first, two);
+        told.expect(&rt, want, "single coefficients");
+    }
 }
