@@ -14,7 +14,7 @@ cells <- function(count) {
     made
 }
 
-for (shape in list(c(100, 5), c(1000, 5), c(2000, 5), c(5000, 4))) {
+for (shape in list(c(100, 5), c(1000, 5), c(2000, 5), c(5000, 4), c(100, 10), c(2000, 10))) {
     table <- matrix(cells(shape[1] * shape[2]), nrow = shape[1], byrow = TRUE)
     x <- cbind(1, table[, -1])
     # rq.fit.br names its process by the names of the columns.

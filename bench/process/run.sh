@@ -6,14 +6,30 @@
 set -eu
 here=$(cd "$(dirname "$0")" && pwd)
 work=${1:-$(mktemp -d)}
-low='exact_algebra exact_matrices frac_core loss_model basis_inverse basis_model lex_rule basic_solution pivot_rule walk_rule
-tableau_model fraction_tableau tableau br_pivot tau_process'
+# The crates of the repository that one stands on, itself included.
+below() {
+    awk -F ': *' -v top="$1" '
+        /^[a-z]/ { stands[$1] = $2 }
+        END {
+            found[last = 1] = top
+            for (i = 1; i <= last; i++) {
+                if (seen[found[i]]++ || !(found[i] in stands)) continue
+                print found[i]
+                count = split(stands[found[i]], names, " ")
+                for (j = 1; j <= count; j++) found[++last] = names[j]
+            }
+        }' "$here/../../crates.txt"
+}
+low=$(below tau_process)
 mkdir -p "$work/crates/process_bench/src" "$work/crates/process_bench/proofs"
 for crate in $low; do
     rm -rf "$work/crates/$crate"
     cp -r "$here/../../crates/$crate" "$work/crates/$crate"
     grep "^$crate:" "$here/../../crates.txt"
 done >"$work/crates.txt"
+# Whether whole numbers refuse is asked of a call that the crate keeps to itself.
+sed -i 's/^fn process_in_wholes/pub fn process_in_wholes/' "$work/crates/tau_process/src/range.rt"
+sed -i 's/^pub use range::process;/pub use range::{process, process_in_wholes};/' "$work/crates/tau_process/src/lib.rt"
 echo 'process_bench: exact_algebra frac_core loss_model pivot_rule tau_process anyhow' >>"$work/crates.txt"
 cp "$here/process_bench.txt" "$work/crates/process_bench/src/main.rt"
 for proof in has_costs/Invariants is_negative/Answers is_ordered/Answers; do

@@ -3,7 +3,8 @@
 //! The one contract for the layers above: `WholeTableau` is seen as a basis of a problem with its inverse in ℚ, at every
 //! moment, and each of its calls has the contract of its question in `tableau_model`. What it refuses names no operation:
 //! the work is done again in fractions. It stands on `whole_start` for the start, on `whole_descent` and
-//! `whole_steps` for what is left to do at a basis, and on `scaled_model` for the way back to the problem. What is printed is made of fractions, once a segment.
+//! `whole_steps` for what is left to do at a basis, and on `scaled_model` for the way back to the problem. What is printed
+//! is made of numerators over the determinant, by sums of 256 bits, and reduced once a segment.
 #![tactic(auto)]
 
 mod body;
