@@ -68,11 +68,11 @@ static OVERFLOWS: [(&str, &str, &str, &str); 9] = [
         "y,x\n-170141183460469231731687303715884105727,0\n170141183460469231731687303715884105727,1\n",
         "quantreg: solver: Overflow place=process quantity=coefficient at=2 term=2 op=add left=170141183460469231731687303715884105727 right=170141183460469231731687303715884105727\n",
     ),
-    // The coefficient is M, and the second residual -M - M.
+    // The coefficient is M, and the second residual -M - M. The loss, 2M, fits no report.
     (
         "y ~ 1",
         "1/2",
-        "y\n170141183460469231731687303715884105727\n-170141183460469231731687303715884105727\n",
+        "y\n170141183460469231731687303715884105727\n-170141183460469231731687303715884105727\n170141183460469231731687303715884105727\n-170141183460469231731687303715884105727\n",
         "quantreg: solver: Overflow place=process quantity=residual at=2 term=2 op=add left=-170141183460469231731687303715884105727 right=-170141183460469231731687303715884105727\n",
     ),
     // Two rows with the entry M lie below the fit.
@@ -96,12 +96,12 @@ static OVERFLOWS: [(&str, &str, &str, &str); 9] = [
         "y,x\n0,1\n1,2\n1e20,1e-20\n",
         "quantreg: solver: Overflow place=process quantity=perturbed-ratio at=3,1,0 term=1 op=div left=100000000000000000000 right=1/100000000000000000000\n",
     ),
-    // The fit is 0, and the rows 4 and 5 cost M/2 each.
+    // The fit is 0, and the rows 5 to 7 cost M/2 each.
     (
         "y ~ 1",
         "1/2",
-        "y\n0\n0\n0\n170141183460469231731687303715884105727\n170141183460469231731687303715884105727\n",
-        "quantreg: solver: Overflow place=process quantity=loss at=0 term=5 op=add left=170141183460469231731687303715884105727/2 right=170141183460469231731687303715884105727/2\n",
+        "y\n0\n0\n0\n0\n170141183460469231731687303715884105727\n170141183460469231731687303715884105727\n170141183460469231731687303715884105727\n",
+        "quantreg: solver: Overflow place=process quantity=loss at=0 term=6 op=add left=170141183460469231731687303715884105727/2 right=170141183460469231731687303715884105727/2\n",
     ),
     // The dual value of row 1 is 1/M, and its rankscore begins with 1/M + 1.
     (
@@ -120,6 +120,30 @@ fn overflows_are_told_with_their_operands(rt: HostRuntime) -> Result<(), Fail> {
         )?;
         let left = ran_on(&rt, rt.alloc(), &line, table.as_bytes())?;
         assert_refused(&rt, &left, 7, told, &line);
+    }
+    Ok(())
+}
+
+// Each case: responses for which fractions overflow on the way to a loss that fits, and the report.
+static ANSWERED: [(&str, &str); 2] = [
+    // The coefficient M fits row 1; row 2 lies 2M below it and costs M.
+    (
+        "y\n170141183460469231731687303715884105727\n-170141183460469231731687303715884105727\n",
+        "quantreg 1\nrecords 2 dropped 0\ncolumn 1 (Intercept)\ndata 2 penalty 0\npivots 0\nsegment 1 1/2 1/2\ncoef 1 170141183460469231731687303715884105727\nloss 170141183460469231731687303715884105727 170141183460469231731687303715884105727\nscores *0\nbasic 1 1 1\nend\n",
+    ),
+    // The coefficient 0 fits row 1; of the ties the rows 2 and 3 lie below, and the rows 4 and 5 cost M/2 each.
+    (
+        "y\n0\n0\n0\n170141183460469231731687303715884105727\n170141183460469231731687303715884105727\n",
+        "quantreg 1\nrecords 5 dropped 0\ncolumn 1 (Intercept)\ndata 5 penalty 0\npivots 0\nsegment 1 1/2 1/2\ncoef 1 0\nloss 170141183460469231731687303715884105727 170141183460469231731687303715884105727\nscores *0011\nbasic 1 1/2 1/2\nend\n",
+    ),
+];
+
+#[test]
+fn a_loss_that_fits_is_printed(rt: HostRuntime) -> Result<(), Fail> {
+    let words = "process|--formula|y ~ 1|--lo|1/2|--hi|1/2";
+    for (table, report) in &ANSWERED {
+        let left = ran_on(&rt, rt.alloc(), words, table.as_bytes())?;
+        assert_printed(&rt, &left, report, words);
     }
     Ok(())
 }
