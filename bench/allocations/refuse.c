@@ -37,9 +37,13 @@ void _exit(int status) {
     __builtin_unreachable();
 }
 
-// Threads may ask at once; a number goes to one of them.
+// Threads may ask at once; a number goes to one of them. The C library's own threads look at errno.
 static int is_refused(void) {
-    return __atomic_add_fetch(&requests, 1, __ATOMIC_SEQ_CST) == refused;
+    if (__atomic_add_fetch(&requests, 1, __ATOMIC_SEQ_CST) != refused) {
+        return 0;
+    }
+    errno = ENOMEM;
+    return 1;
 }
 
 extern void *__libc_malloc(size_t size);
