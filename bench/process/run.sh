@@ -6,21 +6,7 @@
 set -eu
 here=$(cd "$(dirname "$0")" && pwd)
 work=${1:-$(mktemp -d)}
-# The crates of the repository that one stands on, itself included.
-below() {
-    awk -F ': *' -v top="$1" '
-        /^[a-z]/ { stands[$1] = $2 }
-        END {
-            found[last = 1] = top
-            for (i = 1; i <= last; i++) {
-                if (seen[found[i]]++ || !(found[i] in stands)) continue
-                print found[i]
-                count = split(stands[found[i]], names, " ")
-                for (j = 1; j <= count; j++) found[++last] = names[j]
-            }
-        }' "$here/../../crates.txt"
-}
-low=$(below tau_process)
+low=$("$here/../below.sh" tau_process)
 mkdir -p "$work/crates/process_bench/src" "$work/crates/process_bench/proofs"
 for crate in $low; do
     rm -rf "$work/crates/$crate"

@@ -5,21 +5,7 @@
 set -eu
 here=$(cd "$(dirname "$0")" && pwd)
 work=${1:-$(mktemp -d)}
-# The crates of the repository that one stands on, itself included.
-below() {
-    awk -F ': *' -v top="$1" '
-        /^[a-z]/ { stands[$1] = $2 }
-        END {
-            found[last = 1] = top
-            for (i = 1; i <= last; i++) {
-                if (seen[found[i]]++ || !(found[i] in stands)) continue
-                print found[i]
-                count = split(stands[found[i]], names, " ")
-                for (j = 1; j <= count; j++) found[++last] = names[j]
-            }
-        }' "$here/../../crates.txt"
-}
-low=$(below br_pivot)
+low=$("$here/../below.sh" br_pivot)
 mkdir -p "$work/crates/solve_bench/src" "$work/crates/solve_bench/proofs"
 for crate in $low; do
     rm -rf "$work/crates/$crate"
