@@ -15,15 +15,15 @@ pub(crate) static INTERVAL: &str =
 
 // A fault in a word, and its path.
 fn told(alloc: Global, fault: &CertFault) -> Result<String, Fail> {
-    let text = match fault {
-        CertFault::OutOfMemory => String::from_str(alloc, "OutOfMemory")?,
-        CertFault::NotJson => String::from_str(alloc, "NotJson")?,
-        CertFault::Shape { path } => format!(in alloc; "Shape {}", path.as_str())?,
-        CertFault::Number { path } => format!(in alloc; "Number {}", path.as_str())?,
-        CertFault::Version => String::from_str(alloc, "Version")?,
-        CertFault::TooLarge => String::from_str(alloc, "TooLarge")?,
+    let (word, path) = match fault {
+        CertFault::OutOfMemory => ("OutOfMemory", ""),
+        CertFault::NotJson => ("NotJson", ""),
+        CertFault::Shape { path } => ("Shape ", path.as_str()),
+        CertFault::Number { path } => ("Number ", path.as_str()),
+        CertFault::Version => ("Version", ""),
+        CertFault::TooLarge => ("TooLarge", ""),
     };
-    Ok(text)
+    Ok(format!(in alloc; "{word}{path}")?)
 }
 
 // The answer, without what is proved of it.
@@ -41,14 +41,8 @@ pub(crate) fn outcome(alloc: Global, bytes: &[u8]) -> Result<String, Fail> {
 
 /// The text with the first place of `old` written anew.
 pub(crate) fn changed(alloc: Global, text: &str, old: &str, new: &str) -> Result<String, Fail> {
-    let mut made = String::new(alloc);
-    match text.split_once(old) {
-        Some((before, after)) => {
-            made.push_str(before)?;
-            made.push_str(new)?;
-            made.push_str(after)?;
-        }
-        None => made.push_str("no such place")?,
-    }
-    Ok(made)
+    let Some((before, after)) = text.split_once(old) else {
+        return Err(Fail::from("no such place"));
+    };
+    Ok(format!(in alloc; "{before}{new}{after}")?)
 }

@@ -10,6 +10,8 @@ pub mod Usable
 pub mod Lengths
 pub mod Building
 pub mod Ascending
+pub mod Asked
+pub mod Known
 pub mod Searches
 pub mod Shapes
 pub mod Chosen

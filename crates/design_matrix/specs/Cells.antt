@@ -49,13 +49,13 @@ number_at (too_wide rec) i = whole (pos 0)
 abbrev pub present : {K : Type 0} → List (Option K) → List ℕ → List K
 present cells records = filter_map (cell_of cells) records
 
--- the names of the columns that are used: the response, the weights, the variables by terms and then by variables, and
--- the smooths
+-- the names of the columns that explain: the variables by terms and then by variables, and the smooths
+abbrev pub predictor_names : Formula → List Text
+predictor_names model = flat_map (λ t. map (λ v. v.name) t.variables) model.terms ++ map (λ s. s.name) model.smooths
+
+-- the names of the columns that are used: the response, the weights, and those that explain
 unfoldable pub used_names : Formula → Option Text → List Text
-used_names model weights =
-    model.response
-    ∷ option_to_list weights
-    ++ (flat_map (λ t. map (λ v. v.name) t.variables) model.terms ++ map (λ s. s.name) model.smooths)
+used_names model weights = model.response ∷ option_to_list weights ++ predictor_names model
 
 -- the column of the weights, where there are weights
 abbrev pub weights_in : Table → Option Text → Option Column

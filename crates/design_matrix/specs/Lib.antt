@@ -4,6 +4,7 @@ pub mod Levels
 pub mod Laws
 pub mod CodedVariable
 pub mod Parts
+pub mod Predicted
 pub mod Products
 pub mod Designs
 pub mod Faults

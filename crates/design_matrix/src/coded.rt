@@ -71,7 +71,7 @@ fn values_of<'a>(
     }
 }
 
-fn print_name(alloc: Global, as_factor: bool, name: &str) -> Result<Text, AllocError>
+pub(crate) fn print_name(alloc: Global, as_factor: bool, name: &str) -> Result<Text, AllocError>
     ensures { IfOk result (λ t. t ≡ printed_name as_factor name.now) }
 {
     if as_factor {

@@ -13,6 +13,17 @@ pub struct DesignRow {
     pub weight: Frac128,
 }
 
+/// A record whose response is missing, as a row of the regression.
+#[derive(Drop)]
+pub struct PredictRow {
+    /// The record's number in the table, from 1.
+    pub rec: u32,
+    /// An entry for each column of the design.
+    pub x: List<Frac128>,
+    /// The values of the formula's offsets; a formula has none yet.
+    pub offsets: List<Frac128>,
+}
+
 /// The design of a formula: what its columns are called, and a row for each record that is kept.
 #[derive(Drop)]
 pub struct Design {

@@ -31,6 +31,9 @@ pub enum DesignFault {
     TooManyColumns,
     /// A product of entries overflows.
     Overflow(Spill<Frac128>),
+    /// The record is predicted, and its cell of the factor is no level of the kept records. It is looked
+    /// for when the record is predicted.
+    UnknownLevel { rec: u32, factor: Text },
 }
 
 impl From<AllocError> for DesignFault {

@@ -11,7 +11,7 @@ use crate::used::UsedColumns;
 use data_frame::Column;
 use std::alloc::{AllocError, Global};
 
-fn is_complete(columns: &[Column<'_>], index: u32) -> bool
+pub(crate) fn is_complete(columns: &[Column<'_>], index: u32) -> bool
     ensures { result ≡ list_all (λ column. is_present (lent_column column) index) columns.now }
 {
     columns.iter().all(|column| has_value(column, index))

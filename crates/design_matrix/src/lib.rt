@@ -37,10 +37,14 @@ pub mod laws;
 mod levels;
 mod part;
 mod parts;
+mod predicted;
+mod predicted_row;
 mod rows;
 mod used;
 mod weights;
 
 pub use builder::build;
-pub use design::{Design, DesignRow};
+pub use design::{Design, DesignRow, PredictRow};
 pub use fault::DesignFault;
+pub use predicted::predicted_records;
+pub use predicted_row::predict_row;

@@ -63,8 +63,8 @@ fn product_of(
     Ok(product)
 }
 
-// The entries of the row at a place, of the record of this number.
-fn entries_of(
+/// The entries of the row at a place, of the record of this number.
+pub(crate) fn entries_of(
     alloc: Global,
     rec: u32,
     columns: &[Vec<Part<'_, '_>>],

@@ -2,7 +2,7 @@
 
 ghost use Rattle.std.specs.Prelude.{◌≡◌, ◌⊎◌, ◌++◌, None, Some, IfErr, IfOk, OnOk, map, option_and_then, option_copied, option_to_list};
 ghost use Rattle.data_frame.specs.Views.{lent_column};
-ghost use Rattle.design_matrix.specs.Cells.{column_of, used_names, weights_in};
+ghost use Rattle.design_matrix.specs.Cells.{column_of, predictor_names, used_names, weights_in};
 ghost use Rattle.design_matrix.specs.Faults.{name_fault, used_fault, wide_fault, widths_fault};
 ghost use Rattle.design_matrix.specs.Views.{AreUsed, weights_seen};
 
@@ -55,6 +55,22 @@ fn push_smooths<'a>(names: &mut Vec<&'a str>, smooths: &'a [Smooth]) -> Result<(
     Ok(())
 }
 
+/// Adds the names of the columns that explain: those of the variables, by terms and then by variables, and
+/// those of the smooths.
+pub(crate) fn push_predictors<'a>(
+    names: &mut Vec<&'a str>,
+    model: &'a Formula,
+) -> Result<(), AllocError>
+    ensures { OnOk result (map (λ n. n.now) names.new.items ≡ map (λ n. n.now) names.old.items ++ predictor_names model.now) }
+{
+    let terms = model.terms.as_slice();
+    for term in terms {
+        push_variables(names, term)?;
+    }
+    push_smooths(names, model.smooths.as_slice())?;
+    Ok(())
+}
+
 // The names of the columns that are used.
 #[tactic(auto, unfolding(crate::specs::Cells::used_names))]
 fn names_used<'a>(
@@ -67,11 +83,7 @@ fn names_used<'a>(
     let mut names = Vec::new(alloc);
     names.push(model.response.as_str())?;
     push_weights(&mut names, weights)?;
-    let terms = model.terms.as_slice();
-    for term in terms {
-        push_variables(&mut names, term)?;
-    }
-    push_smooths(&mut names, model.smooths.as_slice())?;
+    push_predictors(&mut names, model)?;
     Ok(names)
 }
 

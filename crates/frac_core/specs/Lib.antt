@@ -7,3 +7,4 @@ pub mod Parts
 pub mod NumberLaws
 pub mod NumberReading
 pub mod NumberText
+pub mod Widths

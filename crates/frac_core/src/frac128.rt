@@ -21,8 +21,8 @@ const LIMIT: u128 = i128::MAX as u128;
 impl Frac128 {
     ghost use Rattle.frac_core.specs.Parts.{fraction};
 
-    // The parts, as the operations take them.
-    fn parts(self) -> Parts
+    /// The parts, as the operations take them.
+    pub(crate) fn parts(self) -> Parts
         ensures { fraction result ≡ record { num = self.num; den = self.den } }
     {
         Parts {
@@ -31,8 +31,8 @@ impl Frac128 {
         }
     }
 
-    // The fraction of parts in lowest terms.
-    fn from_lowest(parts: Parts) -> Frac128
+    /// The fraction of parts in lowest terms.
+    pub(crate) fn from_lowest(parts: Parts) -> Frac128
         requires { IsWithin (2 ^ 127 - 1) (fraction parts) }
         ensures { fraction parts ≡ record { num = result.num; den = result.den } }
     {

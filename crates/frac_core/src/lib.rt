@@ -2,7 +2,7 @@
 //!
 //! `Exact` is the trait of such fractions: each operation gives the exact value, or hands back
 //! the operation exactly where a number that it needs is out of range. `Frac128` and `Frac64`
-//! implement it. `read_number` and `number_text` read and write their texts, for every type that
+//! implement it, and `widen` and `narrow` lead from one to the other. `read_number` and `number_text` read and write their texts, for every type that
 //! implements it. The crate stands on `exact_algebra`, whose field ℚ its clauses speak of, and on
 //! `itoa` for the digits of whole numbers.
 //! Its tests stand in the crate `ground_tests`.
@@ -21,6 +21,7 @@ mod number_reader;
 mod number_writer;
 mod parts;
 mod text;
+mod widths;
 
 pub use exact::{Exact, Op, OpKind};
 pub use frac64::Frac64;
@@ -31,6 +32,7 @@ pub use number_laws::number_text_laws;
 pub use number_reader::{NumberFault, read_number};
 pub use number_writer::number_text;
 pub use text::Text;
+pub use widths::{narrow, widen};
 
 /// No memory was found.
 #[derive(Clone, Copy, Debug, PartialEq, Eq)]

@@ -1,9 +1,6 @@
 //! Losses and spills worked by hand.
 
-ghost use Rattle.std.specs.Prelude.{◌≡◌, ◌↔◌, IsTrue, length};
-ghost use Rattle.loss_model.specs.Problem.{IsWellShaped};
-
-use crate::helpers::{Ratio, crosses, fraction, ratio};
+use crate::helpers::{Ratio, crosses, fraction, is_shaped, list, ratio};
 use frac_core::{Exact, Frac128, List, OpKind};
 use loss_model::{
     Problem, Process, Quantity, Row, Short, Site, Spill, loss_at, minus_at, over_at, plus_at,
@@ -41,14 +38,6 @@ const EIGHTH: [Ratio; 4] = [(1, 8), (0, 1), (1, 8), (0, 1)];
 /// The widest number.
 const M: i128 = Frac128::RANGE;
 
-fn list(rt: &impl Abort, alloc: Global, values: &[Ratio]) -> Result<List<Frac128>, AllocError> {
-    let mut made = Vec::new(alloc);
-    for value in values {
-        made.push(fraction(rt, *value))?;
-    }
-    Ok(List::from(made))
-}
-
 fn row(rt: &impl Abort, alloc: Global, (x, y, costs): &Plain) -> Result<Row<Frac128>, AllocError> {
     let mut entries = Vec::new(alloc);
     for entry in *x {
@@ -80,21 +69,6 @@ fn problem(
     })
 }
 
-fn is_shaped(problem: &Problem<Frac128>, coef: &[Frac128]) -> bool
-    ensures shaped { IsTrue result → IsWellShaped problem.now }
-    ensures coefs { IsTrue result → length coef.now ≡ problem.now.columns }
-{
-    let columns = problem.columns;
-    let rows = problem.rows.as_slice();
-    columns >= 1
-        && columns <= 128
-        && rows.len() <= 16384
-        && coef.len() == columns as usize
-        && rows
-            .iter()
-            .all(|r| r.x.as_slice().len() == columns as usize)
-}
-
 // The loss of coefficients at theta, or its spill.
 fn outcome(
     rt: &impl Abort,
@@ -106,7 +80,8 @@ fn outcome(
     let coef = list(rt, alloc, coef)?;
     let coef = coef.as_slice();
     let theta = fraction(rt, theta);
-    assert!(rt; is_shaped(problem, coef));
+    assert!(rt; is_shaped(problem));
+    assert!(rt; coef.len() == problem.columns as usize);
     Ok(match loss_at(problem, coef, theta) {
         Ok(loss) => Ok(ratio(loss)),
         Err(spill) => Err(spill),

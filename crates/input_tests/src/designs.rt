@@ -311,7 +311,7 @@ fn term(alloc: Global, text: &str) -> Result<Term, OutOfMemory> {
     Ok(Term { variables })
 }
 
-fn formula(alloc: Global, text: &str) -> Result<Formula, OutOfMemory> {
+pub(crate) fn formula(alloc: Global, text: &str) -> Result<Formula, OutOfMemory> {
     let mut terms = List::new(alloc);
     for word in text.split(' ').skip(1) {
         terms.add(term(alloc, word)?)?;
@@ -355,7 +355,7 @@ fn tell_design(told: &mut Told, design: &Design) {
 }
 
 // A fault by its name, and what it names behind it.
-fn tell_fault(told: &mut Told, fault: &DesignFault) {
+pub(crate) fn tell_fault(told: &mut Told, fault: &DesignFault) {
     match fault {
         DesignFault::UnknownWeights => told.put("UnknownWeights"),
         DesignFault::WeightNotNumeric => told.put("WeightNotNumeric"),
@@ -373,6 +373,11 @@ fn tell_fault(told: &mut Told, fault: &DesignFault) {
         }
         DesignFault::NoColumns => told.put("NoColumns"),
         DesignFault::Overflow(spill) => told.put_site(spill.site),
+        DesignFault::UnknownLevel { rec, factor } => {
+            told.put_named("UnknownLevel ", *rec);
+            told.put(" ");
+            told.put(factor.as_str());
+        }
         _ => told.put("another fault"),
     }
 }

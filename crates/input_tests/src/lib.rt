@@ -13,6 +13,8 @@ mod formulas;
 #[cfg(test)]
 mod helpers;
 #[cfg(test)]
+mod predicted;
+#[cfg(test)]
 mod readings;
 #[cfg(test)]
 mod smooths;

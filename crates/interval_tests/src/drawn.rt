@@ -115,7 +115,7 @@ fn try_table(
             (tau, Ratio::whole(0)),
         )?;
         let values = test.coefficients(alloc)?;
-        let problem = problem(rt, alloc, columns, table)?;
+        let problem = problem(rt, alloc, columns, table);
         try_column(
             rt,
             alloc,

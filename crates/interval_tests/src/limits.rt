@@ -5,9 +5,8 @@ use crate::helpers::{Question, Ratio, Step, ask, expect, expect_steps, problem, 
 use frac_core::{Exact, Frac64, Frac128, OpKind};
 use loss_model::{Quantity, Site, Stop, Trail};
 use slow_ranks::Data;
-use std::alloc::{AllocError, Global};
+use std::alloc::Global;
 use std::process::Abort;
-use std::test::Fail;
 
 /// The parts of a trail.
 struct Path {
@@ -73,13 +72,8 @@ static LIMITED: [Path; 5] = [
     },
 ];
 
-fn expect_limit<F: Exact>(
-    rt: &impl Abort,
-    alloc: Global,
-    limit: u32,
-    want: &Path,
-) -> Result<(), AllocError> {
-    let rows = problem::<F>(rt, alloc, 1, FIVE.as_slice())?;
+fn expect_limit<F: Exact>(rt: &impl Abort, alloc: Global, limit: u32, want: &Path) {
+    let rows = problem::<F>(rt, alloc, 1, FIVE.as_slice());
     match ask(rt, alloc, &rows, OF_FIVE, limit) {
         Err(
             Stop::PivotLimit {
@@ -92,25 +86,22 @@ fn expect_limit<F: Exact>(
         }
         _ => panic!(rt; "a step is left"),
     }
-    Ok(())
 }
 
 #[test]
-fn limits_below_five_steps(rt: HostRuntime) -> Result<(), Fail> {
+fn limits_below_five_steps(rt: HostRuntime) {
     for (limit, want) in LIMITED.iter().enumerate() {
-        expect_limit::<Frac128>(&rt, rt.alloc(), limit as u32, want)?;
-        expect_limit::<Frac64>(&rt, rt.alloc(), limit as u32, want)?;
+        expect_limit::<Frac128>(&rt, rt.alloc(), limit as u32, want);
+        expect_limit::<Frac64>(&rt, rt.alloc(), limit as u32, want);
     }
-    Ok(())
 }
 
 #[test]
-fn five_steps_suffice(rt: HostRuntime) -> Result<(), Fail> {
-    let rows = problem::<Frac128>(&rt, rt.alloc(), 1, FIVE.as_slice())?;
+fn five_steps_suffice(rt: HostRuntime) {
+    let rows = problem::<Frac128>(&rt, rt.alloc(), 1, FIVE.as_slice());
     for limit in [5, 6, 100] {
-        assert!(rt; ask(&rt, rt.alloc(), &rows, OF_FIVE, limit).is_ok());
+        assert!(&rt; ask(&rt, rt.alloc(), &rows, OF_FIVE, limit).is_ok());
     }
-    Ok(())
 }
 
 /// The third column is the sum of the others; the start leaves the combination -1, -1, 1.
@@ -122,8 +113,8 @@ static DEPENDENT: [Data; 4] = [
 ];
 
 #[test]
-fn dependent_columns(rt: HostRuntime) -> Result<(), Fail> {
-    let rows = problem::<Frac128>(&rt, rt.alloc(), 3, DEPENDENT.as_slice())?;
+fn dependent_columns(rt: HostRuntime) {
+    let rows = problem::<Frac128>(&rt, rt.alloc(), 3, DEPENDENT.as_slice());
     let question = Question {
         column: 1,
         tau: (1, 3),
@@ -133,9 +124,8 @@ fn dependent_columns(rt: HostRuntime) -> Result<(), Fail> {
         Err(Stop::Dependent { combination }) => {
             expect(&rt, &combination, &[(-1, 1), (-1, 1), (1, 1)]);
         }
-        _ => panic!(rt; "the columns are dependent"),
+        _ => panic!(&rt; "the columns are dependent"),
     }
-    Ok(())
 }
 
 /// An operation that overflows in 64 bits, and the trail to where it stands.
@@ -315,8 +305,8 @@ static OVERFLOWS: [Overflow; 6] = [
     },
 ];
 
-fn expect_overflow(rt: &impl Abort, alloc: Global, case: &Overflow) -> Result<(), AllocError> {
-    let rows = problem::<Frac64>(rt, alloc, case.columns, case.table)?;
+fn expect_overflow(rt: &impl Abort, alloc: Global, case: &Overflow) {
+    let rows = problem::<Frac64>(rt, alloc, case.columns, case.table);
     match ask(rt, alloc, &rows, case.question, 100) {
         Err(Stop::Overflow { trail, spill }) => {
             assert!(rt; spill.site == case.site);
@@ -326,13 +316,11 @@ fn expect_overflow(rt: &impl Abort, alloc: Global, case: &Overflow) -> Result<()
         }
         _ => panic!(rt; "an operation overflows"),
     }
-    Ok(())
 }
 
 #[test]
-fn overflows(rt: HostRuntime) -> Result<(), Fail> {
+fn overflows(rt: HostRuntime) {
     for case in &OVERFLOWS {
-        expect_overflow(&rt, rt.alloc(), case)?;
+        expect_overflow(&rt, rt.alloc(), case);
     }
-    Ok(())
 }

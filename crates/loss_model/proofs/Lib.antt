@@ -9,3 +9,5 @@ pub mod Covers
 pub mod Products
 pub mod Residuals
 pub mod Prices
+pub mod Narrowed
+pub mod Widened

@@ -10,5 +10,7 @@ pub mod FullRank
 pub mod Greedy
 pub mod Quantities
 pub mod StartStop
+pub mod Widths
+pub mod Unfit
 pub mod Spill
 pub mod Sign

@@ -19,8 +19,8 @@ pub enum Sign {
 }
 
 impl Sign {
-    // The value, or its negation.
-    fn apply<F: Exact>(self, value: F) -> F
+    /// The value, or its negation.
+    pub fn apply<F: Exact>(self, value: F) -> F
         ensures { rational (F.value result) ≡ signed self (rational (F.value value)) }
     {
         match self {

@@ -28,6 +28,12 @@ pub enum Quantity {
     DesignEntry,
     PenaltyEntry,
     CheckSum,
+    Prediction,
+    StepLength,
+    StepPlace,
+    PathCost,
+    TestScore,
+    TestStatistic,
 }
 
 /// The place of an operation: the quantity, its indices, of which those that it does not have are

@@ -11,7 +11,7 @@ use std::test::Fail;
 // An operation of a quantity at the indices 4, 1 and 2, and the fields that are printed of it.
 type Case = (Quantity, OpKind, &'static str);
 
-static CASES: [Case; 24] = [
+static CASES: [Case; 30] = [
     (Quantity::Coordinate, Mul, "coordinate at=5,2 term=9 op=mul"),
     (Quantity::Coefficient, Add, "coefficient at=5 term=9 op=add"),
     (Quantity::Residual, Sub, "residual at=5 term=9 op=sub"),
@@ -64,6 +64,16 @@ static CASES: [Case; 24] = [
         "penalty-entry at=5,2 term=9 op=sub",
     ),
     (Quantity::CheckSum, Add, "check-sum at=4,1,2 term=9 op=add"),
+    (Quantity::Prediction, Mul, "prediction at=4,2 term=9 op=mul"),
+    (Quantity::StepLength, Sub, "step-length at=5 term=9 op=sub"),
+    (Quantity::StepPlace, Add, "step-place at=4,2 term=9 op=add"),
+    (Quantity::PathCost, Sub, "path-cost at=5,1 term=9 op=sub"),
+    (Quantity::TestScore, Add, "test-score at=5 term=9 op=add"),
+    (
+        Quantity::TestStatistic,
+        Mul,
+        "test-statistic at=4 term=9 op=mul",
+    ),
 ];
 
 fn fraction(n: i128, d: i128) -> Frac128 {

@@ -41,6 +41,12 @@ quantity_name quantities.Statistic = codes "statistic"
 quantity_name quantities.DesignEntry = codes "design-entry"
 quantity_name quantities.PenaltyEntry = codes "penalty-entry"
 quantity_name quantities.CheckSum = codes "check-sum"
+quantity_name quantities.Prediction = codes "prediction"
+quantity_name quantities.StepLength = codes "step-length"
+quantity_name quantities.StepPlace = codes "step-place"
+quantity_name quantities.PathCost = codes "path-cost"
+quantity_name quantities.TestScore = codes "test-score"
+quantity_name quantities.TestStatistic = codes "test-statistic"
 
 -- the indices i, j and k of a quantity as they are printed. Records, parts and ends, the entries of
 -- perturbed ratios and the indices of a check-sum stand as they are; all others are counted from 1
@@ -69,6 +75,12 @@ printed quantities.Statistic i j k = One i
 printed quantities.DesignEntry i j k = Two i (j + 1)
 printed quantities.PenaltyEntry i j k = Two (i + 1) (j + 1)
 printed quantities.CheckSum i j k = Three i j k
+printed quantities.Prediction i j k = Two i (j + 1)
+printed quantities.StepLength i j k = One (i + 1)
+printed quantities.StepPlace i j k = Two i (j + 1)
+printed quantities.PathCost i j k = Two (i + 1) j
+printed quantities.TestScore i j k = One (i + 1)
+printed quantities.TestStatistic i j k = One i
 
 -- the indices of a site as they are printed
 abbrev pub indices : Site → PrintedIndices

@@ -144,6 +144,13 @@ impl Page {
             DesignFault::NoColumns => self.line(b"design", b"NoColumns", &[]),
             DesignFault::TooManyColumns => self.line(b"design", b"TooManyColumns", &[]),
             DesignFault::Overflow(spill) => self.line(b"design", b"Overflow", &[Spill(spill)]),
+            DesignFault::UnknownLevel { rec, factor } => {
+                self.line(
+                    b"design",
+                    b"UnknownLevel",
+                    &[Number(b"record", *rec), Name(b"factor", factor)],
+                )
+            }
             DesignFault::OutOfMemory => self.put(MEMORY_LINE),
         }
     }

@@ -52,6 +52,12 @@ pub(crate) fn quantity_name(quantity: Quantity) -> &'static [u8]
         Quantity::DesignEntry => b"design-entry",
         Quantity::PenaltyEntry => b"penalty-entry",
         Quantity::CheckSum => b"check-sum",
+        Quantity::Prediction => b"prediction",
+        Quantity::StepLength => b"step-length",
+        Quantity::StepPlace => b"step-place",
+        Quantity::PathCost => b"path-cost",
+        Quantity::TestScore => b"test-score",
+        Quantity::TestStatistic => b"test-statistic",
     }
 }
 
@@ -86,5 +92,11 @@ pub(crate) fn indices(site: &Site) -> PrintedIndices
         Quantity::DesignEntry => PrintedIndices::Two(first, second + 1),
         Quantity::PenaltyEntry => PrintedIndices::Two(first + 1, second + 1),
         Quantity::CheckSum => PrintedIndices::Three(first, second, third),
+        Quantity::Prediction => PrintedIndices::Two(first, second + 1),
+        Quantity::StepLength => PrintedIndices::One(first + 1),
+        Quantity::StepPlace => PrintedIndices::Two(first, second + 1),
+        Quantity::PathCost => PrintedIndices::Two(first + 1, second),
+        Quantity::TestScore => PrintedIndices::One(first + 1),
+        Quantity::TestStatistic => PrintedIndices::One(first),
     }
 }

@@ -5,13 +5,12 @@
 
 use crate::bodies::in_wholes;
 use crate::digest::digest_of;
-use crate::helpers::{Ratio, draw, expect, fraction, ratio, solve, walk};
+use crate::helpers::{Ratio, draw, expect, fraction, push, ratio, solve, walk};
 use br_pivot::Solved;
 use frac_core::{Exact, Frac128, List};
 use loss_model::{Problem, Process, Row};
-use std::alloc::{AllocError, Global};
+use std::alloc::Global;
 use std::process::Abort;
-use std::test::Fail;
 
 /// A number from 100 to 999.
 fn drawn(rt: &impl Abort, state: &mut u32) -> Frac128 {
@@ -19,40 +18,31 @@ fn drawn(rt: &impl Abort, state: &mut u32) -> Frac128 {
     fraction(rt, (i128::from(below) + 100, 1))
 }
 
-fn drawn_row(
-    rt: &impl Abort,
-    alloc: Global,
-    columns: u32,
-    state: &mut u32,
-) -> Result<Row<Frac128>, AllocError> {
+fn drawn_row(rt: &impl Abort, alloc: Global, columns: u32, state: &mut u32) -> Row<Frac128> {
     let mut x = Vec::new(alloc);
     for _ in 0..columns {
-        x.push(drawn(rt, state))?;
+        push(rt, &mut x, drawn(rt, state));
     }
-    Ok(Row {
+    Row {
         x: List::from(x),
         y: drawn(rt, state),
         up0: fraction(rt, (0, 1)),
         up1: fraction(rt, (1, 1)),
         down0: fraction(rt, (1, 1)),
         down1: fraction(rt, (-1, 1)),
-    })
+    }
 }
 
-fn drawn_table(
-    rt: &impl Abort,
-    alloc: Global,
-    columns: u32,
-) -> Result<Problem<Frac128>, AllocError> {
+fn drawn_table(rt: &impl Abort, alloc: Global, columns: u32) -> Problem<Frac128> {
     let mut state = 7;
     let mut rows = Vec::new(alloc);
     for _ in 0..100 {
-        rows.push(drawn_row(rt, alloc, columns, &mut state)?)?;
+        push(rt, &mut rows, drawn_row(rt, alloc, columns, &mut state));
     }
-    Ok(Problem {
+    Problem {
         columns,
         rows: List::from(rows),
-    })
+    }
 }
 
 /// The optimal basis at 1/2.
@@ -88,22 +78,21 @@ static BASIC: [Ratio; 10] = [
     (11117588799420701660123670157, 55359008019870615168204574394),
 ];
 
-fn median(rt: &impl Abort, alloc: Global) -> Result<Solved<Frac128>, AllocError> {
-    let table = drawn_table(rt, alloc, 10)?;
+fn median(rt: &impl Abort, alloc: Global) -> Solved<Frac128> {
+    let table = drawn_table(rt, alloc, 10);
     match solve(rt, alloc, &table, fraction(rt, (1, 2)), 1000) {
-        Ok(solved) => Ok(solved),
+        Ok(solved) => solved,
         Err(_) => panic!(rt; "every number of the answer has 128 bits"),
     }
 }
 
 #[test]
-fn ten_columns_at_the_median(rt: HostRuntime) -> Result<(), Fail> {
-    let solved = median(&rt, rt.alloc())?;
+fn ten_columns_at_the_median(rt: HostRuntime) {
+    let solved = median(&rt, rt.alloc());
     assert!(&rt; solved.vertex.basis.rows.as_slice() == BASIS.as_slice());
     expect(&rt, &solved.vertex.coef, COEF.as_slice());
     expect(&rt, &solved.basic, BASIC.as_slice());
     assert!(&rt; solved.trail.steps.as_slice().len() == 21);
-    Ok(())
 }
 
 /// The loss there.
@@ -112,18 +101,18 @@ const LOSS: Ratio = (
     55359008019870615168204574394,
 );
 
-fn median_process(rt: &impl Abort, alloc: Global) -> Result<Process<Frac128>, AllocError> {
-    let table = drawn_table(rt, alloc, 10)?;
+fn median_process(rt: &impl Abort, alloc: Global) -> Process<Frac128> {
+    let table = drawn_table(rt, alloc, 10);
     let half = fraction(rt, (1, 2));
     match walk(rt, alloc, &table, (half, half), 1000) {
-        Ok(process) => Ok(process),
+        Ok(process) => process,
         Err(_) => panic!(rt; "every number of the answer has 128 bits"),
     }
 }
 
 #[test]
-fn ten_columns_as_a_process_at_the_median(rt: HostRuntime) -> Result<(), Fail> {
-    let process = median_process(&rt, rt.alloc())?;
+fn ten_columns_as_a_process_at_the_median(rt: HostRuntime) {
+    let process = median_process(&rt, rt.alloc());
     let segments = process.segments.as_slice();
     assert!(&rt; segments.len() == 1);
     let only = &segments[0];
@@ -131,21 +120,19 @@ fn ten_columns_as_a_process_at_the_median(rt: HostRuntime) -> Result<(), Fail> {
     expect(&rt, &only.vertex.coef, COEF.as_slice());
     expect(&rt, &only.basic_hi, BASIC.as_slice());
     assert!(&rt; ratio(only.loss_hi) == LOSS);
-    Ok(())
 }
 
-fn whole_range(rt: &impl Abort, alloc: Global) -> Result<Process<Frac128>, AllocError> {
-    let table = drawn_table(rt, alloc, 5)?;
+fn whole_range(rt: &impl Abort, alloc: Global) -> Process<Frac128> {
+    let table = drawn_table(rt, alloc, 5);
     match in_wholes(rt, alloc, &table, (Frac128::zero(), Frac128::one())) {
-        Some(process) => Ok(process),
+        Some(process) => process,
         None => panic!(rt; "the columns are independent"),
     }
 }
 
 #[test]
-fn five_columns_over_the_whole_range(rt: HostRuntime) -> Result<(), Fail> {
-    let process = whole_range(&rt, rt.alloc())?;
+fn five_columns_over_the_whole_range(rt: HostRuntime) {
+    let process = whole_range(&rt, rt.alloc());
     assert!(&rt; process.segments.as_slice().len() == 148);
     assert!(&rt; digest_of(&process) == -64600200990088842732543995565269542556);
-    Ok(())
 }

@@ -4,9 +4,8 @@ use crate::helpers::{Data, Ratio, expect, fraction, problem, ratio, solve};
 use br_pivot::Solved;
 use frac_core::{Exact, Frac64, Frac128, OpKind};
 use loss_model::{Quantity, Side, Site, Stop, Trail};
-use std::alloc::{AllocError, Global};
+use std::alloc::Global;
 use std::process::Abort;
-use std::test::Fail;
 
 /// A trail: its start, and the position and the row of each of its steps.
 #[derive(Drop)]
@@ -81,13 +80,8 @@ static LIMITED: [Path; 2] = [
     },
 ];
 
-fn expect_limit<F: Exact>(
-    rt: &impl Abort,
-    alloc: Global,
-    limit: u32,
-    path: &Path,
-) -> Result<(), AllocError> {
-    let apart = problem::<F>(rt, alloc, 2, 1, APART.as_slice())?;
+fn expect_limit<F: Exact>(rt: &impl Abort, alloc: Global, limit: u32, path: &Path) {
+    let apart = problem::<F>(rt, alloc, 2, 1, APART.as_slice());
     let theta = fraction(rt, (1, 4));
     match solve(rt, alloc, &apart, theta, limit) {
         Err(
@@ -101,35 +95,31 @@ fn expect_limit<F: Exact>(
         }
         _ => panic!(rt; "a pivot is left"),
     }
-    Ok(())
 }
 
-fn expect_pivots<F: Exact>(rt: &impl Abort, alloc: Global, limit: u32) -> Result<(), AllocError> {
-    let apart = problem::<F>(rt, alloc, 2, 1, APART.as_slice())?;
+fn expect_pivots<F: Exact>(rt: &impl Abort, alloc: Global, limit: u32) {
+    let apart = problem::<F>(rt, alloc, 2, 1, APART.as_slice());
     let theta = fraction(rt, (1, 4));
     match solve(rt, alloc, &apart, theta, limit) {
         Ok(solved) => expect_apart(rt, &solved, theta),
         Err(_) => panic!(rt; "two pivots suffice"),
     }
-    Ok(())
 }
 
 #[test]
-fn limits_below_two_pivots(rt: HostRuntime) -> Result<(), Fail> {
+fn limits_below_two_pivots(rt: HostRuntime) {
     for (limit, path) in LIMITED.iter().enumerate() {
-        expect_limit::<Frac128>(&rt, rt.alloc(), limit as u32, path)?;
-        expect_limit::<Frac64>(&rt, rt.alloc(), limit as u32, path)?;
+        expect_limit::<Frac128>(&rt, rt.alloc(), limit as u32, path);
+        expect_limit::<Frac64>(&rt, rt.alloc(), limit as u32, path);
     }
-    Ok(())
 }
 
 #[test]
-fn two_pivots(rt: HostRuntime) -> Result<(), Fail> {
+fn two_pivots(rt: HostRuntime) {
     for limit in [2, 3, 100] {
-        expect_pivots::<Frac128>(&rt, rt.alloc(), limit)?;
-        expect_pivots::<Frac64>(&rt, rt.alloc(), limit)?;
+        expect_pivots::<Frac128>(&rt, rt.alloc(), limit);
+        expect_pivots::<Frac64>(&rt, rt.alloc(), limit);
     }
-    Ok(())
 }
 
 /// An operation that overflows at 1/2, and the trail to where it stands.
@@ -143,13 +133,8 @@ struct Overflow {
     right: Ratio,
 }
 
-fn expect_overflow<F: Exact>(
-    rt: &impl Abort,
-    alloc: Global,
-    case: &Overflow,
-    limit: u32,
-) -> Result<(), AllocError> {
-    let wide = problem::<F>(rt, alloc, case.columns, case.over, case.rows)?;
+fn expect_overflow<F: Exact>(rt: &impl Abort, alloc: Global, case: &Overflow, limit: u32) {
+    let wide = problem::<F>(rt, alloc, case.columns, case.over, case.rows);
     let theta = fraction(rt, (1, 2));
     match solve(rt, alloc, &wide, theta, limit) {
         Err(Stop::Overflow { trail, spill }) => {
@@ -160,7 +145,6 @@ fn expect_overflow<F: Exact>(
         }
         _ => panic!(rt; "an operation overflows"),
     }
-    Ok(())
 }
 
 const WIDE_64: i128 = 4_611_686_018_427_387_904;
@@ -303,25 +287,20 @@ static WIDER: Overflow = Overflow {
 };
 
 /// The overflow comes also where the limit allows no pivot after those of the trail.
-fn expect_overflows<F: Exact>(
-    rt: &impl Abort,
-    alloc: Global,
-    case: &Overflow,
-) -> Result<(), AllocError> {
+fn expect_overflows<F: Exact>(rt: &impl Abort, alloc: Global, case: &Overflow) {
     let made = u32::try_from(case.path.steps.len())
         .ok()
         .expect(rt, "few steps");
-    expect_overflow::<F>(rt, alloc, case, made)?;
-    expect_overflow::<F>(rt, alloc, case, 100)
+    expect_overflow::<F>(rt, alloc, case, made);
+    expect_overflow::<F>(rt, alloc, case, 100);
 }
 
 #[test]
-fn overflows(rt: HostRuntime) -> Result<(), Fail> {
+fn overflows(rt: HostRuntime) {
     for case in &OVERFLOWS {
-        expect_overflows::<Frac64>(&rt, rt.alloc(), case)?;
+        expect_overflows::<Frac64>(&rt, rt.alloc(), case);
     }
-    expect_overflows::<Frac128>(&rt, rt.alloc(), &WIDER)?;
-    Ok(())
+    expect_overflows::<Frac128>(&rt, rt.alloc(), &WIDER);
 }
 
 /// A column on whose way fractions of 64 bits overflow, and whole numbers don't: what it gives at 1/2, where row 1 has
@@ -368,12 +347,8 @@ static EXCHANGED: Path = Path {
     steps: &[(0, 1)],
 };
 
-fn expect_reached<F: Exact>(
-    rt: &impl Abort,
-    alloc: Global,
-    case: &Reach,
-) -> Result<(), AllocError> {
-    let wide = problem::<F>(rt, alloc, 1, 1, case.rows)?;
+fn expect_reached<F: Exact>(rt: &impl Abort, alloc: Global, case: &Reach) {
+    let wide = problem::<F>(rt, alloc, 1, 1, case.rows);
     let theta = fraction(rt, (1, 2));
     match solve(rt, alloc, &wide, theta, 100) {
         Ok(solved) => {
@@ -385,15 +360,13 @@ fn expect_reached<F: Exact>(
         }
         Err(_) => panic!(rt; "whole numbers suffice"),
     }
-    Ok(())
 }
 
 #[test]
-fn whole_numbers_pass_where_fractions_overflow(rt: HostRuntime) -> Result<(), Fail> {
+fn whole_numbers_pass_where_fractions_overflow(rt: HostRuntime) {
     for case in &REACHED {
-        expect_reached::<Frac64>(&rt, rt.alloc(), case)?;
+        expect_reached::<Frac64>(&rt, rt.alloc(), case);
     }
-    Ok(())
 }
 
 /// Rows of dependent columns, and the combination that the start leaves.
@@ -434,24 +407,18 @@ static DEPENDENCES: [Dependence; 3] = [
     },
 ];
 
-fn expect_dependence<F: Exact>(
-    rt: &impl Abort,
-    alloc: Global,
-    case: &Dependence,
-) -> Result<(), AllocError> {
-    let rows = problem::<F>(rt, alloc, case.columns, case.over, case.rows)?;
+fn expect_dependence<F: Exact>(rt: &impl Abort, alloc: Global, case: &Dependence) {
+    let rows = problem::<F>(rt, alloc, case.columns, case.over, case.rows);
     match solve(rt, alloc, &rows, fraction(rt, (1, 2)), 100) {
         Err(Stop::Dependent { combination }) => expect(rt, &combination, case.combination),
         _ => panic!(rt; "the columns are dependent"),
     }
-    Ok(())
 }
 
 #[test]
-fn dependent_columns(rt: HostRuntime) -> Result<(), Fail> {
+fn dependent_columns(rt: HostRuntime) {
     for case in &DEPENDENCES {
-        expect_dependence::<Frac128>(&rt, rt.alloc(), case)?;
-        expect_dependence::<Frac64>(&rt, rt.alloc(), case)?;
+        expect_dependence::<Frac128>(&rt, rt.alloc(), case);
+        expect_dependence::<Frac64>(&rt, rt.alloc(), case);
     }
-    Ok(())
 }

@@ -5,10 +5,9 @@ use crate::helpers::{Data, Ratio, expect, fraction, make_problem, problem, ratio
 use crate::least_loss::{Fit, Loss, OVER, Small, draw_problem, fit_at};
 use frac_core::{Exact, Frac64, Frac128};
 use loss_model::{Exchange, Problem, Process, Segment, Side, Stop, Trail};
-use std::alloc::{AllocError, Global};
+use std::alloc::Global;
 use std::num::Wrapping;
 use std::process::Abort;
-use std::test::Fail;
 
 /// Three rows of an intercept and a slope: the responses 0, 2 and 3 at 0, 1 and 3.
 ///
@@ -88,8 +87,8 @@ fn expect_limit<F: Exact>(rt: &impl Abort, alloc: Global, three: &Problem<F>, li
     expect_trail(rt, &trail, limit as usize);
 }
 
-fn expect_three<F: Exact>(rt: &impl Abort, alloc: Global) -> Result<(), AllocError> {
-    let three = problem::<F>(rt, alloc, 2, 1, THREE.as_slice())?;
+fn expect_three<F: Exact>(rt: &impl Abort, alloc: Global) {
+    let three = problem::<F>(rt, alloc, 2, 1, THREE.as_slice());
     expect_limit(rt, alloc, &three, 0);
     expect_limit(rt, alloc, &three, 1);
     let Ok(done) = walk(rt, alloc, &three, (F::zero(), F::one()), 2) else {
@@ -102,21 +101,19 @@ fn expect_three<F: Exact>(rt: &impl Abort, alloc: Global) -> Result<(), AllocErr
     let second = SECOND;
     expect_segment(rt, &segments[0], &first);
     expect_segment(rt, &segments[1], &second);
-    Ok(())
 }
 
 #[test]
-fn three_rows(rt: HostRuntime) -> Result<(), Fail> {
-    expect_three::<Frac64>(&rt, rt.alloc())?;
-    expect_three::<Frac128>(&rt, rt.alloc())?;
-    Ok(())
+fn three_rows(rt: HostRuntime) {
+    expect_three::<Frac64>(&rt, rt.alloc());
+    expect_three::<Frac128>(&rt, rt.alloc());
 }
 
 // A range of one quantile has one segment, of one point, and no step but those of the solve: at 3/5 the
 // walk from 0 would go on, but here the solve ends at the basis that it finds there.
 #[test]
-fn one_quantile(rt: HostRuntime) -> Result<(), Fail> {
-    let three = problem::<Frac128>(&rt, rt.alloc(), 2, 1, THREE.as_slice())?;
+fn one_quantile(rt: HostRuntime) {
+    let three = problem::<Frac128>(&rt, rt.alloc(), 2, 1, THREE.as_slice());
     let theta = fraction(&rt, (0, 1));
     let Ok(done) = walk(&rt, rt.alloc(), &three, (theta, theta), 1) else {
         panic!(&rt; "one step suffices");
@@ -129,7 +126,6 @@ fn one_quantile(rt: HostRuntime) -> Result<(), Fail> {
     expect(&rt, &only.vertex.coef, &[(0, 1), (1, 1)]);
     expect(&rt, &only.basic_hi, &[(0, 1), (0, 1)]);
     assert!(&rt; ratio(only.loss_lo) == (0, 1) && ratio(only.loss_hi) == (0, 1));
-    Ok(())
 }
 
 /// The loss of a fit at a quantile is the least over all bases.
@@ -203,13 +199,13 @@ fn walked(rt: &impl Abort, alloc: Global, problem: &Problem<Frac128>) -> Option<
 // One hundred problems with ties, rows twice with two weights, penalties and costs of other kinds. Some of
 // their walks make several steps at one quantile.
 #[test]
-fn least_losses_along_walks(rt: HostRuntime) -> Result<(), Fail> {
+fn least_losses_along_walks(rt: HostRuntime) {
     let alloc = rt.alloc();
     let mut state = 7;
     let mut together: u32 = 0;
     for number in 0..100 {
-        let mut small = draw_problem(alloc, &mut state, number % 3 + 1)?;
-        let drawn = make_problem(&rt, alloc, small.columns, OVER, small.rows.as_slice())?;
+        let mut small = draw_problem(&rt, alloc, &mut state, number % 3 + 1);
+        let drawn = make_problem(&rt, alloc, small.columns, OVER, small.rows.as_slice());
         match walked(&rt, alloc, &drawn) {
             Some(process) => {
                 expect_cover(&rt, &process);
@@ -223,5 +219,4 @@ fn least_losses_along_walks(rt: HostRuntime) -> Result<(), Fail> {
         }
     }
     assert!(&rt; together > 0);
-    Ok(())
 }

@@ -29,6 +29,10 @@ pub returns-in-Overflow : goal.returns-in-Overflow
 unfolding design_line
 returns-in-Overflow c = rw c.in-Overflow.is c.line-in-Overflow.ensures
 
+pub returns-in-UnknownLevel : goal.returns-in-UnknownLevel
+unfolding design_line
+returns-in-UnknownLevel c = rw c.in-UnknownLevel.is c.line-in-UnknownLevel.ensures
+
 pub returns-in-OutOfMemory : goal.returns-in-OutOfMemory
 unfolding design_line
 returns-in-OutOfMemory c = rw c.in-OutOfMemory.is c.put.ensures

@@ -1,0 +1,205 @@
+//! Records that are predicted, and their rows or why they have none.
+//!
+//! The rows were worked out apart from this program, from the tables of the codings.
+
+use crate::designs::{are_short, formula, tell_fault};
+use crate::helpers::{expect_answer, push_number};
+use contrasts::Coding;
+use data_frame::{Frame, read_table};
+use design_matrix::{Design, PredictRow, build, predict_row, predicted_records};
+use formula_parser::Formula;
+use std::alloc::Global;
+use std::process::Abort;
+use std::test::Fail;
+
+/// A table, the terms of a formula behind 1 for an intercept and 0 for none, the name of the weights, a coding, and
+/// what is wanted: the rows, each with the number of its record, or the first fault.
+#[derive(Clone, Copy)]
+struct Case {
+    table: &'static [u8],
+    terms: &'static str,
+    weights: Option<&'static str>,
+    coding: Coding,
+    answer: &'static str,
+}
+
+static CASES: [Case; 16] = [
+    Case {
+        table: b"y,x\n0,0\n2,1\n3,3\n,4\n",
+        terms: "1 x",
+        weights: None,
+        coding: Coding::Treatment,
+        answer: "4: 1 4",
+    },
+    Case {
+        table: b"y,x\n0,0\n2,1\n3,3\n",
+        terms: "1 x",
+        weights: None,
+        coding: Coding::Treatment,
+        answer: "",
+    },
+    Case {
+        table: b"y,f\n1,a\n2,b\n,c\n",
+        terms: "1 f",
+        weights: None,
+        coding: Coding::Treatment,
+        answer: "UnknownLevel 3 f",
+    },
+    // A record that misses another cell is not predicted, unless the cell isn't used or is the weight.
+    Case {
+        table: b"y,x,z\n0,0,1\nNA,,1\n3,3,1\n,4,\nNA,1/2,2\n",
+        terms: "1 x",
+        weights: None,
+        coding: Coding::Treatment,
+        answer: "4: 1 4 | 5: 1 1/2",
+    },
+    Case {
+        table: b"y,x,z\n0,0,1\nNA,,1\n3,3,1\n,4,\nNA,1/2,2\n",
+        terms: "1 x",
+        weights: Some("z"),
+        coding: Coding::Treatment,
+        answer: "4: 1 4 | 5: 1 1/2",
+    },
+    Case {
+        table: b"y,x,z\n0,0,1\nNA,,1\n3,3,1\n,4,\nNA,1/2,2\n",
+        terms: "1 x z",
+        weights: Some("z"),
+        coding: Coding::Treatment,
+        answer: "5: 1 1/2 2",
+    },
+    // The response among the variables leaves nothing to predict.
+    Case {
+        table: b"y,x\n0,0\n,1\n",
+        terms: "1 y",
+        weights: None,
+        coding: Coding::Treatment,
+        answer: "",
+    },
+    // Levels are those of the kept records, in their order, under each coding.
+    Case {
+        table: b"y,f\n1,b\n2,a\n3,c\n,c\n,a\n,b\n",
+        terms: "1 f",
+        weights: None,
+        coding: Coding::Treatment,
+        answer: "4: 1 0 1 | 5: 1 0 0 | 6: 1 1 0",
+    },
+    Case {
+        table: b"y,f\n1,b\n2,a\n3,c\n,c\n,a\n,b\n",
+        terms: "1 f",
+        weights: None,
+        coding: Coding::Helmert,
+        answer: "4: 1 0 2 | 5: 1 -1 -1 | 6: 1 1 -1",
+    },
+    Case {
+        table: b"y,f\n1,b\n2,a\n3,c\n,c\n,a\n,b\n",
+        terms: "1 f",
+        weights: None,
+        coding: Coding::Sum,
+        answer: "4: 1 -1 -1 | 5: 1 1 0 | 6: 1 0 1",
+    },
+    Case {
+        table: b"y,f,x\n1,b,2\n2,a,3\n,b,5\n",
+        terms: "1 f x f:x",
+        weights: None,
+        coding: Coding::Treatment,
+        answer: "3: 1 1 5 5",
+    },
+    // Numbers are levels by their values where `factor` was written, and the level of a dropped record is none.
+    Case {
+        table: b"y,x\n1,2\n2,10\n,4/2\n,1e1\n",
+        terms: "1 factor(x)",
+        weights: None,
+        coding: Coding::Treatment,
+        answer: "3: 1 0 | 4: 1 1",
+    },
+    Case {
+        table: b"y,x,w\n1,2,1\n2,10,1\n3,4,0\n,2,1\n,4,1\n",
+        terms: "1 factor(x)",
+        weights: Some("w"),
+        coding: Coding::Treatment,
+        answer: "UnknownLevel 5 factor(x)",
+    },
+    // The first unknown level by record, by terms and by variables.
+    Case {
+        table: b"y,f,g\n1,a,u\n2,b,v\n,a,w\n,c,w\n",
+        terms: "1 f g",
+        weights: None,
+        coding: Coding::Treatment,
+        answer: "UnknownLevel 3 g",
+    },
+    Case {
+        table: b"y,f,x,z\n1,a,1,1\n2,b,1,2\n,c,1e38,1e38\n",
+        terms: "1 x:z f",
+        weights: None,
+        coding: Coding::Treatment,
+        answer: "UnknownLevel 3 f",
+    },
+    Case {
+        table: b"y,f,x,z\n1,a,1,1\n2,b,1,2\n,b,1e38,1e38\n",
+        terms: "1 x:z f",
+        weights: None,
+        coding: Coding::Treatment,
+        answer: "Overflow 3 1 1",
+    },
+];
+
+// A row by the number of its record and its entries.
+fn tell_row(alloc: Global, told: &mut String, row: &PredictRow) -> Result<(), Fail> {
+    if !told.is_empty() {
+        told.push_str(" | ")?;
+    }
+    told.push_str(row.rec.to_string(alloc)?.as_str())?;
+    told.push(':')?;
+    for entry in row.x.as_slice() {
+        told.push(' ')?;
+        push_number(told, alloc, *entry)?;
+    }
+    Ok(())
+}
+
+// The rows of the predicted records, or the first fault.
+fn tell_rows(
+    alloc: Global,
+    frame: &Frame,
+    model: &Formula,
+    coding: Coding,
+    design: &Design,
+) -> Result<String, Fail> {
+    let Ok(records) = predicted_records(alloc, frame, model, design) else {
+        return Err(Fail::from("no memory"));
+    };
+    let mut told = String::new(alloc);
+    for rec in records.as_slice() {
+        match predict_row(alloc, frame, model, coding, design, *rec) {
+            Ok(row) => tell_row(alloc, &mut told, &row)?,
+            Err(fault) => return tell_fault(alloc, &fault),
+        }
+    }
+    Ok(told)
+}
+
+fn answer(alloc: Global, case: Case) -> Result<String, Fail> {
+    if case.table.len() > 1 << 26 {
+        return Err(Fail::from("too long"));
+    }
+    let Ok(frame) = read_table(alloc, case.table) else {
+        return Err(Fail::from("no table"));
+    };
+    let model = formula(alloc, case.terms)?;
+    if !are_short(model.terms.as_slice()) || !model.smooths.as_slice().is_empty() {
+        return Err(Fail::from("another formula"));
+    }
+    match build(alloc, &frame, &model, case.coding, case.weights) {
+        Ok(design) => tell_rows(alloc, &frame, &model, case.coding, &design),
+        Err(fault) => tell_fault(alloc, &fault),
+    }
+}
+
+#[test]
+fn rows_of_predicted_records(rt: HostRuntime) -> Result<(), Fail> {
+    for case in &CASES {
+        let told = answer(rt.alloc(), *case)?;
+        expect_answer(&rt, told.as_str(), case.answer, case.terms);
+    }
+    Ok(())
+}

@@ -1,0 +1,4 @@
+pub mod Covered
+pub mod Making
+pub mod Predicted
+pub mod Rearranged

@@ -1,0 +1,10 @@
+use Rattle.std.proofs.Common.{◌≡◌}
+use Rattle.exact_algebra.specs.Fraction.{rational}
+use Rattle.exact_algebra.specs.Rational.{◌+ℚ◌}
+use Rattle.exact_algebra.specs.RationalSums.{sum_ℚ}
+use Rattle.loss_model.specs.Problem.{value_at}
+use Rattle.predict_steps.proofs.prediction.plus_offsets.Given as goal
+
+abbrev pub invariant-loop-k : goal.invariant-loop-k
+invariant-loop-k g l =
+    let value = g.F.Exact.value in rational (value l.sum) ≡ rational (value l.fn.first) +ℚ sum_ℚ l.k (value_at value l.offsets)
