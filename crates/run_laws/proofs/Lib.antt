@@ -1,3 +1,4 @@
+pub mod AskedInputs
 pub mod AskedIntervals
 pub mod Spilled
 pub mod Needed
