@@ -5,4 +5,5 @@ pub mod Needed
 pub mod Complete
 pub mod Checked
 pub mod Unposed
+pub mod Unpredicted
 pub mod Generated

@@ -109,6 +109,14 @@ FaultIsAnswered =
     → ((fit : FitJob) (ranked : Bool) (ask : AskFit words fit ranked) → (refusal : Refusal) × HasInputCause fit ranked (table_bytes ask.job bytes) (halts.Refused refusal))
     → IsRun words source source' out out' err err' outcome → IsUnposed outcome
 
+-- so it is where the words ask for predictions, and the bytes have a fault as those
+abbrev pub PredictionFaultIsAnswered : Type 0
+PredictionFaultIsAnswered =
+    (words : List (List ℕ)) (source source' out out' err err' : Stream) (bytes : List ℕ) (outcome : Outcome) (first : FitJob)
+    → IsJobOf words (jobs.Predict first) → source.bytes ≡ Some bytes
+    → ((fit : FitJob) → IsJobOf words (jobs.Predict fit) → (refusal : Refusal) × HasPredictionCause fit bytes (halts.Refused refusal))
+    → IsRun words source source' out out' err err' outcome → IsUnposed outcome
+
 -- the words ask for a check, and the bytes that the source tells are not too many; they are this certificate, and all
 -- its conditions are true
 pub record IsPassing (words : List (List ℕ)) (source : Stream) (bytes : List ℕ) (cert : Cert) : Type 0 where
