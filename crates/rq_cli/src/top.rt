@@ -24,12 +24,13 @@ use std::thread::Threads;
 /// words are refused by that fault. It leaves the source untouched, and so does the job `sample`, which
 /// makes its own table. `Refused` comes exactly where more than
 /// 2^26 bytes come, or where this is the first fault: of the bytes as a table, of the formula over its
-/// names, of their design, of what its smooths add, or of the problem; for `check` of the bytes as a
+/// names, of their design, of what its smooths add, or of the problem; for `predict` also where there is nothing
+/// to predict or too much, or of a predicted record's row; for `check` of the bytes as a
 /// certificate; as `CertTooLong` where the text of a certificate to be written is longer than 2^26
 /// bytes; and as `Dependent` only where the columns of the problem are dependent. `PivotLimit` comes only
 /// where the lawful trail of its place, of the problem or of a rank interval, has as many pivots as the
 /// words' limit says and one more is left, and `Overflow` only where an operation of its place
-/// overflows: of the fit, of a rank interval or of the checker. A stop of an interval is that of the
+/// overflows: of the fit, of a rank interval, of a prediction or of the checker. A stop of an interval is that of the
 /// first one that stops. `Rejected` comes exactly where a condition of
 /// a certificate is false: it is the first, all tests before it being true.
 /// `SourceFault` comes only where the words ask for a job that reads the source and its count of faults
