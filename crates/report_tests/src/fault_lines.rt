@@ -1,8 +1,10 @@
 //! The lines of stops of the solver, byte for byte.
 
+use crate::helpers::{fraction, no_trail};
+use design_matrix::DesignFault;
 use frac_core::OpKind::{self, Add, Div, Mul, Sub};
-use frac_core::{Exact, Frac128, List};
-use loss_model::{Quantity, Site, Spill, Trail};
+use frac_core::{Frac128, List, Text};
+use loss_model::{Quantity, Site, Spill};
 use report_text::{Fault, Halt, Place, Refusal, fault_line};
 use std::alloc::Global;
 use std::process::Abort;
@@ -75,19 +77,6 @@ static CASES: [Case; 30] = [
         "test-statistic at=4 term=9 op=mul",
     ),
 ];
-
-fn fraction(n: i128, d: i128) -> Frac128 {
-    Frac128::from_parts(n, d).unwrap_or(Frac128::zero())
-}
-
-fn no_trail(alloc: Global) -> Trail<Frac128> {
-    Trail {
-        start: List::new(alloc),
-        steps: List::new(alloc),
-        rise: List::new(alloc),
-        fall: List::new(alloc),
-    }
-}
 
 fn spill_of(case: Case) -> Spill<Frac128> {
     Spill {
@@ -209,5 +198,57 @@ fn an_interval_is_told_by_its_column_and_quantile(rt: HostRuntime) -> Result<(),
         let told = is_limit_told(rt.alloc(), place, line)?;
         assert!(rt; told);
     }
+    Ok(())
+}
+
+#[test]
+fn a_prediction_is_told_by_its_record(rt: HostRuntime) -> Result<(), Fail> {
+    let halt = Halt::Overflow {
+        place: Place::Predict { rec: 4 },
+        trail: no_trail(rt.alloc()),
+        spill: spill_of((Quantity::Prediction, Mul, "")),
+    };
+    let line =
+        b"quantreg: solver: Overflow place=predict:4 quantity=prediction at=4,2 term=9 op=mul left=7/2 right=-3\n";
+    let told = is_line(rt.alloc(), &halt, line)?;
+    assert!(rt; told);
+    Ok(())
+}
+
+fn is_refused(alloc: Global, refusal: Refusal, line: &[u8]) -> Result<bool, Fail> {
+    is_line(alloc, &Halt::Refused(refusal), line)
+}
+
+#[test]
+fn a_smooth_is_not_taken(rt: HostRuntime) -> Result<(), Fail> {
+    let line = b"quantreg: job: SmoothNotTaken\n";
+    let told = is_refused(rt.alloc(), Refusal::SmoothNotTaken, line)?;
+    assert!(rt; told);
+    Ok(())
+}
+
+#[test]
+fn no_prediction_is_told(rt: HostRuntime) -> Result<(), Fail> {
+    let line = b"quantreg: predict: NothingToPredict\n";
+    let told = is_refused(rt.alloc(), Refusal::NothingToPredict, line)?;
+    assert!(rt; told);
+    Ok(())
+}
+
+#[test]
+fn many_predictions_are_counted(rt: HostRuntime) -> Result<(), Fail> {
+    let line = b"quantreg: predict: TooManyPredictions found=65\n";
+    let told = is_refused(rt.alloc(), Refusal::TooManyPredictions { found: 65 }, line)?;
+    assert!(rt; told);
+    Ok(())
+}
+
+#[test]
+fn an_unknown_level_is_told_with_its_record(rt: HostRuntime) -> Result<(), Fail> {
+    let line = b"quantreg: design: UnknownLevel record=3 factor=f\n";
+    let factor = Text::new(rt.alloc(), "f")?;
+    let fault = DesignFault::UnknownLevel { rec: 3, factor };
+    let told = is_refused(rt.alloc(), Refusal::Design(fault), line)?;
+    assert!(rt; told);
     Ok(())
 }

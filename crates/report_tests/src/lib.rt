@@ -1,5 +1,10 @@
-//! Tests of the texts that a run prints: the lines of faults (`report_text`), byte for byte.
+//! Tests of the texts that a run prints (`report_text`), byte for byte: the lines of faults, and the
+//! report of predictions.
 #![tactic(auto)]
 
 #[cfg(test)]
 mod fault_lines;
+#[cfg(test)]
+mod helpers;
+#[cfg(test)]
+mod predictions;

@@ -26,9 +26,9 @@ use Rattle.report_text.specs.ReportText.{numbered, value}
 use Rattle.report_text.specs.declared.quantity.PrintedIndices.{PrintedIndices}
 use Rattle.report_text.specs.declared.quantity.PrintedIndices.TheVariants.{One, Two, Three}
 use Rattle.report_text.specs.declared.report.Place.{Place}
-use Rattle.report_text.specs.declared.report.Place.TheVariants.{Process, Interval, Check}
+use Rattle.report_text.specs.declared.report.Place.TheVariants.{Process, Interval, Check, Predict}
 use Rattle.report_text.specs.declared.report.Refusal.{Refusal}
-use Rattle.report_text.specs.declared.report.Refusal.TheVariants.{TooLong, Table, Formula, RankWithPenalty, Design, Penalty, Program, Dependent, CertTooLong, Certificate}
+use Rattle.report_text.specs.declared.report.Refusal.TheVariants.{TooLong, Table, Formula, RankWithPenalty, Design, Penalty, Program, Dependent, CertTooLong, Certificate, SmoothNotTaken, NothingToPredict, TooManyPredictions}
 use Rattle.report_text.specs.declared.report.Halt.{Halt}
 use Rattle.report_text.specs.declared.report.Halt.TheVariants.{Refused, OutOfMemory, PivotLimit, Overflow, Rejected}
 use Rattle.report_text.specs.declared.report.Fault.{Fault}
@@ -98,12 +98,13 @@ site_text site = word (codes "quantity") (quantity_name site.quantity) ++ (key (
 unfoldable pub spill_text : Spill Frac128 → List ℕ
 spill_text spill = site_text spill.site ++ word (codes "op") (op_name spill.site.kind) ++ fraction (codes "left") spill.left ++ fraction (codes "right") spill.right
 
--- the place where the solver or the checker stopped: the fit, the interval of a column, counted from 1, at a quantile, or
--- the conditions of a certificate
+-- the place where a job stopped: the fit, the interval of a column, counted from 1, at a quantile, the conditions of a
+-- certificate, or the prediction of a record
 abbrev pub place_text : Place → List ℕ
 place_text Process = codes "process"
 place_text (Interval column tau) = codes "interval:" ++ decimal (column + 1) ++ codes ":" ++ number_text_of (value tau)
 place_text Check = codes "check"
+place_text (Predict rec) = codes "predict:" ++ decimal rec
 
 -- ---- faults
 
@@ -199,6 +200,9 @@ refusal_line (Program fault) = program_line fault
 refusal_line (Dependent combination) = line (codes "solver") (codes "Dependent") (fractions (codes "combination") combination ∷ [])
 refusal_line (CertTooLong length) = line (codes "certificate") (codes "CertTooLong") (number (codes "length") length ∷ [])
 refusal_line (Certificate fault) = certificate_line fault
+refusal_line SmoothNotTaken = line (codes "job") (codes "SmoothNotTaken") []
+refusal_line NothingToPredict = line (codes "predict") (codes "NothingToPredict") []
+refusal_line (TooManyPredictions found) = line (codes "predict") (codes "TooManyPredictions") (number (codes "found") found ∷ [])
 
 -- a halt; trails aren't printed
 abbrev pub halt_line : Halt → List ℕ

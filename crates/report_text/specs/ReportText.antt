@@ -14,10 +14,13 @@ use Rattle.frac_core.specs.declared.frac128.Frac128.{Frac128}
 use Rattle.cert_text.specs.Trees.{cert_text}
 use Rattle.cert_text.specs.declared.cert.Cert.{Cert}
 use Rattle.rankscores.specs.declared.pair.ScorePair.{ScorePair}
+use Rattle.predict_steps.specs.declared.step.Step.{Step}
 use Rattle.report_text.specs.declared.report.Fit.{Fit}
 use Rattle.report_text.specs.declared.report.RanksFit.{RanksFit}
+use Rattle.report_text.specs.declared.report.PredictFit.{PredictFit}
+use Rattle.report_text.specs.declared.report.Prediction.{Prediction}
 use Rattle.report_text.specs.declared.report.Report.{Report}
-use Rattle.report_text.specs.declared.report.Report.TheVariants.{Process, Ranks, Certificate, Checked, Sample}
+use Rattle.report_text.specs.declared.report.Report.TheVariants.{Process, Ranks, Certificate, Checked, Sample, Predict}
 use Rattle.report_text.specs.Names.{name_bytes}
 
 -- the texts of the items, which are numbered from i, one after another
@@ -121,7 +124,7 @@ ranks_head fit =
 unfoldable pub ranks_text : RanksFit → List ℕ
 ranks_text ranks = ranks_head ranks.fit ++ numbered wilcoxon_line 1 ranks.wilcoxon ++ codes "end\n"
 
--- how many things of a name there are
+-- a word and a number
 unfoldable pub count_line : List ℕ → ℕ → List ℕ
 count_line name n = name ++ codes " " ++ decimal n ++ codes "\n"
 
@@ -154,6 +157,24 @@ sample_head fit =
 unfoldable pub sample_text : Fit → List ℕ
 sample_text fit = sample_head fit ++ pivots_line (length fit.process.trail.steps) ++ range_loss_line fit.process.segments ++ codes "end\n"
 
+-- a step of a function of the quantile: from here, up to here, this value
+unfoldable pub step_line : Step Frac128 → List ℕ
+step_line s = codes "step " ++ number_text_of (value s.lo) ++ codes " " ++ number_text_of (value s.hi) ++ codes " " ++ number_text_of (value s.value) ++ codes "\n"
+
+-- what is predicted of a record: its steps, and their rearrangement
+unfoldable pub prediction_text : Prediction → List ℕ
+prediction_text p =
+    count_line (codes "predict") p.rec ++ flat_map step_line p.steps ++ count_line (codes "rearranged") p.rec ++ flat_map step_line p.rearranged
+
+-- what stands before the predictions
+unfoldable pub predict_head : PredictFit → List ℕ
+predict_head fit =
+    codes "quantreg predict 1\n" ++ records_line fit.kept fit.dropped ++ numbered column_line 1 fit.names ++ pivots_line (length fit.process.trail.steps)
+
+-- the report of predictions, record by record
+unfoldable pub predict_text : PredictFit → List ℕ
+predict_text fit = predict_head fit ++ flat_map prediction_text fit.predictions ++ codes "end\n"
+
 -- the text of a report; that of a certificate is the certificate
 abbrev pub report_text : Report → List ℕ
 report_text (Process fit) = fit_text fit
@@ -161,6 +182,7 @@ report_text (Ranks ranks) = ranks_text ranks
 report_text (Certificate cert) = cert_text cert
 report_text (Checked cert) = checked_text cert
 report_text (Sample fit) = sample_text fit
+report_text (Predict fit) = predict_text fit
 
 -- a fit has one list of scores per segment, and no more data rows than rows
 abbrev pub IsPrintable : Report → Type 0
@@ -169,3 +191,4 @@ IsPrintable (Ranks ranks) = ⊤
 IsPrintable (Certificate cert) = ⊤
 IsPrintable (Checked cert) = ⊤
 IsPrintable (Sample fit) = ⊤
+IsPrintable (Predict fit) = ⊤

@@ -246,6 +246,15 @@ impl Page {
                 )
             }
             Refusal::Certificate(fault) => self.certificate_line(fault),
+            Refusal::SmoothNotTaken => self.line(b"job", b"SmoothNotTaken", &[]),
+            Refusal::NothingToPredict => self.line(b"predict", b"NothingToPredict", &[]),
+            Refusal::TooManyPredictions { found } => {
+                self.line(
+                    b"predict",
+                    b"TooManyPredictions",
+                    &[Number(b"found", *found)],
+                )
+            }
         }
     }
 

@@ -4,8 +4,9 @@
 //! as `specs/ReportText.antt` and `specs/FaultText.antt` write them. The types that a job answers
 //! with stand here, so that who reads them needs no solver. It stands on `rq_words`, `data_frame`,
 //! `formula_parser`, `design_matrix` and `rq_program` for their faults, on `loss_model` and
-//! `rankscores` for what a fit and its rank intervals hold, on `cert_text` and `cert_checker` for
-//! certificates and what is found to be false in them, and on `itoa`.
+//! `rankscores` for what a fit and its rank intervals hold, on `predict_steps` for predictions, on
+//! `cert_text` and `cert_checker` for certificates and what is found to be false in them, and on
+//! `itoa`.
 //! Its tests stand in the crate `report_tests`.
 #![tactic(auto)]
 
@@ -16,6 +17,7 @@ pub mod laws;
 mod line;
 mod lines;
 mod page;
+mod predictions;
 mod quantity;
 mod ranks;
 mod report;
@@ -24,4 +26,4 @@ mod sample;
 pub use fault::{MEMORY_LINE, SINK_LINE, SOURCE_LINE, fault_line};
 pub use lines::report_bytes;
 pub use page::Page;
-pub use report::{Fault, Fit, Halt, Place, RanksFit, Refusal, Report};
+pub use report::{Fault, Fit, Halt, Place, PredictFit, Prediction, RanksFit, Refusal, Report};

@@ -98,6 +98,7 @@ impl Page {
             Place::Process => self.put(b"process"),
             Place::Interval { column, tau } => self.put_interval(column, tau),
             Place::Check => self.put(b"check"),
+            Place::Predict { rec } => self.put_predicted(rec),
         }
     }
 
@@ -109,6 +110,14 @@ impl Page {
         self.put_count(column as u64 + 1)?;
         self.put(b":")?;
         self.put_number(tau)
+    }
+
+    // The place of a prediction, whose record is printed as it is.
+    fn put_predicted(&mut self, rec: u32) -> Result<(), OutOfMemory>
+        ensures { OnOk result (self.new ≡ self.old ++ place_text (Place.Predict rec)) }
+    {
+        self.put(b"predict:")?;
+        self.put_count(rec as u64)
     }
 
     fn put_text(&mut self, name: &[u8], told: &Text) -> Result<(), OutOfMemory>

@@ -246,6 +246,7 @@ pub fn report_bytes(alloc: Global, report: &Report) -> Result<Vec<u8>, OutOfMemo
         Report::Certificate(cert) => return write_cert(alloc, cert),
         Report::Checked(cert) => page.checked(cert)?,
         Report::Sample(fit) => page.sample(fit)?,
+        Report::Predict(fit) => page.predict(fit)?,
     }
     Ok(page.into_bytes())
 }

@@ -6,6 +6,7 @@ use design_matrix::DesignFault;
 use formula_parser::FormulaFault;
 use frac_core::{Frac128, List, Text};
 use loss_model::{Interval, Problem, Process, Spill, Trail};
+use predict_steps::Step;
 use rankscores::ScorePair;
 use rq_program::ProgramFault;
 use rq_words::WordFault;
@@ -33,6 +34,26 @@ pub struct RanksFit {
     pub wilcoxon: List<Frac128>,
 }
 
+/// A fitted process, and what it predicts of each record whose response is missing and whose other
+/// used cells, the weight apart, aren't, by ascending record.
+#[derive(Drop)]
+pub struct PredictFit {
+    pub kept: u32,
+    pub dropped: u32,
+    pub names: List<Text>,
+    pub process: Process<Frac128>,
+    pub predictions: List<Prediction>,
+}
+
+/// What is predicted of a record, counted from 1: a step along each segment of the process, and the
+/// rearrangement of these steps.
+#[derive(Drop)]
+pub struct Prediction {
+    pub rec: u32,
+    pub steps: List<Step<Frac128>>,
+    pub rearranged: List<Step<Frac128>>,
+}
+
 /// What a job found.
 #[derive(Drop)]
 pub enum Report {
@@ -44,6 +65,8 @@ pub enum Report {
     Checked(Cert),
     /// A fit of a generated table, of which a summary is printed.
     Sample(Fit),
+    /// The predictions of missing responses.
+    Predict(PredictFit),
 }
 
 /// Why an input has no report. No fault in it is want of memory.
@@ -69,6 +92,12 @@ pub enum Refusal {
     CertTooLong { length: u64 },
     /// It is no certificate.
     Certificate(CertFault),
+    /// The formula has a smooth, and the job takes none.
+    SmoothNotTaken,
+    /// No record has a missing response and all its other used cells, the weight apart.
+    NothingToPredict,
+    /// So many records would be predicted, which is more than 64.
+    TooManyPredictions { found: u32 },
 }
 
 /// Where the solver or the checker stopped.
@@ -80,6 +109,8 @@ pub enum Place {
     Interval { column: u32, tau: Frac128 },
     /// In the conditions of a certificate.
     Check,
+    /// In the prediction of a record, counted from 1, or in its rearrangement.
+    Predict { rec: u32 },
 }
 
 /// Why a job ended without a report.

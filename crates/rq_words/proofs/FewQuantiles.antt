@@ -1,5 +1,5 @@
 -- Words ask for intervals at 64 quantiles at most.
-use Rattle.std.proofs.Common.{◌≡◌, ℕ, ◌==◌, ◌≤◌, ◌^◌, ◌-◌, Bool, true, false, List, [], ◌∷◌, Option, Some, None, Result, Ok, Err, refl, sym, ap, subst, suc, codes, drop, length, nat_le, if◌then◌else◌, option_and_then, option_map, ok_or, arith}
+use Rattle.std.proofs.Common.{◌≡◌, ◌==◌, ◌≤◌, ◌^◌, ◌-◌, Bool, true, false, List, [], ◌∷◌, Option, Some, None, Result, Ok, Err, refl, sym, ap, subst, suc, codes, drop, length, nat_le, if◌then◌else◌, option_and_then, option_map, ok_or, arith}
 use Rattle.std.specs.List.{slice_split, list_any}
 use Rattle.std.specs.Option.{option_map_or}
 use Rattle.std.proofs.lemmas.Bool.{leb-true}
@@ -11,7 +11,7 @@ use Rattle.contrasts.specs.declared.Coding.TheVariants.{Treatment}
 use Rattle.rq_words.specs.Commands.{command_of, kind_of, options_of, read_by}
 use Rattle.rq_words.specs.Requests.{FitRequest, OptionNumbers, RankRequest, Request}
 use Rattle.rq_words.specs.Requests as request
-use Rattle.rq_words.specs.Words.{◌>>=◌, zero, one, option, number_option, number_text, number_texts, quantiles, given, count, coding, numbers_of, fault_of, rank_of, request_for, checked, is_long, words_of_job, words_of}
+use Rattle.rq_words.specs.Words.{◌>>=◌, zero, one, option, number_option, number_text, number_texts, quantiles, given, count, coding, numbers_of, fault_of, request_for, checked, is_long, words_of_job, words_of}
 use Rattle.rq_words.specs.declared.command.Kind.{Kind}
 use Rattle.rq_words.specs.declared.command.Kind.TheVariants as kind
 use Rattle.rq_words.specs.declared.job.WordFault.{WordFault}
@@ -99,6 +99,7 @@ HasFew (request.Ranks f) = Unit {0}
 HasFew (request.Certify f) = IsFewOf f.rank
 HasFew request.Check = Unit {0}
 HasFew (request.Sample s) = Unit {0}
+HasFew (request.Predict f) = Unit {0}
 
 request_few : (kind : Kind) (found : List Row) (n : OptionNumbers) (chosen : Coding) → AreFew n.taus → HasFew (request_for kind found n chosen)
 request_few kind.Process found n chosen h = tt
@@ -106,6 +107,7 @@ request_few kind.Ranks found n chosen h = tt
 request_few kind.Certify found n chosen h = rank_few n.crit n.taus h
 request_few kind.Check found n chosen h = tt
 request_few kind.Sample found n chosen h = tt
+request_few kind.Predict found n chosen h = tt
 
 checked_few : (kind : Kind) (found : List Row) (r : Request) → checked kind found ≡ Ok r → HasFew r
 unfolding checked

@@ -47,6 +47,7 @@ IsOrdered (request.Ranks f) = Unit {0}
 IsOrdered (request.Certify f) = is_in_order f.lo f.hi ≡ true
 IsOrdered request.Check = Unit {0}
 IsOrdered (request.Sample s) = Unit {0}
+IsOrdered (request.Predict f) = is_in_order f.lo f.hi ≡ true
 
 request_in_order : (kind : Kind) (found : List Row) (n : OptionNumbers) (chosen : Coding) → is_in_order n.lo n.hi ≡ true → IsOrdered (request_for kind found n chosen)
 request_in_order kind.Process found n chosen h = h
@@ -54,6 +55,7 @@ request_in_order kind.Ranks found n chosen h = tt
 request_in_order kind.Certify found n chosen h = h
 request_in_order kind.Check found n chosen h = tt
 request_in_order kind.Sample found n chosen h = tt
+request_in_order kind.Predict found n chosen h = h
 
 checked_in_order : (kind : Kind) (found : List Row) (r : Request) → checked kind found ≡ Ok r → IsOrdered r
 unfolding checked
@@ -99,6 +101,10 @@ process_range words f h = range_of f.lo f.hi (words_in_order words (request.Proc
 pub certify_range : (words : List Text) (f : FitRequest) → words_of words ≡ Ok (request.Certify f) → (zero ≤ℚ f.lo) × (f.lo ≤ℚ f.hi) × (f.hi ≤ℚ one)
 certify_range words f h = range_of f.lo f.hi (words_in_order words (request.Certify f) h)
 
+-- and that of predictions
+pub predict_range : (words : List Text) (f : FitRequest) → words_of words ≡ Ok (request.Predict f) → (zero ≤ℚ f.lo) × (f.lo ≤ℚ f.hi) × (f.hi ≤ℚ one)
+predict_range words f h = range_of f.lo f.hi (words_in_order words (request.Predict f) h)
+
 -- ranks are taken over 0 to 1
 unit_range : (kind : Kind) (found : List Row) (n : OptionNumbers) (chosen : Coding) (f : FitRequest) → request_for kind found n chosen ≡ request.Ranks f → (zero ≡ f.lo) × (one ≡ f.hi)
 unit_range kind.Process found n chosen f h = absurd (cc h)
@@ -106,6 +112,7 @@ unit_range kind.Ranks found n chosen f h = (cc h, cc h)
 unit_range kind.Certify found n chosen f h = absurd (cc h)
 unit_range kind.Check found n chosen f h = absurd (cc h)
 unit_range kind.Sample found n chosen f h = absurd (cc h)
+unit_range kind.Predict found n chosen f h = absurd (cc h)
 
 checked_over_all : (kind : Kind) (found : List Row) (f : FitRequest) → checked kind found ≡ Ok (request.Ranks f) → (zero ≡ f.lo) × (one ≡ f.hi)
 unfolding checked

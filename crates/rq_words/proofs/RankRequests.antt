@@ -1,5 +1,5 @@
 -- What words ask of rank intervals: a critical value of at least 0, and quantiles of which none is outside 0 to 1.
-use Rattle.std.proofs.Common.{◌≡◌, Bool, true, false, not, List, [], ◌∷◌, Option, Some, None, Result, Ok, Err, refl, sym, ap, subst, codes, drop, if◌then◌else◌, option_map, option_and_then}
+use Rattle.std.proofs.Common.{◌≡◌, Bool, true, false, not, List, [], ◌∷◌, Option, Some, None, Ok, refl, sym, ap, subst, codes, drop, if◌then◌else◌, option_map, option_and_then}
 use Rattle.std.specs.List.{list_any}
 use Rattle.std.specs.Option.{option_map_or}
 use Rattle.clap.specs.Words.{Row, Text}
@@ -9,7 +9,7 @@ use Rattle.contrasts.specs.declared.Coding.TheVariants.{Treatment}
 use Rattle.rq_words.specs.Commands.{command_of, kind_of, options_of, read_by}
 use Rattle.rq_words.specs.Requests.{FitRequest, OptionNumbers, RankRequest, Request}
 use Rattle.rq_words.specs.Requests as request
-use Rattle.rq_words.specs.Words.{zero, option, coding, numbers_of, is_in_order, is_outside, fault_of, rank_of, request_for, checked, is_long, words_of_job, words_of}
+use Rattle.rq_words.specs.Words.{zero, option, coding, numbers_of, is_in_order, is_outside, fault_of, rank_of, unranked, fit, request_for, checked, is_long, words_of_job, words_of}
 use Rattle.rq_words.specs.declared.command.Kind.{Kind}
 use Rattle.rq_words.specs.declared.command.Kind.TheVariants as kind
 use Rattle.rq_words.specs.declared.job.WordFault.{WordFault}
@@ -63,19 +63,24 @@ sound_of : (n : OptionNumbers) → fault_of n ≡ None → (o : Option RankReque
 sound_of n h None e = tt
 sound_of n h (Some r) e = let sound = are_sound n h in sound_by n.crit n.taus sound.taus sound.crit r e
 
--- the fit that a job asks for: of a process, of ranks or of a certificate
+-- the fit that a job asks for: of a process, of ranks, of a certificate or of predictions
 abbrev pub IsFitOf : Request → FitRequest → Type 0
 IsFitOf (request.Process f) g = f ≡ g
 IsFitOf (request.Ranks f) g = f ≡ g
 IsFitOf (request.Certify f) g = f ≡ g
+IsFitOf (request.Predict f) g = f ≡ g
 IsFitOf _ g = ⊥
 
-same_rank : (kind : Kind) (found : List Row) (n : OptionNumbers) (chosen : Coding) (f : FitRequest) → IsFitOf (request_for kind found n chosen) f → rank_of n ≡ f.rank
-same_rank kind.Process found n chosen f h = ap (λ (g : FitRequest). g.rank) h
-same_rank kind.Ranks found n chosen f h = ap (λ (g : FitRequest). g.rank) h
-same_rank kind.Certify found n chosen f h = ap (λ (g : FitRequest). g.rank) h
-same_rank kind.Check found n chosen f h = absurd h
-same_rank kind.Sample found n chosen f h = absurd h
+abbrev rank_in : FitRequest → Option RankRequest
+rank_in f = f.rank
+
+same_rank : (kind : Kind) (found : List Row) (n : OptionNumbers) (chosen : Coding) (f : FitRequest) → IsFitOf (request_for kind found n chosen) f → IsSoundOf (rank_of n) → IsSoundOf f.rank
+same_rank kind.Process found n chosen f h sound = subst IsSoundOf (ap rank_in h) sound
+same_rank kind.Ranks found n chosen f h sound = subst IsSoundOf (ap rank_in h) sound
+same_rank kind.Certify found n chosen f h sound = subst IsSoundOf (ap rank_in h) sound
+same_rank kind.Check found n chosen f h sound = absurd h
+same_rank kind.Sample found n chosen f h sound = absurd h
+same_rank kind.Predict found n chosen f h sound = subst IsSoundOf (ap rank_in h) tt
 
 module _ (asked : Request) (f : FitRequest) (is : IsFitOf asked f) where
   checked_sound : (kind : Kind) (found : List Row) → checked kind found ≡ Ok asked → IsSoundOf f.rank
@@ -85,7 +90,7 @@ module _ (asked : Request) (f : FitRequest) (is : IsFitOf asked f) where
       let chosen = step_ok (option BadContrasts found (codes "contrasts") Treatment coding) _ _ numbers.1 in
       let n = numbers.0 in
       let sound = no_fault (fault_of n) (request_for kind found n chosen.0) _ chosen.1 in
-      sound_of n sound.0 f.rank (same_rank kind found n chosen.0 f (subst (λ r. IsFitOf r f) (sym sound.1) is))
+      same_rank kind found n chosen.0 f (subst (λ r. IsFitOf r f) (sym sound.1) is) (sound_of n sound.0 (rank_of n) refl)
 
   job_sound : (kind : Kind) (words : List Text) → words_of_job kind words ≡ Ok asked → IsSoundOf f.rank
   unfolding words_of_job
@@ -101,3 +106,37 @@ module _ (asked : Request) (f : FitRequest) (is : IsFitOf asked f) where
   words_sound (job ∷ rest) h =
       let kind = found_ok (kind_of job) (λ kind. words_of_job kind (job ∷ rest)) UnknownJob _ h in
       job_sound kind.0 (job ∷ rest) kind.1
+
+-- ---- predictions
+
+unranked_request : (kind : Kind) (found : List Row) (n : OptionNumbers) (chosen : Coding) (f : FitRequest) → request_for kind found n chosen ≡ request.Predict f → f.rank ≡ None
+unranked_request kind.Process found n chosen f h = absurd (cc h)
+unranked_request kind.Ranks found n chosen f h = absurd (cc h)
+unranked_request kind.Certify found n chosen f h = absurd (cc h)
+unranked_request kind.Check found n chosen f h = absurd (cc h)
+unranked_request kind.Sample found n chosen f h = absurd (cc h)
+unranked_request kind.Predict found n chosen f h =
+    let same : fit found (unranked n) chosen ≡ f = cc h in
+    sym (ap rank_in same)
+
+checked_unranked : (kind : Kind) (found : List Row) (f : FitRequest) → checked kind found ≡ Ok (request.Predict f) → f.rank ≡ None
+unfolding checked
+checked_unranked kind found f h =
+    let numbers = step_ok (numbers_of found) _ _ h in
+    let chosen = step_ok (option BadContrasts found (codes "contrasts") Treatment coding) _ _ numbers.1 in
+    unranked_request kind found numbers.0 chosen.0 f (no_fault (fault_of numbers.0) (request_for kind found numbers.0 chosen.0) _ chosen.1).1
+
+job_unranked : (kind : Kind) (words : List Text) (f : FitRequest) → words_of_job kind words ≡ Ok (request.Predict f) → f.rank ≡ None
+unfolding words_of_job
+job_unranked kind words f h =
+    let short = short_ok (list_any is_long (drop 1 words)) _ BadOption _ h in
+    let found = found_ok (read_by (command_of (options_of kind)) words) (checked kind) BadOption _ short in
+    checked_unranked kind found.0 f found.1
+
+-- predictions ask for no rank intervals
+pub predict_unranked : (words : List Text) (f : FitRequest) → words_of words ≡ Ok (request.Predict f) → f.rank ≡ None
+unfolding words_of
+predict_unranked [] f h = absurd (cc h)
+predict_unranked (job ∷ rest) f h =
+    let kind = found_ok (kind_of job) (λ kind. words_of_job kind (job ∷ rest)) UnknownJob _ h in
+    job_unranked kind.0 (job ∷ rest) f kind.1

@@ -1,5 +1,5 @@
 -- What words say of a generated table that they ask for: how large it may be, and that its range is in order.
-use Rattle.std.proofs.Common.{◌≡◌, ℕ, ◌≤◌, ◌&&◌, ◌^◌, ◌-◌, Bool, true, false, List, [], ◌∷◌, Option, Some, None, Result, Ok, Err, refl, ap, subst, arith, codes, drop, nat_le, ok_or, if◌then◌else◌}
+use Rattle.std.proofs.Common.{◌≡◌, ℕ, ◌≤◌, ◌&&◌, ◌^◌, ◌-◌, Bool, true, false, List, [], ◌∷◌, Option, Some, None, Result, Ok, refl, ap, subst, arith, codes, drop, nat_le, ok_or, if◌then◌else◌}
 use Rattle.std.specs.List.{list_any}
 use Rattle.std.specs.Option.{option_map_or}
 use Rattle.std.specs.Str.Parse.{digits_value}
@@ -12,7 +12,7 @@ use Rattle.contrasts.specs.declared.Coding.TheVariants.{Treatment}
 use Rattle.rq_words.specs.Commands.{command_of, kind_of, options_of, read_by}
 use Rattle.rq_words.specs.Requests.{OptionNumbers, SampleRequest}
 use Rattle.rq_words.specs.Requests as request
-use Rattle.rq_words.specs.Words.{zero, one, option, number_option, number_text, quantiles, given, count, coding, has_digits, numbers_of, is_in_order, fault_of, request_for, sample, checked, is_long, words_of_job, words_of}
+use Rattle.rq_words.specs.Words.{zero, one, option, number_option, number_text, quantiles, given, count, coding, has_digits, numbers_of, fault_of, request_for, sample, checked, is_long, words_of_job, words_of}
 use Rattle.rq_words.specs.declared.command.Kind.{Kind}
 use Rattle.rq_words.specs.declared.command.Kind.TheVariants as kind
 use Rattle.rq_words.specs.declared.job.WordFault.{WordFault}
@@ -75,6 +75,7 @@ same_sample kind.Ranks found n chosen s h = absurd (cc h)
 same_sample kind.Certify found n chosen s h = absurd (cc h)
 same_sample kind.Check found n chosen s h = absurd (cc h)
 same_sample kind.Sample found n chosen s h = cc h
+same_sample kind.Predict found n chosen s h = absurd (cc h)
 
 module _ (s : SampleRequest) where
   checked_sample : (kind : Kind) (found : List Row) → checked kind found ≡ Ok (request.Sample s) → IsSoundSample s

@@ -301,6 +301,7 @@ options kind.Ranks = search rules
 options kind.Certify = search rules
 options kind.Check = tt
 options kind.Sample = search rules
+options kind.Predict = search rules
 
 short_words : (words : List Text) → list_any is_long words ≡ false → AllByRecursion (IsShort (2 ^ 31)) words
 short_words [] h = tt
@@ -340,6 +341,7 @@ formula_in (request.Ranks f) = f.formula
 formula_in (request.Certify f) = f.formula
 formula_in request.Check = []
 formula_in (request.Sample s) = []
+formula_in (request.Predict f) = f.formula
 
 abbrev HasShortFormula : Request → Type 0
 HasShortFormula r = IsShort (2 ^ 31) (formula_in r)
@@ -351,6 +353,7 @@ request_short kind.Ranks found n chosen h = h
 request_short kind.Certify found n chosen h = h
 request_short kind.Check found n chosen h = lit< tt
 request_short kind.Sample found n chosen h = lit< tt
+request_short kind.Predict found n chosen h = h
 
 checked_short : (kind : Kind) (found : List Row) (r : Request) → checked kind found ≡ Ok r → IsShort (2 ^ 31) (text_or_empty (first_of (codes "formula") found)) → HasShortFormula r
 unfolding checked
@@ -391,3 +394,7 @@ ranks_formula words f h = request_formula words (request.Ranks f) h
 -- and that of a certificate
 pub certify_formula : (words : List Text) (f : FitRequest) → words_of words ≡ Ok (request.Certify f) → length f.formula < 2 ^ 31
 certify_formula words f h = request_formula words (request.Certify f) h
+
+-- and that of predictions
+pub predict_formula : (words : List Text) (f : FitRequest) → words_of words ≡ Ok (request.Predict f) → length f.formula < 2 ^ 31
+predict_formula words f h = request_formula words (request.Predict f) h

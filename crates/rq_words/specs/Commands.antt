@@ -5,7 +5,7 @@ use Rattle.clap.specs.Words.{App, Kinds, Row, Rule, Text, new_rule, fault_of, ma
 use Rattle.clap.specs.Simple.{new_shape}
 use Rattle.clap.specs.declared.builder.action.ArgAction.TheVariants.{Set}
 use Rattle.rq_words.specs.declared.command.Kind.{Kind}
-use Rattle.rq_words.specs.declared.command.Kind.TheVariants.{Process, Ranks, Certify, Check, Sample}
+use Rattle.rq_words.specs.declared.command.Kind.TheVariants.{Process, Ranks, Certify, Check, Sample, Predict}
 
 -- an option `--name` with one value
 abbrev pub option_rule : Text → Bool → Rule
@@ -31,6 +31,10 @@ abbrev pub fit_rules : List Rule
 fit_rules = rules_of (codes "formula" ∷ codes "lo" ∷ codes "hi" ∷ [])
     (codes "weights" ∷ codes "contrasts" ∷ codes "pivots" ∷ codes "crit" ∷ codes "rank-at" ∷ [])
 
+-- the options of a fit without rank intervals
+abbrev pub model_rules : List Rule
+model_rules = rules_of (codes "formula" ∷ codes "lo" ∷ codes "hi" ∷ []) (codes "weights" ∷ codes "contrasts" ∷ codes "pivots" ∷ [])
+
 -- the options of a job
 abbrev pub options_of : Kind → List Rule
 options_of Process = fit_rules
@@ -38,6 +42,7 @@ options_of Certify = fit_rules
 options_of Ranks = rules_of (codes "formula" ∷ []) (codes "weights" ∷ codes "contrasts" ∷ codes "pivots" ∷ [])
 options_of Check = []
 options_of Sample = rules_of (codes "number" ∷ codes "rows" ∷ codes "columns" ∷ codes "lo" ∷ codes "hi" ∷ []) (codes "pivots" ∷ [])
+options_of Predict = model_rules
 
 -- the job of a first word
 unfoldable pub kind_of : Text → Option Kind
@@ -45,7 +50,8 @@ kind_of word = if bytes_eq word (codes "process") then Some Process
     else if bytes_eq word (codes "ranks") then Some Ranks
     else if bytes_eq word (codes "certify") then Some Certify
     else if bytes_eq word (codes "check") then Some Check
-    else if bytes_eq word (codes "sample") then Some Sample else None
+    else if bytes_eq word (codes "sample") then Some Sample
+    else if bytes_eq word (codes "predict") then Some Predict else None
 
 -- the rows, where there is no fault
 abbrev pub some_if_none : Kinds → List Row → Option (List Row)

@@ -59,6 +59,7 @@ pub data Request : Type 0 where
   Certify : FitRequest → Request
   Check : Request
   Sample : SampleRequest → Request
+  Predict : FitRequest → Request
 
 -- the numbers of the options that were read
 abbrev pub option_numbers : Numbers → OptionNumbers
@@ -107,6 +108,7 @@ request_of (job.Ranks f) = Ranks (fit_request f)
 request_of (job.Certify f) = Certify (fit_request f)
 request_of job.Check = Check
 request_of (job.Sample s) = Sample (sample_request s)
+request_of (job.Predict f) = Predict (fit_request f)
 
 -- what an answer asks for, or its fault
 abbrev pub request_or_fault : Result Job WordFault → Result Request WordFault

@@ -163,6 +163,10 @@ sample n = record {
 abbrev pub over_all : OptionNumbers → OptionNumbers
 over_all n = record n { lo = zero; hi = one }
 
+-- the same numbers without rank intervals
+abbrev pub unranked : OptionNumbers → OptionNumbers
+unranked n = record n { crit = None; taus = None }
+
 -- the request of a job with these options; ranks are taken over 0 to 1
 abbrev pub request_for : Kind → List Row → OptionNumbers → Coding → Request
 request_for kind.Process found n coding = request.Process (fit found n coding)
@@ -170,6 +174,7 @@ request_for kind.Ranks found n coding = request.Ranks (fit found (over_all n) co
 request_for kind.Certify found n coding = request.Certify (fit found n coding)
 request_for kind.Check found n coding = request.Check
 request_for kind.Sample found n coding = request.Sample (sample n)
+request_for kind.Predict found n coding = request.Predict (fit found (unranked n) coding)
 
 -- the request of a job's options
 unfoldable pub checked : Kind → List Row → Result Request WordFault

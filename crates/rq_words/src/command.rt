@@ -13,6 +13,7 @@ pub(crate) enum Kind {
     Certify,
     Check,
     Sample,
+    Predict,
 }
 
 impl Kind {
@@ -27,6 +28,7 @@ impl Kind {
             "certify" => Some(Kind::Certify),
             "check" => Some(Kind::Check),
             "sample" => Some(Kind::Sample),
+            "predict" => Some(Kind::Predict),
             _ => None,
         }
     }
@@ -39,7 +41,7 @@ static FIT_OPTIONAL: [&str; 5] = ["weights", "contrasts", "pivots", "crit", "ran
 
 static RANKS_REQUIRED: [&str; 1] = ["formula"];
 
-static RANKS_OPTIONAL: [&str; 3] = ["weights", "contrasts", "pivots"];
+static MODEL_OPTIONAL: [&str; 3] = ["weights", "contrasts", "pivots"];
 
 static SAMPLE_REQUIRED: [&str; 5] = ["number", "rows", "columns", "lo", "hi"];
 
@@ -82,7 +84,8 @@ pub(crate) fn command<'a>(alloc: Global, kind: Kind) -> Result<Command<'a>, Allo
 {
     let (required, optional) = match kind {
         Kind::Process | Kind::Certify => (FIT_REQUIRED.as_slice(), FIT_OPTIONAL.as_slice()),
-        Kind::Ranks => (RANKS_REQUIRED.as_slice(), RANKS_OPTIONAL.as_slice()),
+        Kind::Ranks => (RANKS_REQUIRED.as_slice(), MODEL_OPTIONAL.as_slice()),
+        Kind::Predict => (FIT_REQUIRED.as_slice(), MODEL_OPTIONAL.as_slice()),
         Kind::Sample => (SAMPLE_REQUIRED.as_slice(), SAMPLE_OPTIONAL.as_slice()),
         Kind::Check => return Ok(new_command(alloc)),
     };

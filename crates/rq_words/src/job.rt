@@ -14,6 +14,9 @@ pub enum Job {
     Check,
     /// Fit a table that is made from a number.
     Sample(SampleJob),
+    /// Predict the missing responses of a table at each quantile of a range. No rank intervals are
+    /// asked for.
+    Predict(FitJob),
 }
 
 /// A fit of a table.

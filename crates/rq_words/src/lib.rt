@@ -40,6 +40,7 @@ const LONG_WORD: usize = 1 << 31;
 /// | `ranks` | `formula` | `weights`, `contrasts`, `pivots` |
 /// | `check` | none | none |
 /// | `sample` | `number`, `rows`, `columns`, `lo`, `hi` | `pivots` |
+/// | `predict` | `formula`, `lo`, `hi` | `weights`, `contrasts`, `pivots` |
 ///
 /// `lo`, `hi` and `crit` are number texts, and `rank-at` is up to 64 of them with commas between.
 /// Where an option isn't given, the range is 0 to 1, the pivots are 100,000 and the contrasts are

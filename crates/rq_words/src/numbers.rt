@@ -4,7 +4,7 @@ ghost use Rattle.std.specs.Char.{is_ascii_digit};
 ghost use Rattle.std.specs.List.{list_all};
 ghost use Rattle.std.specs.Str.Parse.{digits_value};
 ghost use Rattle.rq_words.specs.Requests.{number, option_numbers};
-ghost use Rattle.rq_words.specs.Words.{count, given, has_digits, number_option, number_text, number_texts, numbers_of, over_all, quantiles};
+ghost use Rattle.rq_words.specs.Words.{count, given, has_digits, number_option, number_text, number_texts, numbers_of, over_all, quantiles, unranked};
 
 use crate::WordFault;
 use crate::options::Options;
@@ -234,6 +234,17 @@ impl Numbers {
         Numbers {
             lo: Frac128::zero(),
             hi: Frac128::one(),
+            ..self
+        }
+    }
+
+    /// The same numbers without rank intervals.
+    pub fn unranked(self) -> Numbers
+        ensures { option_numbers result ≡ unranked (option_numbers self) }
+    {
+        Numbers {
+            crit: None,
+            taus: None,
             ..self
         }
     }

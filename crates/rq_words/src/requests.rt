@@ -99,6 +99,7 @@ pub(crate) fn job_of(alloc: Global, kind: Kind, options: &Options) -> Result<Job
         Kind::Process => fit_of(alloc, options, numbers, coding).map(Job::Process),
         Kind::Ranks => fit_of(alloc, options, numbers.over_all(), coding).map(Job::Ranks),
         Kind::Certify => fit_of(alloc, options, numbers, coding).map(Job::Certify),
+        Kind::Predict => fit_of(alloc, options, numbers.unranked(), coding).map(Job::Predict),
     };
     match made {
         Ok(job) => Ok(job),

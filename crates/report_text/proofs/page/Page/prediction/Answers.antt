@@ -1,0 +1,14 @@
+use Rattle.std.proofs.Common.{◌++◌, codes, ap, ◌∙◌}
+use Rattle.std.specs.List.{flat_map}
+use Rattle.report_text.proofs.Appends.{append_four}
+use Rattle.report_text.specs.ReportText.{count_line, prediction_text, step_line}
+use Rattle.report_text.proofs.page.Page.prediction.Goals as goal
+
+pub returns : goal.returns
+unfolding prediction_text
+returns c =
+    append_four _ _ _ _ _ (count_line (codes "predict") c.args.prediction.now.rec) _ (count_line (codes "rearranged") c.args.prediction.now.rec) _
+    c.in_ok-count_line.ensures
+    (c.in_ok-step_lines.ensures ∙ ap (λ steps. c.count_line.new.self ++ flat_map step_line steps) c.as_slice.ensures)
+    c.in_ok-count_line-2.ensures
+    (c.in_ok-step_lines-2.ensures ∙ ap (λ steps. c.count_line-2.new.self ++ flat_map step_line steps) c.as_slice-2.ensures)
