@@ -1,5 +1,5 @@
 -- Variables whose values differ in their entries alone, and the columns of terms of such variables.
-use Rattle.std.proofs.Common.{◌≡◌, ℕ, ◌+◌, ◌*◌, ◌/◌, ◌%◌, Bool, true, false, cond, codes, List, [], ◌∷◌, ◌++◌, Some, None, All, length, map, nat_eq, refl, sym, ap, ◌∙◌}
+use Rattle.std.proofs.Common.{◌≡◌, ℕ, ◌+◌, ◌*◌, ◌/◌, ◌%◌, Bool, true, false, cond, codes, List, [], ◌∷◌, ◌++◌, Some, None, All, map, nat_eq, refl, sym, ap, ◌∙◌}
 use Rattle.std.specs.List.{flat_map, range_with_len}
 use Rattle.std.specs.Option.{option_or}
 use Rattle.std.proofs.lemmas.List.{map-append}

@@ -11,7 +11,7 @@ use Rattle.formula_parser.specs.declared.formula.Term.{Term}
 use Rattle.formula_parser.specs.declared.formula.Variable.{Variable}
 use Rattle.design_matrix.specs.declared.fault.DesignFault.TheVariants.{UnknownLevel}
 use Rattle.design_matrix.specs.Cells.{Column, Table, cell_of, column_of, present}
-use Rattle.design_matrix.specs.CodedVariable.{categorical, coded_term, coded_terms, coded_variable, coding_of, numeric, printed_name, values_in}
+use Rattle.design_matrix.specs.CodedVariable.{categorical, coded_term, coded_terms, coded_variable, coding_of, printed_name, values_in}
 use Rattle.design_matrix.specs.Faults.{terms_fault}
 use Rattle.design_matrix.specs.Levels.{levels_of, number_order, number_text, put_all, text_order}
 use Rattle.design_matrix.specs.Lists.{first_some}

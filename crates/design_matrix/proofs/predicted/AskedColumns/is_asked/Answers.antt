@@ -1,4 +1,4 @@
-use Rattle.std.proofs.Common.{Bool, ap, map, sym, ◌∙◌}
+use Rattle.std.proofs.Common.{Bool, ap, sym, ◌∙◌}
 use Rattle.std.specs.List.{list_all}
 use Rattle.data_frame.specs.Views.{lent_column}
 use Rattle.design_matrix.specs.Cells.{Column, is_present}
