@@ -26,7 +26,7 @@ struct Case {
     answer: &'static str,
 }
 
-static CASES: [Case; 16] = [
+static CASES: [Case; 20] = [
     Case {
         table: b"y,x\n0,0\n2,1\n3,3\n,4\n",
         terms: "1 x",
@@ -107,6 +107,21 @@ static CASES: [Case; 16] = [
         coding: Coding::Treatment,
         answer: "3: 1 1 5 5",
     },
+    // Indicators where there is no intercept; a record that misses the factor's cell is not predicted.
+    Case {
+        table: b"y,f\n1,b\n2,a\n,b\n",
+        terms: "0 f",
+        weights: None,
+        coding: Coding::Treatment,
+        answer: "3: 0 1",
+    },
+    Case {
+        table: b"y,f\n1,a\n2,b\n,\n,b\n",
+        terms: "1 f",
+        weights: None,
+        coding: Coding::Sas,
+        answer: "4: 1 0",
+    },
     // Numbers are levels by their values where `factor` was written, and the level of a dropped record is none.
     Case {
         table: b"y,x\n1,2\n2,10\n,4/2\n,1e1\n",
@@ -129,6 +144,20 @@ static CASES: [Case; 16] = [
         weights: None,
         coding: Coding::Treatment,
         answer: "UnknownLevel 3 g | UnknownLevel 4 f",
+    },
+    Case {
+        table: b"y,f,g\n1,a,u\n2,b,v\n,c,w\n",
+        terms: "1 g:f",
+        weights: None,
+        coding: Coding::Treatment,
+        answer: "UnknownLevel 3 g",
+    },
+    Case {
+        table: b"y,x,z\n1,1,1\n2,2,1\n,3,2\n,1e38,1e38\n",
+        terms: "1 x:z",
+        weights: None,
+        coding: Coding::Treatment,
+        answer: "3: 1 6 | Overflow 4 1 1",
     },
     Case {
         table: b"y,f,x,z\n1,a,1,1\n2,b,1,2\n,c,1e38,1e38\n",
@@ -205,7 +234,10 @@ fn tell_case(told: &mut Told, frame: &Frame, model: &Formula, case: Case) {
 
 fn expect(rt: &(impl Abort + AllocGlobal), case: Case) {
     let mut told = Told::new(rt.alloc());
-    match (frame_of(rt.alloc(), case.table), formula(rt.alloc(), case.terms)) {
+    match (
+        frame_of(rt.alloc(), case.table),
+        formula(rt.alloc(), case.terms),
+    ) {
         (Some(frame), Ok(model)) => tell_case(&mut told, &frame, &model, case),
         _ => told.put("no table or no formula"),
     }
