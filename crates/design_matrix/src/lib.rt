@@ -16,10 +16,12 @@
 //! of a column of each of its variables, those of the first variable varying fastest. Their entries
 //! are products from the left, and their names are joined by `:`.
 //!
-//! The crate's one contract: `build` gives the design that `specs/Designs.antt` defines, of the
+//! What is proved: `build` gives the design that `specs/Designs.antt` defines, of the
 //! records that `specs/Cells.antt` keeps, with the coding rule of `specs/CodedVariable.antt` and the columns
 //! of `specs/Parts.antt`, or the first fault by `specs/Faults.antt`. That levels are the distinct
-//! cells in ascending order is a law, in `laws`.
+//! cells in ascending order is a law, in `laws`. `predicted_records` gives the records whose response alone
+//! is missing, and `predict_row` the row of one by the levels of the kept records, or why it has none, as
+//! `specs/Predicted.antt` defines them.
 //!
 //! It stands on `data_frame` for tables, on `formula_parser` for formulas, on `contrasts` for
 //! codings, and on `loss_model` for the place of an operation that overflows.

@@ -2,18 +2,21 @@
 //!
 //! The rows were worked out apart from this program, from the tables of the codings.
 
+ghost use Rattle.std.specs.Prelude.{◌≡◌, ◌<◌, ◌^◌, All, Contains, Option as option, length};
+ghost use Rattle.data_frame.specs.Records.{Text as text};
+ghost use Rattle.design_matrix.specs.Faults.{IsDesign};
+ghost use Rattle.design_matrix.specs.Predicted.{predicted};
+
 use crate::designs::{are_short, formula, tell_fault};
-use crate::helpers::{expect_answer, push_number};
+use crate::helpers::{Told, frame_of};
 use contrasts::Coding;
-use data_frame::{Frame, read_table};
+use data_frame::Frame;
 use design_matrix::{Design, PredictRow, build, predict_row, predicted_records};
 use formula_parser::Formula;
-use std::alloc::Global;
 use std::process::Abort;
-use std::test::Fail;
 
 /// A table, the terms of a formula behind 1 for an intercept and 0 for none, the name of the weights, a coding, and
-/// what is wanted: the rows, each with the number of its record, or the first fault.
+/// what is wanted of each predicted record: its row behind its number, or its fault.
 #[derive(Clone, Copy)]
 struct Case {
     table: &'static [u8],
@@ -23,7 +26,7 @@ struct Case {
     answer: &'static str,
 }
 
-static CASES: [Case; 16] = [
+static CASES: [Case; 20] = [
     Case {
         table: b"y,x\n0,0\n2,1\n3,3\n,4\n",
         terms: "1 x",
@@ -104,6 +107,21 @@ static CASES: [Case; 16] = [
         coding: Coding::Treatment,
         answer: "3: 1 1 5 5",
     },
+    // Indicators where there is no intercept; a record that misses the factor's cell is not predicted.
+    Case {
+        table: b"y,f\n1,b\n2,a\n,b\n",
+        terms: "0 f",
+        weights: None,
+        coding: Coding::Treatment,
+        answer: "3: 0 1",
+    },
+    Case {
+        table: b"y,f\n1,a\n2,b\n,\n,b\n",
+        terms: "1 f",
+        weights: None,
+        coding: Coding::Sas,
+        answer: "4: 1 0",
+    },
     // Numbers are levels by their values where `factor` was written, and the level of a dropped record is none.
     Case {
         table: b"y,x\n1,2\n2,10\n,4/2\n,1e1\n",
@@ -117,7 +135,7 @@ static CASES: [Case; 16] = [
         terms: "1 factor(x)",
         weights: Some("w"),
         coding: Coding::Treatment,
-        answer: "UnknownLevel 5 factor(x)",
+        answer: "4: 1 0 | UnknownLevel 5 factor(x)",
     },
     // The first unknown level by record, by terms and by variables.
     Case {
@@ -125,7 +143,21 @@ static CASES: [Case; 16] = [
         terms: "1 f g",
         weights: None,
         coding: Coding::Treatment,
+        answer: "UnknownLevel 3 g | UnknownLevel 4 f",
+    },
+    Case {
+        table: b"y,f,g\n1,a,u\n2,b,v\n,c,w\n",
+        terms: "1 g:f",
+        weights: None,
+        coding: Coding::Treatment,
         answer: "UnknownLevel 3 g",
+    },
+    Case {
+        table: b"y,x,z\n1,1,1\n2,2,1\n,3,2\n,1e38,1e38\n",
+        terms: "1 x:z",
+        weights: None,
+        coding: Coding::Treatment,
+        answer: "3: 1 6 | Overflow 4 1 1",
     },
     Case {
         table: b"y,f,x,z\n1,a,1,1\n2,b,1,2\n,c,1e38,1e38\n",
@@ -144,62 +176,77 @@ static CASES: [Case; 16] = [
 ];
 
 // A row by the number of its record and its entries.
-fn tell_row(alloc: Global, told: &mut String, row: &PredictRow) -> Result<(), Fail> {
-    if !told.is_empty() {
-        told.push_str(" | ")?;
-    }
-    told.push_str(row.rec.to_string(alloc)?.as_str())?;
-    told.push(':')?;
-    for entry in row.x.as_slice() {
-        told.push(' ')?;
-        push_number(told, alloc, *entry)?;
-    }
-    Ok(())
+fn tell_row(told: &mut Told, row: &PredictRow) {
+    told.put_named("", row.rec);
+    told.put(": ");
+    told.put_numbers(row.x.as_slice());
 }
 
-// The rows of the predicted records, or the first fault.
-fn tell_rows(
-    alloc: Global,
+// What comes of a predicted record.
+fn tell_record(
+    told: &mut Told,
     frame: &Frame,
     model: &Formula,
     coding: Coding,
     design: &Design,
-) -> Result<String, Fail> {
-    let Ok(records) = predicted_records(alloc, frame, model, design) else {
-        return Err(Fail::from("no memory"));
-    };
-    let mut told = String::new(alloc);
-    for rec in records.as_slice() {
-        match predict_row(alloc, frame, model, coding, design, *rec) {
-            Ok(row) => tell_row(alloc, &mut told, &row)?,
-            Err(fault) => return tell_fault(alloc, &fault),
-        }
+    rec: u32,
+)
+    requires short { All (λ t. length t.variables < 2 ^ 32) model.now.terms }
+    requires built { (weights : option text) × IsDesign frame.now model.now coding weights design.now }
+    requires plain { length model.now.smooths ≡ 0 }
+    requires asked { Contains (predicted frame.now model.now) rec }
+{
+    match predict_row(told.alloc(), frame, model, coding, design, rec) {
+        Ok(row) => tell_row(told, &row),
+        Err(fault) => tell_fault(told, &fault),
     }
-    Ok(told)
 }
 
-fn answer(alloc: Global, case: Case) -> Result<String, Fail> {
-    if case.table.len() > 1 << 26 {
-        return Err(Fail::from("too long"));
-    }
-    let Ok(frame) = read_table(alloc, case.table) else {
-        return Err(Fail::from("no table"));
+// What comes of each predicted record.
+fn tell_records(told: &mut Told, frame: &Frame, model: &Formula, coding: Coding, design: &Design)
+    requires short { All (λ t. length t.variables < 2 ^ 32) model.now.terms }
+    requires built { (weights : option text) × IsDesign frame.now model.now coding weights design.now }
+    requires plain { length model.now.smooths ≡ 0 }
+{
+    let Ok(records) = predicted_records(told.alloc(), frame, model, design) else {
+        return told.put("no memory");
     };
-    let model = formula(alloc, case.terms)?;
-    if !are_short(model.terms.as_slice()) || !model.smooths.as_slice().is_empty() {
-        return Err(Fail::from("another formula"));
+    let mut mark = "";
+    for rec in records.as_slice() {
+        told.put(mark);
+        tell_record(told, frame, model, coding, design, *rec);
+        mark = " | ";
     }
-    match build(alloc, &frame, &model, case.coding, case.weights) {
-        Ok(design) => tell_rows(alloc, &frame, &model, case.coding, &design),
-        Err(fault) => tell_fault(alloc, &fault),
+}
+
+fn tell_case(told: &mut Told, frame: &Frame, model: &Formula, case: Case) {
+    if !are_short(model.terms.as_slice()) {
+        return told.put("a long term");
     }
+    if !model.smooths.as_slice().is_empty() {
+        return told.put("a smooth");
+    }
+    match build(told.alloc(), frame, model, case.coding, case.weights) {
+        Ok(design) => tell_records(told, frame, model, case.coding, &design),
+        Err(fault) => tell_fault(told, &fault),
+    }
+}
+
+fn expect(rt: &(impl Abort + AllocGlobal), case: Case) {
+    let mut told = Told::new(rt.alloc());
+    match (
+        frame_of(rt.alloc(), case.table),
+        formula(rt.alloc(), case.terms),
+    ) {
+        (Some(frame), Ok(model)) => tell_case(&mut told, &frame, &model, case),
+        _ => told.put("no table or no formula"),
+    }
+    told.expect(rt, case.answer, case.terms);
 }
 
 #[test]
-fn rows_of_predicted_records(rt: HostRuntime) -> Result<(), Fail> {
+fn rows_of_predicted_records(rt: HostRuntime) {
     for case in &CASES {
-        let told = answer(rt.alloc(), *case)?;
-        expect_answer(&rt, told.as_str(), case.answer, case.terms);
+        expect(&rt, *case);
     }
-    Ok(())
 }
