@@ -89,7 +89,7 @@ impl Predicting<'_> {
 
 /// What a job asks to be predicted, from at most 2^26 bytes.
 ///
-/// `Refused` is the first fault, as of `read_plain`; then `NothingToPredict` exactly where no record has a missing
+/// `Refused` is the first fault, as of `read_input`, with `SmoothNotTaken` in place of `RankWithPenalty`; then `NothingToPredict` exactly where no record has a missing
 /// response and all other used cells, the weight apart; `TooManyPredictions` exactly past 64 of them; and then that of
 /// `predict_row` of the first record that has no row. `OutOfMemory` may come at any step, and no other halt comes.
 pub fn read_predictions(alloc: Global, job: &FitJob, bytes: &[u8]) -> Result<PredictionInput, Halt>
