@@ -48,7 +48,14 @@ impl Predicting<'_> {
     {
         let mut rows = List::new(alloc);
         for rec in records {
-            let row = match predict_row(alloc, self.frame, self.model, self.coding, self.design, *rec) {
+            let row = match predict_row(
+                alloc,
+                self.frame,
+                self.model,
+                self.coding,
+                self.design,
+                *rec,
+            ) {
                 Ok(row) => row,
                 Err(fault) => return Err(fault),
             };
