@@ -19,7 +19,7 @@ use Rattle.rq_input.specs.Inputs.{HasInputCause, IsModelInput}
 use Rattle.rq_input.specs.Predictions.{ArePredicted, HasPredictionCause, HasRecordsCause, IsPrediction, LackPredictions, LacksPredictions}
 use Rattle.rq_input.specs.declared.input.Input.{Input}
 use Rattle.rq_input.specs.declared.predictions.PredictionInput.{PredictionInput}
-use Rattle.rq_input.proofs.Zips.{zip_item, zip_length}
+use Rattle.rq_input.proofs.Lists.{zip_item, zip_length}
 use Rattle.input_laws.specs.Laws.{PredictionsHaveNoFault}
 use Rattle.input_laws.proofs.Inputs.{input_sound, one_table}
 use Rattle.input_laws.proofs.Parsed.{one_formula}

@@ -1,5 +1,5 @@
 -- What a process leaves is right, and what stops it has its cause.
-use Rattle.std.proofs.Common.{◌≡◌, ◌<◌, ◌≤◌, ◌+◌, ℕ, suc, Bool, true, false, if◌then◌else◌, filter, slice_set, List, [], ◌∷◌, All, length, Contains, Some, get_or, inl, inr, arith, refl, sym, ap, subst, ◌∙◌}
+use Rattle.std.proofs.Common.{◌≡◌, ◌<◌, ◌≤◌, ◌+◌, ℕ, suc, filter, slice_set, List, [], ◌∷◌, All, length, Contains, Some, get_or, inl, inr, arith, refl, sym, ap, subst, ◌∙◌}
 use Rattle.std.specs.List.{AllZip}
 use Rattle.std.proofs.lemmas.List.{length-append}
 use Rattle.std.proofs.lemmas.Option.{slice_get-get_or}
@@ -42,6 +42,7 @@ use Rattle.report_text.specs.declared.report.Place.TheVariants as places
 use Rattle.report_text.specs.declared.report.Halt.TheVariants.{Refused, OutOfMemory, PivotLimit, Overflow, Rejected}
 use Rattle.report_text.specs.declared.report.Refusal.TheVariants.{TooLong, Dependent}
 use Rattle.report_text.specs.declared.report.Refusal.TheVariants as refusals
+use Rattle.rq_input.proofs.Lists.{filter_count}
 use Rattle.rq_fit.specs.Fit.{IsOptimalAt, IsOptimalWithin, IsRightFit, IsRightProcess, IsRightSegment, mixed_dual}
 use Rattle.rq_fit.specs.Halts.{interval_halt, short_halt, stop_halt}
 use Rattle.rq_fit.specs.Intervals.{AreRightIntervals, asked_by, asked_over, IsFirstStop}
@@ -52,16 +53,6 @@ use Rattle.report_text.specs.ReportText.{value}
 use Rattle.rq_fit.specs.Stops.{IsSegmentSpill, HasProblemCause, most}
 
 -- ---- the segments
-
--- what a test leaves of one item and what it leaves behind it
-one_count : {A : Type 0} (b : Bool) (x : A) (rest : List A) (n : ℕ) → length rest ≤ n → length (if b then x ∷ rest else rest) ≤ suc n
-one_count true x rest n h = omega (arith, h)
-one_count false x rest n h = omega (arith, h)
-
--- a test passes no more items than there are
-filter_count : {A : Type 0} (test : A → Bool) (xs : List A) → length (filter test xs) ≤ length xs
-filter_count test [] = omega arith
-filter_count test (x ∷ xs) = one_count (test x) x (filter test xs) (length xs) (filter_count test xs)
 
 module _ {F : Type 0} (value : F → Fraction) (p : Problem F) where
   module _ (stay : Stay) (s : Segment F) (is : IsSegmentOf value p stay s) where

@@ -52,6 +52,15 @@ unfolding smoothing_of
 none_of intercept table rows [] none = refl
 none_of intercept table rows (s ∷ ss) none = absurd (omega (arith, none))
 
+-- nor columns
+names_of_none : (intercept : Bool) (table : Table) (rows : List DesignRow) (ss : List Smooth) → length ss ≡ 0 → length (smoothing_of intercept rows (map (part_of true table rows) ss)).names ≡ 0
+unfolding smoothing_of
+names_of_none intercept table rows [] none = refl
+names_of_none intercept table rows (s ∷ ss) none = absurd (omega (arith, none))
+
+pub no_names : (table : Table) (design : Design) (model : Formula) (smoothing : Smoothing) → exact_smoothing smoothing ≡ smoothing_by true table design model → length model.smooths ≡ 0 → length smoothing.names ≡ 0
+no_names table design model smoothing added none = ap (λ s. length s.names) added ∙ names_of_none model.intercept table design.rows model.smooths none
+
 pub no_rows : (table : Table) (design : Design) (model : Formula) (smoothing : Smoothing) → exact_smoothing smoothing ≡ smoothing_by true table design model → length model.smooths ≡ 0 → length smoothing.rows ≡ 0
 no_rows table design model smoothing added none =
     sym (length-map smoothing.rows exact_penalty) ∙ ap (λ s. length s.rows) added ∙ none_of model.intercept table design.rows model.smooths none
@@ -61,6 +70,9 @@ module _ (job : FitJob) (ranked : Bool) (table : Table) (model : Formula) (state
   pub model_cause : (halt : Halt) → HasModelCause job table model halt → HasTableCause job ranked table halt
   model_cause (Refused (refusals.Formula fault)) h = absurd h
   model_cause (Refused refusals.RankWithPenalty) h = absurd h
+  model_cause (Refused refusals.SmoothNotTaken) h = absurd h
+  model_cause (Refused refusals.NothingToPredict) h = absurd h
+  model_cause (Refused (refusals.TooManyPredictions found)) h = absurd h
   model_cause (Refused refusals.TooLong) h = absurd h
   model_cause (Refused (refusals.Table fault)) h = absurd h
   model_cause (Refused (refusals.Dependent combination)) h = absurd h

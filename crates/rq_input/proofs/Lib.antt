@@ -1,3 +1,3 @@
 mod Inputs
 mod Predicting
-pub mod Zips
+pub mod Lists

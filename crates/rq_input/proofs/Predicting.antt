@@ -1,35 +1,33 @@
 -- The rows of predicted records, and why there are none.
-use Rattle.std.proofs.Common.{◌≡◌, ◌≢◌, ◌⊎◌, ◌×◌, ◌+◌, ◌<◌, ◌≤◌, ◌^◌, ℕ, suc, List, [], ◌∷◌, All, length, map, Some, get_or, slice_get, take, arith, inl, inr, refl, sym, ap, subst, ◌∙◌}
-use Rattle.std.specs.List.{AllZip}
+use Rattle.std.proofs.Common.{◌≡◌, ◌≢◌, ◌⊎◌, ◌+◌, ◌<◌, ◌≤◌, ◌==◌, ℕ, zero, suc, true, false, filter, List, [], ◌∷◌, All, length, Some, get_or, slice_get, take, arith, inl, inr, refl, sym, ap, subst, ◌∙◌}
+use Rattle.std.specs.List.{AllZip, range_with_len}
+use Rattle.std.proofs.lemmas.Bool.{eqb-true}
+use Rattle.std.proofs.lemmas.List.{length-map}
 use Rattle.std.proofs.lemmas.List.Elements.{All-cons, All-nil}
 use Rattle.std.proofs.lemmas.Option.{slice_get-get_or}
 use Rattle.contrasts.specs.declared.Coding.{Coding}
 use Rattle.formula_parser.specs.declared.formula.Formula.{Formula}
-use Rattle.formula_parser.specs.declared.formula.Smooth.{Smooth}
 use Rattle.design_matrix.specs.Cells.{Table}
-use Rattle.design_matrix.specs.Predicted.{HasRowCause, IsPredictRow, kept_in, predicted}
+use Rattle.design_matrix.specs.Predicted.{HasRowCause, IsPredictRow, is_predicted, kept_in, predicted}
 use Rattle.design_matrix.specs.declared.design.Design.{Design}
-use Rattle.design_matrix.specs.declared.design.DesignRow.{DesignRow}
 use Rattle.design_matrix.specs.declared.design.PredictRow.{PredictRow}
 use Rattle.design_matrix.specs.declared.fault.DesignFault.{DesignFault}
 use Rattle.design_matrix.specs.declared.fault.DesignFault.TheVariants as designs
-use Rattle.tv_penalty.specs.Smoothings.{exact_smoothing, part_of, smoothing_by, smoothing_of}
-use Rattle.tv_penalty.specs.declared.Smoothing.{Smoothing}
 use Rattle.rq_words.specs.declared.job.FitJob.{FitJob}
 use Rattle.report_text.specs.declared.report.Refusal.{Refusal}
 use Rattle.report_text.specs.declared.report.Refusal.TheVariants as refusals
 use Rattle.report_text.specs.declared.report.Halt.{Halt}
 use Rattle.report_text.specs.declared.report.Halt.TheVariants.{Refused, OutOfMemory, PivotLimit, Overflow, Rejected}
 use Rattle.rq_input.specs.Halts.{design_halt}
-use Rattle.rq_input.specs.Inputs.{AreTable, HasModelCause, HasTableCause}
+use Rattle.rq_input.specs.Inputs.{AreTable, HasModelCause}
 use Rattle.rq_input.specs.Models.{IsModel}
 use Rattle.rq_input.specs.Plain.{HasPlainCause, HasPlainTableCause, IsPlainModel}
 use Rattle.rq_input.specs.Predicting.{HasRow, HasRowsCause, LacksRowOf}
-use Rattle.rq_input.specs.Predictions.{ArePredicted, HasEntries, HasPredictionCause, HasRecordsCause, LacksRow}
+use Rattle.rq_input.specs.Predictions.{ArePredicted, HasEntries, HasPredictionCause, HasRecordsCause, LacksPredictions, LacksRow}
 use Rattle.rq_input.specs.Rows.{HasRows}
 use Rattle.rq_input.specs.declared.input.Input.{Input}
-use Rattle.rq_input.proofs.Inputs.{model_cause}
-use Rattle.rq_input.proofs.Zips.{zip_length, zip_map}
+use Rattle.rq_input.proofs.Inputs.{model_cause, no_names}
+use Rattle.rq_input.proofs.Lists.{filter_count, zip_length, zip_map}
 
 -- ---- inputs where no smooths are taken
 
@@ -96,6 +94,27 @@ module _ (job : FitJob) where
 
 -- ---- the rows
 
+range_count : (a n : ℕ) → length (range_with_len a n) ≡ n
+range_count a zero = refl
+range_count a (suc n) = ap suc (range_count (a + 1) n)
+
+-- no more records are predicted than there are
+pub predicted_few : (table : Table) (model : Formula) → length (predicted table model) ≤ table.records
+unfolding predicted
+predicted_few table model =
+    let records = range_with_len 0 table.records in
+    let test = is_predicted table model in
+    omega (arith, length-map (filter test records) (λ i. i + 1), filter_count test records, range_count 0 table.records)
+
+-- a length that isn't 0
+pub some_items : (n : ℕ) → false ≡ (n == 0) → 1 ≤ n
+some_items zero h = absurd (cc h)
+some_items (suc n) h = omega arith
+
+-- a list that is empty by its length
+pub no_smooths : (n m : ℕ) → true ≡ (n == 0) → n ≡ m → m ≡ 0
+no_smooths n m empty same = sym same ∙ eqb-true n 0 (sym empty)
+
 module _ (table : Table) (model : Formula) (coding : Coding) (design : Design) where
   pub are_predicted : (rows : List PredictRow) → 1 ≤ length (predicted table model) → length (predicted table model) ≤ 64 → AllZip (HasRow table model coding design) (predicted table model) rows → ArePredicted table model coding design rows
   are_predicted rows some few all =
@@ -122,14 +141,14 @@ module _ (table : Table) (model : Formula) (coding : Coding) (design : Design) w
   memory_or designs.OutOfMemory = inl refl
   memory_or fault = inr (λ e. cc e)
 
-  pub lacks_row : (records : List ℕ) → records ≡ predicted table model → (k rec : ℕ) (before : List PredictRow) (fault : DesignFault) → k < length records → rec ≡ get_or records k rec
-      → AllZip (HasRow table model coding design) (take k records) before → HasRowCause table model coding (kept_in design) rec fault → LacksRowOf table model coding design fault
-  lacks_row records same k rec before fault within here all cause = elim (memory_or fault) [
+  pub lacks_row : (records : List ℕ) → records ≡ predicted table model → (k d : ℕ) (before : List PredictRow) (fault : DesignFault) → k < length records
+      → AllZip (HasRow table model coding design) (take k records) before → HasRowCause table model coding (kept_in design) (get_or records k d) fault → LacksRowOf table model coding design fault
+  lacks_row records same k d before fault within all cause = elim (memory_or fault) [
     | inl memory ↦ inl memory
     | inr named ↦ inr (record {
       number = k;
-      rec = rec;
-      there = subst (λ l. slice_get l k ≡ Some rec) same (slice_get-get_or records k rec within ∙ ap Some (sym here));
+      rec = get_or records k d;
+      there = subst (λ l. slice_get l k ≡ Some (get_or records k d)) same (slice_get-get_or records k d within);
       before = before;
       rows = subst (λ l. AllZip (IsPredictRow table model coding (kept_in design)) (take k l) before) same
           (zip_map (HasRow table model coding design) (IsPredictRow table model coding (kept_in design)) (λ rec row h. h.is) (take k records) before all);
@@ -143,6 +162,15 @@ module _ (table : Table) (model : Formula) (coding : Coding) (design : Design) w
   rows_cause some few fault (inl memory) = subst (λ f. HasRowsCause table model coding design (design_halt f)) (sym memory) tt
   rows_cause some few designs.OutOfMemory (inr lacks) = tt
   rows_cause some few fault (inr lacks) = (some, few, lacks)
+
+-- without smooths the columns of the problem are those of the design
+plain_columns : (job : FitJob) (table : Table) (model : Formula) (input : Input) → IsPlainModel job table model input → length input.design.names ≡ input.problem.columns
+plain_columns job table model input by =
+    let none = no_names table input.design model input.smoothing by.is.smoothed.added (by.stated.taken refl) in
+    omega (arith, by.is.problem.columns, none)
+
+pub problem_entries : (job : FitJob) (table : Table) (model : Formula) (input : Input) → IsPlainModel job table model input → (rows : List PredictRow) → All (HasEntries (length input.design.names)) rows → All (HasEntries input.problem.columns) rows
+problem_entries job table model input by rows all = subst (λ n. All (HasEntries n) rows) (plain_columns job table model input by) all
 
 -- why the records of a table's design aren't predicted is why its bytes have no predictions
 pub rows_prediction : (job : FitJob) (bytes : List ℕ) (table : Table) → AreTable bytes table → (model : Formula) (input : Input) → IsPlainModel job table model input → HasRows input → (halt : Halt)

@@ -59,9 +59,7 @@ impl Predicting<'_> {
                 Ok(row) => row,
                 Err(fault) => return Err(fault),
             };
-            if rows.add(row).is_err() {
-                return Err(DesignFault::OutOfMemory);
-            }
+            rows.add(row)?;
         }
         Ok(rows)
     }
@@ -74,6 +72,8 @@ impl Predicting<'_> {
         ensures entries { IfOk result (All (HasEntries (length self.now.design.now.names))) }
         ensures cause { IfErr result (HasRowsCause self.now.frame.now self.now.model.now self.now.coding self.now.design.now) }
     {
+        // A number of 32 bits: no more records are predicted than a refusal can tell.
+        let _most = self.frame.records();
         let records = match predicted_records(alloc, self.frame, self.model, self.design) {
             Ok(records) => records,
             Err(_) => return Err(Halt::OutOfMemory),
