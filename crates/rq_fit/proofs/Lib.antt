@@ -1,3 +1,4 @@
 pub mod Costs
 pub mod Fits
+pub mod Predicting
 pub mod Scoring

@@ -91,12 +91,12 @@ fn predictions_of(
                 });
             }
         };
-        if predictions.add(prediction).is_err() {
+        let Ok(()) = predictions.add(prediction) else {
             return Err(Lacking {
                 rec: row.rec,
                 short: Short::OutOfMemory,
             });
-        }
+        };
     }
     Ok(predictions)
 }
@@ -130,7 +130,11 @@ fn fit_of(design: Design, process: Process<Frac128>, predictions: List<Predictio
 /// `Dependent`, and `PivotLimit` and `Overflow` of the process are those of `process`; an overflow of a prediction
 /// comes after it, with the whole trail and the number of the record. `OutOfMemory` may come at any step, and no
 /// other halt comes.
-pub fn predict_input(alloc: Global, job: &FitJob, asked: PredictionInput) -> Result<PredictFit, Halt>
+pub fn predict_input(
+    alloc: Global,
+    job: &FitJob,
+    asked: PredictionInput,
+) -> Result<PredictFit, Halt>
     requires ask { IsFitAsk job.now }
     requires rows { HasRows asked.input }
     requires entries { All (HasEntries asked.input.problem.columns) asked.rows }
