@@ -1,5 +1,5 @@
 -- Bytes that ask for predictions have no fault: neither as an input, nor in what is predicted.
-use Rattle.std.proofs.Common.{◌≡◌, ◌≢◌, ◌×◌, ℕ, true, List, length, arith, inl, inr, refl, sym, ap, subst, ◌∙◌}
+use Rattle.std.proofs.Common.{◌≢◌, ℕ, true, List, length, arith, inl, inr, refl, sym, ap, subst, ◌∙◌}
 use Rattle.loss_model.specs.Problem.{IsWellShaped}
 use Rattle.contrasts.specs.declared.Coding.{Coding}
 use Rattle.formula_grammar.specs.Faults.{NoFormulaHasFaults}
@@ -78,7 +78,7 @@ module _ (one : OneFormula) (none : NoFormulaHasFaults) (job : FitJob) (bytes : 
       (subst (λ (d : Design). HasRecordsCause is.0 is.2.model job.coding d refusal) design by.2)
 
   pub prediction_sound : (refusal : Refusal) → ¬ HasPredictionCause job bytes (Refused refusal)
-  prediction_sound refusals.SmoothNotTaken h = no_input_fault refusals.RankWithPenalty (h.0, h.1, refl, h.2)
+  prediction_sound refusals.SmoothNotTaken h = no_input_fault refusals.RankWithPenalty (h.0, h.1, (refl, h.2))
   prediction_sound refusals.RankWithPenalty h = h
   prediction_sound refusals.NothingToPredict h = not_lacking refusals.NothingToPredict h
   prediction_sound (refusals.TooManyPredictions found) h = not_lacking (refusals.TooManyPredictions found) h
