@@ -1,4 +1,4 @@
--- Law. The records that are predicted, and their rows by the levels of the kept records.
+-- Stated. The records that are predicted, and their rows by the levels of the kept records.
 use Rattle.std.specs.Prelude.{◌≡◌, ◌⊎◌, ◌+◌, ◌-◌, ◌++◌, ◌&&◌, ℕ, Bool, true, false, not, List, [], ◌∷◌, Option, Some, None, filter, length, map, if◌then◌else◌}
 use Rattle.std.specs.List.{list_any, range_with_len}
 use Rattle.std.specs.Option.{option_map_or}

@@ -1,4 +1,4 @@
--- Law. Predictions by the coefficients of a process, as steps over its segments.
+-- Stated. Predictions by the coefficients of a process, as steps over its segments.
 use Rattle.std.specs.Prelude.{◌≡◌, List, length, map}
 use Rattle.exact_algebra.specs.Fraction.{Fraction, rational}
 use Rattle.exact_algebra.specs.Rational.{ℚ, ◌+ℚ◌, ◌*ℚ◌}

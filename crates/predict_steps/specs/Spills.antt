@@ -1,4 +1,4 @@
--- Law. The operations of predictions, and of their rearrangement.
+-- Stated. The operations of predictions, and of their rearrangement.
 use Rattle.std.specs.Prelude.{◌≡◌, ◌⊎◌, ℕ, ◌+◌, List, Some, length, slice_get, pos}
 use Rattle.std.specs.Option.{option_map_or}
 use Rattle.exact_algebra.specs.Fraction.{Fraction}
