@@ -14,8 +14,9 @@ pub fn inputs_have_no_fault()
     one_outcome();
 }
 
-/// Where the bytes of a job ask for predictions, they have no fault, neither as an input nor in what is predicted: so each
-/// refusal of the job `predict` comes only where nothing is predicted.
+/// Where the bytes of a job ask for predictions, and their problem is within the limits of rows and columns, they have no
+/// fault: neither as an input without smooths, nor in the records that are predicted or their rows. So each refusal of
+/// `read_predictions` comes only where there are no such predictions.
 pub fn predictions_have_no_fault()
     ensures { PredictionsHaveNoFault }
 {

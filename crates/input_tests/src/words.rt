@@ -100,6 +100,12 @@ process --hi 1 --weights w --lo 0 --formula y => process y 0..1 w=w Treatment 10
 process --formula y --lo 1/2 --hi 1/4 --crit 1 => BadRange
 process --formula y --lo 1/2 --hi 1/4 --contrasts poly => BadContrasts
 process process --formula y --lo 0 --hi 1 => BadOption
+predict --formula y~x --lo 0 --hi 1 => predict y~x 0..1 - Treatment 100000 -
+predict --formula y --lo 1/4 --hi 3/4 --weights w --contrasts sum --pivots 9 => predict y 1/4..3/4 w=w Sum 9 -
+predict --formula y --lo 0 --hi 1 --crit 1 --rank-at 1/2 => BadOption
+predict --formula y --lo 0 => BadOption
+predict --formula y --lo 1 --hi 0 => BadRange
+predict --formula y --lo 0 --hi x => BadNumber hi
 ";
 
 // Words that are added to those of a process at the median.
@@ -236,6 +242,7 @@ fn tell(told: &mut Told, words: &[String]) {
         Ok(Job::Process(fit)) => tell_fit(told, "process ", &fit),
         Ok(Job::Ranks(fit)) => tell_fit(told, "ranks ", &fit),
         Ok(Job::Certify(fit)) => tell_fit(told, "certify ", &fit),
+        Ok(Job::Predict(fit)) => tell_fit(told, "predict ", &fit),
         Ok(Job::Check) => told.put("check"),
         Ok(Job::Sample(sample)) => tell_sample(told, &sample),
         Err(fault) => tell_fault(told, &fault),
@@ -276,7 +283,7 @@ fn run(rt: &(impl Abort + AllocGlobal), first: &str, cases: &str) -> Result<u32,
 #[test]
 fn lists_of_words(rt: HostRuntime) -> Result<(), Fail> {
     expect(&rt, &[], "NoJob", "no word");
-    assert!(&rt; run(&rt, "", WHOLE)? == 91);
+    assert!(&rt; run(&rt, "", WHOLE)? == 97);
     assert!(&rt; run(&rt, "process --formula y --lo 1/2 --hi 1/2 ", ADDED)? == 59);
     Ok(())
 }
