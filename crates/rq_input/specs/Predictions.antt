@@ -36,6 +36,7 @@ pub record IsTablePrediction (job : FitJob) (table : Table) (asked : PredictionI
   pub by : IsPlainModel job table model asked.input
   pub rows : ArePredicted table model job.coding asked.input.design asked.rows
 
+-- so is the table that the bytes are
 abbrev pub IsPrediction : FitJob → List ℕ → PredictionInput → Type 0
 IsPrediction job bytes asked = (table : Table) × AreTable bytes table × IsTablePrediction job table asked
 
@@ -72,6 +73,7 @@ pub record LacksPredictions (job : FitJob) (table : Table) (refusal : Refusal) :
   pub rows : HasRows input
   pub cause : HasRecordsCause table model job.coding input.design refusal
 
+-- so it is of the table that the bytes are
 abbrev pub LackPredictions : FitJob → List ℕ → Refusal → Type 0
 LackPredictions job bytes refusal = (table : Table) × AreTable bytes table × LacksPredictions job table refusal
 
