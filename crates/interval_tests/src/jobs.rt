@@ -66,7 +66,7 @@ static ENDS: [(Ratio, Ratio); 2] = [((0, 1), (3, 2)), ((1, 2), (2, 1))];
 
 #[test]
 fn both_columns_of_a_line(rt: HostRuntime) -> Result<(), Fail> {
-    let line: Problem<Frac128> = problem(&rt, rt.alloc(), 2, &LINE)?;
+    let line: Problem<Frac128> = problem(&rt, rt.alloc(), 2, &LINE);
     let gate = Tally {
         squares: AtomicU64::new(0),
     };
