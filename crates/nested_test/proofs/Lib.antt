@@ -1,0 +1,3 @@
+mod Statistics
+mod Pairs
+mod Scored
