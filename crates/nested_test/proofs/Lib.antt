@@ -1,3 +1,4 @@
 mod Statistics
 mod Pairs
 mod Scored
+mod Restrictions

@@ -1,8 +1,7 @@
 -- Pairs of tested columns, one more at a time.
 use Rattle.std.specs.Prelude.{◌≡◌, ℕ, zero, suc, ◌+◌, ◌*◌, ◌^◌, ◌<◌, ◌≤◌, List, [], ◌∷◌, All, length, get_or, slice_index, pos}
 use Rattle.std.proofs.Common.{arith, refl, sym, ap, ap₂, subst, ◌∙◌, inl, inr, add-one}
-use Rattle.std.proofs.lemmas.Nat.{mul-le}
-use Rattle.exact_algebra.specs.Fraction.{Fraction}
+use Rattle.exact_algebra.specs.Fraction.{Fraction, rational}
 use Rattle.exact_algebra.specs.Solver.{number, ◌⊞◌, v0, v1, v2}
 use Rattle.exact_algebra.specs.Rational.{ℚ, ◌+ℚ◌, ◌*ℚ◌, whole}
 use Rattle.exact_algebra.proofs.RationalLaws.{ring_ℚ}
@@ -10,18 +9,20 @@ use Rattle.exact_algebra.specs.RationalSums.{sum_ℚ}
 use Rattle.exact_algebra.proofs.RationalSumLaws.{sum_ℚ-same}
 use Rattle.loss_model.specs.declared.spill.Spill.{Spill}
 use Rattle.loss_model.specs.declared.spill.Quantity.TheVariants.{TestStatistic}
+use Rattle.loss_model.specs.Problem.{value_at}
 use Rattle.loss_model.specs.Spill.{AtSome, IsAmong, IsOperation, Operation, addition, multiplication, site_of}
+use Rattle.loss_model.proofs.Products.{value_at-item}
 use Rattle.nested_test.specs.Operations.{pair, pairs_before, pairs, pair_operations, IsPairSpill, IsStatisticSpill}
 
--- the numbers of operations fit
-pub few_operations : (j m n : ℕ) → j < n → m < n → n ≤ 128 → j * n + m < 16384
-few_operations j m n lj lm few = less
-  where
-    product : j * n ≤ 127 * 128
-    product = mul-le j n 127 128 (omega (arith, lj, few)) few
+module _ {F : Type 0} (value : F → Fraction) (at : ℕ → ℕ) (n : ℕ) (a : ℕ → ℕ → ℚ) (scores : List F) where
+  score_at : (j : ℕ) (x : F) → j < length scores → x ≡ get_or scores j x → rational (value (get_or scores j x)) ≡ value_at value scores j
+  score_at j x l is = sym (ap (λ x. rational (value x)) is) ∙ sym (value_at-item value scores j x l is)
 
-    less : j * n + m < 16384
-    less = omega (arith, product, lm, few)
+  -- the term of a pair, from what is read
+  pub pair_read : (j m : ℕ) (x y : F) (entry weighted product : ℚ) → length scores ≡ n → j < n → m < n → x ≡ get_or scores j x → y ≡ get_or scores m y → entry ≡ a (at j) (at m)
+      → weighted ≡ rational (value (get_or scores j x)) *ℚ entry → product ≡ weighted *ℚ rational (value (get_or scores m y)) → product ≡ pair at n a (value_at value scores) j m
+  pair_read j m x y entry weighted product size lj lm at_j at_m e w p =
+      p ∙ ap₂ (λ x y. x *ℚ y) (w ∙ ap₂ (λ x y. x *ℚ y) (score_at j x (omega (arith, size, lj)) at_j) e) (score_at m y (omega (arith, size, lm)) at_m)
 
 module _ (at : ℕ → ℕ) (n : ℕ) (a : ℕ → ℕ → ℚ) (score : ℕ → ℚ) where
   pub first_pair : (z : ℚ) → z ≡ whole (pos 0) → z ≡ pairs_before at n a score 0 0
@@ -63,7 +64,7 @@ module _ (at : ℕ → ℕ) (n : ℕ) (a : ℕ → ℕ → ℚ) (score : ℕ →
       at_pair : (j m : ℕ) → j < n → m < n → IsPairSpill at n a score value range j m s → IsPairSpill at n a other value range j m s
       at_pair j m lj lm h =
           let by : ℚ → ℚ → ℚ → ℚ → Type 0 = λ x y before product.
-              IsAmong value range (site_of TestStatistic 0 0 0) (3 * (j * n + m) + 1) (operations x y before product) s
+          IsAmong value range (site_of TestStatistic 0 0 0) (3 * (j * n + m) + 1) (operations x y before product) s
           in
           subst (λ product. by (other j) (other m) (pairs_before at n a other j m) product) (same_pair j m lj lm)
           (subst (λ before. by (other j) (other m) before (pair at n a score j m)) (ap₂ (λ x y. x +ℚ y) (same_rows j (omega (arith, lj))) (same_row j m lj (omega (arith, lm))))

@@ -1,5 +1,5 @@
 //! Problems without some of their columns.
-ghost use Rattle.std.specs.Prelude.{◌≡◌, ◌<◌, ◌^◌, length, map, IfOk};
+ghost use Rattle.std.specs.Prelude.{◌≡◌, ◌<◌, ◌^◌, All, length, map, IfOk};
 ghost use Rattle.loss_model.specs.Problem.{IsWellShaped};
 ghost use Rattle.nested_test.specs.Restricted.{restricted_problem, restricted_row as restricted_row_of, without, AreTested};
 
@@ -20,7 +20,7 @@ pub fn restricted<F: Exact>(
     ensures restricted { IfOk result (λ q. q ≡ restricted_problem tested.now full.now) }
     ensures shaped { IfOk result IsWellShaped }
 {
-    let rows = restricted_rows(alloc, full, tested)?;
+    let rows = restricted_rows(alloc, full.rows.as_slice(), tested)?;
     Ok(Problem {
         columns: full.columns - tested.len() as u32,
         rows,
@@ -30,14 +30,14 @@ pub fn restricted<F: Exact>(
 // All rows without them.
 fn restricted_rows<F: Exact>(
     alloc: Global,
-    full: &Problem<F>,
+    rows: &[Row<F>],
     tested: &[u32],
 ) -> Result<List<Row<F>>, OutOfMemory>
-    requires { IsWellShaped full.now }
-    ensures { IfOk result (λ made. made ≡ map (restricted_row_of tested.now) full.now.rows) }
+    requires { All (λ r. length r.x < 2 ^ 32) rows.now }
+    ensures { IfOk result (λ made. made ≡ map (restricted_row_of tested.now) rows.now) }
 {
     let mut made = List::new(alloc);
-    for row in full.rows.as_slice() {
+    for row in rows {
         made.add(restricted_row(alloc, row, tested)?)?;
     }
     Ok(made)
