@@ -1,13 +1,16 @@
 -- Rows of a path problem, one more at a time, and what they are.
-use Rattle.std.specs.Prelude.{◌≡◌, ℕ, zero, suc, ◌+◌, ◌-◌, ◌<◌, ◌≤◌, List, [], ◌∷◌, ◌++◌, All, Some, length, map, get_or, replicate, slice_get, take, pos}
+use Rattle.std.specs.Prelude.{◌≡◌, ◌≢◌, ◌⊎◌, ℕ, zero, suc, ◌+◌, ◌-◌, ◌<◌, ◌≤◌, ◌==◌, Bool, true, false, List, [], ◌∷◌, ◌++◌, All, Some, length, map, get_or, replicate, slice_get, take, pos}
 use Rattle.std.specs.List.{range_with_len}
 use Rattle.std.specs.Option.{option_map_or}
 use Rattle.std.proofs.Common.{arith, inl, inr, refl, sym, ap, ap₂, subst, ◌∙◌, append_assoc}
-use Rattle.std.proofs.lemmas.List.{get_or-map, get_or_append_left, get_or-append_right, length-append, length-map, length-replicate, map-append, take_more}
+use Rattle.std.proofs.lemmas.Bool.{cases_lt}
+use Rattle.std.proofs.lemmas.List.{get_or_default, get_or-map, get_or_append_left, get_or-append_right, length-append, length-map, length-replicate, map-append, take_more}
 use Rattle.std.proofs.lemmas.List.FromFn.{get_or-map-range_with_len, length-map-range_with_len}
 use Rattle.std.proofs.lemmas.Option.{slice_get-map, slice_get_cases}
+use borrow.Author.Tests.{eqb-true, eqb-false}
 use Rattle.exact_algebra.specs.Rational.{ℚ, ◌-ℚ◌, ◌*ℚ◌, whole}
 use Rattle.exact_matrices.specs.Terms.{delta}
+use Rattle.exact_matrices.proofs.TermLaws.{if-same, if-other}
 use Rattle.frac_core.specs.Limits.{most_rows}
 use Rattle.frac_core.specs.declared.frac128.Frac128.{Frac128}
 use Rattle.data_frame.specs.Views.{exact}
@@ -32,10 +35,10 @@ map_twice f g [] = refl
 map_twice f g (x ∷ xs) = ap (λ z. f (g x) ∷ z) (map_twice f g xs)
 
 -- both kinds of rows
-pub all_rows : {X : Type 0} (p : Problem Frac128) (first : ℕ) (tau one : ℚ) (see : X → PenaltyOf) (penalties : List X) (olds news : List (Row Frac128)) → one ≡ whole (pos 1) → map see penalties ≡ unit_rows p.columns first one → map exact_row olds ≡ map (data_row tau) p.rows
+pub all_rows : {X : Type 0} (p : Problem Frac128) (first : ℕ) (tau : ℚ) (see : X → PenaltyOf) (penalties : List X) (olds news : List (Row Frac128)) → map see penalties ≡ unit_rows p.columns first (whole (pos 1)) → map exact_row olds ≡ map (data_row tau) p.rows
     → map exact_row news ≡ map exact_row olds ++ map (λ r. penalty_row (see r)) penalties → map exact_row news ≡ rows_of p first tau
-all_rows p first tau one see penalties olds news is_one units data all =
-    all ∙ ap₂ (λ xs ys. xs ++ ys) data (map_twice penalty_row see penalties ∙ ap (map penalty_row) (units ∙ ap (unit_rows p.columns first) is_one))
+all_rows p first tau see penalties olds news units front all =
+    all ∙ ap₂ (λ xs ys. xs ++ ys) front (map_twice penalty_row see penalties ∙ ap (map penalty_row) units)
 
 -- ---- entries
 
@@ -55,12 +58,23 @@ zeros_at zero k = refl
 zeros_at (suc n) zero = refl
 zeros_at (suc n) (suc k) = zeros_at n k
 
+delta_next : (n k : ℕ) → delta n k ≡ delta (suc n) (suc k)
+delta_next n k = by (n == k) refl
+  where
+    by : (b : Bool) → (n == k) ≡ b → delta n k ≡ delta (suc n) (suc k)
+    by true e =
+        let same : n ≡ k = eqb-true n k e in
+        if-same n k (whole (pos 1)) (whole (pos 0)) same ∙ sym (if-same (suc n) (suc k) (whole (pos 1)) (whole (pos 0)) (ap suc same))
+    by false e =
+        let other : n ≢ k = eqb-false n k e in
+        if-other n k (whole (pos 1)) (whole (pos 0)) other ∙ sym (if-other (suc n) (suc k) (whole (pos 1)) (whole (pos 0)) (λ e. other (cc e)))
+
 unit_at : (n m k : ℕ) → number_at (replicate n (whole (pos 0)) ++ whole (pos 1) ∷ replicate m (whole (pos 0))) k ≡ delta n k
 unfolding number_at
-unit_at zero m zero = refl
-unit_at zero m (suc k) = zeros_at m k
-unit_at (suc n) m zero = refl
-unit_at (suc n) m (suc k) = unit_at n m k
+unit_at zero m zero = sym (if-same 0 0 (whole (pos 1)) (whole (pos 0)) refl)
+unit_at zero m (suc k) = zeros_at m k ∙ sym (if-other 0 (suc k) (whole (pos 1)) (whole (pos 0)) (λ e. omega (arith, e)))
+unit_at (suc n) m zero = sym (if-other (suc n) 0 (whole (pos 1)) (whole (pos 0)) (λ e. omega (arith, e)))
+unit_at (suc n) m (suc k) = unit_at n m k ∙ delta_next n k
 
 length-placed : (columns k : ℕ) → k < columns → length (placed columns k (whole (pos 1) ∷ [])) ≡ columns
 length-placed columns k l =

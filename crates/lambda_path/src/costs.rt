@@ -16,14 +16,18 @@ pub(crate) struct Costs {
 }
 
 /// The costs of the row of this number and weight, or the first operation that overflows.
-pub(crate) fn costs(number: u32, weight: Frac128, tau: Frac128) -> Result<Costs, Spill<Frac128>>
+pub(crate) fn row_costs(number: u32, weight: Frac128, tau: Frac128) -> Result<Costs, Spill<Frac128>>
     ensures up { IfOk result (λ c. exact c.up ≡ exact weight *ℚ exact tau) }
     ensures down { IfOk result (λ c. exact c.down ≡ exact weight *ℚ (whole (pos 1) -ℚ exact tau)) }
     ensures fits { OnOk result (NoneOverflows (cost_operations number (exact weight) (exact tau))) }
     ensures spill { IfErr result (OverflowsFirst (cost_operations number (exact weight) (exact tau))) }
 {
     let up = times_at(Site::new(Quantity::PathCost, number, 0, 1), weight, tau)?;
-    let left = minus_at(Site::new(Quantity::PathCost, number, 1, 1), Frac128::one(), tau)?;
+    let left = minus_at(
+        Site::new(Quantity::PathCost, number, 1, 1),
+        Frac128::one(),
+        tau,
+    )?;
     let down = times_at(Site::new(Quantity::PathCost, number, 1, 2), weight, left)?;
     Ok(Costs { up, down })
 }

@@ -11,7 +11,7 @@ ghost use Rattle.lambda_path.specs.Paths.{IsPathOf};
 ghost use Rattle.lambda_path.specs.Rows.{data_row as data_row_of, exact_row, penalty_row as penalty_row_of};
 ghost use Rattle.lambda_path.specs.Steps.{IsCostFault};
 
-use crate::costs::costs;
+use crate::costs::row_costs;
 use crate::fault::PathFault;
 use frac_core::{Exact, Frac128, List, MOST_ROWS, OutOfMemory};
 use loss_model::{Problem, Row};
@@ -55,11 +55,7 @@ pub fn path_problem(
 }
 
 // A penalty for each column from the first on.
-fn unit_penalties(
-    alloc: Global,
-    columns: u32,
-    first: u32,
-) -> Result<List<PenaltyRow>, OutOfMemory>
+fn unit_penalties(alloc: Global, columns: u32, first: u32) -> Result<List<PenaltyRow>, OutOfMemory>
     requires { first ≤ columns }
     ensures { IfOk result (λ rows. map exact_penalty rows ≡ unit_rows columns first (whole (pos 1))) }
 {
@@ -98,7 +94,7 @@ fn data_row(
     ensures fits { OnOk result (NoneOverflows (cost_operations number (exact row.now.up1) (exact tau))) }
     ensures fault { IfErr result (IsCostFault (cost_operations number (exact row.now.up1) (exact tau))) }
 {
-    let costs = costs(number, row.up1, tau)?;
+    let costs = row_costs(number, row.up1, tau)?;
     let x = List::copy(alloc, row.x.as_slice())?;
     Ok(Row {
         x,
