@@ -2,7 +2,6 @@
 use Rattle.std.specs.Prelude.{ℕ, ◌+◌, ◌-◌, ◌<◌, ◌≤◌, List, [], ◌∷◌, ◌++◌, length, pos, ⊤}
 use Rattle.exact_algebra.specs.Rational.{ℚ, ◌-ℚ◌, whole}
 use Rattle.frac_core.specs.declared.frac128.Frac128.{Frac128}
-use Rattle.frac_core.specs.declared.exact.OpKind.TheVariants.{Mul}
 use Rattle.frac_core.specs.Limits.{most_rows}
 use Rattle.data_frame.specs.Views.{exact}
 use Rattle.loss_model.specs.declared.problem.Problem.{Problem}

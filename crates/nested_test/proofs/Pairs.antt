@@ -1,5 +1,5 @@
 -- Pairs of tested columns, one more at a time.
-use Rattle.std.specs.Prelude.{◌≡◌, ℕ, zero, suc, ◌+◌, ◌*◌, ◌^◌, ◌<◌, ◌≤◌, List, [], ◌∷◌, All, length, get_or, slice_index, pos}
+use Rattle.std.specs.Prelude.{◌≡◌, ℕ, ◌+◌, ◌*◌, ◌<◌, ◌≤◌, List, [], ◌∷◌, length, get_or, pos}
 use Rattle.std.proofs.Common.{arith, refl, sym, ap, ap₂, subst, ◌∙◌, inl, inr, add-one}
 use Rattle.exact_algebra.specs.Fraction.{Fraction, rational}
 use Rattle.exact_algebra.specs.Solver.{number, ◌⊞◌, v0, v1, v2}
@@ -10,9 +10,9 @@ use Rattle.exact_algebra.proofs.RationalSumLaws.{sum_ℚ-same}
 use Rattle.loss_model.specs.declared.spill.Spill.{Spill}
 use Rattle.loss_model.specs.declared.spill.Quantity.TheVariants.{TestStatistic}
 use Rattle.loss_model.specs.Problem.{value_at}
-use Rattle.loss_model.specs.Spill.{AtSome, IsAmong, IsOperation, Operation, addition, multiplication, site_of}
+use Rattle.loss_model.specs.Spill.{IsAmong, IsOperation, Operation, addition, multiplication, site_of}
 use Rattle.loss_model.proofs.Products.{value_at-item}
-use Rattle.nested_test.specs.Operations.{pair, pairs_before, pairs, pair_operations, IsPairSpill, IsStatisticSpill}
+use Rattle.nested_test.specs.Operations.{pair, pairs_before, pairs, IsPairSpill, IsStatisticSpill}
 
 module _ {F : Type 0} (value : F → Fraction) (at : ℕ → ℕ) (n : ℕ) (a : ℕ → ℕ → ℚ) (scores : List F) where
   score_at : (j : ℕ) (x : F) → j < length scores → x ≡ get_or scores j x → rational (value (get_or scores j x)) ≡ value_at value scores j

@@ -11,7 +11,7 @@ use Rattle.loss_model.specs.declared.spill.Site.{Site}
 use Rattle.loss_model.specs.declared.spill.Spill.{Spill}
 use Rattle.loss_model.specs.Problem.{value_at, sample}
 use Rattle.loss_model.specs.Sign.{products_of}
-use Rattle.loss_model.specs.Spill.{IsSpillOf, Products, site_of, total}
+use Rattle.loss_model.specs.Spill.{IsSpillOf, site_of, total}
 use Rattle.gram_matrix.specs.Grams.{scaled}
 use Rattle.gram_matrix.proofs.Rows.{list_is}
 use Rattle.nested_test.specs.Nested.{column_score}

@@ -1,5 +1,5 @@
 -- Law. What the laws of nested models say; each is the contract of a function.
-use Rattle.std.specs.Prelude.{◌≡◌, ℕ, ◌<◌, List, length, pos}
+use Rattle.std.specs.Prelude.{◌≡◌, ℕ, List, pos}
 use Rattle.exact_algebra.specs.Fraction.{Fraction}
 use Rattle.exact_algebra.specs.Rational.{ℚ, ◌*ℚ◌, whole, ◌≤ℚ◌}
 use Rattle.exact_algebra.specs.RationalSums.{sum_ℚ}

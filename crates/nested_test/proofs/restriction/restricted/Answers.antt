@@ -1,4 +1,4 @@
-use Rattle.std.proofs.Common.{◌≡◌, ◌-◌, length, map, ap, ◌∙◌}
+use Rattle.std.proofs.Common.{◌-◌, length, map, ap, ◌∙◌}
 use Rattle.nested_test.specs.Restricted.{restricted_row}
 use Rattle.nested_test.proofs.Restrictions.{restricted_shaped, short_rows}
 use Rattle.nested_test.proofs.restriction.restricted.Goals as goal

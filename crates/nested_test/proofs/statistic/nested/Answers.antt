@@ -1,6 +1,5 @@
-use Rattle.std.proofs.Common.{◌≡◌, ◌<◌, ◌≤◌, All, length, slice_index, pos, arith, sym, ap, subst, inr, ◌∙◌}
+use Rattle.std.proofs.Common.{◌<◌, All, length, slice_index, pos, arith, sym, ap, subst, inr, ◌∙◌}
 use Rattle.std.proofs.lemmas.Result.{err_from_is_err_and}
-use Rattle.exact_algebra.specs.Fraction.{rational}
 use Rattle.exact_algebra.specs.Rational.{◌*ℚ◌, whole}
 use Rattle.loss_model.specs.Problem.{value_at, sample}
 use Rattle.basis_inverse.specs.Square.{inverse_entry}

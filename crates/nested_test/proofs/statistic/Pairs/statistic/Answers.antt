@@ -1,6 +1,5 @@
 use Rattle.std.proofs.Common.{◌≡◌, length, slice_index, arith, ap, ap₂, inr, ◌∙◌}
 use Rattle.std.proofs.lemmas.Result.{IfOk-weaker}
-use Rattle.exact_algebra.specs.Fraction.{rational}
 use Rattle.exact_algebra.specs.Rational.{◌*ℚ◌}
 use Rattle.frac_core.specs.declared.exact.OpKind.TheVariants.{Mul}
 use Rattle.loss_model.specs.declared.spill.Site.{Site}
