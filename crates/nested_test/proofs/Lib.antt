@@ -2,3 +2,4 @@ mod Statistics
 mod Pairs
 mod Scored
 mod Restrictions
+mod FullRank

@@ -132,6 +132,12 @@ module _ {F : Type 0} where
           above : Rises (k + 1) (k + 1 + length xs) (t ∷ ts)
           above = let other : t ≢ k = eqb-false t k e in (omega (arith, other, h.0), subst (λ m. Rises (t + 1) m ts) ends h.1)
 
+  -- as many as are not tested
+  pub size_without : (tested : List ℕ) (n : ℕ) (xs : List F) → AreTested n tested → length xs ≡ n → length (without tested 0 xs) ≡ n - length tested
+  size_without tested n xs h e =
+      let all : Rises 0 (0 + length xs) tested = subst (λ m. Rises 0 m tested) (let s : n ≡ 0 + length xs = omega (arith, e) in s) (all_rise tested n h) in
+      omega (arith, size tested 0 xs all, e)
+
   -- entries of a well-shaped problem can be numbered
   pub short_rows : (p : Problem F) (rows : List (Row F)) → IsWellShaped p → rows ≡ p.rows → All (λ r. length r.x < 2 ^ 32) rows
   short_rows p rows shaped same = subst (All (λ r. length r.x < 2 ^ 32)) (sym same) (λ k d l. let wide : length (get_or p.rows k d).x ≡ p.columns = shaped.entries k d l in omega (arith, wide, shaped.columns))
@@ -140,15 +146,10 @@ module _ {F : Type 0} where
   pub restricted_shaped : (tested : List ℕ) (p q : Problem F) → IsWellShaped p → AreTested p.columns tested → length tested < p.columns → q ≡ restricted_problem tested p → IsWellShaped q
   restricted_shaped tested p q shaped h left is = subst (λ q. IsWellShaped q) (sym is) here
     where
-      wide : (r : Row F) → length r.x ≡ p.columns → length (without tested 0 r.x) ≡ p.columns - length tested
-      wide r e =
-          let all : Rises 0 (0 + length r.x) tested = subst (λ n. Rises 0 n tested) (let s : p.columns ≡ 0 + length r.x = omega (arith, e) in s) (all_rise tested p.columns h) in
-          omega (arith, size tested 0 r.x all, e)
-
       here : IsWellShaped (restricted_problem tested p)
       here = record {
         some = omega (arith, left);
         columns = omega (arith, shaped.columns);
         rows = subst (λ n. n ≤ most_rows) (sym (length-map p.rows (restricted_row tested))) shaped.rows;
-        entries = All-map (λ r. length r.x ≡ p.columns - length tested) (restricted_row tested) p.rows (λ k d l. wide (get_or p.rows k d) (shaped.entries k d l));
+        entries = All-map (λ r. length r.x ≡ p.columns - length tested) (restricted_row tested) p.rows (λ k d l. size_without tested p.columns (get_or p.rows k d).x h (shaped.entries k d l));
       }

@@ -6,10 +6,11 @@ use Rattle.exact_algebra.specs.RationalSums.{sum_ℚ}
 use Rattle.exact_matrices.specs.Selections.{AreDistinct}
 use Rattle.loss_model.specs.declared.problem.Problem.{Problem}
 use Rattle.loss_model.specs.Dual.{IsDataRow}
-use Rattle.loss_model.specs.Problem.{sample}
+use Rattle.loss_model.specs.FullRank.{HasFullRank}
+use Rattle.loss_model.specs.Problem.{IsWellShaped, sample}
 use Rattle.loss_model.specs.Sample.{Sample}
 use Rattle.nested_test.specs.Nested.{rest, AreNestedFactors, nested_statistic}
-use Rattle.nested_test.specs.Restricted.{restricted_problem}
+use Rattle.nested_test.specs.Restricted.{AreTested, restricted_problem}
 
 -- the statistic is 12 times the square of the rest, so it is not negative
 abbrev pub StatisticIsSquare : Type 0
@@ -22,3 +23,9 @@ StatisticIsSquare =
 abbrev pub RestrictedHasDataRows : {F : Type 0} → (F → Fraction) → Problem F → Type 0
 RestrictedHasDataRows value p =
     (tested : List ℕ) (i : ℕ) → IsDataRow (sample value p) i → IsDataRow (sample value (restricted_problem tested p)) i
+
+-- and independent columns stay independent
+abbrev pub RestrictedHasFullRank : {F : Type 0} → (F → Fraction) → Problem F → Type 0
+RestrictedHasFullRank value p =
+    (tested : List ℕ) → IsWellShaped p → AreTested p.columns tested → HasFullRank (sample value p)
+    → HasFullRank (sample value (restricted_problem tested p))
