@@ -9,7 +9,7 @@ use frac_core::{Exact, Frac128};
 use loss_model::{Quantity, Site, Spill, minus_at, times_at};
 
 /// What a unit of residual costs above the fit and below it.
-#[derive(Clone, Copy, Debug, PartialEq, Eq)]
+#[derive(Clone, Copy)]
 pub(crate) struct Costs {
     pub(crate) up: Frac128,
     pub(crate) down: Frac128,

@@ -5,7 +5,7 @@
 //! the scores of these columns and the statistic, as `specs/Nested.antt` defines them, or it names the operation that
 //! overflowed, as `specs/Operations.antt` has them. The crate stands on `gram_matrix` for the weighted columns and their Gram
 //! matrix, and on `basis_inverse` for the inverse of that.
-//! Its tests stand in the crate `nested_tests`.
+//! Its tests stand in the crate `derived_tests`.
 #![tactic(auto)]
 
 mod inverse;
