@@ -6,11 +6,10 @@ ghost use Rattle.loss_model.specs.Dual.{IsDataRow};
 ghost use Rattle.loss_model.specs.FullRank.{HasFullRank};
 ghost use Rattle.loss_model.specs.Problem.{value_at, sample, IsWellShaped};
 ghost use Rattle.loss_model.specs.Spill.{AtSome, site_of};
-ghost use Rattle.basis_inverse.specs.Square.{inverse_entry};
 ghost use Rattle.nested_test.specs.Nested.{column_score, AreScores, IsNestedStatistic};
-ghost use Rattle.nested_test.specs.Operations.{pairs_before, pairs, IsPairSpill, IsStatisticSpill, IsNestedStop};
+ghost use Rattle.nested_test.specs.Operations.{IsNestedStop};
 ghost use Rattle.nested_test.specs.Restricted.{AreTested};
-ghost use Rattle.nested_test.specs.Scores.{ArePairs};
+ghost use Rattle.nested_test.specs.Scores.{sum_before, sum_of_all, ArePairs, IsSpillOfPair, IsSpillOfPairs};
 
 use crate::inverse::gram_inverse;
 use crate::scores::scores;
@@ -74,10 +73,8 @@ impl<'a, F: Exact> Pairs<'a, F> {
     // 12 times the sum of all pairs.
     fn statistic(&self) -> Result<F, Spill<F>>
         requires { ArePairs self.now }
-        ensures exact { let at = slice_index self.now.tested.now in let score = value_at F.value self.now.scores.now in
-            IfOk result (λ z. rational (F.value z) ≡ whole (pos 12) *ℚ pairs at (length self.now.tested.now) (inverse_entry F.value self.now.inverse.now) score) }
-        ensures spill { let at = slice_index self.now.tested.now in let score = value_at F.value self.now.scores.now in
-            IfErr result (IsStatisticSpill at (length self.now.tested.now) (inverse_entry F.value self.now.inverse.now) score F.value F.range) }
+        ensures exact { IfOk result (λ z. rational (F.value z) ≡ whole (pos 12) *ℚ sum_of_all F.value self.now) }
+        ensures spill { IfErr result (IsSpillOfPairs F.value self.now F.range) }
     {
         let mut sum = F::zero();
         for j in 0..self.tested.len() {
@@ -90,12 +87,9 @@ impl<'a, F: Exact> Pairs<'a, F> {
     fn plus_row(&self, before: F, j: usize) -> Result<F, Spill<F>>
         requires pairs { ArePairs self.now }
         requires within { j < length self.now.tested.now }
-        requires before { let at = slice_index self.now.tested.now in let score = value_at F.value self.now.scores.now in
-            rational (F.value before) ≡ pairs_before at (length self.now.tested.now) (inverse_entry F.value self.now.inverse.now) score j 0 }
-        ensures exact { let at = slice_index self.now.tested.now in let score = value_at F.value self.now.scores.now in
-            IfOk result (λ z. rational (F.value z) ≡ pairs_before at (length self.now.tested.now) (inverse_entry F.value self.now.inverse.now) score j (length self.now.tested.now)) }
-        ensures spill { let at = slice_index self.now.tested.now in let score = value_at F.value self.now.scores.now in
-            IfErr result (λ s. AtSome (length self.now.tested.now) (λ m. IsPairSpill at (length self.now.tested.now) (inverse_entry F.value self.now.inverse.now) score F.value F.range j m s)) }
+        requires before { rational (F.value before) ≡ sum_before F.value self.now j 0 }
+        ensures exact { IfOk result (λ z. rational (F.value z) ≡ sum_before F.value self.now j (length self.now.tested.now)) }
+        ensures spill { IfErr result (λ s. AtSome (length self.now.tested.now) (λ m. IsSpillOfPair F.value self.now F.range j m s)) }
     {
         let mut sum = before;
         for m in 0..self.tested.len() {
@@ -109,12 +103,9 @@ impl<'a, F: Exact> Pairs<'a, F> {
         requires pairs { ArePairs self.now }
         requires first { j < length self.now.tested.now }
         requires second { m < length self.now.tested.now }
-        requires before { let at = slice_index self.now.tested.now in let score = value_at F.value self.now.scores.now in
-            rational (F.value before) ≡ pairs_before at (length self.now.tested.now) (inverse_entry F.value self.now.inverse.now) score j m }
-        ensures exact { let at = slice_index self.now.tested.now in let score = value_at F.value self.now.scores.now in
-            IfOk result (λ z. rational (F.value z) ≡ pairs_before at (length self.now.tested.now) (inverse_entry F.value self.now.inverse.now) score j (m + 1)) }
-        ensures spill { let at = slice_index self.now.tested.now in let score = value_at F.value self.now.scores.now in
-            IfErr result (IsPairSpill at (length self.now.tested.now) (inverse_entry F.value self.now.inverse.now) score F.value F.range j m) }
+        requires before { rational (F.value before) ≡ sum_before F.value self.now j m }
+        ensures exact { IfOk result (λ z. rational (F.value z) ≡ sum_before F.value self.now j (m + 1)) }
+        ensures spill { IfErr result (IsSpillOfPair F.value self.now F.range j m) }
     {
         let operations = 3 * (j * self.tested.len() + m) as u32;
         let entry = self.inverse.entry(self.tested[j], self.tested[m]);

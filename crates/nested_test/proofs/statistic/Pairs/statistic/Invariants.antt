@@ -1,10 +1,7 @@
-use Rattle.std.proofs.Common.{◌≡◌, length, slice_index}
+use Rattle.std.proofs.Common.{◌≡◌}
 use Rattle.exact_algebra.specs.Fraction.{rational}
-use Rattle.loss_model.specs.Problem.{value_at}
-use Rattle.basis_inverse.specs.Square.{inverse_entry}
-use Rattle.nested_test.specs.Operations.{pairs_before}
+use Rattle.nested_test.specs.Scores.{sum_before}
 use Rattle.nested_test.proofs.statistic.Pairs.statistic.Given as goal
 
 abbrev pub invariant-loop-j : goal.invariant-loop-j
-invariant-loop-j g l =
-    rational (g.F.Exact.value l.sum) ≡ pairs_before (slice_index l.self.tested.now) (length l.self.tested.now) (inverse_entry g.F.Exact.value l.self.inverse.now) (value_at g.F.Exact.value l.self.scores.now) l.j 0
+invariant-loop-j g l = rational (g.F.Exact.value l.sum) ≡ sum_before g.F.Exact.value l.self l.j 0
