@@ -1,6 +1,5 @@
 mod Operations
 mod Projections
-mod GramLaws
 mod Breaks
 mod Spills
 mod EndValues

@@ -14,15 +14,9 @@ use Rattle.loss_model.specs.Greedy.{IsGreedyBasis}
 use Rattle.loss_model.specs.Spill.{IsAmong, multiplication, subtraction, site_of}
 use Rattle.loss_model.specs.StartStop.{IsStartSpill, IsDependent}
 use Rattle.rank_law.specs.Gram.{gram, IsGramOf}
-use Rattle.rank_inversion.specs.Grams.{IsGramInverse, IsBeforeGram, IsProjectingSpill}
+pub use Rattle.gram_matrix.specs.Grams.{IsEmptyTrail, IsGramSpillAfter}
+use Rattle.rank_inversion.specs.Grams.{IsGramInverse, IsProjectingSpill}
 use Rattle.rank_inversion.specs.declared.gram.GramInverse.{GramInverse}
-
--- all lists of the trail are empty
-pub record IsEmptyTrail {F : Type 0} (trail : Trail F) : Type 0 where
-  pub start : trail.start ≡ []
-  pub steps : trail.steps ≡ []
-  pub rise : trail.rise ≡ []
-  pub fall : trail.fall ≡ []
 
 module _ {F : Type 0} (value : F → Fraction) (p : Problem F) where
   -- these are the rows of the greedy start of a problem whose rows are those of the Gram matrix
@@ -44,18 +38,12 @@ module _ {F : Type 0} (value : F → Fraction) (p : Problem F) where
     pub fall : trail.fall ≡ []
 
 module _ {F : Type 0} (value : F → Fraction) (range : ℕ) (p : Problem F) where
-  -- with an empty trail an operation before the Gram matrix stands, or one of the start of its rows
-  abbrev pub IsGramSpillAfter : Trail F → Spill F → Type 0
-  IsGramSpillAfter trail s =
-      (IsEmptyTrail trail × IsBeforeGram value range (sample value p) s)
-      ⊎ ((g : Problem F) × IsGramOf (sample value p) (sample value g) × IsStartSpill value range g trail s)
-
   -- why no inverse of the Gram matrix is made: an operation that overflows, there or, where the columns are
   -- dependent, in the start of the problem
   abbrev pub IsGramStop : Stop F → Type 0
   IsGramStop OutOfMemory = Unit {0}
   IsGramStop (PivotLimit limit trail) = ⊥
-  IsGramStop (Overflow trail s) = IsGramSpillAfter trail s ⊎ IsStartSpill value range p trail s
+  IsGramStop (Overflow trail s) = IsGramSpillAfter value range p trail s ⊎ IsStartSpill value range p trail s
   IsGramStop (Dependent combination) = IsDependent value p combination
 
 -- the bound on the squared statistic, by its operations: the critical value times tau, 1 - tau, the

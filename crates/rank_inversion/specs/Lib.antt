@@ -1,5 +1,4 @@
 pub mod Grams
-pub mod GramRows
 pub mod GramStops
 pub mod Stops
 pub mod Tests

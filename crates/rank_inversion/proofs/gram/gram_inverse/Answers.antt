@@ -1,4 +1,4 @@
-use Rattle.rank_inversion.proofs.GramLaws.{inverse_here}
+use Rattle.gram_matrix.proofs.Inverses.{inverse_here}
 use Rattle.rank_inversion.proofs.gram.gram_inverse.Goals as goal
 
 pub returns-in-Ok-greedy_start-clause-inverted : goal.returns-in-Ok-greedy_start-clause-inverted

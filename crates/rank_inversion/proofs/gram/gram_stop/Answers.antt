@@ -1,5 +1,5 @@
 use Rattle.loss_model.specs.Problem.{value_at}
-use Rattle.rank_inversion.proofs.GramLaws.{not_full}
+use Rattle.gram_matrix.proofs.Inverses.{not_full}
 use Rattle.rank_inversion.proofs.gram.gram_stop.Goals as goal
 
 pub own_stop-requires-clause-dependent : goal.own_stop-requires-clause-dependent

@@ -1,0 +1,14 @@
+//! Tests of problems that are derived from a problem: path problems (`lambda_path`), the Gram matrix (`gram_matrix`), and
+//! problems without some of their columns with the statistic of these (`nested_test`).
+//!
+//! All cases are worked by hand.
+#![tactic(auto)]
+
+#[cfg(test)]
+mod grams;
+#[cfg(test)]
+mod helpers;
+#[cfg(test)]
+mod nested;
+#[cfg(test)]
+mod paths;

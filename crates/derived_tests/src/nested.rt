@@ -1,0 +1,254 @@
+//! Problems without some of their columns, and statistics of these columns.
+
+ghost use Rattle.std.specs.Prelude.{◌≡◌, ◌<◌, All, IsTrue, length};
+ghost use Rattle.std.specs.List.Sorted.{IsStrictlyIncreasing};
+ghost use Rattle.nested_test.specs.Restricted.{AreTested};
+
+use crate::helpers::{
+    Data, Ratio, Spilt, are_data, expect, expect_spill, fractions, is_shaped, problem, ratio,
+};
+use basis_inverse::start;
+use frac_core::{Exact, Frac64, Frac128, List, OpKind, OutOfMemory};
+use loss_model::{Problem, Quantity, Site, Spill};
+use nested_test::{NestedStatistic, NestedStop, nested, restricted};
+use std::alloc::Global;
+use std::process::Abort;
+
+/// A table of the specification: a constant, and x of 0, 1 and 3.
+const RISING: &[Data] = &[
+    ([1, 0, 0], 0, (1, 1)),
+    ([1, 1, 0], 2, (1, 1)),
+    ([1, 3, 0], 3, (1, 1)),
+];
+
+/// The other one: x of 1, 0 and 1.
+const LEVEL: &[Data] = &[
+    ([1, 1, 0], 1, (1, 1)),
+    ([1, 0, 0], 2, (1, 1)),
+    ([1, 1, 0], 3, (1, 1)),
+];
+
+/// Weighted columns (1, 2, 3) and (0, 2, 9): the inverse of the Gram matrix is 85, -31; -31, 14 over 229.
+const WEIGHTED: &[Data] = &[
+    ([1, 0, 0], 0, (1, 1)),
+    ([1, 1, 0], 2, (2, 1)),
+    ([1, 3, 0], 3, (3, 1)),
+];
+
+/// Weighted columns that are orthogonal, of the squared lengths 1, 4 and 9.
+const APART: &[Data] = &[
+    ([1, 0, 0], 5, (1, 1)),
+    ([0, 1, 0], 6, (2, 1)),
+    ([0, 0, 1], 7, (3, 1)),
+];
+
+/// The columns, the rows, the tested columns, the scores of the rows; and the scores of the columns, and the statistic.
+struct Case {
+    columns: u32,
+    rows: &'static [Data],
+    tested: &'static [u32],
+    wilcoxon: &'static [Ratio],
+    scores: &'static [Ratio],
+    statistic: Ratio,
+}
+
+static CASES: [Case; 4] = [
+    Case {
+        columns: 2,
+        rows: RISING,
+        tested: &[1],
+        wilcoxon: &[(-1, 3), (0, 1), (1, 3)],
+        scores: &[(1, 1)],
+        statistic: (18, 7),
+    },
+    Case {
+        columns: 2,
+        rows: LEVEL,
+        tested: &[1],
+        wilcoxon: &[(-1, 3), (0, 1), (1, 3)],
+        scores: &[(0, 1)],
+        statistic: (0, 1),
+    },
+    Case {
+        columns: 2,
+        rows: WEIGHTED,
+        tested: &[0, 1],
+        wilcoxon: &[(1, 1), (0, 1), (-1, 1)],
+        scores: &[(-2, 1), (-9, 1)],
+        statistic: (4296, 229),
+    },
+    Case {
+        columns: 3,
+        rows: APART,
+        tested: &[0, 2],
+        wilcoxon: &[(1, 2), (1, 3), (-1, 6)],
+        scores: &[(1, 2), (-1, 2)],
+        statistic: (10, 3),
+    },
+];
+
+/// Whether columns ascend.
+fn is_ascending(tested: &[u32]) -> bool
+    ensures { IsTrue result → IsStrictlyIncreasing tested.now }
+{
+    for place in 1..tested.len() {
+        if tested[place - 1] >= tested[place] {
+            return false;
+        }
+    }
+    true
+}
+
+/// Whether they are columns of a problem.
+fn are_columns(tested: &[u32], columns: u32) -> bool
+    ensures { IsTrue result → All (λ k. k < columns) tested.now }
+{
+    tested.iter().all(|column| *column < columns)
+}
+
+fn are_tested(tested: &[u32], columns: u32) -> bool
+    ensures { IsTrue result → AreTested columns tested.now }
+{
+    is_ascending(tested) && are_columns(tested, columns)
+}
+
+/// What `nested` answers where its conditions are met. The start of the whole problem shows that its columns are
+/// independent.
+fn ask<F: Exact>(
+    rt: &impl Abort,
+    alloc: Global,
+    full: &Problem<F>,
+    tested: &[u32],
+    wilcoxon: &[F],
+) -> Result<NestedStatistic<F>, NestedStop<F>> {
+    assert!(rt; is_shaped(full));
+    assert!(rt; are_data(full));
+    assert!(rt; are_tested(tested, full.columns));
+    assert!(rt; wilcoxon.len() == full.rows.as_slice().len());
+    match start(alloc, full) {
+        Ok(_) => nested(alloc, full, tested, wilcoxon),
+        Err(_) => panic!(rt; "the columns are independent"),
+    }
+}
+
+fn expect_statistic<F: Exact>(rt: &impl Abort, alloc: Global, case: &Case) {
+    let full = problem::<F>(rt, alloc, case.columns, case.rows);
+    let wilcoxon = fractions::<F>(rt, alloc, case.wilcoxon);
+    match ask(rt, alloc, &full, case.tested, wilcoxon.as_slice()) {
+        Ok(found) => {
+            expect(rt, found.scores.as_slice(), case.scores);
+            assert!(rt; ratio(found.statistic) == case.statistic);
+        }
+        Err(_) => panic!(rt; "the numbers are small"),
+    }
+}
+
+#[test]
+fn statistics(rt: HostRuntime) {
+    for case in &CASES {
+        expect_statistic::<Frac128>(&rt, rt.alloc(), case);
+        expect_statistic::<Frac64>(&rt, rt.alloc(), case);
+    }
+}
+
+/// Numbers that are too wide: where the scores of the rows are so.
+struct Wide {
+    wilcoxon: &'static [Ratio],
+    want: Spilt,
+}
+
+const M: i128 = Frac128::RANGE;
+
+static WIDE: [Wide; 2] = [
+    Wide {
+        wilcoxon: &[(0, 1), (M, 1), (1, 1)],
+        want: Spilt {
+            site: Site {
+                quantity: Quantity::TestScore,
+                first: 1,
+                second: 0,
+                third: 0,
+                term: 3,
+                kind: OpKind::Add,
+            },
+            left: (M, 1),
+            right: (3, 1),
+        },
+    },
+    Wide {
+        wilcoxon: &[(0, 1), (1 << 70, 1), (0, 1)],
+        want: Spilt {
+            site: Site {
+                quantity: Quantity::TestStatistic,
+                first: 0,
+                second: 0,
+                third: 0,
+                term: 2,
+                kind: OpKind::Mul,
+            },
+            left: (3 << 69, 7),
+            right: (1 << 70, 1),
+        },
+    },
+];
+
+fn expect_wide(rt: &impl Abort, alloc: Global, case: &Wide) {
+    let full = problem::<Frac128>(rt, alloc, 2, RISING);
+    let wilcoxon = fractions::<Frac128>(rt, alloc, case.wilcoxon);
+    match ask(rt, alloc, &full, &[1], wilcoxon.as_slice()) {
+        Err(NestedStop::Statistic(spill)) => expect_spill(rt, spill, &case.want),
+        _ => panic!(rt; "the numbers are wide"),
+    }
+}
+
+#[test]
+fn statistics_that_are_too_wide(rt: HostRuntime) {
+    for case in &WIDE {
+        expect_wide(&rt, rt.alloc(), case);
+    }
+}
+
+/// The tested columns, and the entries that the first row of three columns keeps.
+type Kept = (&'static [u32], &'static [Ratio]);
+
+static KEPT: [Kept; 4] = [
+    (&[], &[(4, 1), (5, 1), (6, 1)]),
+    (&[0], &[(5, 1), (6, 1)]),
+    (&[1], &[(4, 1), (6, 1)]),
+    (&[0, 2], &[(5, 1)]),
+];
+
+static THREE: [Data; 1] = [([4, 5, 6], 7, (8, 1))];
+
+fn without<F: Exact>(
+    rt: &impl Abort,
+    alloc: Global,
+    full: &Problem<F>,
+    tested: &[u32],
+) -> Result<Problem<F>, OutOfMemory> {
+    assert!(rt; is_shaped(full));
+    assert!(rt; are_tested(tested, full.columns));
+    assert!(rt; tested.len() < full.columns as usize);
+    restricted(alloc, full, tested)
+}
+
+fn expect_kept(rt: &impl Abort, alloc: Global, (tested, kept): Kept) {
+    let full = problem::<Frac128>(rt, alloc, 3, THREE.as_slice());
+    match without(rt, alloc, &full, tested) {
+        Ok(found) => {
+            assert!(rt; found.columns as usize == kept.len());
+            for row in found.rows.as_slice() {
+                expect(rt, row.x.as_slice(), kept);
+                assert!(rt; ratio(row.y) == (7, 1) && ratio(row.up1) == (8, 1));
+            }
+        }
+        Err(_) => panic!(rt; "no memory"),
+    }
+}
+
+#[test]
+fn problems_without_columns(rt: HostRuntime) {
+    for kept in &KEPT {
+        expect_kept(&rt, rt.alloc(), *kept);
+    }
+}

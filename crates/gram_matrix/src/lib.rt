@@ -1,0 +1,14 @@
+//! The Gram matrix of the weighted columns of a problem: the normal equations of weighted least squares.
+//!
+//! The one contract: `gram_problem` gives a problem whose rows are those of the matrix, so that a greedy start of it
+//! inverts the matrix, and `scaled_column` one column of weighted entries; or either names the operation that overflowed,
+//! as `specs/Grams.antt` has them. The crate stands on `loss_model` for problems, on `rank_law` for what the matrix is, and
+//! on `basis_inverse` for the entries of lists of lists.
+//! Its tests stand in the crate `derived_tests`.
+#![tactic(auto)]
+
+mod columns;
+mod matrix;
+
+pub use columns::scaled_column;
+pub use matrix::gram_problem;

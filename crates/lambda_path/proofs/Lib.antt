@@ -1,0 +1,3 @@
+mod Paths
+mod Overflowing
+mod Rows

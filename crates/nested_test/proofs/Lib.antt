@@ -1,0 +1,5 @@
+mod Statistics
+mod Pairs
+mod Scored
+mod Restrictions
+mod FullRank

@@ -1,9 +1,0 @@
-use Rattle.std.specs.Prelude.{◌≡◌, length}
-use Rattle.rank_inversion.specs.GramRows.{AreGramRows}
-use Rattle.rank_inversion.proofs.gram.gram_rows.Given as goal
-
-abbrev pub invariant-loop : goal.invariant-loop
-invariant-loop g l = record {
-  rows : AreGramRows g.F.Exact.value l.problem l.rows;
-  size : length l.rows ≡ l.counter;
-}
