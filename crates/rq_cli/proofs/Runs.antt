@@ -9,7 +9,7 @@ use Rattle.rq_engine.specs.Answers as engine
 use Rattle.rq_engine.specs.Jobs.{IsJobOf}
 use Rattle.report_text.specs.ReportText.{report_text}
 use Rattle.report_text.specs.declared.report.Report.{Report}
-use Rattle.report_text.specs.declared.report.Refusal.TheVariants.{TooLong, Table, Formula, RankWithPenalty, Design, Penalty, Program, Dependent, CertTooLong, Certificate}
+use Rattle.report_text.specs.declared.report.Refusal.TheVariants.{TooLong, Table, Formula, RankWithPenalty, Design, Penalty, Program, Dependent, CertTooLong, Certificate, SmoothNotTaken, NothingToPredict, TooManyPredictions}
 use Rattle.report_text.specs.declared.report.Halt.{Halt}
 use Rattle.report_text.specs.declared.report.Halt.TheVariants as halts
 use Rattle.rq_cli.specs.Outcomes.{Stream, OnDone, OnFault, outcome_line, AskSource, Reads, WereRead, HasCause, IsAnswered, IsErrorFault, IsFault, WasTried, IsRun}
