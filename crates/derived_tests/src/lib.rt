@@ -1,5 +1,6 @@
 //! Tests of problems that are derived from a problem: path problems (`lambda_path`), the Gram matrix (`gram_matrix`), and
-//! problems without some of their columns with the statistic of these (`nested_test`).
+//! problems without some of their columns with the statistic of these (`nested_test`); and the process of a path problem
+//! (`tau_process`).
 //!
 //! All cases are worked by hand.
 #![tactic(auto)]
@@ -12,3 +13,5 @@ mod helpers;
 mod nested;
 #[cfg(test)]
 mod paths;
+#[cfg(test)]
+mod walks;
