@@ -969,12 +969,12 @@ fn predictions_of_a_table(rt: HostRuntime) -> Result<(), Fail> {
 }
 
 /// What overflows: the quantity, its indices, the term and the operation, and its operands.
-type Refused = (Quantity, [u32; 2], u32, OpKind, [Ratio; 2]);
+type Refused = (Quantity, [u32; 2], u32, OpKind, (Ratio, Ratio));
 
 fn is_refused(
     rt: &impl Abort,
     found: Result<List<Step<Frac128>>, Short<Frac128>>,
-    (quantity, [first, second], term, kind, [left, right]): Refused,
+    (quantity, [first, second], term, kind, (left, right)): Refused,
 ) -> bool {
     let site = Site {
         quantity,
@@ -1011,7 +1011,7 @@ static WIDE: [(Case, Refused); 3] = [
             [3, 1],
             2,
             OpKind::Mul,
-            [(2, 1), (M, 1)],
+            ((2, 1), (M, 1)),
         ),
     ),
     (
@@ -1028,7 +1028,7 @@ static WIDE: [(Case, Refused); 3] = [
             [3, 1],
             2,
             OpKind::Add,
-            [(M, 1), (5, 1)],
+            ((M, 1), (5, 1)),
         ),
     ),
     (
@@ -1045,7 +1045,7 @@ static WIDE: [(Case, Refused); 3] = [
             [3, 0],
             4,
             OpKind::Add,
-            [(M - 2, 2), (7, 1)],
+            ((M - 2, 2), (7, 1)),
         ),
     ),
 ];
@@ -1070,7 +1070,7 @@ static FAR: [(Ratio, &[(Ratio, Ratio)], Refused); 2] = [
             [1, 0],
             1,
             OpKind::Sub,
-            [(1, P), (1, Q)],
+            ((1, P), (1, Q)),
         ),
     ),
     (
@@ -1081,7 +1081,7 @@ static FAR: [(Ratio, &[(Ratio, Ratio)], Refused); 2] = [
             [3, 1],
             1,
             OpKind::Add,
-            [(1, Q), (1, P)],
+            ((1, Q), (1, P)),
         ),
     ),
 ];

@@ -45,12 +45,12 @@ fn numbers_in_64_bits_and_back(rt: HostRuntime) {
 type Numbers = [Ratio; 6];
 
 // Rows, and whether they have 64 bits.
-static ROWS: [(Numbers, bool); 5] = [
-    ([(1, L), (2, 1), (0, 1), (1, 1), (-1, L), (-L, 1)], true),
-    ([(L + 1, 1), (2, 1), (0, 1), (1, 1), (1, 1), (-1, 1)], false),
-    ([(1, 1), (1, L + 1), (0, 1), (1, 1), (1, 1), (-1, 1)], false),
-    ([(1, 1), (2, 1), (L + 1, 1), (1, 1), (1, 1), (-1, 1)], false),
-    ([(1, 1), (2, 1), (0, 1), (1, 1), (1, 1), (-L - 1, 1)], false),
+static ROWS: [(&Numbers, bool); 5] = [
+    (&[(1, L), (2, 1), (0, 1), (1, 1), (-1, L), (-L, 1)], true),
+    (&[(L + 1, 1), (2, 1), (0, 1), (1, 1), (1, 1), (-1, 1)], false),
+    (&[(1, 1), (1, L + 1), (0, 1), (1, 1), (1, 1), (-1, 1)], false),
+    (&[(1, 1), (2, 1), (L + 1, 1), (1, 1), (1, 1), (-1, 1)], false),
+    (&[(1, 1), (2, 1), (0, 1), (1, 1), (1, 1), (-L - 1, 1)], false),
 ];
 
 fn row(rt: &impl Abort, alloc: Global, numbers: &Numbers) -> Result<Row<Frac128>, AllocError> {
