@@ -50,9 +50,12 @@ module _ (same : SameContent) (bytes : List ℕ) (cert : Cert) (back : IsCertOf 
   undecided (Refused (refusals.Table fault)) h = absurd h
   undecided (Refused (refusals.Formula fault)) h = absurd h
   undecided (Refused refusals.RankWithPenalty) h = absurd h
+  undecided (Refused refusals.SmoothNotTaken) h = absurd h
   undecided (Refused (refusals.Design fault)) h = absurd h
   undecided (Refused (refusals.Penalty fault)) h = absurd h
   undecided (Refused (refusals.Program fault)) h = absurd h
+  undecided (Refused refusals.NothingToPredict) h = absurd h
+  undecided (Refused (refusals.TooManyPredictions found)) h = absurd h
   undecided OutOfMemory h = tt
   undecided (PivotLimit place limit trail) h = absurd h
   undecided (Overflow place trail spill) h = tt

@@ -132,8 +132,8 @@ module _ (words : List (List ℕ)) (job : FitJob) (asked : IsJobOf words (jobs.C
           ordered = ask.ordered;
           costs_lo = costs_of input certified.fit.problem (rational (value job.lo)) same (low_costs job ask input certified.rows);
           costs_hi = costs_of input certified.fit.problem (rational (value job.hi)) same (high_costs job ask input certified.rows);
-          covers = right.covers;
-          each = λ k d l. sound_segment certified.fit.problem _ (right.segments k d l);
+          covers = right.process.covers;
+          each = λ k d l. sound_segment certified.fit.problem _ (right.process.segments k d l);
         }
 
     is_sound : IsSound cert

@@ -61,6 +61,9 @@ module _ (one : OneFormula) (none : NoFormulaHasFaults) (job : FitJob) (ranked :
             let same = one_design table model job.coding job.weights k.design input.design k.designed is.designed in
             no_program_fault table model input.design k.smoothing input.smoothing (subst (λ (d : Design). IsSmoothed table model d k.smoothing) same k.smoothed) is.smoothed input.problem is.problem shaped fault k.named
             (subst (λ (d : Design). HasProgramCause d k.smoothing fault) same k.cause)
+    sound refusals.SmoothNotTaken h = h.cause
+    sound refusals.NothingToPredict h = h.cause
+    sound (refusals.TooManyPredictions found) h = h.cause
     sound (refusals.Dependent combination) h = h.cause
     sound (refusals.CertTooLong n) h = h.cause
     sound (refusals.Certificate fault) h = h.cause
@@ -80,6 +83,9 @@ module _ (one : OneFormula) (none : NoFormulaHasFaults) (job : FitJob) (ranked :
       by (refusals.Design fault) k = on_table (refusals.Design fault) k
       by (refusals.Penalty fault) k = on_table (refusals.Penalty fault) k
       by (refusals.Program fault) k = on_table (refusals.Program fault) k
+      by refusals.SmoothNotTaken k = on_table refusals.SmoothNotTaken k
+      by refusals.NothingToPredict k = on_table refusals.NothingToPredict k
+      by (refusals.TooManyPredictions found) k = on_table (refusals.TooManyPredictions found) k
       by (refusals.Dependent combination) k = on_table (refusals.Dependent combination) k
       by (refusals.CertTooLong n) k = on_table (refusals.CertTooLong n) k
       by (refusals.Certificate fault) k = on_table (refusals.Certificate fault) k

@@ -168,6 +168,9 @@ module _ (job : FitJob) (table : Table) (model : Formula) where
   of_model (refusals.Design f) h = of_design f h.0 h.1 refl
   of_model (refusals.Penalty f) h = of_penalty f h refl
   of_model (refusals.Program f) h = of_program f h refl
+  of_model refusals.SmoothNotTaken h = absurd h
+  of_model refusals.NothingToPredict h = absurd h
+  of_model (refusals.TooManyPredictions found) h = absurd h
   of_model (refusals.Dependent combination) h = absurd h
   of_model (refusals.CertTooLong n) h = absurd h
   of_model (refusals.Certificate f) h = absurd h
@@ -207,6 +210,9 @@ module _ (one : OneFormula) (first : OneFault) (none : NoFormulaHasFaults) (job 
     of_table (refusals.Design f) h = lacking (refusals.Design f) h
     of_table (refusals.Penalty f) h = lacking (refusals.Penalty f) h
     of_table (refusals.Program f) h = lacking (refusals.Program f) h
+    of_table refusals.SmoothNotTaken h = lacking refusals.SmoothNotTaken h
+    of_table refusals.NothingToPredict h = lacking refusals.NothingToPredict h
+    of_table (refusals.TooManyPredictions found) h = lacking (refusals.TooManyPredictions found) h
     of_table (refusals.Dependent combination) h = lacking (refusals.Dependent combination) h
     of_table (refusals.CertTooLong n) h = lacking (refusals.CertTooLong n) h
     of_table (refusals.Certificate f) h = lacking (refusals.Certificate f) h
@@ -252,6 +258,9 @@ module _ (one : OneFormula) (first : OneFault) (none : NoFormulaHasFaults) (job 
     of_bytes (refusals.Design f) h = found_on (refusals.Design f) h
     of_bytes (refusals.Penalty f) h = found_on (refusals.Penalty f) h
     of_bytes (refusals.Program f) h = found_on (refusals.Program f) h
+    of_bytes refusals.SmoothNotTaken h = found_on refusals.SmoothNotTaken h
+    of_bytes refusals.NothingToPredict h = found_on refusals.NothingToPredict h
+    of_bytes (refusals.TooManyPredictions found) h = found_on (refusals.TooManyPredictions found) h
     of_bytes (refusals.Dependent combination) h = found_on (refusals.Dependent combination) h
     of_bytes (refusals.CertTooLong n) h = found_on (refusals.CertTooLong n) h
     of_bytes (refusals.Certificate f) h = found_on (refusals.Certificate f) h

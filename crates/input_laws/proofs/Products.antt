@@ -75,7 +75,7 @@ none_in_column : (parts : List Part) (place rec column : ℕ) (spill : Spill Fra
 none_in_column parts place rec column spill fits h = none_beyond parts place rec column spill h (fits (suc h.term) (omega (arith, h.more)))
 
 -- nor does any in a row, where they fit in its columns
-none_in_row : (columns : List (List Part)) (place rec : ℕ) (spill : Spill Frac128) → RowFits columns place → OverflowsInRow columns place rec spill → ⊥
+pub none_in_row : (columns : List (List Part)) (place rec : ℕ) (spill : Spill Frac128) → RowFits columns place → OverflowsInRow columns place rec spill → ⊥
 none_in_row columns place rec spill fits h = none_in_column (get_or columns h.column []) place rec h.column spill (fits h.column [] h.there) h.first
 
 pub none_first : (columns : List (List Part)) (records : List ℕ) (spill : Spill Frac128) → AllFit columns records → OverflowsFirst columns records spill → ⊥

@@ -7,7 +7,9 @@ use Rattle.rq_words.specs.declared.job.FitJob.{FitJob}
 use Rattle.report_text.specs.declared.report.Refusal.{Refusal}
 use Rattle.report_text.specs.declared.report.Halt.TheVariants.{Refused}
 use Rattle.rq_input.specs.Inputs.{HasInputCause, IsInput}
+use Rattle.rq_input.specs.Predictions.{HasPredictionCause, IsPrediction}
 use Rattle.rq_input.specs.declared.input.Input.{Input}
+use Rattle.rq_input.specs.declared.predictions.PredictionInput.{PredictionInput}
 
 -- where the bytes of a job are an input, and its problem is within the limits of rows and columns, nothing is wrong
 -- with them
@@ -15,6 +17,13 @@ abbrev pub InputsHaveNoFault : Type 0
 InputsHaveNoFault =
     (job : FitJob) (ranked : Bool) (bytes : List ℕ) (input : Input) (refusal : Refusal)
     → IsInput job ranked bytes input → IsWellShaped input.problem → ¬ HasInputCause job ranked bytes (Refused refusal)
+
+-- where the bytes of a job ask for predictions, and their problem is within the limits of rows and columns, nothing is wrong
+-- with them, neither as an input nor in what is predicted
+abbrev pub PredictionsHaveNoFault : Type 0
+PredictionsHaveNoFault =
+    (job : FitJob) (bytes : List ℕ) (asked : PredictionInput) (refusal : Refusal)
+    → IsPrediction job bytes asked → IsWellShaped asked.input.problem → ¬ HasPredictionCause job bytes (Refused refusal)
 
 -- the bytes of a job have one fault at most: of a table, of the formula, of the design, of what smooths add, or of the
 -- problem

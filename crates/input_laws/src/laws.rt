@@ -1,6 +1,6 @@
 //! The laws of inputs and faults. No function here does anything: its contract is the law.
 
-ghost use Rattle.input_laws.specs.Laws.{GeneratedTablesHaveNoFault, InputsHaveNoFault, OneInputFault};
+ghost use Rattle.input_laws.specs.Laws.{GeneratedTablesHaveNoFault, InputsHaveNoFault, OneInputFault, PredictionsHaveNoFault};
 
 use formula_grammar::{one_formula, one_outcome};
 
@@ -9,6 +9,15 @@ use formula_grammar::{one_formula, one_outcome};
 /// these refusals comes only where there is no such input.
 pub fn inputs_have_no_fault()
     ensures { InputsHaveNoFault }
+{
+    one_formula();
+    one_outcome();
+}
+
+/// Where the bytes of a job ask for predictions, they have no fault, neither as an input nor in what is predicted: so each
+/// refusal of the job `predict` comes only where nothing is predicted.
+pub fn predictions_have_no_fault()
+    ensures { PredictionsHaveNoFault }
 {
     one_formula();
     one_outcome();

@@ -29,6 +29,7 @@ never_long (jobs.Process fit) bytes cause = cause
 never_long (jobs.Ranks fit) bytes cause = cause
 never_long (jobs.Certify fit) bytes cause = cause
 never_long jobs.Check bytes cause = cause
+never_long (jobs.Predict fit) bytes cause = cause
 never_long (jobs.Sample sample) bytes cause = cause
 
 -- want of memory needs no cause
@@ -37,6 +38,7 @@ memory_cause (jobs.Process fit) bytes = tt
 memory_cause (jobs.Ranks fit) bytes = tt
 memory_cause (jobs.Certify fit) bytes = tt
 memory_cause jobs.Check bytes = tt
+memory_cause (jobs.Predict fit) bytes = tt
 memory_cause (jobs.Sample sample) bytes = tt
 
 -- where words ask for no job that reads the source, theirs doesn't
@@ -49,9 +51,12 @@ halt_cause words source source' job bytes read (halts.Refused TooLong) cause = a
 halt_cause words source source' job bytes read (halts.Refused (Table fault)) cause = record { job = job; bytes = bytes; read = read; cause = cause }
 halt_cause words source source' job bytes read (halts.Refused (Formula fault)) cause = record { job = job; bytes = bytes; read = read; cause = cause }
 halt_cause words source source' job bytes read (halts.Refused RankWithPenalty) cause = record { job = job; bytes = bytes; read = read; cause = cause }
+halt_cause words source source' job bytes read (halts.Refused SmoothNotTaken) cause = record { job = job; bytes = bytes; read = read; cause = cause }
 halt_cause words source source' job bytes read (halts.Refused (Design fault)) cause = record { job = job; bytes = bytes; read = read; cause = cause }
 halt_cause words source source' job bytes read (halts.Refused (Penalty fault)) cause = record { job = job; bytes = bytes; read = read; cause = cause }
 halt_cause words source source' job bytes read (halts.Refused (Program fault)) cause = record { job = job; bytes = bytes; read = read; cause = cause }
+halt_cause words source source' job bytes read (halts.Refused NothingToPredict) cause = record { job = job; bytes = bytes; read = read; cause = cause }
+halt_cause words source source' job bytes read (halts.Refused (TooManyPredictions found)) cause = record { job = job; bytes = bytes; read = read; cause = cause }
 halt_cause words source source' job bytes read (halts.Refused (Dependent combination)) cause = record { job = job; bytes = bytes; read = read; cause = cause }
 halt_cause words source source' job bytes read (halts.Refused (CertTooLong length)) cause = record { job = job; bytes = bytes; read = read; cause = cause }
 halt_cause words source source' job bytes read (halts.Refused (Certificate fault)) cause = record { job = job; bytes = bytes; read = read; cause = cause }

@@ -136,6 +136,7 @@ fn reads(job: &Job) -> bool
         Job::Ranks(_) => true,
         Job::Certify(_) => true,
         Job::Check => true,
+        Job::Predict(_) => true,
         Job::Sample(_) => false,
     }
 }

@@ -12,12 +12,12 @@ use Rattle.rq_words.specs.Requests.{fit_request, number, rank_request, sample_re
 use Rattle.rq_words.specs.Requests as request
 use Rattle.rq_words.specs.Words.{zero, one, is_outside}
 use Rattle.rq_words.specs.declared.job.Job.{Job}
-use Rattle.rq_words.specs.declared.job.Job.TheVariants.{Process, Ranks, Certify, Check, Sample}
+use Rattle.rq_words.specs.declared.job.Job.TheVariants.{Process, Ranks, Certify, Check, Predict, Sample}
 use Rattle.rq_words.specs.declared.job.RankAsk.{RankAsk}
-use Rattle.rq_words.proofs.Orders.{process_range, ranks_range, certify_range}
+use Rattle.rq_words.proofs.Orders.{process_range, ranks_range, certify_range, predict_range}
 use Rattle.rq_words.proofs.RankRequests.{IsSoundOf, words_sound}
 use Rattle.rq_words.proofs.Samples.{words_sample}
-use Rattle.rq_words.proofs.ShortWords.{process_formula, ranks_formula, certify_formula}
+use Rattle.rq_words.proofs.ShortWords.{process_formula, ranks_formula, certify_formula, predict_formula}
 use Rattle.report_text.specs.ReportText.{value}
 use Rattle.rq_fit.specs.Asks.{IsFitAsk, IsInner, IsRankAskOf, IsUnitAsk}
 use Rattle.rq_engine.specs.Jobs.{IsJobOf, sample_fit}
@@ -48,6 +48,7 @@ IsAskedJob (Process fit) = IsFitAsk fit × (length fit.formula < 2 ^ 31)
 IsAskedJob (Ranks fit) = IsUnitAsk fit × (length fit.formula < 2 ^ 31)
 IsAskedJob (Certify fit) = IsFitAsk fit × (length fit.formula < 2 ^ 31)
 IsAskedJob Check = ⊤
+IsAskedJob (Predict fit) = IsFitAsk fit × (length fit.formula < 2 ^ 31)
 IsAskedJob (Sample sample) = IsSampleAsk sample
 
 pub asked_job : (words : List (List ℕ)) (job : Job) → IsJobOf words job → IsAskedJob job
@@ -67,6 +68,11 @@ asked_job words (Certify fit) asked =
     let rank = rank_by fit.rank (words_sound (request.Certify f) f refl words asked) in
     (record { low = range.0; ordered = range.1; high = range.2; rank = rank }, certify_formula words f asked)
 asked_job words Check asked = tt
+asked_job words (Predict fit) asked =
+    let f = fit_request fit in
+    let range = predict_range words f asked in
+    let rank = rank_by fit.rank (words_sound (request.Predict f) f refl words asked) in
+    (record { low = range.0; ordered = range.1; high = range.2; rank = rank }, predict_formula words f asked)
 asked_job words (Sample sample) asked =
     let sound = words_sample (sample_request sample) words asked in
     let ask : IsFitAsk (sample_fit sample) = record { low = sound.range.0; ordered = sound.range.1; high = sound.range.2; rank = tt } in

@@ -20,9 +20,12 @@ input_cause job ranked bytes (Refused TooLong) h = h
 input_cause job ranked bytes (Refused (refusals.Table fault)) h = h
 input_cause job ranked bytes (Refused (refusals.Formula fault)) h = h
 input_cause job ranked bytes (Refused refusals.RankWithPenalty) h = h
+input_cause job ranked bytes (Refused refusals.SmoothNotTaken) h = h
 input_cause job ranked bytes (Refused (refusals.Design fault)) h = h
 input_cause job ranked bytes (Refused (refusals.Penalty fault)) h = h
 input_cause job ranked bytes (Refused (refusals.Program fault)) h = h
+input_cause job ranked bytes (Refused refusals.NothingToPredict) h = h
+input_cause job ranked bytes (Refused (refusals.TooManyPredictions found)) h = h
 input_cause job ranked bytes (Refused (refusals.CertTooLong long)) h = absurd h.2.cause
 input_cause job ranked bytes (Refused (refusals.Certificate fault)) h = absurd h.2.cause
 input_cause job ranked bytes OutOfMemory h = h
@@ -37,9 +40,12 @@ problem_cause job ranked bytes input is rows (Refused TooLong) h = h
 problem_cause job ranked bytes input is rows (Refused (refusals.Table fault)) h = absurd h
 problem_cause job ranked bytes input is rows (Refused (refusals.Formula fault)) h = absurd h
 problem_cause job ranked bytes input is rows (Refused refusals.RankWithPenalty) h = absurd h
+problem_cause job ranked bytes input is rows (Refused refusals.SmoothNotTaken) h = absurd h
 problem_cause job ranked bytes input is rows (Refused (refusals.Design fault)) h = absurd h
 problem_cause job ranked bytes input is rows (Refused (refusals.Penalty fault)) h = absurd h
 problem_cause job ranked bytes input is rows (Refused (refusals.Program fault)) h = absurd h
+problem_cause job ranked bytes input is rows (Refused refusals.NothingToPredict) h = absurd h
+problem_cause job ranked bytes input is rows (Refused (refusals.TooManyPredictions found)) h = absurd h
 problem_cause job ranked bytes input is rows (Refused (refusals.CertTooLong long)) h = absurd h
 problem_cause job ranked bytes input is rows (Refused (refusals.Certificate fault)) h = absurd h
 problem_cause job ranked bytes input is rows OutOfMemory h = tt
@@ -55,6 +61,7 @@ ranks_cause job bytes (PivotLimit place limit trail) h = h
 ranks_cause job bytes (Overflow places.Process trail spill) h = inl h
 ranks_cause job bytes (Overflow (places.Interval column tau) trail spill) h = h
 ranks_cause job bytes (Overflow places.Check trail spill) h = h
+ranks_cause job bytes (Overflow (places.Predict rec) trail spill) h = h
 ranks_cause job bytes (Rejected rejection) h = h
 
 pub ranks_input_cause : (job : FitJob) (bytes : List ℕ) (halt : Halt) → HasInputCause job true bytes halt → HasRanksCause job bytes halt
@@ -68,4 +75,5 @@ ranks_scoring_cause job bytes input is rows (Overflow places.Process trail spill
 ranks_scoring_cause job bytes input is rows (Overflow places.Process trail spill) (inr h) = inr (record { input = input; is = is; rows = rows; operation = h })
 ranks_scoring_cause job bytes input is rows (Overflow (places.Interval column tau) trail spill) h = problem_cause job true bytes input is rows (Overflow (places.Interval column tau) trail spill) h
 ranks_scoring_cause job bytes input is rows (Overflow places.Check trail spill) h = problem_cause job true bytes input is rows (Overflow places.Check trail spill) h
+ranks_scoring_cause job bytes input is rows (Overflow (places.Predict rec) trail spill) h = problem_cause job true bytes input is rows (Overflow (places.Predict rec) trail spill) h
 ranks_scoring_cause job bytes input is rows (Rejected rejection) h = problem_cause job true bytes input is rows (Rejected rejection) h

@@ -3,3 +3,4 @@ pub mod Causes
 pub mod Certifying
 pub mod Checks
 pub mod Listed
+pub mod Predicting

@@ -6,13 +6,16 @@ use Rattle.loss_model.specs.declared.process.Trail.{Trail}
 use Rattle.loss_model.specs.declared.spill.Spill.{Spill}
 use Rattle.cert_text.specs.declared.cert.Cert.{Cert}
 use Rattle.rq_input.specs.Inputs.{HasInputCause, IsInput}
+use Rattle.rq_input.specs.Predictions.{HasPredictionCause, IsPrediction}
 use Rattle.rq_input.specs.Rows.{HasRows}
 use Rattle.rq_input.specs.declared.input.Input.{Input}
+use Rattle.rq_input.specs.declared.predictions.PredictionInput.{PredictionInput}
 use Rattle.rq_words.specs.declared.job.FitJob.{FitJob}
 use Rattle.rq_words.specs.declared.job.Job.{Job}
 use Rattle.rq_words.specs.declared.job.Job.TheVariants as jobs
 use Rattle.report_text.specs.ReportText.{value}
 use Rattle.report_text.specs.declared.report.Fit.{Fit}
+use Rattle.report_text.specs.declared.report.PredictFit.{PredictFit}
 use Rattle.report_text.specs.declared.report.RanksFit.{RanksFit}
 use Rattle.report_text.specs.declared.report.Report.{Report}
 use Rattle.report_text.specs.declared.report.Report.TheVariants as reports
@@ -21,6 +24,7 @@ use Rattle.report_text.specs.declared.report.Place.TheVariants as places
 use Rattle.report_text.specs.declared.report.Halt.{Halt}
 use Rattle.report_text.specs.declared.report.Halt.TheVariants.{Refused, PivotLimit, Overflow}
 use Rattle.rq_fit.specs.Fit.{IsFitOf}
+use Rattle.rq_fit.specs.Predicted.{HasPredictedCause, IsPredictFitOf}
 use Rattle.rq_fit.specs.Ranks.{AreRanksOf}
 use Rattle.rq_fit.specs.Stops.{HasProblemCause, IsScoringSpill, most}
 use Rattle.rq_engine.specs.Certificates.{IsCertificateOf, IsTooLong, IsWritten}
@@ -48,12 +52,17 @@ pub record IsCertified (job : FitJob) (input : Input) (cert : Cert) : Type 0 whe
 abbrev pub IsCertifiedOfBytes : FitJob → List ℕ → Cert → Type 0
 IsCertifiedOfBytes job bytes cert = (input : Input) × IsInput job (is_some job.rank) bytes input × IsCertified job input cert
 
+-- the predictions are right for the rows that the bytes ask for
+abbrev pub IsPredictFitOfBytes : FitJob → List ℕ → PredictFit → Type 0
+IsPredictFitOfBytes job bytes fit = (asked : PredictionInput) × IsPrediction job bytes asked × IsPredictFitOf job asked fit
+
 -- the report is right for the job and for the bytes; that of a generated table is of the table's own bytes
 abbrev pub IsRight : Job → List ℕ → Report → Type 0
 IsRight (jobs.Process job) bytes (reports.Process fit) = IsFitOfBytes job (is_some job.rank) bytes fit
 IsRight (jobs.Ranks job) bytes (reports.Ranks ranks) = AreRanksOfBytes job bytes ranks
 IsRight (jobs.Certify job) bytes (reports.Certificate cert) = IsCertifiedOfBytes job bytes cert × IsWritten cert
 IsRight jobs.Check bytes (reports.Checked cert) = IsCheckedOf bytes cert
+IsRight (jobs.Predict job) bytes (reports.Predict fit) = IsPredictFitOfBytes job bytes fit
 IsRight (jobs.Sample job) bytes (reports.Sample fit) = IsFitOfBytes (sample_fit job) false (sample_table job) fit
 IsRight _ bytes report = ⊥
 
@@ -96,10 +105,25 @@ abbrev pub HasCertifyCause : FitJob → List ℕ → Halt → Type 0
 HasCertifyCause job bytes (Refused (CertTooLong n)) = HasLongCertificate job bytes n
 HasCertifyCause job bytes halt = HasFitCause job (is_some job.rank) bytes halt
 
+-- the rows that the bytes ask for have no predictions, for this halt
+pub record LacksPredictFit (job : FitJob) (bytes : List ℕ) (halt : Halt) : Type 0 where
+  pub asked : PredictionInput
+  pub is : IsPrediction job bytes asked
+  pub rows : HasRows asked.input
+  pub cause : HasPredictedCause job asked halt
+
+-- why bytes have no predictions: the rows that they ask for have none, or they ask for none
+abbrev pub HasPredictCause : FitJob → List ℕ → Halt → Type 0
+HasPredictCause job bytes (Refused (Dependent combination)) = LacksPredictFit job bytes (Refused (Dependent combination))
+HasPredictCause job bytes (PivotLimit place limit trail) = LacksPredictFit job bytes (PivotLimit place limit trail)
+HasPredictCause job bytes (Overflow place trail spill) = LacksPredictFit job bytes (Overflow place trail spill)
+HasPredictCause job bytes halt = HasPredictionCause job bytes halt
+
 -- why there is no report for the job
 abbrev pub HasCause : Job → List ℕ → Halt → Type 0
 HasCause (jobs.Process job) bytes halt = HasFitCause job (is_some job.rank) bytes halt
 HasCause (jobs.Ranks job) bytes halt = HasRanksCause job bytes halt
 HasCause (jobs.Certify job) bytes halt = HasCertifyCause job bytes halt
 HasCause jobs.Check bytes halt = HasCheckCause bytes halt
+HasCause (jobs.Predict job) bytes halt = HasPredictCause job bytes halt
 HasCause (jobs.Sample job) bytes halt = HasFitCause (sample_fit job) false (sample_table job) halt

@@ -12,6 +12,7 @@
 mod certify;
 mod check;
 mod job;
+mod predict;
 mod process;
 mod ranks;
 mod sample;

@@ -42,7 +42,7 @@ use Rattle.report_text.specs.declared.report.Place.TheVariants as places
 use Rattle.report_text.specs.declared.report.Halt.TheVariants.{Refused, OutOfMemory, PivotLimit, Overflow, Rejected}
 use Rattle.report_text.specs.declared.report.Refusal.TheVariants.{TooLong, Dependent}
 use Rattle.report_text.specs.declared.report.Refusal.TheVariants as refusals
-use Rattle.rq_fit.specs.Fit.{IsOptimalAt, IsOptimalWithin, IsRightFit, IsRightSegment, mixed_dual}
+use Rattle.rq_fit.specs.Fit.{IsOptimalAt, IsOptimalWithin, IsRightFit, IsRightProcess, IsRightSegment, mixed_dual}
 use Rattle.rq_fit.specs.Halts.{interval_halt, short_halt, stop_halt}
 use Rattle.rq_fit.specs.Intervals.{AreRightIntervals, asked_by, asked_over, IsFirstStop}
 use Rattle.rq_fit.specs.RankProblems.{HasIntervalCause}
@@ -176,16 +176,22 @@ module _ {F : Type 0} (value : F → Fraction) (p : Problem F) where
       right_segments positive (filter (is_reported lo hi) (stays (theta_value value) hi lo (basis_after results.lawful.first results.lawful.solving) results.lawful.walking))
       q.segments results.segments h.optimal
 
+-- a process whose trail is within the limit is right
+pub right_process : (job : FitJob) (p : Problem Frac128) (q : Process Frac128) → IsProcess value p (rational (value job.lo)) (rational (value job.hi)) q → length q.trail.steps ≤ job.limit
+    → ¬ IsLimited {F = Frac128} value (sample value p) (rational (value job.lo)) (rational (value job.hi)) job.limit → IsRightProcess value job p q
+right_process job p q is short unlimited =
+    record {
+      covers = is.covers;
+      segments = process_right value p (λ x. x.within.positive) (rational (value job.lo)) (rational (value job.hi)) q is;
+      results = is.results;
+      short = short;
+      unlimited = unlimited;
+    }
+
 -- ---- the fit
 
 -- the first n rows of the problem are data rows
 module _ (job : FitJob) (n : ℕ) (p : Problem Frac128) (q : Process Frac128) (scores : List (List (ScorePair Frac128))) (intervals : List (Interval Frac128)) where
-  abbrev lo : ℚ
-  lo = rational (value job.lo)
-
-  abbrev hi : ℚ
-  hi = rational (value job.hi)
-
   -- a fit by its parts
   abbrev whole_fit : Fit → Fit
   whole_fit fit =
@@ -200,18 +206,13 @@ module _ (job : FitJob) (n : ℕ) (p : Problem Frac128) (q : Process Frac128) (s
         intervals = intervals;
       }
 
-  pub right_fit : IsWellShaped p → IsProcess value p lo hi q → length q.trail.steps ≤ job.limit → ¬ IsLimited {F = Frac128} value (sample value p) lo hi job.limit
-      → AllZip (IsScored value p n) q.segments scores → AreRightIntervals value p job.limit (asked_by job.rank p.columns) intervals
+  pub right_fit : IsWellShaped p → IsRightProcess value job p q → AllZip (IsScored value p n) q.segments scores → AreRightIntervals value p job.limit (asked_by job.rank p.columns) intervals
       → (fit : Fit) → fit.process ≡ q → fit.scores ≡ scores → fit.intervals ≡ intervals → fit.problem ≡ p → fit.data_rows ≡ n → IsRightFit value job fit
-  right_fit shaped is short unlimited scored right fit process told made problem data_rows =
+  right_fit shaped right_process scored right fit process told made problem data_rows =
       subst (IsRightFit value job) (sym same) (record {
         shaped = shaped;
-        covers = is.covers;
-        segments = process_right value p (λ x. x.within.positive) lo hi q is;
+        process = right_process;
         scores = scored;
-        results = is.results;
-        short = short;
-        unlimited = unlimited;
         intervals = right;
       })
     where
@@ -236,7 +237,7 @@ stop_cause job n p (stops.Overflow trail spill) h = inl h
 stop_cause job n p (stops.Dependent combination) h = h
 
 pub short_cause : (job : FitJob) (n : ℕ) (p : Problem Frac128) (q : Process Frac128) → HasResults value p (rational (value job.lo)) (rational (value job.hi)) q → length q.trail.steps ≤ job.limit → (short : Short Frac128)
-    → IsShortOf (IsSegmentSpill value most p n q.segments) short → HasProblemCause job n p (short_halt short q.trail)
+    → IsShortOf (IsSegmentSpill value most p n q.segments) short → HasProblemCause job n p (short_halt places.Process short q.trail)
 short_cause job n p q results short shorts.OutOfMemory unscored = tt
 short_cause job n p q results short (shorts.Overflow spill) unscored = inr (record { segments = q.segments; results = results; short = short; operation = unscored })
 
@@ -248,9 +249,12 @@ interval_cause job n p q scores results short scored (Refused TooLong) h = absur
 interval_cause job n p q scores results short scored (Refused (refusals.Table fault)) h = absurd h
 interval_cause job n p q scores results short scored (Refused (refusals.Formula fault)) h = absurd h
 interval_cause job n p q scores results short scored (Refused refusals.RankWithPenalty) h = absurd h
+interval_cause job n p q scores results short scored (Refused refusals.SmoothNotTaken) h = absurd h
 interval_cause job n p q scores results short scored (Refused (refusals.Design fault)) h = absurd h
 interval_cause job n p q scores results short scored (Refused (refusals.Penalty fault)) h = absurd h
 interval_cause job n p q scores results short scored (Refused (refusals.Program fault)) h = absurd h
+interval_cause job n p q scores results short scored (Refused refusals.NothingToPredict) h = absurd h
+interval_cause job n p q scores results short scored (Refused (refusals.TooManyPredictions found)) h = absurd h
 interval_cause job n p q scores results short scored (Refused (refusals.CertTooLong long)) h = absurd h
 interval_cause job n p q scores results short scored (Refused (refusals.Certificate fault)) h = absurd h
 interval_cause job n p q scores results short scored OutOfMemory h = tt
@@ -258,10 +262,12 @@ interval_cause job n p q scores results short scored (PivotLimit places.Process 
 interval_cause job n p q scores results short scored (PivotLimit (places.Interval column tau) limit trail) h =
     record { process = q; results = results; short = short; scores = scores; scored = scored; stopped = h }
 interval_cause job n p q scores results short scored (PivotLimit places.Check limit trail) h = absurd h
+interval_cause job n p q scores results short scored (PivotLimit (places.Predict rec) limit trail) h = absurd h
 interval_cause job n p q scores results short scored (Overflow places.Process trail spill) h = absurd h
 interval_cause job n p q scores results short scored (Overflow (places.Interval column tau) trail spill) h =
     record { process = q; results = results; short = short; scores = scores; scored = scored; stopped = h }
 interval_cause job n p q scores results short scored (Overflow places.Check trail spill) h = absurd h
+interval_cause job n p q scores results short scored (Overflow (places.Predict rec) trail spill) h = absurd h
 interval_cause job n p q scores results short scored (Rejected rejection) h = absurd h
 
 -- so of the interval that stops

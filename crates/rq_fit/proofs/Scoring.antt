@@ -46,7 +46,7 @@ module _ (job : FitJob) (ask : IsUnitAsk job) where
   pub covers_unit : (fit : Fit) → IsRightFit value job fit → Covers (length fit.problem.rows) (whole (pos 0)) (whole (pos 1)) (segments_of value fit.problem fit.process.segments)
   covers_unit fit right =
       subst (λ z. Covers (length fit.problem.rows) z (whole (pos 1)) (segments_of value fit.problem fit.process.segments)) (sym ask.low)
-      (subst (λ z. Covers (length fit.problem.rows) (rational (value job.lo)) z (segments_of value fit.problem fit.process.segments)) (sym ask.high) right.covers)
+      (subst (λ z. Covers (length fit.problem.rows) (rational (value job.lo)) z (segments_of value fit.problem fit.process.segments)) (sym ask.high) right.process.covers)
 
 -- ---- its fit
 
@@ -65,16 +65,16 @@ module _ (job : FitJob) (input : Input) (rows : HasRows input) (none : length in
   few_rows = is.right.shaped.rows
 
   pub scorable_fit : All (IsScorable fit.problem) fit.process.segments
-  scorable_fit = process_scorable value fit.problem lo hi fit.process is.right.results
+  scorable_fit = process_scorable value fit.problem lo hi fit.process is.right.process.results
 
   pub few_fit : job.limit < 2 ^ 32 → length fit.process.segments ≤ 2 ^ 32
-  few_fit small = omega (arith, small, is.right.short, few_segments value fit.problem lo hi fit.process is.right.results)
+  few_fit small = omega (arith, small, is.right.process.short, few_segments value fit.problem lo hi fit.process is.right.process.results)
 
-  pub scoring_short : (short : Short Frac128) → IsShortOf (IsWilcoxonSpill value most fit.problem fit.process.segments) short → HasScoringCause job input (short_halt short fit.process.trail)
+  pub scoring_short : (short : Short Frac128) → IsShortOf (IsWilcoxonSpill value most fit.problem fit.process.segments) short → HasScoringCause job input (short_halt places.Process short fit.process.trail)
   scoring_short shorts.OutOfMemory h = tt
   scoring_short (shorts.Overflow spill) h =
       inr (subst (λ (p : Problem Frac128). IsScoringSpill value most p lo hi job.limit fit.process.trail spill) is.under.problem_is
-      (record { segments = fit.process.segments; results = is.right.results; short = is.right.short; operation = h }))
+      (record { segments = fit.process.segments; results = is.right.process.results; short = is.right.process.short; operation = h }))
 
 -- ---- why there are no scores
 
@@ -85,4 +85,5 @@ scoring_fit job input (PivotLimit place limit trail) h = h
 scoring_fit job input (Overflow places.Process trail spill) h = inl h
 scoring_fit job input (Overflow (places.Interval column tau) trail spill) h = h
 scoring_fit job input (Overflow places.Check trail spill) h = h
+scoring_fit job input (Overflow (places.Predict rec) trail spill) h = h
 scoring_fit job input (Rejected rejection) h = h

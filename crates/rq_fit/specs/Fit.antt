@@ -6,6 +6,7 @@ use Rattle.exact_algebra.specs.Rational.{ℚ, ◌≤ℚ◌}
 use Rattle.exact_algebra.specs.Fraction.{Fraction, rational}
 use Rattle.frac_core.specs.declared.frac128.Frac128.{Frac128}
 use Rattle.loss_model.specs.declared.problem.Problem.{Problem}
+use Rattle.loss_model.specs.declared.process.Process.{Process}
 use Rattle.loss_model.specs.declared.process.Segment.{Segment}
 use Rattle.loss_model.specs.declared.vertex.Vertex.{Vertex}
 use Rattle.loss_model.specs.Sample.{loss, Minimises}
@@ -53,17 +54,21 @@ module _ {F : Type 0} (value : F → Fraction) (p : Problem F) where
     pub within : (theta : Fraction) → 1 ≤ theta.den → rational (value s.lo) ≤ℚ rational theta → rational theta ≤ℚ rational (value s.hi)
         → IsOptimalWithin s (rational theta)
 
--- the fit is right for the job: its segments cover the range, they are optimal, its scores are the
--- rankscores, and they are those of the lawful trail, which is within the limit; so none reaches it. Its rank
--- intervals are those that the job asks for
+-- the process is right for the problem over the range of the job: its segments cover the range, they are optimal, and
+-- they are those of the lawful trail, which is within the limit; so none reaches it
+pub record IsRightProcess (value : Frac128 → Fraction) (job : FitJob) (p : Problem Frac128) (q : Process Frac128) : Type 0 where
+  pub covers : Covers (length p.rows) (rational (value job.lo)) (rational (value job.hi)) (segments_of value p q.segments)
+  pub segments : All (IsRightSegment value p) q.segments
+  pub results : HasResults value p (rational (value job.lo)) (rational (value job.hi)) q
+  pub short : length q.trail.steps ≤ job.limit
+  pub unlimited : ¬ IsLimited {F = Frac128} value (sample value p) (rational (value job.lo)) (rational (value job.hi)) job.limit
+
+-- the fit is right for the job: so is its process, its scores are the rankscores of the segments, and its rank intervals
+-- are those that the job asks for
 pub record IsRightFit (value : Frac128 → Fraction) (job : FitJob) (fit : Fit) : Type 0 where
   pub shaped : IsWellShaped fit.problem
-  pub covers : Covers (length fit.problem.rows) (rational (value job.lo)) (rational (value job.hi)) (segments_of value fit.problem fit.process.segments)
-  pub segments : All (IsRightSegment value fit.problem) fit.process.segments
+  pub process : IsRightProcess value job fit.problem fit.process
   pub scores : AllZip (IsScored value fit.problem fit.data_rows) fit.process.segments fit.scores
-  pub results : HasResults value fit.problem (rational (value job.lo)) (rational (value job.hi)) fit.process
-  pub short : length fit.process.trail.steps ≤ job.limit
-  pub unlimited : ¬ IsLimited {F = Frac128} value (sample value fit.problem) (rational (value job.lo)) (rational (value job.hi)) job.limit
   pub intervals : AreRightIntervals value fit.problem job.limit (asked_by job.rank fit.problem.columns) fit.intervals
 
 -- the fit is of this input, and tells how many records its design has kept and dropped, the names of the design and

@@ -7,7 +7,7 @@ use Rattle.loss_model.specs.declared.stop.Stop.{Stop}
 use Rattle.loss_model.specs.declared.stop.Stop.TheVariants as stops
 use Rattle.report_text.specs.declared.report.Refusal.TheVariants.{Dependent}
 use Rattle.report_text.specs.declared.report.Place.{Place}
-use Rattle.report_text.specs.declared.report.Place.TheVariants.{Process, Interval}
+use Rattle.report_text.specs.declared.report.Place.TheVariants.{Interval}
 use Rattle.report_text.specs.declared.report.Halt.{Halt}
 use Rattle.report_text.specs.declared.report.Halt.TheVariants.{Refused, OutOfMemory, PivotLimit, Overflow}
 use Rattle.interval_jobs.specs.declared.asks.IntervalStop.{IntervalStop}
@@ -24,6 +24,6 @@ abbrev pub interval_halt : IntervalStop Frac128 → Halt
 interval_halt stopped = stop_halt (Interval stopped.asked.column stopped.asked.tau) stopped.stop
 
 -- after the walk the trail is whole
-abbrev pub short_halt : Short Frac128 → Trail Frac128 → Halt
-short_halt shorts.OutOfMemory trail = OutOfMemory
-short_halt (shorts.Overflow spill) trail = Overflow Process trail spill
+abbrev pub short_halt : Place → Short Frac128 → Trail Frac128 → Halt
+short_halt place shorts.OutOfMemory trail = OutOfMemory
+short_halt place (shorts.Overflow spill) trail = Overflow place trail spill

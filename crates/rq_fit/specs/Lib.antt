@@ -2,6 +2,8 @@ pub mod Asks
 pub mod Fit
 pub mod Halts
 pub mod Intervals
+pub mod Lacking
+pub mod Predicted
 pub mod RankProblems
 pub mod Ranks
 pub mod Stops

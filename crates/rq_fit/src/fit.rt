@@ -155,7 +155,7 @@ pub fn fit_input<R: Threads + Sync, G: Gate>(
     let segments = walked.segments.as_slice();
     let scores = match all_scores(alloc, &input.problem, data_rows, segments) {
         Ok(scores) => scores,
-        Err(short) => return Err(short_halt(short, walked.trail)),
+        Err(short) => return Err(short_halt(Place::Process, short, walked.trail)),
     };
     let intervals = match job_intervals(rt, alloc, job, &input.problem, gate) {
         Ok(intervals) => intervals,

@@ -38,14 +38,14 @@ pub(crate) fn interval_halt(stopped: IntervalStop<Frac128>) -> Halt
     stop_halt(place, stopped.stop)
 }
 
-/// The halt after the walk, whose trail is whole.
-pub(crate) fn short_halt(short: Short<Frac128>, trail: Trail<Frac128>) -> Halt
-    ensures { result ≡ short_halt_of short trail }
+/// The halt at a place after the walk, whose trail is whole.
+pub(crate) fn short_halt(place: Place, short: Short<Frac128>, trail: Trail<Frac128>) -> Halt
+    ensures { result ≡ short_halt_of place short trail }
 {
     match short {
         Short::OutOfMemory => Halt::OutOfMemory,
         Short::Overflow(spill) => Halt::Overflow {
-            place: Place::Process,
+            place,
             trail,
             spill,
         },

@@ -1,8 +1,8 @@
 //! From the problem of an input to its fit.
 //!
 //! The one contract: `fit_input` gives the right fit of an input for a job, or a halt with its cause, as
-//! `specs/Fit.antt` and `specs/Stops.antt` define both, and `ranks_input` the same over 0 to 1 with the
-//! Wilcoxon scores (`specs/Ranks.antt`). A job knows its range and the rank intervals that it asks for;
+//! `specs/Fit.antt` and `specs/Stops.antt` define both, `ranks_input` the same over 0 to 1 with the
+//! Wilcoxon scores (`specs/Ranks.antt`), and `predict_input` the predictions along the process (`specs/Predicted.antt`). A job knows its range and the rank intervals that it asks for;
 //! what its report or its certificate is made of stands above.
 //!
 //! It stands on `rq_input` for the input, on `tau_process` for the segments and the trail, on `rankscores`,
@@ -12,7 +12,9 @@
 
 mod fit;
 mod halt;
+mod predictions;
 mod ranks;
 
 pub use fit::fit_input;
+pub use predictions::predict_input;
 pub use ranks::ranks_input;

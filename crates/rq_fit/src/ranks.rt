@@ -7,7 +7,7 @@ ghost use Rattle.rq_fit.specs.Ranks.{AreRanksOf, HasScoringCause};
 use crate::fit::fit_input;
 use crate::halt::short_halt;
 use rankscores::wilcoxon;
-use report_text::{Halt, RanksFit};
+use report_text::{Halt, Place, RanksFit};
 use rq_fan::Gate;
 use rq_input::Input;
 use rq_words::FitJob;
@@ -41,7 +41,7 @@ pub fn ranks_input<R: Threads + Sync, G: Gate>(
         Ok(wilcoxon) => Ok(RanksFit { fit, wilcoxon }),
         Err(short) => {
             let process = fit.process;
-            Err(short_halt(short, process.trail))
+            Err(short_halt(Place::Process, short, process.trail))
         }
     }
 }

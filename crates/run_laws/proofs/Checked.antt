@@ -27,6 +27,7 @@ check_alone (jobs.Process fit) same = absurd (cc same)
 check_alone (jobs.Ranks fit) same = absurd (cc same)
 check_alone (jobs.Certify fit) same = absurd (cc same)
 check_alone jobs.Check same = refl
+check_alone (jobs.Predict fit) same = absurd (cc same)
 check_alone (jobs.Sample sample) same = absurd (cc same)
 
 module _ (same : SameContent) (words : List (List ℕ)) (source source' : Stream) (bytes : List ℕ) (cert : Cert) (w : IsPassing words source bytes cert) where
@@ -62,9 +63,12 @@ module _ (same : SameContent) (words : List (List ℕ)) (source source' : Stream
       by (Refused (refusals.Table fault)) run = absurd (not_refused (refusals.Table fault) run.cause)
       by (Refused (refusals.Formula fault)) run = absurd (not_refused (refusals.Formula fault) run.cause)
       by (Refused refusals.RankWithPenalty) run = absurd (not_refused refusals.RankWithPenalty run.cause)
+      by (Refused refusals.SmoothNotTaken) run = absurd (not_refused refusals.SmoothNotTaken run.cause)
       by (Refused (refusals.Design fault)) run = absurd (not_refused (refusals.Design fault) run.cause)
       by (Refused (refusals.Penalty fault)) run = absurd (not_refused (refusals.Penalty fault) run.cause)
       by (Refused (refusals.Program fault)) run = absurd (not_refused (refusals.Program fault) run.cause)
+      by (Refused refusals.NothingToPredict) run = absurd (not_refused refusals.NothingToPredict run.cause)
+      by (Refused (refusals.TooManyPredictions found)) run = absurd (not_refused (refusals.TooManyPredictions found) run.cause)
       by (Refused (refusals.CertTooLong n)) run = absurd (not_refused (refusals.CertTooLong n) run.cause)
       by (Refused (refusals.Certificate fault)) run = absurd (not_refused (refusals.Certificate fault) run.cause)
       by (Refused (refusals.Dependent combination)) run = absurd (not_refused (refusals.Dependent combination) run.cause)

@@ -4,13 +4,13 @@ use Rattle.std.proofs.Common.{arith, refl, sym, ap, subst, ◌∙◌, inl, inr}
 use Rattle.exact_algebra.specs.Fraction.{rational}
 use Rattle.frac_core.specs.declared.frac128.Frac128.{Frac128}
 use Rattle.loss_model.specs.declared.problem.Problem.{Problem}
+use Rattle.loss_model.specs.declared.process.Process.{Process}
 use Rattle.loss_model.specs.declared.process.Trail.{Trail}
 use Rattle.loss_model.specs.FullRank.{HasFullRank}
-use Rattle.loss_model.specs.Problem.{sample}
+use Rattle.loss_model.specs.Problem.{sample, IsWellShaped}
 use Rattle.pivot_rule.proofs.Solved.{full_rank}
 use Rattle.port_io.specs.Told.{most_bytes, TakesAll, TakesFirst}
 use Rattle.pivot_bound.specs.BoundLaws.{further_bases}
-use Rattle.tau_process.specs.Stops.{IsLimited}
 use Rattle.rq_words.specs.Requests.{FitRequest, fit_request, rank_request, request_of}
 use Rattle.rq_words.specs.declared.job.FitJob.{FitJob}
 use Rattle.rq_words.specs.declared.job.RankAsk.{RankAsk}
@@ -27,10 +27,11 @@ use Rattle.report_text.specs.declared.report.Report.{Report}
 use Rattle.report_text.specs.declared.report.Report.TheVariants as reports
 use Rattle.report_text.specs.declared.report.Halt.TheVariants as halts
 use Rattle.rq_input.specs.Inputs.{IsInput}
+use Rattle.rq_input.specs.Predictions.{HasPredictionCause}
 use Rattle.rq_input.specs.declared.input.Input.{Input}
-use Rattle.rq_fit.specs.Fit.{IsFitOf}
+use Rattle.rq_fit.specs.Fit.{IsFitOf, IsRightProcess}
 use Rattle.rq_engine.specs.Answers as engine
-use Rattle.rq_engine.specs.Answers.{IsRight, HasFitCause, HasCertifyCause}
+use Rattle.rq_engine.specs.Answers.{IsRight, HasFitCause, HasCertifyCause, HasPredictCause}
 use Rattle.rq_engine.specs.Jobs.{IsJobOf, sample_fit}
 use Rattle.rq_cli.specs.Outcomes.{Stream, IsRun, IsAnswered, IsHalted, IsOutputFault, IsErrorFault, IsTooLong, Reads, Takes, WereRead}
 use Rattle.rq_cli.specs.declared.outcome.Outcome.{Outcome}
@@ -39,6 +40,7 @@ use Rattle.stop_laws.proofs.Needed.{dependent, process_full}
 use Rattle.interval_laws.proofs.Needed.{interval_full}
 use Rattle.run_laws.specs.Completeness.{NoneRose, IsWellFormed, IsAnswer, IsLimitedInput, IsNoReport, IsUnfitted, parts_of}
 use Rattle.run_laws.specs.NeededOutcomes.{IsFitJob, AskFit, WasInput, ReachesLimitAt, table_bytes}
+use Rattle.run_laws.proofs.AskedInputs.{asked_input}
 use Rattle.run_laws.proofs.Needed.{limit_needed, overflow_needed}
 
 -- ---- words
@@ -54,10 +56,12 @@ module _ (words : List (List ℕ)) where
   also_reads (jobs.Ranks a) other same reads = tt
   also_reads (jobs.Certify a) other same reads = tt
   also_reads jobs.Check other same reads = tt
+  also_reads (jobs.Predict a) other same reads = tt
   also_reads (jobs.Sample a) (jobs.Process b) same reads = absurd (cc same)
   also_reads (jobs.Sample a) (jobs.Ranks b) same reads = absurd (cc same)
   also_reads (jobs.Sample a) (jobs.Certify b) same reads = absurd (cc same)
   also_reads (jobs.Sample a) jobs.Check same reads = absurd (cc same)
+  also_reads (jobs.Sample a) (jobs.Predict b) same reads = absurd (cc same)
   also_reads (jobs.Sample a) (jobs.Sample b) same reads = absurd reads
 
   -- words that ask for a fit ask for no check
@@ -66,6 +70,7 @@ module _ (words : List (List ℕ)) where
   no_check (jobs.Ranks a) fit ranked is same = absurd (cc same)
   no_check (jobs.Certify a) fit ranked is same = absurd (cc same)
   no_check jobs.Check fit ranked is same = is
+  no_check (jobs.Predict a) fit ranked is same = absurd (cc same)
   no_check (jobs.Sample a) fit ranked is same = absurd (cc same)
 
 -- a report that is right for bytes is right for others of the same table
@@ -74,10 +79,12 @@ right_same (jobs.Process fit) report a b same h = subst (λ x. IsRight (jobs.Pro
 right_same (jobs.Ranks fit) report a b same h = subst (λ x. IsRight (jobs.Ranks fit) x report) same h
 right_same (jobs.Certify fit) report a b same h = subst (λ x. IsRight (jobs.Certify fit) x report) same h
 right_same jobs.Check report a b same h = subst (λ x. IsRight jobs.Check x report) same h
+right_same (jobs.Predict fit) report a b same h = subst (λ x. IsRight (jobs.Predict fit) x report) same h
 right_same (jobs.Sample job) (reports.Process f) a b same h = absurd h
 right_same (jobs.Sample job) (reports.Ranks f) a b same h = absurd h
 right_same (jobs.Sample job) (reports.Certificate c) a b same h = absurd h
 right_same (jobs.Sample job) (reports.Checked c) a b same h = absurd h
+right_same (jobs.Sample job) (reports.Predict f) a b same h = absurd h
 right_same (jobs.Sample job) (reports.Sample f) a b same h = h
 
 -- ---- an input that is well formed
@@ -97,6 +104,7 @@ takes_all source source' (jobs.Process fit) bytes reads taken = taken
 takes_all source source' (jobs.Ranks fit) bytes reads taken = taken
 takes_all source source' (jobs.Certify fit) bytes reads taken = taken
 takes_all source source' jobs.Check bytes reads taken = taken
+takes_all source source' (jobs.Predict fit) bytes reads taken = taken
 takes_all source source' (jobs.Sample job) bytes reads taken = absurd reads
 
 module _ (words : List (List ℕ)) (source source' : Stream) (bytes : List ℕ) (fit : FitJob) (ranked : Bool) (asked : AskFit words fit ranked) (told : Reads asked.job → source.bytes ≡ Some bytes) where
@@ -118,6 +126,7 @@ module _ (words : List (List ℕ)) (source source' : Stream) (bytes : List ℕ) 
       by (jobs.Ranks fit) again = whole (jobs.Ranks fit) again tt
       by (jobs.Certify fit) again = whole (jobs.Certify fit) again tt
       by jobs.Check again = whole jobs.Check again tt
+      by (jobs.Predict fit) again = whole (jobs.Predict fit) again tt
       by (jobs.Sample job) again = refl
 
 module _ (words : List (List ℕ)) (source source' : Stream) (bytes : List ℕ) (w : IsWellFormed words source bytes) where
@@ -138,9 +147,12 @@ module _ (words : List (List ℕ)) (source source' : Stream) (bytes : List ℕ) 
       by (refusals.Table fault) h = w.sound fit ranked asked (refusals.Table fault) h
       by (refusals.Formula fault) h = w.sound fit ranked asked (refusals.Formula fault) h
       by refusals.RankWithPenalty h = w.sound fit ranked asked refusals.RankWithPenalty h
+      by refusals.SmoothNotTaken h = w.sound fit ranked asked refusals.SmoothNotTaken h
       by (refusals.Design fault) h = w.sound fit ranked asked (refusals.Design fault) h
       by (refusals.Penalty fault) h = w.sound fit ranked asked (refusals.Penalty fault) h
       by (refusals.Program fault) h = w.sound fit ranked asked (refusals.Program fault) h
+      by refusals.NothingToPredict h = w.sound fit ranked asked refusals.NothingToPredict h
+      by (refusals.TooManyPredictions found) h = w.sound fit ranked asked (refusals.TooManyPredictions found) h
       by (refusals.CertTooLong length) h = w.sound fit ranked asked (refusals.CertTooLong length) h
       by (refusals.Certificate fault) h = w.sound fit ranked asked (refusals.Certificate fault) h
 
@@ -161,10 +173,37 @@ module _ (words : List (List ℕ)) (source source' : Stream) (bytes : List ℕ) 
   certify_refused fit (refusals.Table fault) short other read cause = fit_refused fit (is_some fit.rank) (jobs.Certify fit) (refl, refl) (refusals.Table fault) other read cause
   certify_refused fit (refusals.Formula fault) short other read cause = fit_refused fit (is_some fit.rank) (jobs.Certify fit) (refl, refl) (refusals.Formula fault) other read cause
   certify_refused fit refusals.RankWithPenalty short other read cause = fit_refused fit (is_some fit.rank) (jobs.Certify fit) (refl, refl) refusals.RankWithPenalty other read cause
+  certify_refused fit refusals.SmoothNotTaken short other read cause = fit_refused fit (is_some fit.rank) (jobs.Certify fit) (refl, refl) refusals.SmoothNotTaken other read cause
   certify_refused fit (refusals.Design fault) short other read cause = fit_refused fit (is_some fit.rank) (jobs.Certify fit) (refl, refl) (refusals.Design fault) other read cause
   certify_refused fit (refusals.Penalty fault) short other read cause = fit_refused fit (is_some fit.rank) (jobs.Certify fit) (refl, refl) (refusals.Penalty fault) other read cause
   certify_refused fit (refusals.Program fault) short other read cause = fit_refused fit (is_some fit.rank) (jobs.Certify fit) (refl, refl) (refusals.Program fault) other read cause
+  certify_refused fit refusals.NothingToPredict short other read cause = fit_refused fit (is_some fit.rank) (jobs.Certify fit) (refl, refl) refusals.NothingToPredict other read cause
+  certify_refused fit (refusals.TooManyPredictions found) short other read cause = fit_refused fit (is_some fit.rank) (jobs.Certify fit) (refl, refl) (refusals.TooManyPredictions found) other read cause
   certify_refused fit (refusals.Certificate fault) short other read cause = fit_refused fit (is_some fit.rank) (jobs.Certify fit) (refl, refl) (refusals.Certificate fault) other read cause
+
+  -- predictions are refused neither as a fit is nor as those
+  predict_refused : (fit : FitJob) (refusal : Refusal) (other : List ℕ) → WereRead words source source' (jobs.Predict fit) other → ¬ HasPredictCause fit other (halts.Refused refusal)
+  predict_refused fit refusal other read cause = by refusal cause
+    where
+      none : (refusal : Refusal) → HasPredictionCause fit other (halts.Refused refusal) → ⊥
+      none refusal h = w.predicted fit refusal read.asked (subst (λ b. HasPredictionCause fit b (halts.Refused refusal)) (same_bytes (jobs.Predict fit) other read) h)
+
+      by : (refusal : Refusal) → HasPredictCause fit other (halts.Refused refusal) → ⊥
+      by (refusals.Dependent combination) h =
+          dependent (sample value h.asked.input.problem) _ h.cause.dependence
+          (w.rank fit true h.asked.input (record { job = jobs.Predict fit; asked = read.asked; is = (refl, refl) }) (subst (λ b. IsInput fit true b h.asked.input) (same_bytes (jobs.Predict fit) other read) (asked_input fit other h.asked h.is)))
+      by refusals.TooLong h = none refusals.TooLong h
+      by (refusals.Table fault) h = none (refusals.Table fault) h
+      by (refusals.Formula fault) h = none (refusals.Formula fault) h
+      by refusals.RankWithPenalty h = none refusals.RankWithPenalty h
+      by refusals.SmoothNotTaken h = none refusals.SmoothNotTaken h
+      by (refusals.Design fault) h = none (refusals.Design fault) h
+      by (refusals.Penalty fault) h = none (refusals.Penalty fault) h
+      by (refusals.Program fault) h = none (refusals.Program fault) h
+      by refusals.NothingToPredict h = none refusals.NothingToPredict h
+      by (refusals.TooManyPredictions found) h = none (refusals.TooManyPredictions found) h
+      by (refusals.CertTooLong length) h = none (refusals.CertTooLong length) h
+      by (refusals.Certificate fault) h = none (refusals.Certificate fault) h
 
   not_refused : (refusal : Refusal) → ((n : ℕ) → refusal ≢ refusals.CertTooLong n) → ¬ IsHalted words source source' (halts.Refused refusal)
   not_refused refusal short h = by h.job h.read h.cause
@@ -174,6 +213,7 @@ module _ (words : List (List ℕ)) (source source' : Stream) (bytes : List ℕ) 
       by (jobs.Ranks fit) read cause = fit_refused fit true (jobs.Ranks fit) (refl, refl) refusal h.bytes read cause
       by (jobs.Certify fit) read cause = certify_refused fit refusal short h.bytes read cause
       by jobs.Check read cause = unchecked read.asked
+      by (jobs.Predict fit) read cause = predict_refused fit refusal h.bytes read cause
       by (jobs.Sample job) read cause = fit_refused (sample_fit job) false (jobs.Sample job) (refl, refl) refusal h.bytes read cause
 
   -- and none is rejected
@@ -185,6 +225,7 @@ module _ (words : List (List ℕ)) (source source' : Stream) (bytes : List ℕ) 
       by (jobs.Ranks fit) read cause = absurd cause.2.cause
       by (jobs.Certify fit) read cause = absurd cause.2.cause
       by jobs.Check read cause = unchecked read.asked
+      by (jobs.Predict fit) read cause = absurd cause.2.cause
       by (jobs.Sample job) read cause = absurd cause.2.cause
 
   pub answered : (out out' err err' : Stream) (outcome : Outcome) → IsRun words source source' out out' err err' outcome → NoneRose source source' out out' err err' → IsAnswer words source source' bytes outcome
@@ -198,9 +239,12 @@ module _ (words : List (List ℕ)) (source source' : Stream) (bytes : List ℕ) 
       by (Refused (refusals.Table fault)) run = absurd (not_refused (refusals.Table fault) (λ n. λ e. cc e) run.cause)
       by (Refused (refusals.Formula fault)) run = absurd (not_refused (refusals.Formula fault) (λ n. λ e. cc e) run.cause)
       by (Refused refusals.RankWithPenalty) run = absurd (not_refused refusals.RankWithPenalty (λ n. λ e. cc e) run.cause)
+      by (Refused refusals.SmoothNotTaken) run = absurd (not_refused refusals.SmoothNotTaken (λ n. λ e. cc e) run.cause)
       by (Refused (refusals.Design fault)) run = absurd (not_refused (refusals.Design fault) (λ n. λ e. cc e) run.cause)
       by (Refused (refusals.Penalty fault)) run = absurd (not_refused (refusals.Penalty fault) (λ n. λ e. cc e) run.cause)
       by (Refused (refusals.Program fault)) run = absurd (not_refused (refusals.Program fault) (λ n. λ e. cc e) run.cause)
+      by (Refused refusals.NothingToPredict) run = absurd (not_refused refusals.NothingToPredict (λ n. λ e. cc e) run.cause)
+      by (Refused (refusals.TooManyPredictions found)) run = absurd (not_refused (refusals.TooManyPredictions found) (λ n. λ e. cc e) run.cause)
       by (Refused (refusals.CertTooLong n)) run = run.cause
       by (Refused (refusals.Certificate fault)) run = absurd (not_refused (refusals.Certificate fault) (λ n. λ e. cc e) run.cause)
       by (Refused (refusals.Dependent combination)) run = absurd (not_refused (refusals.Dependent combination) (λ n. λ e. cc e) run.cause)
@@ -219,46 +263,78 @@ module _ (words : List (List ℕ)) (source source' : Stream) (bytes : List ℕ) 
 -- ---- limits
 
 module _ (words : List (List ℕ)) (source source' : Stream) where
-  -- where the words ask for a fit, a right report is of a fit of an input that was read
-  pub report_fit : (first : FitJob) (kind : Bool) → AskFit words first kind → (report : Report) → IsAnswered words source source' report → (fit : FitJob) × (input : Input) × (f : Fit) × WasInput words source source' fit input × IsFitOf fit input f
-  report_fit first kind asked report h = by h.job report h.read h.right
+  -- the right process of an input that was read
+  pub record IsProcessRead (fit : FitJob) (input : Input) (q : Process Frac128) : Type 0 where
+    pub was : WasInput words source source' fit input
+    pub shaped : IsWellShaped input.problem
+    pub right : IsRightProcess value fit input.problem q
+
+  abbrev ProcessRead : Type 0
+  ProcessRead = (fit : FitJob) × (input : Input) × (q : Process Frac128) × IsProcessRead fit input q
+
+  -- where the words ask for a fit, a right report is of such a process
+  pub report_process : (first : FitJob) (kind : Bool) → AskFit words first kind → (report : Report) → IsAnswered words source source' report → ProcessRead
+  report_process first kind asked report h = by h.job report h.read h.right
     where
       was : (fit : FitJob) (input : Input) (ranked : Bool) (job : Job) → IsFitJob job fit ranked → WereRead words source source' job h.bytes → IsInput fit ranked (table_bytes job h.bytes) input → WasInput words source source' fit input
       was fit input ranked job is_job read is =
           record { ranked = ranked; bytes = h.bytes; asked = record { job = job; asked = read.asked; is = is_job }; read = (job, read); is = is }
 
-      by : (job : Job) (report : Report) → WereRead words source source' job h.bytes → IsRight job h.bytes report → (fit : FitJob) × (input : Input) × (f : Fit) × WasInput words source source' fit input × IsFitOf fit input f
-      by (jobs.Process fit) (reports.Process f) read right = (fit, right.0, f, was fit right.0 (is_some fit.rank) (jobs.Process fit) (refl, refl) read right.1, right.2)
+      of_fit : (fit : FitJob) (input : Input) (f : Fit) → WasInput words source source' fit input → IsFitOf fit input f → ProcessRead
+      of_fit fit input f read is = (
+        fit,
+        input,
+        f.process,
+        record {
+          was = read;
+          shaped = subst (λ (p : Problem Frac128). IsWellShaped p) is.under.problem_is is.right.shaped;
+          right = subst (λ (p : Problem Frac128). IsRightProcess value fit p f.process) is.under.problem_is is.right.process;
+        },
+      )
+
+      by : (job : Job) (report : Report) → WereRead words source source' job h.bytes → IsRight job h.bytes report → ProcessRead
+      by (jobs.Process fit) (reports.Process f) read right = of_fit fit right.0 f (was fit right.0 (is_some fit.rank) (jobs.Process fit) (refl, refl) read right.1) right.2
       by (jobs.Process fit) (reports.Ranks f) read right = absurd right
       by (jobs.Process fit) (reports.Certificate c) read right = absurd right
       by (jobs.Process fit) (reports.Checked c) read right = absurd right
+      by (jobs.Process fit) (reports.Predict f) read right = absurd right
       by (jobs.Process fit) (reports.Sample f) read right = absurd right
       by (jobs.Ranks fit) (reports.Process f) read right = absurd right
-      by (jobs.Ranks fit) (reports.Ranks f) read right = (fit, right.0, f.fit, was fit right.0 true (jobs.Ranks fit) (refl, refl) read right.1, right.2.fit)
+      by (jobs.Ranks fit) (reports.Ranks f) read right = of_fit fit right.0 f.fit (was fit right.0 true (jobs.Ranks fit) (refl, refl) read right.1) right.2.fit
       by (jobs.Ranks fit) (reports.Certificate c) read right = absurd right
       by (jobs.Ranks fit) (reports.Checked c) read right = absurd right
+      by (jobs.Ranks fit) (reports.Predict f) read right = absurd right
       by (jobs.Ranks fit) (reports.Sample f) read right = absurd right
       by (jobs.Certify fit) (reports.Process f) read right = absurd right
       by (jobs.Certify fit) (reports.Ranks f) read right = absurd right
-      by (jobs.Certify fit) (reports.Certificate c) read right = (fit, right.0.0, right.0.2.fit, was fit right.0.0 (is_some fit.rank) (jobs.Certify fit) (refl, refl) read right.0.1, right.0.2.right)
+      by (jobs.Certify fit) (reports.Certificate c) read right = of_fit fit right.0.0 right.0.2.fit (was fit right.0.0 (is_some fit.rank) (jobs.Certify fit) (refl, refl) read right.0.1) right.0.2.right
       by (jobs.Certify fit) (reports.Checked c) read right = absurd right
+      by (jobs.Certify fit) (reports.Predict f) read right = absurd right
       by (jobs.Certify fit) (reports.Sample f) read right = absurd right
       by jobs.Check (reports.Process f) read right = absurd right
       by jobs.Check (reports.Ranks f) read right = absurd right
       by jobs.Check (reports.Certificate c) read right = absurd right
       by jobs.Check (reports.Checked c) read right = absurd (no_check words asked.job first kind asked.is (one_request words jobs.Check asked.job read.asked asked.asked))
+      by jobs.Check (reports.Predict f) read right = absurd right
       by jobs.Check (reports.Sample f) read right = absurd right
+      by (jobs.Predict fit) (reports.Process f) read right = absurd right
+      by (jobs.Predict fit) (reports.Ranks f) read right = absurd right
+      by (jobs.Predict fit) (reports.Certificate c) read right = absurd right
+      by (jobs.Predict fit) (reports.Checked c) read right = absurd right
+      by (jobs.Predict fit) (reports.Predict f) read right = (fit, right.0.input, f.process, record { was = was fit right.0.input true (jobs.Predict fit) (refl, refl) read (asked_input fit h.bytes right.0 right.1); shaped = right.2.shaped; right = right.2.process })
+      by (jobs.Predict fit) (reports.Sample f) read right = absurd right
       by (jobs.Sample job) (reports.Process f) read right = absurd right
       by (jobs.Sample job) (reports.Ranks f) read right = absurd right
       by (jobs.Sample job) (reports.Certificate c) read right = absurd right
       by (jobs.Sample job) (reports.Checked c) read right = absurd right
-      by (jobs.Sample job) (reports.Sample f) read right = (sample_fit job, right.0, f, was (sample_fit job) right.0 false (jobs.Sample job) (refl, refl) read right.1, right.2)
+      by (jobs.Sample job) (reports.Predict f) read right = absurd right
+      by (jobs.Sample job) (reports.Sample f) read right = of_fit (sample_fit job) right.0 f (was (sample_fit job) right.0 false (jobs.Sample job) (refl, refl) read right.1) right.2
 
   pub limited : (first : FitJob) (kind : Bool) → AskFit words first kind → (out out' err err' : Stream) (outcome : Outcome) → IsRun words source source' out out' err err' outcome
       → ((fit : FitJob) (input : Input) → WasInput words source source' fit input → IsLimitedInput fit input) → IsNoReport outcome
   limited first kind asked out out' err err' (Done report) run reaches =
-      let h = report_fit first kind asked report run.cause in
-      h.4.right.unlimited (subst (λ (p : Problem Frac128). IsLimited {F = Frac128} value (sample value p) (rational (value h.0.lo)) (rational (value h.0.hi)) h.0.limit) (sym h.4.under.problem_is) (reaches h.0 h.1 h.3))
+      let h = report_process first kind asked report run.cause in
+      h.3.right.unlimited (reaches h.0 h.1 h.3.was)
   limited first kind asked out out' err err' (Refused refusal) run reaches = tt
   limited first kind asked out out' err err' (Usage fault) run reaches = tt
   limited first kind asked out out' err err' SourceFault run reaches = tt
@@ -274,6 +350,7 @@ module _ (words : List (List ℕ)) (source source' : Stream) where
   limit_below places.Process fit input limit trail h = (h.shown, h.below)
   limit_below (places.Interval column tau) fit input limit trail h = (h.shown, h.below)
   limit_below places.Check fit input limit trail h = absurd h
+  limit_below (places.Predict rec) fit input limit trail h = absurd h
 
   pub ample : (out out' err err' : Stream) (place : Place) (limit : ℕ) (trail : Trail Frac128)
       → ((fit : FitJob) (input : Input) → WasInput words source source' fit input → (parts_of place * further_bases (sample value input.problem)) ≤ fit.limit)
@@ -291,13 +368,14 @@ module _ (words : List (List ℕ)) (source source' : Stream) where
   limited_rank places.Process fit input limit trail h = process_full value (sample value input.problem) (rational (value fit.lo)) (rational (value fit.hi)) limit trail h.reached
   limited_rank (places.Interval column tau) fit input limit trail h = interval_full value (sample value input.problem) column (rational (value tau)) h.bound limit trail h.reached
   limited_rank places.Check fit input limit trail h = absurd h
+  limited_rank (places.Predict rec) fit input limit trail h = absurd h
 
   pub unfitted : (first : FitJob) (kind : Bool) → AskFit words first kind → (out out' err err' : Stream) (outcome : Outcome) → IsRun words source source' out out' err err' outcome
       → ((fit : FitJob) (input : Input) → WasInput words source source' fit input → ¬ HasFullRank (sample value input.problem)) → IsUnfitted outcome
   unfitted first kind asked out out' err err' (Done report) run dependent =
-      let h = report_fit first kind asked report run.cause in
-      let end = h.4.right.results.ended in
-      dependent h.0 h.1 h.3 (subst (λ (p : Problem Frac128). HasFullRank (sample value p)) h.4.under.problem_is (full_rank (sample value h.2.problem) (slice_index h.4.right.results.basis) end.a end.is_basis))
+      let h = report_process first kind asked report run.cause in
+      let end = h.3.right.results.ended in
+      dependent h.0 h.1 h.3.was (full_rank (sample value h.1.problem) (slice_index h.3.right.results.basis) end.a end.is_basis)
   unfitted first kind asked out out' err err' (PivotLimit place limit trail) run dependent =
       let needed = limit_needed words source source' place limit trail run.cause in
       dependent needed.0 needed.1 needed.2 (limited_rank place needed.0 needed.1 limit trail needed.3)

@@ -32,6 +32,7 @@ module _ (law : GeneratedTablesHaveNoFault) (words : List (List ℕ)) (g : IsGen
   alone (jobs.Ranks fit) asked P p = absurd (cc (sym asked ∙ g.asked))
   alone (jobs.Certify fit) asked P p = absurd (cc (sym asked ∙ g.asked))
   alone jobs.Check asked P p = absurd (cc (sym asked ∙ g.asked))
+  alone (jobs.Predict fit) asked P p = absurd (cc (sym asked ∙ g.asked))
   alone (jobs.Sample s) asked P p = p s asked
 
   -- its bytes have no fault
@@ -60,6 +61,7 @@ module _ (law : GeneratedTablesHaveNoFault) (words : List (List ℕ)) (g : IsGen
     told = λ reads. absurd reads;
     short = λ reads. absurd reads;
     sound = sound;
+    predicted = λ fit refusal asked. absurd (cc (sym asked ∙ g.asked));
     rank = rank;
   }
 
@@ -74,9 +76,12 @@ module _ (law : GeneratedTablesHaveNoFault) (words : List (List ℕ)) (g : IsGen
     not_too_long out out' err err' (Refused (refusals.Table fault)) run = tt
     not_too_long out out' err err' (Refused (refusals.Formula fault)) run = tt
     not_too_long out out' err err' (Refused refusals.RankWithPenalty) run = tt
+    not_too_long out out' err err' (Refused refusals.SmoothNotTaken) run = tt
     not_too_long out out' err err' (Refused (refusals.Design fault)) run = tt
     not_too_long out out' err err' (Refused (refusals.Penalty fault)) run = tt
     not_too_long out out' err err' (Refused (refusals.Program fault)) run = tt
+    not_too_long out out' err err' (Refused refusals.NothingToPredict) run = tt
+    not_too_long out out' err err' (Refused (refusals.TooManyPredictions found)) run = tt
     not_too_long out out' err err' (Refused (refusals.CertTooLong n)) run = short n run.cause
     not_too_long out out' err err' (Refused (refusals.Certificate fault)) run = tt
     not_too_long out out' err err' (Refused (refusals.Dependent combination)) run = tt

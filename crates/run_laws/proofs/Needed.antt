@@ -12,6 +12,7 @@ use Rattle.walk_rule.specs.WalkTrails.{ReachesProcessLimit, ReachesIntervalLimit
 use Rattle.pivot_bound.specs.BoundLaws.{further_bases}
 use Rattle.stop_laws.specs.NeededStops.{DoesOverflow}
 use Rattle.stop_laws.proofs.Needed.{below, dependent}
+use Rattle.stop_laws.proofs.Spilled.{of_process}
 use Rattle.interval_laws.proofs.Needed.{interval_needed}
 use Rattle.interval_laws.proofs.Spilled.{of_interval}
 use Rattle.pivot_bound.proofs.Bounds.{process_within}
@@ -31,13 +32,14 @@ use Rattle.rq_fit.specs.Stops.{HasStoppedInterval, most}
 use Rattle.rq_fit.proofs.Costs.{low_costs}
 use Rattle.rq_fit.proofs.Scoring.{unit_ask}
 use Rattle.rq_engine.specs.Answers as engine
-use Rattle.rq_engine.specs.Answers.{LacksFit}
+use Rattle.rq_engine.specs.Answers.{LacksFit, LacksPredictFit}
 use Rattle.rq_engine.specs.Jobs.{sample_fit, sample_table}
 use Rattle.rq_engine.proofs.Asked.{asked_job}
 use Rattle.rq_cli.specs.Outcomes.{Stream, IsHalted, WereRead}
 use Rattle.run_laws.specs.NeededOutcomes.{IsFitJob, table_bytes, WasInput, ReachesItsLimit, ReachesItsIntervalLimit, ReachesLimitAt, OverflowsAt}
+use Rattle.run_laws.proofs.AskedInputs.{asked_input}
 use Rattle.run_laws.proofs.AskedIntervals.{asked_there, inner_costs}
-use Rattle.run_laws.proofs.Spilled.{of_fit, of_wilcoxon}
+use Rattle.run_laws.proofs.Spilled.{of_fit, of_row, of_wilcoxon}
 
 -- ---- a limit
 
@@ -69,6 +71,13 @@ reached : (fit : FitJob) (ranked : Bool) (bytes : List ℕ) (place : Place) (lim
 reached fit ranked bytes places.Process limit trail ask h = reached_process fit h.input limit trail ask h.rows h.cause.0 h.cause.1
 reached fit ranked bytes (places.Interval column tau) limit trail ask h = reached_interval fit h.input column tau limit trail ask h.rows h.cause.stopped
 reached fit ranked bytes places.Check limit trail ask h = absurd h.cause
+reached fit ranked bytes (places.Predict rec) limit trail ask h = absurd h.cause
+
+predict_reached : (fit : FitJob) (bytes : List ℕ) (place : Place) (limit : ℕ) (trail : Trail Frac128) → IsFitAsk fit → (h : LacksPredictFit fit bytes (PivotLimit place limit trail)) → ReachesLimitAt place fit h.asked.input limit trail
+predict_reached fit bytes places.Process limit trail ask h = reached_process fit h.asked.input limit trail ask h.rows h.cause.0 h.cause.1
+predict_reached fit bytes (places.Interval column tau) limit trail ask h = absurd h.cause
+predict_reached fit bytes places.Check limit trail ask h = absurd h.cause
+predict_reached fit bytes (places.Predict rec) limit trail ask h = absurd h.cause
 
 -- a job and its bytes, of which the input was read
 module _ (words : List (List ℕ)) (source source' : Stream) where
@@ -105,6 +114,12 @@ module _ (words : List (List ℕ)) (source source' : Stream) where
         reached fit (is_some fit.rank) h.bytes place limit trail (asked_job words (jobs.Certify fit) read.asked).0 cause,
       )
       by jobs.Check read cause = absurd cause
+      by (jobs.Predict fit) read cause = (
+        fit,
+        cause.asked.input,
+        was fit cause.asked.input true h.bytes (jobs.Predict fit) (refl, refl) read (asked_input fit h.bytes cause.asked cause.is),
+        predict_reached fit h.bytes place limit trail (asked_job words (jobs.Predict fit) read.asked).0 cause,
+      )
       by (jobs.Sample job) read cause = (
         sample_fit job,
         cause.input,
@@ -126,6 +141,12 @@ module _ (words : List (List ℕ)) (source source' : Stream) where
       by (jobs.Ranks fit) read cause = of fit true (jobs.Ranks fit) (refl, refl) read cause
       by (jobs.Certify fit) read cause = of fit (is_some fit.rank) (jobs.Certify fit) (refl, refl) read cause
       by jobs.Check read cause = absurd cause
+      by (jobs.Predict fit) read cause = (
+        fit,
+        cause.asked.input,
+        was fit cause.asked.input true h.bytes (jobs.Predict fit) (refl, refl) read (asked_input fit h.bytes cause.asked cause.is),
+        dependent (sample value cause.asked.input.problem) _ cause.cause.dependence,
+      )
       by (jobs.Sample job) read cause = of (sample_fit job) false (jobs.Sample job) (refl, refl) read cause
 
   -- ---- an overflow
@@ -143,6 +164,7 @@ module _ (words : List (List ℕ)) (source source' : Stream) where
       by (jobs.Ranks fit) (inr cause) = of_wilcoxon value most spill cause.input.problem cause.operation.segments cause.operation.operation
       by (jobs.Certify fit) cause = of fit (is_some fit.rank) h.bytes cause
       by jobs.Check cause = absurd cause
+      by (jobs.Predict fit) cause = of_process value most spill cause.asked.input.problem _ _ _ trail cause.cause
       by (jobs.Sample job) cause = of (sample_fit job) false (sample_table job) cause
   overflow_needed (places.Interval column tau) trail spill h = by h.job h.cause
     where
@@ -155,4 +177,14 @@ module _ (words : List (List ℕ)) (source source' : Stream) where
       by (jobs.Ranks fit) cause = of fit true h.bytes cause
       by (jobs.Certify fit) cause = of fit (is_some fit.rank) h.bytes cause
       by jobs.Check cause = absurd cause
+      by (jobs.Predict fit) cause = absurd cause.cause
       by (jobs.Sample job) cause = of (sample_fit job) false (sample_table job) cause
+  overflow_needed (places.Predict rec) trail spill h = by h.job h.cause
+    where
+      by : (job : Job) → engine.HasCause job h.bytes (Overflow (places.Predict rec) trail spill) → DoesOverflow value most spill
+      by (jobs.Process fit) cause = absurd cause.cause
+      by (jobs.Ranks fit) cause = absurd cause.cause
+      by (jobs.Certify fit) cause = absurd cause.cause
+      by jobs.Check cause = absurd cause
+      by (jobs.Predict fit) cause = of_row _ _ cause.cause.segments cause.cause.row spill cause.cause.operation
+      by (jobs.Sample job) cause = absurd cause.cause

@@ -1,8 +1,10 @@
--- Where a run stops for an overflow, the operation overflows: of the solver, of a rankscore or of a Wilcoxon score.
+-- Where a run stops for an overflow, the operation overflows: of the solver, of a rankscore, of a Wilcoxon score or of a
+-- prediction.
 use Rattle.std.specs.Prelude.{ℕ, List, length}
 use Rattle.std.proofs.Common.{inl, inr}
 use Rattle.exact_algebra.specs.Fraction.{Fraction, rational}
 use Rattle.exact_algebra.specs.Rational.{ℚ}
+use Rattle.frac_core.specs.declared.frac128.Frac128.{Frac128}
 use Rattle.loss_model.specs.declared.problem.Problem.{Problem}
 use Rattle.loss_model.specs.declared.process.Segment.{Segment}
 use Rattle.loss_model.specs.declared.process.Trail.{Trail}
@@ -13,8 +15,15 @@ use Rattle.loss_model.specs.declared.vertex.Vertex.{Vertex}
 use Rattle.loss_model.specs.Vertex.{dual_value}
 use Rattle.rankscores.specs.Spills.{score_site, score_operations, IsEndSpill, IsScoresSpill, IsAreaSpill, IsIntegrationSpill, IsWilcoxonSpill}
 use Rattle.stop_laws.specs.NeededStops.{DoesOverflow}
-use Rattle.stop_laws.proofs.Spilled.{operation, among, of_process}
-use Rattle.rq_fit.specs.Stops.{IsFitSpill}
+use Rattle.stop_laws.proofs.Spilled.{operation, among, products, of_process}
+use Rattle.loss_model.specs.declared.spill.Quantity.TheVariants.{Prediction}
+use Rattle.loss_model.specs.Spill.{site_of}
+use Rattle.predict_steps.specs.Predictions.{pieces}
+use Rattle.predict_steps.specs.Spills.{IsPredictionSpill, IsRearrangementSpill}
+use Rattle.design_matrix.specs.declared.design.PredictRow.{PredictRow}
+use Rattle.report_text.specs.ReportText.{value}
+use Rattle.rq_fit.specs.Predicted.{IsRowSpill}
+use Rattle.rq_fit.specs.Stops.{IsFitSpill, most}
 
 module _ {F : Type 0} (value : F → Fraction) (range : ℕ) (s : Spill F) (p : Problem F) where
   abbrev Here : Type 0
@@ -47,3 +56,16 @@ module _ {F : Type 0} (value : F → Fraction) (range : ℕ) (s : Spill F) (p : 
   pub of_fit : (n : ℕ) (lo hi : ℚ) (limit : ℕ) (trail : Trail F) → IsFitSpill value range p n lo hi limit trail s → Here
   of_fit n lo hi limit trail (inl h) = of_process value range s p lo hi limit trail h
   of_fit n lo hi limit trail (inr h) = scored n h.operation.number h.operation.segment h.operation.operation
+
+-- of a prediction, or of its rearrangement
+pub of_row : (lo hi : ℚ) (segments : List (Segment Frac128)) (row : PredictRow) (s : Spill Frac128) → IsRowSpill lo hi segments row s → DoesOverflow value most s
+of_row lo hi segments row s (inl h) = predicted h.operation
+  where
+    predicted : IsPredictionSpill value most (site_of Prediction row.rec h.number 0) row.x row.offsets h.segment.vertex.coef s → DoesOverflow value most s
+    predicted (inl k) = products value most s k
+    predicted (inr k) = operation value most s k.2
+of_row lo hi segments row s (inr h) = rearranged h.2
+  where
+    rearranged : IsRearrangementSpill value most lo hi row.rec (pieces value h.0) s → DoesOverflow value most s
+    rearranged (inl k) = operation value most s k.2
+    rearranged (inr k) = operation value most s k.2.2

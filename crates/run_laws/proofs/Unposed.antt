@@ -2,7 +2,6 @@
 use Rattle.std.specs.Prelude.{◌≡◌, ℕ, Bool, true, false, is_some, List, Some}
 use Rattle.std.proofs.Common.{refl, subst, inl, inr}
 use Rattle.frac_core.specs.declared.frac128.Frac128.{Frac128}
-use Rattle.loss_model.specs.declared.problem.Problem.{Problem}
 use Rattle.loss_model.specs.declared.process.Trail.{Trail}
 use Rattle.loss_model.specs.declared.spill.Spill.{Spill}
 use Rattle.loss_model.specs.Problem.{IsWellShaped}
@@ -19,14 +18,15 @@ use Rattle.rq_input.specs.Inputs.{HasInputCause, IsInput}
 use Rattle.rq_input.specs.declared.input.Input.{Input}
 use Rattle.input_laws.specs.Laws.{InputsHaveNoFault}
 use Rattle.rq_engine.specs.Answers as engine
-use Rattle.rq_engine.specs.Answers.{LacksFit}
+use Rattle.rq_engine.specs.Answers.{LacksFit, LacksPredictFit}
 use Rattle.rq_engine.specs.Jobs.{sample_fit}
 use Rattle.rq_cli.specs.Outcomes.{Stream, IsRun, IsHalted, Reads, WereRead}
 use Rattle.rq_cli.specs.declared.outcome.Outcome.{Outcome}
 use Rattle.rq_cli.specs.declared.outcome.Outcome.TheVariants.{Done, Refused, Usage, SourceFault, SinkFault, OutOfMemory, PivotLimit, Overflow, Rejected}
 use Rattle.run_laws.specs.Completeness.{IsUnposed}
 use Rattle.run_laws.specs.NeededOutcomes.{AskFit, IsFitJob, table_bytes}
-use Rattle.run_laws.proofs.Complete.{no_check, one_request, report_fit, same_table}
+use Rattle.run_laws.proofs.AskedInputs.{asked_input}
+use Rattle.run_laws.proofs.Complete.{no_check, one_request, report_process, same_table}
 
 module _ (law : InputsHaveNoFault) (words : List (List ℕ)) (source source' : Stream) (bytes : List ℕ) (first : FitJob) (kind : Bool) (asked : AskFit words first kind) (told : Reads asked.job → source.bytes ≡ Some bytes)
     (faulty : (fit : FitJob) (ranked : Bool) (ask : AskFit words fit ranked) → (refusal : Refusal) × HasInputCause fit ranked (table_bytes ask.job bytes) (halts.Refused refusal)) where
@@ -47,6 +47,10 @@ module _ (law : InputsHaveNoFault) (words : List (List ℕ)) (source source' : S
   unchecked : (other : List ℕ) → WereRead words source source' jobs.Check other → ⊥
   unchecked other read = no_check words asked.job first kind asked.is (one_request words jobs.Check asked.job read.asked asked.asked)
 
+  no_prediction : (fit : FitJob) (other : List ℕ) → WereRead words source source' (jobs.Predict fit) other → (halt : Halt) → LacksPredictFit fit other halt → ⊥
+  no_prediction fit other read halt h =
+      no_input fit true (ask_of (jobs.Predict fit) fit true (refl, refl) other read) (jobs.Predict fit) other read h.asked.input (asked_input fit other h.asked h.is) h.rows.shaped
+
   dependent : (combination : List Frac128) → IsHalted words source source' (halts.Refused (refusals.Dependent combination)) → ⊥
   dependent combination h = by h.job h.read h.cause
     where
@@ -55,6 +59,7 @@ module _ (law : InputsHaveNoFault) (words : List (List ℕ)) (source source' : S
       by (jobs.Ranks fit) read cause = no_stop (jobs.Ranks fit) fit true (refl, refl) h.bytes read _ cause
       by (jobs.Certify fit) read cause = no_stop (jobs.Certify fit) fit (is_some fit.rank) (refl, refl) h.bytes read _ cause
       by jobs.Check read cause = unchecked h.bytes read
+      by (jobs.Predict fit) read cause = no_prediction fit h.bytes read _ cause
       by (jobs.Sample job) read cause = no_stop (jobs.Sample job) (sample_fit job) false (refl, refl) h.bytes read _ cause
 
   too_long : (n : ℕ) → IsHalted words source source' (halts.Refused (refusals.CertTooLong n)) → ⊥
@@ -65,6 +70,7 @@ module _ (law : InputsHaveNoFault) (words : List (List ℕ)) (source source' : S
       by (jobs.Ranks fit) read cause = cause.2.cause
       by (jobs.Certify fit) read cause = no_input fit (is_some fit.rank) (ask_of (jobs.Certify fit) fit (is_some fit.rank) (refl, refl) h.bytes read) (jobs.Certify fit) h.bytes read cause.right.0 cause.right.1 cause.right.2.rows.shaped
       by jobs.Check read cause = unchecked h.bytes read
+      by (jobs.Predict fit) read cause = cause.2.cause
       by (jobs.Sample job) read cause = cause.2.cause
 
   limited : (place : Place) (limit : ℕ) (trail : Trail Frac128) → IsHalted words source source' (halts.PivotLimit place limit trail) → ⊥
@@ -75,6 +81,7 @@ module _ (law : InputsHaveNoFault) (words : List (List ℕ)) (source source' : S
       by (jobs.Ranks fit) read cause = no_stop (jobs.Ranks fit) fit true (refl, refl) h.bytes read _ cause
       by (jobs.Certify fit) read cause = no_stop (jobs.Certify fit) fit (is_some fit.rank) (refl, refl) h.bytes read _ cause
       by jobs.Check read cause = unchecked h.bytes read
+      by (jobs.Predict fit) read cause = no_prediction fit h.bytes read _ cause
       by (jobs.Sample job) read cause = no_stop (jobs.Sample job) (sample_fit job) false (refl, refl) h.bytes read _ cause
 
   spilled : (place : Place) (trail : Trail Frac128) (spill : Spill Frac128) → IsHalted words source source' (halts.Overflow place trail spill) → ⊥
@@ -86,15 +93,17 @@ module _ (law : InputsHaveNoFault) (words : List (List ℕ)) (source source' : S
       by places.Process (jobs.Ranks fit) read (inr cause) = no_input fit true (ask_of (jobs.Ranks fit) fit true (refl, refl) h.bytes read) (jobs.Ranks fit) h.bytes read cause.input cause.is cause.rows.shaped
       by (places.Interval column tau) (jobs.Ranks fit) read cause = no_stop (jobs.Ranks fit) fit true (refl, refl) h.bytes read _ cause
       by places.Check (jobs.Ranks fit) read cause = no_stop (jobs.Ranks fit) fit true (refl, refl) h.bytes read _ cause
+      by (places.Predict rec) (jobs.Ranks fit) read cause = no_stop (jobs.Ranks fit) fit true (refl, refl) h.bytes read _ cause
       by place (jobs.Certify fit) read cause = no_stop (jobs.Certify fit) fit (is_some fit.rank) (refl, refl) h.bytes read _ cause
       by place jobs.Check read cause = unchecked h.bytes read
+      by place (jobs.Predict fit) read cause = no_prediction fit h.bytes read _ cause
       by place (jobs.Sample job) read cause = no_stop (jobs.Sample job) (sample_fit job) false (refl, refl) h.bytes read _ cause
 
   pub unposed : (out out' err err' : Stream) (outcome : Outcome) → IsRun words source source' out out' err err' outcome → IsUnposed outcome
   unposed out out' err err' (Done report) run =
-      let h = report_fit words source source' first kind asked report run.cause in
-      let was = h.3 in
-      no_input h.0 was.ranked was.asked was.read.0 was.bytes was.read.1 h.1 was.is (subst (λ (p : Problem Frac128). IsWellShaped p) h.4.under.problem_is h.4.right.shaped)
+      let h = report_process words source source' first kind asked report run.cause in
+      let was = h.3.was in
+      no_input h.0 was.ranked was.asked was.read.0 was.bytes was.read.1 h.1 was.is h.3.shaped
   unposed out out' err err' (PivotLimit place limit trail) run = limited place limit trail run.cause
   unposed out out' err err' (Overflow place trail spill) run = spilled place trail spill run.cause
   unposed out out' err err' (Refused (refusals.Dependent combination)) run = dependent combination run.cause
@@ -103,9 +112,12 @@ module _ (law : InputsHaveNoFault) (words : List (List ℕ)) (source source' : S
   unposed out out' err err' (Refused (refusals.Table fault)) run = tt
   unposed out out' err err' (Refused (refusals.Formula fault)) run = tt
   unposed out out' err err' (Refused refusals.RankWithPenalty) run = tt
+  unposed out out' err err' (Refused refusals.SmoothNotTaken) run = tt
   unposed out out' err err' (Refused (refusals.Design fault)) run = tt
   unposed out out' err err' (Refused (refusals.Penalty fault)) run = tt
   unposed out out' err err' (Refused (refusals.Program fault)) run = tt
+  unposed out out' err err' (Refused refusals.NothingToPredict) run = tt
+  unposed out out' err err' (Refused (refusals.TooManyPredictions found)) run = tt
   unposed out out' err err' (Refused (refusals.Certificate fault)) run = tt
   unposed out out' err err' (Usage fault) run = tt
   unposed out out' err err' SourceFault run = tt

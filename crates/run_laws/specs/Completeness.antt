@@ -24,6 +24,7 @@ use Rattle.report_text.specs.declared.report.Refusal.TheVariants.{CertTooLong, D
 use Rattle.report_text.specs.declared.report.Report.TheVariants as reports
 use Rattle.report_text.specs.declared.report.Halt.TheVariants as halts
 use Rattle.rq_input.specs.Inputs.{HasInputCause, IsInput}
+use Rattle.rq_input.specs.Predictions.{HasPredictionCause}
 use Rattle.rq_input.specs.declared.input.Input.{Input}
 use Rattle.rq_engine.specs.Answers.{IsRight}
 use Rattle.rq_engine.specs.Checks.{IsCertOf}
@@ -40,7 +41,7 @@ NoneRose source source' out out' err err' =
 
 -- the words ask for a fit of a table; where it comes from the source, that tells these bytes and not too many; the table's
 -- bytes have no fault as a table, by the formula, as a design, in what smooths add or as a problem, and their problem has
--- full rank
+-- full rank; and where the words ask for predictions, they have no fault as those
 pub record IsWellFormed (words : List (List ℕ)) (source : Stream) (bytes : List ℕ) : Type 0 where
   pub fit : FitJob
   pub ranked : Bool
@@ -48,6 +49,7 @@ pub record IsWellFormed (words : List (List ℕ)) (source : Stream) (bytes : Lis
   pub told : Reads asked.job → source.bytes ≡ Some bytes
   pub short : Reads asked.job → length bytes ≤ most_bytes
   pub sound : (fit : FitJob) (ranked : Bool) (asked : AskFit words fit ranked) (refusal : Refusal) → ¬ HasInputCause fit ranked (table_bytes asked.job bytes) (halts.Refused refusal)
+  pub predicted : (fit : FitJob) (refusal : Refusal) → IsJobOf words (jobs.Predict fit) → ¬ HasPredictionCause fit bytes (halts.Refused refusal)
   pub rank : (fit : FitJob) (ranked : Bool) (input : Input) (asked : AskFit words fit ranked) → IsInput fit ranked (table_bytes asked.job bytes) input → HasFullRank (sample value input.problem)
 
 -- it has the right report, or reaches its limit, or an operation overflows, or its certificate is too long; want of
@@ -107,6 +109,14 @@ FaultIsAnswered =
     → ((fit : FitJob) (ranked : Bool) (ask : AskFit words fit ranked) → (refusal : Refusal) × HasInputCause fit ranked (table_bytes ask.job bytes) (halts.Refused refusal))
     → IsRun words source source' out out' err err' outcome → IsUnposed outcome
 
+-- so it is where the words ask for predictions, and the bytes have a fault as those
+abbrev pub PredictionFaultIsAnswered : Type 0
+PredictionFaultIsAnswered =
+    (words : List (List ℕ)) (source source' out out' err err' : Stream) (bytes : List ℕ) (outcome : Outcome) (first : FitJob)
+    → IsJobOf words (jobs.Predict first) → source.bytes ≡ Some bytes
+    → ((fit : FitJob) → IsJobOf words (jobs.Predict fit) → (refusal : Refusal) × HasPredictionCause fit bytes (halts.Refused refusal))
+    → IsRun words source source' out out' err err' outcome → IsUnposed outcome
+
 -- the words ask for a check, and the bytes that the source tells are not too many; they are this certificate, and all
 -- its conditions are true
 pub record IsPassing (words : List (List ℕ)) (source : Stream) (bytes : List ℕ) (cert : Cert) : Type 0 where
@@ -154,6 +164,7 @@ abbrev pub parts_of : Place → ℕ
 parts_of places.Process = 2
 parts_of (places.Interval column tau) = 3
 parts_of places.Check = 0
+parts_of (places.Predict rec) = 0
 
 -- where no fewer pivots are allowed than that, the limit doesn't stop the process or the interval
 abbrev pub AmpleLimitIsNeverReached : Type 0

@@ -24,11 +24,13 @@ use Rattle.rq_engine.specs.Jobs.{IsJobOf, sample_fit, sample_table}
 use Rattle.rq_cli.specs.Outcomes.{Stream, IsRun, WereRead}
 use Rattle.rq_cli.specs.declared.outcome.Outcome.TheVariants.{Refused, PivotLimit, Overflow}
 
--- the job is this fit of a table, with or without ranks, as a report, as a certificate or as a summary
+-- the job is this fit of a table, with or without ranks, as a report, as a certificate, as a summary or as predictions;
+-- no predictions are made with smooths, as no ranks are
 abbrev pub IsFitJob : Job → FitJob → Bool → Type 0
 IsFitJob (jobs.Process job) fit ranked = (job ≡ fit) × (is_some job.rank ≡ ranked)
 IsFitJob (jobs.Ranks job) fit ranked = (job ≡ fit) × (true ≡ ranked)
 IsFitJob (jobs.Certify job) fit ranked = (job ≡ fit) × (is_some job.rank ≡ ranked)
+IsFitJob (jobs.Predict job) fit ranked = (job ≡ fit) × (true ≡ ranked)
 IsFitJob (jobs.Sample job) fit ranked = (sample_fit job ≡ fit) × (false ≡ ranked)
 IsFitJob jobs.Check fit ranked = ⊥
 

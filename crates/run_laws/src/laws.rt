@@ -1,10 +1,12 @@
 //! The laws of a run. Each function does nothing: its contract is the law.
 
-ghost use Rattle.run_laws.specs.Completeness.{Completeness, SampleIsAnswered, CheckIsAnswered, FaultIsAnswered, LimitIsAnswered, AmpleLimitIsNeverReached, DependenceIsAnswered};
+ghost use Rattle.run_laws.specs.Completeness.{Completeness, SampleIsAnswered, CheckIsAnswered, FaultIsAnswered, PredictionFaultIsAnswered, LimitIsAnswered, AmpleLimitIsNeverReached, DependenceIsAnswered};
 ghost use Rattle.run_laws.specs.NeededOutcomes.{LimitIsNeeded, OverflowIsNeeded, DependenceIsNeeded};
 
 use cert_text::same_content;
-use input_laws::laws::{generated_tables_have_no_fault, inputs_have_no_fault};
+use input_laws::laws::{
+    generated_tables_have_no_fault, inputs_have_no_fault, predictions_have_no_fault,
+};
 
 /// A run that stops for a limit, for an overflow or for dependent columns had to: the lawful trail of the
 /// problem reaches the limit, which is less than the bases of both parts; the operation overflows; the
@@ -25,6 +27,7 @@ pub fn complete()
     ensures answered { Completeness }
     ensures generated { SampleIsAnswered }
     ensures faults { FaultIsAnswered }
+    ensures predictions { PredictionFaultIsAnswered }
     ensures checked { CheckIsAnswered }
     ensures limited { LimitIsAnswered }
     ensures ample { AmpleLimitIsNeverReached }
@@ -32,5 +35,6 @@ pub fn complete()
 {
     same_content();
     inputs_have_no_fault();
+    predictions_have_no_fault();
     generated_tables_have_no_fault();
 }

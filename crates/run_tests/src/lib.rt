@@ -16,6 +16,8 @@ mod intervals;
 #[cfg(test)]
 mod medians;
 #[cfg(test)]
+mod predictions;
+#[cfg(test)]
 mod ranges;
 #[cfg(test)]
 mod ranks;

@@ -22,3 +22,9 @@ certify_bytes-requires-clause-long g c κs within = (subst IsAskedJob c.in-Certi
 
 pub fit_sample-requires-clause-ask : goal.fit_sample-requires-clause-ask
 fit_sample-requires-clause-ask g c κs within = subst IsAskedJob c.in-Sample.is (asked_job c.requires.asked.0 c.args.job.now c.requires.asked.1)
+
+pub predict_bytes-requires-clause-ask : goal.predict_bytes-requires-clause-ask
+predict_bytes-requires-clause-ask g c κs within = (subst IsAskedJob c.in-Predict.is (asked_job c.requires.asked.0 c.args.job.now c.requires.asked.1)).0
+
+pub predict_bytes-requires-clause-long : goal.predict_bytes-requires-clause-long
+predict_bytes-requires-clause-long g c κs within = (subst IsAskedJob c.in-Predict.is (asked_job c.requires.asked.0 c.args.job.now c.requires.asked.1)).1

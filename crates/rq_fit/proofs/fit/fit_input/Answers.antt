@@ -3,7 +3,7 @@ use Rattle.exact_algebra.specs.Fraction.{rational}
 use Rattle.report_text.specs.ReportText.{value}
 use Rattle.rankscores.specs.Scores.{IsScored}
 use Rattle.rq_fit.proofs.Costs.{high_costs, low_costs}
-use Rattle.rq_fit.proofs.Fits.{few_segments, interval_cause, process_scorable, right_fit, short_cause, stop_cause}
+use Rattle.rq_fit.proofs.Fits.{few_segments, interval_cause, process_scorable, right_fit, right_process, short_cause, stop_cause}
 use Rattle.rq_fit.proofs.Scores.{zip_length}
 use Rattle.rq_fit.proofs.fit.fit_input.Goals as goal
 
@@ -45,8 +45,8 @@ returns-in-Ok-fit_of-clause-right g c =
     let under = c.in-Ok-fit_of.ensures.under in
     record {
       under = under;
-      right = right_fit c.args.job.now (length c.args.input.design.rows) c.args.input.problem c.in-Ok.walked c.in-Ok-all_scores.scores c.in-Ok-job_intervals.intervals c.requires.rows.shaped c.in-Ok.ensures.process c.in-Ok.ensures.short
-          (λ some. c.in-Ok.ensures.limited some) (rw c.as_slice-segments.ensures at (rw c.as_slice.ensures at c.in-Ok-all_scores.ensures.scored)) c.in-Ok-job_intervals.ensures.right c.in-Ok-fit_of.fit c.in-Ok-fit_of.ensures.process
+      right = right_fit c.args.job.now (length c.args.input.design.rows) c.args.input.problem c.in-Ok.walked c.in-Ok-all_scores.scores c.in-Ok-job_intervals.intervals c.requires.rows.shaped
+          (right_process c.args.job.now c.args.input.problem c.in-Ok.walked c.in-Ok.ensures.process c.in-Ok.ensures.short (λ some. c.in-Ok.ensures.limited some)) (rw c.as_slice-segments.ensures at (rw c.as_slice.ensures at c.in-Ok-all_scores.ensures.scored)) c.in-Ok-job_intervals.ensures.right c.in-Ok-fit_of.fit c.in-Ok-fit_of.ensures.process
           c.in-Ok-fit_of.ensures.scores c.in-Ok-fit_of.ensures.intervals under.problem_is under.data_rows;
     }
 

@@ -1,0 +1,84 @@
+-- Where bytes have a fault as predictions, nothing is predicted, and no fit stops.
+use Rattle.std.specs.Prelude.{◌≡◌, ℕ, List, Some}
+use Rattle.std.proofs.Common.{sym, subst, ◌∙◌}
+use Rattle.frac_core.specs.declared.frac128.Frac128.{Frac128}
+use Rattle.loss_model.specs.Problem.{IsWellShaped}
+use Rattle.rq_words.specs.declared.job.FitJob.{FitJob}
+use Rattle.rq_words.specs.declared.job.Job.{Job}
+use Rattle.rq_words.specs.declared.job.Job.TheVariants as jobs
+use Rattle.report_text.specs.declared.report.Refusal.{Refusal}
+use Rattle.report_text.specs.declared.report.Refusal.TheVariants as refusals
+use Rattle.report_text.specs.declared.report.Report.{Report}
+use Rattle.report_text.specs.declared.report.Report.TheVariants as reports
+use Rattle.report_text.specs.declared.report.Halt.{Halt}
+use Rattle.report_text.specs.declared.report.Halt.TheVariants as halts
+use Rattle.rq_input.specs.Predictions.{HasPredictionCause, IsPrediction}
+use Rattle.rq_input.specs.declared.predictions.PredictionInput.{PredictionInput}
+use Rattle.input_laws.specs.Laws.{PredictionsHaveNoFault}
+use Rattle.rq_engine.specs.Answers as engine
+use Rattle.rq_engine.specs.Answers.{IsRight, LacksPredictFit}
+use Rattle.rq_engine.specs.Jobs.{IsJobOf}
+use Rattle.rq_cli.specs.Outcomes.{Stream, IsRun, IsHalted, WereRead}
+use Rattle.rq_cli.specs.declared.outcome.Outcome.{Outcome}
+use Rattle.rq_cli.specs.declared.outcome.Outcome.TheVariants.{Done, Refused, Usage, SourceFault, SinkFault, OutOfMemory, PivotLimit, Overflow, Rejected}
+use Rattle.run_laws.specs.Completeness.{IsUnposed}
+use Rattle.run_laws.proofs.Complete.{were_told}
+
+module _ (law : PredictionsHaveNoFault) (words : List (List ℕ)) (source source' : Stream) (bytes : List ℕ) (first : FitJob) (asked : IsJobOf words (jobs.Predict first)) (told : source.bytes ≡ Some bytes)
+    (faulty : (fit : FitJob) → IsJobOf words (jobs.Predict fit) → (refusal : Refusal) × HasPredictionCause fit bytes (halts.Refused refusal)) where
+  -- words that ask for predictions ask for no other job
+  alone : (job : Job) → IsJobOf words job → (P : Job → Type 0) → ((fit : FitJob) → P (jobs.Predict fit)) → P job
+  alone (jobs.Process fit) again P p = absurd (cc (sym again ∙ asked))
+  alone (jobs.Ranks fit) again P p = absurd (cc (sym again ∙ asked))
+  alone (jobs.Certify fit) again P p = absurd (cc (sym again ∙ asked))
+  alone jobs.Check again P p = absurd (cc (sym again ∙ asked))
+  alone (jobs.Predict fit) again P p = p fit
+  alone (jobs.Sample job) again P p = absurd (cc (sym again ∙ asked))
+
+  -- bytes that were read ask for none within the limits
+  no_rows : (fit : FitJob) (other : List ℕ) → WereRead words source source' (jobs.Predict fit) other → (rows : PredictionInput) → IsPrediction fit other rows → IsWellShaped rows.input.problem → ⊥
+  no_rows fit other read rows is shaped =
+      let fault = faulty fit read.asked in
+      law fit bytes rows fault.0 (subst (λ b. IsPrediction fit b rows) (were_told source source' bytes told other read.taken) is) shaped fault.1
+
+  halted : (halt : Halt) → ((fit : FitJob) (other : List ℕ) → engine.HasCause (jobs.Predict fit) other halt → LacksPredictFit fit other halt) → IsHalted words source source' halt → ⊥
+  halted halt lacks h =
+      alone h.job h.read.asked (λ (job : Job). WereRead words source source' job h.bytes → engine.HasCause job h.bytes halt → ⊥)
+      (λ fit read cause. let l = lacks fit h.bytes cause in no_rows fit h.bytes read l.asked l.is l.rows.shaped) h.read h.cause
+
+  -- and none has a certificate
+  too_long : (n : ℕ) → IsHalted words source source' (halts.Refused (refusals.CertTooLong n)) → ⊥
+  too_long n h = alone h.job h.read.asked (λ (job : Job). engine.HasCause job h.bytes (halts.Refused (refusals.CertTooLong n)) → ⊥) (λ fit cause. cause.2.cause) h.cause
+
+  reported : (fit : FitJob) (other : List ℕ) (report : Report) → WereRead words source source' (jobs.Predict fit) other → IsRight (jobs.Predict fit) other report → ⊥
+  reported fit other (reports.Process f) read right = right
+  reported fit other (reports.Ranks f) read right = right
+  reported fit other (reports.Certificate c) read right = right
+  reported fit other (reports.Checked c) read right = right
+  reported fit other (reports.Predict f) read right = no_rows fit other read right.0 right.1 right.2.shaped
+  reported fit other (reports.Sample f) read right = right
+
+  pub unpredicted : (out out' err err' : Stream) (outcome : Outcome) → IsRun words source source' out out' err err' outcome → IsUnposed outcome
+  unpredicted out out' err err' (Done report) run =
+      let a = run.cause in
+      alone a.job a.read.asked (λ (job : Job). WereRead words source source' job a.bytes → IsRight job a.bytes report → ⊥) (λ fit read right. reported fit a.bytes report read right) a.read a.right
+  unpredicted out out' err err' (PivotLimit place limit trail) run = halted (halts.PivotLimit place limit trail) (λ fit other cause. cause) run.cause
+  unpredicted out out' err err' (Overflow place trail spill) run = halted (halts.Overflow place trail spill) (λ fit other cause. cause) run.cause
+  unpredicted out out' err err' (Refused (refusals.Dependent combination)) run = halted (halts.Refused (refusals.Dependent combination)) (λ fit other cause. cause) run.cause
+  unpredicted out out' err err' (Refused (refusals.CertTooLong n)) run = too_long n run.cause
+  unpredicted out out' err err' (Refused refusals.TooLong) run = tt
+  unpredicted out out' err err' (Refused (refusals.Table fault)) run = tt
+  unpredicted out out' err err' (Refused (refusals.Formula fault)) run = tt
+  unpredicted out out' err err' (Refused refusals.RankWithPenalty) run = tt
+  unpredicted out out' err err' (Refused refusals.SmoothNotTaken) run = tt
+  unpredicted out out' err err' (Refused (refusals.Design fault)) run = tt
+  unpredicted out out' err err' (Refused (refusals.Penalty fault)) run = tt
+  unpredicted out out' err err' (Refused (refusals.Program fault)) run = tt
+  unpredicted out out' err err' (Refused refusals.NothingToPredict) run = tt
+  unpredicted out out' err err' (Refused (refusals.TooManyPredictions found)) run = tt
+  unpredicted out out' err err' (Refused (refusals.Certificate fault)) run = tt
+  unpredicted out out' err err' (Usage fault) run = tt
+  unpredicted out out' err err' SourceFault run = tt
+  unpredicted out out' err err' SinkFault run = tt
+  unpredicted out out' err err' OutOfMemory run = tt
+  unpredicted out out' err err' (Rejected rejection) run = tt
