@@ -41,7 +41,7 @@ use Rattle.rq_fit.specs.Asks.{IsFitAsk}
 use Rattle.rq_fit.specs.Fit.{IsRightFit, IsRightSegment}
 use Rattle.rq_fit.specs.Intervals.{AreRightIntervals, IsRightInterval, asked_at, asked_by, asked_over}
 use Rattle.rq_fit.proofs.Costs.{high_costs, low_costs}
-use Rattle.rq_fit.proofs.Scores.{zip_length}
+use Rattle.rq_input.proofs.Zips.{zip_length}
 use Rattle.rq_engine.specs.Answers.{IsCertified, IsRight}
 use Rattle.rq_engine.specs.Jobs.{IsJobOf}
 use Rattle.rq_engine.proofs.Asked.{asked_job}

@@ -1,6 +1,5 @@
 -- Bytes that ask for predictions have no fault: neither as an input, nor in what is predicted.
-use Rattle.std.proofs.Common.{◌≡◌, ◌≢◌, ◌×◌, ℕ, zero, suc, true, List, [], ◌∷◌, Some, length, slice_get, arith, inl, inr, refl, sym, ap, subst, ◌∙◌}
-use Rattle.std.specs.List.{AllZip}
+use Rattle.std.proofs.Common.{◌≡◌, ◌≢◌, ◌×◌, ℕ, true, List, length, arith, inl, inr, refl, sym, ap, subst, ◌∙◌}
 use Rattle.loss_model.specs.Problem.{IsWellShaped}
 use Rattle.contrasts.specs.declared.Coding.{Coding}
 use Rattle.formula_grammar.specs.Faults.{NoFormulaHasFaults}
@@ -20,6 +19,7 @@ use Rattle.rq_input.specs.Inputs.{HasInputCause, IsModelInput}
 use Rattle.rq_input.specs.Predictions.{ArePredicted, HasPredictionCause, HasRecordsCause, IsPrediction, LackPredictions, LacksPredictions}
 use Rattle.rq_input.specs.declared.input.Input.{Input}
 use Rattle.rq_input.specs.declared.predictions.PredictionInput.{PredictionInput}
+use Rattle.rq_input.proofs.Zips.{zip_item, zip_length}
 use Rattle.input_laws.specs.Laws.{PredictionsHaveNoFault}
 use Rattle.input_laws.proofs.Inputs.{input_sound, one_table}
 use Rattle.input_laws.proofs.Parsed.{one_formula}
@@ -27,19 +27,6 @@ use Rattle.input_laws.proofs.Products.{none_in_row}
 use Rattle.input_laws.proofs.Sound.{one_design}
 
 -- ---- the rows
-
-as_many : {A B : Type 0} (R : A → B → Type 0) (xs : List A) (ys : List B) → AllZip R xs ys → length xs ≡ length ys
-as_many R [] [] all = refl
-as_many R [] (y ∷ ys) all = absurd all
-as_many R (x ∷ xs) [] all = absurd all
-as_many R (x ∷ xs) (y ∷ ys) all = ap suc (as_many R xs ys all.1)
-
--- what agrees with an item that is there
-item_with : {A B : Type 0} (R : A → B → Type 0) (xs : List A) (ys : List B) (k : ℕ) (x : A) → AllZip R xs ys → slice_get xs k ≡ Some x → (y : B) × R x y
-item_with R [] ys k x all there = absurd (cc there)
-item_with R (a ∷ xs) [] k x all there = absurd all
-item_with R (a ∷ xs) (y ∷ ys) zero x all there = let same : a ≡ x = cc there in (y, subst (λ z. R z y) same all.0)
-item_with R (a ∷ xs) (y ∷ ys) (suc k) x all there = item_with R xs ys k x all.1 there
 
 module _ (table : Table) (model : Formula) (coding : Coding) where
   -- a record that has its row has no fault
@@ -50,14 +37,14 @@ module _ (table : Table) (model : Formula) (coding : Coding) where
 
   no_records_fault : (design : Design) (rows : List PredictRow) → ArePredicted table model coding design rows → (refusal : Refusal) → ¬ HasRecordsCause table model coding design refusal
   no_records_fault design rows are refusals.NothingToPredict h =
-      let n = as_many (IsPredictRow table model coding (kept_in design)) (predicted table model) rows are.each in
+      let n = zip_length (IsPredictRow table model coding (kept_in design)) (predicted table model) rows are.each in
       absurd (omega (arith, are.some, n, ap length h))
   no_records_fault design rows are (refusals.TooManyPredictions found) h =
-      let n = as_many (IsPredictRow table model coding (kept_in design)) (predicted table model) rows are.each in
+      let n = zip_length (IsPredictRow table model coding (kept_in design)) (predicted table model) rows are.each in
       absurd (omega (arith, are.few, n, h.0, h.1))
   no_records_fault design rows are (refusals.Design fault) h =
       let lacks = h.2 in
-      let row = item_with (IsPredictRow table model coding (kept_in design)) (predicted table model) rows lacks.number lacks.rec are.each lacks.there in
+      let row = zip_item (IsPredictRow table model coding (kept_in design)) (predicted table model) rows lacks.number lacks.rec are.each lacks.there in
       no_row_fault (kept_in design) lacks.rec row.0 fault row.1 lacks.named lacks.cause
   no_records_fault design rows are refusals.TooLong h = h
   no_records_fault design rows are (refusals.Table fault) h = h
@@ -74,7 +61,7 @@ module _ (table : Table) (model : Formula) (coding : Coding) where
 
 module _ (one : OneFormula) (none : NoFormulaHasFaults) (job : FitJob) (bytes : List ℕ) (asked : PredictionInput) (is : IsPrediction job bytes asked) (shaped : IsWellShaped asked.input.problem) where
   no_input_fault : (refusal : Refusal) → ¬ HasInputCause job true bytes (Refused refusal)
-  no_input_fault = input_sound one none job true bytes asked.input (is.0, is.1, record { model = is.2.model; stated = is.2.stated; is = is.2.is }) shaped
+  no_input_fault = input_sound one none job true bytes asked.input (is.0, is.1, record { model = is.2.model; stated = is.2.by.stated; is = is.2.by.is }) shaped
 
   -- an input of the table by a model, and why its records aren't predicted
   abbrev LacksBy : Refusal → Formula → Type 0
@@ -85,13 +72,13 @@ module _ (one : OneFormula) (none : NoFormulaHasFaults) (job : FitJob) (bytes : 
   not_lacking refusal h =
       let lacks = subst (λ (t : Table). LacksPredictions job t refusal) (one_table one none job true bytes h.0 is.0 h.1 is.1) h.2 in
       let by : LacksBy refusal is.2.model =
-      subst (LacksBy refusal) (one_formula one job.formula is.0.names lacks.model is.2.model lacks.stated.parsed is.2.stated.parsed) (lacks.input, lacks.is, lacks.cause) in
-      let design = one_design is.0 is.2.model job.coding job.weights by.0.design asked.input.design by.1.designed is.2.is.designed in
+      subst (LacksBy refusal) (one_formula one job.formula is.0.names lacks.model is.2.model lacks.by.stated.parsed is.2.by.stated.parsed) (lacks.input, lacks.by.is, lacks.cause) in
+      let design = one_design is.0 is.2.model job.coding job.weights by.0.design asked.input.design by.1.designed is.2.by.is.designed in
       no_records_fault is.0 is.2.model job.coding asked.input.design asked.rows is.2.rows refusal
       (subst (λ (d : Design). HasRecordsCause is.0 is.2.model job.coding d refusal) design by.2)
 
   pub prediction_sound : (refusal : Refusal) → ¬ HasPredictionCause job bytes (Refused refusal)
-  prediction_sound refusals.SmoothNotTaken h = no_input_fault refusals.RankWithPenalty h
+  prediction_sound refusals.SmoothNotTaken h = no_input_fault refusals.RankWithPenalty (h.0, h.1, refl, h.2)
   prediction_sound refusals.RankWithPenalty h = h
   prediction_sound refusals.NothingToPredict h = not_lacking refusals.NothingToPredict h
   prediction_sound (refusals.TooManyPredictions found) h = not_lacking (refusals.TooManyPredictions found) h

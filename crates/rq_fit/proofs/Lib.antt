@@ -1,4 +1,3 @@
 pub mod Costs
 pub mod Fits
-pub mod Scores
 pub mod Scoring

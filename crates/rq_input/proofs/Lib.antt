@@ -1,1 +1,3 @@
 mod Inputs
+mod Predicting
+pub mod Zips

@@ -78,8 +78,8 @@ fn weights_of(job: &FitJob) -> Option<&str>
     }
 }
 
-// The input of a table by a model.
-fn model_input(alloc: Global, job: &FitJob, frame: &Frame, model: &Formula) -> Result<Input, Halt>
+/// The input of a table by a model.
+pub(crate) fn model_input(alloc: Global, job: &FitJob, frame: &Frame, model: &Formula) -> Result<Input, Halt>
     requires countable { All (λ t. length t.variables < 2 ^ 32) model.now.terms }
     ensures is { IfOk result (IsModelInput job.now frame.now model.now) }
     ensures rows { IfOk result HasRows }

@@ -7,4 +7,4 @@ use Rattle.rq_input.specs.declared.predictions.PredictionInput.{PredictionInput}
 
 -- it has no smooths, as where ranks are asked for
 pub asked_input : (fit : FitJob) (bytes : List ℕ) (asked : PredictionInput) → IsPrediction fit bytes asked → IsInput fit true bytes asked.input
-asked_input fit bytes asked is = (is.0, is.1, record { model = is.2.model; stated = is.2.stated; is = is.2.is })
+asked_input fit bytes asked is = (is.0, is.1, record { model = is.2.model; stated = is.2.by.stated; is = is.2.by.is })

@@ -1,7 +1,7 @@
 use Rattle.std.proofs.lemmas.Result.{err_from_is_err_and}
 use Rattle.rankscores.specs.Scores.{IsScored}
 use Rattle.rq_fit.proofs.Fits.{segment_unscored}
-use Rattle.rq_fit.proofs.Scores.{zip_more}
+use Rattle.rq_input.proofs.Zips.{zip_more}
 use Rattle.rq_fit.proofs.fit.all_scores.Goals as goal
 
 pub returns-in_err-pairs-clause-spilled : goal.returns-in_err-pairs-clause-spilled

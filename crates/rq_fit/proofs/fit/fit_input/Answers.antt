@@ -4,7 +4,7 @@ use Rattle.report_text.specs.ReportText.{value}
 use Rattle.rankscores.specs.Scores.{IsScored}
 use Rattle.rq_fit.proofs.Costs.{high_costs, low_costs}
 use Rattle.rq_fit.proofs.Fits.{few_segments, interval_cause, process_scorable, right_fit, right_process, short_cause, stop_cause}
-use Rattle.rq_fit.proofs.Scores.{zip_length}
+use Rattle.rq_input.proofs.Zips.{zip_length}
 use Rattle.rq_fit.proofs.fit.fit_input.Goals as goal
 
 pub process-requires-clause-costs_lo : goal.process-requires-clause-costs_lo

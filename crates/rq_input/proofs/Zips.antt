@@ -1,10 +1,9 @@
--- The scores of many segments, one after another.
-use Rattle.std.proofs.Common.{◌≡◌, ℕ, suc, ◌+◌, ◌<◌, List, [], ◌∷◌, ◌++◌, length, get_or, take, refl, sym, ap, subst, ◌∙◌}
+-- Two lists that agree place by place.
+use Rattle.std.proofs.Common.{◌≡◌, ℕ, zero, suc, ◌+◌, ◌<◌, List, [], ◌∷◌, ◌++◌, Some, length, get_or, slice_get, take, refl, sym, ap, subst, ◌∙◌}
 use Rattle.std.specs.List.{AllZip}
-use Rattle.std.proofs.Math.Seq.{take-length}
 use Rattle.std.proofs.lemmas.List.{take_more}
 
--- lists that agree, with one item more at the end of each
+-- with one item more at the end of each
 zip_push : {A B : Type 0} (R : A → B → Type 0) (xs : List A) (ys : List B) (x : A) (y : B) → AllZip R xs ys → R x y → AllZip R (xs ++ x ∷ []) (ys ++ y ∷ [])
 zip_push R [] [] x y all more = (more, tt)
 zip_push R [] (b ∷ ys) x y all more = absurd all
@@ -18,13 +17,23 @@ zip_more R xs k x ys next y within here all more grown =
     (subst (λ l. AllZip R l (ys ++ y ∷ [])) (sym (take_more xs k x within ∙ ap (λ z. take k xs ++ z ∷ []) (sym here)))
     (zip_push R (take k xs) ys x y all more))
 
--- all of them, at the end of the loop
-pub zip_all : {A B : Type 0} (R : A → B → Type 0) (xs : List A) (k : ℕ) (ys : List B) → k ≡ length xs → AllZip R (take k xs) ys → AllZip R xs ys
-zip_all R xs k ys end all = subst (λ l. AllZip R l ys) (ap (λ k. take k xs) end ∙ take-length xs) all
-
--- lists that agree are as long as one another
+-- they are as long as one another
 pub zip_length : {A B : Type 0} (R : A → B → Type 0) (xs : List A) (ys : List B) → AllZip R xs ys → length ys ≡ length xs
 zip_length R [] [] all = refl
 zip_length R [] (y ∷ ys) all = absurd all
 zip_length R (x ∷ xs) [] all = absurd all
 zip_length R (x ∷ xs) (y ∷ ys) all = ap suc (zip_length R xs ys all.1)
+
+-- what follows at each place
+pub zip_map : {A B : Type 0} (R S : A → B → Type 0) → ((x : A) (y : B) → R x y → S x y) → (xs : List A) (ys : List B) → AllZip R xs ys → AllZip S xs ys
+zip_map R S f [] [] all = tt
+zip_map R S f [] (y ∷ ys) all = absurd all
+zip_map R S f (x ∷ xs) [] all = absurd all
+zip_map R S f (x ∷ xs) (y ∷ ys) all = (f x y all.0, zip_map R S f xs ys all.1)
+
+-- what agrees with an item that is there
+pub zip_item : {A B : Type 0} (R : A → B → Type 0) (xs : List A) (ys : List B) (k : ℕ) (x : A) → AllZip R xs ys → slice_get xs k ≡ Some x → (y : B) × R x y
+zip_item R [] ys k x all there = absurd (cc there)
+zip_item R (a ∷ xs) [] k x all there = absurd all
+zip_item R (a ∷ xs) (y ∷ ys) zero x all there = let same : a ≡ x = cc there in (y, subst (λ z. R z y) same all.0)
+zip_item R (a ∷ xs) (y ∷ ys) (suc k) x all there = zip_item R xs ys k x all.1 there

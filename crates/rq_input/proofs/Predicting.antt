@@ -1,0 +1,172 @@
+-- The rows of predicted records, and why there are none.
+use Rattle.std.proofs.Common.{◌≡◌, ◌≢◌, ◌⊎◌, ◌×◌, ◌+◌, ◌<◌, ◌≤◌, ◌^◌, ℕ, suc, List, [], ◌∷◌, All, length, map, Some, get_or, slice_get, take, arith, inl, inr, refl, sym, ap, subst, ◌∙◌}
+use Rattle.std.specs.List.{AllZip}
+use Rattle.std.proofs.lemmas.List.Elements.{All-cons, All-nil}
+use Rattle.std.proofs.lemmas.Option.{slice_get-get_or}
+use Rattle.contrasts.specs.declared.Coding.{Coding}
+use Rattle.formula_parser.specs.declared.formula.Formula.{Formula}
+use Rattle.formula_parser.specs.declared.formula.Smooth.{Smooth}
+use Rattle.design_matrix.specs.Cells.{Table}
+use Rattle.design_matrix.specs.Predicted.{HasRowCause, IsPredictRow, kept_in, predicted}
+use Rattle.design_matrix.specs.declared.design.Design.{Design}
+use Rattle.design_matrix.specs.declared.design.DesignRow.{DesignRow}
+use Rattle.design_matrix.specs.declared.design.PredictRow.{PredictRow}
+use Rattle.design_matrix.specs.declared.fault.DesignFault.{DesignFault}
+use Rattle.design_matrix.specs.declared.fault.DesignFault.TheVariants as designs
+use Rattle.tv_penalty.specs.Smoothings.{exact_smoothing, part_of, smoothing_by, smoothing_of}
+use Rattle.tv_penalty.specs.declared.Smoothing.{Smoothing}
+use Rattle.rq_words.specs.declared.job.FitJob.{FitJob}
+use Rattle.report_text.specs.declared.report.Refusal.{Refusal}
+use Rattle.report_text.specs.declared.report.Refusal.TheVariants as refusals
+use Rattle.report_text.specs.declared.report.Halt.{Halt}
+use Rattle.report_text.specs.declared.report.Halt.TheVariants.{Refused, OutOfMemory, PivotLimit, Overflow, Rejected}
+use Rattle.rq_input.specs.Halts.{design_halt}
+use Rattle.rq_input.specs.Inputs.{AreTable, HasModelCause, HasTableCause}
+use Rattle.rq_input.specs.Models.{IsModel}
+use Rattle.rq_input.specs.Plain.{HasPlainCause, HasPlainTableCause, IsPlainModel}
+use Rattle.rq_input.specs.Predicting.{HasRow, HasRowsCause, LacksRowOf}
+use Rattle.rq_input.specs.Predictions.{ArePredicted, HasEntries, HasPredictionCause, HasRecordsCause, LacksRow}
+use Rattle.rq_input.specs.Rows.{HasRows}
+use Rattle.rq_input.specs.declared.input.Input.{Input}
+use Rattle.rq_input.proofs.Inputs.{model_cause}
+use Rattle.rq_input.proofs.Zips.{zip_length, zip_map}
+
+-- ---- inputs where no smooths are taken
+
+module _ (job : FitJob) where
+  -- why a model has no problem is why its table has no input
+  pub model_plain : (table : Table) (model : Formula) → IsModel job true table model → (halt : Halt) → HasModelCause job table model halt → HasPlainTableCause job table halt
+  model_plain table model stated (Refused refusals.TooLong) h = absurd h
+  model_plain table model stated (Refused (refusals.Table fault)) h = absurd h
+  model_plain table model stated (Refused (refusals.Formula fault)) h = absurd h
+  model_plain table model stated (Refused refusals.RankWithPenalty) h = absurd h
+  model_plain table model stated (Refused refusals.SmoothNotTaken) h = absurd h
+  model_plain table model stated (Refused (refusals.Design fault)) h = model_cause job true table model stated (Refused (refusals.Design fault)) h
+  model_plain table model stated (Refused (refusals.Penalty fault)) h = model_cause job true table model stated (Refused (refusals.Penalty fault)) h
+  model_plain table model stated (Refused (refusals.Program fault)) h = model_cause job true table model stated (Refused (refusals.Program fault)) h
+  model_plain table model stated (Refused refusals.NothingToPredict) h = absurd h
+  model_plain table model stated (Refused (refusals.TooManyPredictions found)) h = absurd h
+  model_plain table model stated (Refused (refusals.Dependent combination)) h = absurd h
+  model_plain table model stated (Refused (refusals.CertTooLong length)) h = absurd h
+  model_plain table model stated (Refused (refusals.Certificate fault)) h = absurd h
+  model_plain table model stated OutOfMemory h = tt
+  model_plain table model stated (PivotLimit place limit trail) h = absurd h
+  model_plain table model stated (Overflow place trail spill) h = absurd h
+  model_plain table model stated (Rejected rejection) h = absurd h
+
+  -- and why a table has none is why its bytes have none
+  pub table_plain : (bytes : List ℕ) (table : Table) → AreTable bytes table → (halt : Halt) → HasPlainTableCause job table halt → HasPlainCause job bytes halt
+  table_plain bytes table are (Refused refusals.TooLong) h = absurd h.cause
+  table_plain bytes table are (Refused (refusals.Table fault)) h = absurd h.cause
+  table_plain bytes table are (Refused (refusals.Formula fault)) h = (table, are, h)
+  table_plain bytes table are (Refused refusals.RankWithPenalty) h = absurd h
+  table_plain bytes table are (Refused refusals.SmoothNotTaken) h = (table, are, h)
+  table_plain bytes table are (Refused (refusals.Design fault)) h = (table, are, h)
+  table_plain bytes table are (Refused (refusals.Penalty fault)) h = (table, are, h)
+  table_plain bytes table are (Refused (refusals.Program fault)) h = (table, are, h)
+  table_plain bytes table are (Refused refusals.NothingToPredict) h = (table, are, h)
+  table_plain bytes table are (Refused (refusals.TooManyPredictions found)) h = (table, are, h)
+  table_plain bytes table are (Refused (refusals.Dependent combination)) h = (table, are, h)
+  table_plain bytes table are (Refused (refusals.CertTooLong length)) h = (table, are, h)
+  table_plain bytes table are (Refused (refusals.Certificate fault)) h = (table, are, h)
+  table_plain bytes table are OutOfMemory h = tt
+  table_plain bytes table are (PivotLimit place limit trail) h = (table, are, h)
+  table_plain bytes table are (Overflow place trail spill) h = (table, are, h)
+  table_plain bytes table are (Rejected rejection) h = (table, are, h)
+
+  -- bytes without an input ask for no predictions
+  pub plain_prediction : (bytes : List ℕ) (halt : Halt) → HasPlainCause job bytes halt → HasPredictionCause job bytes halt
+  plain_prediction bytes (Refused refusals.TooLong) h = h
+  plain_prediction bytes (Refused (refusals.Table fault)) h = h
+  plain_prediction bytes (Refused (refusals.Formula fault)) h = h
+  plain_prediction bytes (Refused refusals.RankWithPenalty) h = h
+  plain_prediction bytes (Refused refusals.SmoothNotTaken) h = h
+  plain_prediction bytes (Refused (refusals.Design fault)) h = inl h
+  plain_prediction bytes (Refused (refusals.Penalty fault)) h = h
+  plain_prediction bytes (Refused (refusals.Program fault)) h = h
+  plain_prediction bytes (Refused refusals.NothingToPredict) h = absurd h.2.cause
+  plain_prediction bytes (Refused (refusals.TooManyPredictions found)) h = absurd h.2.cause
+  plain_prediction bytes (Refused (refusals.Dependent combination)) h = h
+  plain_prediction bytes (Refused (refusals.CertTooLong length)) h = h
+  plain_prediction bytes (Refused (refusals.Certificate fault)) h = h
+  plain_prediction bytes OutOfMemory h = h
+  plain_prediction bytes (PivotLimit place limit trail) h = h
+  plain_prediction bytes (Overflow place trail spill) h = h
+  plain_prediction bytes (Rejected rejection) h = h
+
+-- ---- the rows
+
+module _ (table : Table) (model : Formula) (coding : Coding) (design : Design) where
+  pub are_predicted : (rows : List PredictRow) → 1 ≤ length (predicted table model) → length (predicted table model) ≤ 64 → AllZip (HasRow table model coding design) (predicted table model) rows → ArePredicted table model coding design rows
+  are_predicted rows some few all =
+      let size = zip_length (HasRow table model coding design) (predicted table model) rows all in
+      record {
+        each = zip_map (HasRow table model coding design) (IsPredictRow table model coding (kept_in design)) (λ rec row h. h.is) (predicted table model) rows all;
+        some = omega (arith, some, size);
+        few = omega (arith, few, size);
+      }
+
+  -- their entries can be numbered
+  pub all_entries : length design.names ≤ 128 → (records : List ℕ) (rows : List PredictRow) → AllZip (HasRow table model coding design) records rows → All (HasEntries (length design.names)) rows
+  all_entries few [] [] all = All-nil (HasEntries (length design.names))
+  all_entries few [] (row ∷ rows) all = absurd all
+  all_entries few (rec ∷ records) [] all = absurd all
+  all_entries few (rec ∷ records) (row ∷ rows) all =
+      All-cons (HasEntries (length design.names)) row rows
+      (record { entries = all.0.wide; terms = omega (arith, few, all.0.wide, ap (λ l. length l) all.0.is.offsets) })
+      (all_entries few records rows all.1)
+
+  -- ---- a row that isn't there
+
+  memory_or : (fault : DesignFault) → (fault ≡ designs.OutOfMemory) ⊎ (fault ≢ designs.OutOfMemory)
+  memory_or designs.OutOfMemory = inl refl
+  memory_or fault = inr (λ e. cc e)
+
+  pub lacks_row : (records : List ℕ) → records ≡ predicted table model → (k rec : ℕ) (before : List PredictRow) (fault : DesignFault) → k < length records → rec ≡ get_or records k rec
+      → AllZip (HasRow table model coding design) (take k records) before → HasRowCause table model coding (kept_in design) rec fault → LacksRowOf table model coding design fault
+  lacks_row records same k rec before fault within here all cause = elim (memory_or fault) [
+    | inl memory ↦ inl memory
+    | inr named ↦ inr (record {
+      number = k;
+      rec = rec;
+      there = subst (λ l. slice_get l k ≡ Some rec) same (slice_get-get_or records k rec within ∙ ap Some (sym here));
+      before = before;
+      rows = subst (λ l. AllZip (IsPredictRow table model coding (kept_in design)) (take k l) before) same
+          (zip_map (HasRow table model coding design) (IsPredictRow table model coding (kept_in design)) (λ rec row h. h.is) (take k records) before all);
+      named = named;
+      cause = cause;
+    })
+  ]
+
+  -- why there are no rows of records that aren't too many
+  pub rows_cause : 1 ≤ length (predicted table model) → length (predicted table model) ≤ 64 → (fault : DesignFault) → LacksRowOf table model coding design fault → HasRowsCause table model coding design (design_halt fault)
+  rows_cause some few fault (inl memory) = subst (λ f. HasRowsCause table model coding design (design_halt f)) (sym memory) tt
+  rows_cause some few designs.OutOfMemory (inr lacks) = tt
+  rows_cause some few fault (inr lacks) = (some, few, lacks)
+
+-- why the records of a table's design aren't predicted is why its bytes have no predictions
+pub rows_prediction : (job : FitJob) (bytes : List ℕ) (table : Table) → AreTable bytes table → (model : Formula) (input : Input) → IsPlainModel job table model input → HasRows input → (halt : Halt)
+    → HasRowsCause table model job.coding input.design halt → HasPredictionCause job bytes halt
+rows_prediction job bytes table are model input by rows halt h = of halt h
+  where
+    lacking : (refusal : Refusal) → HasRecordsCause table model job.coding input.design refusal → (table : Table) × AreTable bytes table × LacksPredictions job table refusal
+    lacking refusal h = (table, are, record { model = model; input = input; by = by; rows = rows; cause = h })
+
+    of : (halt : Halt) → HasRowsCause table model job.coding input.design halt → HasPredictionCause job bytes halt
+    of (Refused refusals.TooLong) h = absurd h
+    of (Refused (refusals.Table fault)) h = absurd h
+    of (Refused (refusals.Formula fault)) h = absurd h
+    of (Refused refusals.RankWithPenalty) h = absurd h
+    of (Refused refusals.SmoothNotTaken) h = absurd h
+    of (Refused (refusals.Design fault)) h = inr (lacking (refusals.Design fault) h)
+    of (Refused (refusals.Penalty fault)) h = absurd h
+    of (Refused (refusals.Program fault)) h = absurd h
+    of (Refused refusals.NothingToPredict) h = lacking refusals.NothingToPredict h
+    of (Refused (refusals.TooManyPredictions found)) h = lacking (refusals.TooManyPredictions found) h
+    of (Refused (refusals.Dependent combination)) h = absurd h
+    of (Refused (refusals.CertTooLong length)) h = absurd h
+    of (Refused (refusals.Certificate fault)) h = absurd h
+    of OutOfMemory h = tt
+    of (PivotLimit place limit trail) h = absurd h
+    of (Overflow place trail spill) h = absurd h
+    of (Rejected rejection) h = absurd h
