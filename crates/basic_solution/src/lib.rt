@@ -16,6 +16,7 @@ mod duals;
 mod primal;
 mod signs;
 mod solution;
+mod station;
 
 pub use columns::totals;
 pub use coordinates::{coordinates_at, row_coordinates};

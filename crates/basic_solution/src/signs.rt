@@ -10,6 +10,7 @@ ghost use Rattle.basis_model.specs.Basis.{coefficient, outside_row, side_at};
 ghost use Rattle.basic_solution.specs.Bases.{HasBasis, side_in, IsRowsSpill};
 
 use crate::coordinates::row_coordinates;
+use crate::station::Station;
 use basis_inverse::Inverse;
 use frac_core::{Exact, List};
 use lex_rule::lex_sign;
@@ -20,31 +21,29 @@ use std::cmp::Ordering;
 /// The side of a row outside the basis. Where its residual is 0, all its coordinates are looked at.
 fn perturbed_side<F: Exact>(
     alloc: Global,
-    problem: &Problem<F>,
-    inverse: &Inverse<F>,
-    basis: &Basis,
+    station: &Station<F>,
     row: u32,
     residual: F,
 ) -> Result<Side, Short<F>>
-    requires shaped { IsWellShaped problem.now }
-    requires basis { HasBasis problem.now inverse.now basis.now.rows }
-    requires row { row < length problem.now.rows }
-    requires outside { (j : ℕ) → j < length basis.now.rows → slice_index basis.now.rows j ≢ row }
-    requires residual { let p = sample F.value problem.now in let at = slice_index basis.now.rows in
-        let b = coefficient p at (inverse_entry F.value inverse.now) in
+    requires shaped { IsWellShaped station.now.problem.now }
+    requires basis { HasBasis station.now.problem.now station.now.inverse.now station.now.basis.now.rows }
+    requires row { row < length station.now.problem.now.rows }
+    requires outside { (j : ℕ) → j < length station.now.basis.now.rows → slice_index station.now.basis.now.rows j ≢ row }
+    requires residual { let p = sample F.value station.now.problem.now in let at = slice_index station.now.basis.now.rows in
+        let b = coefficient p at (inverse_entry F.value station.now.inverse.now) in
         rational (F.value residual) ≡ residual_of p b row }
-    ensures side { let p = sample F.value problem.now in let at = slice_index basis.now.rows in
-        let u = outside_row p at (inverse_entry F.value inverse.now) row in
+    ensures side { let p = sample F.value station.now.problem.now in let at = slice_index station.now.basis.now.rows in
+        let u = outside_row p at (inverse_entry F.value station.now.inverse.now) row in
         IfOk result (λ s. s ≡ side_by_order p.rows p.columns at u) }
-    ensures spill { let p = sample F.value problem.now in let a = inverse_entry F.value inverse.now in
+    ensures spill { let p = sample F.value station.now.problem.now in let a = inverse_entry F.value station.now.inverse.now in
         IfErr result (IsShortOf (IsCoordinatesSpill F.value F.range p.columns a (p.x row) row)) }
 {
     match residual.compare(F::zero()) {
         Ordering::Greater => Ok(Side::Up),
         Ordering::Less => Ok(Side::Down),
         Ordering::Equal => {
-            let coords = row_coordinates(alloc, problem, inverse, row)?;
-            Ok(lex_sign(residual, coords.as_slice(), basis, row))
+            let coords = row_coordinates(alloc, station.problem, station.inverse, row)?;
+            Ok(lex_sign(residual, coords.as_slice(), station.basis, row))
         }
     }
 }
@@ -52,27 +51,25 @@ fn perturbed_side<F: Exact>(
 /// The side of a row.
 fn side_of_row<F: Exact>(
     alloc: Global,
-    problem: &Problem<F>,
-    inverse: &Inverse<F>,
-    basis: &Basis,
+    station: &Station<F>,
     row: u32,
     residual: F,
 ) -> Result<Side, Short<F>>
-    requires shaped { IsWellShaped problem.now }
-    requires basis { HasBasis problem.now inverse.now basis.now.rows }
-    requires row { row < length problem.now.rows }
-    requires residual { let p = sample F.value problem.now in let at = slice_index basis.now.rows in
-        let b = coefficient p at (inverse_entry F.value inverse.now) in
+    requires shaped { IsWellShaped station.now.problem.now }
+    requires basis { HasBasis station.now.problem.now station.now.inverse.now station.now.basis.now.rows }
+    requires row { row < length station.now.problem.now.rows }
+    requires residual { let p = sample F.value station.now.problem.now in let at = slice_index station.now.basis.now.rows in
+        let b = coefficient p at (inverse_entry F.value station.now.inverse.now) in
         rational (F.value residual) ≡ residual_of p b row }
-    ensures side { let p = sample F.value problem.now in
-        IfOk result (λ s. s ≡ side_at p (slice_index basis.now.rows) (inverse_entry F.value inverse.now) row) }
-    ensures spill { let p = sample F.value problem.now in let a = inverse_entry F.value inverse.now in
+    ensures side { let p = sample F.value station.now.problem.now in
+        IfOk result (λ s. s ≡ side_at p (slice_index station.now.basis.now.rows) (inverse_entry F.value station.now.inverse.now) row) }
+    ensures spill { let p = sample F.value station.now.problem.now in let a = inverse_entry F.value station.now.inverse.now in
         IfErr result (IsShortOf (IsCoordinatesSpill F.value F.range p.columns a (p.x row) row)) }
 {
-    if basis.rows.as_slice().contains(&row) {
+    if station.basis.rows.as_slice().contains(&row) {
         return Ok(Side::Basic);
     }
-    perturbed_side(alloc, problem, inverse, basis, row, residual)
+    perturbed_side(alloc, station, row, residual)
 }
 
 /// The sides of all rows, which have these residuals.
@@ -96,9 +93,14 @@ pub fn sides<F: Exact>(
     ensures spill { let p = sample F.value problem.now in
         IfErr result (IsShortOf (IsRowsSpill F.value F.range p (inverse_entry F.value inverse.now))) }
 {
+    let station = Station {
+        problem,
+        inverse,
+        basis,
+    };
     let mut made = List::new(alloc);
     for row in 0..residuals.len() {
-        let side = side_of_row(alloc, problem, inverse, basis, row as u32, residuals[row])?;
+        let side = side_of_row(alloc, &station, row as u32, residuals[row])?;
         made.add(side)?;
     }
     Ok(made)

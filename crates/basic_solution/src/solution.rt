@@ -12,6 +12,7 @@ use crate::columns::totals;
 use crate::duals::balancing_values;
 use crate::primal::{coefficients, residuals};
 use crate::signs::sides;
+use crate::station::Station;
 use basis_inverse::Inverse;
 use basis_model::Part;
 use frac_core::{Exact, List};
@@ -32,27 +33,25 @@ pub struct BasicSolution<F> {
 /// A part of the basic dual values by position, from the sides of the rows.
 fn basic_duals<F: Exact>(
     alloc: Global,
-    problem: &Problem<F>,
-    inverse: &Inverse<F>,
-    basis: &Basis,
+    station: &Station<F>,
     sides: &[Side],
     part: Part,
 ) -> Result<List<F>, Short<F>>
-    requires shaped { IsWellShaped problem.now }
-    requires basis { HasBasis problem.now inverse.now basis.now.rows }
-    requires inverse { IsInverse F.value inverse.now }
-    requires size { length sides.now ≡ length problem.now.rows }
-    requires sides { let p = sample F.value problem.now in (i : ℕ) → i < length problem.now.rows
-        → side_in sides.now i ≡ side_at p (slice_index basis.now.rows) (inverse_entry F.value inverse.now) i }
-    ensures size { IfOk result (λ made. length made ≡ problem.now.columns) }
-    ensures each { let p = sample F.value problem.now in let at = slice_index basis.now.rows in
-        IfOk result (λ made. (j : ℕ) → j < problem.now.columns
-        → value_at F.value made j ≡ basic_dual p at (inverse_entry F.value inverse.now) part j) }
-    ensures spill { let p = sample F.value problem.now in let at = slice_index basis.now.rows in
-        IfErr result (IsShortOf (IsDualSpill F.value F.range p at (inverse_entry F.value inverse.now))) }
+    requires shaped { IsWellShaped station.now.problem.now }
+    requires basis { HasBasis station.now.problem.now station.now.inverse.now station.now.basis.now.rows }
+    requires inverse { IsInverse F.value station.now.inverse.now }
+    requires size { length sides.now ≡ length station.now.problem.now.rows }
+    requires sides { let p = sample F.value station.now.problem.now in (i : ℕ) → i < length station.now.problem.now.rows
+        → side_in sides.now i ≡ side_at p (slice_index station.now.basis.now.rows) (inverse_entry F.value station.now.inverse.now) i }
+    ensures size { IfOk result (λ made. length made ≡ station.now.problem.now.columns) }
+    ensures each { let p = sample F.value station.now.problem.now in let at = slice_index station.now.basis.now.rows in
+        IfOk result (λ made. (j : ℕ) → j < station.now.problem.now.columns
+        → value_at F.value made j ≡ basic_dual p at (inverse_entry F.value station.now.inverse.now) part j) }
+    ensures spill { let p = sample F.value station.now.problem.now in let at = slice_index station.now.basis.now.rows in
+        IfErr result (IsShortOf (IsDualSpill F.value F.range p at (inverse_entry F.value station.now.inverse.now))) }
 {
-    let weights = totals(alloc, problem, sides, part)?;
-    balancing_values(alloc, inverse, weights.as_slice(), part)
+    let weights = totals(alloc, station.problem, sides, part)?;
+    balancing_values(alloc, station.inverse, weights.as_slice(), part)
 }
 
 /// What stands at a basis.
@@ -76,22 +75,13 @@ pub fn basic_solution<F: Exact>(
     let coef = coefficients(alloc, problem, inverse, basis)?;
     let residuals = residuals(alloc, problem, coef.as_slice())?;
     let sides = sides(alloc, problem, inverse, basis, residuals.as_slice())?;
-    let constant = basic_duals(
-        alloc,
+    let station = Station {
         problem,
         inverse,
         basis,
-        sides.as_slice(),
-        Part::Constant,
-    )?;
-    let linear = basic_duals(
-        alloc,
-        problem,
-        inverse,
-        basis,
-        sides.as_slice(),
-        Part::Linear,
-    )?;
+    };
+    let constant = basic_duals(alloc, &station, sides.as_slice(), Part::Constant)?;
+    let linear = basic_duals(alloc, &station, sides.as_slice(), Part::Linear)?;
     Ok(BasicSolution {
         coef,
         residuals,

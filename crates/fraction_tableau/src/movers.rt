@@ -51,17 +51,26 @@ fn goes_towards<F: Exact>(side: Side, change: F) -> bool
     }
 }
 
+/// A row that may move: its side, and its coordinate at the position.
+#[derive(Clone, Copy)]
+struct Candidate<F> {
+    row: u32,
+    side: Side,
+    coord: F,
+}
+
 /// A row that moves, as an item of the order.
-fn mover_of<F: Exact>(line: &Line<F>, row: u32, side: Side, coord: F) -> Result<Mover<F>, Spill<F>>
+fn mover_of<F: Exact>(line: &Line<F>, candidate: Candidate<F>) -> Result<Mover<F>, Spill<F>>
     requires line { IsLine F.value line.now }
-    requires row { row < length line.now.tableau.now.problem.rows }
-    requires side { side_is F.value line.now row side }
-    requires coord { coord_is F.value line.now row coord }
-    requires moves { is_moving F.value line.now row ≡ true }
+    requires row { candidate.row < length line.now.tableau.now.problem.rows }
+    requires side { side_is F.value line.now candidate.row candidate.side }
+    requires coord { coord_is F.value line.now candidate.row candidate.coord }
+    requires moves { is_moving F.value line.now candidate.row ≡ true }
     ensures mover { IfOk result (λ m. IsMover F.value line.now m) }
-    ensures row { IfOk result (λ m. m.row ≡ row) }
+    ensures row { IfOk result (λ m. m.row ≡ candidate.row) }
     ensures spill { IfErr result (IsLineSpill F.value F.range line.now) }
 {
+    let Candidate { row, side, coord } = candidate;
     let residual = line.residuals[row as usize];
     let size = absolute(coord);
     let site = Site::new(Quantity::PerturbedRatio, row, line.position, 1);
@@ -77,20 +86,18 @@ fn mover_of<F: Exact>(line: &Line<F>, row: u32, side: Side, coord: F) -> Result<
 fn offer<F: Exact>(
     line: &Line<F>,
     found: &mut Vec<Mover<F>>,
-    row: u32,
-    side: Side,
-    coord: F,
+    candidate: Candidate<F>,
 ) -> Result<(), Short<F>>
     requires line { IsLine F.value line.now }
-    requires row { row < length line.now.tableau.now.problem.rows }
-    requires side { side_is F.value line.now row side }
-    requires coord { coord_is F.value line.now row coord }
-    requires found { AreMoversBelow F.value line.now row found.old.items }
-    ensures found { OnOk result (AreMoversBelow F.value line.now (row + 1) found.new.items) }
+    requires row { candidate.row < length line.now.tableau.now.problem.rows }
+    requires side { side_is F.value line.now candidate.row candidate.side }
+    requires coord { coord_is F.value line.now candidate.row candidate.coord }
+    requires found { AreMoversBelow F.value line.now candidate.row found.old.items }
+    ensures found { OnOk result (AreMoversBelow F.value line.now (candidate.row + 1) found.new.items) }
     ensures spill { IfErr result (IsShortOf (IsLineSpill F.value F.range line.now)) }
 {
-    if goes_towards(side, change(line.direction, coord)) {
-        let mover = mover_of(line, row, side, coord)?;
+    if goes_towards(candidate.side, change(line.direction, candidate.coord)) {
+        let mover = mover_of(line, candidate)?;
         match found.push(mover) {
             Ok(()) => Ok(()),
             Err(_) => Err(Short::OutOfMemory),
@@ -115,7 +122,12 @@ pub fn movers<F: Exact>(
 {
     let mut found = Vec::new(alloc);
     for row in 0..sides.len() {
-        offer(line, &mut found, row as u32, sides[row], coords[row])?;
+        let candidate = Candidate {
+            row: row as u32,
+            side: sides[row],
+            coord: coords[row],
+        };
+        offer(line, &mut found, candidate)?;
     }
     Ok(found)
 }

@@ -51,37 +51,36 @@ fn divisor<F: Exact>(ratio: &Ratio<F>, basis: &Basis, position: u32) -> Divisor<
 
 /// How two ratios compare at the entries before that of row `end`, which is neither of theirs.
 fn compare_before<F: Exact>(
-    left: &Ratio<F>,
-    right: &Ratio<F>,
+    ratios: (&Ratio<F>, &Ratio<F>),
     by: (Divisor<F>, Divisor<F>),
     basis: &Basis,
     end: u32,
 ) -> Result<Ordering, Spill<F>>
-    requires left { IsRatioAt F.value basis.now.rows by.0.position left.now }
-    requires right { IsRatioAt F.value basis.now.rows by.0.position right.now }
-    requires left_divisor { IsDivisorOf F.value by.0.position (of_ratio F.value left.now) by.0 }
-    requires right_divisor { IsDivisorOf F.value by.0.position (of_ratio F.value right.now) by.1 }
-    requires before_left { end ≤ left.now.row }
-    requires before_right { end ≤ right.now.row }
+    requires left { IsRatioAt F.value basis.now.rows by.0.position ratios.0.now }
+    requires right { IsRatioAt F.value basis.now.rows by.0.position ratios.1.now }
+    requires left_divisor { IsDivisorOf F.value by.0.position (of_ratio F.value ratios.0.now) by.0 }
+    requires right_divisor { IsDivisorOf F.value by.0.position (of_ratio F.value ratios.1.now) by.1 }
+    requires before_left { end ≤ ratios.0.now.row }
+    requires before_right { end ≤ ratios.1.now.row }
     ensures exact { let n = length basis.now.rows in let at = slice_index basis.now.rows in let j = by.0.position in
-        let u = of_ratio F.value left.now in let v = of_ratio F.value right.now in
+        let u = of_ratio F.value ratios.entry.0.now in let v = of_ratio F.value ratios.entry.1.now in
         IfOk result (λ o. o ≡ lex_cmp (suc end) (ratio_on by.0.side n at j u) (ratio_on by.1.side n at j v)) }
     ensures spilled { let n = length basis.now.rows in let at = slice_index basis.now.rows in let j = by.0.position in
-        let u = of_ratio F.value left.now in let v = of_ratio F.value right.now in
+        let u = of_ratio F.value ratios.entry.0.now in let v = of_ratio F.value ratios.entry.1.now in
         IfErr result (IsSpillOn F.value F.range end n at j by.0.side by.1.side u v) }
 {
-    let (by_left, by_right) = by;
+    let (left, right) = (ratios.0.coords, ratios.1.coords);
     let rows = basis.rows.as_slice();
-    let first = compare_entries(by_left, by_right, 0, left.residual, right.residual)?;
+    let first = compare_entries(by, (ratios.0.residual, ratios.1.residual), 0)?;
     if first.is_ne() {
         return Ok(first);
     }
     let mut from = 0;
-    'rows: while let Some(k) = next_position(rows, left.coords, right.coords, from, end) {
+    'rows: while let Some(k) = next_position(rows, (left, right), from, end) {
         let row = rows[k];
-        let left_entry = left.coords[k].neg();
-        let right_entry = right.coords[k].neg();
-        let order = compare_entries(by_left, by_right, row + 1, left_entry, right_entry)?;
+        let left_entry = left[k].neg();
+        let right_entry = right[k].neg();
+        let order = compare_entries(by, (left_entry, right_entry), row + 1)?;
         if order.is_ne() {
             return Ok(order);
         }
@@ -117,7 +116,7 @@ pub fn lex_less<F: Exact>(
     let by_left = divisor(left, basis, position);
     let by_right = divisor(right, basis, position);
     let end = left.row.min(right.row);
-    let order = compare_before(left, right, (by_left, by_right), basis, end)?;
+    let order = compare_before((left, right), (by_left, by_right), basis, end)?;
     if order.is_ne() {
         return Ok(order.is_lt());
     }

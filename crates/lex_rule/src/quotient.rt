@@ -51,20 +51,18 @@ fn divided<F: Exact>(by: Divisor<F>, entry: u32, perturbed: F) -> Result<F, Spil
 
 /// How the same entry of two ratios compares.
 pub fn compare_entries<F: Exact>(
-    left: Divisor<F>,
-    right: Divisor<F>,
+    by: (Divisor<F>, Divisor<F>),
+    perturbed: (F, F),
     entry: u32,
-    left_perturbed: F,
-    right_perturbed: F,
 ) -> Result<Ordering, Spill<F>>
-    requires left_some { rational (F.value left.size) ≢ whole (pos 0) }
-    requires right_some { rational (F.value right.size) ≢ whole (pos 0) }
+    requires left_some { rational (F.value by.0.size) ≢ whole (pos 0) }
+    requires right_some { rational (F.value by.1.size) ≢ whole (pos 0) }
     ensures exact { IfOk result (λ o.
-        o ≡ cmp_ℚ (entry_over F.value left left_perturbed) (entry_over F.value right right_perturbed)) }
-    ensures spilled { IfErr result (λ s. IsDivisorSpill F.value F.range left entry left_perturbed s
-        ⊎ IsDivisorSpill F.value F.range right entry right_perturbed s) }
+        o ≡ cmp_ℚ (entry_over F.value by.0 perturbed.0) (entry_over F.value by.1 perturbed.1)) }
+    ensures spilled { IfErr result (λ s. IsDivisorSpill F.value F.range by.0 entry perturbed.0 s
+        ⊎ IsDivisorSpill F.value F.range by.1 entry perturbed.1 s) }
 {
-    let first = divided(left, entry, left_perturbed)?;
-    let second = divided(right, entry, right_perturbed)?;
+    let first = divided(by.0, entry, perturbed.0)?;
+    let second = divided(by.1, entry, perturbed.1)?;
     Ok(first.compare(second))
 }

@@ -18,16 +18,16 @@ fn are_zero_at<F: Exact>(left: &[F], right: &[F], position: usize) -> bool
 /// two coordinates isn't 0.
 pub fn next_position<F: Exact>(
     basis: &[u32],
-    left: &[F],
-    right: &[F],
+    coords: (&[F], &[F]),
     from: u32,
     to: u32,
 ) -> Option<usize>
-    requires left { length left.now ≡ length basis.now }
-    requires right { length right.now ≡ length basis.now }
-    ensures { let u = value_at F.value left.now in let v = value_at F.value right.now in
+    requires left { length coords.0.now ≡ length basis.now }
+    requires right { length coords.1.now ≡ length basis.now }
+    ensures { let u = value_at F.value coords.entry.0.now in let v = value_at F.value coords.entry.1.now in
         IsNextPosition (length basis.now) (slice_index basis.now) u v from to result }
 {
+    let (left, right) = coords;
     let mut next = None;
     let mut end = to;
     for k in 0..basis.len() {

@@ -31,7 +31,7 @@ pub fn lex_sign<F: Exact>(residual: F, coords: &[F], basis: &Basis, row: u32) ->
     if !residual.is_zero() {
         return side_of_value(residual);
     }
-    match next_position(basis.rows.as_slice(), coords, coords, 0, row) {
+    match next_position(basis.rows.as_slice(), (coords, coords), 0, row) {
         Some(k) => side_of_value(coords[k].neg()),
         None => Side::Up,
     }

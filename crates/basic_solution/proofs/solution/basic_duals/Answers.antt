@@ -12,9 +12,9 @@ pub returns-in_err-weights-clause-spill : goal.returns-in_err-weights-clause-spi
 returns-in_err-weights-clause-spill g c =
     let value = g.F.Exact.value in
     let range = g.F.Exact.range in
-    let p = sample value c.args.problem.now in
-    let at = slice_index c.args.basis.now.rows in
-    let a = inverse_entry value c.args.inverse.now in
+    let p = sample value c.args.station.now.problem.now in
+    let at = slice_index c.args.station.now.basis.now.rows in
+    let a = inverse_entry value c.args.station.now.inverse.now in
     let q = err_from_is_err_and c.from_residual.result c.from_residual.ensures.1 in
     rw (q.1, q.2)
     (short_map (IsTotalsSpill value range p (side_in c.args.sides.now) c.args.part) (IsDualSpill value range p at a) c.in_err-weights.field-0.0
@@ -25,9 +25,9 @@ pub returns : goal.returns
 returns g c =
     let value = g.F.Exact.value in
     let range = g.F.Exact.range in
-    let p = sample value c.args.problem.now in
-    let at = slice_index c.args.basis.now.rows in
-    let a = inverse_entry value c.args.inverse.now in
+    let p = sample value c.args.station.now.problem.now in
+    let at = slice_index c.args.station.now.basis.now.rows in
+    let a = inverse_entry value c.args.station.now.inverse.now in
     let weights = c.in_ok-weights.weights in
     let told = c.in_ok-weights.ensures {u = tt} in
     let made = rw (c.as_slice.ensures, told.size) at c.balancing_values.ensures in

@@ -6,7 +6,7 @@ use Rattle.lex_rule.proofs.less.compare_before.Given as goal
 abbrev pub invariant-rows : goal.invariant-rows
 invariant-rows g l = record {
   low : l.from ≤ l.end;
-  agree : AgreeBefore l.by_left.side l.by_right.side (length l.basis.rows) (slice_index l.basis.rows) l.by_left.position (of_ratio g.F.Exact.value l.left) (of_ratio g.F.Exact.value l.right) (suc l.from);
+  agree : AgreeBefore l.by.0.side l.by.1.side (length l.basis.rows) (slice_index l.basis.rows) l.by.0.position (of_ratio g.F.Exact.value l.ratios.0.now) (of_ratio g.F.Exact.value l.ratios.1.now) (suc l.from);
 }
 
 abbrev pub decreases-rows : goal.decreases-rows
