@@ -1,6 +1,7 @@
 //! An input where no smooths are taken.
 ghost use Rattle.std.specs.Prelude.{◌≡◌, ◌≤◌, ◌<◌, ◌^◌, All, length, IfOk, IfErr};
 ghost use Rattle.rq_input.specs.Plain.{HasPlainCause, HasPlainTableCause, IsPlain, IsPlainModel};
+ghost use Rattle.rq_input.specs.PlainRows.{HasIntercept};
 ghost use Rattle.rq_input.specs.Rows.{HasRows};
 
 use crate::halt::{formula_halt, table_halt};
@@ -28,6 +29,7 @@ pub fn read_plain(alloc: Global, job: &FitJob, bytes: &[u8]) -> Result<PlainInpu
     ensures is { IfOk result (IsPlain job.now bytes.now) }
     ensures rows { IfOk result (λ plain. HasRows plain.input) }
     ensures unpenalised { IfOk result (λ plain. length plain.input.smoothing.rows ≡ 0) }
+    ensures intercept { IfOk result HasIntercept }
     ensures cause { IfErr result (HasPlainCause job.now bytes.now) }
 {
     let frame = match read_table(alloc, bytes) {
