@@ -2,6 +2,9 @@
 use Rattle.std.proofs.Common.{◌≡◌, ◌&&◌, ℕ, ◌+◌, Bool, true, false, not, List, [], ◌∷◌, ◌++◌, filter, map, refl, sym, ap, ◌∙◌}
 use Rattle.std.proofs.lemmas.List.{map-append}
 use Rattle.std.specs.List.{range_with_len}
+use Rattle.formula_parser.specs.declared.formula.Formula.{Formula}
+use Rattle.design_matrix.specs.Cells.{Column, Table, column_of, predictor_names}
+use Rattle.design_matrix.specs.Predicted.{is_asked, is_predicted}
 use Rattle.design_matrix.proofs.Steps.{keeps, passes_over}
 
 -- a response that is there
@@ -22,3 +25,9 @@ module _ (test : ℕ → Bool) (n : ℕ) (old : List ℕ) (so_far : old ≡ map 
   -- and one that doesn't
   pub asked_past : (new : List ℕ) → new ≡ old → test n ≡ false → new ≡ map (λ i. i + 1) (filter test (range_with_len 0 (n + 1)))
   asked_past new e t = e ∙ so_far ∙ ap (map (λ i. i + 1)) (passes_over test n (filter test (range_with_len 0 n)) (filter test (range_with_len 0 n)) refl refl t)
+
+-- the test of a record by the columns that are held
+pub asked_is : (table : Table) (model : Formula) (response : Column) (columns : List Column) (i : ℕ) (asked : Bool) → response ≡ column_of table model.response
+    → columns ≡ map (column_of table) (predictor_names model) → asked ≡ is_asked response columns i → is_predicted table model i ≡ asked
+asked_is table model response columns i asked e f g =
+    ap (λ r. is_asked r (map (column_of table) (predictor_names model)) i) (sym e) ∙ ap (λ l. is_asked response l i) (sym f) ∙ sym g

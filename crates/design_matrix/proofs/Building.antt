@@ -17,15 +17,15 @@ use Rattle.design_matrix.specs.CodedVariable.{CodedVariable, coded_term, coded_t
 use Rattle.design_matrix.specs.declared.coded.CodedVariable.{CodedVariable as Held}
 use Rattle.design_matrix.specs.declared.used.UsedColumns.{UsedColumns}
 use Rattle.data_frame.specs.Views.{lent_column}
-use Rattle.design_matrix.specs.Views.{AreUsed, terms_seen, weights_seen}
+use Rattle.design_matrix.specs.Views.{AreUsed, coded_seen, terms_seen, weights_seen}
 use Rattle.design_matrix.specs.Widths.{IsUsable}
 use Rattle.design_matrix.specs.Designs.{AllFit, OverflowsFirst, design_of, exact_design, exact_row, row_of}
 use Rattle.design_matrix.specs.Faults.{HasCause, HasDesign, HasLateCause, IsDesign, IsOverflow, fault_of, lacks_columns, late_fault, rows_fault, terms_fault, used_fault}
 use Rattle.design_matrix.specs.Lists.{each}
-use Rattle.design_matrix.specs.Parts.{Part, column_name, columns_in, columns_of, term_columns}
+use Rattle.design_matrix.specs.Parts.{Part, column_name, columns_in, columns_of, count, term_columns}
 use Rattle.design_matrix.proofs.Firsts.{or_first, or_second}
 use Rattle.design_matrix.proofs.Lengths.{filtered_below, filtered_fewer, terms_part}
-use Rattle.design_matrix.proofs.Usable.{terms_usable}
+use Rattle.design_matrix.proofs.Usable.{terms_few, terms_usable}
 
 made_is : (table : Table) (model : Formula) (coding : Coding) (weights : Option Column) (records : List ℕ) (columns : List (List Part)) (response : Column) (d : Design)
     → columns ≡ columns_of table model coding records → response ≡ column_of table model.response
@@ -173,3 +173,21 @@ fewer_from test n records e =
     let few : length (filter test (range_with_len 0 n)) ≤ n = filtered_fewer test n in
     let same : length records ≡ length (filter test (range_with_len 0 n)) = ap length e in
     omega arith
+
+-- the terms that are held of a sound formula whose columns are few
+
+module _ (table : Table) (model : Formula) (coding : Coding) (records : List ℕ) (terms : List (Vec Held Global))
+    (told : terms_seen terms ≡ each (coded_term table model coding records) 0 model.terms) where
+  -- their columns
+  pub told_columns : columns_in model.intercept (terms_seen terms) ≡ columns_of table model coding records
+  told_columns = seen_columns table model coding records _ (terms_seen terms) refl (coded_from table model coding records (terms_seen terms) told)
+
+  module _ (few : length (columns_of table model coding records) ≤ 128) where
+    few_here : length (columns_in model.intercept (terms_seen terms)) ≤ 128
+    few_here = omega (arith, ap length told_columns, few)
+
+    pub told_usable : terms_fault (coded_terms table model coding records) ≡ None → All (λ vs. All IsUsable vs.items) terms
+    told_usable sound = usable_from terms model.intercept (ap terms_fault (coded_from table model coding records (terms_seen terms) told) ∙ sound) few_here
+
+    pub told_few : All (λ vs. count (map coded_seen vs.items) ≤ 128) terms
+    told_few = terms_few terms (omega (arith, terms_part model.intercept (terms_seen terms), few_here))

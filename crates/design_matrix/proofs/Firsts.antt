@@ -1,5 +1,7 @@
 -- The first answer that a function gives along a list.
 use Rattle.std.proofs.Common.{◌≡◌, ◌<◌, ◌≤◌, ℕ, zero, suc, ◌+◌, ◌-◌, List, [], ◌∷◌, ◌++◌, Option, Some, None, length, map, take, drop, get_or, arith, refl, sym, ap, ◌∙◌, take_all}
+use Rattle.std.proofs.Math.Seq.{drop-cons}
+use Rattle.std.proofs.lemmas.List.{take-append-drop, take_more}
 use Rattle.std.specs.List.{range_with_len}
 use Rattle.std.specs.Option.{option_or}
 use Rattle.design_matrix.specs.Lists.{first_some}
@@ -33,6 +35,29 @@ first_found f told xs i x found h e p q =
 pub first_all : {X A B : Type 0} (f : A → Option B) (told : X → A) (xs : List X) (i : ℕ) → length xs ≤ i
     → first_some f (map told (take i xs)) ≡ None → first_some f (map told xs) ≡ None
 first_all f told xs i h p = ap (λ l. first_some f (map told l)) (sym (take_all i xs h)) ∙ p
+
+-- the same of the items themselves
+
+pub next_none : {A B : Type 0} (f : A → Option B) (xs : List A) (i : ℕ) (x : A) → i < length xs → x ≡ get_or xs i x
+    → first_some f (take i xs) ≡ None → f x ≡ None → first_some f (take (i + 1) xs) ≡ None
+next_none f xs i x h e p q =
+    ap (first_some f) (take_more xs i x h ∙ ap (λ y. take i xs ++ (y ∷ [])) (sym e))
+    ∙ first-append f (take i xs) (x ∷ [])
+    ∙ ap (λ o. option_or o (option_or (f x) None)) p
+    ∙ ap (λ o. option_or o None) q
+
+pub next_found : {A B : Type 0} (f : A → Option B) (xs : List A) (i : ℕ) (x : A) (found : B) → i < length xs → x ≡ get_or xs i x
+    → first_some f (take i xs) ≡ None → f x ≡ Some found → first_some f xs ≡ Some found
+next_found f xs i x found h e p q =
+    ap (first_some f) (sym (take-append-drop i xs))
+    ∙ first-append f (take i xs) (drop i xs)
+    ∙ ap (λ o. option_or o (first_some f (drop i xs))) p
+    ∙ ap (first_some f) (drop-cons xs i x h)
+    ∙ ap (λ y. option_or (f y) (first_some f (drop (suc i) xs))) (sym e)
+    ∙ ap (λ o. option_or o (first_some f (drop (suc i) xs))) q
+
+pub all_none : {A B : Type 0} (f : A → Option B) (xs : List A) (i : ℕ) → length xs ≤ i → first_some f (take i xs) ≡ None → first_some f xs ≡ None
+all_none f xs i h p = ap (first_some f) (sym (take_all i xs h)) ∙ p
 
 -- the same over the numbers below n
 

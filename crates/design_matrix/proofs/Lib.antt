@@ -10,9 +10,12 @@ pub mod Usable
 pub mod Lengths
 pub mod Building
 pub mod Ascending
-pub mod Asked
-pub mod Known
 pub mod Searches
 pub mod Shapes
 pub mod Chosen
 pub mod Weighed
+pub mod Asked
+pub mod Known
+pub mod Alike
+pub mod Behind
+pub mod Predicting

@@ -43,11 +43,11 @@ unmapped P f xs ys e h k d l =
 
 -- faults that a sound table and formula don't have
 
-first_none : {B : Type 0} (a b : Option B) → option_or a b ≡ None → (a ≡ None) × (b ≡ None)
+pub first_none : {B : Type 0} (a b : Option B) → option_or a b ≡ None → (a ≡ None) × (b ≡ None)
 first_none None b h = (refl, h)
 first_none (Some x) b h = absurd (cc h)
 
-if_none : {B : Type 0} (b : Bool) (x : B) → cond b (Some x) None ≡ None → b ≡ false
+pub if_none : {B : Type 0} (b : Bool) (x : B) → cond b (Some x) None ≡ None → b ≡ false
 if_none true x h = absurd (cc h)
 if_none false x h = refl
 
@@ -77,7 +77,7 @@ module _ (table : Table) (model : Formula) (coding : Coding) (weights : Option T
       by [] e h = absurd (cc h)
       by (r ∷ rs) e h = absurd (cc e)
 
-  columns : (terms_fault (coded_terms table model coding (kept table model weights)) ≡ None) × (empty_fault model ≡ None)
+  pub columns : (terms_fault (coded_terms table model coding (kept table model weights)) ≡ None) × (empty_fault model ≡ None)
       × (columns_fault (length (columns_of table model coding (kept table model weights))) ≡ None)
   unfolding late_fault
   columns =
@@ -87,7 +87,7 @@ module _ (table : Table) (model : Formula) (coding : Coding) (weights : Option T
 
 -- the weights of kept records are above 0
 
-none_each : {A B : Type 0} (f : A → Option B) (xs : List A) → first_some f xs ≡ None → All (λ x. f x ≡ None) xs
+pub none_each : {A B : Type 0} (f : A → Option B) (xs : List A) → first_some f xs ≡ None → All (λ x. f x ≡ None) xs
 none_each f [] h = All-nil (λ x. f x ≡ None)
 none_each f (x ∷ xs) h =
     let first = first_none (f x) (first_some f xs) h in
@@ -166,17 +166,17 @@ columns_some table model coding records sound empty smooths =
     by false [] off there sound = absurd (there off refl)
     by false (t ∷ ts) off there sound = term_some (coded_term table model coding records 0 t) (each (coded_term table model coding records) 1 ts) sound
 
-columns_few : (n : ℕ) → columns_fault n ≡ None → n ≤ 128
+pub columns_few : (n : ℕ) → columns_fault n ≡ None → n ≤ 128
 columns_few n h = ltb-false 128 n (if_none (nat_lt 128 n) TooManyColumns h)
 
 -- the design
 
 module _ (table : Table) (model : Formula) (coding : Coding) (weights : Option Text) (design : Design) (is : IsDesign table model coding weights design) where
-  names_are : design.names ≡ map column_name (columns_of table model coding (kept table model weights))
+  pub names_are : design.names ≡ map column_name (columns_of table model coding (kept table model weights))
   unfolding design_of
   names_are = ap (λ d. d.names) is.design_is.exact
 
-  rows_are : map exact_row design.rows
+  pub rows_are : map exact_row design.rows
       ≡ each (row_of (column_of table model.response) (weights_in table weights) (columns_of table model coding (kept table model weights))) 0 (kept table model weights)
   unfolding design_of
   rows_are = ap (λ d. d.rows) is.design_is.exact

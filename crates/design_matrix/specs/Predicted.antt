@@ -20,7 +20,7 @@ use Rattle.design_matrix.specs.CodedVariable.{printed_name}
 use Rattle.design_matrix.specs.Designs.{OverflowsInRow, RowFits}
 use Rattle.design_matrix.specs.Levels.{levels_of, number_order, text_order}
 use Rattle.design_matrix.specs.Lists.{first_some}
-use Rattle.design_matrix.specs.Parts.{Part, columns_of, factors}
+use Rattle.design_matrix.specs.Parts.{Part, column_name, columns_of, factors}
 use Rattle.design_matrix.specs.Products.{product}
 
 -- a response is missing, and none of the columns that explain it misses its cell
@@ -63,10 +63,12 @@ unknown_level table model records i = first_some (λ t. first_some (unknown_faul
 abbrev pub columns_with : Table → Formula → Coding → List ℕ → ℕ → List (List Part)
 columns_with table model coding records i = columns_of table model coding (records ++ i ∷ [])
 
--- the row of a record, counted from 1: the entry of each column is the product of its parts at the record, and none overflows
+-- The row of a record, counted from 1: its columns are called as those of the records' design, the entry of each is the product
+-- of its parts at the record, and none overflows. A formula has no offsets yet.
 pub record IsPredictRow (table : Table) (model : Formula) (coding : Coding) (records : List ℕ) (rec : ℕ) (row : PredictRow) : Type 0 where
   pub known : unknown_level table model records (rec - 1) ≡ None
   pub named : row.rec ≡ rec
+  pub columns : map column_name (columns_with table model coding records (rec - 1)) ≡ map column_name (columns_of table model coding records)
   pub entries : map exact row.x ≡ map (λ column. product (factors column (length records))) (columns_with table model coding records (rec - 1))
   pub fits : RowFits (columns_with table model coding records (rec - 1)) (length records)
   pub offsets : row.offsets ≡ []

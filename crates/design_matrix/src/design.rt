@@ -20,7 +20,7 @@ pub struct PredictRow {
     pub rec: u32,
     /// An entry for each column of the design.
     pub x: List<Frac128>,
-    /// The values of the formula's offsets; a formula has none yet.
+    /// The values of the formula's offsets. Formulas have no offsets yet, so there are none.
     pub offsets: List<Frac128>,
 }
 

@@ -16,12 +16,12 @@ use std::alloc::{AllocError, Global};
 
 // The response, and the columns that explain it.
 #[derive(Drop)]
-struct Explained<'a> {
+struct AskedColumns<'a> {
     response: Column<'a>,
     columns: Vec<Column<'a>>,
 }
 
-impl Explained<'_> {
+impl AskedColumns<'_> {
     // Whether the response of a record is missing, and no cell that explains it is.
     fn is_asked(&self, index: u32) -> bool
         ensures { result ≡ is_asked_of (lent_column self.now.response) (map lent_column self.now.columns.items) index }
@@ -33,28 +33,39 @@ impl Explained<'_> {
     }
 }
 
-fn explained<'a>(
+// The columns of these names.
+fn columns_named<'a>(
+    alloc: Global,
+    frame: &'a Frame,
+    names: &[&str],
+) -> Result<Vec<Column<'a>>, AllocError>
+    ensures { IfOk result (λ columns. map lent_column columns.items ≡ map (column_of frame.now) (map (λ n. n.now) names.now)) }
+{
+    let mut columns = Vec::with_capacity(alloc, names.len())?;
+    for name in names {
+        columns.push(column(frame, *name))?;
+    }
+    Ok(columns)
+}
+
+fn asked_columns<'a>(
     alloc: Global,
     frame: &'a Frame,
     model: &Formula,
-) -> Result<Explained<'a>, AllocError>
-    ensures response { IfOk result (λ e. lent_column e.response ≡ column_of frame.now model.now.response) }
-    ensures columns { IfOk result (λ e. map lent_column e.columns.items ≡ map (column_of frame.now) (predictor_names model.now)) }
+) -> Result<AskedColumns<'a>, AllocError>
+    ensures response { IfOk result (λ a. lent_column a.response ≡ column_of frame.now model.now.response) }
+    ensures columns { IfOk result (λ a. map lent_column a.columns.items ≡ map (column_of frame.now) (predictor_names model.now)) }
 {
     let mut names = Vec::new(alloc);
     push_predictors(&mut names, model)?;
-    let mut columns = Vec::with_capacity(alloc, names.len())?;
-    for name in &names {
-        columns.push(column(frame, *name))?;
-    }
-    Ok(Explained {
+    Ok(AskedColumns {
         response: column(frame, model.response.as_str()),
-        columns,
+        columns: columns_named(alloc, frame, &names)?,
     })
 }
 
 /// The records whose response is missing and whose other used cells, the weight apart, aren't: ascending,
-/// and counted from 1.
+/// and counted from 1. The design is that of the table and the formula; no record depends on more of it.
 pub fn predicted_records(
     alloc: Global,
     frame: &Frame,
@@ -63,13 +74,13 @@ pub fn predicted_records(
 ) -> Result<List<u32>, OutOfMemory>
     ensures { IfOk result (λ records. records ≡ predicted frame.now model.now) }
 {
-    let explained = match explained(alloc, frame, model) {
-        Ok(explained) => explained,
+    let asked = match asked_columns(alloc, frame, model) {
+        Ok(asked) => asked,
         Err(_) => return Err(OutOfMemory),
     };
     let mut records = List::new(alloc);
     for index in 0..frame.records() {
-        if explained.is_asked(index) {
+        if asked.is_asked(index) {
             records.add(index + 1)?;
         }
     }

@@ -2,6 +2,8 @@
 
 ghost use Rattle.std.specs.Prelude.{◌≡◌, ◌⊎◌, ◌<◌, ◌≤◌, ◌+◌, ◌-◌, ◌^◌, None, Some, Contains, All, IfErr, IfOk, OnOk, Option as option, length, map};
 ghost use Rattle.std.specs.Cmp.{IsTotalOrder};
+ghost use Rattle.std.specs.List.{list_any};
+ghost use Rattle.std.specs.Ordering.{is_eq};
 ghost use Rattle.data_frame.specs.Records.{Text as text};
 ghost use Rattle.data_frame.specs.Views.{exact};
 ghost use Rattle.design_matrix.specs.Cells.{column_of};
@@ -28,16 +30,24 @@ use formula_parser::{Formula, Variable};
 use frac_core::{Frac128, List};
 use std::alloc::{AllocError, Global};
 
-// The records of a design's rows, counted from 0.
-fn kept_in(alloc: Global, design: &Design) -> Result<Vec<u32>, AllocError>
-    ensures { IfOk result (λ records. records.items ≡ kept_in_design design.now) }
+// The records of a design's rows, counted from 0, with room for another one of its table.
+fn kept_in(alloc: Global, frame: &Frame, design: &Design) -> Result<Vec<u32>, AllocError>
+    ensures kept { IfOk result (λ records. records.items ≡ kept_in_design design.now) }
+    ensures counted { frame.now.records < 2 ^ 32 }
 {
     let rows = design.rows.as_slice();
-    let mut records = Vec::with_capacity(alloc, rows.len())?;
+    let mut records = Vec::with_capacity(alloc, frame.records() as usize)?;
     for row in rows {
         records.push(row.rec.saturating_sub(1))?;
     }
     Ok(records)
+}
+
+// Whether a cell is one of these levels.
+fn is_among<T: Cell>(levels: &[&T], wanted: &T) -> bool
+    ensures { result ≡ list_any (λ level. is_eq (T.order level.now wanted.now)) levels.now }
+{
+    levels.iter().any(|level| level.compare(wanted).is_eq())
 }
 
 // Whether the cell of a record is a level of the kept ones, or missing.
@@ -54,7 +64,7 @@ fn is_level<T: Cell>(
         return Ok(true);
     };
     let levels = sorted_levels(alloc, cells, kept)?;
-    Ok(levels.iter().any(|level| level.compare(wanted).is_eq()))
+    Ok(is_among(&levels, wanted))
 }
 
 // Whether a variable is a factor of which the cell of a record is no level of the kept ones.
@@ -116,7 +126,8 @@ fn check_levels(
     ensures fault { IfErr result (λ e. (e ≡ DesignFault.OutOfMemory)
         ⊎ (unknown_level frame.now model.now kept.now index ≡ Some e)) }
 {
-    for term in model.terms.as_slice() {
+    let terms = model.terms.as_slice();
+    for term in terms {
         check_variables(alloc, frame, term.variables.as_slice(), kept, index)?;
     }
     Ok(())
@@ -144,10 +155,10 @@ fn last_entries(alloc: Global, coder: &Coder<'_>, rec: u32) -> Result<Vec<Frac12
 }
 
 /// The row of a predicted record: the entry of each column of the design by the levels of the kept records,
-/// and the values of the offsets.
+/// and the values of the offsets. Formulas have no offsets yet, so there are none.
 ///
-/// The design was built from the table, the formula and the coding, with whatever weights, and the formula
-/// has no smooth. Want of memory may come at any step. `UnknownLevel` comes exactly where a factor's cell is
+/// The record is one that `predicted_records` gives, the design was built from the table, the formula and the
+/// coding, with whatever weights, and the formula has no smooth. Want of memory may come at any step. `UnknownLevel` comes exactly where a factor's cell is
 /// no level of the kept records, with the first such variable by terms and then by variables; and else
 /// `Overflow` exactly where a product of entries overflows, the first by column and then by the number of its
 /// factors.
@@ -164,10 +175,11 @@ pub fn predict_row(
     requires plain { length model.now.smooths ≡ 0 }
     requires asked { Contains (predicted frame.now model.now) rec }
     ensures row { IfOk result (IsPredictRow frame.now model.now coding (kept_in_design design.now) rec) }
+    ensures wide { IfOk result (λ row. length row.x ≡ length design.now.names) }
     ensures fault { IfErr result (HasRowCause frame.now model.now coding (kept_in_design design.now) rec) }
 {
     let index = rec - 1;
-    let mut records = kept_in(alloc, design)?;
+    let mut records = kept_in(alloc, frame, design)?;
     check_levels(alloc, frame, model, &records, index)?;
     records.push(index)?;
     let coder = Coder {

@@ -4,7 +4,7 @@ use Rattle.data_frame.specs.Views.{lent_column}
 use Rattle.design_matrix.specs.Cells.{Column, is_present}
 use Rattle.design_matrix.proofs.Asked.{asked_no, asked_yes}
 use Rattle.design_matrix.proofs.Steps.{list_all-map}
-use Rattle.design_matrix.proofs.predicted.Explained.is_asked.Goals as goal
+use Rattle.design_matrix.proofs.predicted.AskedColumns.is_asked.Goals as goal
 
 pub returns-then-has_value : goal.returns-then-has_value
 returns-then-has_value c = asked_no _ _ _ c.has_value.ensures c.if-has_value.true
