@@ -1,5 +1,6 @@
 -- Why an input, or its problem, gives no report is why its bytes give none.
-use Rattle.std.proofs.Common.{ℕ, Bool, true, List, length, inl, inr}
+use Rattle.std.specs.Prelude.{IfErr}
+use Rattle.std.proofs.Common.{ℕ, Bool, true, List, Result, Ok, Err, length, inl, inr}
 use Rattle.report_text.specs.declared.report.Place.TheVariants as places
 use Rattle.report_text.specs.declared.report.Refusal.TheVariants.{TooLong, Dependent}
 use Rattle.report_text.specs.declared.report.Refusal.TheVariants as refusals
@@ -12,6 +13,11 @@ use Rattle.rq_input.specs.declared.input.Input.{Input}
 use Rattle.rq_fit.specs.Ranks.{HasScoringCause}
 use Rattle.rq_fit.specs.Stops.{HasProblemCause}
 use Rattle.rq_engine.specs.Answers.{HasFitCause, HasRanksCause}
+
+-- a halt by another name
+pub halt_along : {A : Type 0} (r : Result A Halt) (P Q : Halt → Type 0) → IfErr r P → ((halt : Halt) → P halt → Q halt) → IfErr r Q
+halt_along (Ok x) P Q h f = tt
+halt_along (Err halt) P Q h f = f halt h
 
 -- why there is no input is why there is no fit
 pub input_cause : (job : FitJob) (ranked : Bool) (bytes : List ℕ) (halt : Halt) → HasInputCause job ranked bytes halt → HasFitCause job ranked bytes halt

@@ -101,11 +101,6 @@ fit_ended job fit right = intervals_kept value fit.problem job.limit right.shape
 
 -- ---- causes
 
--- a halt by another name
-pub halt_along : (r : Result Cert Halt) (P Q : Halt → Type 0) → IfErr r P → ((halt : Halt) → P halt → Q halt) → IfErr r Q
-halt_along (Ok cert) P Q h f = tt
-halt_along (Err halt) P Q h f = f halt h
-
 certify_cause : (job : FitJob) (bytes : List ℕ) (halt : Halt) → HasFitCause job (is_some job.rank) bytes halt → HasCertifyCause job bytes halt
 certify_cause job bytes (Refused (refusals.CertTooLong n)) h = absurd h.2.cause
 certify_cause job bytes (Refused (refusals.Certificate fault)) h = h

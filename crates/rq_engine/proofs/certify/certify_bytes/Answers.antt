@@ -1,6 +1,7 @@
 use Rattle.rq_engine.specs.Answers.{HasCertifyCause}
 use Rattle.rq_engine.specs.Certifying.{HasCertifiedCause}
-use Rattle.rq_engine.proofs.Certifying.{certified_certify, halt_along}
+use Rattle.rq_engine.proofs.Causes.{halt_along}
+use Rattle.rq_engine.proofs.Certifying.{certified_certify}
 use Rattle.rq_engine.proofs.certify.certify_bytes.Goals as goal
 
 pub returns-in-Ok-clause-cause : goal.returns-in-Ok-clause-cause

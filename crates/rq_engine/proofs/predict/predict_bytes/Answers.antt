@@ -1,3 +1,4 @@
+use Rattle.rq_engine.proofs.Causes.{halt_along}
 use Rattle.rq_engine.proofs.Predicting.{input_predict, predicted_predict}
 use Rattle.rq_engine.proofs.predict.predict_bytes.Goals as goal
 
