@@ -5,7 +5,7 @@ Numbers are `fractions.Fraction` throughout, and each report has frames of float
 """
 
 from .faults import QuantregError, ReportError, read_fault
-from .fitting import Fit, fit, ranks
+from .fitting import Fit, fit, predictions, ranks
 from .plots import plot_fit, plot_process
 from .program import find_program, run
 from .reports import (
@@ -47,6 +47,7 @@ __all__ = [
     "fit",
     "plot_fit",
     "plot_process",
+    "predictions",
     "ranks",
     "read_fault",
     "read_report",

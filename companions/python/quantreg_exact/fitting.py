@@ -114,3 +114,14 @@ def ranks(formula, data, *, weights=None, contrasts=None, pivots=None, program=N
     """The Wilcoxon scores of a formula by the job `ranks`. `Fit.wilcoxon` gives them for numbers of any size."""
     options = {"formula": formula, "weights": weights, "contrasts": contrasts, "pivots": pivots}
     return read_report(run(_words("ranks", options), _table_bytes(data), program))
+
+
+def predictions(formula, data, lo, hi=None, *, weights=None, contrasts=None, pivots=None, program=None):
+    """The predictions of the records of `data` whose response is missing, by the job `predict`.
+
+    For each of them, 1 to 64, the steps over the quantiles from `lo` to `hi` and their rearrangement. `Fit.steps` and
+    `Fit.predict` give the steps of any record, by a design that is read back from the names of its columns.
+    """
+    hi = lo if hi is None else hi
+    options = {"formula": formula, "lo": lo, "hi": hi, "weights": weights, "contrasts": contrasts, "pivots": pivots}
+    return read_report(run(_words("predict", options), _table_bytes(data), program))

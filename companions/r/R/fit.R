@@ -52,6 +52,17 @@ ranks_exact <- function(formula, data, weights = NULL, contrasts = "treatment", 
     list(ranks = fraction_value(report$wilcoxon), exact = report$wilcoxon)
 }
 
+#' The predictions of the records whose response is missing, by the job predict: the steps over the quantiles from lo to hi of each,
+#' as they are and rearranged so that they never fall.
+predictions_exact <- function(formula, data, lo = 0, hi = 1, weights = NULL, contrasts = "treatment", pivots = NULL, program = NULL) {
+    words <- fit_words("predict", formula, list(lo = lo, hi = hi, weights = weights, contrasts = contrasts, pivots = pivots))
+    exact <- read_report(run_quantreg(words, used_columns(formula, data, weights), program))$predictions
+    numbers <- c("lo", "hi", "value")
+    steps <- exact
+    steps[numbers] <- lapply(exact[numbers], fraction_value)
+    list(steps = steps, exact = exact)
+}
+
 #' The coefficients, as doubles or, with exact = TRUE, as fractions in text.
 coef.rq_exact <- function(object, exact = FALSE, ...) if (exact) object$exact else object$coefficients
 

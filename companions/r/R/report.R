@@ -1,4 +1,4 @@
-# Reports as lists. The package reads those of `process` and `ranks`.
+# Reports as lists. The package reads those of `process`, `ranks` and `predict`.
 
 #' The double nearest to a number text, up to two roundings: a whole number, a ratio, Inf or -Inf.
 fraction_value <- function(text) {
@@ -29,20 +29,33 @@ read_segment <- function(lines, columns) {
     list(lo = ends[1], hi = ends[2], coef = coef[, 2], loss = fields_of(lines, "loss", 2)[1, ], marks = marks, basic = scores)
 }
 
-#' The report of a run, from its lines or its text: a list with `kind` process or ranks.
+# The steps of all predictions, a row for each: those of a record as they are, and then rearranged.
+read_predictions <- function(lines) {
+    heads <- grepl("^(predict|rearranged) ", lines)
+    is_step <- startsWith(lines, "step ")
+    head <- lines[heads][cumsum(heads)[is_step]]
+    steps <- as.data.frame(fields_of(lines, "step", 3))
+    names(steps) <- c("lo", "hi", "value")
+    cbind(record = as.integer(sub("^\\w+ ", "", head)), is_rearranged = startsWith(head, "rearranged"), steps)
+}
+
+#' The report of a run, from its lines or its text: a list with `kind` process, ranks or predict.
 #'
 #' Numbers are texts, which fraction_value turns into doubles.
 read_report <- function(text) {
     lines <- if (length(text) == 1) strsplit(text, "\n", fixed = TRUE)[[1]] else text
-    kind <- match(lines[1], c("quantreg 1", "quantreg ranks 1"))
-    if (is.na(kind) || lines[length(lines)] != "end") stop("no whole report of process or ranks", call. = FALSE)
+    kinds <- c("quantreg 1" = "process", "quantreg ranks 1" = "ranks", "quantreg predict 1" = "predict")
+    if (!lines[1] %in% names(kinds) || lines[length(lines)] != "end") {
+        stop("no whole report of process, ranks or predict", call. = FALSE)
+    }
     counts <- fields_of(lines, "records", 3)[1, ]
     names <- unescaped(fields_of(lines, "column", 2)[, 2])
     report <- list(
-        kind = c("process", "ranks")[kind], records = as.integer(counts[1]), dropped = as.integer(counts[3]),
+        kind = kinds[[lines[1]]], records = as.integer(counts[1]), dropped = as.integer(counts[3]),
         names = names, pivots = as.integer(fields_of(lines, "pivots", 1))
     )
     if (report$kind == "ranks") return(c(report, list(wilcoxon = fields_of(lines, "wilcoxon", 2)[, 2])))
+    if (report$kind == "predict") return(c(report, list(predictions = read_predictions(lines))))
     rows <- fields_of(lines, "data", 3)[1, ]
     starts <- which(startsWith(lines, "segment "))
     if (!length(starts)) stop("the report has no segment", call. = FALSE)

@@ -33,6 +33,30 @@ stopifnot(
 )
 ranks <- read_report("quantreg ranks 1\nrecords 2 dropped 0\ncolumn 1 a \\x09\\x5cb\npivots 1\nwilcoxon 1 -1/4\nwilcoxon 2 1/4\nend\n")
 stopifnot(identical(ranks$names, "a \t\\b"), identical(ranks$wilcoxon, c("-1/4", "1/4")))
+predict <- "quantreg predict 1
+records 3 dropped 2
+column 1 (Intercept)
+column 2 x
+pivots 2
+predict 4
+step 0 3/5 4
+step 3/5 1 7/2
+rearranged 4
+step 0 2/5 7/2
+step 2/5 1 4
+predict 5
+step 0 3/5 -1
+step 3/5 1 1
+rearranged 5
+step 0 3/5 -1
+step 3/5 1 1
+end
+"
+predicted <- read_report(predict)$predictions
+stopifnot(
+    identical(predicted$record, rep(4:5, each = 4)), identical(predicted$is_rearranged, rep(c(FALSE, FALSE, TRUE, TRUE), 2)),
+    identical(predicted$hi[1:4], c("3/5", "1", "2/5", "1")), identical(predicted$value, c("4", "7/2", "7/2", "4", "-1", "1", "-1", "1"))
+)
 refused <- function(text) inherits(try(read_report(text), silent = TRUE), "try-error")
 lines <- strsplit(line, "\n")[[1]]
 stopifnot(refused(lines[-length(lines)]), refused(sub("quantreg 1", "quantreg 2", line)), refused(lines[-9]), refused(lines[-13]))
@@ -88,6 +112,8 @@ for (wrong in list(data.frame(y = 1:2, f = factor(1:2)), data.frame(y = c(1, Inf
     stopifnot(inherits(try(rq_exact(y ~ f, wrong), silent = TRUE), "try-error"))
 }
 stopifnot(identical(ranks_exact(y ~ x, three)$exact, c("-1/5", "3/10", "-1/10")))
+asked <- predictions_exact(y ~ x, data.frame(y = c(0, 2, 3, NA, NA), x = c(0, 1, 3, 4, -1)))
+stopifnot(identical(asked$exact, predicted), identical(asked$steps$value, c(4, 3.5, 3.5, 4, -1, 1, -1, 1)))
 # The records 1 to 5 have the interval 2 to 4 for each critical value from 1/5 to below 9/5, such as the square of qt(0.75, 4).
 found <- summary(rq_exact(y ~ 1, data.frame(y = 1:5)), alpha = 0.5)$tables[[1]]
 stopifnot(identical(unname(found[1, ]), c(3, 2, 4)))
