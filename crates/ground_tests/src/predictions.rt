@@ -144,6 +144,13 @@ fn expect_case(rt: &impl Abort, alloc: Global, case: &Case) -> Result<(), AllocE
     Ok(())
 }
 
+fn expect_cases(rt: &impl Abort, alloc: Global, cases: &[Case]) -> Result<(), Fail> {
+    for case in cases {
+        expect_case(rt, alloc, case)?;
+    }
+    Ok(())
+}
+
 // A line through two of three points along each segment, at 4 and at 2: the first falls.
 static LINE: [Case; 2] = [
     Case {
@@ -166,15 +173,12 @@ static LINE: [Case; 2] = [
 
 #[test]
 fn a_line_of_three_points(rt: HostRuntime) -> Result<(), Fail> {
-    for case in &LINE {
-        expect_case(&rt, rt.alloc(), case)?;
-    }
-    Ok(())
+    expect_cases(&rt, rt.alloc(), &LINE)
 }
 
-// Of these, 14 have values that rise and fall, 12 have values that several steps share, 9 never fall, 3
+// Of the 40 records below, 14 have values that rise and fall, 12 have values that several steps share, 9 never fall, 3
 // never rise, and 2 have one step.
-static TABLE: [Case; 40] = [
+static RECORDS_1_TO_8: [Case; 8] = [
     Case {
         x: &[(1, 1), (4, 1), (5, 1)],
         offsets: &[],
@@ -322,6 +326,14 @@ static TABLE: [Case; 40] = [
             ((1, 1), (1, 2)),
         ],
     },
+];
+
+#[test]
+fn records_1_to_8(rt: HostRuntime) -> Result<(), Fail> {
+    expect_cases(&rt, rt.alloc(), &RECORDS_1_TO_8)
+}
+
+static RECORDS_9_TO_16: [Case; 8] = [
     Case {
         x: &[(1, 1), (-3, 1), (-3, 1)],
         offsets: &[(-2, 1), (1, 2), (3, 2)],
@@ -521,6 +533,14 @@ static TABLE: [Case; 40] = [
             ((1, 1), (8, 1)),
         ],
     },
+];
+
+#[test]
+fn records_9_to_16(rt: HostRuntime) -> Result<(), Fail> {
+    expect_cases(&rt, rt.alloc(), &RECORDS_9_TO_16)
+}
+
+static RECORDS_17_TO_24: [Case; 8] = [
     Case {
         x: &[(1, 1), (0, 1), (5, 1)],
         offsets: &[],
@@ -682,6 +702,14 @@ static TABLE: [Case; 40] = [
             ((1, 1), (9, 1)),
         ],
     },
+];
+
+#[test]
+fn records_17_to_24(rt: HostRuntime) -> Result<(), Fail> {
+    expect_cases(&rt, rt.alloc(), &RECORDS_17_TO_24)
+}
+
+static RECORDS_25_TO_32: [Case; 8] = [
     Case {
         x: &[(1, 1), (3, 1)],
         offsets: &[(0, 1), (5, 2), (1, 3)],
@@ -829,6 +857,14 @@ static TABLE: [Case; 40] = [
         stepped: &[((1, 35), (5, 3)), ((1, 2), (8, 3)), ((1, 1), (3, 1))],
         rearranged: &[((1, 35), (5, 3)), ((1, 2), (8, 3)), ((1, 1), (3, 1))],
     },
+];
+
+#[test]
+fn records_25_to_32(rt: HostRuntime) -> Result<(), Fail> {
+    expect_cases(&rt, rt.alloc(), &RECORDS_25_TO_32)
+}
+
+static RECORDS_33_TO_40: [Case; 8] = [
     Case {
         x: &[(1, 1)],
         offsets: &[],
@@ -961,11 +997,8 @@ static TABLE: [Case; 40] = [
 ];
 
 #[test]
-fn predictions_of_a_table(rt: HostRuntime) -> Result<(), Fail> {
-    for case in &TABLE {
-        expect_case(&rt, rt.alloc(), case)?;
-    }
-    Ok(())
+fn records_33_to_40(rt: HostRuntime) -> Result<(), Fail> {
+    expect_cases(&rt, rt.alloc(), &RECORDS_33_TO_40)
 }
 
 /// What overflows: the quantity, its indices, the term and the operation, and its operands.
