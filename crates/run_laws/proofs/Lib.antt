@@ -3,6 +3,7 @@ pub mod AskedIntervals
 pub mod Spilled
 pub mod Needed
 pub mod Complete
+pub mod Stopless
 pub mod Checked
 pub mod Unposed
 pub mod Unpredicted

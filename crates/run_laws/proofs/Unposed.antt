@@ -12,6 +12,7 @@ use Rattle.report_text.specs.declared.report.Place.{Place}
 use Rattle.report_text.specs.declared.report.Place.TheVariants as places
 use Rattle.report_text.specs.declared.report.Refusal.{Refusal}
 use Rattle.report_text.specs.declared.report.Refusal.TheVariants as refusals
+use Rattle.report_text.specs.declared.report.Report.{Report}
 use Rattle.report_text.specs.declared.report.Halt.{Halt}
 use Rattle.report_text.specs.declared.report.Halt.TheVariants as halts
 use Rattle.rq_input.specs.Inputs.{HasInputCause, IsInput}
@@ -20,13 +21,13 @@ use Rattle.input_laws.specs.Laws.{InputsHaveNoFault}
 use Rattle.rq_engine.specs.Answers as engine
 use Rattle.rq_engine.specs.Answers.{LacksFit, LacksPredictFit}
 use Rattle.rq_engine.specs.Jobs.{sample_fit}
-use Rattle.rq_cli.specs.Outcomes.{Stream, IsRun, IsHalted, Reads, WereRead}
+use Rattle.rq_cli.specs.Outcomes.{Stream, IsRun, IsAnswered, IsHalted, Reads, WereRead}
 use Rattle.rq_cli.specs.declared.outcome.Outcome.{Outcome}
-use Rattle.rq_cli.specs.declared.outcome.Outcome.TheVariants.{Done, Refused, Usage, SourceFault, SinkFault, OutOfMemory, PivotLimit, Overflow, Rejected}
 use Rattle.run_laws.specs.Completeness.{IsUnposed}
 use Rattle.run_laws.specs.NeededOutcomes.{AskFit, IsFitJob, table_bytes}
 use Rattle.run_laws.proofs.AskedInputs.{asked_input}
 use Rattle.run_laws.proofs.Complete.{no_check, one_request, report_process, same_table}
+use Rattle.run_laws.proofs.Stopless.{unposed_without}
 
 module _ (law : InputsHaveNoFault) (words : List (List ℕ)) (source source' : Stream) (bytes : List ℕ) (first : FitJob) (kind : Bool) (asked : AskFit words first kind) (told : Reads asked.job → source.bytes ≡ Some bytes)
     (faulty : (fit : FitJob) (ranked : Bool) (ask : AskFit words fit ranked) → (refusal : Refusal) × HasInputCause fit ranked (table_bytes ask.job bytes) (halts.Refused refusal)) where
@@ -50,6 +51,12 @@ module _ (law : InputsHaveNoFault) (words : List (List ℕ)) (source source' : S
   no_prediction : (fit : FitJob) (other : List ℕ) → WereRead words source source' (jobs.Predict fit) other → (halt : Halt) → LacksPredictFit fit other halt → ⊥
   no_prediction fit other read halt h =
       no_input fit true (ask_of (jobs.Predict fit) fit true (refl, refl) other read) (jobs.Predict fit) other read h.asked.input (asked_input fit other h.asked h.is) h.rows.shaped
+
+  reported : (report : Report) → IsAnswered words source source' report → ⊥
+  reported report answered =
+      let h = report_process words source source' first kind asked report answered in
+      let was = h.3.was in
+      no_input h.0 was.ranked was.asked was.read.0 was.bytes was.read.1 h.1 was.is h.3.shaped
 
   dependent : (combination : List Frac128) → IsHalted words source source' (halts.Refused (refusals.Dependent combination)) → ⊥
   dependent combination h = by h.job h.read h.cause
@@ -100,27 +107,4 @@ module _ (law : InputsHaveNoFault) (words : List (List ℕ)) (source source' : S
       by place (jobs.Sample job) read cause = no_stop (jobs.Sample job) (sample_fit job) false (refl, refl) h.bytes read _ cause
 
   pub unposed : (out out' err err' : Stream) (outcome : Outcome) → IsRun words source source' out out' err err' outcome → IsUnposed outcome
-  unposed out out' err err' (Done report) run =
-      let h = report_process words source source' first kind asked report run.cause in
-      let was = h.3.was in
-      no_input h.0 was.ranked was.asked was.read.0 was.bytes was.read.1 h.1 was.is h.3.shaped
-  unposed out out' err err' (PivotLimit place limit trail) run = limited place limit trail run.cause
-  unposed out out' err err' (Overflow place trail spill) run = spilled place trail spill run.cause
-  unposed out out' err err' (Refused (refusals.Dependent combination)) run = dependent combination run.cause
-  unposed out out' err err' (Refused (refusals.CertTooLong n)) run = too_long n run.cause
-  unposed out out' err err' (Refused refusals.TooLong) run = tt
-  unposed out out' err err' (Refused (refusals.Table fault)) run = tt
-  unposed out out' err err' (Refused (refusals.Formula fault)) run = tt
-  unposed out out' err err' (Refused refusals.RankWithPenalty) run = tt
-  unposed out out' err err' (Refused refusals.SmoothNotTaken) run = tt
-  unposed out out' err err' (Refused (refusals.Design fault)) run = tt
-  unposed out out' err err' (Refused (refusals.Penalty fault)) run = tt
-  unposed out out' err err' (Refused (refusals.Program fault)) run = tt
-  unposed out out' err err' (Refused refusals.NothingToPredict) run = tt
-  unposed out out' err err' (Refused (refusals.TooManyPredictions found)) run = tt
-  unposed out out' err err' (Refused (refusals.Certificate fault)) run = tt
-  unposed out out' err err' (Usage fault) run = tt
-  unposed out out' err err' SourceFault run = tt
-  unposed out out' err err' SinkFault run = tt
-  unposed out out' err err' OutOfMemory run = tt
-  unposed out out' err err' (Rejected rejection) run = tt
+  unposed = unposed_without words source source' reported dependent too_long limited spilled

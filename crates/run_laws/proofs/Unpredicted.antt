@@ -18,11 +18,11 @@ use Rattle.input_laws.specs.Laws.{PredictionsHaveNoFault}
 use Rattle.rq_engine.specs.Answers as engine
 use Rattle.rq_engine.specs.Answers.{IsRight, LacksPredictFit}
 use Rattle.rq_engine.specs.Jobs.{IsJobOf}
-use Rattle.rq_cli.specs.Outcomes.{Stream, IsRun, IsHalted, WereRead}
+use Rattle.rq_cli.specs.Outcomes.{Stream, IsRun, IsAnswered, IsHalted, WereRead}
 use Rattle.rq_cli.specs.declared.outcome.Outcome.{Outcome}
-use Rattle.rq_cli.specs.declared.outcome.Outcome.TheVariants.{Done, Refused, Usage, SourceFault, SinkFault, OutOfMemory, PivotLimit, Overflow, Rejected}
 use Rattle.run_laws.specs.Completeness.{IsUnposed}
 use Rattle.run_laws.proofs.Complete.{were_told}
+use Rattle.run_laws.proofs.Stopless.{unposed_without}
 
 module _ (law : PredictionsHaveNoFault) (words : List (List ℕ)) (source source' : Stream) (bytes : List ℕ) (first : FitJob) (asked : IsJobOf words (jobs.Predict first)) (told : source.bytes ≡ Some bytes)
     (faulty : (fit : FitJob) → IsJobOf words (jobs.Predict fit) → (refusal : Refusal) × HasPredictionCause fit bytes (halts.Refused refusal)) where
@@ -50,35 +50,21 @@ module _ (law : PredictionsHaveNoFault) (words : List (List ℕ)) (source source
   too_long : (n : ℕ) → IsHalted words source source' (halts.Refused (refusals.CertTooLong n)) → ⊥
   too_long n h = alone h.job h.read.asked (λ (job : Job). engine.HasCause job h.bytes (halts.Refused (refusals.CertTooLong n)) → ⊥) (λ fit cause. cause.2.cause) h.cause
 
-  reported : (fit : FitJob) (other : List ℕ) (report : Report) → WereRead words source source' (jobs.Predict fit) other → IsRight (jobs.Predict fit) other report → ⊥
-  reported fit other (reports.Process f) read right = right
-  reported fit other (reports.Ranks f) read right = right
-  reported fit other (reports.Certificate c) read right = right
-  reported fit other (reports.Checked c) read right = right
-  reported fit other (reports.Predict f) read right = no_rows fit other read right.0 right.1 right.2.shaped
-  reported fit other (reports.Sample f) read right = right
+  right_predicts : (fit : FitJob) (other : List ℕ) (report : Report) → WereRead words source source' (jobs.Predict fit) other → IsRight (jobs.Predict fit) other report → ⊥
+  right_predicts fit other (reports.Process f) read right = right
+  right_predicts fit other (reports.Ranks f) read right = right
+  right_predicts fit other (reports.Certificate c) read right = right
+  right_predicts fit other (reports.Checked c) read right = right
+  right_predicts fit other (reports.Predict f) read right = no_rows fit other read right.0 right.1 right.2.shaped
+  right_predicts fit other (reports.Sample f) read right = right
+
+  reported : (report : Report) → IsAnswered words source source' report → ⊥
+  reported report a =
+      alone a.job a.read.asked (λ (job : Job). WereRead words source source' job a.bytes → IsRight job a.bytes report → ⊥)
+      (λ fit read right. right_predicts fit a.bytes report read right) a.read a.right
 
   pub unpredicted : (out out' err err' : Stream) (outcome : Outcome) → IsRun words source source' out out' err err' outcome → IsUnposed outcome
-  unpredicted out out' err err' (Done report) run =
-      let a = run.cause in
-      alone a.job a.read.asked (λ (job : Job). WereRead words source source' job a.bytes → IsRight job a.bytes report → ⊥) (λ fit read right. reported fit a.bytes report read right) a.read a.right
-  unpredicted out out' err err' (PivotLimit place limit trail) run = halted (halts.PivotLimit place limit trail) (λ fit other cause. cause) run.cause
-  unpredicted out out' err err' (Overflow place trail spill) run = halted (halts.Overflow place trail spill) (λ fit other cause. cause) run.cause
-  unpredicted out out' err err' (Refused (refusals.Dependent combination)) run = halted (halts.Refused (refusals.Dependent combination)) (λ fit other cause. cause) run.cause
-  unpredicted out out' err err' (Refused (refusals.CertTooLong n)) run = too_long n run.cause
-  unpredicted out out' err err' (Refused refusals.TooLong) run = tt
-  unpredicted out out' err err' (Refused (refusals.Table fault)) run = tt
-  unpredicted out out' err err' (Refused (refusals.Formula fault)) run = tt
-  unpredicted out out' err err' (Refused refusals.RankWithPenalty) run = tt
-  unpredicted out out' err err' (Refused refusals.SmoothNotTaken) run = tt
-  unpredicted out out' err err' (Refused (refusals.Design fault)) run = tt
-  unpredicted out out' err err' (Refused (refusals.Penalty fault)) run = tt
-  unpredicted out out' err err' (Refused (refusals.Program fault)) run = tt
-  unpredicted out out' err err' (Refused refusals.NothingToPredict) run = tt
-  unpredicted out out' err err' (Refused (refusals.TooManyPredictions found)) run = tt
-  unpredicted out out' err err' (Refused (refusals.Certificate fault)) run = tt
-  unpredicted out out' err err' (Usage fault) run = tt
-  unpredicted out out' err err' SourceFault run = tt
-  unpredicted out out' err err' SinkFault run = tt
-  unpredicted out out' err err' OutOfMemory run = tt
-  unpredicted out out' err err' (Rejected rejection) run = tt
+  unpredicted =
+      unposed_without words source source' reported (λ combination. halted (halts.Refused (refusals.Dependent combination)) (λ fit other cause. cause)) too_long
+      (λ place limit trail. halted (halts.PivotLimit place limit trail) (λ fit other cause. cause))
+      (λ place trail spill. halted (halts.Overflow place trail spill) (λ fit other cause. cause))
