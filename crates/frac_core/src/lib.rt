@@ -2,12 +2,14 @@
 //!
 //! `Exact` is the trait of such fractions: each operation gives the exact value, or hands back
 //! the operation exactly where a number that it needs is out of range. `Frac128` and `Frac64`
-//! implement it, and `widen` and `narrow` lead from one to the other. `read_number` and `number_text` read and write their texts, for every type that
-//! implements it. The crate stands on `exact_algebra`, whose field ℚ its clauses speak of, and on
+//! implement it, and `widen` and `narrow` lead from one to the other. `read_number` and
+//! `number_text` read and write their texts, for every type that implements it. `Arith` holds the
+//! arithmetic of a formula, which layers above read and evaluate. The crate stands on `exact_algebra`, whose field ℚ its clauses speak of, and on
 //! `itoa` for the digits of whole numbers.
 //! Its tests stand in the crate `ground_tests`.
 #![tactic(auto)]
 
+mod arith;
 mod bounded;
 mod digits;
 mod divisor;
@@ -23,6 +25,7 @@ mod parts;
 mod text;
 mod widths;
 
+pub use arith::{Arith, ArithOp};
 pub use exact::{Exact, Op, OpKind};
 pub use frac64::Frac64;
 pub use frac128::Frac128;

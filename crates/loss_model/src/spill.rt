@@ -34,6 +34,8 @@ pub enum Quantity {
     PathCost,
     TestScore,
     TestStatistic,
+    ArithValue,
+    OffsetResponse,
 }
 
 /// The place of an operation: the quantity, its indices, of which those that it does not have are

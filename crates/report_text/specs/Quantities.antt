@@ -47,6 +47,8 @@ quantity_name quantities.StepPlace = codes "step-place"
 quantity_name quantities.PathCost = codes "path-cost"
 quantity_name quantities.TestScore = codes "test-score"
 quantity_name quantities.TestStatistic = codes "test-statistic"
+quantity_name quantities.ArithValue = codes "arith-value"
+quantity_name quantities.OffsetResponse = codes "offset-response"
 
 -- the indices i, j and k of a quantity as they are printed. Records, parts and ends, the entries of
 -- perturbed ratios and the indices of a check-sum stand as they are; all others are counted from 1
@@ -81,6 +83,8 @@ printed quantities.StepPlace i j k = Two i (j + 1)
 printed quantities.PathCost i j k = Two (i + 1) j
 printed quantities.TestScore i j k = One (i + 1)
 printed quantities.TestStatistic i j k = One i
+printed quantities.ArithValue i j k = Two i (j + 1)
+printed quantities.OffsetResponse i j k = One i
 
 -- the indices of a site as they are printed
 abbrev pub indices : Site → PrintedIndices

@@ -58,6 +58,8 @@ pub(crate) fn quantity_name(quantity: Quantity) -> &'static [u8]
         Quantity::PathCost => b"path-cost",
         Quantity::TestScore => b"test-score",
         Quantity::TestStatistic => b"test-statistic",
+        Quantity::ArithValue => b"arith-value",
+        Quantity::OffsetResponse => b"offset-response",
     }
 }
 
@@ -98,5 +100,7 @@ pub(crate) fn indices(site: &Site) -> PrintedIndices
         Quantity::PathCost => PrintedIndices::Two(first + 1, second),
         Quantity::TestScore => PrintedIndices::One(first + 1),
         Quantity::TestStatistic => PrintedIndices::One(first),
+        Quantity::ArithValue => PrintedIndices::Two(first, second + 1),
+        Quantity::OffsetResponse => PrintedIndices::One(first),
     }
 }

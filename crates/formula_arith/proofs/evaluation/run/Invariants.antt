@@ -1,0 +1,8 @@
+use Rattle.std.proofs.Common.{map}
+use Rattle.formula_arith.specs.Values.{exact}
+use Rattle.formula_arith.specs.Machine.{stacked}
+use Rattle.formula_arith.proofs.Progress.{Underway}
+use Rattle.formula_arith.proofs.evaluation.run.Given as goal
+
+abbrev pub invariant-loop-op : goal.invariant-loop-op
+invariant-loop-op l = Underway (map exact l.values) l.code l.op-index (stacked l.operands) l.count
