@@ -4,6 +4,7 @@ pub mod Parsed
 pub mod Products
 pub mod Sound
 pub mod Inputs
+pub mod Plain
 pub mod Predictions
 pub mod GeneratedRecords
 pub mod GeneratedCells

@@ -15,14 +15,17 @@ use Rattle.rq_words.specs.declared.job.FitJob.{FitJob}
 use Rattle.report_text.specs.declared.report.Refusal.{Refusal}
 use Rattle.report_text.specs.declared.report.Refusal.TheVariants as refusals
 use Rattle.report_text.specs.declared.report.Halt.TheVariants.{Refused}
-use Rattle.rq_input.specs.Inputs.{HasInputCause, IsModelInput}
+use Rattle.rq_input.specs.Inputs.{IsModelInput}
+use Rattle.rq_input.specs.Plain.{HasPlainCause}
 use Rattle.rq_input.specs.Predictions.{ArePredicted, HasPredictionCause, HasRecordsCause, IsPrediction, LackPredictions, LacksPredictions}
 use Rattle.rq_input.specs.declared.input.Input.{Input}
 use Rattle.rq_input.specs.declared.predictions.PredictionInput.{PredictionInput}
 use Rattle.rq_input.proofs.Lists.{zip_item, zip_length}
+use Rattle.rq_input.proofs.Plain.{plain_input}
 use Rattle.input_laws.specs.Laws.{PredictionsHaveNoFault}
-use Rattle.input_laws.proofs.Inputs.{input_sound, one_table}
+use Rattle.input_laws.proofs.Inputs.{one_table}
 use Rattle.input_laws.proofs.Parsed.{one_formula}
+use Rattle.input_laws.proofs.Plain.{plain_sound}
 use Rattle.input_laws.proofs.Products.{none_in_row}
 use Rattle.input_laws.proofs.Sound.{one_design}
 
@@ -60,8 +63,8 @@ module _ (table : Table) (model : Formula) (coding : Coding) where
 -- ---- the bytes
 
 module _ (one : OneFormula) (none : NoFormulaHasFaults) (job : FitJob) (bytes : List ℕ) (asked : PredictionInput) (is : IsPrediction job bytes asked) (shaped : IsWellShaped asked.input.problem) where
-  no_input_fault : (refusal : Refusal) → ¬ HasInputCause job true bytes (Refused refusal)
-  no_input_fault = input_sound one none job true bytes asked.input (is.0, is.1, record { model = is.2.model; stated = is.2.by.stated; is = is.2.by.is }) shaped
+  no_plain_fault : (refusal : Refusal) → ¬ HasPlainCause job bytes (Refused refusal)
+  no_plain_fault = plain_sound one none job bytes asked.input (plain_input job is.0 is.2.model asked.input is.2.by bytes is.1) shaped
 
   -- an input of the table by a model, and why its records aren't predicted
   abbrev LacksBy : Refusal → Formula → Type 0
@@ -78,20 +81,20 @@ module _ (one : OneFormula) (none : NoFormulaHasFaults) (job : FitJob) (bytes : 
       (subst (λ (d : Design). HasRecordsCause is.0 is.2.model job.coding d refusal) design by.2)
 
   pub prediction_sound : (refusal : Refusal) → ¬ HasPredictionCause job bytes (Refused refusal)
-  prediction_sound refusals.SmoothNotTaken h = no_input_fault refusals.RankWithPenalty (h.0, h.1, (refl, h.2))
+  prediction_sound refusals.SmoothNotTaken h = no_plain_fault refusals.SmoothNotTaken h
   prediction_sound refusals.RankWithPenalty h = h
   prediction_sound refusals.NothingToPredict h = not_lacking refusals.NothingToPredict h
   prediction_sound (refusals.TooManyPredictions found) h = not_lacking (refusals.TooManyPredictions found) h
-  prediction_sound (refusals.Design fault) (inl h) = no_input_fault (refusals.Design fault) h
+  prediction_sound (refusals.Design fault) (inl h) = no_plain_fault (refusals.Design fault) h
   prediction_sound (refusals.Design fault) (inr h) = not_lacking (refusals.Design fault) h
-  prediction_sound refusals.TooLong h = no_input_fault refusals.TooLong h
-  prediction_sound (refusals.Table fault) h = no_input_fault (refusals.Table fault) h
-  prediction_sound (refusals.Formula fault) h = no_input_fault (refusals.Formula fault) h
-  prediction_sound (refusals.Penalty fault) h = no_input_fault (refusals.Penalty fault) h
-  prediction_sound (refusals.Program fault) h = no_input_fault (refusals.Program fault) h
-  prediction_sound (refusals.Dependent combination) h = no_input_fault (refusals.Dependent combination) h
-  prediction_sound (refusals.CertTooLong n) h = no_input_fault (refusals.CertTooLong n) h
-  prediction_sound (refusals.Certificate fault) h = no_input_fault (refusals.Certificate fault) h
+  prediction_sound refusals.TooLong h = no_plain_fault refusals.TooLong h
+  prediction_sound (refusals.Table fault) h = no_plain_fault (refusals.Table fault) h
+  prediction_sound (refusals.Formula fault) h = no_plain_fault (refusals.Formula fault) h
+  prediction_sound (refusals.Penalty fault) h = no_plain_fault (refusals.Penalty fault) h
+  prediction_sound (refusals.Program fault) h = no_plain_fault (refusals.Program fault) h
+  prediction_sound (refusals.Dependent combination) h = no_plain_fault (refusals.Dependent combination) h
+  prediction_sound (refusals.CertTooLong n) h = no_plain_fault (refusals.CertTooLong n) h
+  prediction_sound (refusals.Certificate fault) h = no_plain_fault (refusals.Certificate fault) h
 
 pub no_fault : OneFormula → NoFormulaHasFaults → PredictionsHaveNoFault
 no_fault one none job bytes asked refusal is shaped = prediction_sound one none job bytes asked is shaped refusal

@@ -1,5 +1,5 @@
 -- Law. Bytes that are an input have no fault, so a refusal comes only where there is none; nor has a generated table.
-use Rattle.std.specs.Prelude.{◌≡◌, ◌≤◌, ℕ, Bool, false, List, None, codes}
+use Rattle.std.specs.Prelude.{◌≡◌, ◌≤◌, ℕ, Bool, true, false, List, None, codes}
 use Rattle.frac_core.specs.Limits.{most_rows}
 use Rattle.table_maker.specs.Tables.{table_of}
 use Rattle.loss_model.specs.Problem.{IsWellShaped}
@@ -7,6 +7,7 @@ use Rattle.rq_words.specs.declared.job.FitJob.{FitJob}
 use Rattle.report_text.specs.declared.report.Refusal.{Refusal}
 use Rattle.report_text.specs.declared.report.Halt.TheVariants.{Refused}
 use Rattle.rq_input.specs.Inputs.{HasInputCause, IsInput}
+use Rattle.rq_input.specs.Plain.{HasPlainCause}
 use Rattle.rq_input.specs.Predictions.{HasPredictionCause, IsPrediction}
 use Rattle.rq_input.specs.declared.input.Input.{Input}
 use Rattle.rq_input.specs.declared.predictions.PredictionInput.{PredictionInput}
@@ -17,6 +18,12 @@ abbrev pub InputsHaveNoFault : Type 0
 InputsHaveNoFault =
     (job : FitJob) (ranked : Bool) (bytes : List ℕ) (input : Input) (refusal : Refusal)
     → IsInput job ranked bytes input → IsWellShaped input.problem → ¬ HasInputCause job ranked bytes (Refused refusal)
+
+-- nor is where no smooths are taken, and they are an input without one
+abbrev pub PlainInputsHaveNoFault : Type 0
+PlainInputsHaveNoFault =
+    (job : FitJob) (bytes : List ℕ) (input : Input) (refusal : Refusal)
+    → IsInput job true bytes input → IsWellShaped input.problem → ¬ HasPlainCause job bytes (Refused refusal)
 
 -- where the bytes of a job ask for predictions, and their problem is within the limits of rows and columns, nothing is wrong
 -- with them, neither as an input nor in what is predicted

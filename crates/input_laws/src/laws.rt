@@ -1,6 +1,6 @@
 //! The laws of inputs and faults. No function here does anything: its contract is the law.
 
-ghost use Rattle.input_laws.specs.Laws.{GeneratedTablesHaveNoFault, InputsHaveNoFault, OneInputFault, PredictionsHaveNoFault};
+ghost use Rattle.input_laws.specs.Laws.{GeneratedTablesHaveNoFault, InputsHaveNoFault, OneInputFault, PlainInputsHaveNoFault, PredictionsHaveNoFault};
 
 use formula_grammar::{one_formula, one_outcome};
 
@@ -9,6 +9,15 @@ use formula_grammar::{one_formula, one_outcome};
 /// these refusals comes only where there is no such input.
 pub fn inputs_have_no_fault()
     ensures { InputsHaveNoFault }
+{
+    one_formula();
+    one_outcome();
+}
+
+/// So it is of a job that takes no smooths, where the input has none: each refusal of `read_plain` comes only where
+/// there is no such input.
+pub fn plain_inputs_have_no_fault()
+    ensures { PlainInputsHaveNoFault }
 {
     one_formula();
     one_outcome();

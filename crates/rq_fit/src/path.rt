@@ -1,10 +1,9 @@
 //! The path in lambda of an input: its path problem, and the process over lambda.
 ghost use Rattle.std.specs.Prelude.{◌≡◌, ◌<◌, ◌≤◌, ◌^◌, length, IfOk, IfErr};
-ghost use Rattle.loss_model.specs.Problem.{IsWellShaped};
 ghost use Rattle.rq_input.specs.Rows.{HasRows};
 ghost use Rattle.rq_input.specs.PlainRows.{HasIntercept};
 ghost use Rattle.rq_fit.specs.Asks.{IsPathAsk};
-ghost use Rattle.rq_fit.specs.Paths.{HasPathCause, IsPathFitOf, IsPathProblem, first_penalised as first_penalised_of};
+ghost use Rattle.rq_fit.specs.Paths.{HasPathCause, IsPathFitOf, first_penalised as first_penalised_of};
 
 use crate::halt::{path_halt, stop_halt};
 use design_matrix::Design;
@@ -60,7 +59,7 @@ pub fn path_input(alloc: Global, job: &PathJob, plain: PlainInput) -> Result<Pat
     requires ask { IsPathAsk job.now }
     requires rows { HasRows plain.input }
     requires unpenalised { length plain.input.smoothing.rows ≡ 0 }
-    requires intercept { HasIntercept plain }
+    requires intercept { HasIntercept plain.intercept plain.input }
     ensures right { IfOk result (IsPathFitOf job.now plain) }
     ensures cause { IfErr result (HasPathCause job.now plain) }
 {

@@ -1,3 +1,5 @@
 mod Inputs
+mod Intercepts
 mod Predicting
 pub mod Lists
+pub mod Plain

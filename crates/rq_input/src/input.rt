@@ -1,6 +1,7 @@
 //! An input, step by step: the table, its model, the design, what its smooths add, and the problem.
 ghost use Rattle.std.specs.Prelude.{◌≡◌, ◌≤◌, ◌<◌, ◌^◌, All, length, option_copied, true, IfOk, IfErr};
 ghost use Rattle.rq_input.specs.Inputs.{HasInputCause, HasModelCause, HasTableCause, IsInput, IsModelInput, IsTableInput};
+ghost use Rattle.rq_input.specs.PlainRows.{HasIntercept};
 ghost use Rattle.rq_input.specs.Rows.{HasRows};
 
 use crate::halt::{design_halt, formula_halt, penalty_halt, program_halt, table_halt};
@@ -89,6 +90,7 @@ pub(crate) fn model_input(
     ensures is { IfOk result (IsModelInput job.now frame.now model.now) }
     ensures rows { IfOk result HasRows }
     ensures unpenalised { IfOk result (λ input. length model.now.smooths ≡ 0 → length input.smoothing.rows ≡ 0) }
+    ensures intercept { IfOk result (HasIntercept model.now.intercept) }
     ensures cause { IfErr result (HasModelCause job.now frame.now model.now) }
 {
     let design = match build(alloc, frame, model, job.coding, weights_of(job)) {

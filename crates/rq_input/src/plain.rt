@@ -29,7 +29,7 @@ pub fn read_plain(alloc: Global, job: &FitJob, bytes: &[u8]) -> Result<PlainInpu
     ensures is { IfOk result (IsPlain job.now bytes.now) }
     ensures rows { IfOk result (λ plain. HasRows plain.input) }
     ensures unpenalised { IfOk result (λ plain. length plain.input.smoothing.rows ≡ 0) }
-    ensures intercept { IfOk result HasIntercept }
+    ensures intercept { IfOk result (λ plain. HasIntercept plain.intercept plain.input) }
     ensures cause { IfErr result (HasPlainCause job.now bytes.now) }
 {
     let frame = match read_table(alloc, bytes) {
@@ -59,6 +59,7 @@ pub(crate) fn plain_model(
     ensures plain { IfOk result (λ found. IsPlainModel job.now frame.now found.0 found.1) }
     ensures rows { IfOk result (λ found. HasRows found.1) }
     ensures unpenalised { IfOk result (λ found. length found.1.smoothing.rows ≡ 0) }
+    ensures intercept { IfOk result (λ found. HasIntercept found.0.intercept found.1) }
     ensures countable { IfOk result (λ found. All (λ t. length t.variables < 2 ^ 32) found.0.terms) }
     ensures cause { IfErr result (HasPlainTableCause job.now frame.now) }
 {
