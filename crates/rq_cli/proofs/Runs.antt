@@ -30,6 +30,7 @@ never_long (jobs.Ranks fit) bytes cause = cause
 never_long (jobs.Certify fit) bytes cause = cause
 never_long jobs.Check bytes cause = cause
 never_long (jobs.Predict fit) bytes cause = cause
+never_long (jobs.Path job) bytes cause = cause
 never_long (jobs.Sample sample) bytes cause = cause
 
 -- want of memory needs no cause
@@ -39,6 +40,7 @@ memory_cause (jobs.Ranks fit) bytes = tt
 memory_cause (jobs.Certify fit) bytes = tt
 memory_cause jobs.Check bytes = tt
 memory_cause (jobs.Predict fit) bytes = tt
+memory_cause (jobs.Path job) bytes = tt
 memory_cause (jobs.Sample sample) bytes = tt
 
 -- where words ask for no job that reads the source, theirs doesn't

@@ -138,6 +138,7 @@ fn reads(job: &Job) -> bool
         Job::Certify(_) => true,
         Job::Check => true,
         Job::Predict(_) => true,
+        Job::Path(_) => true,
         Job::Sample(_) => false,
     }
 }

@@ -68,6 +68,7 @@ ranks_cause job bytes (Overflow places.Process trail spill) h = inl h
 ranks_cause job bytes (Overflow (places.Interval column tau) trail spill) h = h
 ranks_cause job bytes (Overflow places.Check trail spill) h = h
 ranks_cause job bytes (Overflow (places.Predict rec) trail spill) h = h
+ranks_cause job bytes (Overflow places.Path trail spill) h = h
 ranks_cause job bytes (Rejected rejection) h = h
 
 pub ranks_input_cause : (job : FitJob) (bytes : List ℕ) (halt : Halt) → HasInputCause job true bytes halt → HasRanksCause job bytes halt
@@ -82,4 +83,5 @@ ranks_scoring_cause job bytes input is rows (Overflow places.Process trail spill
 ranks_scoring_cause job bytes input is rows (Overflow (places.Interval column tau) trail spill) h = problem_cause job true bytes input is rows (Overflow (places.Interval column tau) trail spill) h
 ranks_scoring_cause job bytes input is rows (Overflow places.Check trail spill) h = problem_cause job true bytes input is rows (Overflow places.Check trail spill) h
 ranks_scoring_cause job bytes input is rows (Overflow (places.Predict rec) trail spill) h = problem_cause job true bytes input is rows (Overflow (places.Predict rec) trail spill) h
+ranks_scoring_cause job bytes input is rows (Overflow places.Path trail spill) h = problem_cause job true bytes input is rows (Overflow places.Path trail spill) h
 ranks_scoring_cause job bytes input is rows (Rejected rejection) h = problem_cause job true bytes input is rows (Rejected rejection) h

@@ -254,11 +254,13 @@ interval_cause job n p q scores results short scored (PivotLimit (places.Interva
     record { process = q; results = results; short = short; scores = scores; scored = scored; stopped = h }
 interval_cause job n p q scores results short scored (PivotLimit places.Check limit trail) h = absurd h
 interval_cause job n p q scores results short scored (PivotLimit (places.Predict rec) limit trail) h = absurd h
+interval_cause job n p q scores results short scored (PivotLimit places.Path limit trail) h = absurd h
 interval_cause job n p q scores results short scored (Overflow places.Process trail spill) h = absurd h
 interval_cause job n p q scores results short scored (Overflow (places.Interval column tau) trail spill) h =
     record { process = q; results = results; short = short; scores = scores; scored = scored; stopped = h }
 interval_cause job n p q scores results short scored (Overflow places.Check trail spill) h = absurd h
 interval_cause job n p q scores results short scored (Overflow (places.Predict rec) trail spill) h = absurd h
+interval_cause job n p q scores results short scored (Overflow places.Path trail spill) h = absurd h
 interval_cause job n p q scores results short scored (Rejected rejection) h = absurd h
 
 -- so of the interval that stops

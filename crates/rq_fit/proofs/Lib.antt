@@ -1,5 +1,5 @@
 pub mod Costs
 pub mod Fits
-mod Pathing
+pub mod Pathing
 pub mod Predicting
 pub mod Scoring

@@ -1,5 +1,5 @@
 -- Why an input has a path in lambda: its costs are lawful at every lambda above 0, and its columns are independent.
-use Rattle.std.proofs.Common.{◌≡◌, ◌≤◌, ◌<◌, ℕ, Bool, true, false, List, length, pos, arith, inl, inr, refl}
+use Rattle.std.proofs.Common.{◌≡◌, ◌≤◌, ◌<◌, ◌+◌, ◌-◌, ℕ, Bool, true, false, List, length, pos, arith, inl, inr, refl}
 use Rattle.exact_algebra.specs.Fraction.{rational}
 use Rattle.exact_algebra.specs.Rational.{ℚ, whole, ◌≤ℚ◌}
 use Rattle.exact_algebra.proofs.OrderLaws.{cmp_ℚ-Less}
@@ -22,13 +22,15 @@ use Rattle.lambda_path.specs.declared.fault.PathFault.TheVariants as faults
 use Rattle.lambda_path.specs.Laws.{PathHasCosts, PathHasFullRank}
 use Rattle.rq_words.specs.declared.job.PathJob.{PathJob}
 use Rattle.report_text.specs.declared.report.Place.TheVariants as places
-use Rattle.report_text.specs.ReportText.{value}
+use Rattle.report_text.specs.declared.report.PathFit.{PathFit}
+use Rattle.report_text.specs.declared.report.Report.TheVariants as reports
+use Rattle.report_text.specs.ReportText.{IsPrintable, value}
 use Rattle.rq_input.specs.PlainRows.{HasIntercept}
 use Rattle.rq_input.specs.Rows.{HasRows}
 use Rattle.rq_input.specs.declared.plain.PlainInput.{PlainInput}
 use Rattle.rq_fit.specs.Asks.{IsPathAsk}
 use Rattle.rq_fit.specs.Halts.{path_halt, stop_halt}
-use Rattle.rq_fit.specs.Paths.{HasPathCause, IsPathProblem, first_penalised}
+use Rattle.rq_fit.specs.Paths.{HasPathCause, IsPathFitOf, IsPathProblem, first_penalised}
 use Rattle.rq_fit.specs.Stops.{most}
 
 -- the first penalised column is one of them, or the end
@@ -76,3 +78,9 @@ pub path_cause : (job : PathJob) (plain : PlainInput) (fault : PathFault) → Ha
 path_cause job plain faults.OutOfMemory h = tt
 path_cause job plain faults.TooManyRows h = h
 path_cause job plain (faults.Overflow spill) h = (refl, h.0, h.1)
+
+-- a path has no more data rows than rows, and each segment has the values of its basic rows
+pub path_printable : (job : PathJob) (plain : PlainInput) (fit : PathFit) → HasRows plain.input → IsPathFitOf job plain fit → IsPrintable (reports.Path fit)
+path_printable job plain fit rows of =
+    let size : length fit.problem.rows ≡ length plain.input.problem.rows + (plain.input.problem.columns - first_penalised plain.intercept) = of.path.rows in
+    (omega (arith, of.data_rows, size, rows.size), λ k d l. record { lo = (of.process.segments k d l).at_lo.basic; hi = (of.process.segments k d l).at_hi.basic })

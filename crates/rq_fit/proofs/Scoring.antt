@@ -86,4 +86,5 @@ scoring_fit job input (Overflow places.Process trail spill) h = inl h
 scoring_fit job input (Overflow (places.Interval column tau) trail spill) h = h
 scoring_fit job input (Overflow places.Check trail spill) h = h
 scoring_fit job input (Overflow (places.Predict rec) trail spill) h = h
+scoring_fit job input (Overflow places.Path trail spill) h = h
 scoring_fit job input (Rejected rejection) h = h

@@ -33,12 +33,13 @@ first_penalised false = 0
 abbrev pub IsPathProblem : PathJob → PlainInput → Problem Frac128 → Type 0
 IsPathProblem job plain p = IsPathOf (sample value plain.input.problem) (first_penalised plain.intercept) (exact job.tau) (sample value p)
 
--- the right process over lambda of that problem; what is told beside is the design's
+-- the right process over lambda of that problem, of an input within the limits; what is told beside is the design's
 pub record IsPathFitOf (job : PathJob) (plain : PlainInput) (fit : PathFit) : Type 0 where
   pub kept : fit.kept ≡ length plain.input.design.rows
   pub dropped : fit.dropped ≡ plain.input.design.dropped
   pub names : fit.names ≡ plain.input.design.names
   pub data_rows : fit.data_rows ≡ length plain.input.design.rows
+  pub input : IsWellShaped plain.input.problem
   pub shaped : IsWellShaped fit.problem
   pub path : IsPathProblem job plain fit.problem
   pub process : IsRightProcess value job.fit fit.problem fit.process

@@ -1,5 +1,7 @@
 //! The path in lambda of an input: its path problem, and the process over lambda.
 ghost use Rattle.std.specs.Prelude.{◌≡◌, ◌<◌, ◌≤◌, ◌^◌, length, IfOk, IfErr};
+ghost use Rattle.report_text.specs.ReportText.{IsPrintable};
+ghost use Rattle.report_text.specs.declared.report.Report.TheVariants as reports;
 ghost use Rattle.rq_input.specs.Rows.{HasRows};
 ghost use Rattle.rq_input.specs.PlainRows.{HasIntercept};
 ghost use Rattle.rq_fit.specs.Asks.{IsPathAsk};
@@ -61,6 +63,7 @@ pub fn path_input(alloc: Global, job: &PathJob, plain: PlainInput) -> Result<Pat
     requires unpenalised { length plain.input.smoothing.rows ≡ 0 }
     requires intercept { HasIntercept plain.intercept plain.input }
     ensures right { IfOk result (IsPathFitOf job.now plain) }
+    ensures printable { IfOk result (λ fit. IsPrintable (reports.Path fit)) }
     ensures cause { IfErr result (HasPathCause job.now plain) }
 {
     path_is_askable();

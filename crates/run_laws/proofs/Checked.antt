@@ -28,6 +28,7 @@ check_alone (jobs.Ranks fit) same = absurd (cc same)
 check_alone (jobs.Certify fit) same = absurd (cc same)
 check_alone jobs.Check same = refl
 check_alone (jobs.Predict fit) same = absurd (cc same)
+check_alone (jobs.Path job) same = absurd (cc same)
 check_alone (jobs.Sample sample) same = absurd (cc same)
 
 module _ (same : SameContent) (words : List (List ℕ)) (source source' : Stream) (bytes : List ℕ) (cert : Cert) (w : IsPassing words source bytes cert) where

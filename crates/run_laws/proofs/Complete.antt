@@ -11,11 +11,13 @@ use Rattle.loss_model.specs.Problem.{sample, IsWellShaped}
 use Rattle.pivot_rule.proofs.Solved.{full_rank}
 use Rattle.port_io.specs.Told.{most_bytes, TakesAll, TakesFirst}
 use Rattle.pivot_bound.specs.BoundLaws.{further_bases}
+use Rattle.lambda_path.specs.Laws.{PathHasCosts}
 use Rattle.rq_words.specs.Requests.{FitRequest, fit_request, rank_request, request_of}
 use Rattle.rq_words.specs.declared.job.FitJob.{FitJob}
 use Rattle.rq_words.specs.declared.job.RankAsk.{RankAsk}
 use Rattle.rq_words.specs.declared.job.Job.{Job}
 use Rattle.rq_words.specs.declared.job.Job.TheVariants as jobs
+use Rattle.rq_words.specs.declared.job.PathJob.{PathJob}
 use Rattle.report_text.specs.ReportText.{value}
 use Rattle.report_text.specs.declared.report.Place.{Place}
 use Rattle.report_text.specs.declared.report.Place.TheVariants as places
@@ -38,10 +40,11 @@ use Rattle.rq_cli.specs.declared.outcome.Outcome.{Outcome}
 use Rattle.rq_cli.specs.declared.outcome.Outcome.TheVariants.{Done, Refused, Usage, SourceFault, SinkFault, OutOfMemory, PivotLimit, Overflow, Rejected}
 use Rattle.stop_laws.proofs.Needed.{dependent, process_full}
 use Rattle.interval_laws.proofs.Needed.{interval_full}
-use Rattle.run_laws.specs.Completeness.{NoneRose, IsWellFormed, IsAnswer, IsLimitedInput, IsNoReport, IsUnfitted, parts_of}
-use Rattle.run_laws.specs.NeededOutcomes.{IsFitJob, AskFit, WasInput, ReachesLimitAt, table_bytes}
+use Rattle.run_laws.specs.Completeness.{NoneRose, IsWellFormed, IsAnswer, IsLimitedProblem, IsNoReport, IsUnfitted, parts_of}
+use Rattle.run_laws.specs.NeededOutcomes.{IsFitJob, AskFit, WasInput, WasPosed, ReachesLimitAt, table_bytes}
 use Rattle.run_laws.proofs.AskedInputs.{asked_input}
-use Rattle.run_laws.proofs.Needed.{limit_needed, overflow_needed}
+use Rattle.run_laws.proofs.Answering.{answered_with, no_report}
+use Rattle.run_laws.proofs.Needed.{limit_needed}
 
 -- ---- words
 
@@ -57,11 +60,13 @@ module _ (words : List (List ℕ)) where
   also_reads (jobs.Certify a) other same reads = tt
   also_reads jobs.Check other same reads = tt
   also_reads (jobs.Predict a) other same reads = tt
+  also_reads (jobs.Path a) other same reads = tt
   also_reads (jobs.Sample a) (jobs.Process b) same reads = absurd (cc same)
   also_reads (jobs.Sample a) (jobs.Ranks b) same reads = absurd (cc same)
   also_reads (jobs.Sample a) (jobs.Certify b) same reads = absurd (cc same)
   also_reads (jobs.Sample a) jobs.Check same reads = absurd (cc same)
   also_reads (jobs.Sample a) (jobs.Predict b) same reads = absurd (cc same)
+  also_reads (jobs.Sample a) (jobs.Path b) same reads = absurd (cc same)
   also_reads (jobs.Sample a) (jobs.Sample b) same reads = absurd reads
 
   -- words that ask for a fit ask for no check
@@ -71,7 +76,18 @@ module _ (words : List (List ℕ)) where
   no_check (jobs.Certify a) fit ranked is same = absurd (cc same)
   no_check jobs.Check fit ranked is same = is
   no_check (jobs.Predict a) fit ranked is same = absurd (cc same)
+  no_check (jobs.Path a) fit ranked is same = is
   no_check (jobs.Sample a) fit ranked is same = absurd (cc same)
+
+  -- nor for a path
+  pub no_path : (job : Job) (fit : FitJob) (ranked : Bool) → IsFitJob job fit ranked → (path : PathJob) → request_of (jobs.Path path) ≡ request_of job → ⊥
+  no_path (jobs.Process a) fit ranked is path same = absurd (cc same)
+  no_path (jobs.Ranks a) fit ranked is path same = absurd (cc same)
+  no_path (jobs.Certify a) fit ranked is path same = absurd (cc same)
+  no_path jobs.Check fit ranked is path same = is
+  no_path (jobs.Predict a) fit ranked is path same = absurd (cc same)
+  no_path (jobs.Path a) fit ranked is path same = is
+  no_path (jobs.Sample a) fit ranked is path same = absurd (cc same)
 
 -- a report that is right for bytes is right for others of the same table
 right_same : (job : Job) (report : Report) (a b : List ℕ) → table_bytes job a ≡ table_bytes job b → IsRight job a report → IsRight job b report
@@ -80,11 +96,13 @@ right_same (jobs.Ranks fit) report a b same h = subst (λ x. IsRight (jobs.Ranks
 right_same (jobs.Certify fit) report a b same h = subst (λ x. IsRight (jobs.Certify fit) x report) same h
 right_same jobs.Check report a b same h = subst (λ x. IsRight jobs.Check x report) same h
 right_same (jobs.Predict fit) report a b same h = subst (λ x. IsRight (jobs.Predict fit) x report) same h
+right_same (jobs.Path job) report a b same h = subst (λ x. IsRight (jobs.Path job) x report) same h
 right_same (jobs.Sample job) (reports.Process f) a b same h = absurd h
 right_same (jobs.Sample job) (reports.Ranks f) a b same h = absurd h
 right_same (jobs.Sample job) (reports.Certificate c) a b same h = absurd h
 right_same (jobs.Sample job) (reports.Checked c) a b same h = absurd h
 right_same (jobs.Sample job) (reports.Predict f) a b same h = absurd h
+right_same (jobs.Sample job) (reports.Path f) a b same h = absurd h
 right_same (jobs.Sample job) (reports.Sample f) a b same h = h
 
 -- ---- an input that is well formed
@@ -105,6 +123,7 @@ takes_all source source' (jobs.Ranks fit) bytes reads taken = taken
 takes_all source source' (jobs.Certify fit) bytes reads taken = taken
 takes_all source source' jobs.Check bytes reads taken = taken
 takes_all source source' (jobs.Predict fit) bytes reads taken = taken
+takes_all source source' (jobs.Path job) bytes reads taken = taken
 takes_all source source' (jobs.Sample job) bytes reads taken = absurd reads
 
 module _ (words : List (List ℕ)) (source source' : Stream) (bytes : List ℕ) (fit : FitJob) (ranked : Bool) (asked : AskFit words fit ranked) (told : Reads asked.job → source.bytes ≡ Some bytes) where
@@ -127,9 +146,10 @@ module _ (words : List (List ℕ)) (source source' : Stream) (bytes : List ℕ) 
       by (jobs.Certify fit) again = whole (jobs.Certify fit) again tt
       by jobs.Check again = whole jobs.Check again tt
       by (jobs.Predict fit) again = whole (jobs.Predict fit) again tt
+      by (jobs.Path job) again = whole (jobs.Path job) again tt
       by (jobs.Sample job) again = refl
 
-module _ (words : List (List ℕ)) (source source' : Stream) (bytes : List ℕ) (w : IsWellFormed words source bytes) where
+module _ (lawful : PathHasCosts) (words : List (List ℕ)) (source source' : Stream) (bytes : List ℕ) (w : IsWellFormed words source bytes) where
   short : ¬ IsTooLong words source source'
   short h =
       none_beyond source source' bytes (told_to words source source' bytes w.fit w.ranked w.asked w.told h.job h.asked h.reads)
@@ -156,9 +176,12 @@ module _ (words : List (List ℕ)) (source source' : Stream) (bytes : List ℕ) 
       by (refusals.CertTooLong length) h = w.sound fit ranked asked (refusals.CertTooLong length) h
       by (refusals.Certificate fault) h = w.sound fit ranked asked (refusals.Certificate fault) h
 
-  -- the words ask for no check
+  -- the words ask for no check, and for no path
   unchecked : IsJobOf words jobs.Check → ⊥
   unchecked asked = no_check words w.asked.job w.fit w.ranked w.asked.is (one_request words jobs.Check w.asked.job asked w.asked.asked)
+
+  pathless : (job : PathJob) → IsJobOf words (jobs.Path job) → ⊥
+  pathless job asked = no_path words w.asked.job w.fit w.ranked w.asked.is job (one_request words (jobs.Path job) w.asked.job asked w.asked.asked)
 
   fit_refused : (fit : FitJob) (ranked : Bool) (job : Job) → IsFitJob job fit ranked → (refusal : Refusal) (other : List ℕ) → WereRead words source source' job other → ¬ HasFitCause fit ranked (table_bytes job other) (halts.Refused refusal)
   fit_refused fit ranked job is refusal other read cause =
@@ -214,6 +237,7 @@ module _ (words : List (List ℕ)) (source source' : Stream) (bytes : List ℕ) 
       by (jobs.Certify fit) read cause = certify_refused fit refusal short h.bytes read cause
       by jobs.Check read cause = unchecked read.asked
       by (jobs.Predict fit) read cause = predict_refused fit refusal h.bytes read cause
+      by (jobs.Path job) read cause = pathless job read.asked
       by (jobs.Sample job) read cause = fit_refused (sample_fit job) false (jobs.Sample job) (refl, refl) refusal h.bytes read cause
 
   -- and none is rejected
@@ -226,39 +250,13 @@ module _ (words : List (List ℕ)) (source source' : Stream) (bytes : List ℕ) 
       by (jobs.Certify fit) read cause = absurd cause.2.cause
       by jobs.Check read cause = unchecked read.asked
       by (jobs.Predict fit) read cause = absurd cause.2.cause
+      by (jobs.Path job) read cause = pathless job read.asked
       by (jobs.Sample job) read cause = absurd cause.2.cause
 
   pub answered : (out out' err err' : Stream) (outcome : Outcome) → IsRun words source source' out out' err err' outcome → NoneRose source source' out out' err err' → IsAnswer words source source' bytes outcome
-  answered out out' err err' outcome run none = by outcome run
-    where
-      by : (outcome : Outcome) → IsRun words source source' out out' err err' outcome → IsAnswer words source source' bytes outcome
-      by (Done report) run =
-          let a = run.cause in
-          (a.job, a.read.asked, right_same a.job report a.bytes bytes (same_bytes a.job a.bytes a.read) a.right)
-      by (Refused refusals.TooLong) run = absurd (short run.cause)
-      by (Refused (refusals.Table fault)) run = absurd (not_refused (refusals.Table fault) (λ n. λ e. cc e) run.cause)
-      by (Refused (refusals.Formula fault)) run = absurd (not_refused (refusals.Formula fault) (λ n. λ e. cc e) run.cause)
-      by (Refused refusals.RankWithPenalty) run = absurd (not_refused refusals.RankWithPenalty (λ n. λ e. cc e) run.cause)
-      by (Refused refusals.SmoothNotTaken) run = absurd (not_refused refusals.SmoothNotTaken (λ n. λ e. cc e) run.cause)
-      by (Refused (refusals.Design fault)) run = absurd (not_refused (refusals.Design fault) (λ n. λ e. cc e) run.cause)
-      by (Refused (refusals.Penalty fault)) run = absurd (not_refused (refusals.Penalty fault) (λ n. λ e. cc e) run.cause)
-      by (Refused (refusals.Program fault)) run = absurd (not_refused (refusals.Program fault) (λ n. λ e. cc e) run.cause)
-      by (Refused refusals.NothingToPredict) run = absurd (not_refused refusals.NothingToPredict (λ n. λ e. cc e) run.cause)
-      by (Refused (refusals.TooManyPredictions found)) run = absurd (not_refused (refusals.TooManyPredictions found) (λ n. λ e. cc e) run.cause)
-      by (Refused (refusals.CertTooLong n)) run = run.cause
-      by (Refused (refusals.Certificate fault)) run = absurd (not_refused (refusals.Certificate fault) (λ n. λ e. cc e) run.cause)
-      by (Refused (refusals.Dependent combination)) run = absurd (not_refused (refusals.Dependent combination) (λ n. λ e. cc e) run.cause)
-      by (Usage fault) run = absurd (cc (sym run.cause ∙ w.asked.asked))
-      by SourceFault run = absurd (none.0 run.cause.1)
-      by SinkFault run = failed run.cause
-        where
-          failed : IsOutputFault words source source' out out' err err' ⊎ ((fault : Outcome) × IsErrorFault words source source' out out' err err' fault) → ⊥
-          failed (inl h) = none.1 h.rose
-          failed (inr h) = none.2 h.1.rose
-      by OutOfMemory run = tt
-      by (PivotLimit place limit trail) run = limit_needed words source source' place limit trail run.cause
-      by (Overflow place trail spill) run = overflow_needed words source source' place trail spill run.cause
-      by (Rejected rejection) run = absurd (not_rejected rejection run.cause)
+  answered =
+      answered_with lawful words source source' bytes (λ fault unasked. cc (sym unasked ∙ w.asked.asked))
+      (λ report a. (a.job, a.read.asked, right_same a.job report a.bytes bytes (same_bytes a.job a.bytes a.read) a.right)) short not_refused not_rejected
 
 -- ---- limits
 
@@ -298,77 +296,78 @@ module _ (words : List (List ℕ)) (source source' : Stream) where
       by (jobs.Process fit) (reports.Certificate c) read right = absurd right
       by (jobs.Process fit) (reports.Checked c) read right = absurd right
       by (jobs.Process fit) (reports.Predict f) read right = absurd right
+      by (jobs.Process fit) (reports.Path f) read right = absurd right
       by (jobs.Process fit) (reports.Sample f) read right = absurd right
       by (jobs.Ranks fit) (reports.Process f) read right = absurd right
       by (jobs.Ranks fit) (reports.Ranks f) read right = of_fit fit right.0 f.fit (was fit right.0 true (jobs.Ranks fit) (refl, refl) read right.1) right.2.fit
       by (jobs.Ranks fit) (reports.Certificate c) read right = absurd right
       by (jobs.Ranks fit) (reports.Checked c) read right = absurd right
       by (jobs.Ranks fit) (reports.Predict f) read right = absurd right
+      by (jobs.Ranks fit) (reports.Path f) read right = absurd right
       by (jobs.Ranks fit) (reports.Sample f) read right = absurd right
       by (jobs.Certify fit) (reports.Process f) read right = absurd right
       by (jobs.Certify fit) (reports.Ranks f) read right = absurd right
       by (jobs.Certify fit) (reports.Certificate c) read right = of_fit fit right.0.0 right.0.2.fit (was fit right.0.0 (is_some fit.rank) (jobs.Certify fit) (refl, refl) read right.0.1) right.0.2.right
       by (jobs.Certify fit) (reports.Checked c) read right = absurd right
       by (jobs.Certify fit) (reports.Predict f) read right = absurd right
+      by (jobs.Certify fit) (reports.Path f) read right = absurd right
       by (jobs.Certify fit) (reports.Sample f) read right = absurd right
       by jobs.Check (reports.Process f) read right = absurd right
       by jobs.Check (reports.Ranks f) read right = absurd right
       by jobs.Check (reports.Certificate c) read right = absurd right
       by jobs.Check (reports.Checked c) read right = absurd (no_check words asked.job first kind asked.is (one_request words jobs.Check asked.job read.asked asked.asked))
       by jobs.Check (reports.Predict f) read right = absurd right
+      by jobs.Check (reports.Path f) read right = absurd right
       by jobs.Check (reports.Sample f) read right = absurd right
       by (jobs.Predict fit) (reports.Process f) read right = absurd right
       by (jobs.Predict fit) (reports.Ranks f) read right = absurd right
       by (jobs.Predict fit) (reports.Certificate c) read right = absurd right
       by (jobs.Predict fit) (reports.Checked c) read right = absurd right
       by (jobs.Predict fit) (reports.Predict f) read right = (fit, right.0.input, f.process, record { was = was fit right.0.input true (jobs.Predict fit) (refl, refl) read (asked_input fit h.bytes right.0 right.1); shaped = right.2.shaped; right = right.2.process })
+      by (jobs.Predict fit) (reports.Path f) read right = absurd right
       by (jobs.Predict fit) (reports.Sample f) read right = absurd right
+      by (jobs.Path job) report read right = absurd (no_path words asked.job first kind asked.is job (one_request words (jobs.Path job) asked.job read.asked asked.asked))
       by (jobs.Sample job) (reports.Process f) read right = absurd right
       by (jobs.Sample job) (reports.Ranks f) read right = absurd right
       by (jobs.Sample job) (reports.Certificate c) read right = absurd right
       by (jobs.Sample job) (reports.Checked c) read right = absurd right
       by (jobs.Sample job) (reports.Predict f) read right = absurd right
+      by (jobs.Sample job) (reports.Path f) read right = absurd right
       by (jobs.Sample job) (reports.Sample f) read right = of_fit (sample_fit job) right.0 f (was (sample_fit job) right.0 false (jobs.Sample job) (refl, refl) read right.1) right.2
 
   pub limited : (first : FitJob) (kind : Bool) → AskFit words first kind → (out out' err err' : Stream) (outcome : Outcome) → IsRun words source source' out out' err err' outcome
-      → ((fit : FitJob) (input : Input) → WasInput words source source' fit input → IsLimitedInput fit input) → IsNoReport outcome
-  limited first kind asked out out' err err' (Done report) run reaches =
-      let h = report_process first kind asked report run.cause in
-      h.3.right.unlimited (reaches h.0 h.1 h.3.was)
-  limited first kind asked out out' err err' (Refused refusal) run reaches = tt
-  limited first kind asked out out' err err' (Usage fault) run reaches = tt
-  limited first kind asked out out' err err' SourceFault run reaches = tt
-  limited first kind asked out out' err err' SinkFault run reaches = tt
-  limited first kind asked out out' err err' OutOfMemory run reaches = tt
-  limited first kind asked out out' err err' (PivotLimit place limit trail) run reaches = tt
-  limited first kind asked out out' err err' (Overflow place trail spill) run reaches = tt
-  limited first kind asked out out' err err' (Rejected rejection) run reaches = tt
+      → ((fit : FitJob) (input : Input) → WasInput words source source' fit input → IsLimitedProblem fit input.problem) → IsNoReport outcome
+  limited first kind asked out out' err err' outcome run reaches =
+      no_report words source source' (λ report a. let h = report_process first kind asked report a in h.3.right.unlimited (reaches h.0 h.1 h.3.was)) out out' err err' outcome run
 
+module _ (lawful : PathHasCosts) (words : List (List ℕ)) (source source' : Stream) where
   -- what a trail that reaches a limit says of it
-  limit_below : (place : Place) (fit : FitJob) (input : Input) (limit : ℕ) (trail : Trail Frac128) → ReachesLimitAt place fit input limit trail
-      → (limit ≡ fit.limit) × (limit < parts_of place * further_bases (sample value input.problem))
-  limit_below places.Process fit input limit trail h = (h.shown, h.below)
-  limit_below (places.Interval column tau) fit input limit trail h = (h.shown, h.below)
-  limit_below places.Check fit input limit trail h = absurd h
-  limit_below (places.Predict rec) fit input limit trail h = absurd h
+  limit_below : (place : Place) (fit : FitJob) (problem : Problem Frac128) (limit : ℕ) (trail : Trail Frac128) → ReachesLimitAt place fit problem limit trail
+      → (limit ≡ fit.limit) × (limit < parts_of place * further_bases (sample value problem))
+  limit_below places.Process fit problem limit trail h = (h.shown, h.below)
+  limit_below (places.Interval column tau) fit problem limit trail h = (h.shown, h.below)
+  limit_below places.Check fit problem limit trail h = absurd h
+  limit_below (places.Predict rec) fit problem limit trail h = absurd h
+  limit_below places.Path fit problem limit trail h = absurd h
 
   pub ample : (out out' err err' : Stream) (place : Place) (limit : ℕ) (trail : Trail Frac128)
-      → ((fit : FitJob) (input : Input) → WasInput words source source' fit input → (parts_of place * further_bases (sample value input.problem)) ≤ fit.limit)
+      → ((fit : FitJob) (problem : Problem Frac128) → WasPosed words source source' fit problem → (parts_of place * further_bases (sample value problem)) ≤ fit.limit)
       → ¬ IsRun words source source' out out' err err' (PivotLimit place limit trail)
   ample out out' err err' place limit trail long run =
-      let needed = limit_needed words source source' place limit trail run.cause in
-      let enough : (parts_of place * further_bases (sample value needed.1.problem)) ≤ needed.0.limit = long needed.0 needed.1 needed.2 in
+      let needed = limit_needed lawful words source source' place limit trail run.cause in
+      let enough : (parts_of place * further_bases (sample value needed.1)) ≤ needed.0.limit = long needed.0 needed.1 needed.2 in
       let below = limit_below place needed.0 needed.1 limit trail needed.3 in
       omega (arith, enough, below.0, below.1)
 
   -- ---- dependent columns
 
   -- where a trail reaches a limit, the columns are independent
-  limited_rank : (place : Place) (fit : FitJob) (input : Input) (limit : ℕ) (trail : Trail Frac128) → ReachesLimitAt place fit input limit trail → HasFullRank (sample value input.problem)
-  limited_rank places.Process fit input limit trail h = process_full value (sample value input.problem) (rational (value fit.lo)) (rational (value fit.hi)) limit trail h.reached
-  limited_rank (places.Interval column tau) fit input limit trail h = interval_full value (sample value input.problem) column (rational (value tau)) h.bound limit trail h.reached
-  limited_rank places.Check fit input limit trail h = absurd h
-  limited_rank (places.Predict rec) fit input limit trail h = absurd h
+  limited_rank : (place : Place) (fit : FitJob) (problem : Problem Frac128) (limit : ℕ) (trail : Trail Frac128) → ReachesLimitAt place fit problem limit trail → HasFullRank (sample value problem)
+  limited_rank places.Process fit problem limit trail h = process_full value (sample value problem) (rational (value fit.lo)) (rational (value fit.hi)) limit trail h.reached
+  limited_rank (places.Interval column tau) fit problem limit trail h = interval_full value (sample value problem) column (rational (value tau)) h.bound limit trail h.reached
+  limited_rank places.Check fit problem limit trail h = absurd h
+  limited_rank (places.Predict rec) fit problem limit trail h = absurd h
+  limited_rank places.Path fit problem limit trail h = absurd h
 
   pub unfitted : (first : FitJob) (kind : Bool) → AskFit words first kind → (out out' err err' : Stream) (outcome : Outcome) → IsRun words source source' out out' err err' outcome
       → ((fit : FitJob) (input : Input) → WasInput words source source' fit input → ¬ HasFullRank (sample value input.problem)) → IsUnfitted outcome
@@ -377,8 +376,12 @@ module _ (words : List (List ℕ)) (source source' : Stream) where
       let end = h.3.right.results.ended in
       dependent h.0 h.1 h.3.was (full_rank (sample value h.1.problem) (slice_index h.3.right.results.basis) end.a end.is_basis)
   unfitted first kind asked out out' err err' (PivotLimit place limit trail) run dependent =
-      let needed = limit_needed words source source' place limit trail run.cause in
-      dependent needed.0 needed.1 needed.2 (limited_rank place needed.0 needed.1 limit trail needed.3)
+      let needed = limit_needed lawful words source source' place limit trail run.cause in
+      of needed.0 needed.1 needed.2 (limited_rank place needed.0 needed.1 limit trail needed.3)
+    where
+      of : (fit : FitJob) (problem : Problem Frac128) → WasPosed words source source' fit problem → HasFullRank (sample value problem) → ⊥
+      of fit problem (inl input) full = dependent fit input.0 input.1 (subst (λ (p : Problem Frac128). HasFullRank (sample value p)) (sym input.2) full)
+      of fit problem (inr path) full = no_path words asked.job first kind asked.is path.job (one_request words (jobs.Path path.job) asked.job path.read.asked asked.asked)
   unfitted first kind asked out out' err err' (Refused refusal) run dependent = tt
   unfitted first kind asked out out' err err' (Usage fault) run dependent = tt
   unfitted first kind asked out out' err err' SourceFault run dependent = tt

@@ -16,16 +16,17 @@ use Rattle.report_text.specs.declared.report.Halt.TheVariants as halts
 use Rattle.rq_input.specs.Inputs.{HasInputCause, IsInput}
 use Rattle.rq_input.specs.declared.input.Input.{Input}
 use Rattle.input_laws.specs.Laws.{GeneratedTablesHaveNoFault}
+use Rattle.lambda_path.specs.Laws.{PathHasCosts}
 use Rattle.rq_engine.specs.Answers as engine
 use Rattle.rq_engine.specs.Jobs.{IsJobOf, sample_fit, sample_table}
 use Rattle.rq_cli.specs.Outcomes.{Stream, IsRun, IsHalted}
 use Rattle.rq_cli.specs.declared.outcome.Outcome.{Outcome}
-use Rattle.rq_cli.specs.declared.outcome.Outcome.TheVariants.{Done, Refused, Usage, SourceFault, SinkFault, OutOfMemory, PivotLimit, Overflow, Rejected}
 use Rattle.run_laws.specs.Completeness.{IsAnswer, IsGenerated, IsNotTooLong, IsWellFormed, NoneRose}
 use Rattle.run_laws.specs.NeededOutcomes.{AskFit, IsFitJob, table_bytes}
+use Rattle.run_laws.proofs.Answering.{not_too_long}
 use Rattle.run_laws.proofs.Complete.{answered}
 
-module _ (law : GeneratedTablesHaveNoFault) (words : List (List ℕ)) (g : IsGenerated words) where
+module _ (law : GeneratedTablesHaveNoFault) (lawful : PathHasCosts) (words : List (List ℕ)) (g : IsGenerated words) where
   -- words that ask for a generated table ask for no other job
   alone : (job : Job) → IsJobOf words job → (P : Job → Type 0) → ((s : SampleJob) → IsJobOf words (jobs.Sample s) → P (jobs.Sample s)) → P job
   alone (jobs.Process fit) asked P p = absurd (cc (sym asked ∙ g.asked))
@@ -33,6 +34,7 @@ module _ (law : GeneratedTablesHaveNoFault) (words : List (List ℕ)) (g : IsGen
   alone (jobs.Certify fit) asked P p = absurd (cc (sym asked ∙ g.asked))
   alone jobs.Check asked P p = absurd (cc (sym asked ∙ g.asked))
   alone (jobs.Predict fit) asked P p = absurd (cc (sym asked ∙ g.asked))
+  alone (jobs.Path job) asked P p = absurd (cc (sym asked ∙ g.asked))
   alone (jobs.Sample s) asked P p = p s asked
 
   -- its bytes have no fault
@@ -70,30 +72,7 @@ module _ (law : GeneratedTablesHaveNoFault) (words : List (List ℕ)) (g : IsGen
     short : (n : ℕ) → ¬ IsHalted words source source' (halts.Refused (refusals.CertTooLong n))
     short n h = alone h.job h.read.asked (λ job. engine.HasCause job h.bytes (halts.Refused (refusals.CertTooLong n)) → ⊥) (λ s again cause. cause.2.cause) h.cause
 
-    not_too_long : (out out' err err' : Stream) (outcome : Outcome) → IsRun words source source' out out' err err' outcome → IsNotTooLong outcome
-    not_too_long out out' err err' (Done report) run = tt
-    not_too_long out out' err err' (Refused refusals.TooLong) run = tt
-    not_too_long out out' err err' (Refused (refusals.Table fault)) run = tt
-    not_too_long out out' err err' (Refused (refusals.Formula fault)) run = tt
-    not_too_long out out' err err' (Refused refusals.RankWithPenalty) run = tt
-    not_too_long out out' err err' (Refused refusals.SmoothNotTaken) run = tt
-    not_too_long out out' err err' (Refused (refusals.Design fault)) run = tt
-    not_too_long out out' err err' (Refused (refusals.Penalty fault)) run = tt
-    not_too_long out out' err err' (Refused (refusals.Program fault)) run = tt
-    not_too_long out out' err err' (Refused refusals.NothingToPredict) run = tt
-    not_too_long out out' err err' (Refused (refusals.TooManyPredictions found)) run = tt
-    not_too_long out out' err err' (Refused (refusals.CertTooLong n)) run = short n run.cause
-    not_too_long out out' err err' (Refused (refusals.Certificate fault)) run = tt
-    not_too_long out out' err err' (Refused (refusals.Dependent combination)) run = tt
-    not_too_long out out' err err' (Usage fault) run = tt
-    not_too_long out out' err err' SourceFault run = tt
-    not_too_long out out' err err' SinkFault run = tt
-    not_too_long out out' err err' OutOfMemory run = tt
-    not_too_long out out' err err' (PivotLimit place limit trail) run = tt
-    not_too_long out out' err err' (Overflow place trail spill) run = tt
-    not_too_long out out' err err' (Rejected rejection) run = tt
-
     pub sample_answered : (out out' err err' : Stream) (outcome : Outcome) → IsRun words source source' out out' err err' outcome → NoneRose source source' out out' err err'
         → IsAnswer words source source' [] outcome × IsNotTooLong outcome
     sample_answered out out' err err' outcome run none =
-        (answered words source source' [] (well_formed source) out out' err err' outcome run none, not_too_long out out' err err' outcome run)
+        (answered lawful words source source' [] (well_formed source) out out' err err' outcome run none, not_too_long words source source' short out out' err err' outcome run)

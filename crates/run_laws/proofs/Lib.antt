@@ -2,9 +2,12 @@ pub mod AskedInputs
 pub mod AskedIntervals
 pub mod Spilled
 pub mod Needed
+pub mod Answering
 pub mod Complete
 pub mod Stopless
 pub mod Checked
+pub mod LeastPaths
+pub mod Pathed
 pub mod Unposed
 pub mod Unpredicted
 pub mod Generated

@@ -1,6 +1,6 @@
--- Where a run stops for an overflow, the operation overflows: of the solver, of a rankscore, of a Wilcoxon score or of a
--- prediction.
-use Rattle.std.specs.Prelude.{ℕ, List, length}
+-- Where a run stops for an overflow, the operation overflows: of the solver, of a rankscore, of a Wilcoxon score, of a
+-- prediction or of the costs of a path.
+use Rattle.std.specs.Prelude.{ℕ, List, [], ◌∷◌, length}
 use Rattle.std.proofs.Common.{inl, inr}
 use Rattle.exact_algebra.specs.Fraction.{Fraction, rational}
 use Rattle.exact_algebra.specs.Rational.{ℚ}
@@ -21,6 +21,7 @@ use Rattle.loss_model.specs.Spill.{site_of}
 use Rattle.predict_steps.specs.Predictions.{pieces}
 use Rattle.predict_steps.specs.Spills.{IsPredictionSpill, IsRearrangementSpill}
 use Rattle.design_matrix.specs.declared.design.PredictRow.{PredictRow}
+use Rattle.tv_penalty.specs.Operations.{OverflowsFirst, SitedOperation}
 use Rattle.report_text.specs.ReportText.{value}
 use Rattle.rq_fit.specs.Predicted.{IsRowSpill}
 use Rattle.rq_fit.specs.Stops.{IsFitSpill, most}
@@ -69,3 +70,9 @@ of_row lo hi segments row s (inr h) = rearranged h.2
     rearranged : IsRearrangementSpill value most lo hi row.rec (pieces value h.0) s → DoesOverflow value most s
     rearranged (inl k) = operation value most s k.2
     rearranged (inr k) = operation value most s k.2.2
+
+-- of the costs of a path: the first of their operations that overflows
+pub of_first : (operations : List SitedOperation) (s : Spill Frac128) → OverflowsFirst operations s → DoesOverflow value most s
+of_first [] s h = absurd h
+of_first (o ∷ os) s (inl h) = operation value most s h
+of_first (o ∷ os) s (inr h) = of_first os s h.1

@@ -1,7 +1,9 @@
 -- Law. A job whose input is well formed is answered, and a certificate whose conditions are true.
-use Rattle.std.specs.Prelude.{◌≡◌, ℕ, ◌*◌, ◌≤◌, Bool, false, List, [], Some, length, ⊤}
+use Rattle.std.specs.Prelude.{◌≡◌, ◌⊎◌, ℕ, ◌*◌, ◌<◌, ◌≤◌, Bool, false, List, [], Some, length, ⊤}
 use Rattle.exact_algebra.specs.Fraction.{rational}
+use Rattle.frac_core.specs.Limits.{most_rows}
 use Rattle.frac_core.specs.declared.frac128.Frac128.{Frac128}
+use Rattle.loss_model.specs.declared.problem.Problem.{Problem}
 use Rattle.loss_model.specs.declared.process.Trail.{Trail}
 use Rattle.loss_model.specs.FullRank.{HasFullRank}
 use Rattle.loss_model.specs.Problem.{sample}
@@ -9,12 +11,14 @@ use Rattle.port_io.specs.Counts.{Rose}
 use Rattle.port_io.specs.Told.{most_bytes}
 use Rattle.pivot_bound.specs.BoundLaws.{further_bases}
 use Rattle.tau_process.specs.Stops.{IsLimited}
+use Rattle.lambda_path.specs.Faults.{row_count}
 use Rattle.cert_text.specs.declared.cert.Cert.{Cert}
 use Rattle.cert_checker.specs.Certificates.{tests}
 use Rattle.cert_checker.specs.Tests.{AreTrue}
 use Rattle.rq_words.specs.declared.job.FitJob.{FitJob}
 use Rattle.rq_words.specs.declared.job.Job.{Job}
 use Rattle.rq_words.specs.declared.job.Job.TheVariants as jobs
+use Rattle.rq_words.specs.declared.job.PathJob.{PathJob}
 use Rattle.rq_words.specs.declared.job.SampleJob.{SampleJob}
 use Rattle.report_text.specs.ReportText.{value}
 use Rattle.report_text.specs.declared.report.Place.{Place}
@@ -24,15 +28,18 @@ use Rattle.report_text.specs.declared.report.Refusal.TheVariants.{CertTooLong, D
 use Rattle.report_text.specs.declared.report.Report.TheVariants as reports
 use Rattle.report_text.specs.declared.report.Halt.TheVariants as halts
 use Rattle.rq_input.specs.Inputs.{HasInputCause, IsInput}
+use Rattle.rq_input.specs.Plain.{HasPlainCause, IsPlain}
 use Rattle.rq_input.specs.Predictions.{HasPredictionCause}
 use Rattle.rq_input.specs.declared.input.Input.{Input}
+use Rattle.rq_input.specs.declared.plain.PlainInput.{PlainInput}
+use Rattle.rq_fit.specs.Paths.{first_penalised}
 use Rattle.rq_engine.specs.Answers.{IsRight}
 use Rattle.rq_engine.specs.Checks.{IsCertOf}
 use Rattle.rq_engine.specs.Jobs.{IsJobOf, sample_fit, sample_table}
 use Rattle.rq_cli.specs.Outcomes.{Stream, IsRun, IsHalted, Reads}
 use Rattle.rq_cli.specs.declared.outcome.Outcome.{Outcome}
 use Rattle.rq_cli.specs.declared.outcome.Outcome.TheVariants.{Done, Refused, OutOfMemory, PivotLimit, Overflow}
-use Rattle.run_laws.specs.NeededOutcomes.{AskFit, WasInput, ReachesLimitAt, OverflowsAt, table_bytes}
+use Rattle.run_laws.specs.NeededOutcomes.{AskFit, IsLimitedAt, OverflowsAt, WasInput, WasPath, WasPosed, table_bytes}
 
 -- no count of faults rose
 abbrev pub NoneRose : (source source' out out' err err' : Stream) → Type 0
@@ -56,8 +63,7 @@ pub record IsWellFormed (words : List (List ℕ)) (source : Stream) (bytes : Lis
 -- memory is the free answer
 abbrev pub IsAnswer : List (List ℕ) → (source source' : Stream) → List ℕ → Outcome → Type 0
 IsAnswer words source source' bytes (Done report) = (job : Job) × IsJobOf words job × IsRight job bytes report
-IsAnswer words source source' bytes (PivotLimit place limit trail) =
-    (fit : FitJob) × (input : Input) × WasInput words source source' fit input × ReachesLimitAt place fit input limit trail
+IsAnswer words source source' bytes (PivotLimit place limit trail) = IsLimitedAt words source source' place limit trail
 IsAnswer words source source' bytes (Overflow place trail spill) = OverflowsAt place spill
 IsAnswer words source source' bytes (Refused (CertTooLong n)) = IsHalted words source source' (halts.Refused (CertTooLong n))
 IsAnswer words source source' bytes OutOfMemory = ⊤
@@ -89,6 +95,27 @@ SampleIsAnswered =
     → IsRun words source source' out out' err err' outcome → NoneRose source source' out out' err err'
     → IsGenerated words → IsAnswer words source source' [] outcome × IsNotTooLong outcome
 
+-- how many rows a path of the input has: those of the records, and one for each penalised column
+abbrev pub path_rows : PlainInput → ℕ
+path_rows plain = row_count plain.input.problem (first_penalised plain.intercept)
+
+-- the words ask for a path in lambda, and the source tells these bytes and not too many, which are an input without
+-- smooths; and its rows aren't too many. Nothing is asked of its rank
+pub record IsPathed (words : List (List ℕ)) (source : Stream) (bytes : List ℕ) : Type 0 where
+  pub first : PathJob
+  pub asked : IsJobOf words (jobs.Path first)
+  pub told : source.bytes ≡ Some bytes
+  pub short : length bytes ≤ most_bytes
+  pub sound : (job : PathJob) (refusal : Refusal) → IsJobOf words (jobs.Path job) → ¬ HasPlainCause job.fit bytes (halts.Refused refusal)
+  pub few : (job : PathJob) (plain : PlainInput) → IsJobOf words (jobs.Path job) → IsPlain job.fit bytes plain → path_rows plain ≤ most_rows
+
+-- so is every run for a path
+abbrev pub PathIsAnswered : Type 0
+PathIsAnswered =
+    (words : List (List ℕ)) (source source' out out' err err' : Stream) (bytes : List ℕ) (outcome : Outcome)
+    → IsRun words source source' out out' err err' outcome → NoneRose source source' out out' err err'
+    → IsPathed words source bytes → IsAnswer words source source' bytes outcome × IsNotTooLong outcome
+
 -- the outcome is no report and no stop of a fit: neither a limit nor an overflow, dependent columns or a certificate that
 -- is too long
 abbrev pub IsUnposed : Outcome → Type 0
@@ -117,6 +144,20 @@ PredictionFaultIsAnswered =
     → ((fit : FitJob) → IsJobOf words (jobs.Predict fit) → (refusal : Refusal) × HasPredictionCause fit bytes (halts.Refused refusal))
     → IsRun words source source' out out' err err' outcome → IsUnposed outcome
 
+-- the bytes have a fault as an input without smooths, or such an input of them has too many rows
+abbrev pub HasPathFault : PathJob → List ℕ → Type 0
+HasPathFault job bytes =
+    ((refusal : Refusal) × HasPlainCause job.fit bytes (halts.Refused refusal))
+    ⊎ ((plain : PlainInput) → IsPlain job.fit bytes plain → most_rows < path_rows plain)
+
+-- so it is where the words ask for a path, and the bytes have such a fault
+abbrev pub PathFaultIsAnswered : Type 0
+PathFaultIsAnswered =
+    (words : List (List ℕ)) (source source' out out' err err' : Stream) (bytes : List ℕ) (outcome : Outcome) (first : PathJob)
+    → IsJobOf words (jobs.Path first) → source.bytes ≡ Some bytes
+    → ((job : PathJob) → IsJobOf words (jobs.Path job) → HasPathFault job bytes)
+    → IsRun words source source' out out' err err' outcome → IsUnposed outcome
+
 -- the words ask for a check, and the bytes that the source tells are not too many; they are this certificate, and all
 -- its conditions are true
 pub record IsPassing (words : List (List ℕ)) (source : Stream) (bytes : List ℕ) (cert : Cert) : Type 0 where
@@ -141,9 +182,9 @@ CheckIsAnswered =
     → IsPassing words source bytes cert → IsAccepted words source source' cert outcome
 
 -- some trail of the problem reaches the limit of the words
-abbrev pub IsLimitedInput : FitJob → Input → Type 0
-IsLimitedInput fit input =
-    IsLimited {F = Frac128} value (sample value input.problem) (rational (value fit.lo)) (rational (value fit.hi)) fit.limit
+abbrev pub IsLimitedProblem : FitJob → Problem Frac128 → Type 0
+IsLimitedProblem fit problem =
+    IsLimited {F = Frac128} value (sample value problem) (rational (value fit.lo)) (rational (value fit.hi)) fit.limit
 
 -- the outcome is no report
 abbrev pub IsNoReport : Outcome → Type 0
@@ -155,7 +196,15 @@ abbrev pub LimitIsAnswered : Type 0
 LimitIsAnswered =
     (words : List (List ℕ)) (source source' out out' err err' : Stream) (outcome : Outcome) (first : FitJob) (kind : Bool)
     → AskFit words first kind → IsRun words source source' out out' err err' outcome
-    → ((fit : FitJob) (input : Input) → WasInput words source source' fit input → IsLimitedInput fit input)
+    → ((fit : FitJob) (input : Input) → WasInput words source source' fit input → IsLimitedProblem fit input.problem)
+    → IsNoReport outcome
+
+-- nor is there where the words ask for a path
+abbrev pub PathLimitIsAnswered : Type 0
+PathLimitIsAnswered =
+    (words : List (List ℕ)) (source source' out out' err err' : Stream) (outcome : Outcome) (first : PathJob)
+    → IsJobOf words (jobs.Path first) → IsRun words source source' out out' err err' outcome
+    → ((fit : FitJob) (problem : Problem Frac128) → WasPath words source source' fit problem → IsLimitedProblem fit problem)
     → IsNoReport outcome
 
 -- how often the bases after the first may come: in the solve and in the walk of a process, and in the solve and in both
@@ -165,12 +214,13 @@ parts_of places.Process = 2
 parts_of (places.Interval column tau) = 3
 parts_of places.Check = 0
 parts_of (places.Predict rec) = 0
+parts_of places.Path = 0
 
 -- where no fewer pivots are allowed than that, the limit doesn't stop the process or the interval
 abbrev pub AmpleLimitIsNeverReached : Type 0
 AmpleLimitIsNeverReached =
     (words : List (List ℕ)) (source source' out out' err err' : Stream) (place : Place) (limit : ℕ) (trail : Trail Frac128)
-    → ((fit : FitJob) (input : Input) → WasInput words source source' fit input → (parts_of place * further_bases (sample value input.problem)) ≤ fit.limit)
+    → ((fit : FitJob) (problem : Problem Frac128) → WasPosed words source source' fit problem → (parts_of place * further_bases (sample value problem)) ≤ fit.limit)
     → ¬ IsRun words source source' out out' err err' (PivotLimit place limit trail)
 
 -- the outcome is neither a report nor a limit

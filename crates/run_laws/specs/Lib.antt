@@ -1,2 +1,3 @@
 pub mod NeededOutcomes
 pub mod Completeness
+pub mod PathReports

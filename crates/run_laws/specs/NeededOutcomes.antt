@@ -1,8 +1,9 @@
 -- Law. A run that stops for a limit, for an overflow or for dependent columns had to.
-use Rattle.std.specs.Prelude.{◌≡◌, ℕ, ◌*◌, ◌<◌, Bool, true, false, is_some, List, ⊤}
+use Rattle.std.specs.Prelude.{◌≡◌, ◌⊎◌, ℕ, ◌*◌, ◌<◌, Bool, true, false, is_some, List, ⊤}
 use Rattle.exact_algebra.specs.Fraction.{rational}
 use Rattle.exact_algebra.specs.Rational.{ℚ}
 use Rattle.frac_core.specs.declared.frac128.Frac128.{Frac128}
+use Rattle.loss_model.specs.declared.problem.Problem.{Problem}
 use Rattle.loss_model.specs.declared.process.Trail.{Trail}
 use Rattle.loss_model.specs.declared.spill.Spill.{Spill}
 use Rattle.loss_model.specs.FullRank.{HasFullRank}
@@ -13,25 +14,30 @@ use Rattle.stop_laws.specs.NeededStops.{DoesOverflow}
 use Rattle.rq_words.specs.declared.job.FitJob.{FitJob}
 use Rattle.rq_words.specs.declared.job.Job.{Job}
 use Rattle.rq_words.specs.declared.job.Job.TheVariants as jobs
+use Rattle.rq_words.specs.declared.job.PathJob.{PathJob}
 use Rattle.report_text.specs.ReportText.{value}
 use Rattle.report_text.specs.declared.report.Place.{Place}
 use Rattle.report_text.specs.declared.report.Place.TheVariants as places
 use Rattle.report_text.specs.declared.report.Refusal.TheVariants.{Dependent}
 use Rattle.rq_input.specs.Inputs.{IsInput}
+use Rattle.rq_input.specs.Plain.{IsPlain}
 use Rattle.rq_input.specs.declared.input.Input.{Input}
+use Rattle.rq_input.specs.declared.plain.PlainInput.{PlainInput}
+use Rattle.rq_fit.specs.Paths.{IsPathProblem}
 use Rattle.rq_fit.specs.Stops.{most}
 use Rattle.rq_engine.specs.Jobs.{IsJobOf, sample_fit, sample_table}
 use Rattle.rq_cli.specs.Outcomes.{Stream, IsRun, WereRead}
 use Rattle.rq_cli.specs.declared.outcome.Outcome.TheVariants.{Refused, PivotLimit, Overflow}
 
 -- the job is this fit of a table, with or without ranks, as a report, as a certificate, as a summary or as predictions;
--- no predictions are made with smooths, as no ranks are
+-- no predictions are made with smooths, as no ranks are. A path is of a problem of its own
 abbrev pub IsFitJob : Job → FitJob → Bool → Type 0
 IsFitJob (jobs.Process job) fit ranked = (job ≡ fit) × (is_some job.rank ≡ ranked)
 IsFitJob (jobs.Ranks job) fit ranked = (job ≡ fit) × (true ≡ ranked)
 IsFitJob (jobs.Certify job) fit ranked = (job ≡ fit) × (is_some job.rank ≡ ranked)
 IsFitJob (jobs.Predict job) fit ranked = (job ≡ fit) × (true ≡ ranked)
 IsFitJob (jobs.Sample job) fit ranked = (sample_fit job ≡ fit) × (false ≡ ranked)
+IsFitJob (jobs.Path job) fit ranked = ⊥
 IsFitJob jobs.Check fit ranked = ⊥
 
 -- the bytes of the table that a job fits: those of the generated table, or those that it took from the source
@@ -53,40 +59,59 @@ pub record WasInput (words : List (List ℕ)) (before now : Stream) (fit : FitJo
   pub read : (job : Job) × WereRead words before now job bytes
   pub is : IsInput fit ranked (table_bytes asked.job bytes) input
 
+-- the words ask for a path in lambda, over the range of this fit, and this is its problem for the bytes that it took
+pub record WasPath (words : List (List ℕ)) (before now : Stream) (fit : FitJob) (problem : Problem Frac128) : Type 0 where
+  pub job : PathJob
+  pub same : job.fit ≡ fit
+  pub bytes : List ℕ
+  pub read : WereRead words before now (jobs.Path job) bytes
+  pub plain : PlainInput
+  pub is : IsPlain job.fit bytes plain
+  pub path : IsPathProblem job plain problem
+
+-- the words and the bytes pose this problem: that of an input, or that of a path
+abbrev pub WasPosed : List (List ℕ) → (before now : Stream) → FitJob → Problem Frac128 → Type 0
+WasPosed words before now fit problem =
+    ((input : Input) × WasInput words before now fit input × (input.problem ≡ problem)) ⊎ WasPath words before now fit problem
+
 -- its lawful trail has as many pivots as the limit of the words says, with one more left; and the limit is less than
 -- twice the bases after the first
-pub record ReachesItsLimit (fit : FitJob) (input : Input) (limit : ℕ) (trail : Trail Frac128) : Type 0 where
+pub record ReachesItsLimit (fit : FitJob) (problem : Problem Frac128) (limit : ℕ) (trail : Trail Frac128) : Type 0 where
   pub shown : limit ≡ fit.limit
-  pub reached : ReachesProcessLimit value (sample value input.problem) (rational (value fit.lo)) (rational (value fit.hi)) limit trail
-  pub below : limit < 2 * further_bases (sample value input.problem)
+  pub reached : ReachesProcessLimit value (sample value problem) (rational (value fit.lo)) (rational (value fit.hi)) limit trail
+  pub below : limit < 2 * further_bases (sample value problem)
 
 -- so has that of the interval of a column at a quantile; and the limit is less than three times the bases after the
 -- first
-pub record ReachesItsIntervalLimit (fit : FitJob) (input : Input) (column : ℕ) (tau : Frac128) (limit : ℕ) (trail : Trail Frac128) : Type 0 where
+pub record ReachesItsIntervalLimit (fit : FitJob) (problem : Problem Frac128) (column : ℕ) (tau : Frac128) (limit : ℕ) (trail : Trail Frac128) : Type 0 where
   pub shown : limit ≡ fit.limit
   pub bound : ℚ
-  pub reached : ReachesIntervalLimit value (sample value input.problem) (rational (value tau)) column bound limit trail
-  pub below : limit < 3 * further_bases (sample value input.problem)
+  pub reached : ReachesIntervalLimit value (sample value problem) (rational (value tau)) column bound limit trail
+  pub below : limit < 3 * further_bases (sample value problem)
 
 -- that of the place
-abbrev pub ReachesLimitAt : Place → FitJob → Input → ℕ → Trail Frac128 → Type 0
-ReachesLimitAt places.Process fit input limit trail = ReachesItsLimit fit input limit trail
-ReachesLimitAt (places.Interval column tau) fit input limit trail = ReachesItsIntervalLimit fit input column tau limit trail
-ReachesLimitAt _ fit input limit trail = ⊥
+abbrev pub ReachesLimitAt : Place → FitJob → Problem Frac128 → ℕ → Trail Frac128 → Type 0
+ReachesLimitAt places.Process fit problem limit trail = ReachesItsLimit fit problem limit trail
+ReachesLimitAt (places.Interval column tau) fit problem limit trail = ReachesItsIntervalLimit fit problem column tau limit trail
+ReachesLimitAt _ fit problem limit trail = ⊥
+
+-- the words and the bytes pose a problem that reaches its limit there
+abbrev pub IsLimitedAt : List (List ℕ) → (before now : Stream) → Place → ℕ → Trail Frac128 → Type 0
+IsLimitedAt words before now place limit trail =
+    (fit : FitJob) × (problem : Problem Frac128) × WasPosed words before now fit problem × ReachesLimitAt place fit problem limit trail
 
 -- PivotLimit comes only with such a trail
 abbrev pub LimitIsNeeded : Type 0
 LimitIsNeeded =
     (words : List (List ℕ)) (source source' out out' err err' : Stream) (place : Place) (limit : ℕ) (trail : Trail Frac128)
-    → IsRun words source source' out out' err err' (PivotLimit place limit trail)
-    → (fit : FitJob) × (input : Input) × WasInput words source source' fit input × ReachesLimitAt place fit input limit trail
+    → IsRun words source source' out out' err err' (PivotLimit place limit trail) → IsLimitedAt words source source' place limit trail
 
 -- the operation overflows; of one of a certificate's tests the cause itself says so
 abbrev pub OverflowsAt : Place → Spill Frac128 → Type 0
 OverflowsAt places.Check spill = ⊤
 OverflowsAt _ spill = DoesOverflow value most spill
 
--- Overflow of a fit comes only with an operation that overflows
+-- Overflow comes only with an operation that overflows
 abbrev pub OverflowIsNeeded : Type 0
 OverflowIsNeeded =
     (words : List (List ℕ)) (source source' out out' err err' : Stream) (place : Place) (trail : Trail Frac128) (spill : Spill Frac128)

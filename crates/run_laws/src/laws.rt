@@ -1,12 +1,15 @@
 //! The laws of a run. Each function does nothing: its contract is the law.
 
-ghost use Rattle.run_laws.specs.Completeness.{Completeness, SampleIsAnswered, CheckIsAnswered, FaultIsAnswered, PredictionFaultIsAnswered, LimitIsAnswered, AmpleLimitIsNeverReached, DependenceIsAnswered};
+ghost use Rattle.run_laws.specs.Completeness.{Completeness, SampleIsAnswered, PathIsAnswered, CheckIsAnswered, FaultIsAnswered, PredictionFaultIsAnswered, PathFaultIsAnswered, LimitIsAnswered, PathLimitIsAnswered, AmpleLimitIsNeverReached, DependenceIsAnswered};
 ghost use Rattle.run_laws.specs.NeededOutcomes.{LimitIsNeeded, OverflowIsNeeded, DependenceIsNeeded};
+ghost use Rattle.run_laws.specs.PathReports.{PathIsLeast};
 
 use cert_text::same_content;
 use input_laws::laws::{
-    generated_tables_have_no_fault, inputs_have_no_fault, predictions_have_no_fault,
+    generated_tables_have_no_fault, inputs_have_no_fault, plain_inputs_have_no_fault,
+    predictions_have_no_fault,
 };
+use lambda_path::laws::{path, path_is_askable};
 
 /// A run that stops for a limit, for an overflow or for dependent columns had to: the lawful trail of the
 /// problem reaches the limit, which is less than the bases of both parts; the operation overflows; the
@@ -15,7 +18,9 @@ pub fn needed()
     ensures limit { LimitIsNeeded }
     ensures overflow { OverflowIsNeeded }
     ensures dependence { DependenceIsNeeded }
-{}
+{
+    path_is_askable();
+}
 
 /// While source and sinks don't fail, a job whose input is well formed and of full rank is answered, by its
 /// report, by its limit or by an overflow, save for memory; by its report not where a trail reaches the limit,
@@ -23,13 +28,17 @@ pub fn needed()
 /// where the bytes have a fault by none of these: such a refusal comes exactly where there is one. So a
 /// certificate whose conditions are all true is accepted, save for memory and an operation of a test that
 /// overflows. A generated table of full rank is answered as a job whose input is well formed: its bytes have no fault.
+/// So is a path in lambda, of whose columns nothing is asked: with the penalties they are independent.
 pub fn complete()
     ensures answered { Completeness }
     ensures generated { SampleIsAnswered }
+    ensures path { PathIsAnswered }
     ensures faults { FaultIsAnswered }
     ensures predictions { PredictionFaultIsAnswered }
+    ensures path_faults { PathFaultIsAnswered }
     ensures checked { CheckIsAnswered }
     ensures limited { LimitIsAnswered }
+    ensures path_limited { PathLimitIsAnswered }
     ensures ample { AmpleLimitIsNeverReached }
     ensures dependent { DependenceIsAnswered }
 {
@@ -37,4 +46,14 @@ pub fn complete()
     inputs_have_no_fault();
     predictions_have_no_fault();
     generated_tables_have_no_fault();
+    plain_inputs_have_no_fault();
+    path_is_askable();
+}
+
+/// A printed path in lambda loses least at every lambda of its range, and the sum of the absolute values of its
+/// penalised coefficients never rises from one segment to the next.
+pub fn path_reports()
+    ensures { PathIsLeast }
+{
+    path();
 }

@@ -4,7 +4,7 @@ use Rattle.run_laws.proofs.laws.needed.Goals as goal
 pub returns : goal.returns
 returns c =
     record {
-      limit = λ words source source' out out' err err' place limit trail run. limit_needed words source source' place limit trail run.cause;
-      overflow = λ words source source' out out' err err' place trail spill run. overflow_needed words source source' place trail spill run.cause;
-      dependence = λ words source source' out out' err err' combination run. dependence_needed words source source' combination run.cause;
+      limit = λ words source source' out out' err err' place limit trail run. limit_needed c.path_is_askable.ensures.costs words source source' place limit trail run.cause;
+      overflow = λ words source source' out out' err err' place trail spill run. overflow_needed c.path_is_askable.ensures.costs words source source' place trail spill run.cause;
+      dependence = λ words source source' out out' err err' combination run. dependence_needed c.path_is_askable.ensures.costs words source source' combination run.cause;
     }

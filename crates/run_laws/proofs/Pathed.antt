@@ -1,0 +1,190 @@
+-- A job that asks for a path is answered; and where its bytes have a fault, there is no report and no stop.
+use Rattle.std.specs.Prelude.{◌≡◌, ◌⊎◌, ℕ, ◌<◌, ◌≤◌, List, Some}
+use Rattle.std.proofs.Common.{arith, inl, inr, refl, sym, subst, ◌∙◌}
+use Rattle.frac_core.specs.Limits.{most_rows}
+use Rattle.frac_core.specs.declared.frac128.Frac128.{Frac128}
+use Rattle.loss_model.specs.declared.problem.Problem.{Problem}
+use Rattle.loss_model.specs.declared.process.Trail.{Trail}
+use Rattle.loss_model.specs.declared.spill.Spill.{Spill}
+use Rattle.loss_model.specs.Problem.{IsWellShaped}
+use Rattle.lambda_path.specs.Laws.{PathHasCosts}
+use Rattle.rq_words.specs.declared.job.Job.{Job}
+use Rattle.rq_words.specs.declared.job.Job.TheVariants as jobs
+use Rattle.rq_words.specs.declared.job.PathJob.{PathJob}
+use Rattle.cert_checker.specs.declared.verdict.Rejection.{Rejection}
+use Rattle.rq_program.specs.declared.fault.ProgramFault.TheVariants as programs
+use Rattle.report_text.specs.declared.report.PathFit.{PathFit}
+use Rattle.report_text.specs.declared.report.Place.{Place}
+use Rattle.report_text.specs.declared.report.Place.TheVariants as places
+use Rattle.report_text.specs.declared.report.Refusal.{Refusal}
+use Rattle.report_text.specs.declared.report.Refusal.TheVariants as refusals
+use Rattle.report_text.specs.declared.report.Report.{Report}
+use Rattle.report_text.specs.declared.report.Report.TheVariants as reports
+use Rattle.report_text.specs.declared.report.Halt.TheVariants as halts
+use Rattle.rq_input.specs.Plain.{HasPlainCause, IsPlain}
+use Rattle.rq_input.specs.declared.plain.PlainInput.{PlainInput}
+use Rattle.rq_input.proofs.Plain.{plain_input}
+use Rattle.input_laws.specs.Laws.{PlainInputsHaveNoFault}
+use Rattle.rq_fit.specs.Paths.{IsPathProblem}
+use Rattle.rq_engine.specs.Answers as engine
+use Rattle.rq_engine.specs.Answers.{HasPathFitCause, IsPathFitOfBytes, IsRight, LacksPathFit}
+use Rattle.rq_engine.specs.Jobs.{IsJobOf}
+use Rattle.rq_cli.specs.Outcomes.{IsAnswered, IsHalted, IsRun, IsTooLong, Stream, WereRead}
+use Rattle.rq_cli.specs.declared.outcome.Outcome.{Outcome}
+use Rattle.run_laws.specs.Completeness.{HasPathFault, IsAnswer, IsLimitedProblem, IsNoReport, IsNotTooLong, IsPathed, IsUnposed, NoneRose, path_rows}
+use Rattle.run_laws.specs.NeededOutcomes.{WasPath}
+use Rattle.run_laws.proofs.Answering.{answered_with, no_report, not_too_long}
+use Rattle.run_laws.proofs.Complete.{none_beyond, were_told}
+use Rattle.run_laws.proofs.Stopless.{unposed_without}
+
+-- the only report of a path
+right_path : (job : PathJob) (bytes : List ℕ) (report : Report) → IsRight (jobs.Path job) bytes report → (fit : PathFit) × IsPathFitOfBytes job bytes fit
+right_path job bytes (reports.Process f) right = absurd right
+right_path job bytes (reports.Ranks f) right = absurd right
+right_path job bytes (reports.Certificate c) right = absurd right
+right_path job bytes (reports.Checked c) right = absurd right
+right_path job bytes (reports.Predict f) right = absurd right
+right_path job bytes (reports.Path f) right = (f, right)
+right_path job bytes (reports.Sample f) right = absurd right
+
+-- the rows of a path's problem are those of the records and of the penalties
+few_rows : (job : PathJob) (plain : PlainInput) (q : Problem Frac128) → IsPathProblem job plain q → IsWellShaped q → path_rows plain ≤ most_rows
+few_rows job plain q path shaped = subst (λ n. n ≤ most_rows) path.rows shaped.rows
+
+-- of the bytes of a path that is refused there is no input, or it has too many rows
+no_plain : (job : PathJob) (bytes : List ℕ) (refusal : Refusal) → HasPathFitCause job bytes (halts.Refused refusal)
+    → HasPlainCause job.fit bytes (halts.Refused refusal) ⊎ ((plain : PlainInput) × IsPlain job.fit bytes plain × (most_rows < path_rows plain))
+no_plain job bytes (refusals.Program programs.TooManyRows) (inl h) = inl h
+no_plain job bytes (refusals.Program programs.TooManyRows) (inr h) = inr (h.plain, h.is, h.cause)
+no_plain job bytes (refusals.Program programs.TooManyColumns) h = inl h
+no_plain job bytes (refusals.Program programs.OutOfMemory) h = inl h
+no_plain job bytes (refusals.Dependent combination) h = inl h
+no_plain job bytes refusals.TooLong h = inl h
+no_plain job bytes (refusals.Table fault) h = inl h
+no_plain job bytes (refusals.Formula fault) h = inl h
+no_plain job bytes refusals.RankWithPenalty h = inl h
+no_plain job bytes refusals.SmoothNotTaken h = inl h
+no_plain job bytes (refusals.Design fault) h = inl h
+no_plain job bytes (refusals.Penalty fault) h = inl h
+no_plain job bytes refusals.NothingToPredict h = inl h
+no_plain job bytes (refusals.TooManyPredictions found) h = inl h
+no_plain job bytes (refusals.CertTooLong n) h = inl h
+no_plain job bytes (refusals.Certificate fault) h = inl h
+
+module _ (words : List (List ℕ)) (first : PathJob) (asked : IsJobOf words (jobs.Path first)) where
+  -- words that ask for a path ask for no other job
+  alone : (job : Job) → IsJobOf words job → (P : Job → Type 0) → ((path : PathJob) → P (jobs.Path path)) → P job
+  alone (jobs.Process fit) again P p = absurd (cc (sym again ∙ asked))
+  alone (jobs.Ranks fit) again P p = absurd (cc (sym again ∙ asked))
+  alone (jobs.Certify fit) again P p = absurd (cc (sym again ∙ asked))
+  alone jobs.Check again P p = absurd (cc (sym again ∙ asked))
+  alone (jobs.Predict fit) again P p = absurd (cc (sym again ∙ asked))
+  alone (jobs.Path path) again P p = p path
+  alone (jobs.Sample job) again P p = absurd (cc (sym again ∙ asked))
+
+  module _ (source source' : Stream) where
+    -- so a halt of these words is one of a path
+    halted : (halt : _) → IsHalted words source source' halt → (job : PathJob) × (bytes : List ℕ) × WereRead words source source' (jobs.Path job) bytes × engine.HasCause (jobs.Path job) bytes halt
+    halted halt h =
+        alone h.job h.read.asked
+        (λ (job : Job). WereRead words source source' job h.bytes → engine.HasCause job h.bytes halt → (path : PathJob) × (bytes : List ℕ) × WereRead words source source' (jobs.Path path) bytes × engine.HasCause (jobs.Path path) bytes halt)
+        (λ path read cause. (path, h.bytes, read, cause)) h.read h.cause
+
+    -- and so is a report
+    reported : (report : Report) → IsAnswered words source source' report → (job : PathJob) × (bytes : List ℕ) × WereRead words source source' (jobs.Path job) bytes × IsRight (jobs.Path job) bytes report
+    reported report a =
+        alone a.job a.read.asked
+        (λ (job : Job). WereRead words source source' job a.bytes → IsRight job a.bytes report → (path : PathJob) × (bytes : List ℕ) × WereRead words source source' (jobs.Path path) bytes × IsRight (jobs.Path path) bytes report)
+        (λ path read right. (path, a.bytes, read, right)) a.read a.right
+
+    -- none of them has a certificate
+    too_long : (n : ℕ) → ¬ IsHalted words source source' (halts.Refused (refusals.CertTooLong n))
+    too_long n h = (halted (halts.Refused (refusals.CertTooLong n)) h).3.2.cause
+
+    -- ---- limits
+
+    pub path_limited : (out out' err err' : Stream) (outcome : Outcome) → IsRun words source source' out out' err err' outcome
+        → ((fit : _) (problem : Problem Frac128) → WasPath words source source' fit problem → IsLimitedProblem fit problem) → IsNoReport outcome
+    path_limited out out' err err' outcome run reaches = no_report words source source' none out out' err err' outcome run
+      where
+        none : (report : Report) → ¬ IsAnswered words source source' report
+        none report a =
+            let r = reported report a in
+            let fit = right_path r.0 r.1 report r.3 in
+            let of = fit.1.2 in
+            of.process.unlimited (reaches r.0.fit fit.0.problem (record { job = r.0; same = refl; bytes = r.1; read = r.2; plain = fit.1.0; is = fit.1.1; path = of.path }))
+
+    -- ---- faults
+
+    module _ (law : PlainInputsHaveNoFault) (bytes : List ℕ) (told : source.bytes ≡ Some bytes) (faulty : (job : PathJob) → IsJobOf words (jobs.Path job) → HasPathFault job bytes) where
+      -- bytes that were read for a path are no input within the limits
+      no_input : (job : PathJob) (other : List ℕ) → WereRead words source source' (jobs.Path job) other → (plain : PlainInput) → IsPlain job.fit other plain → IsWellShaped plain.input.problem → path_rows plain ≤ most_rows → ⊥
+      no_input job other read plain is shaped few = by (faulty job read.asked)
+        where
+          here : IsPlain job.fit bytes plain
+          here = subst (λ b. IsPlain job.fit b plain) (were_told source source' bytes told other read.taken) is
+
+          by : HasPathFault job bytes → ⊥
+          by (inl h) = law job.fit bytes plain.input h.0 (plain_input job.fit here.0 here.2.model plain.input here.2.by bytes here.1) shaped h.1
+          by (inr many) = let over = many plain here in omega (arith, over, few)
+
+      no_stop : (job : PathJob) (other : List ℕ) → WereRead words source source' (jobs.Path job) other → (place : Place) (limit : ℕ) (trail : Trail Frac128) → LacksPathFit job other (halts.PivotLimit place limit trail) → ⊥
+      no_stop job other read places.Process limit trail h = let lacks = h.cause.1 in no_input job other read h.plain h.is h.rows.shaped (few_rows job h.plain lacks.problem lacks.path lacks.shaped)
+      no_stop job other read (places.Interval column tau) limit trail h = h.cause
+      no_stop job other read places.Check limit trail h = h.cause
+      no_stop job other read (places.Predict rec) limit trail h = h.cause
+      no_stop job other read places.Path limit trail h = h.cause
+
+      no_spill : (job : PathJob) (other : List ℕ) → WereRead words source source' (jobs.Path job) other → (place : Place) (trail : Trail Frac128) (spill : Spill Frac128) → LacksPathFit job other (halts.Overflow place trail spill) → ⊥
+      no_spill job other read places.Process trail spill h = let lacks = h.cause in no_input job other read h.plain h.is h.rows.shaped (few_rows job h.plain lacks.problem lacks.path lacks.shaped)
+      no_spill job other read places.Path trail spill h = no_input job other read h.plain h.is h.rows.shaped h.cause.1
+      no_spill job other read (places.Interval column tau) trail spill h = h.cause
+      no_spill job other read places.Check trail spill h = h.cause
+      no_spill job other read (places.Predict rec) trail spill h = h.cause
+
+      no_path : (report : Report) → IsAnswered words source source' report → ⊥
+      no_path report a =
+          let r = reported report a in
+          let fit = right_path r.0 r.1 report r.3 in
+          let of = fit.1.2 in
+          no_input r.0 r.1 r.2 fit.1.0 fit.1.1 of.input (few_rows r.0 fit.1.0 fit.0.problem of.path of.shaped)
+
+      pub path_unposed : (out out' err err' : Stream) (outcome : Outcome) → IsRun words source source' out out' err err' outcome → IsUnposed outcome
+      path_unposed =
+          unposed_without words source source' no_path (λ combination h. (halted (halts.Refused (refusals.Dependent combination)) h).3.2.cause) too_long
+          (λ place limit trail h. let p = halted (halts.PivotLimit place limit trail) h in no_stop p.0 p.1 p.2 place limit trail p.3)
+          (λ place trail spill h. let p = halted (halts.Overflow place trail spill) h in no_spill p.0 p.1 p.2 place trail spill p.3)
+
+-- ---- an answer
+
+module _ (lawful : PathHasCosts) (words : List (List ℕ)) (source source' : Stream) (bytes : List ℕ) (w : IsPathed words source bytes) where
+  whole : (job : PathJob) (other : List ℕ) → WereRead words source source' (jobs.Path job) other → other ≡ bytes
+  whole job other read = were_told source source' bytes w.told other read.taken
+
+  short : ¬ IsTooLong words source source'
+  short h = none_beyond source source' bytes w.told w.short h.came
+
+  refused : (refusal : Refusal) → ¬ IsHalted words source source' (halts.Refused refusal)
+  refused refusal h = by (no_plain p.0 bytes refusal (subst (λ b. HasPathFitCause p.0 b (halts.Refused refusal)) (whole p.0 p.1 p.2) p.3))
+    where
+      p : (job : PathJob) × (other : List ℕ) × WereRead words source source' (jobs.Path job) other × HasPathFitCause job other (halts.Refused refusal)
+      p = halted words w.first w.asked source source' (halts.Refused refusal) h
+
+      by : HasPlainCause p.0.fit bytes (halts.Refused refusal) ⊎ ((plain : PlainInput) × IsPlain p.0.fit bytes plain × (most_rows < path_rows plain)) → ⊥
+      by (inl cause) = w.sound p.0 refusal p.2.asked cause
+      by (inr many) = let few = w.few p.0 many.0 p.2.asked many.1 in omega (arith, few, many.2)
+
+  rejected : (rejection : Rejection) → ¬ IsHalted words source source' (halts.Rejected rejection)
+  rejected rejection h = (halted words w.first w.asked source source' (halts.Rejected rejection) h).3.2.cause
+
+  right : (report : Report) → IsAnswered words source source' report → (job : Job) × IsJobOf words job × IsRight job bytes report
+  right report a =
+      let r = reported words w.first w.asked source source' report a in
+      (jobs.Path r.0, r.2.asked, subst (λ b. IsRight (jobs.Path r.0) b report) (whole r.0 r.1 r.2) r.3)
+
+  pub path_answered : (out out' err err' : Stream) (outcome : Outcome) → IsRun words source source' out out' err err' outcome → NoneRose source source' out out' err err'
+      → IsAnswer words source source' bytes outcome × IsNotTooLong outcome
+  path_answered out out' err err' outcome run none = (
+    answered_with lawful words source source' bytes (λ fault unasked. cc (sym unasked ∙ w.asked)) right short (λ refusal long. refused refusal) rejected out out' err err' outcome run none,
+    not_too_long words source source' (too_long words w.first w.asked source source') out out' err err' outcome run,
+  )
