@@ -1,4 +1,4 @@
--- Law. The operations of the costs of a path problem, and why there is none.
+-- Stated. The operations of the costs of a path problem, and why there is none.
 use Rattle.std.specs.Prelude.{ℕ, ◌+◌, ◌-◌, ◌<◌, ◌≤◌, List, [], ◌∷◌, ◌++◌, length, pos, ⊤}
 use Rattle.exact_algebra.specs.Rational.{ℚ, ◌-ℚ◌, whole}
 use Rattle.frac_core.specs.declared.frac128.Frac128.{Frac128}

@@ -1,4 +1,4 @@
--- Law. The path in lambda: the check loss at one quantile (Koenker 2005, chapter 1), plus lambda times the sum of the
+-- Stated. The path in lambda: the check loss at one quantile (Koenker 2005, chapter 1), plus lambda times the sum of the
 -- absolute coefficients from column `first` on (the lasso penalty of Koenker 2005, section 4.9), as a problem whose costs
 -- depend on lambda.
 use Rattle.std.specs.Prelude.{◌≡◌, ℕ, ◌+◌, ◌-◌, ◌<◌, pos}

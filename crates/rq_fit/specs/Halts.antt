@@ -1,5 +1,4 @@
 -- Inner. The halts of the solver: want of memory is its own.
-use Rattle.std.specs.Prelude.{[]}
 use Rattle.frac_core.specs.declared.frac128.Frac128.{Frac128}
 use Rattle.loss_model.specs.declared.process.Trail.{Trail}
 use Rattle.loss_model.specs.declared.spill.Short.{Short}
@@ -15,6 +14,7 @@ use Rattle.report_text.specs.declared.report.Place.TheVariants.{Interval, Path}
 use Rattle.report_text.specs.declared.report.Halt.{Halt}
 use Rattle.report_text.specs.declared.report.Halt.TheVariants.{Refused, OutOfMemory, PivotLimit, Overflow}
 use Rattle.interval_jobs.specs.declared.asks.IntervalStop.{IntervalStop}
+pub use Rattle.rq_fit.specs.Stops.{no_trail}
 
 -- the halt of a stop of the solver at a place
 abbrev pub stop_halt : Place → Stop Frac128 → Halt
@@ -22,10 +22,6 @@ stop_halt place stops.OutOfMemory = OutOfMemory
 stop_halt place (stops.PivotLimit limit trail) = PivotLimit place limit trail
 stop_halt place (stops.Overflow trail spill) = Overflow place trail spill
 stop_halt place (stops.Dependent combination) = Refused (Dependent combination)
-
--- where nothing was solved there is no trail
-abbrev pub no_trail : Trail Frac128
-no_trail = record { start = []; steps = []; rise = []; fall = [] }
 
 -- that of a path problem that can't be made
 abbrev pub path_halt : PathFault → Halt

@@ -21,8 +21,7 @@ use Rattle.report_text.specs.declared.report.Halt.{Halt}
 use Rattle.report_text.specs.declared.report.Halt.TheVariants.{Refused, OutOfMemory, PivotLimit, Overflow}
 use Rattle.rq_input.specs.declared.plain.PlainInput.{PlainInput}
 use Rattle.rq_fit.specs.Fit.{IsRightProcess}
-use Rattle.rq_fit.specs.Halts.{no_trail}
-use Rattle.rq_fit.specs.Stops.{most}
+use Rattle.rq_fit.specs.Stops.{most, no_trail}
 
 -- the first column whose coefficient is penalised: the one behind the intercept
 abbrev pub first_penalised : Bool → ℕ

@@ -1,5 +1,5 @@
 -- Stated. Why a problem has no fit, no rank intervals or no Wilcoxon scores.
-use Rattle.std.specs.Prelude.{◌≡◌, ◌⊎◌, ℕ, ◌^◌, ◌-◌, ◌≤◌, List, length, slice_get, Some, ⊤}
+use Rattle.std.specs.Prelude.{◌≡◌, ◌⊎◌, ℕ, ◌^◌, ◌-◌, ◌≤◌, List, [], length, slice_get, Some, ⊤}
 use Rattle.std.specs.List.{AllZip}
 use Rattle.exact_algebra.specs.Fraction.{Fraction, rational}
 use Rattle.exact_algebra.specs.Rational.{ℚ}
@@ -55,6 +55,10 @@ pub record IsScoringSpill {F : Type 0} (value : F → Fraction) (range : ℕ) (p
   pub results : HasResults value p lo hi (record { segments = segments; trail = trail })
   pub short : length trail.steps ≤ limit
   pub operation : IsWilcoxonSpill value range p segments spill
+
+-- where nothing was solved there is no trail
+abbrev pub no_trail : Trail Frac128
+no_trail = record { start = []; steps = []; rise = []; fall = [] }
 
 -- the greatest number of 128 bits with a sign
 abbrev pub most : ℕ

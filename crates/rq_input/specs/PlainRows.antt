@@ -1,4 +1,4 @@
--- Stated. What whoever goes on with an input without smooths knows of its first row.
+-- Law. What whoever goes on with an input without smooths knows of its first row.
 use Rattle.std.specs.Prelude.{◌≡◌, ◌≢◌, ◌<◌, Bool, true, length, pos}
 use Rattle.exact_algebra.specs.Rational.{whole}
 use Rattle.loss_model.specs.Problem.{sample}
