@@ -57,6 +57,8 @@ module _ (same : SameContent) (bytes : List ℕ) (cert : Cert) (back : IsCertOf 
   undecided (Refused (refusals.Penalty fault)) h = absurd h
   undecided (Refused (refusals.Program fault)) h = absurd h
   undecided (Refused refusals.NothingToPredict) h = absurd h
+  undecided (Refused (refusals.NoSuchColumn number)) h = absurd h
+  undecided (Refused refusals.AllTested) h = absurd h
   undecided (Refused (refusals.TooManyPredictions found)) h = absurd h
   undecided OutOfMemory h = tt
   undecided (PivotLimit place limit trail) h = absurd h

@@ -69,6 +69,8 @@ module _ (same : SameContent) (words : List (List ℕ)) (source source' : Stream
       by (Refused (refusals.Penalty fault)) run = absurd (not_refused (refusals.Penalty fault) run.cause)
       by (Refused (refusals.Program fault)) run = absurd (not_refused (refusals.Program fault) run.cause)
       by (Refused refusals.NothingToPredict) run = absurd (not_refused refusals.NothingToPredict run.cause)
+      by (Refused (refusals.NoSuchColumn number)) run = absurd (not_refused (refusals.NoSuchColumn number) run.cause)
+      by (Refused refusals.AllTested) run = absurd (not_refused refusals.AllTested run.cause)
       by (Refused (refusals.TooManyPredictions found)) run = absurd (not_refused (refusals.TooManyPredictions found) run.cause)
       by (Refused (refusals.CertTooLong n)) run = absurd (not_refused (refusals.CertTooLong n) run.cause)
       by (Refused (refusals.Certificate fault)) run = absurd (not_refused (refusals.Certificate fault) run.cause)

@@ -172,6 +172,8 @@ module _ (lawful : PathHasCosts) (words : List (List ℕ)) (source source' : Str
       by (refusals.Penalty fault) h = w.sound fit ranked asked (refusals.Penalty fault) h
       by (refusals.Program fault) h = w.sound fit ranked asked (refusals.Program fault) h
       by refusals.NothingToPredict h = w.sound fit ranked asked refusals.NothingToPredict h
+      by (refusals.NoSuchColumn number) h = w.sound fit ranked asked (refusals.NoSuchColumn number) h
+      by refusals.AllTested h = w.sound fit ranked asked refusals.AllTested h
       by (refusals.TooManyPredictions found) h = w.sound fit ranked asked (refusals.TooManyPredictions found) h
       by (refusals.CertTooLong length) h = w.sound fit ranked asked (refusals.CertTooLong length) h
       by (refusals.Certificate fault) h = w.sound fit ranked asked (refusals.Certificate fault) h
@@ -201,6 +203,8 @@ module _ (lawful : PathHasCosts) (words : List (List ℕ)) (source source' : Str
   certify_refused fit (refusals.Penalty fault) short other read cause = fit_refused fit (is_some fit.rank) (jobs.Certify fit) (refl, refl) (refusals.Penalty fault) other read cause
   certify_refused fit (refusals.Program fault) short other read cause = fit_refused fit (is_some fit.rank) (jobs.Certify fit) (refl, refl) (refusals.Program fault) other read cause
   certify_refused fit refusals.NothingToPredict short other read cause = fit_refused fit (is_some fit.rank) (jobs.Certify fit) (refl, refl) refusals.NothingToPredict other read cause
+  certify_refused fit (refusals.NoSuchColumn number) short other read cause = fit_refused fit (is_some fit.rank) (jobs.Certify fit) (refl, refl) (refusals.NoSuchColumn number) other read cause
+  certify_refused fit refusals.AllTested short other read cause = fit_refused fit (is_some fit.rank) (jobs.Certify fit) (refl, refl) refusals.AllTested other read cause
   certify_refused fit (refusals.TooManyPredictions found) short other read cause = fit_refused fit (is_some fit.rank) (jobs.Certify fit) (refl, refl) (refusals.TooManyPredictions found) other read cause
   certify_refused fit (refusals.Certificate fault) short other read cause = fit_refused fit (is_some fit.rank) (jobs.Certify fit) (refl, refl) (refusals.Certificate fault) other read cause
 
@@ -224,6 +228,8 @@ module _ (lawful : PathHasCosts) (words : List (List ℕ)) (source source' : Str
       by (refusals.Penalty fault) h = none (refusals.Penalty fault) h
       by (refusals.Program fault) h = none (refusals.Program fault) h
       by refusals.NothingToPredict h = none refusals.NothingToPredict h
+      by (refusals.NoSuchColumn number) h = none (refusals.NoSuchColumn number) h
+      by refusals.AllTested h = none refusals.AllTested h
       by (refusals.TooManyPredictions found) h = none (refusals.TooManyPredictions found) h
       by (refusals.CertTooLong length) h = none (refusals.CertTooLong length) h
       by (refusals.Certificate fault) h = none (refusals.Certificate fault) h
