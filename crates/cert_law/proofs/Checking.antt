@@ -42,6 +42,7 @@ module _ (same : SameContent) (bytes : List ℕ) (cert : Cert) (back : IsCertOf 
   one_report (reports.Checked other) h = ap (λ c. reports.Checked c) (same_cert other h.is)
   one_report (reports.Sample found) h = absurd h
   one_report (reports.Predict found) h = absurd h
+  one_report (reports.Test found) h = absurd h
   one_report (reports.Path found) h = absurd h
 
   pub undecided : (halt : Halt) → HasCause jobs.Check bytes halt → IsUndecided halt

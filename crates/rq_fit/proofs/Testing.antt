@@ -1,9 +1,11 @@
 -- The rank test of an input: the process without the tested columns, the scores by it, and why there is none.
-use Rattle.std.proofs.Common.{◌≡◌, ◌<◌, ◌≤◌, ◌^◌, ℕ, List, All, length, map, pos, inl, inr, arith, refl, sym, ap, subst, ◌∙◌}
+use Rattle.std.proofs.Common.{◌≡◌, ◌<◌, ◌≤◌, ◌^◌, ℕ, zero, suc, List, [], ◌∷◌, All, length, map, pos, inl, inr, arith, refl, sym, ap, subst, ◌∙◌}
 use Rattle.std.proofs.lemmas.List.{length-map}
 use Rattle.exact_algebra.specs.Fraction.{rational}
-use Rattle.exact_algebra.specs.Rational.{ℚ, whole, ◌≤ℚ◌}
-use Rattle.exact_algebra.proofs.RationalLaws.{≤ℚ_refl}
+use Rattle.exact_algebra.specs.Rational.{ℚ, neg_ℚ, whole, ◌≤ℚ◌}
+use Rattle.std.specs.declared.cmp.Ordering.TheVariants.{Less}
+use Rattle.exact_algebra.specs.Order.{cmp_ℚ}
+use Rattle.exact_algebra.proofs.RationalLaws.{≤ℚ_trans}
 use Rattle.frac_core.specs.declared.frac128.Frac128.{Frac128}
 use Rattle.loss_model.specs.declared.problem.Problem.{Problem}
 use Rattle.loss_model.specs.declared.process.Process.{Process}
@@ -14,7 +16,8 @@ use Rattle.loss_model.specs.declared.stop.Stop.{Stop}
 use Rattle.loss_model.specs.declared.stop.Stop.TheVariants as stops
 use Rattle.loss_model.specs.Dual.{IsDataRow}
 use Rattle.loss_model.specs.FullRank.{HasFullRank}
-use Rattle.loss_model.specs.Problem.{sample, value_at}
+use Rattle.loss_model.specs.declared.problem.Row.{Row}
+use Rattle.loss_model.specs.Problem.{of_row, sample, value_at}
 use Rattle.loss_model.specs.Quantities.{IsShortOf}
 use Rattle.loss_model.specs.Segment.{Covers, segments_of}
 use Rattle.loss_model.specs.StartStop.{IsStartStop}
@@ -68,6 +71,40 @@ module _ (p : Problem Frac128) (tested : List ℕ) (q : Problem Frac128) (is : q
 
       pub restricted_costs : HasCosts (sample value q) theta
       restricted_costs = record { up = λ i l. (costed i l).up; down = λ i l. (costed i l).down; some = λ i l. (costed i l).some }
+
+-- so at both ends of the range of a job over 0 to 1
+module _ (job : FitJob) (ask : IsUnitAsk job) (p : Problem Frac128) (tested : List ℕ) (q : Problem Frac128) (is : q ≡ restricted_problem tested p) (data : (i : ℕ) → i < length p.rows → IsDataRow (sample value p) i) (stay : RestrictedHasDataRows value p) where
+  abbrev fit_ask : IsFitAsk job
+  fit_ask = unit_ask job ask
+
+  pub restricted_low : HasCosts (sample value q) (rational (value job.lo))
+  restricted_low =
+      restricted_costs p tested q is data stay (rational (value job.lo)) fit_ask.low (≤ℚ_trans (rational (value job.lo)) (rational (value job.hi)) (whole (pos 1)) fit_ask.ordered fit_ask.high)
+
+  pub restricted_high : HasCosts (sample value q) (rational (value job.hi))
+  restricted_high =
+      restricted_costs p tested q is data stay (rational (value job.hi)) (≤ℚ_trans (whole (pos 0)) (rational (value job.lo)) (rational (value job.hi)) fit_ask.low fit_ask.ordered) fit_ask.high
+
+-- what a row without entries has of its costs it has with them
+of_rows : (f : Row Frac128 → ℚ) (g : Row Frac128 → Row Frac128) (rows : List (Row Frac128)) (i : ℕ) → of_row (map g rows) f i ≡ of_row rows (λ r. f (g r)) i
+of_rows f g [] i = refl
+of_rows f g (r ∷ rows) zero = refl
+of_rows f g (r ∷ rows) (suc i) = of_rows f g rows i
+
+-- the data rows of any problem stay data rows
+pub data_stays : (p : Problem Frac128) → RestrictedHasDataRows value p
+data_stays p tested i row =
+    let g = restricted_row tested in
+    let up1 = of_rows (λ r. rational (value r.up1)) g p.rows i in
+    let up0 = of_rows (λ r. rational (value r.up0)) g p.rows i in
+    let down0 = of_rows (λ r. rational (value r.down0)) g p.rows i in
+    let down1 = of_rows (λ r. rational (value r.down1)) g p.rows i in
+    record {
+      weighted = subst (λ z. cmp_ℚ (whole (pos 0)) z ≡ Less) (sym up1) row.weighted;
+      up0 = up0 ∙ row.up0;
+      down0 = down0 ∙ row.down0 ∙ sym up1;
+      down1 = down1 ∙ row.down1 ∙ ap neg_ℚ (sym up1);
+    }
 
 -- ---- the process without them
 

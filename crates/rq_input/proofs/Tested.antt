@@ -6,12 +6,15 @@ use Rattle.std.proofs.lemmas.Bool.{leb-false}
 use Rattle.std.proofs.lemmas.List.Elements.{All-cons, All-nil}
 use Rattle.rq_words.specs.Requests.{given_number}
 use Rattle.rq_words.specs.Words.{ascends}
+use Rattle.rq_words.specs.declared.job.FitJob.{FitJob}
 use Rattle.rq_words.specs.declared.job.TestJob.{TestJob}
 use Rattle.rq_words.proofs.TestedColumns.{ascending_columns}
 use Rattle.report_text.specs.declared.report.Refusal.TheVariants as refusals
 use Rattle.report_text.specs.declared.report.Halt.{Halt}
 use Rattle.report_text.specs.declared.report.Halt.TheVariants.{Refused}
-use Rattle.rq_input.specs.Inputs.{HasInputCause}
+use Rattle.rq_input.specs.Inputs.{HasInputCause, IsInput}
+use Rattle.rq_input.specs.declared.input.Input.{Input}
+use Rattle.rq_input.proofs.Inputs.{no_rows}
 use Rattle.rq_input.specs.Tested.{AreColumns, HasTestedCause, first_missing}
 
 -- ---- columns
@@ -63,3 +66,7 @@ pub tested_input : (job : TestJob) (bytes : List ℕ) (halt : Halt) → HasInput
 tested_input job bytes (Refused (refusals.NoSuchColumn number)) h = absurd h.2.cause
 tested_input job bytes (Refused refusals.AllTested) h = absurd h.2.cause
 tested_input job bytes halt h = h
+
+-- an input of a formula without smooths has no penalty rows
+pub ranked_rows : (job : FitJob) (bytes : List ℕ) (input : Input) → IsInput job true bytes input → length input.smoothing.rows ≡ 0
+ranked_rows job bytes input is = no_rows is.0 input.design is.2.model input.smoothing is.2.is.smoothed.added (is.2.stated.taken refl)

@@ -28,6 +28,7 @@ check_alone (jobs.Ranks fit) same = absurd (cc same)
 check_alone (jobs.Certify fit) same = absurd (cc same)
 check_alone jobs.Check same = refl
 check_alone (jobs.Predict fit) same = absurd (cc same)
+check_alone (jobs.Test job) same = absurd (cc same)
 check_alone (jobs.Path job) same = absurd (cc same)
 check_alone (jobs.Sample sample) same = absurd (cc same)
 
