@@ -42,6 +42,7 @@ module _ (same : SameContent) (bytes : List ℕ) (cert : Cert) (back : IsCertOf 
   one_report (reports.Checked other) h = ap (λ c. reports.Checked c) (same_cert other h.is)
   one_report (reports.Sample found) h = absurd h
   one_report (reports.Predict found) h = absurd h
+  one_report (reports.Test found) h = absurd h
   one_report (reports.Path found) h = absurd h
 
   pub undecided : (halt : Halt) → HasCause jobs.Check bytes halt → IsUndecided halt
@@ -57,6 +58,8 @@ module _ (same : SameContent) (bytes : List ℕ) (cert : Cert) (back : IsCertOf 
   undecided (Refused (refusals.Penalty fault)) h = absurd h
   undecided (Refused (refusals.Program fault)) h = absurd h
   undecided (Refused refusals.NothingToPredict) h = absurd h
+  undecided (Refused (refusals.NoSuchColumn number)) h = absurd h
+  undecided (Refused refusals.AllTested) h = absurd h
   undecided (Refused (refusals.TooManyPredictions found)) h = absurd h
   undecided OutOfMemory h = tt
   undecided (PivotLimit place limit trail) h = absurd h

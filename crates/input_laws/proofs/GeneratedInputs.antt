@@ -148,6 +148,8 @@ module _ (one : OneFormula) (none : NoFormulaHasFaults) (job : FitJob) (formula 
     no_table_cause (refusals.Program fault) h = no_problem h.model h.stated.parsed fault h.cause
     no_table_cause refusals.SmoothNotTaken h = h.cause
     no_table_cause refusals.NothingToPredict h = h.cause
+    no_table_cause (refusals.NoSuchColumn number) h = h.cause
+    no_table_cause refusals.AllTested h = h.cause
     no_table_cause (refusals.TooManyPredictions found) h = h.cause
     no_table_cause (refusals.Dependent combination) h = h.cause
     no_table_cause (refusals.CertTooLong length) h = h.cause
@@ -163,6 +165,8 @@ module _ (one : OneFormula) (none : NoFormulaHasFaults) (job : FitJob) (formula 
   none_wrong (refusals.Program fault) h = no_table_cause h.0 h.1 (refusals.Program fault) h.2
   none_wrong refusals.SmoothNotTaken h = no_table_cause h.0 h.1 refusals.SmoothNotTaken h.2
   none_wrong refusals.NothingToPredict h = no_table_cause h.0 h.1 refusals.NothingToPredict h.2
+  none_wrong (refusals.NoSuchColumn number) h = no_table_cause h.0 h.1 (refusals.NoSuchColumn number) h.2
+  none_wrong refusals.AllTested h = no_table_cause h.0 h.1 refusals.AllTested h.2
   none_wrong (refusals.TooManyPredictions found) h = no_table_cause h.0 h.1 (refusals.TooManyPredictions found) h.2
   none_wrong (refusals.Dependent combination) h = no_table_cause h.0 h.1 (refusals.Dependent combination) h.2
   none_wrong (refusals.CertTooLong length) h = no_table_cause h.0 h.1 (refusals.CertTooLong length) h.2

@@ -63,6 +63,8 @@ module _ (one : OneFormula) (none : NoFormulaHasFaults) (job : FitJob) (ranked :
             (subst (λ (d : Design). HasProgramCause d k.smoothing fault) same k.cause)
     sound refusals.SmoothNotTaken h = h.cause
     sound refusals.NothingToPredict h = h.cause
+    sound (refusals.NoSuchColumn number) h = h.cause
+    sound refusals.AllTested h = h.cause
     sound (refusals.TooManyPredictions found) h = h.cause
     sound (refusals.Dependent combination) h = h.cause
     sound (refusals.CertTooLong n) h = h.cause
@@ -85,6 +87,8 @@ module _ (one : OneFormula) (none : NoFormulaHasFaults) (job : FitJob) (ranked :
       by (refusals.Program fault) k = on_table (refusals.Program fault) k
       by refusals.SmoothNotTaken k = on_table refusals.SmoothNotTaken k
       by refusals.NothingToPredict k = on_table refusals.NothingToPredict k
+      by (refusals.NoSuchColumn number) k = on_table (refusals.NoSuchColumn number) k
+      by refusals.AllTested k = on_table refusals.AllTested k
       by (refusals.TooManyPredictions found) k = on_table (refusals.TooManyPredictions found) k
       by (refusals.Dependent combination) k = on_table (refusals.Dependent combination) k
       by (refusals.CertTooLong n) k = on_table (refusals.CertTooLong n) k

@@ -6,6 +6,7 @@ pub mod Sound
 pub mod Inputs
 pub mod Plain
 pub mod Predictions
+pub mod Tested
 pub mod GeneratedRecords
 pub mod GeneratedCells
 pub mod GeneratedFormula

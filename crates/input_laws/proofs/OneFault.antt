@@ -170,6 +170,8 @@ module _ (job : FitJob) (table : Table) (model : Formula) where
   of_model (refusals.Program f) h = of_program f h refl
   of_model refusals.SmoothNotTaken h = absurd h
   of_model refusals.NothingToPredict h = absurd h
+  of_model (refusals.NoSuchColumn number) h = absurd h
+  of_model refusals.AllTested h = absurd h
   of_model (refusals.TooManyPredictions found) h = absurd h
   of_model (refusals.Dependent combination) h = absurd h
   of_model (refusals.CertTooLong n) h = absurd h
@@ -212,6 +214,8 @@ module _ (one : OneFormula) (first : OneFault) (none : NoFormulaHasFaults) (job 
     of_table (refusals.Program f) h = lacking (refusals.Program f) h
     of_table refusals.SmoothNotTaken h = lacking refusals.SmoothNotTaken h
     of_table refusals.NothingToPredict h = lacking refusals.NothingToPredict h
+    of_table (refusals.NoSuchColumn number) h = lacking (refusals.NoSuchColumn number) h
+    of_table refusals.AllTested h = lacking refusals.AllTested h
     of_table (refusals.TooManyPredictions found) h = lacking (refusals.TooManyPredictions found) h
     of_table (refusals.Dependent combination) h = lacking (refusals.Dependent combination) h
     of_table (refusals.CertTooLong n) h = lacking (refusals.CertTooLong n) h
@@ -260,6 +264,8 @@ module _ (one : OneFormula) (first : OneFault) (none : NoFormulaHasFaults) (job 
     of_bytes (refusals.Program f) h = found_on (refusals.Program f) h
     of_bytes refusals.SmoothNotTaken h = found_on refusals.SmoothNotTaken h
     of_bytes refusals.NothingToPredict h = found_on refusals.NothingToPredict h
+    of_bytes (refusals.NoSuchColumn number) h = found_on (refusals.NoSuchColumn number) h
+    of_bytes refusals.AllTested h = found_on refusals.AllTested h
     of_bytes (refusals.TooManyPredictions found) h = found_on (refusals.TooManyPredictions found) h
     of_bytes (refusals.Dependent combination) h = found_on (refusals.Dependent combination) h
     of_bytes (refusals.CertTooLong n) h = found_on (refusals.CertTooLong n) h

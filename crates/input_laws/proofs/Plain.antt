@@ -24,6 +24,8 @@ module _ (one : OneFormula) (none : NoFormulaHasFaults) (job : FitJob) (bytes : 
   plain_sound (refusals.Penalty fault) h = input_sound one none job true bytes input is shaped (refusals.Penalty fault) h
   plain_sound (refusals.Program fault) h = input_sound one none job true bytes input is shaped (refusals.Program fault) h
   plain_sound refusals.NothingToPredict h = input_sound one none job true bytes input is shaped refusals.NothingToPredict h
+  plain_sound (refusals.NoSuchColumn number) h = input_sound one none job true bytes input is shaped (refusals.NoSuchColumn number) h
+  plain_sound refusals.AllTested h = input_sound one none job true bytes input is shaped refusals.AllTested h
   plain_sound (refusals.TooManyPredictions found) h = input_sound one none job true bytes input is shaped (refusals.TooManyPredictions found) h
   plain_sound (refusals.Dependent combination) h = input_sound one none job true bytes input is shaped (refusals.Dependent combination) h
   plain_sound (refusals.CertTooLong n) h = input_sound one none job true bytes input is shaped (refusals.CertTooLong n) h

@@ -54,6 +54,8 @@ module _ (table : Table) (model : Formula) (coding : Coding) where
   no_records_fault design rows are (refusals.Formula fault) h = h
   no_records_fault design rows are refusals.RankWithPenalty h = h
   no_records_fault design rows are refusals.SmoothNotTaken h = h
+  no_records_fault design rows are (refusals.NoSuchColumn number) h = h
+  no_records_fault design rows are refusals.AllTested h = h
   no_records_fault design rows are (refusals.Penalty fault) h = h
   no_records_fault design rows are (refusals.Program fault) h = h
   no_records_fault design rows are (refusals.Dependent combination) h = h
@@ -84,6 +86,8 @@ module _ (one : OneFormula) (none : NoFormulaHasFaults) (job : FitJob) (bytes : 
   prediction_sound refusals.SmoothNotTaken h = no_plain_fault refusals.SmoothNotTaken h
   prediction_sound refusals.RankWithPenalty h = h
   prediction_sound refusals.NothingToPredict h = not_lacking refusals.NothingToPredict h
+  prediction_sound (refusals.NoSuchColumn number) h = no_plain_fault (refusals.NoSuchColumn number) h
+  prediction_sound refusals.AllTested h = no_plain_fault refusals.AllTested h
   prediction_sound (refusals.TooManyPredictions found) h = not_lacking (refusals.TooManyPredictions found) h
   prediction_sound (refusals.Design fault) (inl h) = no_plain_fault (refusals.Design fault) h
   prediction_sound (refusals.Design fault) (inr h) = not_lacking (refusals.Design fault) h

@@ -99,7 +99,7 @@ module _ (table : Table) (model : Formula) (design : Design) (a b : Smoothing) (
   pub as_many_rows : row_count design a ≡ row_count design b
   as_many_rows = ap (λ n. length design.rows + n) (sym (length-map a.rows exact_penalty) ∙ ap (λ s. length s.rows) alike ∙ length-map b.rows exact_penalty)
 
-  as_many_columns : columns_of design a ≡ columns_of design b
+  pub as_many_columns : columns_of design a ≡ columns_of design b
   as_many_columns = ap (λ s. length design.names + length s.names) alike
 
   pub no_program_fault : (problem : Problem Frac128) → IsProblemOf design b problem → IsWellShaped problem → (fault : ProgramFault) → fault ≢ programs.OutOfMemory → ¬ HasProgramCause design a fault

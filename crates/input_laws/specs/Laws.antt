@@ -4,11 +4,13 @@ use Rattle.frac_core.specs.Limits.{most_rows}
 use Rattle.table_maker.specs.Tables.{table_of}
 use Rattle.loss_model.specs.Problem.{IsWellShaped}
 use Rattle.rq_words.specs.declared.job.FitJob.{FitJob}
+use Rattle.rq_words.specs.declared.job.TestJob.{TestJob}
 use Rattle.report_text.specs.declared.report.Refusal.{Refusal}
 use Rattle.report_text.specs.declared.report.Halt.TheVariants.{Refused}
 use Rattle.rq_input.specs.Inputs.{HasInputCause, IsInput}
 use Rattle.rq_input.specs.Plain.{HasPlainCause}
 use Rattle.rq_input.specs.Predictions.{HasPredictionCause, IsPrediction}
+use Rattle.rq_input.specs.Tested.{HasTestedCause, IsTested}
 use Rattle.rq_input.specs.declared.input.Input.{Input}
 use Rattle.rq_input.specs.declared.predictions.PredictionInput.{PredictionInput}
 
@@ -24,6 +26,12 @@ abbrev pub PlainInputsHaveNoFault : Type 0
 PlainInputsHaveNoFault =
     (job : FitJob) (bytes : List ℕ) (input : Input) (refusal : Refusal)
     → IsInput job true bytes input → IsWellShaped input.problem → ¬ HasPlainCause job bytes (Refused refusal)
+
+-- where they are the input of a rank test, nothing is wrong with them nor with its tested columns
+abbrev pub TestedHaveNoFault : Type 0
+TestedHaveNoFault =
+    (job : TestJob) (bytes : List ℕ) (input : Input) (refusal : Refusal)
+    → IsTested job bytes input → IsWellShaped input.problem → ¬ HasTestedCause job bytes (Refused refusal)
 
 -- where the bytes of a job ask for predictions, and their problem is within the limits of rows and columns, nothing is wrong
 -- with them, neither as an input nor in what is predicted

@@ -1,6 +1,6 @@
 //! The laws of inputs and faults. No function here does anything: its contract is the law.
 
-ghost use Rattle.input_laws.specs.Laws.{GeneratedTablesHaveNoFault, InputsHaveNoFault, OneInputFault, PlainInputsHaveNoFault, PredictionsHaveNoFault};
+ghost use Rattle.input_laws.specs.Laws.{GeneratedTablesHaveNoFault, InputsHaveNoFault, OneInputFault, PlainInputsHaveNoFault, PredictionsHaveNoFault, TestedHaveNoFault};
 
 use formula_grammar::{one_formula, one_outcome};
 
@@ -18,6 +18,15 @@ pub fn inputs_have_no_fault()
 /// there is no such input.
 pub fn plain_inputs_have_no_fault()
     ensures { PlainInputsHaveNoFault }
+{
+    one_formula();
+    one_outcome();
+}
+
+/// Where the bytes of a job are an input of a rank test, whose tested columns are columns and leave one, they have no
+/// fault: each refusal of `read_tested` comes only where there is no such input.
+pub fn tested_have_no_fault()
+    ensures { TestedHaveNoFault }
 {
     one_formula();
     one_outcome();

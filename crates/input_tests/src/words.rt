@@ -2,7 +2,7 @@
 
 use crate::helpers::Told;
 use frac_core::Frac128;
-use rq_words::{FitJob, Job, RankAsk, SampleJob, WordFault, read_words};
+use rq_words::{FitJob, Job, RankAsk, SampleJob, TestJob, WordFault, read_words};
 use std::alloc::Global;
 use std::process::Abort;
 use std::test::Fail;
@@ -100,6 +100,32 @@ process --hi 1 --weights w --lo 0 --formula y => process y 0..1 w=w Treatment 10
 process --formula y --lo 1/2 --hi 1/4 --crit 1 => BadRange
 process --formula y --lo 1/2 --hi 1/4 --contrasts poly => BadContrasts
 process process --formula y --lo 0 --hi 1 => BadOption
+test --formula y~x --tested 2 => test y~x 0..1 - Treatment 100000 - 1
+test --formula y --tested 1,3,128 --weights w --contrasts sum --pivots 9 => test y 0..1 w=w Sum 9 - 0,2,127
+test --formula y --tested=001,02,999 => test y 0..1 - Treatment 100000 - 0,1,998
+test --formula y --tested 0 => test y 0..1 - Treatment 100000 - 4294967295
+test --formula y --tested 0,1 => test y 0..1 - Treatment 100000 - 4294967295,0
+test --formula y --tested 1000 => BadNumber tested
+test --formula y --tested 0001 => BadNumber tested
+test --formula y --tested +1 => BadNumber tested
+test --formula y --tested 1.0 => BadNumber tested
+test --formula y --tested= => BadNumber tested
+test --formula y --tested 1, => BadNumber tested
+test --formula y --tested ,1 => BadNumber tested
+test --formula y --tested 1,,2 => BadNumber tested
+test --formula y --tested 1;2 => BadNumber tested
+test --formula y --tested 1,2,2 => NotAscending
+test --formula y --tested 2,1 => NotAscending
+test --formula y --tested 1,0 => NotAscending
+test --formula y --tested 0,0 => NotAscending
+test --formula y --tested x --pivots x => BadNumber pivots
+test --formula y --tested x --contrasts poly => BadNumber tested
+test --formula y --tested 2,1 --contrasts poly => BadContrasts
+test --formula y => BadOption
+test --tested 1 => BadOption
+test --formula y --tested 1 --tested 2 => BadOption
+test --formula y --tested 1 --lo 0 --hi 1 => BadOption
+test --formula y --tested 1 --crit 1 --rank-at 1/2 => BadOption
 predict --formula y~x --lo 0 --hi 1 => predict y~x 0..1 - Treatment 100000 -
 predict --formula y --lo 1/4 --hi 3/4 --weights w --contrasts sum --pivots 9 => predict y 1/4..3/4 w=w Sum 9 -
 predict --formula y --lo 0 --hi 1 --crit 1 --rank-at 1/2 => BadOption
@@ -169,6 +195,7 @@ y => BadOption
 --crit 1 --rank-at 1e-39 => BadNumber rank-at
 --crit 1 --rank-at 1/2 --rank-at 1/4 => BadOption
 --rank-at= --crit => BadOption
+--tested 1 => BadOption
 ";
 
 fn tell_rank(told: &mut Told, rank: &RankAsk) {
@@ -209,6 +236,15 @@ fn tell_fit(told: &mut Told, job: &str, fit: &FitJob) {
     }
 }
 
+fn tell_test(told: &mut Told, test: &TestJob) {
+    tell_fit(told, "test ", &test.fit);
+    let mut mark = " ";
+    for column in test.tested.as_slice() {
+        told.put_named(mark, *column);
+        mark = ",";
+    }
+}
+
 fn tell_sample(told: &mut Told, sample: &SampleJob) {
     told.put_named("sample ", sample.number);
     told.put_named(" ", sample.rows);
@@ -231,6 +267,7 @@ fn tell_fault(told: &mut Told, fault: &WordFault) {
         WordFault::BadContrasts => "BadContrasts",
         WordFault::RankHalf => "RankHalf",
         WordFault::OutOfMemory => "OutOfMemory",
+        WordFault::NotAscending => "NotAscending",
     });
     if let WordFault::BadNumber { option } = fault {
         told.put(option.as_str());
@@ -242,6 +279,7 @@ fn tell(told: &mut Told, words: &[String]) {
         Ok(Job::Process(fit)) => tell_fit(told, "process ", &fit),
         Ok(Job::Ranks(fit)) => tell_fit(told, "ranks ", &fit),
         Ok(Job::Certify(fit)) => tell_fit(told, "certify ", &fit),
+        Ok(Job::Test(test)) => tell_test(told, &test),
         Ok(Job::Predict(fit)) => tell_fit(told, "predict ", &fit),
         Ok(Job::Check) => told.put("check"),
         Ok(Job::Sample(sample)) => tell_sample(told, &sample),
@@ -283,8 +321,8 @@ fn run(rt: &(impl Abort + AllocGlobal), first: &str, cases: &str) -> Result<u32,
 #[test]
 fn lists_of_words(rt: HostRuntime) -> Result<(), Fail> {
     expect(&rt, &[], "NoJob", "no word");
-    assert!(&rt; run(&rt, "", WHOLE)? == 97);
-    assert!(&rt; run(&rt, "process --formula y --lo 1/2 --hi 1/2 ", ADDED)? == 59);
+    assert!(&rt; run(&rt, "", WHOLE)? == 123);
+    assert!(&rt; run(&rt, "process --formula y --lo 1/2 --hi 1/2 ", ADDED)? == 60);
     Ok(())
 }
 
@@ -310,6 +348,34 @@ fn at_most_64_quantiles(rt: HostRuntime) -> Result<(), Fail> {
     assert!(&rt; quantiles(rt.alloc(), words.as_slice()) == Some(64));
     let words = words_of_medians(rt.alloc(), 64)?;
     expect(&rt, words.as_slice(), "BadNumber rank-at", "65 medians");
+    Ok(())
+}
+
+// The words of a test of the first columns, so many.
+fn words_of_columns(alloc: Global, count: u32) -> Result<Vec<String>, Fail> {
+    let mut text = Told::new(alloc);
+    let mut mark = "test --formula y --tested ";
+    for column in 0..count {
+        text.put_named(mark, column);
+        mark = ",";
+    }
+    words_of(alloc, text.as_str())
+}
+
+// How many tested columns are read, if any.
+fn tested_columns(alloc: Global, words: &[String]) -> Option<usize> {
+    match read_words(alloc, words) {
+        Ok(Job::Test(test)) => Some(test.tested.as_slice().len()),
+        _ => None,
+    }
+}
+
+#[test]
+fn at_most_128_tested_columns(rt: HostRuntime) -> Result<(), Fail> {
+    let words = words_of_columns(rt.alloc(), 128)?;
+    assert!(&rt; tested_columns(rt.alloc(), words.as_slice()) == Some(128));
+    let words = words_of_columns(rt.alloc(), 129)?;
+    expect(&rt, words.as_slice(), "BadNumber tested", "129 columns");
     Ok(())
 }
 

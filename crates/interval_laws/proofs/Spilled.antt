@@ -30,7 +30,7 @@ module _ {F : Type 0} (value : F → Fraction) (range : ℕ) (s : Spill F) where
   before_gram p (inl h) = operation value range s h.2.2
   before_gram p (inr h) = products value range s h.2.2
 
-  gram : (p : Problem F) (trail : Trail F) → IsGramSpillAfter value range p trail s → Here
+  pub gram : (p : Problem F) (trail : Trail F) → IsGramSpillAfter value range p trail s → Here
   gram p trail (inl h) = before_gram (sample value p) h.1
   gram p trail (inr h) = start value range s h.0 trail h.2
 

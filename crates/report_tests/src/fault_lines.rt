@@ -201,6 +201,40 @@ fn an_interval_is_told_by_its_column_and_quantile(rt: HostRuntime) -> Result<(),
     Ok(())
 }
 
+// The places of a rank test, and how they are printed.
+static PLACES: [(Place, &[u8]); 3] = [
+    (
+        Place::Full,
+        b"quantreg: solver: Overflow place=full quantity=gram at=5,2 term=9 op=add left=7/2 right=-3\n",
+    ),
+    (
+        Place::Gram,
+        b"quantreg: solver: Overflow place=gram quantity=gram at=5,2 term=9 op=add left=7/2 right=-3\n",
+    ),
+    (
+        Place::Test,
+        b"quantreg: solver: Overflow place=test quantity=gram at=5,2 term=9 op=add left=7/2 right=-3\n",
+    ),
+];
+
+fn is_told_at(alloc: Global, place: Place, line: &[u8]) -> Result<bool, Fail> {
+    let halt = Halt::Overflow {
+        place,
+        trail: no_trail(alloc),
+        spill: spill_of((Quantity::Gram, Add, "")),
+    };
+    is_line(alloc, &halt, line)
+}
+
+#[test]
+fn a_test_is_told_by_its_part(rt: HostRuntime) -> Result<(), Fail> {
+    for (place, line) in &PLACES {
+        let told = is_told_at(rt.alloc(), *place, line)?;
+        assert!(rt; told);
+    }
+    Ok(())
+}
+
 #[test]
 fn a_prediction_is_told_by_its_record(rt: HostRuntime) -> Result<(), Fail> {
     let halt = Halt::Overflow {
@@ -223,6 +257,22 @@ fn is_refused(alloc: Global, refusal: Refusal, line: &[u8]) -> Result<bool, Fail
 fn a_smooth_is_not_taken(rt: HostRuntime) -> Result<(), Fail> {
     let line = b"quantreg: job: SmoothNotTaken\n";
     let told = is_refused(rt.alloc(), Refusal::SmoothNotTaken, line)?;
+    assert!(rt; told);
+    Ok(())
+}
+
+#[test]
+fn a_column_that_is_missing_is_told_as_it_was_given(rt: HostRuntime) -> Result<(), Fail> {
+    let line = b"quantreg: test: NoSuchColumn column=0\n";
+    let told = is_refused(rt.alloc(), Refusal::NoSuchColumn { column: 0 }, line)?;
+    assert!(rt; told);
+    Ok(())
+}
+
+#[test]
+fn a_test_of_all_columns_is_told(rt: HostRuntime) -> Result<(), Fail> {
+    let line = b"quantreg: test: AllTested\n";
+    let told = is_refused(rt.alloc(), Refusal::AllTested, line)?;
     assert!(rt; told);
     Ok(())
 }

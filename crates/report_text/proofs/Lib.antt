@@ -2,3 +2,4 @@ pub mod Appends
 pub mod Duals
 pub mod Marks
 pub mod Numbered
+pub mod ScoreLines

@@ -26,9 +26,9 @@ use Rattle.report_text.specs.ReportText.{numbered, value}
 use Rattle.report_text.specs.declared.quantity.PrintedIndices.{PrintedIndices}
 use Rattle.report_text.specs.declared.quantity.PrintedIndices.TheVariants.{One, Two, Three}
 use Rattle.report_text.specs.declared.report.Place.{Place}
-use Rattle.report_text.specs.declared.report.Place.TheVariants.{Process, Interval, Check, Predict, Path}
+use Rattle.report_text.specs.declared.report.Place.TheVariants.{Process, Interval, Check, Full, Gram, Test, Predict, Path}
 use Rattle.report_text.specs.declared.report.Refusal.{Refusal}
-use Rattle.report_text.specs.declared.report.Refusal.TheVariants.{TooLong, Table, Formula, RankWithPenalty, Design, Penalty, Program, Dependent, CertTooLong, Certificate, SmoothNotTaken, NothingToPredict, TooManyPredictions}
+use Rattle.report_text.specs.declared.report.Refusal.TheVariants.{TooLong, Table, Formula, RankWithPenalty, Design, Penalty, Program, Dependent, CertTooLong, Certificate, NoSuchColumn, AllTested, SmoothNotTaken, NothingToPredict, TooManyPredictions}
 use Rattle.report_text.specs.declared.report.Halt.{Halt}
 use Rattle.report_text.specs.declared.report.Halt.TheVariants.{Refused, OutOfMemory, PivotLimit, Overflow, Rejected}
 use Rattle.report_text.specs.declared.report.Fault.{Fault}
@@ -99,11 +99,15 @@ unfoldable pub spill_text : Spill Frac128 → List ℕ
 spill_text spill = site_text spill.site ++ word (codes "op") (op_name spill.site.kind) ++ fraction (codes "left") spill.left ++ fraction (codes "right") spill.right
 
 -- the place where a job stopped: the fit, the interval of a column, counted from 1, at a quantile, the conditions of a
--- certificate, the prediction of a record, or the costs of a path
+-- certificate, the start of a whole problem, the Gram matrix or the statistic of a test, the prediction of a record, or the
+-- costs of a path
 abbrev pub place_text : Place → List ℕ
 place_text Process = codes "process"
 place_text (Interval column tau) = codes "interval:" ++ decimal (column + 1) ++ codes ":" ++ number_text_of (value tau)
 place_text Check = codes "check"
+place_text Full = codes "full"
+place_text Gram = codes "gram"
+place_text Test = codes "test"
 place_text (Predict rec) = codes "predict:" ++ decimal rec
 place_text Path = codes "path"
 
@@ -121,6 +125,7 @@ usage_line words.NegativeLimit = line (codes "usage") (codes "NegativeLimit") []
 usage_line words.BadContrasts = line (codes "usage") (codes "BadContrasts") []
 usage_line words.RankHalf = line (codes "usage") (codes "RankHalf") []
 usage_line words.OutOfMemory = memory_line
+usage_line words.NotAscending = line (codes "usage") (codes "NotAscending") []
 
 -- a faulty table
 unfoldable pub table_line : TableFault → List ℕ
@@ -201,6 +206,8 @@ refusal_line (Program fault) = program_line fault
 refusal_line (Dependent combination) = line (codes "solver") (codes "Dependent") (fractions (codes "combination") combination ∷ [])
 refusal_line (CertTooLong length) = line (codes "certificate") (codes "CertTooLong") (number (codes "length") length ∷ [])
 refusal_line (Certificate fault) = certificate_line fault
+refusal_line (NoSuchColumn column) = line (codes "test") (codes "NoSuchColumn") (number (codes "column") column ∷ [])
+refusal_line AllTested = line (codes "test") (codes "AllTested") []
 refusal_line SmoothNotTaken = line (codes "job") (codes "SmoothNotTaken") []
 refusal_line NothingToPredict = line (codes "predict") (codes "NothingToPredict") []
 refusal_line (TooManyPredictions found) = line (codes "predict") (codes "TooManyPredictions") (number (codes "found") found ∷ [])

@@ -1,6 +1,6 @@
 -- Stated. The printed text of a report: lines of words with one space between them. A type F of fractions
 -- is seen by a function into pairs.
-use Rattle.std.specs.Prelude.{All, ◌≡◌, ◌≤◌, ℕ, ◌+◌, ◌-◌, Bool, true, false, nat_lt, List, [], ◌∷◌, ◌++◌, length, slice_get, Option, Some, codes, decimal, ⊤}
+use Rattle.std.specs.Prelude.{All, ◌≡◌, ◌≤◌, ℕ, ◌+◌, ◌-◌, ◌==◌, Bool, true, false, if◌then◌else◌, nat_lt, List, [], ◌∷◌, ◌++◌, length, slice_get, Option, Some, codes, decimal, ⊤}
 use Rattle.std.specs.List.{flat_map, zip}
 use Rattle.exact_algebra.specs.Fraction.{Fraction}
 use Rattle.frac_core.specs.NumberText.{number_text_of}
@@ -17,11 +17,12 @@ use Rattle.rankscores.specs.declared.pair.ScorePair.{ScorePair}
 use Rattle.predict_steps.specs.declared.step.Step.{Step}
 use Rattle.report_text.specs.declared.report.Fit.{Fit}
 use Rattle.report_text.specs.declared.report.RanksFit.{RanksFit}
+use Rattle.report_text.specs.declared.report.TestFit.{TestFit}
 use Rattle.report_text.specs.declared.report.PathFit.{PathFit}
 use Rattle.report_text.specs.declared.report.PredictFit.{PredictFit}
 use Rattle.report_text.specs.declared.report.Prediction.{Prediction}
 use Rattle.report_text.specs.declared.report.Report.{Report}
-use Rattle.report_text.specs.declared.report.Report.TheVariants.{Process, Ranks, Certificate, Checked, Sample, Predict, Path}
+use Rattle.report_text.specs.declared.report.Report.TheVariants.{Process, Ranks, Certificate, Checked, Sample, Test, Predict, Path}
 use Rattle.report_text.specs.Names.{name_bytes}
 
 -- the texts of the items, which are numbered from i, one after another
@@ -158,6 +159,34 @@ sample_head fit =
 unfoldable pub sample_text : Fit → List ℕ
 sample_text fit = sample_head fit ++ pivots_line (length fit.process.trail.steps) ++ range_loss_line fit.process.segments ++ codes "end\n"
 
+-- an item of the tested columns, counted from 1: a comma stands before all but the first
+abbrev pub tested_item : ℕ → ℕ → List ℕ
+tested_item place column = (if place == 0 then [] else codes ",") ++ decimal (column + 1)
+
+-- the tested columns
+unfoldable pub tested_line : List ℕ → List ℕ
+tested_line tested = codes "tested " ++ numbered tested_item 0 tested ++ codes "\n"
+
+-- the score of a column, counted from 1
+unfoldable pub score_line : ℕ × Frac128 → List ℕ
+score_line (column, score) = codes "score " ++ decimal (column + 1) ++ codes " " ++ number_text_of (value score) ++ codes "\n"
+
+-- the statistic
+unfoldable pub statistic_line : Frac128 → List ℕ
+statistic_line statistic = codes "statistic " ++ number_text_of (value statistic) ++ codes "\n"
+
+-- which columns are tested, and how many pivots were made without them
+unfoldable pub test_size : TestFit → List ℕ
+test_size fit = tested_line fit.tested ++ pivots_line (length fit.process.trail.steps)
+
+-- what stands before the scores of a test
+unfoldable pub test_head : TestFit → List ℕ
+test_head fit = codes "quantreg test 1\n" ++ records_line fit.kept fit.dropped ++ numbered column_line 1 fit.names ++ test_size fit
+
+-- the report of a test: the score of each tested column, and the statistic
+unfoldable pub test_text : TestFit → List ℕ
+test_text fit = test_head fit ++ flat_map score_line (zip fit.tested fit.scores) ++ statistic_line fit.statistic ++ codes "end\n"
+
 -- a step of a function of the quantile: from here, up to here, this value
 unfoldable pub step_line : Step Frac128 → List ℕ
 step_line s = codes "step " ++ number_text_of (value s.lo) ++ codes " " ++ number_text_of (value s.hi) ++ codes " " ++ number_text_of (value s.value) ++ codes "\n"
@@ -217,16 +246,18 @@ report_text (Ranks ranks) = ranks_text ranks
 report_text (Certificate cert) = cert_text cert
 report_text (Checked cert) = checked_text cert
 report_text (Sample fit) = sample_text fit
+report_text (Test fit) = test_text fit
 report_text (Predict fit) = predict_text fit
 report_text (Path fit) = path_text fit
 
--- a fit has one list of scores per segment, and no more data rows than rows; so has a path, whose segments have their
--- values
+-- a fit has one list of scores per segment, and no more data rows than rows; a test has one score per tested column; a
+-- path has no more data rows than rows, and its segments have their values
 abbrev pub IsPrintable : Report → Type 0
 IsPrintable (Process fit) = (length fit.scores ≡ length fit.process.segments) × (fit.data_rows ≤ length fit.problem.rows)
 IsPrintable (Ranks ranks) = ⊤
 IsPrintable (Certificate cert) = ⊤
 IsPrintable (Checked cert) = ⊤
 IsPrintable (Sample fit) = ⊤
+IsPrintable (Test fit) = length fit.scores ≡ length fit.tested
 IsPrintable (Predict fit) = ⊤
 IsPrintable (Path fit) = (fit.data_rows ≤ length fit.problem.rows) × All IsPaired fit.process.segments

@@ -57,6 +57,7 @@ impl Page {
             WordFault::BadContrasts => self.line(b"usage", b"BadContrasts", &[]),
             WordFault::RankHalf => self.line(b"usage", b"RankHalf", &[]),
             WordFault::OutOfMemory => self.put(MEMORY_LINE),
+            WordFault::NotAscending => self.line(b"usage", b"NotAscending", &[]),
         }
     }
 
@@ -246,6 +247,10 @@ impl Page {
                 )
             }
             Refusal::Certificate(fault) => self.certificate_line(fault),
+            Refusal::NoSuchColumn { column } => {
+                self.line(b"test", b"NoSuchColumn", &[Number(b"column", *column)])
+            }
+            Refusal::AllTested => self.line(b"test", b"AllTested", &[]),
             Refusal::SmoothNotTaken => self.line(b"job", b"SmoothNotTaken", &[]),
             Refusal::NothingToPredict => self.line(b"predict", b"NothingToPredict", &[]),
             Refusal::TooManyPredictions { found } => {

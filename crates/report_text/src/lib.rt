@@ -23,10 +23,11 @@ mod quantity;
 mod ranks;
 mod report;
 mod sample;
+mod test;
 
 pub use fault::{MEMORY_LINE, SINK_LINE, SOURCE_LINE, fault_line};
 pub use lines::report_bytes;
 pub use page::Page;
 pub use report::{
-    Fault, Fit, Halt, PathFit, Place, PredictFit, Prediction, RanksFit, Refusal, Report,
+    Fault, Fit, Halt, PathFit, Place, PredictFit, Prediction, RanksFit, Refusal, Report, TestFit,
 };

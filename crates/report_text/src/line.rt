@@ -98,6 +98,9 @@ impl Page {
             Place::Process => self.put(b"process"),
             Place::Interval { column, tau } => self.put_interval(column, tau),
             Place::Check => self.put(b"check"),
+            Place::Full => self.put(b"full"),
+            Place::Gram => self.put(b"gram"),
+            Place::Test => self.put(b"test"),
             Place::Predict { rec } => self.put_predicted(rec),
             Place::Path => self.put(b"path"),
         }

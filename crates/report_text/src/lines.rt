@@ -234,7 +234,7 @@ impl Page {
 
 /// The text of a report. It refuses only for memory.
 ///
-/// A fit has one list of scores per segment, and no more data rows than rows. A path has no more data rows than rows, and
+/// A fit has one list of scores per segment, and no more data rows than rows. A test has one score per tested column. A path has no more data rows than rows, and
 /// as many values of basic rows at either end of a segment as there are basic rows.
 pub fn report_bytes(alloc: Global, report: &Report) -> Result<Vec<u8>, OutOfMemory>
     requires { IsPrintable report.now }
@@ -247,6 +247,7 @@ pub fn report_bytes(alloc: Global, report: &Report) -> Result<Vec<u8>, OutOfMemo
         Report::Certificate(cert) => return write_cert(alloc, cert),
         Report::Checked(cert) => page.checked(cert)?,
         Report::Sample(fit) => page.sample(fit)?,
+        Report::Test(fit) => page.test(fit)?,
         Report::Predict(fit) => page.predict(fit)?,
         Report::Path(fit) => page.path(fit)?,
     }

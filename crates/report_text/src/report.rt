@@ -34,6 +34,19 @@ pub struct RanksFit {
     pub wilcoxon: List<Frac128>,
 }
 
+/// A rank test of nested models: the tested columns, counted from 0 and ascending, the process over 0 to 1 without them,
+/// the score of each of them, and the statistic.
+#[derive(Drop)]
+pub struct TestFit {
+    pub kept: u32,
+    pub dropped: u32,
+    pub names: List<Text>,
+    pub tested: List<u32>,
+    pub process: Process<Frac128>,
+    pub scores: List<Frac128>,
+    pub statistic: Frac128,
+}
+
 /// A fitted process, and what it predicts of each record whose response is missing and whose other
 /// used cells, the weight apart, aren't, by ascending record.
 #[derive(Drop)]
@@ -77,6 +90,8 @@ pub enum Report {
     Checked(Cert),
     /// A fit of a generated table, of which a summary is printed.
     Sample(Fit),
+    /// The rank test of nested models.
+    Test(TestFit),
     /// The predictions of missing responses.
     Predict(PredictFit),
     /// The path in lambda.
@@ -92,7 +107,7 @@ pub enum Refusal {
     Table(TableFault),
     /// The formula is none over the names of the table.
     Formula(FormulaFault),
-    /// The formula has a smooth, and ranks or rank intervals are asked for.
+    /// The formula has a smooth, and ranks, rank intervals or a rank test are asked for.
     RankWithPenalty,
     /// The table has no design by the formula.
     Design(DesignFault),
@@ -106,6 +121,10 @@ pub enum Refusal {
     CertTooLong { length: u64 },
     /// It is no certificate.
     Certificate(CertFault),
+    /// This number of a tested column, as it was given, is 0 or beyond the columns.
+    NoSuchColumn { column: u32 },
+    /// Every column is tested.
+    AllTested,
     /// The formula has a smooth, and the job takes none.
     SmoothNotTaken,
     /// No record has a missing response and all its other used cells, the weight apart.
@@ -123,6 +142,12 @@ pub enum Place {
     Interval { column: u32, tau: Frac128 },
     /// In the conditions of a certificate.
     Check,
+    /// In the start of a whole problem, before the process without its tested columns.
+    Full,
+    /// In the Gram matrix of a whole problem, or in its inverse.
+    Gram,
+    /// In the score of a tested column, or in the statistic.
+    Test,
     /// In the prediction of a record, counted from 1, or in its rearrangement.
     Predict { rec: u32 },
     /// In the costs of a path problem.

@@ -9,7 +9,7 @@ use Rattle.rq_engine.specs.Answers as engine
 use Rattle.rq_engine.specs.Jobs.{IsJobOf}
 use Rattle.report_text.specs.ReportText.{report_text}
 use Rattle.report_text.specs.declared.report.Report.{Report}
-use Rattle.report_text.specs.declared.report.Refusal.TheVariants.{TooLong, Table, Formula, RankWithPenalty, Design, Penalty, Program, Dependent, CertTooLong, Certificate, SmoothNotTaken, NothingToPredict, TooManyPredictions}
+use Rattle.report_text.specs.declared.report.Refusal.TheVariants.{TooLong, Table, Formula, RankWithPenalty, Design, Penalty, Program, Dependent, CertTooLong, Certificate, NoSuchColumn, AllTested, SmoothNotTaken, NothingToPredict, TooManyPredictions}
 use Rattle.report_text.specs.declared.report.Halt.{Halt}
 use Rattle.report_text.specs.declared.report.Halt.TheVariants as halts
 use Rattle.rq_cli.specs.Outcomes.{Stream, OnDone, OnFault, outcome_line, AskSource, Reads, WereRead, HasCause, IsAnswered, IsErrorFault, IsFault, WasTried, IsRun}
@@ -29,6 +29,7 @@ never_long (jobs.Process fit) bytes cause = cause
 never_long (jobs.Ranks fit) bytes cause = cause
 never_long (jobs.Certify fit) bytes cause = cause
 never_long jobs.Check bytes cause = cause
+never_long (jobs.Test job) bytes cause = cause
 never_long (jobs.Predict fit) bytes cause = cause
 never_long (jobs.Path job) bytes cause = cause
 never_long (jobs.Sample sample) bytes cause = cause
@@ -39,6 +40,7 @@ memory_cause (jobs.Process fit) bytes = tt
 memory_cause (jobs.Ranks fit) bytes = tt
 memory_cause (jobs.Certify fit) bytes = tt
 memory_cause jobs.Check bytes = tt
+memory_cause (jobs.Test job) bytes = tt
 memory_cause (jobs.Predict fit) bytes = tt
 memory_cause (jobs.Path job) bytes = tt
 memory_cause (jobs.Sample sample) bytes = tt
@@ -58,6 +60,8 @@ halt_cause words source source' job bytes read (halts.Refused (Design fault)) ca
 halt_cause words source source' job bytes read (halts.Refused (Penalty fault)) cause = record { job = job; bytes = bytes; read = read; cause = cause }
 halt_cause words source source' job bytes read (halts.Refused (Program fault)) cause = record { job = job; bytes = bytes; read = read; cause = cause }
 halt_cause words source source' job bytes read (halts.Refused NothingToPredict) cause = record { job = job; bytes = bytes; read = read; cause = cause }
+halt_cause words source source' job bytes read (halts.Refused (NoSuchColumn number)) cause = record { job = job; bytes = bytes; read = read; cause = cause }
+halt_cause words source source' job bytes read (halts.Refused AllTested) cause = record { job = job; bytes = bytes; read = read; cause = cause }
 halt_cause words source source' job bytes read (halts.Refused (TooManyPredictions found)) cause = record { job = job; bytes = bytes; read = read; cause = cause }
 halt_cause words source source' job bytes read (halts.Refused (Dependent combination)) cause = record { job = job; bytes = bytes; read = read; cause = cause }
 halt_cause words source source' job bytes read (halts.Refused (CertTooLong length)) cause = record { job = job; bytes = bytes; read = read; cause = cause }

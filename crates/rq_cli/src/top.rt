@@ -137,6 +137,7 @@ fn reads(job: &Job) -> bool
         Job::Ranks(_) => true,
         Job::Certify(_) => true,
         Job::Check => true,
+        Job::Test(_) => true,
         Job::Predict(_) => true,
         Job::Path(_) => true,
         Job::Sample(_) => false,

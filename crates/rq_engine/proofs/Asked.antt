@@ -8,18 +8,19 @@ use Rattle.std.proofs.lemmas.List.Elements.{All-cons, All-nil}
 use Rattle.exact_algebra.specs.Fraction.{rational}
 use Rattle.exact_algebra.specs.Rational.{ℚ, le_ℚ}
 use Rattle.frac_core.specs.declared.frac128.Frac128.{Frac128}
-use Rattle.rq_words.specs.Requests.{fit_request, number, path_request, rank_request, sample_request}
+use Rattle.rq_words.specs.Requests.{fit_request, number, path_request, rank_request, sample_request, test_request}
 use Rattle.rq_words.specs.Requests as request
 use Rattle.rq_words.specs.Words.{zero, one, is_outside}
 use Rattle.rq_words.specs.declared.job.Job.{Job}
-use Rattle.rq_words.specs.declared.job.Job.TheVariants.{Process, Ranks, Certify, Check, Predict, Path, Sample}
+use Rattle.rq_words.specs.declared.job.Job.TheVariants.{Process, Ranks, Certify, Check, Test, Predict, Path, Sample}
 use Rattle.rq_words.specs.declared.job.RankAsk.{RankAsk}
-use Rattle.rq_words.proofs.Orders.{process_range, ranks_range, certify_range, path_range, predict_range}
-use Rattle.rq_words.proofs.RankRequests.{IsSoundOf, words_sound}
+use Rattle.rq_words.proofs.Orders.{process_range, ranks_range, certify_range, path_range, predict_range, test_range}
+use Rattle.rq_words.proofs.RankRequests.{IsSoundOf, test_unranked, words_sound}
 use Rattle.rq_words.proofs.Samples.{words_sample}
-use Rattle.rq_words.proofs.ShortWords.{process_formula, ranks_formula, certify_formula, path_formula, predict_formula}
+use Rattle.rq_words.proofs.ShortWords.{process_formula, ranks_formula, certify_formula, path_formula, predict_formula, test_formula}
+use Rattle.rq_words.proofs.TestedColumns.{test_ascending}
 use Rattle.report_text.specs.ReportText.{value}
-use Rattle.rq_fit.specs.Asks.{IsFitAsk, IsInner, IsPathAsk, IsRankAskOf, IsUnitAsk}
+use Rattle.rq_fit.specs.Asks.{IsFitAsk, IsInner, IsPathAsk, IsRankAskOf, IsTestAsk, IsUnitAsk}
 use Rattle.rq_engine.specs.Jobs.{IsJobOf, sample_fit}
 use Rattle.rq_engine.specs.SampleAsks.{IsSampleAsk}
 
@@ -42,12 +43,17 @@ rank_by : (rank : Option RankAsk) → IsSoundOf (option_map rank_request rank) �
 rank_by None h = tt
 rank_by (Some rank) h = record { crit = h.crit; taus = all_inner rank.taus h.taus }
 
+none_by : (rank : Option RankAsk) → option_map rank_request rank ≡ None → IsRankAskOf rank
+none_by None h = tt
+none_by (Some rank) h = absurd (cc h)
+
 -- what is known of a job that words ask for
 abbrev pub IsAskedJob : Job → Type 0
 IsAskedJob (Process fit) = IsFitAsk fit × (length fit.formula < 2 ^ 31)
 IsAskedJob (Ranks fit) = IsUnitAsk fit × (length fit.formula < 2 ^ 31)
 IsAskedJob (Certify fit) = IsFitAsk fit × (length fit.formula < 2 ^ 31)
 IsAskedJob Check = ⊤
+IsAskedJob (Test job) = IsTestAsk job × (length job.fit.formula < 2 ^ 31)
 IsAskedJob (Predict fit) = IsFitAsk fit × (length fit.formula < 2 ^ 31)
 IsAskedJob (Path job) = IsPathAsk job × (length job.fit.formula < 2 ^ 31)
 IsAskedJob (Sample sample) = IsSampleAsk sample
@@ -69,6 +75,10 @@ asked_job words (Certify fit) asked =
     let rank = rank_by fit.rank (words_sound (request.Certify f) f refl words asked) in
     (record { low = range.0; ordered = range.1; high = range.2; rank = rank }, certify_formula words f asked)
 asked_job words Check asked = tt
+asked_job words (Test job) asked =
+    let t = test_request job in
+    let range = test_range words t asked in
+    (record { unit = record { low = range.0; high = range.1; rank = none_by job.fit.rank (test_unranked words t asked) }; ascending = test_ascending words t asked }, test_formula words t asked)
 asked_job words (Predict fit) asked =
     let f = fit_request fit in
     let range = predict_range words f asked in

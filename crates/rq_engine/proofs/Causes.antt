@@ -31,6 +31,8 @@ input_cause job ranked bytes (Refused (refusals.Design fault)) h = h
 input_cause job ranked bytes (Refused (refusals.Penalty fault)) h = h
 input_cause job ranked bytes (Refused (refusals.Program fault)) h = h
 input_cause job ranked bytes (Refused refusals.NothingToPredict) h = h
+input_cause job ranked bytes (Refused (refusals.NoSuchColumn number)) h = h
+input_cause job ranked bytes (Refused refusals.AllTested) h = h
 input_cause job ranked bytes (Refused (refusals.TooManyPredictions found)) h = h
 input_cause job ranked bytes (Refused (refusals.CertTooLong long)) h = absurd h.2.cause
 input_cause job ranked bytes (Refused (refusals.Certificate fault)) h = absurd h.2.cause
@@ -51,6 +53,8 @@ problem_cause job ranked bytes input is rows (Refused (refusals.Design fault)) h
 problem_cause job ranked bytes input is rows (Refused (refusals.Penalty fault)) h = absurd h
 problem_cause job ranked bytes input is rows (Refused (refusals.Program fault)) h = absurd h
 problem_cause job ranked bytes input is rows (Refused refusals.NothingToPredict) h = absurd h
+problem_cause job ranked bytes input is rows (Refused (refusals.NoSuchColumn number)) h = absurd h
+problem_cause job ranked bytes input is rows (Refused refusals.AllTested) h = absurd h
 problem_cause job ranked bytes input is rows (Refused (refusals.TooManyPredictions found)) h = absurd h
 problem_cause job ranked bytes input is rows (Refused (refusals.CertTooLong long)) h = absurd h
 problem_cause job ranked bytes input is rows (Refused (refusals.Certificate fault)) h = absurd h
@@ -68,6 +72,9 @@ ranks_cause job bytes (Overflow places.Process trail spill) h = inl h
 ranks_cause job bytes (Overflow (places.Interval column tau) trail spill) h = h
 ranks_cause job bytes (Overflow places.Check trail spill) h = h
 ranks_cause job bytes (Overflow (places.Predict rec) trail spill) h = h
+ranks_cause job bytes (Overflow places.Full trail spill) h = h
+ranks_cause job bytes (Overflow places.Gram trail spill) h = h
+ranks_cause job bytes (Overflow places.Test trail spill) h = h
 ranks_cause job bytes (Overflow places.Path trail spill) h = h
 ranks_cause job bytes (Rejected rejection) h = h
 
@@ -83,5 +90,8 @@ ranks_scoring_cause job bytes input is rows (Overflow places.Process trail spill
 ranks_scoring_cause job bytes input is rows (Overflow (places.Interval column tau) trail spill) h = problem_cause job true bytes input is rows (Overflow (places.Interval column tau) trail spill) h
 ranks_scoring_cause job bytes input is rows (Overflow places.Check trail spill) h = problem_cause job true bytes input is rows (Overflow places.Check trail spill) h
 ranks_scoring_cause job bytes input is rows (Overflow (places.Predict rec) trail spill) h = problem_cause job true bytes input is rows (Overflow (places.Predict rec) trail spill) h
+ranks_scoring_cause job bytes input is rows (Overflow places.Full trail spill) h = problem_cause job true bytes input is rows (Overflow places.Full trail spill) h
+ranks_scoring_cause job bytes input is rows (Overflow places.Gram trail spill) h = problem_cause job true bytes input is rows (Overflow places.Gram trail spill) h
+ranks_scoring_cause job bytes input is rows (Overflow places.Test trail spill) h = problem_cause job true bytes input is rows (Overflow places.Test trail spill) h
 ranks_scoring_cause job bytes input is rows (Overflow places.Path trail spill) h = problem_cause job true bytes input is rows (Overflow places.Path trail spill) h
 ranks_scoring_cause job bytes input is rows (Rejected rejection) h = problem_cause job true bytes input is rows (Rejected rejection) h

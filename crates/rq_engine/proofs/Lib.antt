@@ -5,3 +5,4 @@ pub mod Checks
 pub mod Listed
 pub mod Pathing
 pub mod Predicting
+pub mod Testing

@@ -27,6 +27,8 @@ input_path job bytes (Refused (refusals.Program programs.TooManyRows)) h = inl h
 input_path job bytes (Refused (refusals.Program programs.TooManyColumns)) h = h
 input_path job bytes (Refused (refusals.Program programs.OutOfMemory)) h = h
 input_path job bytes (Refused refusals.NothingToPredict) h = h
+input_path job bytes (Refused (refusals.NoSuchColumn number)) h = h
+input_path job bytes (Refused refusals.AllTested) h = h
 input_path job bytes (Refused (refusals.TooManyPredictions found)) h = h
 input_path job bytes (Refused (refusals.CertTooLong long)) h = h
 input_path job bytes (Refused (refusals.Certificate fault)) h = h
@@ -49,6 +51,8 @@ fit_path job bytes plain is rows (Refused (refusals.Program programs.TooManyRows
 fit_path job bytes plain is rows (Refused (refusals.Program programs.TooManyColumns)) h = absurd h
 fit_path job bytes plain is rows (Refused (refusals.Program programs.OutOfMemory)) h = absurd h
 fit_path job bytes plain is rows (Refused refusals.NothingToPredict) h = absurd h
+fit_path job bytes plain is rows (Refused (refusals.NoSuchColumn number)) h = absurd h
+fit_path job bytes plain is rows (Refused refusals.AllTested) h = absurd h
 fit_path job bytes plain is rows (Refused (refusals.TooManyPredictions found)) h = absurd h
 fit_path job bytes plain is rows (Refused (refusals.CertTooLong long)) h = absurd h
 fit_path job bytes plain is rows (Refused (refusals.Certificate fault)) h = absurd h

@@ -9,18 +9,21 @@ use Rattle.rq_input.specs.Inputs.{HasInputCause, IsInput}
 use Rattle.rq_input.specs.Plain.{HasPlainCause, IsPlain}
 use Rattle.rq_input.specs.Predictions.{HasPredictionCause, IsPrediction}
 use Rattle.rq_input.specs.Rows.{HasRows}
+use Rattle.rq_input.specs.Tested.{HasTestedCause, IsTested}
 use Rattle.rq_input.specs.declared.input.Input.{Input}
 use Rattle.rq_input.specs.declared.plain.PlainInput.{PlainInput}
 use Rattle.rq_input.specs.declared.predictions.PredictionInput.{PredictionInput}
 use Rattle.rq_words.specs.declared.job.FitJob.{FitJob}
 use Rattle.rq_words.specs.declared.job.Job.{Job}
 use Rattle.rq_words.specs.declared.job.PathJob.{PathJob}
+use Rattle.rq_words.specs.declared.job.TestJob.{TestJob}
 use Rattle.rq_words.specs.declared.job.Job.TheVariants as jobs
 use Rattle.report_text.specs.ReportText.{value}
 use Rattle.report_text.specs.declared.report.Fit.{Fit}
 use Rattle.report_text.specs.declared.report.PathFit.{PathFit}
 use Rattle.report_text.specs.declared.report.PredictFit.{PredictFit}
 use Rattle.report_text.specs.declared.report.RanksFit.{RanksFit}
+use Rattle.report_text.specs.declared.report.TestFit.{TestFit}
 use Rattle.report_text.specs.declared.report.Report.{Report}
 use Rattle.report_text.specs.declared.report.Report.TheVariants as reports
 use Rattle.rq_program.specs.declared.fault.ProgramFault.TheVariants.{TooManyRows}
@@ -33,6 +36,7 @@ use Rattle.rq_fit.specs.Paths.{HasPathCause, IsPathFitOf}
 use Rattle.rq_fit.specs.Predicted.{HasPredictedCause, IsPredictFitOf}
 use Rattle.rq_fit.specs.Ranks.{AreRanksOf}
 use Rattle.rq_fit.specs.Stops.{HasProblemCause, IsScoringSpill, most}
+use Rattle.rq_fit.specs.Tested.{HasTestCause, IsTestFitOf}
 use Rattle.rq_engine.specs.Certificates.{IsCertificateOf, IsTooLong, IsWritten}
 use Rattle.rq_engine.specs.Checks.{HasCheckCause, IsCheckedOf}
 use Rattle.rq_engine.specs.Jobs.{sample_fit, sample_table}
@@ -58,6 +62,10 @@ pub record IsCertified (job : FitJob) (input : Input) (cert : Cert) : Type 0 whe
 abbrev pub IsCertifiedOfBytes : FitJob → List ℕ → Cert → Type 0
 IsCertifiedOfBytes job bytes cert = (input : Input) × IsInput job (is_some job.rank) bytes input × IsCertified job input cert
 
+-- the test is right for the input that the bytes are, which has the tested columns
+abbrev pub IsTestFitOfBytes : TestJob → List ℕ → TestFit → Type 0
+IsTestFitOfBytes job bytes fit = (input : Input) × IsTested job bytes input × IsTestFitOf job input fit
+
 -- the predictions are right for the rows that the bytes ask for
 abbrev pub IsPredictFitOfBytes : FitJob → List ℕ → PredictFit → Type 0
 IsPredictFitOfBytes job bytes fit = (asked : PredictionInput) × IsPrediction job bytes asked × IsPredictFitOf job asked fit
@@ -72,6 +80,7 @@ IsRight (jobs.Process job) bytes (reports.Process fit) = IsFitOfBytes job (is_so
 IsRight (jobs.Ranks job) bytes (reports.Ranks ranks) = AreRanksOfBytes job bytes ranks
 IsRight (jobs.Certify job) bytes (reports.Certificate cert) = IsCertifiedOfBytes job bytes cert × IsWritten cert
 IsRight jobs.Check bytes (reports.Checked cert) = IsCheckedOf bytes cert
+IsRight (jobs.Test job) bytes (reports.Test fit) = IsTestFitOfBytes job bytes fit
 IsRight (jobs.Predict job) bytes (reports.Predict fit) = IsPredictFitOfBytes job bytes fit
 IsRight (jobs.Path job) bytes (reports.Path fit) = IsPathFitOfBytes job bytes fit
 IsRight (jobs.Sample job) bytes (reports.Sample fit) = IsFitOfBytes (sample_fit job) false (sample_table job) fit
@@ -116,6 +125,20 @@ abbrev pub HasCertifyCause : FitJob → List ℕ → Halt → Type 0
 HasCertifyCause job bytes (Refused (CertTooLong n)) = HasLongCertificate job bytes n
 HasCertifyCause job bytes halt = HasFitCause job (is_some job.rank) bytes halt
 
+-- the input of the bytes has no test, for this halt
+pub record LacksTestFit (job : TestJob) (bytes : List ℕ) (halt : Halt) : Type 0 where
+  pub input : Input
+  pub is : IsTested job bytes input
+  pub rows : HasRows input
+  pub cause : HasTestCause job input halt
+
+-- why bytes have no test: their input has none, or they have no columns to be tested
+abbrev pub HasTestFitCause : TestJob → List ℕ → Halt → Type 0
+HasTestFitCause job bytes (Refused (Dependent combination)) = LacksTestFit job bytes (Refused (Dependent combination))
+HasTestFitCause job bytes (PivotLimit place limit trail) = LacksTestFit job bytes (PivotLimit place limit trail)
+HasTestFitCause job bytes (Overflow place trail spill) = LacksTestFit job bytes (Overflow place trail spill)
+HasTestFitCause job bytes halt = HasTestedCause job bytes halt
+
 -- the rows that the bytes ask for have no predictions, for this halt
 pub record LacksPredictFit (job : FitJob) (bytes : List ℕ) (halt : Halt) : Type 0 where
   pub asked : PredictionInput
@@ -150,6 +173,7 @@ HasCause (jobs.Process job) bytes halt = HasFitCause job (is_some job.rank) byte
 HasCause (jobs.Ranks job) bytes halt = HasRanksCause job bytes halt
 HasCause (jobs.Certify job) bytes halt = HasCertifyCause job bytes halt
 HasCause jobs.Check bytes halt = HasCheckCause bytes halt
+HasCause (jobs.Test job) bytes halt = HasTestFitCause job bytes halt
 HasCause (jobs.Predict job) bytes halt = HasPredictCause job bytes halt
 HasCause (jobs.Path job) bytes halt = HasPathFitCause job bytes halt
 HasCause (jobs.Sample job) bytes halt = HasFitCause (sample_fit job) false (sample_table job) halt

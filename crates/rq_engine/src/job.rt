@@ -11,6 +11,7 @@ use crate::predict::predict_bytes;
 use crate::process::fit_bytes;
 use crate::ranks::ranks_bytes;
 use crate::sample::fit_sample;
+use crate::test::test_bytes;
 use report_text::{Halt, Report};
 use rq_fan::Gate;
 use rq_words::Job;
@@ -23,11 +24,12 @@ use std::thread::Threads;
 /// the design, of what its smooths add, or of the problem; or `Dependent`, only where the columns of
 /// the problem are dependent; or `CertTooLong`, exactly where the text of the certificate is longer than
 /// 2^26 bytes; or, for `check`, the first fault of the bytes as a certificate, after which `Rejected` and
-/// an `Overflow` of the checker are those of `check`; or, for `predict`, that there is nothing or too much to predict, or
-/// the first fault of a predicted record's row. `PivotLimit` comes only where the lawful trail of the problem, or of a
+/// an `Overflow` of the checker are those of `check`; or, for `test`, the first tested column
+/// that is missing, or that all are tested; or, for `predict`, that there is nothing or too much to predict, or the first
+/// fault of a predicted record's row. `PivotLimit` comes only where the lawful trail of the problem, or of a
 /// rank interval that its place names, has as many pivots as the job's limit says and one more is left,
 /// and `Overflow` only where an operation of the solve at the low end, of the walk, of a rankscore, of
-/// that interval, of a Wilcoxon score or of a prediction overflows. A stop of an interval is that of the first that
+/// that interval, of a Wilcoxon score, of a rank test or of a prediction overflows. A stop of an interval is that of the first that
 /// stops, quantile by quantile as given and column by column within. `OutOfMemory` may come at any step.
 ///
 /// The rank intervals are jobs at once, and each enters the gate with its place in that order before it works.
@@ -66,6 +68,12 @@ pub fn answer<R: Threads + Sync, G: Gate>(
         Job::Check => {
             match check_bytes(alloc, bytes) {
                 Ok(cert) => Ok(Report::Checked(cert)),
+                Err(halt) => Err(halt),
+            }
+        }
+        Job::Test(test_job) => {
+            match test_bytes(alloc, test_job, bytes) {
+                Ok(fit) => Ok(Report::Test(fit)),
                 Err(halt) => Err(halt),
             }
         }

@@ -17,5 +17,6 @@ mod predict;
 mod process;
 mod ranks;
 mod sample;
+mod test;
 
 pub use job::answer;

@@ -245,6 +245,8 @@ interval_cause job n p q scores results short scored (Refused (refusals.Design f
 interval_cause job n p q scores results short scored (Refused (refusals.Penalty fault)) h = absurd h
 interval_cause job n p q scores results short scored (Refused (refusals.Program fault)) h = absurd h
 interval_cause job n p q scores results short scored (Refused refusals.NothingToPredict) h = absurd h
+interval_cause job n p q scores results short scored (Refused (refusals.NoSuchColumn number)) h = absurd h
+interval_cause job n p q scores results short scored (Refused refusals.AllTested) h = absurd h
 interval_cause job n p q scores results short scored (Refused (refusals.TooManyPredictions found)) h = absurd h
 interval_cause job n p q scores results short scored (Refused (refusals.CertTooLong long)) h = absurd h
 interval_cause job n p q scores results short scored (Refused (refusals.Certificate fault)) h = absurd h
@@ -254,12 +256,18 @@ interval_cause job n p q scores results short scored (PivotLimit (places.Interva
     record { process = q; results = results; short = short; scores = scores; scored = scored; stopped = h }
 interval_cause job n p q scores results short scored (PivotLimit places.Check limit trail) h = absurd h
 interval_cause job n p q scores results short scored (PivotLimit (places.Predict rec) limit trail) h = absurd h
+interval_cause job n p q scores results short scored (PivotLimit places.Full limit trail) h = absurd h
+interval_cause job n p q scores results short scored (PivotLimit places.Gram limit trail) h = absurd h
+interval_cause job n p q scores results short scored (PivotLimit places.Test limit trail) h = absurd h
 interval_cause job n p q scores results short scored (PivotLimit places.Path limit trail) h = absurd h
 interval_cause job n p q scores results short scored (Overflow places.Process trail spill) h = absurd h
 interval_cause job n p q scores results short scored (Overflow (places.Interval column tau) trail spill) h =
     record { process = q; results = results; short = short; scores = scores; scored = scored; stopped = h }
 interval_cause job n p q scores results short scored (Overflow places.Check trail spill) h = absurd h
 interval_cause job n p q scores results short scored (Overflow (places.Predict rec) trail spill) h = absurd h
+interval_cause job n p q scores results short scored (Overflow places.Full trail spill) h = absurd h
+interval_cause job n p q scores results short scored (Overflow places.Gram trail spill) h = absurd h
+interval_cause job n p q scores results short scored (Overflow places.Test trail spill) h = absurd h
 interval_cause job n p q scores results short scored (Overflow places.Path trail spill) h = absurd h
 interval_cause job n p q scores results short scored (Rejected rejection) h = absurd h
 

@@ -3,3 +3,4 @@ pub mod Fits
 pub mod Pathing
 pub mod Predicting
 pub mod Scoring
+pub mod Testing

@@ -1,10 +1,13 @@
 -- Inner. What is known of a job whose words ask for a fit.
-use Rattle.std.specs.Prelude.{◌≡◌, All, Option, None, Some, pos, ⊤}
+use Rattle.std.specs.Prelude.{◌≡◌, true, All, Option, None, Some, map, pos, ⊤}
 use Rattle.exact_algebra.specs.Fraction.{rational}
 use Rattle.exact_algebra.specs.Rational.{ℚ, whole, ◌≤ℚ◌}
 use Rattle.rq_words.specs.declared.job.RankAsk.{RankAsk}
 use Rattle.rq_words.specs.declared.job.FitJob.{FitJob}
 use Rattle.rq_words.specs.declared.job.PathJob.{PathJob}
+use Rattle.rq_words.specs.declared.job.TestJob.{TestJob}
+use Rattle.rq_words.specs.Requests.{given_number}
+use Rattle.rq_words.specs.Words.{ascends}
 use Rattle.report_text.specs.ReportText.{value}
 pub use Rattle.interval_jobs.specs.RankProblems.{IsInner}
 
@@ -37,3 +40,8 @@ pub record IsUnitAsk (job : FitJob) : Type 0 where
   pub low : whole (pos 0) ≡ rational (value job.lo)
   pub high : whole (pos 1) ≡ rational (value job.hi)
   pub rank : IsRankAskOf job.rank
+
+-- so it is of a test, and the numbers of the tested columns, as they were given, ascend
+pub record IsTestAsk (job : TestJob) : Type 0 where
+  pub unit : IsUnitAsk job.fit
+  pub ascending : ascends (map given_number job.tested) ≡ true

@@ -5,16 +5,18 @@ use Rattle.loss_model.specs.declared.spill.Short.{Short}
 use Rattle.loss_model.specs.declared.spill.Short.TheVariants as shorts
 use Rattle.loss_model.specs.declared.stop.Stop.{Stop}
 use Rattle.loss_model.specs.declared.stop.Stop.TheVariants as stops
+use Rattle.nested_test.specs.declared.stop.NestedStop.{NestedStop}
+use Rattle.nested_test.specs.declared.stop.NestedStop.TheVariants as tests
 use Rattle.lambda_path.specs.declared.fault.PathFault.{PathFault}
 use Rattle.lambda_path.specs.declared.fault.PathFault.TheVariants as faults
 use Rattle.rq_program.specs.declared.fault.ProgramFault.TheVariants.{TooManyRows}
 use Rattle.report_text.specs.declared.report.Refusal.TheVariants.{Dependent, Program}
 use Rattle.report_text.specs.declared.report.Place.{Place}
-use Rattle.report_text.specs.declared.report.Place.TheVariants.{Interval, Path}
+use Rattle.report_text.specs.declared.report.Place.TheVariants.{Interval, Gram, Test, Path}
 use Rattle.report_text.specs.declared.report.Halt.{Halt}
 use Rattle.report_text.specs.declared.report.Halt.TheVariants.{Refused, OutOfMemory, PivotLimit, Overflow}
 use Rattle.interval_jobs.specs.declared.asks.IntervalStop.{IntervalStop}
-pub use Rattle.rq_fit.specs.Stops.{no_trail}
+use Rattle.rq_fit.specs.Stops.{no_trail}
 
 -- the halt of a stop of the solver at a place
 abbrev pub stop_halt : Place → Stop Frac128 → Halt
@@ -37,3 +39,9 @@ interval_halt stopped = stop_halt (Interval stopped.asked.column stopped.asked.t
 abbrev pub short_halt : Place → Short Frac128 → Trail Frac128 → Halt
 short_halt place shorts.OutOfMemory trail = OutOfMemory
 short_halt place (shorts.Overflow spill) trail = Overflow place trail spill
+
+-- that of a test without a statistic, after the process
+abbrev pub nested_halt : NestedStop Frac128 → Trail Frac128 → Halt
+nested_halt tests.OutOfMemory whole = OutOfMemory
+nested_halt (tests.Gram trail spill) whole = Overflow Gram trail spill
+nested_halt (tests.Statistic spill) whole = Overflow Test whole spill

@@ -8,3 +8,4 @@ pub mod Predicted
 pub mod RankProblems
 pub mod Ranks
 pub mod Stops
+pub mod Tested

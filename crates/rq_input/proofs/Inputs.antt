@@ -72,6 +72,8 @@ module _ (job : FitJob) (ranked : Bool) (table : Table) (model : Formula) (state
   model_cause (Refused refusals.RankWithPenalty) h = absurd h
   model_cause (Refused refusals.SmoothNotTaken) h = absurd h
   model_cause (Refused refusals.NothingToPredict) h = absurd h
+  model_cause (Refused (refusals.NoSuchColumn number)) h = absurd h
+  model_cause (Refused refusals.AllTested) h = absurd h
   model_cause (Refused (refusals.TooManyPredictions found)) h = absurd h
   model_cause (Refused refusals.TooLong) h = absurd h
   model_cause (Refused (refusals.Table fault)) h = absurd h

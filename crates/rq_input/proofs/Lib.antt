@@ -3,3 +3,4 @@ mod Intercepts
 mod Predicting
 pub mod Lists
 pub mod Plain
+pub mod Tested

@@ -43,6 +43,8 @@ module _ (job : FitJob) where
   model_plain table model stated (Refused (refusals.Penalty fault)) h = model_cause job true table model stated (Refused (refusals.Penalty fault)) h
   model_plain table model stated (Refused (refusals.Program fault)) h = model_cause job true table model stated (Refused (refusals.Program fault)) h
   model_plain table model stated (Refused refusals.NothingToPredict) h = absurd h
+  model_plain table model stated (Refused (refusals.NoSuchColumn number)) h = absurd h
+  model_plain table model stated (Refused refusals.AllTested) h = absurd h
   model_plain table model stated (Refused (refusals.TooManyPredictions found)) h = absurd h
   model_plain table model stated (Refused (refusals.Dependent combination)) h = absurd h
   model_plain table model stated (Refused (refusals.CertTooLong length)) h = absurd h
@@ -63,6 +65,8 @@ module _ (job : FitJob) where
   table_plain bytes table are (Refused (refusals.Penalty fault)) h = (table, are, h)
   table_plain bytes table are (Refused (refusals.Program fault)) h = (table, are, h)
   table_plain bytes table are (Refused refusals.NothingToPredict) h = (table, are, h)
+  table_plain bytes table are (Refused (refusals.NoSuchColumn number)) h = (table, are, h)
+  table_plain bytes table are (Refused refusals.AllTested) h = (table, are, h)
   table_plain bytes table are (Refused (refusals.TooManyPredictions found)) h = (table, are, h)
   table_plain bytes table are (Refused (refusals.Dependent combination)) h = (table, are, h)
   table_plain bytes table are (Refused (refusals.CertTooLong length)) h = (table, are, h)
@@ -83,6 +87,8 @@ module _ (job : FitJob) where
   plain_prediction bytes (Refused (refusals.Penalty fault)) h = h
   plain_prediction bytes (Refused (refusals.Program fault)) h = h
   plain_prediction bytes (Refused refusals.NothingToPredict) h = absurd h.2.cause
+  plain_prediction bytes (Refused (refusals.NoSuchColumn number)) h = h
+  plain_prediction bytes (Refused refusals.AllTested) h = h
   plain_prediction bytes (Refused (refusals.TooManyPredictions found)) h = absurd h.2.cause
   plain_prediction bytes (Refused (refusals.Dependent combination)) h = h
   plain_prediction bytes (Refused (refusals.CertTooLong length)) h = h
@@ -190,6 +196,8 @@ rows_prediction job bytes table are model input by rows halt h = of halt h
     of (Refused (refusals.Penalty fault)) h = absurd h
     of (Refused (refusals.Program fault)) h = absurd h
     of (Refused refusals.NothingToPredict) h = lacking refusals.NothingToPredict h
+    of (Refused (refusals.NoSuchColumn number)) h = absurd h
+    of (Refused refusals.AllTested) h = absurd h
     of (Refused (refusals.TooManyPredictions found)) h = lacking (refusals.TooManyPredictions found) h
     of (Refused (refusals.Dependent combination)) h = absurd h
     of (Refused (refusals.CertTooLong length)) h = absurd h

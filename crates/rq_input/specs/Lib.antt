@@ -6,4 +6,5 @@ pub mod PlainRows
 pub mod Predicting
 pub mod Predictions
 pub mod Rows
+pub mod Tested
 pub mod Laws

@@ -26,8 +26,8 @@ pub struct Input {
     pub problem: Problem<Frac128>,
 }
 
-/// The input of a job, from at most 2^26 bytes. `ranked` says that ranks or rank intervals are asked
-/// for, which formulas with smooths have none of; all rows are data rows then.
+/// The input of a job, from at most 2^26 bytes. `ranked` says that ranks, rank intervals or a rank test are
+/// asked for, which formulas with smooths have none of; all rows are data rows then.
 ///
 /// `Refused` is the first fault: of the bytes as a table, of the formula over the table's names,
 /// `RankWithPenalty` exactly where ranks are asked for and the formula has a smooth, of the design, of

@@ -1,5 +1,5 @@
 -- Words ask for intervals at 64 quantiles at most.
-use Rattle.std.proofs.Common.{◌≡◌, ◌==◌, ◌≤◌, ◌^◌, ◌-◌, Bool, true, false, List, [], ◌∷◌, Option, Some, None, Result, Ok, Err, refl, sym, ap, subst, suc, codes, drop, length, nat_le, if◌then◌else◌, option_and_then, option_map, ok_or, arith}
+use Rattle.std.proofs.Common.{◌≡◌, ℕ, ◌==◌, ◌≤◌, ◌^◌, ◌-◌, Bool, true, false, List, [], ◌∷◌, Option, Some, None, Result, Ok, Err, refl, sym, ap, subst, suc, codes, drop, length, nat_le, if◌then◌else◌, option_and_then, option_map, ok_or, arith}
 use Rattle.std.specs.List.{slice_split, list_any}
 use Rattle.std.specs.Option.{option_map_or}
 use Rattle.std.proofs.lemmas.Bool.{leb-true}
@@ -11,7 +11,7 @@ use Rattle.contrasts.specs.declared.Coding.TheVariants.{Treatment}
 use Rattle.rq_words.specs.Commands.{command_of, kind_of, options_of, read_by}
 use Rattle.rq_words.specs.Requests.{FitRequest, OptionNumbers, RankRequest, Request}
 use Rattle.rq_words.specs.Requests as request
-use Rattle.rq_words.specs.Words.{◌>>=◌, zero, one, option, number_option, number_text, number_texts, quantiles, given, count, coding, numbers_of, fault_of, request_for, checked, is_long, words_of_job, words_of}
+use Rattle.rq_words.specs.Words.{◌>>=◌, zero, one, option, number_option, number_text, all_read, joined, quantiles, column_numbers, given, count, coding, numbers_of, fault_of, request_for, checked, is_long, words_of_job, words_of}
 use Rattle.rq_words.specs.declared.command.Kind.{Kind}
 use Rattle.rq_words.specs.declared.command.Kind.TheVariants as kind
 use Rattle.rq_words.specs.declared.job.WordFault.{WordFault}
@@ -25,29 +25,31 @@ AreFew (Some xs) = length xs ≤ 64
 
 -- ---- the text of the option
 
-pair_ok : (o : Option ℚ) (more : Option (List ℚ)) (xs : List ℚ) → option_and_then (λ x. option_map (λ ys. x ∷ ys) more) o ≡ Some xs → (ys : List ℚ) × (more ≡ Some ys) × (length xs ≡ suc (length ys))
+pair_ok : {X : Type 0} (o : Option X) (more : Option (List X)) (xs : List X) → option_and_then (λ x. option_map (λ ys. x ∷ ys) more) o ≡ Some xs → (ys : List X) × (more ≡ Some ys) × (length xs ≡ suc (length ys))
 pair_ok None more xs h = absurd (cc h)
 pair_ok (Some x) None xs h = absurd (cc h)
 pair_ok (Some x) (Some ys) xs h = let is : x ∷ ys ≡ xs = cc h in (ys, refl, sym (ap length is))
 
-texts_length : (texts : List Text) (xs : List ℚ) → number_texts texts ≡ Some xs → length xs ≡ length texts
-unfolding number_texts
-texts_length [] xs h = let is : [] ≡ xs = cc h in sym (ap length is)
-texts_length (text ∷ rest) xs h =
-    let parts = pair_ok (number_text text) (number_texts rest) xs h in
-    let tail = texts_length rest parts.0 parts.1 in
+pub texts_length : {X : Type 0} (read : Text → Option X) (texts : List Text) (xs : List X) → all_read read texts ≡ Some xs → length xs ≡ length texts
+unfolding all_read
+texts_length read [] xs h = let is : [] ≡ xs = cc h in sym (ap length is)
+texts_length read (text ∷ rest) xs h =
+    let parts = pair_ok (read text) (all_read read rest) xs h in
+    let tail = texts_length read rest parts.0 parts.1 in
     omega (arith, parts.2, tail)
 
-few_by : (b : Bool) (o : Option (List ℚ)) (xs : List ℚ) → (if b then o else None) ≡ Some xs → (b ≡ true) × (o ≡ Some xs)
+few_by : {X : Type 0} (b : Bool) (o : Option (List X)) (xs : List X) → (if b then o else None) ≡ Some xs → (b ≡ true) × (o ≡ Some xs)
 few_by true o xs h = (refl, h)
 few_by false o xs h = absurd (cc h)
 
-quantiles_few : (text : Text) (xs : List ℚ) → quantiles text ≡ Some xs → length xs ≤ 64
-unfolding quantiles
-quantiles_few text xs h =
+-- so many texts have so many values
+pub joined_few : {X : Type 0} (most : ℕ) (read : Text → Option X) (text : Text) (xs : List X) → joined most read text ≡ Some xs
+    → (length xs ≤ most) × (all_read read (slice_split (λ b. b == 44) text) ≡ Some xs)
+unfolding joined
+joined_few most read text xs h =
     let pieces = slice_split (λ b. b == 44) text in
-    let found = few_by (nat_le (length pieces) 64) (number_texts pieces) xs h in
-    omega (arith, leb-true (length pieces) 64 found.0, texts_length pieces xs found.1)
+    let found = few_by (nat_le (length pieces) most) (all_read read pieces) xs h in
+    (omega (arith, leb-true (length pieces) most found.0, texts_length read pieces xs found.1), found.1)
 
 given_few : (o : Option (List ℚ)) (r : Option (List ℚ)) (fault : WordFault) → ((xs : List ℚ) → o ≡ Some xs → length xs ≤ 64) → ok_or (option_map (λ xs. Some xs) o) fault ≡ Ok r → AreFew r
 given_few (Some xs) r fault few h = let is : Some xs ≡ r = cc h in subst AreFew is (few xs refl)
@@ -55,7 +57,7 @@ given_few None r fault few h = absurd (cc h)
 
 option_few : (o : Option Text) (r : Option (List ℚ)) (fault : WordFault) → option_map_or (λ text. ok_or (given quantiles text) fault) o (Ok None) ≡ Ok r → AreFew r
 option_few None r fault h = let is : None ≡ r = cc h in subst AreFew is tt
-option_few (Some text) r fault h = given_few (quantiles text) r fault (quantiles_few text) h
+option_few (Some text) r fault h = given_few (quantiles text) r fault (λ xs e. (joined_few 64 number_text text xs e).0) h
 
 -- ---- the numbers of the options
 
@@ -78,7 +80,8 @@ numbers_few found n h =
     let number = step_ok (number_option found (codes "number") 0 (count 10 0 (2 ^ 32 - 1))) _ _ limit.1 in
     let rows = step_ok (number_option found (codes "rows") 0 (count 5 1 most_rows)) _ _ number.1 in
     let columns = step_ok (number_option found (codes "columns") 0 (count 3 1 100)) _ _ rows.1 in
-    let tau = step_ok (number_option found (codes "tau") zero number_text) _ _ columns.1 in
+    let tested = step_ok (number_option found (codes "tested") [] column_numbers) _ _ columns.1 in
+    let tau = step_ok (number_option found (codes "tau") zero number_text) _ _ tested.1 in
     let same : taus.0 ≡ n.taus = same_taus _ n tau.1 in
     subst AreFew same (option_few (first_of (codes "rank-at") found) taus.0 (BadNumber (codes "rank-at")) taus.1)
 
@@ -100,6 +103,7 @@ HasFew (request.Ranks f) = Unit {0}
 HasFew (request.Certify f) = IsFewOf f.rank
 HasFew request.Check = Unit {0}
 HasFew (request.Sample s) = Unit {0}
+HasFew (request.Test t) = Unit {0}
 HasFew (request.Predict f) = Unit {0}
 HasFew (request.Path p) = Unit {0}
 
@@ -109,6 +113,7 @@ request_few kind.Ranks found n chosen h = tt
 request_few kind.Certify found n chosen h = rank_few n.crit n.taus h
 request_few kind.Check found n chosen h = tt
 request_few kind.Sample found n chosen h = tt
+request_few kind.Test found n chosen h = tt
 request_few kind.Predict found n chosen h = tt
 request_few kind.Path found n chosen h = tt
 

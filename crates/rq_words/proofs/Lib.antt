@@ -7,3 +7,4 @@ pub mod ShortWords
 pub mod RankRequests
 pub mod FewQuantiles
 pub mod Samples
+pub mod TestedColumns

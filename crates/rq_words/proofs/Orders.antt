@@ -7,7 +7,7 @@ use Rattle.exact_algebra.specs.Rational.{ℚ, le_ℚ, ◌≤ℚ◌}
 use Rattle.contrasts.specs.declared.Coding.{Coding}
 use Rattle.contrasts.specs.declared.Coding.TheVariants.{Treatment}
 use Rattle.rq_words.specs.Commands.{command_of, kind_of, options_of, read_by}
-use Rattle.rq_words.specs.Requests.{FitRequest, OptionNumbers, PathRequest, Request}
+use Rattle.rq_words.specs.Requests.{FitRequest, OptionNumbers, PathRequest, Request, TestRequest}
 use Rattle.rq_words.specs.Requests as request
 use Rattle.rq_words.specs.Words.{◌>>=◌, zero, one, option, coding, numbers_of, is_in_order, is_path_range, has_range, fault_of, request_for, checked, is_long, words_of_job, words_of}
 use Rattle.rq_words.specs.declared.command.Kind.{Kind}
@@ -47,6 +47,7 @@ IsOrdered (request.Ranks f) = Unit {0}
 IsOrdered (request.Certify f) = is_in_order f.lo f.hi ≡ true
 IsOrdered request.Check = Unit {0}
 IsOrdered (request.Sample s) = is_in_order s.lo s.hi ≡ true
+IsOrdered (request.Test t) = Unit {0}
 IsOrdered (request.Predict f) = is_in_order f.lo f.hi ≡ true
 IsOrdered (request.Path p) = is_path_range p.tau p.fit.lo p.fit.hi ≡ true
 
@@ -56,6 +57,7 @@ request_in_order kind.Ranks found n chosen h = tt
 request_in_order kind.Certify found n chosen h = h
 request_in_order kind.Check found n chosen h = tt
 request_in_order kind.Sample found n chosen h = h
+request_in_order kind.Test found n chosen h = tt
 request_in_order kind.Predict found n chosen h = h
 request_in_order kind.Path found n chosen h = h
 
@@ -129,34 +131,48 @@ path_by p h =
 pub path_range : (words : List Text) (p : PathRequest) → words_of words ≡ Ok (request.Path p) → IsPathRange p
 path_range words p h = path_by p (words_in_order words (request.Path p) h)
 
--- ranks are taken over 0 to 1
-unit_range : (kind : Kind) (found : List Row) (n : OptionNumbers) (chosen : Coding) (f : FitRequest) → request_for kind found n chosen ≡ request.Ranks f → (zero ≡ f.lo) × (one ≡ f.hi)
-unit_range kind.Process found n chosen f h = absurd (cc h)
-unit_range kind.Ranks found n chosen f h = (cc h, cc h)
-unit_range kind.Certify found n chosen f h = absurd (cc h)
-unit_range kind.Check found n chosen f h = absurd (cc h)
-unit_range kind.Sample found n chosen f h = absurd (cc h)
-unit_range kind.Predict found n chosen f h = absurd (cc h)
-unit_range kind.Path found n chosen f h = absurd (cc h)
+-- the range of ranks is 0 to 1, and so is that of a test
+abbrev IsOverAll : Request → Type 0
+IsOverAll (request.Ranks f) = (zero ≡ f.lo) × (one ≡ f.hi)
+IsOverAll (request.Test t) = (zero ≡ t.fit.lo) × (one ≡ t.fit.hi)
+IsOverAll _ = Unit {0}
 
-checked_over_all : (kind : Kind) (found : List Row) (f : FitRequest) → checked kind found ≡ Ok (request.Ranks f) → (zero ≡ f.lo) × (one ≡ f.hi)
+request_over_all : (kind : Kind) (found : List Row) (n : OptionNumbers) (chosen : Coding) → IsOverAll (request_for kind found n chosen)
+request_over_all kind.Process found n chosen = tt
+request_over_all kind.Ranks found n chosen = (refl, refl)
+request_over_all kind.Certify found n chosen = tt
+request_over_all kind.Check found n chosen = tt
+request_over_all kind.Sample found n chosen = tt
+request_over_all kind.Test found n chosen = (refl, refl)
+request_over_all kind.Predict found n chosen = tt
+request_over_all kind.Path found n chosen = tt
+
+checked_over_all : (kind : Kind) (found : List Row) (r : Request) → checked kind found ≡ Ok r → IsOverAll r
 unfolding checked
-checked_over_all kind found f h =
+checked_over_all kind found r h =
     let numbers = step_ok (numbers_of found) _ _ h in
     let chosen = step_ok (option BadContrasts found (codes "contrasts") Treatment coding) _ _ numbers.1 in
-    unit_range kind found numbers.0 chosen.0 f (no_fault (fault_of kind numbers.0) (request_for kind found numbers.0 chosen.0) _ chosen.1).1
+    let sound = no_fault (fault_of kind numbers.0) (request_for kind found numbers.0 chosen.0) _ chosen.1 in
+    subst IsOverAll sound.1 (request_over_all kind found numbers.0 chosen.0)
 
-job_over_all : (kind : Kind) (words : List Text) (f : FitRequest) → words_of_job kind words ≡ Ok (request.Ranks f) → (zero ≡ f.lo) × (one ≡ f.hi)
+job_over_all : (kind : Kind) (words : List Text) (r : Request) → words_of_job kind words ≡ Ok r → IsOverAll r
 unfolding words_of_job
-job_over_all kind words f h =
+job_over_all kind words r h =
     let short = short_ok (list_any is_long (drop 1 words)) _ BadOption _ h in
     let found = found_ok (read_by (command_of (options_of kind)) words) (checked kind) BadOption _ short in
-    checked_over_all kind found.0 f found.1
+    checked_over_all kind found.0 r found.1
+
+words_over_all : (words : List Text) (r : Request) → words_of words ≡ Ok r → IsOverAll r
+unfolding words_of
+words_over_all [] r h = absurd (cc h)
+words_over_all (job ∷ rest) r h =
+    let kind = found_ok (kind_of job) (λ kind. words_of_job kind (job ∷ rest)) UnknownJob _ h in
+    job_over_all kind.0 (job ∷ rest) r kind.1
 
 -- the range of ranks that the words ask for
 pub ranks_range : (words : List Text) (f : FitRequest) → words_of words ≡ Ok (request.Ranks f) → (zero ≡ f.lo) × (one ≡ f.hi)
-unfolding words_of
-ranks_range [] f h = absurd (cc h)
-ranks_range (job ∷ rest) f h =
-    let kind = found_ok (kind_of job) (λ kind. words_of_job kind (job ∷ rest)) UnknownJob _ h in
-    job_over_all kind.0 (job ∷ rest) f kind.1
+ranks_range words f h = words_over_all words (request.Ranks f) h
+
+-- and that of a test
+pub test_range : (words : List Text) (t : TestRequest) → words_of words ≡ Ok (request.Test t) → (zero ≡ t.fit.lo) × (one ≡ t.fit.hi)
+test_range words t h = words_over_all words (request.Test t) h

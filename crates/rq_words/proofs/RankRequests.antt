@@ -7,13 +7,13 @@ use Rattle.exact_algebra.specs.Rational.{ℚ, le_ℚ, ◌≤ℚ◌}
 use Rattle.contrasts.specs.declared.Coding.{Coding}
 use Rattle.contrasts.specs.declared.Coding.TheVariants.{Treatment}
 use Rattle.rq_words.specs.Commands.{command_of, kind_of, options_of, read_by}
-use Rattle.rq_words.specs.Requests.{FitRequest, OptionNumbers, RankRequest, Request}
+use Rattle.rq_words.specs.Requests.{FitRequest, OptionNumbers, RankRequest, Request, TestRequest}
 use Rattle.rq_words.specs.Requests as request
-use Rattle.rq_words.specs.Words.{zero, option, coding, numbers_of, has_range, is_outside, fault_of, rank_of, unranked, fit, request_for, checked, is_long, words_of_job, words_of}
+use Rattle.rq_words.specs.Words.{zero, option, coding, numbers_of, has_range, is_outside, ascends, fault_of, rank_of, request_for, checked, is_long, words_of_job, words_of}
 use Rattle.rq_words.specs.declared.command.Kind.{Kind}
 use Rattle.rq_words.specs.declared.command.Kind.TheVariants as kind
 use Rattle.rq_words.specs.declared.job.WordFault.{WordFault}
-use Rattle.rq_words.specs.declared.job.WordFault.TheVariants.{BadContrasts, BadOption, BadRange, BadTauForRank, NegativeLimit, RankHalf, UnknownJob}
+use Rattle.rq_words.specs.declared.job.WordFault.TheVariants.{BadContrasts, BadOption, BadRange, BadTauForRank, NegativeLimit, NotAscending, RankHalf, UnknownJob}
 use Rattle.rq_words.proofs.Orders.{step_ok, found_ok, short_ok, no_fault}
 
 -- a test that finds no fault fails, and so do those behind it
@@ -28,23 +28,25 @@ pub record IsSound (r : RankRequest) : Type 0 where
   pub crit : zero ≤ℚ r.crit
   pub taus : list_any is_outside r.taus ≡ false
 
--- of both options
-record AreSound (n : OptionNumbers) : Type 0 where
-  taus : option_map_or (list_any is_outside) n.taus false ≡ false
-  crit : option_map_or (λ crit. not (le_ℚ zero crit)) n.crit false ≡ false
+-- of the numbers of the options
+pub record AreSound (n : OptionNumbers) : Type 0 where
+  pub taus : option_map_or (list_any is_outside) n.taus false ≡ false
+  pub crit : option_map_or (λ crit. not (le_ℚ zero crit)) n.crit false ≡ false
+  pub tested : ascends n.tested ≡ true
 
-are_sound : (kind : Kind) (n : OptionNumbers) → fault_of kind n ≡ None → AreSound n
+denied : (b : Bool) → not b ≡ false → b ≡ true
+denied true h = refl
+denied false h = absurd (cc h)
+
+pub are_sound : (kind : Kind) (n : OptionNumbers) → fault_of kind n ≡ None → AreSound n
 unfolding fault_of
 are_sound kind n h =
     let range = untold (not (has_range kind n)) BadRange _ h in
     let half = untold _ RankHalf _ range.1 in
     let taus = untold (option_map_or (list_any is_outside) n.taus false) BadTauForRank _ half.1 in
-    let crit = untold (option_map_or (λ crit. not (le_ℚ zero crit)) n.crit false) NegativeLimit None taus.1 in
-    record { taus = taus.0; crit = crit.0 }
-
-denied : (b : Bool) → not b ≡ false → b ≡ true
-denied true h = refl
-denied false h = absurd (cc h)
+    let crit = untold (option_map_or (λ crit. not (le_ℚ zero crit)) n.crit false) NegativeLimit _ taus.1 in
+    let tested = untold (not (ascends n.tested)) NotAscending None crit.1 in
+    record { taus = taus.0; crit = crit.0; tested = denied (ascends n.tested) tested.0 }
 
 sound_by : (crit : Option ℚ) (taus : Option (List ℚ)) → option_map_or (list_any is_outside) taus false ≡ false → option_map_or (λ crit. not (le_ℚ zero crit)) crit false ≡ false
     → (r : RankRequest) → option_and_then (λ (crit : ℚ). option_map (λ (taus : List ℚ). record { crit = crit; taus = taus }) taus) crit ≡ Some r → IsSound r
@@ -80,6 +82,7 @@ same_rank kind.Ranks found n chosen f h sound = subst IsSoundOf (ap rank_in h) s
 same_rank kind.Certify found n chosen f h sound = subst IsSoundOf (ap rank_in h) sound
 same_rank kind.Check found n chosen f h sound = absurd h
 same_rank kind.Sample found n chosen f h sound = absurd h
+same_rank kind.Test found n chosen f h sound = absurd h
 same_rank kind.Predict found n chosen f h sound = subst IsSoundOf (ap rank_in h) tt
 same_rank kind.Path found n chosen f h sound = absurd h
 
@@ -108,37 +111,49 @@ module _ (asked : Request) (f : FitRequest) (is : IsFitOf asked f) where
       let kind = found_ok (kind_of job) (λ kind. words_of_job kind (job ∷ rest)) UnknownJob _ h in
       job_sound kind.0 (job ∷ rest) kind.1
 
--- ---- predictions
+-- ---- jobs without rank intervals
 
-unranked_request : (kind : Kind) (found : List Row) (n : OptionNumbers) (chosen : Coding) (f : FitRequest) → request_for kind found n chosen ≡ request.Predict f → f.rank ≡ None
-unranked_request kind.Process found n chosen f h = absurd (cc h)
-unranked_request kind.Ranks found n chosen f h = absurd (cc h)
-unranked_request kind.Certify found n chosen f h = absurd (cc h)
-unranked_request kind.Check found n chosen f h = absurd (cc h)
-unranked_request kind.Sample found n chosen f h = absurd (cc h)
-unranked_request kind.Path found n chosen f h = absurd (cc h)
-unranked_request kind.Predict found n chosen f h =
-    let same : fit found (unranked n) chosen ≡ f = cc h in
-    sym (ap rank_in same)
+abbrev IsUnranked : Request → Type 0
+IsUnranked (request.Test t) = t.fit.rank ≡ None
+IsUnranked (request.Predict f) = f.rank ≡ None
+IsUnranked _ = Unit {0}
 
-checked_unranked : (kind : Kind) (found : List Row) (f : FitRequest) → checked kind found ≡ Ok (request.Predict f) → f.rank ≡ None
+request_unranked : (kind : Kind) (found : List Row) (n : OptionNumbers) (chosen : Coding) → IsUnranked (request_for kind found n chosen)
+request_unranked kind.Process found n chosen = tt
+request_unranked kind.Ranks found n chosen = tt
+request_unranked kind.Certify found n chosen = tt
+request_unranked kind.Check found n chosen = tt
+request_unranked kind.Sample found n chosen = tt
+request_unranked kind.Test found n chosen = refl
+request_unranked kind.Predict found n chosen = refl
+request_unranked kind.Path found n chosen = tt
+
+checked_unranked : (kind : Kind) (found : List Row) (r : Request) → checked kind found ≡ Ok r → IsUnranked r
 unfolding checked
-checked_unranked kind found f h =
+checked_unranked kind found r h =
     let numbers = step_ok (numbers_of found) _ _ h in
     let chosen = step_ok (option BadContrasts found (codes "contrasts") Treatment coding) _ _ numbers.1 in
-    unranked_request kind found numbers.0 chosen.0 f (no_fault (fault_of kind numbers.0) (request_for kind found numbers.0 chosen.0) _ chosen.1).1
+    let sound = no_fault (fault_of kind numbers.0) (request_for kind found numbers.0 chosen.0) _ chosen.1 in
+    subst IsUnranked sound.1 (request_unranked kind found numbers.0 chosen.0)
 
-job_unranked : (kind : Kind) (words : List Text) (f : FitRequest) → words_of_job kind words ≡ Ok (request.Predict f) → f.rank ≡ None
+job_unranked : (kind : Kind) (words : List Text) (r : Request) → words_of_job kind words ≡ Ok r → IsUnranked r
 unfolding words_of_job
-job_unranked kind words f h =
+job_unranked kind words r h =
     let short = short_ok (list_any is_long (drop 1 words)) _ BadOption _ h in
     let found = found_ok (read_by (command_of (options_of kind)) words) (checked kind) BadOption _ short in
-    checked_unranked kind found.0 f found.1
+    checked_unranked kind found.0 r found.1
+
+words_unranked : (words : List Text) (r : Request) → words_of words ≡ Ok r → IsUnranked r
+unfolding words_of
+words_unranked [] r h = absurd (cc h)
+words_unranked (job ∷ rest) r h =
+    let kind = found_ok (kind_of job) (λ kind. words_of_job kind (job ∷ rest)) UnknownJob _ h in
+    job_unranked kind.0 (job ∷ rest) r kind.1
 
 -- predictions ask for no rank intervals
 pub predict_unranked : (words : List Text) (f : FitRequest) → words_of words ≡ Ok (request.Predict f) → f.rank ≡ None
-unfolding words_of
-predict_unranked [] f h = absurd (cc h)
-predict_unranked (job ∷ rest) f h =
-    let kind = found_ok (kind_of job) (λ kind. words_of_job kind (job ∷ rest)) UnknownJob _ h in
-    job_unranked kind.0 (job ∷ rest) f kind.1
+predict_unranked words f h = words_unranked words (request.Predict f) h
+
+-- nor does a test
+pub test_unranked : (words : List Text) (t : TestRequest) → words_of words ≡ Ok (request.Test t) → t.fit.rank ≡ None
+test_unranked words t h = words_unranked words (request.Test t) h

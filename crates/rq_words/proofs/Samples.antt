@@ -12,7 +12,7 @@ use Rattle.contrasts.specs.declared.Coding.TheVariants.{Treatment}
 use Rattle.rq_words.specs.Commands.{command_of, kind_of, options_of, read_by}
 use Rattle.rq_words.specs.Requests.{OptionNumbers, SampleRequest}
 use Rattle.rq_words.specs.Requests as request
-use Rattle.rq_words.specs.Words.{zero, one, option, number_option, number_text, quantiles, given, count, coding, has_digits, numbers_of, fault_of, request_for, sample, checked, is_long, words_of_job, words_of}
+use Rattle.rq_words.specs.Words.{zero, one, option, number_option, number_text, quantiles, given, count, column_numbers, coding, has_digits, numbers_of, fault_of, request_for, sample, checked, is_long, words_of_job, words_of}
 use Rattle.rq_words.specs.declared.command.Kind.{Kind}
 use Rattle.rq_words.specs.declared.command.Kind.TheVariants as kind
 use Rattle.rq_words.specs.declared.job.WordFault.{WordFault}
@@ -34,7 +34,7 @@ option_within places least most r (Some text) fault h =
     let is = counted (has_digits places text && nat_le least n && nat_le n most) n r fault h in
     subst (λ n. n ≤ most) is.1 (leb-true n most (both (has_digits places text && nat_le least n) (nat_le n most) is.0).1)
 
-same_numbers : (m n : OptionNumbers) → ◌≡◌ {A = Result OptionNumbers WordFault} (Ok m) (Ok n) → m ≡ n
+pub same_numbers : (m n : OptionNumbers) → ◌≡◌ {A = Result OptionNumbers WordFault} (Ok m) (Ok n) → m ≡ n
 same_numbers m n h = cc h
 
 -- the numbers of a generated table are within their limits
@@ -53,7 +53,8 @@ numbers_within found n h =
     let number = step_ok (number_option found (codes "number") 0 (count 10 0 (2 ^ 32 - 1))) _ _ limit.1 in
     let rows = step_both (number_option found (codes "rows") 0 (count 5 1 most_rows)) _ _ number.1 in
     let columns = step_both (number_option found (codes "columns") 0 (count 3 1 100)) _ _ rows.2 in
-    let tau = step_ok (number_option found (codes "tau") zero number_text) _ _ columns.2 in
+    let tested = step_ok (number_option found (codes "tested") [] column_numbers) _ _ columns.2 in
+    let tau = step_ok (number_option found (codes "tau") zero number_text) _ _ tested.1 in
     let same = same_numbers _ n tau.1 in
     record {
       rows = subst (λ r. r ≤ most_rows) (ap (λ (m : OptionNumbers). m.rows) same)
@@ -76,6 +77,7 @@ same_sample kind.Ranks found n chosen s h = absurd (cc h)
 same_sample kind.Certify found n chosen s h = absurd (cc h)
 same_sample kind.Check found n chosen s h = absurd (cc h)
 same_sample kind.Sample found n chosen s h = cc h
+same_sample kind.Test found n chosen s h = absurd (cc h)
 same_sample kind.Predict found n chosen s h = absurd (cc h)
 same_sample kind.Path found n chosen s h = absurd (cc h)
 

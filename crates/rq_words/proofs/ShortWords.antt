@@ -16,7 +16,7 @@ use Rattle.clap.specs.declared.builder.value_parser.Reading.{Reading}
 use Rattle.contrasts.specs.declared.Coding.{Coding}
 use Rattle.contrasts.specs.declared.Coding.TheVariants.{Treatment}
 use Rattle.rq_words.specs.Commands.{command_of, kind_of, options_of, read_by, some_if_none}
-use Rattle.rq_words.specs.Requests.{FitRequest, OptionNumbers, PathRequest, Request}
+use Rattle.rq_words.specs.Requests.{FitRequest, OptionNumbers, PathRequest, Request, TestRequest}
 use Rattle.rq_words.specs.Requests as request
 use Rattle.rq_words.specs.Words.{coding, fault_of, is_long, numbers_of, option as option_text, request_for, checked, text_or_empty, words_of_job, words_of}
 use Rattle.rq_words.specs.declared.command.Kind.{Kind}
@@ -301,6 +301,7 @@ options kind.Ranks = search rules
 options kind.Certify = search rules
 options kind.Check = tt
 options kind.Sample = search rules
+options kind.Test = search rules
 options kind.Predict = search rules
 options kind.Path = search rules
 
@@ -342,6 +343,7 @@ formula_in (request.Ranks f) = f.formula
 formula_in (request.Certify f) = f.formula
 formula_in request.Check = []
 formula_in (request.Sample s) = []
+formula_in (request.Test t) = t.fit.formula
 formula_in (request.Predict f) = f.formula
 formula_in (request.Path p) = p.fit.formula
 
@@ -355,6 +357,7 @@ request_short kind.Ranks found n chosen h = h
 request_short kind.Certify found n chosen h = h
 request_short kind.Check found n chosen h = lit< tt
 request_short kind.Sample found n chosen h = lit< tt
+request_short kind.Test found n chosen h = h
 request_short kind.Predict found n chosen h = h
 request_short kind.Path found n chosen h = h
 
@@ -397,6 +400,10 @@ ranks_formula words f h = request_formula words (request.Ranks f) h
 -- and that of a certificate
 pub certify_formula : (words : List Text) (f : FitRequest) → words_of words ≡ Ok (request.Certify f) → length f.formula < 2 ^ 31
 certify_formula words f h = request_formula words (request.Certify f) h
+
+-- and that of a test
+pub test_formula : (words : List Text) (t : TestRequest) → words_of words ≡ Ok (request.Test t) → length t.fit.formula < 2 ^ 31
+test_formula words t h = request_formula words (request.Test t) h
 
 -- and that of predictions
 pub predict_formula : (words : List Text) (f : FitRequest) → words_of words ≡ Ok (request.Predict f) → length f.formula < 2 ^ 31

@@ -5,7 +5,7 @@ use Rattle.clap.specs.Words.{App, Kinds, Row, Rule, Text, new_rule, fault_of, ma
 use Rattle.clap.specs.Simple.{new_shape}
 use Rattle.clap.specs.declared.builder.action.ArgAction.TheVariants.{Set}
 use Rattle.rq_words.specs.declared.command.Kind.{Kind}
-use Rattle.rq_words.specs.declared.command.Kind.TheVariants.{Process, Ranks, Certify, Check, Sample, Predict, Path}
+use Rattle.rq_words.specs.declared.command.Kind.TheVariants.{Process, Ranks, Certify, Check, Sample, Test, Predict, Path}
 
 -- an option `--name` with one value
 abbrev pub option_rule : Text → Bool → Rule
@@ -42,6 +42,7 @@ options_of Certify = fit_rules
 options_of Ranks = rules_of (codes "formula" ∷ []) (codes "weights" ∷ codes "contrasts" ∷ codes "pivots" ∷ [])
 options_of Check = []
 options_of Sample = rules_of (codes "number" ∷ codes "rows" ∷ codes "columns" ∷ codes "lo" ∷ codes "hi" ∷ []) (codes "pivots" ∷ [])
+options_of Test = rules_of (codes "formula" ∷ codes "tested" ∷ []) (codes "weights" ∷ codes "contrasts" ∷ codes "pivots" ∷ [])
 options_of Predict = model_rules
 options_of Path = rules_of (codes "formula" ∷ codes "tau" ∷ codes "lo" ∷ codes "hi" ∷ []) (codes "weights" ∷ codes "contrasts" ∷ codes "pivots" ∷ [])
 
@@ -52,6 +53,7 @@ kind_of word = if bytes_eq word (codes "process") then Some Process
     else if bytes_eq word (codes "certify") then Some Certify
     else if bytes_eq word (codes "check") then Some Check
     else if bytes_eq word (codes "sample") then Some Sample
+    else if bytes_eq word (codes "test") then Some Test
     else if bytes_eq word (codes "predict") then Some Predict
     else if bytes_eq word (codes "path") then Some Path else None
 

@@ -1,5 +1,5 @@
 -- Stated. What a job asks for, with its numbers in ℚ and its texts as bytes.
-use Rattle.std.specs.Prelude.{ℕ, List, map, Option, option_map, Result}
+use Rattle.std.specs.Prelude.{ℕ, ◌+◌, ◌-◌, ◌^◌, ◌==◌, if◌then◌else◌, List, map, Option, option_map, Result}
 use Rattle.std.specs.Result.{result_map_both}
 use Rattle.exact_algebra.specs.Rational.{ℚ}
 use Rattle.exact_algebra.specs.Fraction.{rational}
@@ -11,6 +11,7 @@ use Rattle.rq_words.specs.declared.job.FitJob.{FitJob}
 use Rattle.rq_words.specs.declared.job.PathJob.{PathJob}
 use Rattle.rq_words.specs.declared.job.RankAsk.{RankAsk}
 use Rattle.rq_words.specs.declared.job.SampleJob.{SampleJob}
+use Rattle.rq_words.specs.declared.job.TestJob.{TestJob}
 use Rattle.rq_words.specs.declared.job.WordFault.{WordFault}
 use Rattle.rq_words.specs.declared.numbers.Numbers.{Numbers}
 
@@ -28,6 +29,7 @@ pub record OptionNumbers : Type 0 where
   pub number : ℕ
   pub rows : ℕ
   pub columns : ℕ
+  pub tested : List ℕ
   pub tau : ℚ
 
 -- rank intervals at these quantiles, with this critical value
@@ -54,6 +56,15 @@ pub record SampleRequest : Type 0 where
   pub hi : ℚ
   pub limit : ℕ
 
+-- the rank test of these columns, counted from 0
+pub record TestRequest : Type 0 where
+  pub fit : FitRequest
+  pub tested : List ℕ
+
+-- the number of such a column as it was given, counted from 1; 0 is that of none
+abbrev pub given_number : ℕ → ℕ
+given_number k = if k == 2 ^ 32 - 1 then 0 else k + 1
+
 -- a path in lambda at a quantile; the range of the fit is that of lambda
 pub record PathRequest : Type 0 where
   pub fit : FitRequest
@@ -66,6 +77,7 @@ pub data Request : Type 0 where
   Certify : FitRequest → Request
   Check : Request
   Sample : SampleRequest → Request
+  Test : TestRequest → Request
   Predict : FitRequest → Request
   Path : PathRequest → Request
 
@@ -80,6 +92,7 @@ option_numbers n = record {
   number = n.number;
   rows = n.rows;
   columns = n.columns;
+  tested = n.tested;
   tau = number n.tau;
 }
 
@@ -110,6 +123,10 @@ sample_request s = record {
   limit = s.limit;
 }
 
+-- the test that a job asks for
+abbrev pub test_request : TestJob → TestRequest
+test_request t = record { fit = fit_request t.fit; tested = t.tested }
+
 -- the path that a job asks for
 abbrev pub path_request : PathJob → PathRequest
 path_request p = record { fit = fit_request p.fit; tau = number p.tau }
@@ -121,6 +138,7 @@ request_of (job.Ranks f) = Ranks (fit_request f)
 request_of (job.Certify f) = Certify (fit_request f)
 request_of job.Check = Check
 request_of (job.Sample s) = Sample (sample_request s)
+request_of (job.Test t) = Test (test_request t)
 request_of (job.Predict f) = Predict (fit_request f)
 request_of (job.Path p) = Path (path_request p)
 

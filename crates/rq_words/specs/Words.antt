@@ -1,5 +1,5 @@
 -- Stated. The request of a list of words, or its first fault.
-use Rattle.std.specs.Prelude.{ℕ, ◌-◌, ◌^◌, ◌==◌, ◌&&◌, ◌||◌, not, Bool, true, false, List, [], ◌∷◌, Option, Some, None, Result, Ok, Err, pos, codes, drop, length, nat_le, is_some, if◌then◌else◌, option_and_then, option_map, ok_or}
+use Rattle.std.specs.Prelude.{ℕ, ◌+◌, ◌-◌, ◌^◌, ◌==◌, ◌&&◌, ◌||◌, not, Bool, true, false, List, [], ◌∷◌, Option, Some, None, Result, Ok, Err, pos, codes, drop, length, map, nat_le, is_some, if◌then◌else◌, option_and_then, option_map, ok_or}
 use Rattle.std.specs.List.{slice_split, list_any}
 use Rattle.std.specs.Option.{option_map_or}
 use Rattle.std.specs.Result.{result_ok}
@@ -12,12 +12,12 @@ use Rattle.frac_core.specs.Limits.{most_rows}
 use Rattle.contrasts.specs.declared.Coding.{Coding}
 use Rattle.contrasts.specs.declared.Coding.TheVariants.{Treatment, Sas, Sum, Helmert}
 use Rattle.rq_words.specs.Commands.{found_in, kind_of}
-use Rattle.rq_words.specs.Requests.{FitRequest, OptionNumbers, PathRequest, RankRequest, Request, SampleRequest}
+use Rattle.rq_words.specs.Requests.{FitRequest, OptionNumbers, PathRequest, RankRequest, Request, SampleRequest, TestRequest}
 use Rattle.rq_words.specs.Requests as request
 use Rattle.rq_words.specs.declared.command.Kind.{Kind}
 use Rattle.rq_words.specs.declared.command.Kind.TheVariants as kind
 use Rattle.rq_words.specs.declared.job.WordFault.{WordFault}
-use Rattle.rq_words.specs.declared.job.WordFault.TheVariants.{NoJob, UnknownJob, BadOption, BadNumber, BadContrasts, BadRange, RankHalf, BadTauForRank, NegativeLimit}
+use Rattle.rq_words.specs.declared.job.WordFault.TheVariants.{NoJob, UnknownJob, BadOption, BadNumber, BadContrasts, BadRange, RankHalf, BadTauForRank, NegativeLimit, NotAscending}
 
 -- a step that may find a fault, and the next one
 infixl 10 ◌>>=◌
@@ -39,16 +39,20 @@ one = whole (pos 1)
 unfoldable pub number_text : Text → Option ℚ
 number_text text = result_ok (number_of (2 ^ 127 - 1) text)
 
--- number texts one by one, all of which must read
-unfoldable pub number_texts : List Text → Option (List ℚ)
-number_texts [] = Some []
-number_texts (text ∷ rest) = option_and_then (λ x. option_map (λ xs. x ∷ xs) (number_texts rest)) (number_text text)
+-- texts one by one, all of which must read
+unfoldable pub all_read : {X : Type 0} → (Text → Option X) → List Text → Option (List X)
+all_read read [] = Some []
+all_read read (text ∷ rest) = option_and_then (λ x. option_map (λ xs. x ∷ xs) (all_read read rest)) (read text)
+
+-- 1 to `most` such texts with single commas between them
+unfoldable pub joined : {X : Type 0} → ℕ → (Text → Option X) → Text → Option (List X)
+joined most read text =
+    let pieces = slice_split (λ b. b == 44) text in
+    if nat_le (length pieces) most then all_read read pieces else None
 
 -- 1 to 64 number texts with single commas between them
-unfoldable pub quantiles : Text → Option (List ℚ)
-quantiles text =
-    let pieces = slice_split (λ b. b == 44) text in
-    if nat_le (length pieces) 64 then number_texts pieces else None
+abbrev pub quantiles : Text → Option (List ℚ)
+quantiles text = joined 64 number_text text
 
 -- 1 to `places` digits
 abbrev pub has_digits : ℕ → Text → Bool
@@ -59,6 +63,10 @@ unfoldable pub count : ℕ → ℕ → ℕ → Text → Option ℕ
 count places least most text =
     let n = digits_value 10 text in
     if has_digits places text && nat_le least n && nat_le n most then Some n else None
+
+-- 1 to 128 numbers of 1 to 3 digits with single commas between them
+abbrev pub column_numbers : Text → Option (List ℕ)
+column_numbers text = joined 128 (count 3 0 999) text
 
 -- the contrasts of a name
 unfoldable pub coding : Text → Option Coding
@@ -92,6 +100,7 @@ numbers_of found =
     number_option found (codes "number") 0 (count 10 0 (2 ^ 32 - 1)) >>= (λ number.
     number_option found (codes "rows") 0 (count 5 1 most_rows) >>= (λ rows.
     number_option found (codes "columns") 0 (count 3 1 100) >>= (λ columns.
+    number_option found (codes "tested") [] column_numbers >>= (λ tested.
     number_option found (codes "tau") zero number_text >>= (λ tau.
     Ok (record {
       lo = lo;
@@ -102,8 +111,9 @@ numbers_of found =
       number = number;
       rows = rows;
       columns = columns;
+      tested = tested;
       tau = tau;
-    }))))))))))
+    })))))))))))
 
 -- 0 is at most lo, lo at most hi, and hi at most 1
 abbrev pub is_in_order : ℚ → ℚ → Bool
@@ -131,6 +141,15 @@ are_alike false b = not b
 abbrev pub is_outside : ℚ → Bool
 is_outside tau = le_ℚ tau zero || le_ℚ one tau
 
+-- the numbers ascend, from `least` on
+abbrev pub ascends_from : ℕ → List ℕ → Bool
+ascends_from least [] = true
+ascends_from least (x ∷ xs) = nat_le least x && ascends_from (x + 1) xs
+
+-- each number is below the next
+abbrev pub ascends : List ℕ → Bool
+ascends xs = ascends_from 0 xs
+
 -- what is wrong with the numbers of a job, if anything is
 unfoldable pub fault_of : Kind → OptionNumbers → Option WordFault
 fault_of kind n =
@@ -138,6 +157,7 @@ fault_of kind n =
     else if not (are_alike (is_some n.crit) (is_some n.taus)) then Some RankHalf
     else if option_map_or (list_any is_outside) n.taus false then Some BadTauForRank
     else if option_map_or (λ crit. not (le_ℚ zero crit)) n.crit false then Some NegativeLimit
+    else if not (ascends n.tested) then Some NotAscending
     else None
 
 -- ---- the request
@@ -182,17 +202,26 @@ over_all n = record n { lo = zero; hi = one }
 abbrev pub unranked : OptionNumbers → OptionNumbers
 unranked n = record n { crit = None; taus = None }
 
+-- the column of a number that counts from 1; of the number 0, which is none, the greatest number of 32 bits
+abbrev pub column_of : ℕ → ℕ
+column_of n = if n == 0 then 2 ^ 32 - 1 else n - 1
+
+-- the test of these options
+abbrev pub test : List Row → OptionNumbers → Coding → TestRequest
+test found n coding = record { fit = fit found (over_all (unranked n)) coding; tested = map column_of n.tested }
+
 -- the path of these options
 abbrev pub path : List Row → OptionNumbers → Coding → PathRequest
 path found n coding = record { fit = fit found (unranked n) coding; tau = n.tau }
 
--- the request of a job with these options; ranks are taken over 0 to 1
+-- the request of a job with these options; ranks and a test are taken over 0 to 1
 abbrev pub request_for : Kind → List Row → OptionNumbers → Coding → Request
 request_for kind.Process found n coding = request.Process (fit found n coding)
 request_for kind.Ranks found n coding = request.Ranks (fit found (over_all n) coding)
 request_for kind.Certify found n coding = request.Certify (fit found n coding)
 request_for kind.Check found n coding = request.Check
 request_for kind.Sample found n coding = request.Sample (sample n)
+request_for kind.Test found n coding = request.Test (test found n coding)
 request_for kind.Predict found n coding = request.Predict (fit found (unranked n) coding)
 request_for kind.Path found n coding = request.Path (path found n coding)
 

@@ -2,7 +2,7 @@ ghost use Rattle.std.specs.Prelude.{◌≡◌};
 ghost use Rattle.std.specs.List.{list_any};
 ghost use Rattle.exact_algebra.specs.Rational.{le_ℚ};
 ghost use Rattle.rq_words.specs.Requests.{number, option_numbers};
-ghost use Rattle.rq_words.specs.Words.{fault_of, has_range as has_range_of, is_in_order, is_outside, is_path_range as is_path_range_of};
+ghost use Rattle.rq_words.specs.Words.{ascends, fault_of, has_range as has_range_of, is_in_order, is_outside, is_path_range as is_path_range_of};
 
 use crate::WordFault;
 use crate::command::Kind;
@@ -46,6 +46,20 @@ fn has_outside(taus: &[Frac128]) -> bool
     taus.iter().any(|tau| is_outside(*tau))
 }
 
+// Whether each number is below the next.
+fn ascends(numbers: &[u32]) -> bool
+    ensures { result ≡ ascends numbers.now }
+{
+    let mut least = 0;
+    for number in numbers {
+        if u64::from(*number) < least {
+            return false;
+        }
+        least = u64::from(*number) + 1;
+    }
+    true
+}
+
 impl Numbers {
     // Whether the range is in order, as the job wants it.
     fn has_range(&self, kind: Kind) -> bool
@@ -78,6 +92,9 @@ impl Numbers {
             && !is_at_most(Frac128::zero(), crit)
         {
             return Some(WordFault::NegativeLimit);
+        }
+        if !ascends(self.tested.as_slice()) {
+            return Some(WordFault::NotAscending);
         }
         None
     }

@@ -14,6 +14,7 @@ pub(crate) enum Kind {
     Certify,
     Check,
     Sample,
+    Test,
     Predict,
     Path,
 }
@@ -30,6 +31,7 @@ impl Kind {
             "certify" => Some(Kind::Certify),
             "check" => Some(Kind::Check),
             "sample" => Some(Kind::Sample),
+            "test" => Some(Kind::Test),
             "predict" => Some(Kind::Predict),
             "path" => Some(Kind::Path),
             _ => None,
@@ -52,6 +54,8 @@ static FIT_OPTIONAL: [&str; 5] = ["weights", "contrasts", "pivots", "crit", "ran
 static RANKS_REQUIRED: [&str; 1] = ["formula"];
 
 static MODEL_OPTIONAL: [&str; 3] = ["weights", "contrasts", "pivots"];
+
+static TEST_REQUIRED: [&str; 2] = ["formula", "tested"];
 
 static PATH_REQUIRED: [&str; 4] = ["formula", "tau", "lo", "hi"];
 
@@ -97,6 +101,7 @@ pub(crate) fn command<'a>(alloc: Global, kind: Kind) -> Result<Command<'a>, Allo
     let (required, optional) = match kind {
         Kind::Process | Kind::Certify => (FIT_REQUIRED.as_slice(), FIT_OPTIONAL.as_slice()),
         Kind::Ranks => (RANKS_REQUIRED.as_slice(), MODEL_OPTIONAL.as_slice()),
+        Kind::Test => (TEST_REQUIRED.as_slice(), MODEL_OPTIONAL.as_slice()),
         Kind::Predict => (FIT_REQUIRED.as_slice(), MODEL_OPTIONAL.as_slice()),
         Kind::Path => (PATH_REQUIRED.as_slice(), MODEL_OPTIONAL.as_slice()),
         Kind::Sample => (SAMPLE_REQUIRED.as_slice(), SAMPLE_OPTIONAL.as_slice()),

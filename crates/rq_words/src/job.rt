@@ -14,6 +14,8 @@ pub enum Job {
     Check,
     /// Fit a table that is made from a number.
     Sample(SampleJob),
+    /// The rank test of columns of a fit: are their coefficients 0? No rank intervals are asked for.
+    Test(TestJob),
     /// Predict the missing responses of a table at each quantile of a range. No rank intervals are
     /// asked for.
     Predict(FitJob),
@@ -47,6 +49,16 @@ pub struct RankAsk {
     pub crit: Frac128,
     /// The quantiles, as given.
     pub taus: List<Frac128>,
+}
+
+/// A rank test of nested models (Gutenbrunner, Jurečková, Koenker and Portnoy 1993).
+#[derive(Drop)]
+pub struct TestJob {
+    /// The fit, whose range is 0 to 1.
+    pub fit: FitJob,
+    /// The tested columns, counted from 0: 1 to 128 of them. The number 0, which is that of no column, was given where
+    /// `u32::MAX` stands.
+    pub tested: List<u32>,
 }
 
 /// A path in lambda at one quantile: the check loss plus lambda times the sum of the absolute coefficients.
@@ -99,4 +111,6 @@ pub enum WordFault {
     RankHalf,
     /// No memory was found.
     OutOfMemory,
+    /// The numbers of the tested columns don't rise strictly.
+    NotAscending,
 }

@@ -21,7 +21,7 @@ mod options;
 mod requests;
 
 use command::Kind;
-pub use job::{FitJob, Job, PathJob, RankAsk, SampleJob, WordFault};
+pub use job::{FitJob, Job, PathJob, RankAsk, SampleJob, TestJob, WordFault};
 use options::Options;
 use requests::job_of;
 use std::alloc::Global;
@@ -40,10 +40,12 @@ const LONG_WORD: usize = 1 << 31;
 /// | `ranks` | `formula` | `weights`, `contrasts`, `pivots` |
 /// | `check` | none | none |
 /// | `sample` | `number`, `rows`, `columns`, `lo`, `hi` | `pivots` |
+/// | `test` | `formula`, `tested` | `weights`, `contrasts`, `pivots` |
 /// | `predict` | `formula`, `lo`, `hi` | `weights`, `contrasts`, `pivots` |
 /// | `path` | `formula`, `tau`, `lo`, `hi` | `weights`, `contrasts`, `pivots` |
 ///
-/// `lo`, `hi`, `crit` and `tau` are number texts, and `rank-at` is up to 64 of them with commas between.
+/// `lo`, `hi`, `crit` and `tau` are number texts, and `rank-at` is up to 64 of them with commas between. `tested` is up
+/// to 128 numbers of columns, counted from 1, of up to 3 digits, with commas between.
 /// Where an option isn't given, the range is 0 to 1, the pivots are 100,000 and the contrasts are
 /// treatment. Each fault comes exactly where the words have it and none that is looked for before;
 /// want of memory alone may come at any step.

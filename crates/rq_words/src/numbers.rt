@@ -1,10 +1,10 @@
-ghost use Rattle.std.specs.Prelude.{◌≡◌, ◌⊎◌, ◌≤◌, true, false, Err, Some, None, IfOk, IfNone, IfSome, OnSome, option_map, map};
+ghost use Rattle.std.specs.Prelude.{◌≡◌, ◌⊎◌, ◌≤◌, true, false, [], Err, Some, None, IfOk, IfNone, IfSome, OnSome, option_map, map};
 ghost use Rattle.std.specs.Result.{result_map_both, result_ok};
 ghost use Rattle.std.specs.Char.{is_ascii_digit};
 ghost use Rattle.std.specs.List.{list_all};
 ghost use Rattle.std.specs.Str.Parse.{digits_value};
 ghost use Rattle.rq_words.specs.Requests.{number, option_numbers};
-ghost use Rattle.rq_words.specs.Words.{count, given, has_digits, number_option, number_text, number_texts, numbers_of, over_all, quantiles, unranked};
+ghost use Rattle.rq_words.specs.Words.{column_numbers, count, given, has_digits, number_option, number_text, numbers_of, over_all, quantiles, unranked};
 
 use crate::WordFault;
 use crate::options::Options;
@@ -22,6 +22,7 @@ pub(crate) struct Numbers {
     pub number: u32,
     pub rows: u32,
     pub columns: u32,
+    pub tested: List<u32>,
     pub tau: Frac128,
 }
 
@@ -55,6 +56,12 @@ const COLUMNS: Bounds = Bounds {
     places: 3,
     least: 1,
     most: 100,
+};
+
+const TESTED: Bounds = Bounds {
+    places: 3,
+    least: 0,
+    most: 999,
 };
 
 fn bad_number(alloc: Global, option: &str) -> WordFault
@@ -201,6 +208,44 @@ fn count_or(
     }
 }
 
+// The most columns that are tested.
+const MOST_TESTED: usize = 128;
+
+// The numbers of columns between commas, `None` where one is none or there are too many.
+fn column_numbers(alloc: Global, text: &str) -> Result<Option<List<u32>>, OutOfMemory>
+    ensures { IfOk result (λ found. found ≡ column_numbers text.now) }
+{
+    let mut columns = List::new(alloc);
+    for piece in text.split(',') {
+        if columns.as_slice().len() == MOST_TESTED {
+            return Ok(None);
+        }
+        let Some(column) = count(piece, TESTED) else {
+            return Ok(None);
+        };
+        columns.add(column)?;
+    }
+    Ok(Some(columns))
+}
+
+fn column_numbers_or_none(
+    alloc: Global,
+    options: &Options,
+    name: &str,
+) -> Result<List<u32>, WordFault>
+    ensures { (result ≡ Err WordFault.OutOfMemory)
+        ⊎ (result ≡ number_option options.now name.now [] column_numbers) }
+{
+    match options.get(name) {
+        None => Ok(List::new(alloc)),
+        Some(text) => match column_numbers(alloc, text) {
+            Ok(Some(columns)) => Ok(columns),
+            Ok(None) => Err(bad_number(alloc, name)),
+            Err(OutOfMemory) => Err(WordFault::OutOfMemory),
+        },
+    }
+}
+
 impl Numbers {
     /// Reads the numbers, the first fault in their order.
     #[tactic(auto, unfolding(crate::specs::Words::numbers_of))]
@@ -216,6 +261,7 @@ impl Numbers {
         let number = count_or(alloc, options, "number", NUMBER, 0)?;
         let rows = count_or(alloc, options, "rows", ROWS, 0)?;
         let columns = count_or(alloc, options, "columns", COLUMNS, 0)?;
+        let tested = column_numbers_or_none(alloc, options, "tested")?;
         let tau = fraction_or(alloc, options, "tau", Frac128::zero())?;
         Ok(Numbers {
             lo,
@@ -226,6 +272,7 @@ impl Numbers {
             number,
             rows,
             columns,
+            tested,
             tau,
         })
     }

@@ -1,14 +1,14 @@
-ghost use Rattle.std.specs.Prelude.{◌≡◌, ◌⊎◌, Err, IfOk, codes, option_map};
+ghost use Rattle.std.specs.Prelude.{◌≡◌, ◌⊎◌, Err, IfOk, codes, map, option_map};
 ghost use Rattle.std.specs.Result.{result_map_both};
-ghost use Rattle.rq_words.specs.Requests.{fit_request, option_numbers, path_request, request_or_fault, sample_request};
-ghost use Rattle.rq_words.specs.Words.{checked, coding, fit, option, path, sample};
+ghost use Rattle.rq_words.specs.Requests.{fit_request, option_numbers, path_request, request_or_fault, sample_request, test_request};
+ghost use Rattle.rq_words.specs.Words.{checked, coding, column_of, fit, option, path, sample, test};
 
 use crate::command::Kind;
 use crate::numbers::Numbers;
 use crate::options::Options;
-use crate::{FitJob, Job, PathJob, RankAsk, SampleJob, WordFault};
+use crate::{FitJob, Job, PathJob, RankAsk, SampleJob, TestJob, WordFault};
 use contrasts::Coding;
-use frac_core::{OutOfMemory, Text};
+use frac_core::{List, OutOfMemory, Text};
 use std::alloc::Global;
 
 #[tactic(auto, unfolding(crate::specs::Words::coding))]
@@ -69,6 +69,37 @@ fn fit_of(
     })
 }
 
+// The column of a number that counts from 1, and what stands for that of the number 0.
+fn column_of(number: u32) -> u32
+    ensures { result ≡ column_of number }
+{
+    if number == 0 { u32::MAX } else { number - 1 }
+}
+
+fn columns_of(alloc: Global, numbers: &[u32]) -> Result<List<u32>, OutOfMemory>
+    ensures { IfOk result (λ columns. columns ≡ map column_of numbers.now) }
+{
+    let mut columns = List::new(alloc);
+    for number in numbers {
+        columns.add(column_of(*number))?;
+    }
+    Ok(columns)
+}
+
+fn test_of(
+    alloc: Global,
+    options: &Options,
+    numbers: Numbers,
+    coding: Coding,
+) -> Result<TestJob, OutOfMemory>
+    ensures { IfOk result (λ job.
+        test_request job ≡ test options.now (option_numbers numbers) coding) }
+{
+    let tested = columns_of(alloc, numbers.tested.as_slice())?;
+    let fit = fit_of(alloc, options, numbers.unranked().over_all(), coding)?;
+    Ok(TestJob { fit, tested })
+}
+
 fn path_of(
     alloc: Global,
     options: &Options,
@@ -113,6 +144,7 @@ pub(crate) fn job_of(alloc: Global, kind: Kind, options: &Options) -> Result<Job
         Kind::Process => fit_of(alloc, options, numbers, coding).map(Job::Process),
         Kind::Ranks => fit_of(alloc, options, numbers.over_all(), coding).map(Job::Ranks),
         Kind::Certify => fit_of(alloc, options, numbers, coding).map(Job::Certify),
+        Kind::Test => test_of(alloc, options, numbers, coding).map(Job::Test),
         Kind::Predict => fit_of(alloc, options, numbers.unranked(), coding).map(Job::Predict),
         Kind::Path => path_of(alloc, options, numbers, coding).map(Job::Path),
     };

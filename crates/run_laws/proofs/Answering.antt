@@ -38,6 +38,8 @@ module _ (lawful : PathHasCosts) (words : List (List ℕ)) (source source' : Str
       by (Refused (refusals.Penalty fault)) run = absurd (refused (refusals.Penalty fault) (λ n. λ e. cc e) run.cause)
       by (Refused (refusals.Program fault)) run = absurd (refused (refusals.Program fault) (λ n. λ e. cc e) run.cause)
       by (Refused refusals.NothingToPredict) run = absurd (refused refusals.NothingToPredict (λ n. λ e. cc e) run.cause)
+      by (Refused (refusals.NoSuchColumn number)) run = absurd (refused (refusals.NoSuchColumn number) (λ n. λ e. cc e) run.cause)
+      by (Refused refusals.AllTested) run = absurd (refused refusals.AllTested (λ n. λ e. cc e) run.cause)
       by (Refused (refusals.TooManyPredictions found)) run = absurd (refused (refusals.TooManyPredictions found) (λ n. λ e. cc e) run.cause)
       by (Refused (refusals.CertTooLong n)) run = run.cause
       by (Refused (refusals.Certificate fault)) run = absurd (refused (refusals.Certificate fault) (λ n. λ e. cc e) run.cause)
@@ -67,6 +69,8 @@ module _ (words : List (List ℕ)) (source source' : Stream) (short : (n : ℕ) 
   not_too_long out out' err err' (Refused (refusals.Penalty fault)) run = tt
   not_too_long out out' err err' (Refused (refusals.Program fault)) run = tt
   not_too_long out out' err err' (Refused refusals.NothingToPredict) run = tt
+  not_too_long out out' err err' (Refused (refusals.NoSuchColumn number)) run = tt
+  not_too_long out out' err err' (Refused refusals.AllTested) run = tt
   not_too_long out out' err err' (Refused (refusals.TooManyPredictions found)) run = tt
   not_too_long out out' err err' (Refused (refusals.CertTooLong n)) run = short n run.cause
   not_too_long out out' err err' (Refused (refusals.Certificate fault)) run = tt

@@ -28,6 +28,7 @@ check_alone (jobs.Ranks fit) same = absurd (cc same)
 check_alone (jobs.Certify fit) same = absurd (cc same)
 check_alone jobs.Check same = refl
 check_alone (jobs.Predict fit) same = absurd (cc same)
+check_alone (jobs.Test job) same = absurd (cc same)
 check_alone (jobs.Path job) same = absurd (cc same)
 check_alone (jobs.Sample sample) same = absurd (cc same)
 
@@ -69,6 +70,8 @@ module _ (same : SameContent) (words : List (List ℕ)) (source source' : Stream
       by (Refused (refusals.Penalty fault)) run = absurd (not_refused (refusals.Penalty fault) run.cause)
       by (Refused (refusals.Program fault)) run = absurd (not_refused (refusals.Program fault) run.cause)
       by (Refused refusals.NothingToPredict) run = absurd (not_refused refusals.NothingToPredict run.cause)
+      by (Refused (refusals.NoSuchColumn number)) run = absurd (not_refused (refusals.NoSuchColumn number) run.cause)
+      by (Refused refusals.AllTested) run = absurd (not_refused refusals.AllTested run.cause)
       by (Refused (refusals.TooManyPredictions found)) run = absurd (not_refused (refusals.TooManyPredictions found) run.cause)
       by (Refused (refusals.CertTooLong n)) run = absurd (not_refused (refusals.CertTooLong n) run.cause)
       by (Refused (refusals.Certificate fault)) run = absurd (not_refused (refusals.Certificate fault) run.cause)

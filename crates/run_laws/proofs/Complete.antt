@@ -18,6 +18,7 @@ use Rattle.rq_words.specs.declared.job.RankAsk.{RankAsk}
 use Rattle.rq_words.specs.declared.job.Job.{Job}
 use Rattle.rq_words.specs.declared.job.Job.TheVariants as jobs
 use Rattle.rq_words.specs.declared.job.PathJob.{PathJob}
+use Rattle.rq_words.specs.declared.job.TestJob.{TestJob}
 use Rattle.report_text.specs.ReportText.{value}
 use Rattle.report_text.specs.declared.report.Place.{Place}
 use Rattle.report_text.specs.declared.report.Place.TheVariants as places
@@ -60,12 +61,14 @@ module _ (words : List (List ℕ)) where
   also_reads (jobs.Certify a) other same reads = tt
   also_reads jobs.Check other same reads = tt
   also_reads (jobs.Predict a) other same reads = tt
+  also_reads (jobs.Test a) other same reads = tt
   also_reads (jobs.Path a) other same reads = tt
   also_reads (jobs.Sample a) (jobs.Process b) same reads = absurd (cc same)
   also_reads (jobs.Sample a) (jobs.Ranks b) same reads = absurd (cc same)
   also_reads (jobs.Sample a) (jobs.Certify b) same reads = absurd (cc same)
   also_reads (jobs.Sample a) jobs.Check same reads = absurd (cc same)
   also_reads (jobs.Sample a) (jobs.Predict b) same reads = absurd (cc same)
+  also_reads (jobs.Sample a) (jobs.Test b) same reads = absurd (cc same)
   also_reads (jobs.Sample a) (jobs.Path b) same reads = absurd (cc same)
   also_reads (jobs.Sample a) (jobs.Sample b) same reads = absurd reads
 
@@ -76,6 +79,7 @@ module _ (words : List (List ℕ)) where
   no_check (jobs.Certify a) fit ranked is same = absurd (cc same)
   no_check jobs.Check fit ranked is same = is
   no_check (jobs.Predict a) fit ranked is same = absurd (cc same)
+  no_check (jobs.Test a) fit ranked is same = is
   no_check (jobs.Path a) fit ranked is same = is
   no_check (jobs.Sample a) fit ranked is same = absurd (cc same)
 
@@ -86,8 +90,20 @@ module _ (words : List (List ℕ)) where
   no_path (jobs.Certify a) fit ranked is path same = absurd (cc same)
   no_path jobs.Check fit ranked is path same = is
   no_path (jobs.Predict a) fit ranked is path same = absurd (cc same)
+  no_path (jobs.Test a) fit ranked is path same = is
   no_path (jobs.Path a) fit ranked is path same = is
   no_path (jobs.Sample a) fit ranked is path same = absurd (cc same)
+
+  -- nor for a rank test
+  pub no_test : (job : Job) (fit : FitJob) (ranked : Bool) → IsFitJob job fit ranked → (test : TestJob) → request_of (jobs.Test test) ≡ request_of job → ⊥
+  no_test (jobs.Process a) fit ranked is test same = absurd (cc same)
+  no_test (jobs.Ranks a) fit ranked is test same = absurd (cc same)
+  no_test (jobs.Certify a) fit ranked is test same = absurd (cc same)
+  no_test jobs.Check fit ranked is test same = is
+  no_test (jobs.Test a) fit ranked is test same = is
+  no_test (jobs.Predict a) fit ranked is test same = absurd (cc same)
+  no_test (jobs.Path a) fit ranked is test same = is
+  no_test (jobs.Sample a) fit ranked is test same = absurd (cc same)
 
 -- a report that is right for bytes is right for others of the same table
 right_same : (job : Job) (report : Report) (a b : List ℕ) → table_bytes job a ≡ table_bytes job b → IsRight job a report → IsRight job b report
@@ -96,12 +112,14 @@ right_same (jobs.Ranks fit) report a b same h = subst (λ x. IsRight (jobs.Ranks
 right_same (jobs.Certify fit) report a b same h = subst (λ x. IsRight (jobs.Certify fit) x report) same h
 right_same jobs.Check report a b same h = subst (λ x. IsRight jobs.Check x report) same h
 right_same (jobs.Predict fit) report a b same h = subst (λ x. IsRight (jobs.Predict fit) x report) same h
+right_same (jobs.Test job) report a b same h = subst (λ x. IsRight (jobs.Test job) x report) same h
 right_same (jobs.Path job) report a b same h = subst (λ x. IsRight (jobs.Path job) x report) same h
 right_same (jobs.Sample job) (reports.Process f) a b same h = absurd h
 right_same (jobs.Sample job) (reports.Ranks f) a b same h = absurd h
 right_same (jobs.Sample job) (reports.Certificate c) a b same h = absurd h
 right_same (jobs.Sample job) (reports.Checked c) a b same h = absurd h
 right_same (jobs.Sample job) (reports.Predict f) a b same h = absurd h
+right_same (jobs.Sample job) (reports.Test f) a b same h = absurd h
 right_same (jobs.Sample job) (reports.Path f) a b same h = absurd h
 right_same (jobs.Sample job) (reports.Sample f) a b same h = h
 
@@ -123,6 +141,7 @@ takes_all source source' (jobs.Ranks fit) bytes reads taken = taken
 takes_all source source' (jobs.Certify fit) bytes reads taken = taken
 takes_all source source' jobs.Check bytes reads taken = taken
 takes_all source source' (jobs.Predict fit) bytes reads taken = taken
+takes_all source source' (jobs.Test job) bytes reads taken = taken
 takes_all source source' (jobs.Path job) bytes reads taken = taken
 takes_all source source' (jobs.Sample job) bytes reads taken = absurd reads
 
@@ -146,6 +165,7 @@ module _ (words : List (List ℕ)) (source source' : Stream) (bytes : List ℕ) 
       by (jobs.Certify fit) again = whole (jobs.Certify fit) again tt
       by jobs.Check again = whole jobs.Check again tt
       by (jobs.Predict fit) again = whole (jobs.Predict fit) again tt
+      by (jobs.Test job) again = whole (jobs.Test job) again tt
       by (jobs.Path job) again = whole (jobs.Path job) again tt
       by (jobs.Sample job) again = refl
 
@@ -172,13 +192,18 @@ module _ (lawful : PathHasCosts) (words : List (List ℕ)) (source source' : Str
       by (refusals.Penalty fault) h = w.sound fit ranked asked (refusals.Penalty fault) h
       by (refusals.Program fault) h = w.sound fit ranked asked (refusals.Program fault) h
       by refusals.NothingToPredict h = w.sound fit ranked asked refusals.NothingToPredict h
+      by (refusals.NoSuchColumn number) h = w.sound fit ranked asked (refusals.NoSuchColumn number) h
+      by refusals.AllTested h = w.sound fit ranked asked refusals.AllTested h
       by (refusals.TooManyPredictions found) h = w.sound fit ranked asked (refusals.TooManyPredictions found) h
       by (refusals.CertTooLong length) h = w.sound fit ranked asked (refusals.CertTooLong length) h
       by (refusals.Certificate fault) h = w.sound fit ranked asked (refusals.Certificate fault) h
 
-  -- the words ask for no check, and for no path
+  -- the words ask for no check, for no rank test and for no path
   unchecked : IsJobOf words jobs.Check → ⊥
   unchecked asked = no_check words w.asked.job w.fit w.ranked w.asked.is (one_request words jobs.Check w.asked.job asked w.asked.asked)
+
+  testless : (job : TestJob) → IsJobOf words (jobs.Test job) → ⊥
+  testless job asked = no_test words w.asked.job w.fit w.ranked w.asked.is job (one_request words (jobs.Test job) w.asked.job asked w.asked.asked)
 
   pathless : (job : PathJob) → IsJobOf words (jobs.Path job) → ⊥
   pathless job asked = no_path words w.asked.job w.fit w.ranked w.asked.is job (one_request words (jobs.Path job) w.asked.job asked w.asked.asked)
@@ -201,6 +226,8 @@ module _ (lawful : PathHasCosts) (words : List (List ℕ)) (source source' : Str
   certify_refused fit (refusals.Penalty fault) short other read cause = fit_refused fit (is_some fit.rank) (jobs.Certify fit) (refl, refl) (refusals.Penalty fault) other read cause
   certify_refused fit (refusals.Program fault) short other read cause = fit_refused fit (is_some fit.rank) (jobs.Certify fit) (refl, refl) (refusals.Program fault) other read cause
   certify_refused fit refusals.NothingToPredict short other read cause = fit_refused fit (is_some fit.rank) (jobs.Certify fit) (refl, refl) refusals.NothingToPredict other read cause
+  certify_refused fit (refusals.NoSuchColumn number) short other read cause = fit_refused fit (is_some fit.rank) (jobs.Certify fit) (refl, refl) (refusals.NoSuchColumn number) other read cause
+  certify_refused fit refusals.AllTested short other read cause = fit_refused fit (is_some fit.rank) (jobs.Certify fit) (refl, refl) refusals.AllTested other read cause
   certify_refused fit (refusals.TooManyPredictions found) short other read cause = fit_refused fit (is_some fit.rank) (jobs.Certify fit) (refl, refl) (refusals.TooManyPredictions found) other read cause
   certify_refused fit (refusals.Certificate fault) short other read cause = fit_refused fit (is_some fit.rank) (jobs.Certify fit) (refl, refl) (refusals.Certificate fault) other read cause
 
@@ -224,6 +251,8 @@ module _ (lawful : PathHasCosts) (words : List (List ℕ)) (source source' : Str
       by (refusals.Penalty fault) h = none (refusals.Penalty fault) h
       by (refusals.Program fault) h = none (refusals.Program fault) h
       by refusals.NothingToPredict h = none refusals.NothingToPredict h
+      by (refusals.NoSuchColumn number) h = none (refusals.NoSuchColumn number) h
+      by refusals.AllTested h = none refusals.AllTested h
       by (refusals.TooManyPredictions found) h = none (refusals.TooManyPredictions found) h
       by (refusals.CertTooLong length) h = none (refusals.CertTooLong length) h
       by (refusals.Certificate fault) h = none (refusals.Certificate fault) h
@@ -237,6 +266,7 @@ module _ (lawful : PathHasCosts) (words : List (List ℕ)) (source source' : Str
       by (jobs.Certify fit) read cause = certify_refused fit refusal short h.bytes read cause
       by jobs.Check read cause = unchecked read.asked
       by (jobs.Predict fit) read cause = predict_refused fit refusal h.bytes read cause
+      by (jobs.Test job) read cause = testless job read.asked
       by (jobs.Path job) read cause = pathless job read.asked
       by (jobs.Sample job) read cause = fit_refused (sample_fit job) false (jobs.Sample job) (refl, refl) refusal h.bytes read cause
 
@@ -250,6 +280,7 @@ module _ (lawful : PathHasCosts) (words : List (List ℕ)) (source source' : Str
       by (jobs.Certify fit) read cause = absurd cause.2.cause
       by jobs.Check read cause = unchecked read.asked
       by (jobs.Predict fit) read cause = absurd cause.2.cause
+      by (jobs.Test job) read cause = testless job read.asked
       by (jobs.Path job) read cause = pathless job read.asked
       by (jobs.Sample job) read cause = absurd cause.2.cause
 
@@ -296,6 +327,7 @@ module _ (words : List (List ℕ)) (source source' : Stream) where
       by (jobs.Process fit) (reports.Certificate c) read right = absurd right
       by (jobs.Process fit) (reports.Checked c) read right = absurd right
       by (jobs.Process fit) (reports.Predict f) read right = absurd right
+      by (jobs.Process fit) (reports.Test f) read right = absurd right
       by (jobs.Process fit) (reports.Path f) read right = absurd right
       by (jobs.Process fit) (reports.Sample f) read right = absurd right
       by (jobs.Ranks fit) (reports.Process f) read right = absurd right
@@ -303,6 +335,7 @@ module _ (words : List (List ℕ)) (source source' : Stream) where
       by (jobs.Ranks fit) (reports.Certificate c) read right = absurd right
       by (jobs.Ranks fit) (reports.Checked c) read right = absurd right
       by (jobs.Ranks fit) (reports.Predict f) read right = absurd right
+      by (jobs.Ranks fit) (reports.Test f) read right = absurd right
       by (jobs.Ranks fit) (reports.Path f) read right = absurd right
       by (jobs.Ranks fit) (reports.Sample f) read right = absurd right
       by (jobs.Certify fit) (reports.Process f) read right = absurd right
@@ -310,6 +343,7 @@ module _ (words : List (List ℕ)) (source source' : Stream) where
       by (jobs.Certify fit) (reports.Certificate c) read right = of_fit fit right.0.0 right.0.2.fit (was fit right.0.0 (is_some fit.rank) (jobs.Certify fit) (refl, refl) read right.0.1) right.0.2.right
       by (jobs.Certify fit) (reports.Checked c) read right = absurd right
       by (jobs.Certify fit) (reports.Predict f) read right = absurd right
+      by (jobs.Certify fit) (reports.Test f) read right = absurd right
       by (jobs.Certify fit) (reports.Path f) read right = absurd right
       by (jobs.Certify fit) (reports.Sample f) read right = absurd right
       by jobs.Check (reports.Process f) read right = absurd right
@@ -317,6 +351,7 @@ module _ (words : List (List ℕ)) (source source' : Stream) where
       by jobs.Check (reports.Certificate c) read right = absurd right
       by jobs.Check (reports.Checked c) read right = absurd (no_check words asked.job first kind asked.is (one_request words jobs.Check asked.job read.asked asked.asked))
       by jobs.Check (reports.Predict f) read right = absurd right
+      by jobs.Check (reports.Test f) read right = absurd right
       by jobs.Check (reports.Path f) read right = absurd right
       by jobs.Check (reports.Sample f) read right = absurd right
       by (jobs.Predict fit) (reports.Process f) read right = absurd right
@@ -324,14 +359,17 @@ module _ (words : List (List ℕ)) (source source' : Stream) where
       by (jobs.Predict fit) (reports.Certificate c) read right = absurd right
       by (jobs.Predict fit) (reports.Checked c) read right = absurd right
       by (jobs.Predict fit) (reports.Predict f) read right = (fit, right.0.input, f.process, record { was = was fit right.0.input true (jobs.Predict fit) (refl, refl) read (asked_input fit h.bytes right.0 right.1); shaped = right.2.shaped; right = right.2.process })
+      by (jobs.Predict fit) (reports.Test f) read right = absurd right
       by (jobs.Predict fit) (reports.Path f) read right = absurd right
       by (jobs.Predict fit) (reports.Sample f) read right = absurd right
+      by (jobs.Test job) report read right = absurd (no_test words asked.job first kind asked.is job (one_request words (jobs.Test job) asked.job read.asked asked.asked))
       by (jobs.Path job) report read right = absurd (no_path words asked.job first kind asked.is job (one_request words (jobs.Path job) asked.job read.asked asked.asked))
       by (jobs.Sample job) (reports.Process f) read right = absurd right
       by (jobs.Sample job) (reports.Ranks f) read right = absurd right
       by (jobs.Sample job) (reports.Certificate c) read right = absurd right
       by (jobs.Sample job) (reports.Checked c) read right = absurd right
       by (jobs.Sample job) (reports.Predict f) read right = absurd right
+      by (jobs.Sample job) (reports.Test f) read right = absurd right
       by (jobs.Sample job) (reports.Path f) read right = absurd right
       by (jobs.Sample job) (reports.Sample f) read right = of_fit (sample_fit job) right.0 f (was (sample_fit job) right.0 false (jobs.Sample job) (refl, refl) read right.1) right.2
 
@@ -348,6 +386,9 @@ module _ (lawful : PathHasCosts) (words : List (List ℕ)) (source source' : Str
   limit_below (places.Interval column tau) fit problem limit trail h = (h.shown, h.below)
   limit_below places.Check fit problem limit trail h = absurd h
   limit_below (places.Predict rec) fit problem limit trail h = absurd h
+  limit_below places.Full fit problem limit trail h = absurd h
+  limit_below places.Gram fit problem limit trail h = absurd h
+  limit_below places.Test fit problem limit trail h = absurd h
   limit_below places.Path fit problem limit trail h = absurd h
 
   pub ample : (out out' err err' : Stream) (place : Place) (limit : ℕ) (trail : Trail Frac128)
@@ -367,6 +408,9 @@ module _ (lawful : PathHasCosts) (words : List (List ℕ)) (source source' : Str
   limited_rank (places.Interval column tau) fit problem limit trail h = interval_full value (sample value problem) column (rational (value tau)) h.bound limit trail h.reached
   limited_rank places.Check fit problem limit trail h = absurd h
   limited_rank (places.Predict rec) fit problem limit trail h = absurd h
+  limited_rank places.Full fit problem limit trail h = absurd h
+  limited_rank places.Gram fit problem limit trail h = absurd h
+  limited_rank places.Test fit problem limit trail h = absurd h
   limited_rank places.Path fit problem limit trail h = absurd h
 
   pub unfitted : (first : FitJob) (kind : Bool) → AskFit words first kind → (out out' err err' : Stream) (outcome : Outcome) → IsRun words source source' out out' err err' outcome
@@ -381,7 +425,9 @@ module _ (lawful : PathHasCosts) (words : List (List ℕ)) (source source' : Str
     where
       of : (fit : FitJob) (problem : Problem Frac128) → WasPosed words source source' fit problem → HasFullRank (sample value problem) → ⊥
       of fit problem (inl input) full = dependent fit input.0 input.1 (subst (λ (p : Problem Frac128). HasFullRank (sample value p)) (sym input.2) full)
-      of fit problem (inr path) full = no_path words asked.job first kind asked.is path.job (one_request words (jobs.Path path.job) asked.job path.read.asked asked.asked)
+      of fit problem (inr (inl test)) full =
+          no_test words asked.job first kind asked.is test.job (one_request words (jobs.Test test.job) asked.job test.was.read.asked asked.asked)
+      of fit problem (inr (inr path)) full = no_path words asked.job first kind asked.is path.job (one_request words (jobs.Path path.job) asked.job path.read.asked asked.asked)
   unfitted first kind asked out out' err err' (Refused refusal) run dependent = tt
   unfitted first kind asked out out' err err' (Usage fault) run dependent = tt
   unfitted first kind asked out out' err err' SourceFault run dependent = tt

@@ -34,6 +34,7 @@ module _ (law : GeneratedTablesHaveNoFault) (lawful : PathHasCosts) (words : Lis
   alone (jobs.Certify fit) asked P p = absurd (cc (sym asked ∙ g.asked))
   alone jobs.Check asked P p = absurd (cc (sym asked ∙ g.asked))
   alone (jobs.Predict fit) asked P p = absurd (cc (sym asked ∙ g.asked))
+  alone (jobs.Test job) asked P p = absurd (cc (sym asked ∙ g.asked))
   alone (jobs.Path job) asked P p = absurd (cc (sym asked ∙ g.asked))
   alone (jobs.Sample s) asked P p = p s asked
 

@@ -70,6 +70,7 @@ module _ (same : PathLoss) (never : SumNeverRises) (words : List (List ℕ)) (so
       by (jobs.Ranks f) read right = absurd right
       by (jobs.Certify f) read right = absurd right
       by jobs.Check read right = absurd right
+      by (jobs.Test t) read right = absurd right
       by (jobs.Predict f) read right = absurd right
       by (jobs.Path job) read right = (job, h.bytes, right.0, read, right.1, least_path same never job right.0 fit right.2)
       by (jobs.Sample s) read right = absurd right

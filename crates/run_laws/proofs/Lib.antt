@@ -6,6 +6,7 @@ pub mod Answering
 pub mod Complete
 pub mod Stopless
 pub mod Checked
+pub mod Nested
 pub mod LeastPaths
 pub mod Pathed
 pub mod Unposed

@@ -14,15 +14,17 @@ use Rattle.walk_rule.specs.WalkTrails.{ReachesProcessLimit, ReachesIntervalLimit
 use Rattle.pivot_bound.specs.BoundLaws.{further_bases}
 use Rattle.stop_laws.specs.NeededStops.{DoesOverflow}
 use Rattle.stop_laws.proofs.Needed.{below, dependent}
-use Rattle.stop_laws.proofs.Spilled.{of_process}
+use Rattle.stop_laws.proofs.Spilled.{of_process, start}
 use Rattle.interval_laws.proofs.Needed.{interval_needed}
-use Rattle.interval_laws.proofs.Spilled.{of_interval}
+use Rattle.interval_laws.proofs.Spilled.{gram, of_interval}
 use Rattle.pivot_bound.proofs.Bounds.{process_within}
 use Rattle.lambda_path.specs.Laws.{PathHasCosts}
+use Rattle.nested_test.specs.Restricted.{restricted_problem}
 use Rattle.rq_words.specs.declared.job.FitJob.{FitJob}
 use Rattle.rq_words.specs.declared.job.Job.{Job}
 use Rattle.rq_words.specs.declared.job.Job.TheVariants as jobs
 use Rattle.rq_words.specs.declared.job.PathJob.{PathJob}
+use Rattle.rq_words.specs.declared.job.TestJob.{TestJob}
 use Rattle.report_text.specs.ReportText.{value}
 use Rattle.report_text.specs.declared.report.Place.{Place}
 use Rattle.report_text.specs.declared.report.Place.TheVariants as places
@@ -36,16 +38,18 @@ use Rattle.rq_fit.specs.Stops.{HasStoppedInterval, most}
 use Rattle.rq_fit.proofs.Costs.{low_costs}
 use Rattle.rq_fit.proofs.Pathing.{low_costs as path_costs}
 use Rattle.rq_fit.proofs.Scoring.{unit_ask}
+use Rattle.rq_fit.proofs.Testing.{data_stays, input_data, restricted_low}
 use Rattle.rq_engine.specs.Answers as engine
-use Rattle.rq_engine.specs.Answers.{LacksFit, LacksPathFit, LacksPredictFit}
+use Rattle.rq_engine.specs.Answers.{LacksFit, LacksPathFit, LacksPredictFit, LacksTestFit}
 use Rattle.rq_engine.specs.Jobs.{sample_fit, sample_table}
 use Rattle.rq_engine.proofs.Asked.{asked_job}
 use Rattle.rq_cli.specs.Outcomes.{Stream, IsHalted, WereRead}
-use Rattle.run_laws.specs.NeededOutcomes.{IsFitJob, IsLimitedAt, OverflowsAt, ReachesItsIntervalLimit, ReachesItsLimit, ReachesLimitAt, WasInput, WasPosed, table_bytes}
+use Rattle.run_laws.specs.NeededOutcomes.{IsFitJob, IsLimitedAt, OverflowsAt, ReachesItsIntervalLimit, ReachesItsLimit, ReachesLimitAt, WasInput, WasPosed, WasWhole, table_bytes}
 use Rattle.rq_input.proofs.Plain.{plain_rows}
+use Rattle.rq_input.proofs.Tested.{ranked_rows}
 use Rattle.run_laws.proofs.AskedInputs.{asked_input}
 use Rattle.run_laws.proofs.AskedIntervals.{asked_there, inner_costs}
-use Rattle.run_laws.proofs.Spilled.{of_first, of_fit, of_row, of_wilcoxon}
+use Rattle.run_laws.proofs.Spilled.{of_first, of_fit, of_row, of_scored, of_test, of_wilcoxon}
 
 -- ---- a limit
 
@@ -78,6 +82,9 @@ reached fit ranked bytes places.Process limit trail ask h = reached_process fit 
 reached fit ranked bytes (places.Interval column tau) limit trail ask h = reached_interval fit h.input column tau limit trail ask h.rows h.cause.stopped
 reached fit ranked bytes places.Check limit trail ask h = absurd h.cause
 reached fit ranked bytes (places.Predict rec) limit trail ask h = absurd h.cause
+reached fit ranked bytes places.Full limit trail ask h = absurd h.cause
+reached fit ranked bytes places.Gram limit trail ask h = absurd h.cause
+reached fit ranked bytes places.Test limit trail ask h = absurd h.cause
 reached fit ranked bytes places.Path limit trail ask h = absurd h.cause
 
 predict_reached : (fit : FitJob) (bytes : List ℕ) (place : Place) (limit : ℕ) (trail : Trail Frac128) → IsFitAsk fit → (h : LacksPredictFit fit bytes (PivotLimit place limit trail)) → ReachesLimitAt place fit h.asked.input.problem limit trail
@@ -85,12 +92,15 @@ predict_reached fit bytes places.Process limit trail ask h = reached_process fit
 predict_reached fit bytes (places.Interval column tau) limit trail ask h = absurd h.cause
 predict_reached fit bytes places.Check limit trail ask h = absurd h.cause
 predict_reached fit bytes (places.Predict rec) limit trail ask h = absurd h.cause
+predict_reached fit bytes places.Full limit trail ask h = absurd h.cause
+predict_reached fit bytes places.Gram limit trail ask h = absurd h.cause
+predict_reached fit bytes places.Test limit trail ask h = absurd h.cause
 predict_reached fit bytes places.Path limit trail ask h = absurd h.cause
 
 -- a job and its bytes, of which the input was read
 module _ (lawful : PathHasCosts) (words : List (List ℕ)) (source source' : Stream) where
   abbrev IsDependentInput : Type 0
-  IsDependentInput = (fit : FitJob) × (input : Input) × WasInput words source source' fit input × ¬ HasFullRank (sample value input.problem)
+  IsDependentInput = (fit : FitJob) × (input : Input) × WasWhole words source source' fit input × ¬ HasFullRank (sample value input.problem)
 
   was : (fit : FitJob) (input : Input) (ranked : Bool) (bytes : List ℕ) (job : Job) → IsFitJob job fit ranked → WereRead words source source' job bytes → IsInput fit ranked (table_bytes job bytes) input → WasInput words source source' fit input
   was fit input ranked bytes job is_job read is =
@@ -99,6 +109,26 @@ module _ (lawful : PathHasCosts) (words : List (List ℕ)) (source source' : Str
   -- the problem of an input is one that is posed
   posed : (fit : FitJob) (input : Input) → WasInput words source source' fit input → WasPosed words source source' fit input.problem
   posed fit input was = inl (input, was, refl)
+
+  -- so is that of an input without tested columns
+  test_limited : (job : TestJob) (bytes : List ℕ) → WereRead words source source' (jobs.Test job) bytes → (place : Place) (limit : ℕ) (trail : Trail Frac128) → LacksTestFit job bytes (PivotLimit place limit trail)
+      → IsLimitedAt words source source' place limit trail
+  test_limited job bytes read places.Process limit trail h =
+      let q = restricted_problem job.tested h.input.problem in
+      let data = input_data h.input h.rows (ranked_rows job.fit bytes h.input h.is.is) in
+      let costs = restricted_low job.fit (asked_job words (jobs.Test job) read.asked).0.unit h.input.problem job.tested q refl data (data_stays h.input.problem) in (
+        job.fit,
+        q,
+        inr (inl (record { job = job; same = refl; input = h.input; was = record { bytes = bytes; read = read; is = h.is }; without = refl })),
+        reached_process job.fit q limit trail costs h.cause.0 h.cause.1,
+      )
+  test_limited job bytes read (places.Interval column tau) limit trail h = absurd h.cause
+  test_limited job bytes read places.Check limit trail h = absurd h.cause
+  test_limited job bytes read places.Full limit trail h = absurd h.cause
+  test_limited job bytes read places.Gram limit trail h = absurd h.cause
+  test_limited job bytes read places.Test limit trail h = absurd h.cause
+  test_limited job bytes read (places.Predict rec) limit trail h = absurd h.cause
+  test_limited job bytes read places.Path limit trail h = absurd h.cause
 
   -- so is that of a path
   path_limited : (job : PathJob) (bytes : List ℕ) → WereRead words source source' (jobs.Path job) bytes → (place : Place) (limit : ℕ) (trail : Trail Frac128) → LacksPathFit job bytes (PivotLimit place limit trail)
@@ -110,12 +140,15 @@ module _ (lawful : PathHasCosts) (words : List (List ℕ)) (source source' : Str
       let costs = path_costs job (asked_job words (jobs.Path job) read.asked).0 h.plain h.rows (plain_rows job.fit table by.model h.plain.input by.by) lacks.problem lacks.path lawful in (
         job.fit,
         lacks.problem,
-        inr (record { job = job; same = refl; bytes = bytes; read = read; plain = h.plain; is = h.is; path = lacks.path }),
+        inr (inr (record { job = job; same = refl; bytes = bytes; read = read; plain = h.plain; is = h.is; path = lacks.path })),
         reached_process job.fit lacks.problem limit trail costs h.cause.0 lacks.cause,
       )
   path_limited job bytes read (places.Interval column tau) limit trail h = absurd h.cause
   path_limited job bytes read places.Check limit trail h = absurd h.cause
   path_limited job bytes read (places.Predict rec) limit trail h = absurd h.cause
+  path_limited job bytes read places.Full limit trail h = absurd h.cause
+  path_limited job bytes read places.Gram limit trail h = absurd h.cause
+  path_limited job bytes read places.Test limit trail h = absurd h.cause
   path_limited job bytes read places.Path limit trail h = absurd h.cause
 
   pub limit_needed : (place : Place) (limit : ℕ) (trail : Trail Frac128) → IsHalted words source source' (PivotLimit place limit trail) → IsLimitedAt words source source' place limit trail
@@ -147,6 +180,7 @@ module _ (lawful : PathHasCosts) (words : List (List ℕ)) (source source' : Str
         posed fit cause.asked.input (was fit cause.asked.input true h.bytes (jobs.Predict fit) (refl, refl) read (asked_input fit h.bytes cause.asked cause.is)),
         predict_reached fit h.bytes place limit trail (asked_job words (jobs.Predict fit) read.asked).0 cause,
       )
+      by (jobs.Test job) read cause = test_limited job h.bytes read place limit trail cause
       by (jobs.Path job) read cause = path_limited job h.bytes read place limit trail cause
       by (jobs.Sample job) read cause = (
         sample_fit job,
@@ -162,7 +196,7 @@ module _ (lawful : PathHasCosts) (words : List (List ℕ)) (source source' : Str
     where
       of : (fit : FitJob) (ranked : Bool) (job : Job) → IsFitJob job fit ranked → WereRead words source source' job h.bytes → LacksFit fit ranked (table_bytes job h.bytes) (Refused (Dependent combination)) → IsDependentInput
       of fit ranked job is_job read cause =
-          (fit, cause.input, was fit cause.input ranked h.bytes job is_job read cause.is, dependent (sample value cause.input.problem) _ cause.cause.dependence)
+          (fit, cause.input, inl (was fit cause.input ranked h.bytes job is_job read cause.is), dependent (sample value cause.input.problem) _ cause.cause.dependence)
 
       by : (job : Job) → WereRead words source source' job h.bytes → engine.HasCause job h.bytes (Refused (Dependent combination)) → IsDependentInput
       by (jobs.Process fit) read cause = of fit (is_some fit.rank) (jobs.Process fit) (refl, refl) read cause
@@ -172,9 +206,11 @@ module _ (lawful : PathHasCosts) (words : List (List ℕ)) (source source' : Str
       by (jobs.Predict fit) read cause = (
         fit,
         cause.asked.input,
-        was fit cause.asked.input true h.bytes (jobs.Predict fit) (refl, refl) read (asked_input fit h.bytes cause.asked cause.is),
+        inl (was fit cause.asked.input true h.bytes (jobs.Predict fit) (refl, refl) read (asked_input fit h.bytes cause.asked cause.is)),
         dependent (sample value cause.asked.input.problem) _ cause.cause.dependence,
       )
+      by (jobs.Test job) read cause =
+          (job.fit, cause.input, inr (job, refl, record { bytes = h.bytes; read = read; is = cause.is }), dependent (sample value cause.input.problem) _ cause.cause.dependence)
       by (jobs.Path job) read cause = absurd cause.2.cause
       by (jobs.Sample job) read cause = of (sample_fit job) false (jobs.Sample job) (refl, refl) read cause
 
@@ -194,6 +230,7 @@ module _ (lawful : PathHasCosts) (words : List (List ℕ)) (source source' : Str
       by (jobs.Certify fit) cause = of fit (is_some fit.rank) h.bytes cause
       by jobs.Check cause = absurd cause
       by (jobs.Predict fit) cause = of_process value most spill cause.asked.input.problem _ _ _ trail cause.cause
+      by (jobs.Test job) cause = of_scored job.fit (restricted_problem job.tested cause.input.problem) trail spill cause.cause
       by (jobs.Path job) cause = of_process value most spill cause.cause.problem _ _ _ trail cause.cause.cause
       by (jobs.Sample job) cause = of (sample_fit job) false (sample_table job) cause
   overflow_needed (places.Interval column tau) trail spill h = by h.job h.cause
@@ -208,8 +245,42 @@ module _ (lawful : PathHasCosts) (words : List (List ℕ)) (source source' : Str
       by (jobs.Certify fit) cause = of fit (is_some fit.rank) h.bytes cause
       by jobs.Check cause = absurd cause
       by (jobs.Predict fit) cause = absurd cause.cause
+      by (jobs.Test job) cause = absurd cause.cause
       by (jobs.Path job) cause = absurd cause.cause
       by (jobs.Sample job) cause = of (sample_fit job) false (sample_table job) cause
+  overflow_needed places.Full trail spill h = by h.job h.cause
+    where
+      by : (job : Job) → engine.HasCause job h.bytes (Overflow places.Full trail spill) → DoesOverflow value most spill
+      by (jobs.Process fit) cause = absurd cause.cause
+      by (jobs.Ranks fit) cause = absurd cause.cause
+      by (jobs.Certify fit) cause = absurd cause.cause
+      by jobs.Check cause = absurd cause
+      by (jobs.Test job) cause = start value most spill cause.input.problem trail cause.cause
+      by (jobs.Predict fit) cause = absurd cause.cause
+      by (jobs.Path job) cause = absurd cause.cause
+      by (jobs.Sample job) cause = absurd cause.cause
+  overflow_needed places.Gram trail spill h = by h.job h.cause
+    where
+      by : (job : Job) → engine.HasCause job h.bytes (Overflow places.Gram trail spill) → DoesOverflow value most spill
+      by (jobs.Process fit) cause = absurd cause.cause
+      by (jobs.Ranks fit) cause = absurd cause.cause
+      by (jobs.Certify fit) cause = absurd cause.cause
+      by jobs.Check cause = absurd cause
+      by (jobs.Test job) cause = gram value most spill cause.input.problem trail cause.cause
+      by (jobs.Predict fit) cause = absurd cause.cause
+      by (jobs.Path job) cause = absurd cause.cause
+      by (jobs.Sample job) cause = absurd cause.cause
+  overflow_needed places.Test trail spill h = by h.job h.cause
+    where
+      by : (job : Job) → engine.HasCause job h.bytes (Overflow places.Test trail spill) → DoesOverflow value most spill
+      by (jobs.Process fit) cause = absurd cause.cause
+      by (jobs.Ranks fit) cause = absurd cause.cause
+      by (jobs.Certify fit) cause = absurd cause.cause
+      by jobs.Check cause = absurd cause
+      by (jobs.Test job) cause = of_test cause.input.problem job.tested _ spill cause.cause.operation
+      by (jobs.Predict fit) cause = absurd cause.cause
+      by (jobs.Path job) cause = absurd cause.cause
+      by (jobs.Sample job) cause = absurd cause.cause
   overflow_needed (places.Predict rec) trail spill h = by h.job h.cause
     where
       by : (job : Job) → engine.HasCause job h.bytes (Overflow (places.Predict rec) trail spill) → DoesOverflow value most spill
@@ -218,6 +289,7 @@ module _ (lawful : PathHasCosts) (words : List (List ℕ)) (source source' : Str
       by (jobs.Certify fit) cause = absurd cause.cause
       by jobs.Check cause = absurd cause
       by (jobs.Predict fit) cause = of_row _ _ cause.cause.segments cause.cause.row spill cause.cause.operation
+      by (jobs.Test job) cause = absurd cause.cause
       by (jobs.Path job) cause = absurd cause.cause
       by (jobs.Sample job) cause = absurd cause.cause
   overflow_needed places.Path trail spill h = by h.job h.cause
@@ -228,5 +300,6 @@ module _ (lawful : PathHasCosts) (words : List (List ℕ)) (source source' : Str
       by (jobs.Certify fit) cause = absurd cause.cause
       by jobs.Check cause = absurd cause
       by (jobs.Predict fit) cause = absurd cause.cause
+      by (jobs.Test job) cause = absurd cause.cause
       by (jobs.Path job) cause = of_first _ spill cause.cause.2
       by (jobs.Sample job) cause = absurd cause.cause

@@ -43,6 +43,7 @@ right_path job bytes (reports.Process f) right = absurd right
 right_path job bytes (reports.Ranks f) right = absurd right
 right_path job bytes (reports.Certificate c) right = absurd right
 right_path job bytes (reports.Checked c) right = absurd right
+right_path job bytes (reports.Test f) right = absurd right
 right_path job bytes (reports.Predict f) right = absurd right
 right_path job bytes (reports.Path f) right = (f, right)
 right_path job bytes (reports.Sample f) right = absurd right
@@ -67,6 +68,8 @@ no_plain job bytes refusals.SmoothNotTaken h = inl h
 no_plain job bytes (refusals.Design fault) h = inl h
 no_plain job bytes (refusals.Penalty fault) h = inl h
 no_plain job bytes refusals.NothingToPredict h = inl h
+no_plain job bytes (refusals.NoSuchColumn number) h = inl h
+no_plain job bytes refusals.AllTested h = inl h
 no_plain job bytes (refusals.TooManyPredictions found) h = inl h
 no_plain job bytes (refusals.CertTooLong n) h = inl h
 no_plain job bytes (refusals.Certificate fault) h = inl h
@@ -78,6 +81,7 @@ module _ (words : List (List ℕ)) (first : PathJob) (asked : IsJobOf words (job
   alone (jobs.Ranks fit) again P p = absurd (cc (sym again ∙ asked))
   alone (jobs.Certify fit) again P p = absurd (cc (sym again ∙ asked))
   alone jobs.Check again P p = absurd (cc (sym again ∙ asked))
+  alone (jobs.Test job) again P p = absurd (cc (sym again ∙ asked))
   alone (jobs.Predict fit) again P p = absurd (cc (sym again ∙ asked))
   alone (jobs.Path path) again P p = p path
   alone (jobs.Sample job) again P p = absurd (cc (sym again ∙ asked))
@@ -132,6 +136,9 @@ module _ (words : List (List ℕ)) (first : PathJob) (asked : IsJobOf words (job
       no_stop job other read places.Process limit trail h = let lacks = h.cause.1 in no_input job other read h.plain h.is h.rows.shaped (few_rows job h.plain lacks.problem lacks.path lacks.shaped)
       no_stop job other read (places.Interval column tau) limit trail h = h.cause
       no_stop job other read places.Check limit trail h = h.cause
+      no_stop job other read places.Full limit trail h = h.cause
+      no_stop job other read places.Gram limit trail h = h.cause
+      no_stop job other read places.Test limit trail h = h.cause
       no_stop job other read (places.Predict rec) limit trail h = h.cause
       no_stop job other read places.Path limit trail h = h.cause
 
@@ -140,6 +147,9 @@ module _ (words : List (List ℕ)) (first : PathJob) (asked : IsJobOf words (job
       no_spill job other read places.Path trail spill h = no_input job other read h.plain h.is h.rows.shaped h.cause.1
       no_spill job other read (places.Interval column tau) trail spill h = h.cause
       no_spill job other read places.Check trail spill h = h.cause
+      no_spill job other read places.Full trail spill h = h.cause
+      no_spill job other read places.Gram trail spill h = h.cause
+      no_spill job other read places.Test trail spill h = h.cause
       no_spill job other read (places.Predict rec) trail spill h = h.cause
 
       no_path : (report : Report) → IsAnswered words source source' report → ⊥

@@ -1,6 +1,6 @@
 -- Where a run stops for an overflow, the operation overflows: of the solver, of a rankscore, of a Wilcoxon score, of a
--- prediction or of the costs of a path.
-use Rattle.std.specs.Prelude.{ℕ, List, [], ◌∷◌, length}
+-- prediction, of a rank test or of the costs of a path.
+use Rattle.std.specs.Prelude.{ℕ, List, [], ◌∷◌, length, slice_index}
 use Rattle.std.proofs.Common.{inl, inr}
 use Rattle.exact_algebra.specs.Fraction.{Fraction, rational}
 use Rattle.exact_algebra.specs.Rational.{ℚ}
@@ -22,9 +22,15 @@ use Rattle.predict_steps.specs.Predictions.{pieces}
 use Rattle.predict_steps.specs.Spills.{IsPredictionSpill, IsRearrangementSpill}
 use Rattle.design_matrix.specs.declared.design.PredictRow.{PredictRow}
 use Rattle.tv_penalty.specs.Operations.{OverflowsFirst, SitedOperation}
+use Rattle.nested_test.specs.Nested.{column_score}
+use Rattle.nested_test.specs.Operations.{IsStatisticSpill, IsTestSpill}
+use Rattle.rq_words.specs.declared.job.FitJob.{FitJob}
 use Rattle.report_text.specs.ReportText.{value}
+use Rattle.report_text.specs.declared.report.Place.TheVariants as places
+use Rattle.report_text.specs.declared.report.Halt.TheVariants.{Overflow}
 use Rattle.rq_fit.specs.Predicted.{IsRowSpill}
 use Rattle.rq_fit.specs.Stops.{IsFitSpill, most}
+use Rattle.rq_fit.specs.Tested.{HasScoredCause}
 
 module _ {F : Type 0} (value : F → Fraction) (range : ℕ) (s : Spill F) (p : Problem F) where
   abbrev Here : Type 0
@@ -70,6 +76,20 @@ of_row lo hi segments row s (inr h) = rearranged h.2
     rearranged : IsRearrangementSpill value most lo hi row.rec (pieces value h.0) s → DoesOverflow value most s
     rearranged (inl k) = operation value most s k.2
     rearranged (inr k) = operation value most s k.2.2
+
+-- of the process without tested columns, or of the Wilcoxon scores by it
+pub of_scored : (fit : FitJob) (p : Problem Frac128) (trail : Trail Frac128) (s : Spill Frac128) → HasScoredCause fit p (Overflow places.Process trail s) → DoesOverflow value most s
+of_scored fit p trail s (inl h) = of_process value most s p (rational (value fit.lo)) (rational (value fit.hi)) fit.limit trail h
+of_scored fit p trail s (inr h) = of_wilcoxon value most s p h.segments h.operation
+
+-- of the scores of tested columns, or of their statistic
+pub of_test : (p : Problem Frac128) (tested : List ℕ) (b : ℕ → ℚ) (s : Spill Frac128) → IsTestSpill value most p tested b s → DoesOverflow value most s
+of_test p tested b s (inl h) = products value most s h.2
+of_test p tested b s (inr h) = statistic h.2
+  where
+    statistic : IsStatisticSpill (slice_index tested) (length tested) h.0 (λ j. column_score (sample value p) b (slice_index tested j)) value most s → DoesOverflow value most s
+    statistic (inl k) = among value most s _ _ _ k.2.2
+    statistic (inr k) = operation value most s k
 
 -- of the costs of a path: the first of their operations that overflows
 pub of_first : (operations : List SitedOperation) (s : Spill Frac128) → OverflowsFirst operations s → DoesOverflow value most s

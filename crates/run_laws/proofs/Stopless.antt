@@ -33,6 +33,8 @@ module _ (words : List (List ℕ)) (source source' : Stream)
   unposed_without out out' err err' (Refused (refusals.Penalty fault)) run = tt
   unposed_without out out' err err' (Refused (refusals.Program fault)) run = tt
   unposed_without out out' err err' (Refused refusals.NothingToPredict) run = tt
+  unposed_without out out' err err' (Refused (refusals.NoSuchColumn number)) run = tt
+  unposed_without out out' err err' (Refused refusals.AllTested) run = tt
   unposed_without out out' err err' (Refused (refusals.TooManyPredictions found)) run = tt
   unposed_without out out' err err' (Refused (refusals.Certificate fault)) run = tt
   unposed_without out out' err err' (Usage fault) run = tt

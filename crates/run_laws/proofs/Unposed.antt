@@ -9,6 +9,7 @@ use Rattle.rq_words.specs.declared.job.FitJob.{FitJob}
 use Rattle.rq_words.specs.declared.job.Job.{Job}
 use Rattle.rq_words.specs.declared.job.Job.TheVariants as jobs
 use Rattle.rq_words.specs.declared.job.PathJob.{PathJob}
+use Rattle.rq_words.specs.declared.job.TestJob.{TestJob}
 use Rattle.report_text.specs.declared.report.Place.{Place}
 use Rattle.report_text.specs.declared.report.Place.TheVariants as places
 use Rattle.report_text.specs.declared.report.Refusal.{Refusal}
@@ -27,7 +28,7 @@ use Rattle.rq_cli.specs.declared.outcome.Outcome.{Outcome}
 use Rattle.run_laws.specs.Completeness.{IsUnposed}
 use Rattle.run_laws.specs.NeededOutcomes.{AskFit, IsFitJob, table_bytes}
 use Rattle.run_laws.proofs.AskedInputs.{asked_input}
-use Rattle.run_laws.proofs.Complete.{no_check, no_path, one_request, report_process, same_table}
+use Rattle.run_laws.proofs.Complete.{no_check, no_path, no_test, one_request, report_process, same_table}
 use Rattle.run_laws.proofs.Stopless.{unposed_without}
 
 module _ (law : InputsHaveNoFault) (words : List (List ℕ)) (source source' : Stream) (bytes : List ℕ) (first : FitJob) (kind : Bool) (asked : AskFit words first kind) (told : Reads asked.job → source.bytes ≡ Some bytes)
@@ -48,6 +49,10 @@ module _ (law : InputsHaveNoFault) (words : List (List ℕ)) (source source' : S
   -- the words ask for no check
   unchecked : (other : List ℕ) → WereRead words source source' jobs.Check other → ⊥
   unchecked other read = no_check words asked.job first kind asked.is (one_request words jobs.Check asked.job read.asked asked.asked)
+
+  -- nor for a rank test
+  testless : (job : TestJob) (other : List ℕ) → WereRead words source source' (jobs.Test job) other → ⊥
+  testless job other read = no_test words asked.job first kind asked.is job (one_request words (jobs.Test job) asked.job read.asked asked.asked)
 
   -- nor for a path
   pathless : (job : PathJob) (other : List ℕ) → WereRead words source source' (jobs.Path job) other → ⊥
@@ -72,6 +77,7 @@ module _ (law : InputsHaveNoFault) (words : List (List ℕ)) (source source' : S
       by (jobs.Certify fit) read cause = no_stop (jobs.Certify fit) fit (is_some fit.rank) (refl, refl) h.bytes read _ cause
       by jobs.Check read cause = unchecked h.bytes read
       by (jobs.Predict fit) read cause = no_prediction fit h.bytes read _ cause
+      by (jobs.Test job) read cause = testless job h.bytes read
       by (jobs.Path job) read cause = pathless job h.bytes read
       by (jobs.Sample job) read cause = no_stop (jobs.Sample job) (sample_fit job) false (refl, refl) h.bytes read _ cause
 
@@ -84,6 +90,7 @@ module _ (law : InputsHaveNoFault) (words : List (List ℕ)) (source source' : S
       by (jobs.Certify fit) read cause = no_input fit (is_some fit.rank) (ask_of (jobs.Certify fit) fit (is_some fit.rank) (refl, refl) h.bytes read) (jobs.Certify fit) h.bytes read cause.right.0 cause.right.1 cause.right.2.rows.shaped
       by jobs.Check read cause = unchecked h.bytes read
       by (jobs.Predict fit) read cause = cause.2.cause
+      by (jobs.Test job) read cause = cause.2.cause
       by (jobs.Path job) read cause = cause.2.cause
       by (jobs.Sample job) read cause = cause.2.cause
 
@@ -96,6 +103,7 @@ module _ (law : InputsHaveNoFault) (words : List (List ℕ)) (source source' : S
       by (jobs.Certify fit) read cause = no_stop (jobs.Certify fit) fit (is_some fit.rank) (refl, refl) h.bytes read _ cause
       by jobs.Check read cause = unchecked h.bytes read
       by (jobs.Predict fit) read cause = no_prediction fit h.bytes read _ cause
+      by (jobs.Test job) read cause = testless job h.bytes read
       by (jobs.Path job) read cause = pathless job h.bytes read
       by (jobs.Sample job) read cause = no_stop (jobs.Sample job) (sample_fit job) false (refl, refl) h.bytes read _ cause
 
@@ -108,11 +116,15 @@ module _ (law : InputsHaveNoFault) (words : List (List ℕ)) (source source' : S
       by places.Process (jobs.Ranks fit) read (inr cause) = no_input fit true (ask_of (jobs.Ranks fit) fit true (refl, refl) h.bytes read) (jobs.Ranks fit) h.bytes read cause.input cause.is cause.rows.shaped
       by (places.Interval column tau) (jobs.Ranks fit) read cause = no_stop (jobs.Ranks fit) fit true (refl, refl) h.bytes read _ cause
       by places.Check (jobs.Ranks fit) read cause = no_stop (jobs.Ranks fit) fit true (refl, refl) h.bytes read _ cause
+      by places.Full (jobs.Ranks fit) read cause = no_stop (jobs.Ranks fit) fit true (refl, refl) h.bytes read _ cause
+      by places.Gram (jobs.Ranks fit) read cause = no_stop (jobs.Ranks fit) fit true (refl, refl) h.bytes read _ cause
+      by places.Test (jobs.Ranks fit) read cause = no_stop (jobs.Ranks fit) fit true (refl, refl) h.bytes read _ cause
       by places.Path (jobs.Ranks fit) read cause = no_stop (jobs.Ranks fit) fit true (refl, refl) h.bytes read _ cause
       by (places.Predict rec) (jobs.Ranks fit) read cause = no_stop (jobs.Ranks fit) fit true (refl, refl) h.bytes read _ cause
       by place (jobs.Certify fit) read cause = no_stop (jobs.Certify fit) fit (is_some fit.rank) (refl, refl) h.bytes read _ cause
       by place jobs.Check read cause = unchecked h.bytes read
       by place (jobs.Predict fit) read cause = no_prediction fit h.bytes read _ cause
+      by place (jobs.Test job) read cause = testless job h.bytes read
       by place (jobs.Path job) read cause = pathless job h.bytes read
       by place (jobs.Sample job) read cause = no_stop (jobs.Sample job) (sample_fit job) false (refl, refl) h.bytes read _ cause
 

@@ -33,6 +33,7 @@ module _ (law : PredictionsHaveNoFault) (words : List (List ℕ)) (source source
   alone (jobs.Certify fit) again P p = absurd (cc (sym again ∙ asked))
   alone jobs.Check again P p = absurd (cc (sym again ∙ asked))
   alone (jobs.Predict fit) again P p = p fit
+  alone (jobs.Test job) again P p = absurd (cc (sym again ∙ asked))
   alone (jobs.Path job) again P p = absurd (cc (sym again ∙ asked))
   alone (jobs.Sample job) again P p = absurd (cc (sym again ∙ asked))
 
@@ -57,6 +58,7 @@ module _ (law : PredictionsHaveNoFault) (words : List (List ℕ)) (source source
   right_predicts fit other (reports.Certificate c) read right = right
   right_predicts fit other (reports.Checked c) read right = right
   right_predicts fit other (reports.Predict f) read right = no_rows fit other read right.0 right.1 right.2.shaped
+  right_predicts fit other (reports.Test f) read right = right
   right_predicts fit other (reports.Path f) read right = right
   right_predicts fit other (reports.Sample f) read right = right
 

@@ -20,6 +20,7 @@ use Rattle.rq_words.specs.declared.job.Job.{Job}
 use Rattle.rq_words.specs.declared.job.Job.TheVariants as jobs
 use Rattle.rq_words.specs.declared.job.PathJob.{PathJob}
 use Rattle.rq_words.specs.declared.job.SampleJob.{SampleJob}
+use Rattle.rq_words.specs.declared.job.TestJob.{TestJob}
 use Rattle.report_text.specs.ReportText.{value}
 use Rattle.report_text.specs.declared.report.Place.{Place}
 use Rattle.report_text.specs.declared.report.Place.TheVariants as places
@@ -30,6 +31,7 @@ use Rattle.report_text.specs.declared.report.Halt.TheVariants as halts
 use Rattle.rq_input.specs.Inputs.{HasInputCause, IsInput}
 use Rattle.rq_input.specs.Plain.{HasPlainCause, IsPlain}
 use Rattle.rq_input.specs.Predictions.{HasPredictionCause}
+use Rattle.rq_input.specs.Tested.{HasTestedCause, IsTested}
 use Rattle.rq_input.specs.declared.input.Input.{Input}
 use Rattle.rq_input.specs.declared.plain.PlainInput.{PlainInput}
 use Rattle.rq_fit.specs.Paths.{first_penalised}
@@ -39,7 +41,7 @@ use Rattle.rq_engine.specs.Jobs.{IsJobOf, sample_fit, sample_table}
 use Rattle.rq_cli.specs.Outcomes.{Stream, IsRun, IsHalted, Reads}
 use Rattle.rq_cli.specs.declared.outcome.Outcome.{Outcome}
 use Rattle.rq_cli.specs.declared.outcome.Outcome.TheVariants.{Done, Refused, OutOfMemory, PivotLimit, Overflow}
-use Rattle.run_laws.specs.NeededOutcomes.{AskFit, IsLimitedAt, OverflowsAt, WasInput, WasPath, WasPosed, table_bytes}
+use Rattle.run_laws.specs.NeededOutcomes.{AskFit, IsLimitedAt, OverflowsAt, WasInput, WasPath, WasPosed, WasRestricted, table_bytes}
 
 -- no count of faults rose
 abbrev pub NoneRose : (source source' out out' err err' : Stream) → Type 0
@@ -95,6 +97,23 @@ SampleIsAnswered =
     → IsRun words source source' out out' err err' outcome → NoneRose source source' out out' err err'
     → IsGenerated words → IsAnswer words source source' [] outcome × IsNotTooLong outcome
 
+-- the words ask for the rank test of columns, and the source tells these bytes and not too many, which are an input
+-- without smooths; it has these columns and others, and all of them are independent
+pub record IsNested (words : List (List ℕ)) (source : Stream) (bytes : List ℕ) : Type 0 where
+  pub first : TestJob
+  pub asked : IsJobOf words (jobs.Test first)
+  pub told : source.bytes ≡ Some bytes
+  pub short : length bytes ≤ most_bytes
+  pub sound : (job : TestJob) (refusal : Refusal) → IsJobOf words (jobs.Test job) → ¬ HasTestedCause job bytes (halts.Refused refusal)
+  pub rank : (job : TestJob) (input : Input) → IsJobOf words (jobs.Test job) → IsTested job bytes input → HasFullRank (sample value input.problem)
+
+-- so is every run for a rank test
+abbrev pub TestIsAnswered : Type 0
+TestIsAnswered =
+    (words : List (List ℕ)) (source source' out out' err err' : Stream) (bytes : List ℕ) (outcome : Outcome)
+    → IsRun words source source' out out' err err' outcome → NoneRose source source' out out' err err'
+    → IsNested words source bytes → IsAnswer words source source' bytes outcome × IsNotTooLong outcome
+
 -- how many rows a path of the input has: those of the records, and one for each penalised column
 abbrev pub path_rows : PlainInput → ℕ
 path_rows plain = row_count plain.input.problem (first_penalised plain.intercept)
@@ -142,6 +161,14 @@ PredictionFaultIsAnswered =
     (words : List (List ℕ)) (source source' out out' err err' : Stream) (bytes : List ℕ) (outcome : Outcome) (first : FitJob)
     → IsJobOf words (jobs.Predict first) → source.bytes ≡ Some bytes
     → ((fit : FitJob) → IsJobOf words (jobs.Predict fit) → (refusal : Refusal) × HasPredictionCause fit bytes (halts.Refused refusal))
+    → IsRun words source source' out out' err err' outcome → IsUnposed outcome
+
+-- so it is where the words ask for a rank test, and the bytes have a fault as an input of one: a missing column, say
+abbrev pub TestFaultIsAnswered : Type 0
+TestFaultIsAnswered =
+    (words : List (List ℕ)) (source source' out out' err err' : Stream) (bytes : List ℕ) (outcome : Outcome) (first : TestJob)
+    → IsJobOf words (jobs.Test first) → source.bytes ≡ Some bytes
+    → ((job : TestJob) → IsJobOf words (jobs.Test job) → (refusal : Refusal) × HasTestedCause job bytes (halts.Refused refusal))
     → IsRun words source source' out out' err err' outcome → IsUnposed outcome
 
 -- the bytes have a fault as an input without smooths, or such an input of them has too many rows
@@ -199,6 +226,14 @@ LimitIsAnswered =
     → ((fit : FitJob) (input : Input) → WasInput words source source' fit input → IsLimitedProblem fit input.problem)
     → IsNoReport outcome
 
+-- nor is there where they ask for a rank test, and one of the problem without the tested columns does
+abbrev pub TestLimitIsAnswered : Type 0
+TestLimitIsAnswered =
+    (words : List (List ℕ)) (source source' out out' err err' : Stream) (outcome : Outcome) (first : TestJob)
+    → IsJobOf words (jobs.Test first) → IsRun words source source' out out' err err' outcome
+    → ((fit : FitJob) (problem : Problem Frac128) → WasRestricted words source source' fit problem → IsLimitedProblem fit problem)
+    → IsNoReport outcome
+
 -- nor is there where the words ask for a path
 abbrev pub PathLimitIsAnswered : Type 0
 PathLimitIsAnswered =
@@ -214,6 +249,9 @@ parts_of places.Process = 2
 parts_of (places.Interval column tau) = 3
 parts_of places.Check = 0
 parts_of (places.Predict rec) = 0
+parts_of places.Full = 0
+parts_of places.Gram = 0
+parts_of places.Test = 0
 parts_of places.Path = 0
 
 -- where no fewer pivots are allowed than that, the limit doesn't stop the process or the interval

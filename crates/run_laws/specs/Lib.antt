@@ -1,3 +1,4 @@
 pub mod NeededOutcomes
 pub mod Completeness
 pub mod PathReports
+pub mod TestReports

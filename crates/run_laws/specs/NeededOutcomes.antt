@@ -11,16 +11,19 @@ use Rattle.loss_model.specs.Problem.{sample}
 use Rattle.walk_rule.specs.WalkTrails.{ReachesProcessLimit, ReachesIntervalLimit}
 use Rattle.pivot_bound.specs.BoundLaws.{further_bases}
 use Rattle.stop_laws.specs.NeededStops.{DoesOverflow}
+use Rattle.nested_test.specs.Restricted.{restricted_problem}
 use Rattle.rq_words.specs.declared.job.FitJob.{FitJob}
 use Rattle.rq_words.specs.declared.job.Job.{Job}
 use Rattle.rq_words.specs.declared.job.Job.TheVariants as jobs
 use Rattle.rq_words.specs.declared.job.PathJob.{PathJob}
+use Rattle.rq_words.specs.declared.job.TestJob.{TestJob}
 use Rattle.report_text.specs.ReportText.{value}
 use Rattle.report_text.specs.declared.report.Place.{Place}
 use Rattle.report_text.specs.declared.report.Place.TheVariants as places
 use Rattle.report_text.specs.declared.report.Refusal.TheVariants.{Dependent}
 use Rattle.rq_input.specs.Inputs.{IsInput}
 use Rattle.rq_input.specs.Plain.{IsPlain}
+use Rattle.rq_input.specs.Tested.{IsTested}
 use Rattle.rq_input.specs.declared.input.Input.{Input}
 use Rattle.rq_input.specs.declared.plain.PlainInput.{PlainInput}
 use Rattle.rq_fit.specs.Paths.{IsPathProblem}
@@ -30,13 +33,14 @@ use Rattle.rq_cli.specs.Outcomes.{Stream, IsRun, WereRead}
 use Rattle.rq_cli.specs.declared.outcome.Outcome.TheVariants.{Refused, PivotLimit, Overflow}
 
 -- the job is this fit of a table, with or without ranks, as a report, as a certificate, as a summary or as predictions;
--- no predictions are made with smooths, as no ranks are. A path is of a problem of its own
+-- no predictions are made with smooths, as no ranks are. A rank test and a path are of problems of their own
 abbrev pub IsFitJob : Job → FitJob → Bool → Type 0
 IsFitJob (jobs.Process job) fit ranked = (job ≡ fit) × (is_some job.rank ≡ ranked)
 IsFitJob (jobs.Ranks job) fit ranked = (job ≡ fit) × (true ≡ ranked)
 IsFitJob (jobs.Certify job) fit ranked = (job ≡ fit) × (is_some job.rank ≡ ranked)
 IsFitJob (jobs.Predict job) fit ranked = (job ≡ fit) × (true ≡ ranked)
 IsFitJob (jobs.Sample job) fit ranked = (sample_fit job ≡ fit) × (false ≡ ranked)
+IsFitJob (jobs.Test job) fit ranked = ⊥
 IsFitJob (jobs.Path job) fit ranked = ⊥
 IsFitJob jobs.Check fit ranked = ⊥
 
@@ -59,6 +63,20 @@ pub record WasInput (words : List (List ℕ)) (before now : Stream) (fit : FitJo
   pub read : (job : Job) × WereRead words before now job bytes
   pub is : IsInput fit ranked (table_bytes asked.job bytes) input
 
+-- the words ask for the rank test of columns, and this is the input that the bytes are, which has these columns
+pub record WasTested (words : List (List ℕ)) (before now : Stream) (job : TestJob) (input : Input) : Type 0 where
+  pub bytes : List ℕ
+  pub read : WereRead words before now (jobs.Test job) bytes
+  pub is : IsTested job bytes input
+
+-- they ask for it with this fit, and this is the problem without the tested columns
+pub record WasRestricted (words : List (List ℕ)) (before now : Stream) (fit : FitJob) (problem : Problem Frac128) : Type 0 where
+  pub job : TestJob
+  pub same : job.fit ≡ fit
+  pub input : Input
+  pub was : WasTested words before now job input
+  pub without : restricted_problem job.tested input.problem ≡ problem
+
 -- the words ask for a path in lambda, over the range of this fit, and this is its problem for the bytes that it took
 pub record WasPath (words : List (List ℕ)) (before now : Stream) (fit : FitJob) (problem : Problem Frac128) : Type 0 where
   pub job : PathJob
@@ -69,10 +87,10 @@ pub record WasPath (words : List (List ℕ)) (before now : Stream) (fit : FitJob
   pub is : IsPlain job.fit bytes plain
   pub path : IsPathProblem job plain problem
 
--- the words and the bytes pose this problem: that of an input, or that of a path
+-- the words and the bytes pose this problem: that of an input, that of one without tested columns, or that of a path
 abbrev pub WasPosed : List (List ℕ) → (before now : Stream) → FitJob → Problem Frac128 → Type 0
 WasPosed words before now fit problem =
-    ((input : Input) × WasInput words before now fit input × (input.problem ≡ problem)) ⊎ WasPath words before now fit problem
+    ((input : Input) × WasInput words before now fit input × (input.problem ≡ problem)) ⊎ (WasRestricted words before now fit problem ⊎ WasPath words before now fit problem)
 
 -- its lawful trail has as many pivots as the limit of the words says, with one more left; and the limit is less than
 -- twice the bases after the first
@@ -117,9 +135,13 @@ OverflowIsNeeded =
     (words : List (List ℕ)) (source source' out out' err err' : Stream) (place : Place) (trail : Trail Frac128) (spill : Spill Frac128)
     → IsRun words source source' out out' err err' (Overflow place trail spill) → OverflowsAt place spill
 
+-- this is the whole input of a fit, or of a rank test with this fit
+abbrev pub WasWhole : List (List ℕ) → (before now : Stream) → FitJob → Input → Type 0
+WasWhole words before now fit input = WasInput words before now fit input ⊎ ((job : TestJob) × (job.fit ≡ fit) × WasTested words before now job input)
+
 -- Dependent comes only where the columns of the problem are dependent
 abbrev pub DependenceIsNeeded : Type 0
 DependenceIsNeeded =
     (words : List (List ℕ)) (source source' out out' err err' : Stream) (combination : List Frac128)
     → IsRun words source source' out out' err err' (Refused (Dependent combination))
-    → (fit : FitJob) × (input : Input) × WasInput words source source' fit input × ¬ HasFullRank (sample value input.problem)
+    → (fit : FitJob) × (input : Input) × WasWhole words source source' fit input × ¬ HasFullRank (sample value input.problem)

@@ -1,15 +1,17 @@
 //! The laws of a run. Each function does nothing: its contract is the law.
 
-ghost use Rattle.run_laws.specs.Completeness.{Completeness, SampleIsAnswered, PathIsAnswered, CheckIsAnswered, FaultIsAnswered, PredictionFaultIsAnswered, PathFaultIsAnswered, LimitIsAnswered, PathLimitIsAnswered, AmpleLimitIsNeverReached, DependenceIsAnswered};
+ghost use Rattle.run_laws.specs.Completeness.{Completeness, SampleIsAnswered, TestIsAnswered, PathIsAnswered, CheckIsAnswered, FaultIsAnswered, PredictionFaultIsAnswered, TestFaultIsAnswered, PathFaultIsAnswered, LimitIsAnswered, TestLimitIsAnswered, PathLimitIsAnswered, AmpleLimitIsNeverReached, DependenceIsAnswered};
 ghost use Rattle.run_laws.specs.NeededOutcomes.{LimitIsNeeded, OverflowIsNeeded, DependenceIsNeeded};
 ghost use Rattle.run_laws.specs.PathReports.{PathIsLeast};
+ghost use Rattle.run_laws.specs.TestReports.{TestIsRight};
 
 use cert_text::same_content;
 use input_laws::laws::{
     generated_tables_have_no_fault, inputs_have_no_fault, plain_inputs_have_no_fault,
-    predictions_have_no_fault,
+    predictions_have_no_fault, tested_have_no_fault,
 };
 use lambda_path::laws::{path, path_is_askable};
+use nested_test::laws::statistic_is_square;
 
 /// A run that stops for a limit, for an overflow or for dependent columns had to: the lawful trail of the
 /// problem reaches the limit, which is less than the bases of both parts; the operation overflows; the
@@ -28,16 +30,20 @@ pub fn needed()
 /// where the bytes have a fault by none of these: such a refusal comes exactly where there is one. So a
 /// certificate whose conditions are all true is accepted, save for memory and an operation of a test that
 /// overflows. A generated table of full rank is answered as a job whose input is well formed: its bytes have no fault.
-/// So is a path in lambda, of whose columns nothing is asked: with the penalties they are independent.
+/// So is a rank test, where all columns are independent and the tested ones leave one; and a path in lambda, of whose
+/// columns nothing is asked: with the penalties they are independent.
 pub fn complete()
     ensures answered { Completeness }
     ensures generated { SampleIsAnswered }
+    ensures test { TestIsAnswered }
     ensures path { PathIsAnswered }
     ensures faults { FaultIsAnswered }
     ensures predictions { PredictionFaultIsAnswered }
+    ensures test_faults { TestFaultIsAnswered }
     ensures path_faults { PathFaultIsAnswered }
     ensures checked { CheckIsAnswered }
     ensures limited { LimitIsAnswered }
+    ensures test_limited { TestLimitIsAnswered }
     ensures path_limited { PathLimitIsAnswered }
     ensures ample { AmpleLimitIsNeverReached }
     ensures dependent { DependenceIsAnswered }
@@ -46,8 +52,17 @@ pub fn complete()
     inputs_have_no_fault();
     predictions_have_no_fault();
     generated_tables_have_no_fault();
+    tested_have_no_fault();
     plain_inputs_have_no_fault();
     path_is_askable();
+}
+
+/// A printed rank test has the scores of the tested columns and the statistic of the nested models, by the Wilcoxon scores
+/// of the right process without these columns (Gutenbrunner, Jurečková, Koenker and Portnoy 1993); it is not negative.
+pub fn test_reports()
+    ensures { TestIsRight }
+{
+    statistic_is_square();
 }
 
 /// A printed path in lambda loses least at every lambda of its range, and the sum of the absolute values of its

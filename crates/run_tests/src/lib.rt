@@ -16,6 +16,8 @@ mod intervals;
 #[cfg(test)]
 mod medians;
 #[cfg(test)]
+mod nested;
+#[cfg(test)]
 mod predictions;
 #[cfg(test)]
 mod ranges;

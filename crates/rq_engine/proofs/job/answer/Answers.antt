@@ -34,3 +34,9 @@ path_bytes-requires-clause-ask g c = (subst IsAskedJob c.in-Path.is (asked_job c
 
 pub path_bytes-requires-clause-long : goal.path_bytes-requires-clause-long
 path_bytes-requires-clause-long g c = (subst IsAskedJob c.in-Path.is (asked_job c.requires.asked.0 c.args.job.now c.requires.asked.1)).1
+
+pub test_bytes-requires-clause-ask : goal.test_bytes-requires-clause-ask
+test_bytes-requires-clause-ask g c = (subst IsAskedJob c.in-Test.is (asked_job c.requires.asked.0 c.args.job.now c.requires.asked.1)).0
+
+pub test_bytes-requires-clause-long : goal.test_bytes-requires-clause-long
+test_bytes-requires-clause-long g c = (subst IsAskedJob c.in-Test.is (asked_job c.requires.asked.0 c.args.job.now c.requires.asked.1)).1

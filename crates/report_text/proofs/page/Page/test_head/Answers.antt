@@ -1,0 +1,11 @@
+use Rattle.std.proofs.Common.{◌++◌, codes, ap, ◌∙◌}
+use Rattle.report_text.proofs.Appends.{append_four}
+use Rattle.report_text.specs.ReportText.{numbered, column_line, test_head}
+use Rattle.report_text.proofs.page.Page.test_head.Goals as goal
+
+pub returns : goal.returns
+unfolding test_head
+returns c =
+    append_four _ _ _ _ _ (codes "quantreg test 1\n") _ _ _ c.in_ok-put.ensures c.in_ok-records_line.ensures
+    (c.in_ok-column_lines.ensures ∙ ap (λ names. c.records_line.new.self ++ numbered column_line 1 names) c.as_slice.ensures)
+    c.in_ok-test_size.ensures
