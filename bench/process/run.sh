@@ -6,7 +6,7 @@
 set -eu
 here=$(cd "$(dirname "$0")" && pwd)
 work=${1:-$(mktemp -d)}
-low=$("$here/../below.sh" tau_process)
+low=$({ "$here/../below.sh" tau_process; "$here/../below.sh" lambda_path; } | awk '!seen[$0]++')
 mkdir -p "$work/crates/process_bench/src" "$work/crates/process_bench/proofs"
 for crate in $low; do
     rm -rf "$work/crates/$crate"
@@ -16,7 +16,7 @@ done >"$work/crates.txt"
 # Whether whole numbers refuse is asked of a call that the crate keeps to itself.
 sed -i 's/^fn process_in_wholes/pub fn process_in_wholes/' "$work/crates/tau_process/src/range.rt"
 sed -i 's/^pub use range::process;/pub use range::{process, process_in_wholes};/' "$work/crates/tau_process/src/lib.rt"
-echo 'process_bench: exact_algebra frac_core loss_model pivot_rule tau_process anyhow' >>"$work/crates.txt"
+echo 'process_bench: exact_algebra frac_core loss_model pivot_rule lambda_path tau_process anyhow' >>"$work/crates.txt"
 cp "$here/process_bench.txt" "$work/crates/process_bench/src/main.rt"
 for proof in has_costs/Invariants is_negative/Answers is_ordered/Answers; do
     mkdir -p "$work/crates/process_bench/proofs/${proof%/*}"
