@@ -18,6 +18,8 @@ mod medians;
 #[cfg(test)]
 mod nested;
 #[cfg(test)]
+mod paths;
+#[cfg(test)]
 mod predictions;
 #[cfg(test)]
 mod ranges;
