@@ -166,14 +166,14 @@ x + z ; 0 1 + ; 1/100000000000000000000000000000000000000 1/30000000000000000000
 
 #[test]
 fn arithmetics(rt: HostRuntime) -> Result<(), Fail> {
-    let mut tried = 0;
+    let mut count: u32 = 0;
     for line in CASES.lines() {
         let (ask, want) = line.split_once(" => ").ok_or("no answer")?;
         let told = asked(rt.alloc(), ask)?;
         let found = told.as_str();
         assert!(rt; found == want, "{ask}: {found}");
-        tried += 1;
+        count = count.wrapping_add(1);
     }
-    assert!(rt; tried == 68, "{tried}");
+    assert!(rt; count == 68, "{count}");
     Ok(())
 }

@@ -214,13 +214,13 @@ static CASES: &str = "\
 
 #[test]
 fn predictions(rt: HostRuntime) -> Result<(), Fail> {
-    let mut tried = 0;
+    let mut count: u32 = 0;
     for line in CASES.lines() {
         let (fit, wanted) = line.split_once(" => ").ok_or("no steps")?;
         expect_case(&rt, rt.alloc(), fit, wanted)?;
-        tried += 1;
+        count = count.wrapping_add(1);
     }
-    assert!(rt; tried == 42, "{tried}");
+    assert!(rt; count == 42, "{count}");
     Ok(())
 }
 
@@ -263,14 +263,14 @@ static WIDE: &str = "\
 
 #[test]
 fn predictions_that_are_too_wide(rt: HostRuntime) -> Result<(), Fail> {
-    let mut tried = 0;
+    let mut count: u32 = 0;
     for line in WIDE.lines() {
         let (fit, wanted) = line.split_once(" => ").ok_or("no operation")?;
         let found = predicted(&rt, rt.alloc(), fit)?;
         expect_spill(&rt, rt.alloc(), found.steps, wanted)?;
-        tried += 1;
+        count = count.wrapping_add(1);
     }
-    assert!(rt; tried == 3, "{tried}");
+    assert!(rt; count == 3, "{count}");
     Ok(())
 }
 
@@ -283,14 +283,14 @@ static FAR: &str = "\
 
 #[test]
 fn rearrangements_that_are_too_wide(rt: HostRuntime) -> Result<(), Fail> {
-    let mut tried = 0;
+    let mut count: u32 = 0;
     for line in FAR.lines() {
         let (text, wanted) = line.split_once(" => ").ok_or("no operation")?;
         let steps = steps_from(&rt, rt.alloc(), Frac128::zero(), text)?;
         let found = rearranged(&rt, rt.alloc(), steps.as_slice());
         expect_spill(&rt, rt.alloc(), found, wanted)?;
-        tried += 1;
+        count = count.wrapping_add(1);
     }
-    assert!(rt; tried == 2, "{tried}");
+    assert!(rt; count == 2, "{count}");
     Ok(())
 }
