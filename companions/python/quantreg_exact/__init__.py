@@ -5,7 +5,7 @@ Numbers are `fractions.Fraction` throughout, and each report has frames of float
 """
 
 from .faults import QuantregError, ReportError, read_fault
-from .fitting import Fit, fit, predictions, ranks
+from .fitting import Fit, PathFit, fit, path, predictions, ranks
 from .plots import plot_fit, plot_process
 from .program import find_program, run
 from .reports import (
@@ -31,6 +31,7 @@ __all__ = [
     "CheckReport",
     "Fit",
     "Interval",
+    "PathFit",
     "PathReport",
     "PathSegment",
     "PredictReport",
@@ -45,6 +46,7 @@ __all__ = [
     "TestReport",
     "find_program",
     "fit",
+    "path",
     "plot_fit",
     "plot_process",
     "predictions",

@@ -60,6 +60,10 @@ class Table:
             raise ValueError(f"the table has {len(kept)} records for this fit, and the report {fit.records}")
         return kept
 
+    def weights(self, fit):
+        """The weight of each kept record."""
+        return [self.number(record, fit.weights) if fit.weights else Fraction(1) for record in fit.meaning.kept]
+
     def response(self, fit):
         name = response_name(fit.formula)
         return [self.number(record, name) for record in fit.meaning.kept]
@@ -232,7 +236,7 @@ def design_rows(fit, table):
         return [names.row(table, it) if table.has(it, names.variables) else None for it in range(table.records)]
     rows = [names.row(table, record) for record in names.kept]
     response, segment = table.response(fit), fit.segments[0]
-    for row in (it for it in segment.basic if it <= fit.data):
+    for row in (it for it in segment.basis if it <= fit.data):
         if sum(x * b for x, b in zip(rows[row - 1], segment.coef)) != response[row - 1]:
             raise ValueError(f"record {row} of the basis is not fitted by the design that was read from the names")
     return rows

@@ -2,25 +2,23 @@
 
 import os
 from dataclasses import dataclass
+from fractions import Fraction
 from functools import cached_property
 from pathlib import Path
 
 import pandas
 
 from .designs import Names, Table, design_rows
-from .numbers import number_text
+from .numbers import as_fraction, number_text
 from .program import run
-from .reports import ProcessReport, read_report
+from .reports import PathReport, ProcessReport, read_report
 
 
-@dataclass(frozen=True)
-class Fit(ProcessReport):
-    """A report of `process` together with the table that was fitted."""
+class OfTable:
+    """What is asked of a report together with the table that was fitted: `formula`, `table`, `contrasts` and `weights`.
 
-    formula: str
-    table: Table
-    contrasts: str
-    weights: str
+    A place is a quantile of a process, and a lambda of a path.
+    """
 
     @cached_property
     def meaning(self):
@@ -36,9 +34,9 @@ class Fit(ProcessReport):
         table = self.table if newdata is None else Table.of_bytes(_table_bytes(newdata))
         return design_rows(self, table)
 
-    def predict(self, newdata, tau, side="lower"):
-        """The predictions for new data at a quantile: a fraction for each record, None where a cell is missing."""
-        coef = self.segment_at(tau, side).coef
+    def predict(self, newdata, place, side="lower"):
+        """The predictions for new data at a place: a fraction for each record, None where a cell is missing."""
+        coef = self.segment_at(place, side).coef
         rows = self.design(newdata)
         return [None if row is None else sum(x * b for x, b in zip(row, coef)) for row in rows]
 
@@ -46,14 +44,83 @@ class Fit(ProcessReport):
         """The response of each kept record."""
         return self.table.response(self)
 
-    def fitted(self, tau, side="lower"):
-        """The fitted value of each kept record at a quantile."""
-        coef = self.segment_at(tau, side).coef
+    def fitted(self, place, side="lower"):
+        """The fitted value of each kept record at a place."""
+        coef = self.segment_at(place, side).coef
         return [sum(x * b for x, b in zip(row, coef)) for row in self.design()]
 
-    def residuals(self, tau, side="lower"):
-        """The residual of each kept record at a quantile."""
-        return [y - mean for y, mean in zip(self.response(), self.fitted(tau, side))]
+    def residuals(self, place, side="lower"):
+        """The residual of each kept record at a place."""
+        return [y - mean for y, mean in zip(self.response(), self.fitted(place, side))]
+
+
+@dataclass(frozen=True)
+class Fit(OfTable, ProcessReport):
+    """A report of `process` together with the table that was fitted."""
+
+    formula: str
+    table: Table
+    contrasts: str
+    weights: str
+
+
+@dataclass(frozen=True)
+class PathFit(OfTable, PathReport):
+    """A report of `path` together with the table that was fitted and the quantile."""
+
+    formula: str
+    table: Table
+    contrasts: str
+    weights: str
+    tau: Fraction
+
+    def check(self):
+        """Works out from the table that no coefficients have a lesser loss at any lambda of the range.
+
+        At both ends of each segment the printed loss is that of the coefficients, and the dual values lie within their
+        bounds, balance each column, and have the same loss. Between the ends all of it is a mix. Raises ValueError for the
+        first that is false.
+        """
+        rows = self.rows()
+        for segment in self.segments:
+            for end, lam in enumerate((segment.lo, segment.hi)):
+                fault = _path_fault(segment, end, rows, lam)
+                if fault:
+                    raise ValueError(f"segment {segment.number}, at lambda {lam}: {fault}")
+
+    def rows(self):
+        """The rows of records and of penalties: entries, response, and what a unit above and a unit below the fit costs.
+
+        A cost is a pair: what stays, and what lambda multiplies.
+        """
+        weights = self.table.weights(self)
+        data = zip(self.design(), self.response(), weights)
+        rows = [(x, y, (w * self.tau, 0), (w * (1 - self.tau), 0)) for x, y, w in data]
+        for column in range(len(self.names) - self.penalty, len(self.names)):
+            entries = [Fraction(column == k) for k in range(len(self.names))]
+            rows.append((entries, Fraction(0), (0, 1), (0, 1)))
+        return rows
+
+
+def _path_fault(segment, end, rows, lam):
+    """What is wrong with a segment at one end of it, where lambda is `lam`, or None."""
+    loss, cost, sums = Fraction(0), Fraction(0), [Fraction(0)] * len(segment.coef)
+    for number, ((x, y, up, down), side) in enumerate(zip(rows, segment.sides), 1):
+        above, below = up[0] + up[1] * lam, down[0] + down[1] * lam
+        residual = y - sum(entry * value for entry, value in zip(x, segment.coef))
+        if (side == "*" and residual) or (side == "+" and residual < 0) or (side == "-" and residual > 0):
+            return f"row {number} lies elsewhere"
+        dual = segment.dual[number][end] if side == "*" else above if side == "+" else -below
+        if not -below <= dual <= above:
+            return f"the dual value of row {number} is out of its bounds"
+        loss += above * residual if residual > 0 else -below * residual
+        cost += dual * y
+        sums = [total + dual * entry for total, entry in zip(sums, x)]
+    if any(sums):
+        return "the dual values do not balance each column"
+    if not loss == cost == segment.loss[end]:
+        return "the loss is another one"
+    return None
 
 
 def _table_bytes(data):
@@ -125,3 +192,23 @@ def predictions(formula, data, lo, hi=None, *, weights=None, contrasts=None, piv
     hi = lo if hi is None else hi
     options = {"formula": formula, "lo": lo, "hi": hi, "weights": weights, "contrasts": contrasts, "pivots": pivots}
     return read_report(run(_words("predict", options), _table_bytes(data), program))
+
+
+def path(formula, data, tau, lo, hi=None, *, weights=None, contrasts=None, pivots=None, program=None):
+    """The fits at the quantile `tau` for every lambda from `lo` to `hi`, or at `lo` alone, by the job `path`.
+
+    They minimise the check loss plus lambda times the sum of the absolute coefficients, the intercept's apart. Lambda is above
+    0, and half of what `rq(.., method = "lasso")` in R calls so.
+    """
+    hi = lo if hi is None else hi
+    options = {"formula": formula, "tau": tau, "lo": lo, "hi": hi, "weights": weights, "contrasts": contrasts, "pivots": pivots}
+    table = _table_bytes(data)
+    report = read_report(run(_words("path", options), table, program))
+    return PathFit(
+        **vars(report),
+        formula=formula,
+        table=Table.of_bytes(table),
+        contrasts=contrasts or "treatment",
+        weights=weights,
+        tau=as_fraction(tau),
+    )

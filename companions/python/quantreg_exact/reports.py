@@ -14,11 +14,10 @@ from .numbers import as_fraction, read_end, read_number
 
 
 @dataclass(frozen=True)
-class Segment:
-    """A stretch of quantiles with one fit: from `lo` to `hi`, both ends included.
+class Stretch:
+    """A stretch of quantiles or of lambda with one fit: from `lo` to `hi`, both ends included.
 
-    `loss` has the loss at both ends. `marks` has a character per row, as the report's line `scores`. `basic` has the
-    rankscores at both ends for each row of the basis; for a penalty row they are its dual values.
+    `loss` has the loss at both ends.
     """
 
     number: int
@@ -26,13 +25,45 @@ class Segment:
     hi: Fraction
     coef: tuple
     loss: tuple
+
+    def between(self, place, ends):
+        """The mix of two values at the ends that belongs to a place of the stretch."""
+        low, high = ends
+        return low if self.lo == self.hi else low + (high - low) * (place - self.lo) / (self.hi - self.lo)
+
+
+@dataclass(frozen=True)
+class Segment(Stretch):
+    """A stretch of quantiles.
+
+    `marks` has a character per row, as the report's line `scores`. `basic` has the rankscores at both ends for each row of
+    the basis; for a penalty row they are its dual values.
+    """
+
     marks: str
     basic: dict
 
-    def between(self, tau, ends):
-        """The mix of two values at the ends that belongs to a quantile of the segment."""
-        low, high = ends
-        return low if self.lo == self.hi else low + (high - low) * (tau - self.lo) / (self.hi - self.lo)
+    @property
+    def basis(self):
+        """The rows of the basis, ascending."""
+        return tuple(self.basic)
+
+
+@dataclass(frozen=True)
+class PathSegment(Stretch):
+    """A stretch of lambda.
+
+    `sides` has a character per row: `+` above the fit, `-` below it, `*` in the basis. `dual` has the dual values at both
+    ends for each row of the basis.
+    """
+
+    sides: str
+    dual: dict
+
+    @property
+    def basis(self):
+        """The rows of the basis, ascending."""
+        return tuple(self.dual)
 
 
 @dataclass(frozen=True)
@@ -76,8 +107,51 @@ def _by_range(segments, columns, values):
     return pandas.DataFrame([[float(v) for v in values(s)] for s in segments], index=index, columns=columns)
 
 
+class Stretches:
+    """What is asked of the fits of a range, whose `segments` begin each where the one before ends.
+
+    A place is a quantile of the report of a process, and a lambda of that of a path.
+    """
+
+    @property
+    def breakpoints(self):
+        """The places at which one segment ends and the next begins."""
+        return [segment.hi for segment in self.segments[:-1]]
+
+    def segments_at(self, place):
+        """The segments that hold a place: one, or the two that meet there. Raises ValueError outside the range."""
+        place = as_fraction(place)
+        found = [segment for segment in self.segments if segment.lo <= place <= segment.hi]
+        if not found:
+            raise ValueError(f"{place} is outside the range {self.segments[0].lo} to {self.segments[-1].hi}")
+        return found
+
+    def segment_at(self, place, side="lower"):
+        """The segment that holds a place; where two meet, the lower or the upper one."""
+        if side not in ("lower", "upper"):
+            raise ValueError(f"side is lower or upper, not {side!r}")
+        return self.segments_at(place)[0 if side == "lower" else -1]
+
+    def coef_at(self, place, side="lower"):
+        """The coefficients at a place by the names of the columns; where two segments meet, those of one side."""
+        return dict(zip(self.names, self.segment_at(place, side).coef))
+
+    def loss_at(self, place):
+        """The loss of the fit at a place, penalties included."""
+        segment = self.segment_at(place)
+        return segment.between(as_fraction(place), segment.loss)
+
+    def to_frame(self):
+        """The coefficients as floats: a row for each segment, indexed by its ends, and a column for each name."""
+        return _by_range(self.segments, list(self.names), lambda s: s.coef)
+
+    def loss_frame(self):
+        """The losses at both ends of each segment, as floats."""
+        return _by_range(self.segments, ["at_lo", "at_hi"], lambda s: s.loss)
+
+
 @dataclass(frozen=True)
-class ProcessReport:
+class ProcessReport(Stretches):
     """The fits of a range of quantiles: what the job `process` prints."""
 
     records: int
@@ -88,34 +162,6 @@ class ProcessReport:
     pivots: int
     segments: tuple
     intervals: tuple
-
-    @property
-    def breakpoints(self):
-        """The quantiles at which one segment ends and the next begins."""
-        return [segment.hi for segment in self.segments[:-1]]
-
-    def segments_at(self, tau):
-        """The segments that hold a quantile: one, or the two that meet there. Raises ValueError outside the range."""
-        tau = as_fraction(tau)
-        found = [segment for segment in self.segments if segment.lo <= tau <= segment.hi]
-        if not found:
-            raise ValueError(f"{tau} is outside the range {self.segments[0].lo} to {self.segments[-1].hi}")
-        return found
-
-    def segment_at(self, tau, side="lower"):
-        """The segment that holds a quantile; where two meet, the lower or the upper one."""
-        if side not in ("lower", "upper"):
-            raise ValueError(f"side is lower or upper, not {side!r}")
-        return self.segments_at(tau)[0 if side == "lower" else -1]
-
-    def coef_at(self, tau, side="lower"):
-        """The coefficients at a quantile by the names of the columns; where two segments meet, those of one side."""
-        return dict(zip(self.names, self.segment_at(tau, side).coef))
-
-    def loss_at(self, tau):
-        """The check loss of the fit at a quantile, penalties included."""
-        segment = self.segment_at(tau)
-        return segment.between(as_fraction(tau), segment.loss)
 
     def scores_at(self, tau, side="lower"):
         """The rankscores of the data rows at a quantile, by row."""
@@ -200,14 +246,6 @@ class ProcessReport:
                 elif mark == "*":
                     totals[row - 1] += length * sum(segment.basic[row]) / 2
         return totals
-
-    def to_frame(self):
-        """The coefficients as floats: a row for each segment, indexed by its ends, and a column for each name."""
-        return _by_range(self.segments, list(self.names), lambda s: s.coef)
-
-    def loss_frame(self):
-        """The losses at both ends of each segment, as floats."""
-        return _by_range(self.segments, ["at_lo", "at_hi"], lambda s: s.loss)
 
     def intervals_frame(self):
         """The rank intervals as floats: a row for each, with the name of its column."""
@@ -307,21 +345,11 @@ class PredictReport:
 
 
 @dataclass(frozen=True)
-class PathSegment:
-    """A stretch of lambda with one fit. `sides` has a character per row; `dual` both ends of each basic row's value."""
+class PathReport(Stretches):
+    """The fits of a range of lambda at one quantile: what the job `path` prints.
 
-    number: int
-    lo: Fraction
-    hi: Fraction
-    coef: tuple
-    loss: tuple
-    sides: str
-    dual: dict
-
-
-@dataclass(frozen=True)
-class PathReport:
-    """The fits of a range of penalties: what the job `path` prints."""
+    `penalty` is the number of columns that are penalised: all but an intercept.
+    """
 
     records: int
     dropped: int
@@ -331,8 +359,14 @@ class PathReport:
     pivots: int
     segments: tuple
 
-    def to_frame(self):
-        return _by_range(self.segments, list(self.names), lambda s: s.coef)
+    def absolute_sum(self, segment):
+        """The sum of the absolute coefficients of a segment that are penalised, which lambda multiplies in the loss."""
+        return sum(abs(value) for value in segment.coef[len(self.names) - self.penalty :])
+
+    def dual_at(self, lam, side="lower"):
+        """The dual values of the basis at a lambda, by row."""
+        segment, lam = self.segment_at(lam, side), as_fraction(lam)
+        return {row: segment.between(lam, ends) for row, ends in segment.dual.items()}
 
 
 @dataclass(frozen=True)
@@ -461,8 +495,8 @@ def _marks(lines, word, shapes):
     return marks
 
 
-def _segments(lines, kind, columns, shapes, words):
-    """The segments of a range, each of which begins where the one before ends."""
+def _segments(lines, kind, columns, shapes, words, check=lambda found: None):
+    """The segments of a range, each of which begins where the one before ends. `check` looks at those that are read so far."""
     segments, (marks_word, basic_word) = [], words
     while lines.word() == "segment":
         number, lo, hi = lines.take("segment", 3)
@@ -475,6 +509,7 @@ def _segments(lines, kind, columns, shapes, words):
         if marks.count("*") != columns:
             raise lines.fault(f"a basis of {columns} columns has {columns} rows")
         segments.append(kind(int(number), lo, hi, coef, loss, marks, _basic_values(lines, basic_word, marks)))
+        check(segments)
     if not segments:
         raise lines.fault("the report has no segment")
     return tuple(segments)
@@ -573,12 +608,26 @@ def _read_predict(lines):
     return PredictReport(records, dropped, names, pivots, tuple(predictions))
 
 
+def _check_sums(lines, segments, free):
+    """The loss of a path's last segment rises with lambda by the sum of its absolute coefficients, which never rises."""
+    sums = [sum(map(abs, segment.coef[free:])) for segment in segments[-2:]]
+    last = segments[-1]
+    if last.loss[1] - last.loss[0] != (last.hi - last.lo) * sums[-1]:
+        raise lines.fault("the losses of this segment do not rise by its penalised coefficients")
+    if len(segments) > 1 and (sums[0] < sums[1] or segments[-2].loss[1] != last.loss[0]):
+        raise lines.fault("the sum of the penalised coefficients rises, or the loss jumps")
+
+
 def _read_path(lines):
     records, dropped = lines.labelled("records", "dropped")
     names = lines.names()
     data, penalty = _rows(lines, records)
+    free = len(names) - penalty
+    if free and names[:free] != ("(Intercept)",):
+        raise lines.fault("each column but an intercept has a penalty row")
     (pivots,) = lines.counts("pivots", 1)
-    segments = _segments(lines, PathSegment, len(names), [("+-*", data + penalty)], ("sides", "dual"))
+    shapes, words = [("+-*", data + penalty)], ("sides", "dual")
+    segments = _segments(lines, PathSegment, len(names), shapes, words, lambda found: _check_sums(lines, found, free))
     lines.end()
     return PathReport(records, dropped, names, data, penalty, pivots, segments)
 

@@ -124,6 +124,39 @@ dual 2 -1/2 -1/2
 end
 """
 
+# A line through two of three points, and at last the median of the responses: a slope of 1 loses 1/2 + lambda, one of 1/2
+# loses 3/4 + lambda/2, and none loses 3/2. The entries times the dual values of the rows outside, with those of the basis, are
+# 0 in each column.
+LINE_PATH = """quantreg path 1
+records 3 dropped 0
+column 1 (Intercept)
+column 2 x
+data 3 penalty 1
+pivots 3
+segment 1 1/4 1/2
+coef 1 0
+coef 2 1
+loss 3/4 1
+sides *+*-
+dual 1 -5/12 -1/2
+dual 3 -1/12 0
+segment 2 1/2 3/2
+coef 1 3/2
+coef 2 1/2
+loss 1 3/2
+sides -**-
+dual 2 1/2 0
+dual 3 0 1/2
+segment 3 3/2 2
+coef 1 2
+coef 2 0
+loss 3/2 3/2
+sides -*+*
+dual 2 0 0
+dual 4 -3/2 -3/2
+end
+"""
+
 TEST = """quantreg test 1
 records 3 dropped 0
 column 1 (Intercept)
@@ -148,7 +181,7 @@ CERTIFICATE = (
     '"loss_lo":"3/5","sides":"-**"}],"version":1}\n'
 )
 
-EVERY_KIND = [LINE, MEDIAN, FIVE, SMOOTH, RANKS, PREDICT, PATH, TEST, CHECK, SAMPLE]
+EVERY_KIND = [LINE, MEDIAN, FIVE, SMOOTH, RANKS, PREDICT, PATH, LINE_PATH, TEST, CHECK, SAMPLE]
 
 
 class Processes(unittest.TestCase):
@@ -266,6 +299,40 @@ class OtherReports(unittest.TestCase):
         self.assertEqual([s.coef for s in report.segments], [(1,), (0,)])
         self.assertEqual(report.segments[1].dual, {2: (F(-1, 2), F(-1, 2))})
         self.assertEqual(report.to_frame()["x"].tolist(), [1.0, 0.0])
+
+    def test_a_path_is_asked_at_a_lambda(self):
+        report = read_report(LINE_PATH)
+        self.assertEqual(report.breakpoints, [F(1, 2), F(3, 2)])
+        self.assertEqual([report.absolute_sum(s) for s in report.segments], [1, F(1, 2), 0])
+        self.assertEqual(report.coef_at(1), {"(Intercept)": F(3, 2), "x": F(1, 2)})
+        self.assertEqual([report.coef_at("3/2", side)["x"] for side in ("lower", "upper")], [F(1, 2), 0])
+        self.assertEqual([report.loss_at(lam) for lam in ("1/4", "3/8", 1, "7/4")], [F(3, 4), F(7, 8), F(5, 4), F(3, 2)])
+        self.assertEqual(report.dual_at("3/8"), {1: F(-11, 24), 3: F(-1, 24)})
+        self.assertEqual(report.loss_frame()["at_hi"].tolist(), [1.0, 1.5, 1.5])
+        for outside in ("1/5", 3):
+            with self.assertRaises(ValueError):
+                report.coef_at(outside)
+
+    def test_paths_whose_sums_are_wrong_are_refused_at_their_segment(self):
+        for old, new, line in [
+            # The losses rise by lambda times the sum of the penalised coefficients.
+            ("coef 2 1/2", "coef 2 1/3", 20),
+            ("loss 3/4 1\n", "loss 2/4 1\n", 13),
+            # They go on where the segment before ends.
+            ("loss 3/2 3/2", "loss 5/2 5/2", 27),
+            # Each column has a penalty row, but for an intercept.
+            ("column 1 (Intercept)", "column 1 z", 5),
+            ("data 3 penalty 1", "data 3 penalty 0", 5),
+            ("sides -**-", "sides -**1", 18),
+        ]:
+            with self.subTest(new=new), self.assertRaises(ReportError) as caught:
+                read_report(LINE_PATH.replace(old, new, 1))
+            self.assertEqual(caught.exception.line, line)
+        # A sum that rises: the segments in the other order, from the loss of the one before.
+        rising = PATH.replace("coef 1 1\nloss 1/4 1/2\nsides *-\ndual 1 1/4 1/2", "coef 1 0\nloss 1/2 1/2\nsides +*\ndual 2 -1/2 -1/2")
+        rising = rising.replace("segment 2 1/2 1\ncoef 1 0\nloss 1/2 1/2", "segment 2 1/2 1\ncoef 1 1\nloss 1/2 1")
+        with self.assertRaisesRegex(ReportError, "rises"):
+            read_report(rising)
 
     def test_nested_tests(self):
         report = read_report(TEST)
