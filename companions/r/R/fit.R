@@ -63,6 +63,19 @@ predictions_exact <- function(formula, data, lo = 0, hi = 1, weights = NULL, con
     list(steps = steps, exact = exact)
 }
 
+#' The fits at one quantile that minimise the check loss plus lambda times the sum of the absolute coefficients but the intercept's, for
+#' every lambda from lo to hi, by the job path. Lambda is above 0, and half of what rq's lasso calls so.
+path_exact <- function(formula, data, tau = 0.5, lo, hi = lo, weights = NULL, contrasts = "treatment", pivots = NULL, program = NULL) {
+    options <- list(tau = tau, lo = lo, hi = hi, weights = weights, contrasts = contrasts, pivots = pivots)
+    report <- read_report(run_quantreg(fit_words("path", formula, options), used_columns(formula, data, weights), program))
+    rows <- lapply(report$segments, function(it) c(it$lo, it$hi, it$loss, it$coef))
+    exact <- as.data.frame(do.call(rbind, rows))
+    names(exact) <- c("lo", "hi", "loss_lo", "loss_hi", report$names)
+    segments <- exact
+    segments[] <- lapply(exact, fraction_value)
+    list(segments = segments, exact = exact)
+}
+
 #' The coefficients, as doubles or, with exact = TRUE, as fractions in text.
 coef.rq_exact <- function(object, exact = FALSE, ...) if (exact) object$exact else object$coefficients
 

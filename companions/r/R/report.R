@@ -1,4 +1,4 @@
-# Reports as lists. The package reads those of `process`, `ranks` and `predict`.
+# Reports as lists. The package reads those of `process`, `ranks`, `predict` and `path`.
 
 #' The double nearest to a number text, up to two roundings: a whole number, a ratio, Inf or -Inf.
 fraction_value <- function(text) {
@@ -17,16 +17,17 @@ fields_of <- function(lines, word, count) {
     do.call(rbind, found)[, -1, drop = FALSE]
 }
 
-# One segment from its lines: ends, coefficients and losses as texts, the marks, and the scores of its basis at both ends.
-read_segment <- function(lines, columns) {
+# One segment from its lines: ends, coefficients and losses as texts, the marks, and the values of its basis at both ends. `words`
+# begin the lines of the latter two.
+read_segment <- function(lines, columns, words) {
     ends <- fields_of(lines[1], "segment", 3)[1, 2:3]
     coef <- fields_of(lines, "coef", 2)
-    basic <- fields_of(lines, "basic", 3)
-    marks <- fields_of(lines, "scores", 1)[1, 1]
+    basic <- fields_of(lines, words[2], 3)
+    marks <- fields_of(lines, words[1], 1)[1, 1]
     if (nrow(coef) != columns || nrow(basic) != columns) stop("a segment lacks a line", call. = FALSE)
-    scores <- basic[, 2:3, drop = FALSE]
-    dimnames(scores) <- list(basic[, 1], c("lo", "hi"))
-    list(lo = ends[1], hi = ends[2], coef = coef[, 2], loss = fields_of(lines, "loss", 2)[1, ], marks = marks, basic = scores)
+    values <- basic[, 2:3, drop = FALSE]
+    dimnames(values) <- list(basic[, 1], c("lo", "hi"))
+    list(lo = ends[1], hi = ends[2], coef = coef[, 2], loss = fields_of(lines, "loss", 2)[1, ], marks = marks, basic = values)
 }
 
 # The steps of all predictions, a row for each: those of a record as they are, and then rearranged.
@@ -39,14 +40,16 @@ read_predictions <- function(lines) {
     cbind(record = as.integer(sub("^\\w+ ", "", head)), is_rearranged = startsWith(head, "rearranged"), steps)
 }
 
-#' The report of a run, from its lines or its text: a list with `kind` process, ranks or predict.
+#' The report of a run, from its lines or its text: a list with `kind` process, ranks, predict or path.
 #'
-#' Numbers are texts, which fraction_value turns into doubles.
+#' Numbers are texts, which fraction_value turns into doubles. In a segment of a path `marks` has the sides and `basic` the dual values.
 read_report <- function(text) {
     lines <- if (length(text) == 1) strsplit(text, "\n", fixed = TRUE)[[1]] else text
-    kinds <- c("quantreg 1" = "process", "quantreg ranks 1" = "ranks", "quantreg predict 1" = "predict")
+    kinds <- c(
+        "quantreg 1" = "process", "quantreg ranks 1" = "ranks", "quantreg predict 1" = "predict", "quantreg path 1" = "path"
+    )
     if (!lines[1] %in% names(kinds) || lines[length(lines)] != "end") {
-        stop("no whole report of process, ranks or predict", call. = FALSE)
+        stop("no whole report of process, ranks, predict or path", call. = FALSE)
     }
     counts <- fields_of(lines, "records", 3)[1, ]
     names <- unescaped(fields_of(lines, "column", 2)[, 2])
@@ -64,8 +67,9 @@ read_report <- function(text) {
     intervals <- as.data.frame(fields_of(lines, "interval", 4))
     names(intervals) <- c("column", "tau", "low", "high")
     intervals$column <- as.integer(intervals$column)
+    words <- if (report$kind == "path") c("sides", "dual") else c("scores", "basic")
     c(report, list(
         data = as.integer(rows[1]), penalty = as.integer(rows[3]),
-        segments = lapply(pieces, read_segment, columns = length(names)), intervals = intervals
+        segments = lapply(pieces, read_segment, columns = length(names), words = words), intervals = intervals
     ))
 }

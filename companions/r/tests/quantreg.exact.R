@@ -57,9 +57,45 @@ stopifnot(
     identical(predicted$record, rep(4:5, each = 4)), identical(predicted$is_rearranged, rep(c(FALSE, FALSE, TRUE, TRUE), 2)),
     identical(predicted$hi[1:4], c("3/5", "1", "2/5", "1")), identical(predicted$value, c("4", "7/2", "7/2", "4", "-1", "1", "-1", "1"))
 )
+# A slope of 1 loses 1/2 + lambda, one of 1/2 loses 3/4 + lambda/2, and none loses 3/2.
+path <- "quantreg path 1
+records 3 dropped 0
+column 1 (Intercept)
+column 2 x
+data 3 penalty 1
+pivots 3
+segment 1 1/4 1/2
+coef 1 0
+coef 2 1
+loss 3/4 1
+sides *+*-
+dual 1 -5/12 -1/2
+dual 3 -1/12 0
+segment 2 1/2 3/2
+coef 1 3/2
+coef 2 1/2
+loss 1 3/2
+sides -**-
+dual 2 1/2 0
+dual 3 0 1/2
+segment 3 3/2 2
+coef 1 2
+coef 2 0
+loss 3/2 3/2
+sides -*+*
+dual 2 0 0
+dual 4 -3/2 -3/2
+end
+"
+bent <- read_report(path)
+stopifnot(
+    bent$kind == "path", bent$penalty == 1, length(bent$segments) == 3, identical(bent$segments[[2]]$coef, c("3/2", "1/2")),
+    bent$segments[[3]]$marks == "-*+*", identical(bent$segments[[1]]$basic["3", ], c(lo = "-1/12", hi = "0"))
+)
 refused <- function(text) inherits(try(read_report(text), silent = TRUE), "try-error")
 lines <- strsplit(line, "\n")[[1]]
 stopifnot(refused(lines[-length(lines)]), refused(sub("quantreg 1", "quantreg 2", line)), refused(lines[-9]), refused(lines[-13]))
+stopifnot(refused(sub("dual 3 -1/12 0\n", "", path, fixed = TRUE)), refused(sub("quantreg path 1", "quantreg 1", path)))
 
 # A program that writes down its words and answers with a given text and status.
 fake <- function(answer, status = 0) {
@@ -81,6 +117,14 @@ stopifnot(
     identical(words[1:4], c("process", "--formula=y ~ x", "--lo=0.5", "--hi=0.5")), words[7] == "--rank-at=0.5",
     all.equal(as.numeric(sub("--crit=", "", words[6])), qt(0.95, 1)^2),
     identical(unname(table$tables[[1]][, "upper bd"]), c(1.5, Inf)), identical(unname(table$tables[[1]][, 1]), c(0, 1))
+)
+program <- fake(strsplit(path, "\n")[[1]])
+bent <- path_exact(y ~ x, three, tau = "1/2", lo = "1/4", hi = 2, program = program)
+ends <- data.frame(lo = c("1/4", "1/2", "3/2"), hi = c("1/2", "3/2", "2"), loss_lo = c("3/4", "1", "3/2"), loss_hi = c("1", "3/2", "3/2"))
+stopifnot(
+    identical(readLines(paste0(program, ".words")), c("path", "--formula=y ~ x", "--tau=1/2", "--lo=1/4", "--hi=2", "--contrasts=treatment")),
+    identical(bent$exact, cbind(ends, "(Intercept)" = c("0", "3/2", "2"), x = c("1", "1/2", "0"))),
+    identical(bent$segments$x, c(1, 0.5, 0)), identical(bent$segments$loss_hi, c(1, 1.5, 1.5))
 )
 fault <- tryCatch(
     rq_exact(y ~ x, three, program = fake("quantreg: design: NumberTooWide record=1 column=a b=\\x5cc", 1)), quantreg_error = identity
@@ -114,6 +158,20 @@ for (wrong in list(data.frame(y = 1:2, f = factor(1:2)), data.frame(y = c(1, Inf
 stopifnot(identical(ranks_exact(y ~ x, three)$exact, c("-1/5", "3/10", "-1/10")))
 asked <- predictions_exact(y ~ x, data.frame(y = c(0, 2, 3, NA, NA), x = c(0, 1, 3, 4, -1)))
 stopifnot(identical(asked$exact, predicted), identical(asked$steps$value, c(4, 3.5, 3.5, 4, -1, 1, -1, 1)))
+stopifnot(identical(path_exact(y ~ x, three, tau = 0.5, lo = 0.25, hi = 2), bent))
+# The losses of a path are those of its coefficients by R's design, and the sum of the penalised ones never rises.
+lasso_loss <- function(coefficients, lambda, tau) {
+    residuals <- drop(stackloss$stack.loss - model.matrix(stack.loss ~ ., stackloss) %*% coefficients)
+    sum(residuals * (tau - (residuals < 0))) + lambda * sum(abs(coefficients[-1]))
+}
+penalised <- path_exact(stack.loss ~ ., stackloss, tau = 0.3, lo = "1/10", hi = 500)$segments
+slopes <- as.matrix(penalised[, -(1:4)])
+stopifnot(
+    nrow(penalised) > 2, penalised$lo[1] == 0.1, penalised$hi[nrow(penalised)] == 500, penalised$lo[-1] == penalised$hi[-nrow(penalised)],
+    diff(rowSums(abs(slopes[, -1]))) <= 1e-12, slopes[nrow(slopes), -1] == 0,
+    all.equal(penalised$loss_lo, vapply(seq_len(nrow(slopes)), function(at) lasso_loss(slopes[at, ], penalised$lo[at], 0.3), 0)),
+    all.equal(penalised$loss_hi, vapply(seq_len(nrow(slopes)), function(at) lasso_loss(slopes[at, ], penalised$hi[at], 0.3), 0))
+)
 # The records 1 to 5 have the interval 2 to 4 for each critical value from 1/5 to below 9/5, such as the square of qt(0.75, 4).
 found <- summary(rq_exact(y ~ 1, data.frame(y = 1:5)), alpha = 0.5)$tables[[1]]
 stopifnot(identical(unname(found[1, ]), c(3, 2, 4)))
@@ -153,6 +211,16 @@ if (requireNamespace("quantreg", quietly = TRUE)) {
         stopifnot(abs(theirs[2] - ours) < 1e-5 * ours)
         # The fit at the same number is another one.
         if (tau == 0.25) stopifnot(theirs[1] > ours + 0.5)
+    }
+    # The lambda of rq's lasso is twice ours too: at twice the number it has our loss, to the digits of its method.
+    for (lambda in c(4, 10, 20)) {
+        ours <- path_exact(stack.loss ~ ., stackloss, tau = 0.3, lo = lambda)$segments$loss_lo
+        theirs <- vapply(1:2, function(times) {
+            fit <- quantreg::rq.fit.lasso(model.matrix(stack.loss ~ ., stackloss), stackloss$stack.loss, 0.3, times * lambda)
+            lasso_loss(fit$coefficients, lambda, 0.3)
+        }, 0)
+        # The fit at the same number is another one.
+        stopifnot(abs(theirs[2] - ours) < 1e-5 * ours, theirs[1] > ours + 0.2)
     }
 } else {
     cat("skipped: comparisons with rq, for R has no package quantreg\n")
