@@ -2,13 +2,15 @@
 //! problems without some of their columns with the statistic of these (`nested_test`); and the process of a path problem
 //! (`tau_process`).
 //!
-//! All cases are worked by hand.
+//! All cases are worked by hand, save for 30 paths that a script of its own worked.
 #![tactic(auto)]
 
 #[cfg(test)]
 mod grams;
 #[cfg(test)]
 mod helpers;
+#[cfg(test)]
+mod least_paths;
 #[cfg(test)]
 mod nested;
 #[cfg(test)]

@@ -64,7 +64,7 @@ fn is_ordered<F: Exact>(lo: F, hi: F) -> bool
 }
 
 /// What `process` answers to a problem that meets its conditions.
-fn walk(
+pub(crate) fn walk(
     rt: &impl Abort,
     alloc: Global,
     problem: &Problem<Frac128>,
@@ -78,11 +78,17 @@ fn walk(
     process(alloc, problem, lo, hi, 100)
 }
 
-/// The path problem at 1/2 of a small table.
-fn path(rt: &impl Abort, alloc: Global, rows: &Problem<Frac128>, first: u32) -> Problem<Frac128> {
+/// The path problem of a small table.
+pub(crate) fn path(
+    rt: &impl Abort,
+    alloc: Global,
+    rows: &Problem<Frac128>,
+    first: u32,
+    tau: Frac128,
+) -> Problem<Frac128> {
     assert!(rt; is_shaped(rows));
     assert!(rt; first <= rows.columns);
-    match path_problem(alloc, rows, first, fraction(rt, (1, 2))) {
+    match path_problem(alloc, rows, first, tau) {
         Ok(found) => found,
         Err(_) => panic!(rt; "the numbers are small"),
     }
@@ -161,7 +167,7 @@ fn expect_stays(rt: &impl Abort, found: &[Segment<Frac128>], want: &[Stay]) {
 
 fn expect_walk(rt: &impl Abort, alloc: Global, case: &Case) {
     let rows = problem(rt, alloc, case.columns, case.rows);
-    let path = path(rt, alloc, &rows, case.first);
+    let path = path(rt, alloc, &rows, case.first, fraction(rt, (1, 2)));
     let (lo, hi) = case.range;
     match walk(rt, alloc, &path, fraction(rt, lo), fraction(rt, hi)) {
         Ok(found) => expect_stays(rt, found.segments.as_slice(), case.stays),
