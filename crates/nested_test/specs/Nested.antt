@@ -1,4 +1,4 @@
--- Law. The statistic of nested models (Gutenbrunner, Jurečková, Koenker and Portnoy 1993): are the coefficients of some columns
+-- Stated. The statistic of nested models (Gutenbrunner, Jurečková, Koenker and Portnoy 1993): are the coefficients of some columns
 -- 0? The tested columns are at 0, .., at (n - 1), and b are rank scores of the rows.
 use Rattle.std.specs.Prelude.{◌≡◌, ℕ, ◌<◌, false, if◌then◌else◌, List, length, slice_index, pos}
 use Rattle.exact_algebra.specs.Fraction.{Fraction}

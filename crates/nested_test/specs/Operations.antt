@@ -1,4 +1,4 @@
--- Law. The operations of the scores and of the statistic of nested models, and why there is none.
+-- Stated. The operations of the scores and of the statistic of nested models, and why there is none.
 use Rattle.std.specs.Prelude.{◌⊎◌, ℕ, ◌+◌, ◌*◌, List, [], ◌∷◌, length, slice_index, pos, ⊤}
 use Rattle.exact_algebra.specs.Fraction.{Fraction}
 use Rattle.exact_algebra.specs.Rational.{ℚ, ◌+ℚ◌, ◌*ℚ◌, whole}
