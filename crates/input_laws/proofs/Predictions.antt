@@ -21,7 +21,7 @@ use Rattle.rq_input.specs.Predictions.{ArePredicted, HasPredictionCause, HasReco
 use Rattle.rq_input.specs.declared.input.Input.{Input}
 use Rattle.rq_input.specs.declared.predictions.PredictionInput.{PredictionInput}
 use Rattle.rq_input.proofs.Lists.{zip_item, zip_length}
-use Rattle.rq_input.proofs.Plain.{plain_input}
+use Rattle.rq_input.proofs.PlainInputs.{plain_input}
 use Rattle.input_laws.specs.Laws.{PredictionsHaveNoFault}
 use Rattle.input_laws.proofs.Inputs.{one_table}
 use Rattle.input_laws.proofs.Parsed.{one_formula}
