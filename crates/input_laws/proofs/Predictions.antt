@@ -1,5 +1,5 @@
 -- Bytes that ask for predictions have no fault: neither as an input, nor in what is predicted.
-use Rattle.std.proofs.Common.{◌≢◌, ℕ, true, List, length, arith, inl, inr, refl, sym, ap, subst, ◌∙◌}
+use Rattle.std.proofs.Common.{◌≢◌, ℕ, true, List, length, arith, inl, inr, sym, ap, subst, ◌∙◌}
 use Rattle.loss_model.specs.Problem.{IsWellShaped}
 use Rattle.contrasts.specs.declared.Coding.{Coding}
 use Rattle.formula_grammar.specs.Faults.{NoFormulaHasFaults}
