@@ -1,5 +1,5 @@
 -- Bytes that ask for predictions have no fault: neither as an input, nor in what is predicted.
-use Rattle.std.proofs.Common.{◌≢◌, ℕ, true, List, length, arith, inl, inr, refl, sym, ap, subst, ◌∙◌}
+use Rattle.std.proofs.Common.{◌≢◌, ℕ, true, List, length, arith, inl, inr, sym, ap, subst, ◌∙◌}
 use Rattle.loss_model.specs.Problem.{IsWellShaped}
 use Rattle.contrasts.specs.declared.Coding.{Coding}
 use Rattle.formula_grammar.specs.Faults.{NoFormulaHasFaults}
@@ -21,7 +21,7 @@ use Rattle.rq_input.specs.Predictions.{ArePredicted, HasPredictionCause, HasReco
 use Rattle.rq_input.specs.declared.input.Input.{Input}
 use Rattle.rq_input.specs.declared.predictions.PredictionInput.{PredictionInput}
 use Rattle.rq_input.proofs.Lists.{zip_item, zip_length}
-use Rattle.rq_input.proofs.Plain.{plain_input}
+use Rattle.rq_input.proofs.PlainInputs.{plain_input}
 use Rattle.input_laws.specs.Laws.{PredictionsHaveNoFault}
 use Rattle.input_laws.proofs.Inputs.{one_table}
 use Rattle.input_laws.proofs.Parsed.{one_formula}

@@ -15,14 +15,13 @@ module _ (tested : List ℕ) (scores : List Frac128) (same : length scores ≡ l
   size = omega (arith, length-zip tested scores, same)
 
   -- the step of the loop
-  pub scores_more : (k column : ℕ) (score : Frac128) (start page new : List ℕ) → k < length tested → column ≡ get_or tested k column → score ≡ get_or scores k score
-      → page ≡ start ++ flat_map score_line (take k (zip tested scores)) → new ≡ page ++ score_line (beside column score)
+  pub scores_more : (k d : ℕ) (score : Frac128) (start page new : List ℕ) → k < length tested → score ≡ get_or scores k score
+      → page ≡ start ++ flat_map score_line (take k (zip tested scores)) → new ≡ page ++ score_line (beside (get_or tested k d) score)
       → new ≡ start ++ flat_map score_line (take (k + 1) (zip tested scores))
-  scores_more k column score start page new within at_tested at_scores so_far more =
-      let pair : beside column score ≡ get_or (zip tested scores) k (beside column score) =
-      ap (λ n. beside n score) at_tested ∙ ap (beside (get_or tested k column)) at_scores
-      ∙ sym (get_or-zip tested scores k (beside column score) within (omega (arith, within, same))) in
-      flat_more score_line (zip tested scores) k (beside column score) start page new (omega (arith, within, size)) so_far (more ∙ ap (λ p. page ++ score_line p) pair)
+  scores_more k d score start page new within at_scores so_far more =
+      let pair : beside (get_or tested k d) score ≡ get_or (zip tested scores) k (beside d score) =
+      ap (beside (get_or tested k d)) at_scores ∙ sym (get_or-zip tested scores k (beside d score) within (omega (arith, within, same))) in
+      flat_more score_line (zip tested scores) k (beside d score) start page new (omega (arith, within, size)) so_far (more ∙ ap (λ p. page ++ score_line p) pair)
 
   -- its end
   pub scores_all : (k : ℕ) (start page : List ℕ) → k ≡ length tested → page ≡ start ++ flat_map score_line (take k (zip tested scores))

@@ -24,17 +24,17 @@ use Rattle.rq_input.specs.Rows.{HasRows}
 use Rattle.rq_input.specs.declared.input.Input.{Input}
 
 -- the first of some numbers, or 0
-front : List ℚ → ℚ
+abbrev front : List ℚ → ℚ
 front [] = whole (pos 0)
 front (x ∷ xs) = x
 
 -- the first entry of the first row of a design
-design_front : List DesignRowOf → ℚ
+abbrev design_front : List DesignRowOf → ℚ
 design_front [] = whole (pos 0)
 design_front (r ∷ rs) = front r.x
 
 -- that of a problem
-problem_front : List RowOf → ℚ
+abbrev problem_front : List RowOf → ℚ
 problem_front [] = whole (pos 0)
 problem_front (r ∷ rs) = front r.x
 
@@ -61,9 +61,9 @@ front_of_data (d ∷ ds) (s ∷ ss) penalties same some = front_joined (map exac
 -- the first column of a design with an intercept is the product of nothing
 front_of_design : (table : Table) (model : Formula) (coding : Coding) (weights : Option Column) (records : List ℕ) → model.intercept ≡ true
     → 1 ≤ length (design_of table model coding weights records).rows → design_front (design_of table model coding weights records).rows ≡ whole (pos 1)
-unfolding design_of, columns_of
+unfolding design_of columns_of
 front_of_design table model coding weights [] intercept some = absurd (omega (arith, some))
-front_of_design table model coding weights (i ∷ is) intercept some = rw intercept at refl
+front_of_design table model coding weights (i ∷ is) intercept some = rw intercept refl
 
 module _ (job : FitJob) (table : Table) (model : Formula) (input : Input) (designed : IsDesigned job table model input.design) (problem : map exact_row input.problem.rows ≡ rows_of input.design input.smoothing) (rows : HasRows input) (some : 1 ≤ length input.design.rows) where
   design_entry : model.intercept ≡ true → design_front (map exact_design_row input.design.rows) ≡ whole (pos 1)

@@ -2,5 +2,5 @@ mod Inputs
 mod Intercepts
 mod Predicting
 pub mod Lists
-pub mod Plain
-pub mod Tested
+pub mod PlainInputs
+pub mod TestedInputs

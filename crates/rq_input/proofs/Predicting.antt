@@ -23,7 +23,7 @@ use Rattle.rq_input.specs.Inputs.{AreTable, HasModelCause}
 use Rattle.rq_input.specs.Models.{IsModel}
 use Rattle.rq_input.specs.Plain.{HasPlainCause, HasPlainTableCause, IsPlainModel}
 use Rattle.rq_input.specs.Predicting.{HasRow, HasRowsCause, LacksRowOf}
-use Rattle.rq_input.specs.Predictions.{ArePredicted, HasEntries, HasPredictionCause, HasRecordsCause, LacksPredictions, LacksRow}
+use Rattle.rq_input.specs.Predictions.{ArePredicted, HasEntries, HasPredictionCause, HasRecordsCause, LacksPredictions}
 use Rattle.rq_input.specs.Rows.{HasRows}
 use Rattle.rq_input.specs.declared.input.Input.{Input}
 use Rattle.rq_input.proofs.Inputs.{model_cause, no_names}

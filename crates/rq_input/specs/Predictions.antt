@@ -1,5 +1,5 @@
 -- Stated. What bytes ask to be predicted, and why nothing is.
-use Rattle.std.specs.Prelude.{◌≡◌, ◌≢◌, ◌⊎◌, ℕ, ◌+◌, ◌<◌, ◌≤◌, ◌^◌, List, [], Some, length, slice_get, take, ⊤}
+use Rattle.std.specs.Prelude.{◌≡◌, ◌≢◌, ◌⊎◌, ℕ, ◌+◌, ◌<◌, ◌≤◌, ◌^◌, List, [], Some, length, slice_get, take}
 use Rattle.std.specs.List.{AllZip}
 use Rattle.contrasts.specs.declared.Coding.{Coding}
 use Rattle.formula_parser.specs.declared.formula.Formula.{Formula}
@@ -13,7 +13,7 @@ use Rattle.rq_words.specs.declared.job.FitJob.{FitJob}
 use Rattle.report_text.specs.declared.report.Refusal.{Refusal}
 use Rattle.report_text.specs.declared.report.Refusal.TheVariants as refusals
 use Rattle.report_text.specs.declared.report.Halt.{Halt}
-use Rattle.report_text.specs.declared.report.Halt.TheVariants.{Refused, OutOfMemory}
+use Rattle.report_text.specs.declared.report.Halt.TheVariants.{Refused}
 use Rattle.rq_input.specs.Inputs.{AreTable}
 use Rattle.rq_input.specs.Plain.{HasPlainCause, IsPlainModel}
 use Rattle.rq_input.specs.Rows.{HasRows}

@@ -3,7 +3,7 @@ use Rattle.std.specs.Prelude.{ℕ, true, List}
 use Rattle.rq_words.specs.declared.job.FitJob.{FitJob}
 use Rattle.rq_input.specs.Inputs.{IsInput}
 use Rattle.rq_input.specs.Predictions.{IsPrediction}
-use Rattle.rq_input.proofs.Plain.{plain_input}
+use Rattle.rq_input.proofs.PlainInputs.{plain_input}
 use Rattle.rq_input.specs.declared.predictions.PredictionInput.{PredictionInput}
 
 -- it has no smooths, as where ranks are asked for

@@ -45,8 +45,8 @@ use Rattle.rq_engine.specs.Jobs.{sample_fit, sample_table}
 use Rattle.rq_engine.proofs.Asked.{asked_job}
 use Rattle.rq_cli.specs.Outcomes.{Stream, IsHalted, WereRead}
 use Rattle.run_laws.specs.NeededOutcomes.{IsFitJob, IsLimitedAt, OverflowsAt, ReachesItsIntervalLimit, ReachesItsLimit, ReachesLimitAt, WasInput, WasPosed, WasWhole, table_bytes}
-use Rattle.rq_input.proofs.Plain.{plain_rows}
-use Rattle.rq_input.proofs.Tested.{ranked_rows}
+use Rattle.rq_input.proofs.PlainInputs.{plain_rows}
+use Rattle.rq_input.proofs.TestedInputs.{ranked_rows}
 use Rattle.run_laws.proofs.AskedInputs.{asked_input}
 use Rattle.run_laws.proofs.AskedIntervals.{asked_there, inner_costs}
 use Rattle.run_laws.proofs.Spilled.{of_first, of_fit, of_row, of_scored, of_test, of_wilcoxon}

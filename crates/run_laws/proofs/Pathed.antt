@@ -23,7 +23,7 @@ use Rattle.report_text.specs.declared.report.Report.TheVariants as reports
 use Rattle.report_text.specs.declared.report.Halt.TheVariants as halts
 use Rattle.rq_input.specs.Plain.{HasPlainCause, IsPlain}
 use Rattle.rq_input.specs.declared.plain.PlainInput.{PlainInput}
-use Rattle.rq_input.proofs.Plain.{plain_input}
+use Rattle.rq_input.proofs.PlainInputs.{plain_input}
 use Rattle.input_laws.specs.Laws.{PlainInputsHaveNoFault}
 use Rattle.rq_fit.specs.Paths.{IsPathProblem}
 use Rattle.rq_engine.specs.Answers as engine

@@ -1,4 +1,4 @@
-use Rattle.std.proofs.Common.{◌≡◌, subst}
+use Rattle.std.proofs.Common.{subst}
 use Rattle.formula_parser.specs.Parsed.{IsParsed}
 use Rattle.formula_parser.proofs.Counting.{terms_short}
 use Rattle.rq_input.proofs.input.table_input.Goals as goal

@@ -1,4 +1,4 @@
-use Rattle.std.proofs.Common.{◌≡◌, ap, length, subst, sym, ◌∙◌}
+use Rattle.std.proofs.Common.{ap, length, subst, sym, ◌∙◌}
 use Rattle.formula_parser.specs.Parsed.{IsParsed}
 use Rattle.formula_parser.proofs.Counting.{terms_short}
 use Rattle.rq_input.proofs.Predicting.{model_plain, no_smooths}

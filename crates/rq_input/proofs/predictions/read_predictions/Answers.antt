@@ -1,6 +1,6 @@
 use Rattle.data_frame.specs.Views.{exact_table}
 use Rattle.data_frame.proofs.Counting.{few_names}
-use Rattle.rq_input.proofs.Predicting.{plain_prediction, problem_entries, rows_prediction, table_plain}
+use Rattle.rq_input.proofs.Predicting.{problem_entries}
 use Rattle.rq_input.proofs.predictions.read_predictions.Goals as goal
 
 pub plain_model-requires-clause-few : goal.plain_model-requires-clause-few

@@ -1,4 +1,4 @@
-use Rattle.std.proofs.Common.{◌++◌, codes}
+use Rattle.std.proofs.Common.{codes}
 use Rattle.report_text.proofs.Appends.{append_four}
 use Rattle.report_text.specs.ReportText.{checked_text, size_lines}
 use Rattle.report_text.proofs.page.Page.checked.Goals as goal

@@ -40,9 +40,9 @@ at_least : (xs : List ℕ) → IsStrictlyIncreasing xs → (k : ℕ) → k < len
 at_least xs up zero l = omega arith
 at_least xs up (suc k) l =
     let e : k + 1 ≡ suc k = omega arith in
-    let step = up k (omega (arith, l)) in
+    let step : slice_index xs k < slice_index xs (suc k) = rw e at (up k (omega (arith, l))) in
     let here = at_least xs up k (omega (arith, l)) in
-    rw e at (omega (arith, step, here))
+    omega (arith, step, here)
 
 -- there are no more of them than columns
 few : (columns n : ℕ) (tested : List ℕ) → length tested ≡ n → IsStrictlyIncreasing tested → All (λ k. k < columns) tested → length tested ≤ columns
