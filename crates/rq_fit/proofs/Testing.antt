@@ -17,7 +17,7 @@ use Rattle.loss_model.specs.declared.stop.Stop.TheVariants as stops
 use Rattle.loss_model.specs.Dual.{IsDataRow}
 use Rattle.loss_model.specs.FullRank.{HasFullRank}
 use Rattle.loss_model.specs.declared.problem.Row.{Row}
-use Rattle.loss_model.specs.Problem.{of_row, sample, value_at}
+use Rattle.loss_model.specs.Problem.{IsWellShaped, of_row, sample, value_at}
 use Rattle.loss_model.specs.Quantities.{IsShortOf}
 use Rattle.loss_model.specs.Segment.{Covers, segments_of}
 use Rattle.loss_model.specs.StartStop.{IsStartStop}
@@ -60,10 +60,10 @@ module _ (p : Problem Frac128) (tested : List ℕ) (q : Problem Frac128) (is : q
   pub same_rows : length q.rows ≡ length p.rows
   same_rows = ap (λ (q : Problem Frac128). length q.rows) is ∙ length-map p.rows (restricted_row tested)
 
-  module _ (data : (i : ℕ) → i < length p.rows → IsDataRow (sample value p) i) (stay : RestrictedHasDataRows value p) where
+  module _ (are_data : (i : ℕ) → i < length p.rows → IsDataRow (sample value p) i) (stay : RestrictedHasDataRows value p) where
     -- all rows are data rows
     pub restricted_data : (i : ℕ) → i < length q.rows → IsDataRow (sample value q) i
-    restricted_data i l = subst (λ (q : Problem Frac128). IsDataRow (sample value q) i) (sym is) (stay tested i (data i (omega (arith, same_rows, l))))
+    restricted_data i l = subst (λ (q : Problem Frac128). IsDataRow (sample value q) i) (sym is) (stay tested i (are_data i (omega (arith, same_rows, l))))
 
     module _ (theta : ℚ) (low : whole (pos 0) ≤ℚ theta) (high : theta ≤ℚ whole (pos 1)) where
       costed : (i : ℕ) → i < length q.rows → IsCosted (sample value q) theta i
@@ -73,17 +73,17 @@ module _ (p : Problem Frac128) (tested : List ℕ) (q : Problem Frac128) (is : q
       restricted_costs = record { up = λ i l. (costed i l).up; down = λ i l. (costed i l).down; some = λ i l. (costed i l).some }
 
 -- so at both ends of the range of a job over 0 to 1
-module _ (job : FitJob) (ask : IsUnitAsk job) (p : Problem Frac128) (tested : List ℕ) (q : Problem Frac128) (is : q ≡ restricted_problem tested p) (data : (i : ℕ) → i < length p.rows → IsDataRow (sample value p) i) (stay : RestrictedHasDataRows value p) where
+module _ (job : FitJob) (ask : IsUnitAsk job) (p : Problem Frac128) (tested : List ℕ) (q : Problem Frac128) (is : q ≡ restricted_problem tested p) (are_data : (i : ℕ) → i < length p.rows → IsDataRow (sample value p) i) (stay : RestrictedHasDataRows value p) where
   abbrev fit_ask : IsFitAsk job
   fit_ask = unit_ask job ask
 
   pub restricted_low : HasCosts (sample value q) (rational (value job.lo))
   restricted_low =
-      restricted_costs p tested q is data stay (rational (value job.lo)) fit_ask.low (≤ℚ_trans (rational (value job.lo)) (rational (value job.hi)) (whole (pos 1)) fit_ask.ordered fit_ask.high)
+      restricted_costs p tested q is are_data stay (rational (value job.lo)) fit_ask.low (≤ℚ_trans (rational (value job.lo)) (rational (value job.hi)) (whole (pos 1)) fit_ask.ordered fit_ask.high)
 
   pub restricted_high : HasCosts (sample value q) (rational (value job.hi))
   restricted_high =
-      restricted_costs p tested q is data stay (rational (value job.hi)) (≤ℚ_trans (whole (pos 0)) (rational (value job.lo)) (rational (value job.hi)) fit_ask.low fit_ask.ordered) fit_ask.high
+      restricted_costs p tested q is are_data stay (rational (value job.hi)) (≤ℚ_trans (whole (pos 0)) (rational (value job.lo)) (rational (value job.hi)) fit_ask.low fit_ask.ordered) fit_ask.high
 
 -- what a row without entries has of its costs it has with them
 of_rows : (f : Row Frac128 → ℚ) (g : Row Frac128 → Row Frac128) (rows : List (Row Frac128)) (i : ℕ) → of_row (map g rows) f i ≡ of_row rows (λ r. f (g r)) i
@@ -132,6 +132,21 @@ scored_stop job q rank stops.OutOfMemory h = tt
 scored_stop job q rank (stops.PivotLimit limit trail) h = h
 scored_stop job q rank (stops.Overflow trail spill) h = inl h
 scored_stop job q rank (stops.Dependent combination) h = absurd (h.dependence.some (rank _ h.dependence.zero h.dependence.column h.dependence.within))
+
+-- so it is of the problem that was made without the tested columns
+module _ (job : FitJob) (p : Problem Frac128) (tested : List ℕ) (q : Problem Frac128) (is : q ≡ restricted_problem tested p) where
+  pub stop_there : RestrictedHasFullRank value p → IsWellShaped p → AreColumns p.columns tested → HasFullRank (sample value p) → (stop : Stop Frac128)
+      → IsProcessStop value most q (rational (value job.lo)) (rational (value job.hi)) job.limit stop → HasScoredCause job (restricted_problem tested p) (stop_halt places.Process stop)
+  stop_there stays shaped are rank stop h =
+      let full = stays tested shaped (are_tested p.columns tested are) rank in
+      subst (λ (q : Problem Frac128). HasScoredCause job q (stop_halt places.Process stop)) is
+      (scored_stop job q (subst (λ (q : Problem Frac128). HasFullRank (sample value q)) (sym is) full) stop h)
+
+  pub short_there : (halt : Halt) → HasScoredCause job q halt → HasScoredCause job (restricted_problem tested p) halt
+  short_there halt h = subst (λ (q : Problem Frac128). HasScoredCause job q halt) is h
+
+  pub scored_there : (walked : Process Frac128) (wilcoxon : List Frac128) → AreScoredBy job q walked wilcoxon → AreScoredBy job (restricted_problem tested p) walked wilcoxon
+  scored_there walked wilcoxon by = subst (λ (q : Problem Frac128). AreScoredBy job q walked wilcoxon) is by
 
 -- ---- the input
 

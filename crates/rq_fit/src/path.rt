@@ -10,7 +10,8 @@ ghost use Rattle.rq_fit.specs.Paths.{HasPathCause, IsPathFitOf, first_penalised 
 use crate::halt::{path_halt, stop_halt};
 use design_matrix::Design;
 use frac_core::Frac128;
-use lambda_path::{laws::path_is_askable, path_problem};
+use lambda_path::laws::path_is_askable;
+use lambda_path::path_problem;
 use loss_model::{Problem, Process};
 use report_text::{Halt, PathFit, Place};
 use rq_input::PlainInput;

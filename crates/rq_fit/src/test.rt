@@ -28,12 +28,12 @@ use tau_process::process;
 
 // The process without the tested columns, and the Wilcoxon scores of the rows by it.
 #[derive(Drop)]
-struct Scored {
+struct ScoredProcess {
     process: Process<Frac128>,
     wilcoxon: List<Frac128>,
 }
 
-fn scored(alloc: Global, job: &TestJob, full: &Problem<Frac128>) -> Result<Scored, Halt>
+fn scored(alloc: Global, job: &TestJob, full: &Problem<Frac128>) -> Result<ScoredProcess, Halt>
     requires ask { IsUnitAsk job.now.fit }
     requires shaped { IsWellShaped full.now }
     requires data { (i : ℕ) → i < length full.now.rows → IsDataRow (sample value full.now) i }
@@ -53,7 +53,7 @@ fn scored(alloc: Global, job: &TestJob, full: &Problem<Frac128>) -> Result<Score
         Err(stop) => return Err(stop_halt(Place::Process, stop)),
     };
     match wilcoxon(alloc, &problem, &process) {
-        Ok(wilcoxon) => Ok(Scored { process, wilcoxon }),
+        Ok(wilcoxon) => Ok(ScoredProcess { process, wilcoxon }),
         Err(short) => Err(short_halt(Place::Process, short, process.trail)),
     }
 }
@@ -112,7 +112,7 @@ pub fn test_input(alloc: Global, job: &TestJob, input: Input) -> Result<TestFit,
         Ok(started) => started,
         Err(stop) => return Err(stop_halt(Place::Full, stop)),
     };
-    let Scored { process, wilcoxon } = match scored(alloc, job, full) {
+    let ScoredProcess { process, wilcoxon } = match scored(alloc, job, full) {
         Ok(scored) => scored,
         Err(halt) => return Err(halt),
     };

@@ -115,8 +115,8 @@ module _ (lawful : PathHasCosts) (words : List (List ℕ)) (source source' : Str
       → IsLimitedAt words source source' place limit trail
   test_limited job bytes read places.Process limit trail h =
       let q = restricted_problem job.tested h.input.problem in
-      let data = input_data h.input h.rows (ranked_rows job.fit bytes h.input h.is.is) in
-      let costs = restricted_low job.fit (asked_job words (jobs.Test job) read.asked).0.unit h.input.problem job.tested q refl data (data_stays h.input.problem) in (
+      let are_data = input_data h.input h.rows (ranked_rows job.fit bytes h.input h.is.is) in
+      let costs = restricted_low job.fit (asked_job words (jobs.Test job) read.asked).0.unit h.input.problem job.tested q refl are_data (data_stays h.input.problem) in (
         job.fit,
         q,
         inr (inl (record { job = job; same = refl; input = h.input; was = record { bytes = bytes; read = read; is = h.is }; without = refl })),

@@ -1,9 +1,61 @@
-use Rattle.std.proofs.Common.{subst, arith}
-use Rattle.rq_fit.specs.Tested.{AreScoredBy, HasScoredCause}
+use Rattle.std.proofs.Common.{arith}
+use Rattle.report_text.specs.declared.report.Place.TheVariants as places
+use Rattle.rq_fit.specs.Halts.{short_halt}
 use Rattle.rq_fit.proofs.Fits.{right_process}
 use Rattle.rq_fit.proofs.Scoring.{unit_ask}
-use Rattle.rq_fit.proofs.Testing.{are_tested, few_walked, process_covers, restricted_costs, restricted_data, scorable, scored_short, scored_stop}
+use Rattle.rq_fit.proofs.Testing.{few_walked, process_covers, restricted_data, restricted_high, restricted_low, scorable, scored_short, scored_there, short_there, stop_there}
 use Rattle.rq_fit.proofs.test.scored.Goals as goal
 
-pub restricted-requires-clause-tested : goal.restricted-requires-clause-tested
-restricted-requires-clause-tested c = ?
+pub process-requires-clause-ordered : goal.process-requires-clause-ordered
+process-requires-clause-ordered c κs = (unit_ask c.args.job.now.fit c.requires.ask).ordered
+
+pub process-requires-clause-costs_lo : goal.process-requires-clause-costs_lo
+process-requires-clause-costs_lo c κs =
+    restricted_low c.args.job.now.fit c.requires.ask c.args.full.now c.args.job.now.tested c.in-Ok.problem (rw c.as_slice.ensures at c.in-Ok.ensures.restricted) c.requires.data c.restricted_is_askable.ensures.rows
+
+pub process-requires-clause-costs_hi : goal.process-requires-clause-costs_hi
+process-requires-clause-costs_hi c κs =
+    restricted_high c.args.job.now.fit c.requires.ask c.args.full.now c.args.job.now.tested c.in-Ok.problem (rw c.as_slice.ensures at c.in-Ok.ensures.restricted) c.requires.data c.restricted_is_askable.ensures.rows
+
+pub returns-in-Err-process-clause-cause : goal.returns-in-Err-process-clause-cause
+returns-in-Err-process-clause-cause c =
+    rw c.stop_halt.ensures
+    (stop_there c.args.job.now.fit c.args.full.now c.args.job.now.tested c.in-Ok.problem (rw c.as_slice.ensures at c.in-Ok.ensures.restricted) c.restricted_is_askable.ensures.rank c.requires.shaped c.requires.tested c.requires.rank
+    c.in-Err-process.stop c.in-Err-process.ensures.stopped)
+
+pub wilcoxon-requires-clause-few : goal.wilcoxon-requires-clause-few
+wilcoxon-requires-clause-few c κs =
+    few_walked c.args.job.now.fit c.requires.ask c.in-Ok.problem c.in-Ok-process.process c.in-Ok-process.ensures.process c.in-Ok-process.ensures.short (omega arith)
+
+pub wilcoxon-requires-clause-data : goal.wilcoxon-requires-clause-data
+wilcoxon-requires-clause-data c κs =
+    restricted_data c.args.full.now c.args.job.now.tested c.in-Ok.problem (rw c.as_slice.ensures at c.in-Ok.ensures.restricted) c.requires.data c.restricted_is_askable.ensures.rows
+
+pub wilcoxon-requires-clause-scorable : goal.wilcoxon-requires-clause-scorable
+wilcoxon-requires-clause-scorable c κs =
+    scorable c.args.job.now.fit c.requires.ask c.in-Ok.problem c.in-Ok-process.process c.in-Ok-process.ensures.process c.in-Ok-process.ensures.short
+
+pub wilcoxon-requires-clause-covers : goal.wilcoxon-requires-clause-covers
+wilcoxon-requires-clause-covers c κs =
+    process_covers c.args.job.now.fit c.requires.ask c.in-Ok.problem c.in-Ok-process.process c.in-Ok-process.ensures.process c.in-Ok-process.ensures.short
+
+pub returns-in-Ok-wilcoxon-clause-right : goal.returns-in-Ok-wilcoxon-clause-right
+returns-in-Ok-wilcoxon-clause-right c =
+    let fit = c.args.job.now.fit in
+    let q = c.in-Ok.problem in
+    let walked = c.in-Ok-process.process in
+    let made = c.in-Ok-process.ensures.process in
+    scored_there fit c.args.full.now c.args.job.now.tested q (rw c.as_slice.ensures at c.in-Ok.ensures.restricted) walked c.in-Ok-wilcoxon.wilcoxon (record {
+      process = right_process fit q walked made c.in-Ok-process.ensures.short (λ some. c.in-Ok-process.ensures.limited some);
+      covers = process_covers fit c.requires.ask q walked made c.in-Ok-process.ensures.short;
+      scores = c.in-Ok-wilcoxon.ensures.scored;
+    })
+
+pub returns-clause-cause : goal.returns-clause-cause
+returns-clause-cause c =
+    let fit = c.args.job.now.fit in
+    let q = c.in-Ok.problem in
+    let walked = c.in-Ok-process.process in
+    rw c.short_halt.ensures
+    (short_there fit c.args.full.now c.args.job.now.tested q (rw c.as_slice.ensures at c.in-Ok.ensures.restricted) (short_halt places.Process c.in-Err-wilcoxon.short walked.trail)
+    (scored_short fit c.requires.ask q walked c.in-Ok-process.ensures.process c.in-Ok-process.ensures.short c.in-Err-wilcoxon.short c.in-Err-wilcoxon.ensures.spilled))
