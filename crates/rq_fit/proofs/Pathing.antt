@@ -1,5 +1,5 @@
 -- Why an input has a path in lambda: its costs are lawful at every lambda above 0, and its columns are independent.
-use Rattle.std.proofs.Common.{◌≡◌, ◌≤◌, ◌<◌, ◌+◌, ◌-◌, ℕ, Bool, true, false, List, length, pos, arith, inl, inr, refl}
+use Rattle.std.proofs.Common.{◌≡◌, ◌≤◌, ◌<◌, ◌+◌, ◌-◌, ℕ, Bool, true, false, List, length, pos, arith, ap, inl, inr, refl}
 use Rattle.exact_algebra.specs.Fraction.{rational}
 use Rattle.exact_algebra.specs.Rational.{ℚ, whole, ◌≤ℚ◌}
 use Rattle.exact_algebra.proofs.OrderLaws.{cmp_ℚ-Less}
@@ -61,8 +61,8 @@ module _ (job : PathJob) (plain : PlainInput) (first : HasIntercept plain.interc
   full_rank = by plain.intercept refl
     where
       by : (intercept : Bool) → plain.intercept ≡ intercept → HasFullRank (sample value q)
-      by true e = independent (sample value plain.input.problem) (first_penalised plain.intercept) (rational (value job.tau)) (sample value q) path (inr (rw e at refl, first.some, first.entry e))
-      by false e = independent (sample value plain.input.problem) (first_penalised plain.intercept) (rational (value job.tau)) (sample value q) path (inl (rw e at refl))
+      by true e = independent (sample value plain.input.problem) (first_penalised plain.intercept) (rational (value job.tau)) (sample value q) path (inr (ap first_penalised e, first.some, first.entry e))
+      by false e = independent (sample value plain.input.problem) (first_penalised plain.intercept) (rational (value job.tau)) (sample value q) path (inl (ap first_penalised e))
 
   pub not_dependent : (combination : List Frac128) → ¬ IsDependent value q combination
   not_dependent combination d = d.dependence.some (full_rank _ d.dependence.zero d.dependence.column d.dependence.within)
