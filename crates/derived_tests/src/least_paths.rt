@@ -56,7 +56,9 @@ fn table(rt: &impl Abort, alloc: Global, text: &str) -> Problem<Frac128> {
     let mut columns = 0;
     for part in text.split(';') {
         let row = row(rt, alloc, part);
-        columns = row.x.as_slice().len() as u32;
+        columns = u32::try_from(row.x.as_slice().len())
+            .ok()
+            .expect(rt, "a few columns");
         push(rt, &mut rows, row);
     }
     Problem {
