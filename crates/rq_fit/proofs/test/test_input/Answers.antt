@@ -1,0 +1,8 @@
+use Rattle.rq_fit.proofs.Testing.{nested_cause}
+use Rattle.rq_fit.proofs.test.test_input.Goals as goal
+
+pub returns-in-Err-nested-clause-cause : goal.returns-in-Err-nested-clause-cause
+returns-in-Err-nested-clause-cause c =
+    rw c.nested_halt.ensures
+    (nested_cause c.args.job.now c.args.input c.in-Ok-scored.scored.process c.in-Ok-scored.scored.wilcoxon c.in-Ok-scored.ensures.right c.in-Err-nested.stop
+    (rw (c.as_slice-tested.ensures, c.as_slice.ensures) at c.in-Err-nested.ensures.stopped))
