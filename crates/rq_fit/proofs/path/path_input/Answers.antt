@@ -20,11 +20,11 @@ pub path_problem-requires-clause-first : goal.path_problem-requires-clause-first
 path_problem-requires-clause-first c = rw c.first_penalised-first.ensures (first_within c.args.plain c.requires.rows)
 
 pub process-requires-clause-costs_lo : goal.process-requires-clause-costs_lo
-process-requires-clause-costs_lo c =
+process-requires-clause-costs_lo c κs =
     low_costs c.args.job.now c.requires.ask c.args.plain c.requires.rows c.requires.unpenalised c.in-Ok.problem (rw c.first_penalised-first.ensures at c.in-Ok.ensures.path) c.path_is_askable.ensures.costs
 
 pub process-requires-clause-costs_hi : goal.process-requires-clause-costs_hi
-process-requires-clause-costs_hi c =
+process-requires-clause-costs_hi c κs =
     high_costs c.args.job.now c.requires.ask c.args.plain c.requires.rows c.requires.unpenalised c.in-Ok.problem (rw c.first_penalised-first.ensures at c.in-Ok.ensures.path) c.path_is_askable.ensures.costs
 
 pub returns-in-Err-clause-cause : goal.returns-in-Err-clause-cause
