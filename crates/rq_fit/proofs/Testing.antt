@@ -9,7 +9,6 @@ use Rattle.exact_algebra.proofs.RationalLaws.{≤ℚ_trans}
 use Rattle.frac_core.specs.declared.frac128.Frac128.{Frac128}
 use Rattle.loss_model.specs.declared.problem.Problem.{Problem}
 use Rattle.loss_model.specs.declared.process.Process.{Process}
-use Rattle.loss_model.specs.declared.process.Trail.{Trail}
 use Rattle.loss_model.specs.declared.spill.Short.{Short}
 use Rattle.loss_model.specs.declared.spill.Short.TheVariants as shorts
 use Rattle.loss_model.specs.declared.stop.Stop.{Stop}
@@ -26,7 +25,6 @@ use Rattle.tau_process.specs.Processes.{IsProcess}
 use Rattle.tau_process.specs.Stops.{IsProcessStop}
 use Rattle.rankscores.specs.Scores.{IsScorable}
 use Rattle.rankscores.specs.Spills.{IsWilcoxonSpill}
-use Rattle.rankscores.specs.Wilcoxon.{AreWilcoxon}
 use Rattle.nested_test.specs.Laws.{RestrictedHasDataRows, RestrictedHasFullRank}
 use Rattle.nested_test.specs.Operations.{IsNestedStop}
 use Rattle.nested_test.specs.Restricted.{AreTested, restricted_problem, restricted_row}
@@ -36,19 +34,18 @@ use Rattle.rq_words.specs.declared.job.FitJob.{FitJob}
 use Rattle.rq_words.specs.declared.job.TestJob.{TestJob}
 use Rattle.report_text.specs.ReportText.{value}
 use Rattle.report_text.specs.declared.report.Halt.{Halt}
-use Rattle.report_text.specs.declared.report.Halt.TheVariants.{Refused, OutOfMemory, PivotLimit, Overflow}
+use Rattle.report_text.specs.declared.report.Halt.TheVariants.{Refused, Overflow}
 use Rattle.report_text.specs.declared.report.Refusal.TheVariants.{Dependent}
 use Rattle.report_text.specs.declared.report.Place.TheVariants as places
 use Rattle.rq_input.specs.Rows.{HasRows}
 use Rattle.rq_input.specs.Tested.{AreColumns}
 use Rattle.rq_input.specs.declared.input.Input.{Input}
 use Rattle.rq_fit.specs.Asks.{IsFitAsk, IsUnitAsk}
-use Rattle.rq_fit.specs.Fit.{IsRightProcess}
 use Rattle.rq_fit.specs.Halts.{nested_halt, short_halt, stop_halt}
 use Rattle.rq_fit.specs.Stops.{most}
 use Rattle.rq_fit.specs.Tested.{AreScoredBy, HasScoredCause, HasTestCause}
 use Rattle.rq_fit.proofs.Costs.{IsCosted, data_costs}
-use Rattle.rq_fit.proofs.Fits.{few_segments, process_scorable, right_process}
+use Rattle.rq_fit.proofs.Fits.{few_segments, process_scorable}
 use Rattle.rq_fit.proofs.Scoring.{unit_ask}
 
 pub are_tested : (columns : ℕ) (tested : List ℕ) → AreColumns columns tested → AreTested columns tested

@@ -1,7 +1,7 @@
 -- Inner. What is known of a job whose words ask for a fit.
 use Rattle.std.specs.Prelude.{◌≡◌, true, All, Option, None, Some, map, pos, ⊤}
 use Rattle.exact_algebra.specs.Fraction.{rational}
-use Rattle.exact_algebra.specs.Rational.{ℚ, whole, ◌≤ℚ◌}
+use Rattle.exact_algebra.specs.Rational.{whole, ◌≤ℚ◌}
 use Rattle.rq_words.specs.declared.job.RankAsk.{RankAsk}
 use Rattle.rq_words.specs.declared.job.FitJob.{FitJob}
 use Rattle.rq_words.specs.declared.job.PathJob.{PathJob}

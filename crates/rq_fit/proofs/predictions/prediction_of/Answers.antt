@@ -1,4 +1,4 @@
-use Rattle.std.proofs.Common.{length, refl}
+use Rattle.std.proofs.Common.{refl}
 use Rattle.std.proofs.lemmas.Result.{err_from_is_err_and}
 use Rattle.rq_fit.proofs.Predicting.{joined, rearranged_short}
 use Rattle.rq_fit.proofs.predictions.prediction_of.Goals as goal
