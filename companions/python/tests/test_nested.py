@@ -16,6 +16,7 @@ from test_program import LINE, STACKLOSS, needs_program
 from test_reports import LINE as LINE_REPORT
 from test_reports import MEDIAN, SMOOTH, TEST
 
+
 def quantiles(responses, weights=None):
     """The report of `y ~ 1` over all quantiles: the records by their responses, each for as much of them as it weighs."""
     weights = weights or [F(1)] * len(responses)
