@@ -5,7 +5,8 @@ Numbers are `fractions.Fraction` throughout, and each report has frames of float
 """
 
 from .faults import QuantregError, ReportError, read_fault
-from .fitting import Fit, PathFit, fit, path, predictions, ranks
+from .fitting import Fit, PathFit, fit, path, predictions, rank_test, ranks
+from .nested import rank_test_of_process
 from .plots import plot_fit, plot_process
 from .program import find_program, run
 from .reports import (
@@ -50,6 +51,8 @@ __all__ = [
     "plot_fit",
     "plot_process",
     "predictions",
+    "rank_test",
+    "rank_test_of_process",
     "ranks",
     "read_fault",
     "read_report",

@@ -183,6 +183,16 @@ def ranks(formula, data, *, weights=None, contrasts=None, pivots=None, program=N
     return read_report(run(_words("ranks", options), _table_bytes(data), program))
 
 
+def rank_test(formula, data, tested, *, weights=None, contrasts=None, pivots=None, program=None):
+    """The rank test that the columns `tested` of a formula's design have coefficients 0, by the job `test`.
+
+    `tested` is the number of a column, counted from 1 as in a report's lines `column`, or a list of them that rises. Where a
+    number outgrows the program's 128 bits, `rank_test_of_process` works the statistic out of a process of the other columns.
+    """
+    options = {"formula": formula, "tested": tested, "weights": weights, "contrasts": contrasts, "pivots": pivots}
+    return read_report(run(_words("test", options), _table_bytes(data), program))
+
+
 def predictions(formula, data, lo, hi=None, *, weights=None, contrasts=None, pivots=None, program=None):
     """The predictions of the records of `data` whose response is missing, by the job `predict`.
 

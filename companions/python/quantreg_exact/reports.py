@@ -300,7 +300,11 @@ class SampleReport:
 
 @dataclass(frozen=True)
 class TestReport:
-    """The rank test of nested models: what the job `test` prints. `scores` are by tested column."""
+    """The rank test of nested models: what the job `test` prints.
+
+    `scores` has the score of each column of `tested` by its number, and `pivots` counts those of the fit without these columns.
+    Where their coefficients are 0, `statistic` is about chi-squared with as many degrees of freedom as there are tested columns.
+    """
 
     __test__ = False  # no test case of pytest's
 
@@ -569,6 +573,8 @@ def _read_test(lines):
     tested = tuple(map(lines.count, listed.split(",")))
     if any(not 1 <= column <= len(names) for column in tested):
         raise lines.fault("a tested column is none of the design")
+    if list(tested) != sorted(set(tested)) or len(tested) == len(names):
+        raise lines.fault("the tested columns rise, and leave one")
     (pivots,) = lines.counts("pivots", 1)
     scores = {}
     for column in tested:
@@ -576,6 +582,8 @@ def _read_test(lines):
         lines.expect(at, column)
         scores[column] = lines.number(value)
     (statistic,) = lines.numbers("statistic", 1)
+    if statistic < 0 or bool(statistic) != any(scores.values()):
+        raise lines.fault("a statistic is 0 where all scores are, and else above 0")
     lines.end()
     return TestReport(records, dropped, names, tested, pivots, scores, statistic)
 

@@ -338,6 +338,26 @@ class OtherReports(unittest.TestCase):
         report = read_report(TEST)
         self.assertEqual((report.tested, report.scores, report.statistic), ((2,), {2: 1}, F(18, 7)))
         self.assertEqual(report.to_frame().loc[0].tolist(), ["x", 1.0])
+        three = TEST.replace("column 2 x", "column 2 x\ncolumn 3 z").replace("tested 2", "tested 1,3")
+        three = three.replace("score 2 1", "score 1 0\nscore 3 -1/2")
+        self.assertEqual(read_report(three).scores, {1: 0, 3: F(-1, 2)})
+
+    def test_nested_tests_that_no_run_has_are_refused_at_their_line(self):
+        for old, new, line in [
+            ("tested 2", "tested 3", 5),
+            ("tested 2", "tested 0", 5),
+            ("tested 2", "tested 1,2", 5),
+            ("tested 2", "tested 2,1", 5),
+            ("tested 2", "tested 2,2", 5),
+            ("tested 2", "tested 2,", 5),
+            ("score 2 1", "score 1 1", 7),
+            ("score 2 1", "score 2 0", 8),
+            ("statistic 18/7", "statistic 0", 8),
+            ("statistic 18/7", "statistic -18/7", 8),
+        ]:
+            with self.subTest(new=new), self.assertRaises(ReportError) as caught:
+                read_report(TEST.replace(old, new, 1))
+            self.assertEqual(caught.exception.line, line)
 
     def test_checks_and_samples(self):
         self.assertEqual(read_report(CHECK).to_frame().loc[0].tolist(), [2, 3, 2, 0])

@@ -76,6 +76,15 @@ path_exact <- function(formula, data, tau = 0.5, lo, hi = lo, weights = NULL, co
     list(segments = segments, exact = exact)
 }
 
+#' The rank test that the columns of the design whose numbers are `tested`, counted from 1 and rising, have coefficients 0, by the job
+#' test. The statistic over the number of tested columns is what anova(.., test = "rank", score = "wilcoxon") calls F value.
+rank_test_exact <- function(formula, data, tested, weights = NULL, contrasts = "treatment", pivots = NULL, program = NULL) {
+    options <- list(tested = tested, weights = weights, contrasts = contrasts, pivots = pivots)
+    exact <- read_report(run_quantreg(fit_words("test", formula, options), used_columns(formula, data, weights), program))
+    scores <- structure(fraction_value(exact$scores), names = exact$names[exact$tested])
+    list(scores = scores, statistic = fraction_value(exact$statistic), columns = length(scores), exact = exact[c("scores", "statistic")])
+}
+
 #' The coefficients, as doubles or, with exact = TRUE, as fractions in text.
 coef.rq_exact <- function(object, exact = FALSE, ...) if (exact) object$exact else object$coefficients
 

@@ -1,4 +1,4 @@
-# Reports as lists. The package reads those of `process`, `ranks`, `predict` and `path`.
+# Reports as lists. The package reads those of `process`, `ranks`, `predict`, `path` and `test`.
 
 #' The double nearest to a number text, up to two roundings: a whole number, a ratio, Inf or -Inf.
 fraction_value <- function(text) {
@@ -40,16 +40,25 @@ read_predictions <- function(lines) {
     cbind(record = as.integer(sub("^\\w+ ", "", head)), is_rearranged = startsWith(head, "rearranged"), steps)
 }
 
-#' The report of a run, from its lines or its text: a list with `kind` process, ranks, predict or path.
+# The parts of a rank test: the numbers of the tested columns, a score for each, and the statistic.
+read_test <- function(lines) {
+    tested <- strsplit(fields_of(lines, "tested", 1)[1, 1], ",", fixed = TRUE)[[1]]
+    scores <- fields_of(lines, "score", 2)
+    if (!identical(scores[, 1], tested)) stop("the scores are not those of the tested columns", call. = FALSE)
+    list(tested = as.integer(tested), scores = scores[, 2], statistic = fields_of(lines, "statistic", 1)[1, 1])
+}
+
+#' The report of a run, from its lines or its text: a list with `kind` process, ranks, predict, path or test.
 #'
 #' Numbers are texts, which fraction_value turns into doubles. In a segment of a path `marks` has the sides and `basic` the dual values.
 read_report <- function(text) {
     lines <- if (length(text) == 1) strsplit(text, "\n", fixed = TRUE)[[1]] else text
     kinds <- c(
-        "quantreg 1" = "process", "quantreg ranks 1" = "ranks", "quantreg predict 1" = "predict", "quantreg path 1" = "path"
+        "quantreg 1" = "process", "quantreg ranks 1" = "ranks", "quantreg predict 1" = "predict", "quantreg path 1" = "path",
+        "quantreg test 1" = "test"
     )
     if (!lines[1] %in% names(kinds) || lines[length(lines)] != "end") {
-        stop("no whole report of process, ranks, predict or path", call. = FALSE)
+        stop("no whole report of process, ranks, predict, path or test", call. = FALSE)
     }
     counts <- fields_of(lines, "records", 3)[1, ]
     names <- unescaped(fields_of(lines, "column", 2)[, 2])
@@ -59,6 +68,7 @@ read_report <- function(text) {
     )
     if (report$kind == "ranks") return(c(report, list(wilcoxon = fields_of(lines, "wilcoxon", 2)[, 2])))
     if (report$kind == "predict") return(c(report, list(predictions = read_predictions(lines))))
+    if (report$kind == "test") return(c(report, read_test(lines)))
     rows <- fields_of(lines, "data", 3)[1, ]
     starts <- which(startsWith(lines, "segment "))
     if (!length(starts)) stop("the report has no segment", call. = FALSE)

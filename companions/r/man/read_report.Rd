@@ -3,7 +3,7 @@
 \alias{fraction_value}
 \alias{find_quantreg}
 \title{Reports of quantreg}
-\description{Reads the text of a report of \code{process}, \code{ranks}, \code{predict} or \code{path} as a list of texts; turns number texts into doubles; finds the program.}
+\description{Reads the text of a report of \code{process}, \code{ranks}, \code{predict}, \code{path} or \code{test} as a list of texts; turns number texts into doubles; finds the program.}
 \usage{
 read_report(text)
 fraction_value(text)

@@ -92,10 +92,24 @@ stopifnot(
     bent$kind == "path", bent$penalty == 1, length(bent$segments) == 3, identical(bent$segments[[2]]$coef, c("3/2", "1/2")),
     bent$segments[[3]]$marks == "-*+*", identical(bent$segments[[1]]$basic["3", ], c(lo = "-1/12", hi = "0"))
 )
+# The Wilcoxon scores of 0, 2 and 3 are -1/3, 0 and 1/3, and x less its mean has the squared length 14/3: 12 * 1 * 3/14.
+nested <- "quantreg test 1
+records 3 dropped 0
+column 1 (Intercept)
+column 2 x
+tested 2
+pivots 2
+score 2 1
+statistic 18/7
+end
+"
+found <- read_report(nested)
+stopifnot(found$kind == "test", identical(found$tested, 2L), identical(found$scores, "1"), identical(found$statistic, "18/7"))
 refused <- function(text) inherits(try(read_report(text), silent = TRUE), "try-error")
 lines <- strsplit(line, "\n")[[1]]
 stopifnot(refused(lines[-length(lines)]), refused(sub("quantreg 1", "quantreg 2", line)), refused(lines[-9]), refused(lines[-13]))
 stopifnot(refused(sub("dual 3 -1/12 0\n", "", path, fixed = TRUE)), refused(sub("quantreg path 1", "quantreg 1", path)))
+stopifnot(refused(sub("score 2 1\n", "", nested)), refused(sub("score 2", "score 1", nested)), refused(sub("statistic", "total", nested)))
 
 # A program that writes down its words and answers with a given text and status.
 fake <- function(answer, status = 0) {
@@ -125,6 +139,13 @@ stopifnot(
     identical(readLines(paste0(program, ".words")), c("path", "--formula=y ~ x", "--tau=1/2", "--lo=1/4", "--hi=2", "--contrasts=treatment")),
     identical(bent$exact, cbind(ends, "(Intercept)" = c("0", "3/2", "2"), x = c("1", "1/2", "0"))),
     identical(bent$segments$x, c(1, 0.5, 0)), identical(bent$segments$loss_hi, c(1, 1.5, 1.5))
+)
+program <- fake(strsplit(sub("tested 2", "tested 1,2", sub("score", "score 1 -1/2\nscore", nested)), "\n")[[1]])
+tested <- rank_test_exact(y ~ x, three, 1:2, weights = "x", program = program)
+stopifnot(
+    identical(readLines(paste0(program, ".words")), c("test", "--formula=y ~ x", "--tested=1,2", "--weights=x", "--contrasts=treatment")),
+    identical(tested$scores, c("(Intercept)" = -0.5, x = 1)), tested$statistic == 18 / 7, tested$columns == 2,
+    identical(tested$exact, list(scores = c("-1/2", "1"), statistic = "18/7"))
 )
 fault <- tryCatch(
     rq_exact(y ~ x, three, program = fake("quantreg: design: NumberTooWide record=1 column=a b=\\x5cc", 1)), quantreg_error = identity
@@ -159,6 +180,12 @@ stopifnot(identical(ranks_exact(y ~ x, three)$exact, c("-1/5", "3/10", "-1/10"))
 asked <- predictions_exact(y ~ x, data.frame(y = c(0, 2, 3, NA, NA), x = c(0, 1, 3, 4, -1)))
 stopifnot(identical(asked$exact, predicted), identical(asked$steps$value, c(4, 3.5, 3.5, 4, -1, 1, -1, 1)))
 stopifnot(identical(path_exact(y ~ x, three, tau = 0.5, lo = 0.25, hi = 2), bent))
+tested <- rank_test_exact(y ~ x, three, 2)
+stopifnot(identical(tested$exact, list(scores = "1", statistic = "18/7")), identical(tested$scores, c(x = 1)))
+for (wrong in list(1:2, 3, 0)) {
+    fault <- tryCatch(rank_test_exact(y ~ x, three, wrong), quantreg_error = identity)
+    stopifnot(fault$status == 1, fault$group == "test")
+}
 # The losses of a path are those of its coefficients by R's design, and the sum of the penalised ones never rises.
 lasso_loss <- function(coefficients, lambda, tau) {
     residuals <- drop(stackloss$stack.loss - model.matrix(stack.loss ~ ., stackloss) %*% coefficients)
@@ -221,6 +248,20 @@ if (requireNamespace("quantreg", quietly = TRUE)) {
         }, 0)
         # The fit at the same number is another one.
         stopifnot(abs(theirs[2] - ours) < 1e-5 * ours, theirs[1] > ours + 0.2)
+    }
+    # The rank test of nested models, where no response is tied, to rounding; with score = "tau" it is another one.
+    nested_test <- function(large, small, data, score) {
+        fits <- suppressWarnings(lapply(list(large, small), function(it) quantreg::rq(it, data = data)))
+        suppressWarnings(anova(fits[[1]], fits[[2]], test = "rank", score = score)$table)
+    }
+    for (case in list(
+        list(Employed ~ GNP + Unemployed, Employed ~ 1, 2:3, longley), list(Employed ~ Year + GNP + Unemployed, Employed ~ Year, 3:4, longley),
+        list(GNP ~ Year + Population, GNP ~ Year, 3, longley), list(demand ~ Time, demand ~ 1, 2, BOD), list(y1 ~ x1 + x4, y1 ~ 1, 2:3, anscombe)
+    )) {
+        ours <- rank_test_exact(case[[1]], case[[4]], case[[3]])
+        theirs <- nested_test(case[[1]], case[[2]], case[[4]], "wilcoxon")
+        stopifnot(ours$columns == theirs$ndf, abs(ours$statistic / ours$columns / theirs$Tn - 1) < 1e-9)
+        stopifnot(abs(ours$statistic / ours$columns / nested_test(case[[1]], case[[2]], case[[4]], "tau")$Tn - 1) > 1e-3)
     }
 } else {
     cat("skipped: comparisons with rq, for R has no package quantreg\n")
