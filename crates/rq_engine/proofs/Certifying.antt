@@ -1,5 +1,5 @@
 -- The certificate of a right fit, and why there is none.
-use Rattle.std.proofs.Common.{◌≡◌, ◌<◌, ◌≤◌, ℕ, suc, Bool, Result, Ok, Err, IfErr, List, [], ◌∷◌, All, Contains, get_or, is_some, length, map, slice_index, arith, refl, subst, ◌∙◌}
+use Rattle.std.proofs.Common.{◌≡◌, ◌<◌, ◌≤◌, ℕ, suc, Bool, List, [], ◌∷◌, All, Contains, get_or, is_some, length, map, slice_index, arith, refl, subst, ◌∙◌}
 use Rattle.std.proofs.lemmas.List.Elements.{All-cons, All-nil}
 use Rattle.exact_algebra.specs.Fraction.{Fraction, rational}
 use Rattle.exact_algebra.specs.Rational.{ℚ}

@@ -1,7 +1,6 @@
 -- Why an input has no path is why its bytes have none.
 use Rattle.std.proofs.Common.{ℕ, List, inl, inr}
 use Rattle.rq_program.specs.declared.fault.ProgramFault.TheVariants as programs
-use Rattle.report_text.specs.declared.report.Place.TheVariants as places
 use Rattle.report_text.specs.declared.report.Refusal.TheVariants.{TooLong, Dependent}
 use Rattle.report_text.specs.declared.report.Refusal.TheVariants as refusals
 use Rattle.report_text.specs.declared.report.Halt.{Halt}

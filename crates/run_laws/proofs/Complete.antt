@@ -1,6 +1,6 @@
 -- A job whose input is well formed is answered.
-use Rattle.std.specs.Prelude.{◌≡◌, ◌≢◌, ◌⊎◌, ℕ, ◌+◌, ◌*◌, ◌<◌, ◌≤◌, Bool, true, false, is_some, List, Option, Some, None, option_map, length, slice_index}
-use Rattle.std.proofs.Common.{arith, refl, sym, ap, subst, ◌∙◌, inl, inr}
+use Rattle.std.specs.Prelude.{◌≡◌, ◌≢◌, ℕ, ◌+◌, ◌*◌, ◌<◌, ◌≤◌, Bool, true, false, is_some, List, Some, length, slice_index}
+use Rattle.std.proofs.Common.{arith, refl, sym, subst, ◌∙◌, inl, inr}
 use Rattle.exact_algebra.specs.Fraction.{rational}
 use Rattle.frac_core.specs.declared.frac128.Frac128.{Frac128}
 use Rattle.loss_model.specs.declared.problem.Problem.{Problem}
@@ -12,9 +12,8 @@ use Rattle.pivot_rule.proofs.Solved.{full_rank}
 use Rattle.port_io.specs.Told.{most_bytes, TakesAll, TakesFirst}
 use Rattle.pivot_bound.specs.BoundLaws.{further_bases}
 use Rattle.lambda_path.specs.Laws.{PathHasCosts}
-use Rattle.rq_words.specs.Requests.{FitRequest, fit_request, rank_request, request_of}
+use Rattle.rq_words.specs.Requests.{request_of}
 use Rattle.rq_words.specs.declared.job.FitJob.{FitJob}
-use Rattle.rq_words.specs.declared.job.RankAsk.{RankAsk}
 use Rattle.rq_words.specs.declared.job.Job.{Job}
 use Rattle.rq_words.specs.declared.job.Job.TheVariants as jobs
 use Rattle.rq_words.specs.declared.job.PathJob.{PathJob}
@@ -36,7 +35,7 @@ use Rattle.rq_fit.specs.Fit.{IsFitOf, IsRightProcess}
 use Rattle.rq_engine.specs.Answers as engine
 use Rattle.rq_engine.specs.Answers.{IsRight, HasFitCause, HasCertifyCause, HasPredictCause}
 use Rattle.rq_engine.specs.Jobs.{IsJobOf, sample_fit}
-use Rattle.rq_cli.specs.Outcomes.{Stream, IsRun, IsAnswered, IsHalted, IsOutputFault, IsErrorFault, IsTooLong, Reads, Takes, WereRead}
+use Rattle.rq_cli.specs.Outcomes.{Stream, IsRun, IsAnswered, IsHalted, IsTooLong, Reads, Takes, WereRead}
 use Rattle.rq_cli.specs.declared.outcome.Outcome.{Outcome}
 use Rattle.rq_cli.specs.declared.outcome.Outcome.TheVariants.{Done, Refused, Usage, SourceFault, SinkFault, OutOfMemory, PivotLimit, Overflow, Rejected}
 use Rattle.stop_laws.proofs.Needed.{dependent, process_full}

@@ -1,14 +1,11 @@
 -- A job that asks for a rank test is answered; where its bytes have a fault, there is no report and no stop; and what a
 -- printed test says.
-use Rattle.std.specs.Prelude.{◌≡◌, ◌≢◌, ℕ, ◌<◌, List, Some, length, pos, slice_index}
+use Rattle.std.specs.Prelude.{◌≡◌, ℕ, List, Some, length, pos, slice_index}
 use Rattle.std.proofs.Common.{arith, refl, sym, subst, ◌∙◌}
-use Rattle.exact_algebra.specs.Fraction.{rational}
 use Rattle.exact_algebra.specs.Rational.{whole, ◌≤ℚ◌}
 use Rattle.exact_matrices.specs.Selections.{AreDistinct}
 use Rattle.frac_core.specs.declared.frac128.Frac128.{Frac128}
 use Rattle.loss_model.specs.declared.problem.Problem.{Problem}
-use Rattle.loss_model.specs.declared.process.Trail.{Trail}
-use Rattle.loss_model.specs.declared.spill.Spill.{Spill}
 use Rattle.loss_model.specs.Problem.{sample, IsWellShaped}
 use Rattle.loss_model.proofs.Vertices.{ascending}
 use Rattle.stop_laws.proofs.Needed.{dependent}
@@ -22,7 +19,6 @@ use Rattle.rq_words.specs.declared.job.TestJob.{TestJob}
 use Rattle.cert_checker.specs.declared.verdict.Rejection.{Rejection}
 use Rattle.report_text.specs.ReportText.{value}
 use Rattle.report_text.specs.declared.report.TestFit.{TestFit}
-use Rattle.report_text.specs.declared.report.Place.{Place}
 use Rattle.report_text.specs.declared.report.Refusal.{Refusal}
 use Rattle.report_text.specs.declared.report.Refusal.TheVariants as refusals
 use Rattle.report_text.specs.declared.report.Report.{Report}

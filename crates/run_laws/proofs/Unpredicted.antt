@@ -1,7 +1,6 @@
 -- Where bytes have a fault as predictions, nothing is predicted, and no fit stops.
 use Rattle.std.specs.Prelude.{◌≡◌, ℕ, List, Some}
 use Rattle.std.proofs.Common.{sym, subst, ◌∙◌}
-use Rattle.frac_core.specs.declared.frac128.Frac128.{Frac128}
 use Rattle.loss_model.specs.Problem.{IsWellShaped}
 use Rattle.rq_words.specs.declared.job.FitJob.{FitJob}
 use Rattle.rq_words.specs.declared.job.Job.{Job}
