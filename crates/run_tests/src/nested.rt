@@ -11,7 +11,8 @@ use std::thread::Threads;
 #[test]
 fn the_slope_of_a_line(rt: HostRuntime) -> Result<(), Fail> {
     let table = "y,x\n0,0\n2,1\n3,3\n";
-    let report = "quantreg test 1\nrecords 3 dropped 0\ncolumn 1 (Intercept)\ncolumn 2 x\ntested 2\npivots 2\nscore 2 1\nstatistic 18/7\nend\n";
+    let report =
+        "quantreg test 1\nrecords 3 dropped 0\ncolumn 1 (Intercept)\ncolumn 2 x\ntested 2\npivots 2\nscore 2 1\nstatistic 18/7\nend\n";
     let line = "test|--formula|y ~ x|--tested|2";
     let left = ran_on(&rt, rt.alloc(), line, table.as_bytes())?;
     assert_printed(&rt, &left, report, table);
