@@ -4,7 +4,7 @@ use Rattle.std.proofs.Common.{inl, inr}
 use Rattle.cert_checker.specs.declared.verdict.Rejection.{Rejection}
 use Rattle.lambda_path.specs.Laws.{PathHasCosts}
 use Rattle.rq_words.specs.Words.{words_of}
-use Rattle.rq_words.specs.declared.fault.WordFault.{WordFault}
+use Rattle.rq_words.specs.declared.job.WordFault.{WordFault}
 use Rattle.rq_words.specs.declared.job.Job.{Job}
 use Rattle.report_text.specs.declared.report.Refusal.{Refusal}
 use Rattle.report_text.specs.declared.report.Refusal.TheVariants as refusals

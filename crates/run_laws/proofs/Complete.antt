@@ -415,7 +415,7 @@ module _ (lawful : PathHasCosts) (words : List (List ℕ)) (source source' : Str
   pub unfitted : (first : FitJob) (kind : Bool) → AskFit words first kind → (out out' err err' : Stream) (outcome : Outcome) → IsRun words source source' out out' err err' outcome
       → ((fit : FitJob) (input : Input) → WasInput words source source' fit input → ¬ HasFullRank (sample value input.problem)) → IsUnfitted outcome
   unfitted first kind asked out out' err err' (Done report) run dependent =
-      let h = report_process first kind asked report run.cause in
+      let h = report_process words source source' first kind asked report run.cause in
       let end = h.3.right.results.ended in
       dependent h.0 h.1 h.3.was (full_rank (sample value h.1.problem) (slice_index h.3.right.results.basis) end.a end.is_basis)
   unfitted first kind asked out out' err err' (PivotLimit place limit trail) run dependent =

@@ -1,6 +1,6 @@
 -- Where a run stops for an overflow, the operation overflows: of the solver, of a rankscore, of a Wilcoxon score, of a
 -- prediction, of a rank test or of the costs of a path.
-use Rattle.std.specs.Prelude.{ℕ, List, [], ◌∷◌, length, slice_index}
+use Rattle.std.specs.Prelude.{ℕ, ◌+◌, ◌*◌, List, [], ◌∷◌, length, slice_index}
 use Rattle.std.proofs.Common.{inl, inr}
 use Rattle.exact_algebra.specs.Fraction.{Fraction, rational}
 use Rattle.exact_algebra.specs.Rational.{ℚ}
@@ -16,14 +16,14 @@ use Rattle.loss_model.specs.Vertex.{dual_value}
 use Rattle.rankscores.specs.Spills.{score_site, score_operations, IsEndSpill, IsScoresSpill, IsAreaSpill, IsIntegrationSpill, IsWilcoxonSpill}
 use Rattle.stop_laws.specs.NeededStops.{DoesOverflow}
 use Rattle.stop_laws.proofs.Spilled.{operation, among, products, of_process}
-use Rattle.loss_model.specs.declared.spill.Quantity.TheVariants.{Prediction}
-use Rattle.loss_model.specs.Spill.{site_of}
+use Rattle.loss_model.specs.declared.spill.Quantity.TheVariants.{Prediction, TestStatistic}
+use Rattle.loss_model.specs.Spill.{AtSome, site_of}
 use Rattle.predict_steps.specs.Predictions.{pieces}
 use Rattle.predict_steps.specs.Spills.{IsPredictionSpill, IsRearrangementSpill}
 use Rattle.design_matrix.specs.declared.design.PredictRow.{PredictRow}
 use Rattle.tv_penalty.specs.Operations.{OverflowsFirst, SitedOperation}
 use Rattle.nested_test.specs.Nested.{column_score}
-use Rattle.nested_test.specs.Operations.{IsStatisticSpill, IsTestSpill}
+use Rattle.nested_test.specs.Operations.{IsPairSpill, IsStatisticSpill, IsTestSpill, pair_operations}
 use Rattle.rq_words.specs.declared.job.FitJob.{FitJob}
 use Rattle.report_text.specs.ReportText.{value}
 use Rattle.report_text.specs.declared.report.Place.TheVariants as places
@@ -87,8 +87,15 @@ pub of_test : (p : Problem Frac128) (tested : List ℕ) (b : ℕ → ℚ) (s : S
 of_test p tested b s (inl h) = products value most s h.2
 of_test p tested b s (inr h) = statistic h.2
   where
-    statistic : IsStatisticSpill (slice_index tested) (length tested) h.0 (λ j. column_score (sample value p) b (slice_index tested j)) value most s → DoesOverflow value most s
-    statistic (inl k) = among value most s _ _ _ k.2.2
+    score : ℕ → ℚ
+    score j = column_score (sample value p) b (slice_index tested j)
+
+    of_pair : (j : ℕ) → AtSome (length tested) (λ m. IsPairSpill (slice_index tested) (length tested) h.0 score value most j m s) → DoesOverflow value most s
+    of_pair j (m, within, k) =
+        among value most s (site_of TestStatistic 0 0 0) (3 * (j * length tested + m) + 1) (pair_operations (slice_index tested) (length tested) h.0 score j m) k
+
+    statistic : IsStatisticSpill (slice_index tested) (length tested) h.0 score value most s → DoesOverflow value most s
+    statistic (inl (j, within, k)) = of_pair j k
     statistic (inr k) = operation value most s k
 
 -- of the costs of a path: the first of their operations that overflows
