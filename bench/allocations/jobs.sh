@@ -1,6 +1,6 @@
 #!/usr/bin/env bash
-# Refuses each request for memory in turn in a small run of each kind: all quantiles of a line, rank intervals, a certificate,
-# and its check, where it is whole, spoilt in two places, and cut. It prints nothing where all is well, unless it is asked to.
+# Refuses each request for memory in turn in a small run of each kind: all quantiles of a line, rank intervals, a prediction, a rank
+# test, a path in lambda, a certificate, and its check, where it is whole, spoilt in two places, and cut. It prints nothing where all is well, unless it is asked to.
 #
 # usage: jobs.sh PROGRAM [--figures]
 set -u
@@ -27,6 +27,7 @@ job() {
 }
 
 printf 'y,x\n0,0\n2,1\n3,3\n' > "$room/line"
+printf 'y,x\n0,0\n2,1\n3,3\n,4\n' > "$room/beyond"
 printf 'y\n1\n2\n3\n4\n5\n' > "$room/five"
 line=(--formula "y ~ x" --lo 0 --hi 1)
 "$program" certify "${line[@]}" < "$room/line" > "$room/whole" || exit
@@ -37,6 +38,9 @@ head -c 300 "$room/whole" > "$room/cut"
 job "a line over all quantiles" 0 "$room/line" process "${line[@]}"
 job "an interval of one value" 0 "$room/five" process --formula "y ~ 1" --lo 1/2 --hi 1/2 --crit 0 --rank-at 1/2
 job "intervals of both columns of a line" 0 "$room/line" process --formula "y ~ x" --lo 1/2 --hi 1/2 --crit 6/7 --rank-at 1/2
+job "a prediction" 0 "$room/beyond" predict "${line[@]}"
+job "a rank test" 0 "$room/line" test --formula "y ~ x" --tested 2
+job "a path in lambda" 0 "$room/line" path --formula "y ~ x" --tau 1/2 --lo 1/4 --hi 2
 job "a certificate" 0 "$room/line" certify "${line[@]}"
 job "its check" 0 "$room/whole" check
 job "the check of another dual value" 8 "$room/dual" check
