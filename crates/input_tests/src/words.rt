@@ -2,7 +2,7 @@
 
 use crate::helpers::Told;
 use frac_core::Frac128;
-use rq_words::{FitJob, Job, RankAsk, SampleJob, TestJob, WordFault, read_words};
+use rq_words::{FitJob, Job, PathJob, RankAsk, SampleJob, TestJob, WordFault, read_words};
 use std::alloc::Global;
 use std::process::Abort;
 use std::test::Fail;
@@ -245,6 +245,12 @@ fn tell_test(told: &mut Told, test: &TestJob) {
     }
 }
 
+fn tell_path(told: &mut Told, path: &PathJob) {
+    tell_fit(told, "path ", &path.fit);
+    told.put(" ");
+    told.put_number(path.tau);
+}
+
 fn tell_sample(told: &mut Told, sample: &SampleJob) {
     told.put_named("sample ", sample.number);
     told.put_named(" ", sample.rows);
@@ -281,6 +287,7 @@ fn tell(told: &mut Told, words: &[String]) {
         Ok(Job::Certify(fit)) => tell_fit(told, "certify ", &fit),
         Ok(Job::Test(test)) => tell_test(told, &test),
         Ok(Job::Predict(fit)) => tell_fit(told, "predict ", &fit),
+        Ok(Job::Path(path)) => tell_path(told, &path),
         Ok(Job::Check) => told.put("check"),
         Ok(Job::Sample(sample)) => tell_sample(told, &sample),
         Err(fault) => tell_fault(told, &fault),
