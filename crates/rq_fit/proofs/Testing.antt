@@ -34,7 +34,7 @@ use Rattle.rq_words.specs.declared.job.FitJob.{FitJob}
 use Rattle.rq_words.specs.declared.job.TestJob.{TestJob}
 use Rattle.report_text.specs.ReportText.{value}
 use Rattle.report_text.specs.declared.report.Halt.{Halt}
-use Rattle.report_text.specs.declared.report.Halt.TheVariants.{Refused, Overflow}
+use Rattle.report_text.specs.declared.report.Halt.TheVariants.{Refused, PivotLimit, Overflow}
 use Rattle.report_text.specs.declared.report.Refusal.TheVariants.{Dependent}
 use Rattle.report_text.specs.declared.report.Place.TheVariants as places
 use Rattle.rq_input.specs.Rows.{HasRows}
@@ -159,12 +159,13 @@ module _ (job : TestJob) (input : Input) where
   start_stop (stops.Dependent combination) h = h
 
   -- the problem without the tested columns has no scores
-  pub scored_cause : (halt : Halt) → HasScoredCause job.fit (restricted_problem job.tested input.problem) halt → HasTestCause job input halt
-  scored_cause (Refused (Dependent combination)) h = absurd h
-  scored_cause (Overflow places.Full trail spill) h = absurd h
-  scored_cause (Overflow places.Gram trail spill) h = absurd h
-  scored_cause (Overflow places.Test trail spill) h = absurd h
-  scored_cause halt h = h
+  pub scored_cause : HasFullRank (sample value input.problem) → (halt : Halt) → HasScoredCause job.fit (restricted_problem job.tested input.problem) halt → HasTestCause job input halt
+  scored_cause rank (Refused (Dependent combination)) h = absurd h
+  scored_cause rank (PivotLimit place limit trail) h = (rank, h)
+  scored_cause rank (Overflow places.Full trail spill) h = absurd h
+  scored_cause rank (Overflow places.Gram trail spill) h = absurd h
+  scored_cause rank (Overflow places.Test trail spill) h = absurd h
+  scored_cause rank halt h = h
 
   -- there is no statistic by these scores
   pub nested_cause : (q : Process Frac128) (wilcoxon : List Frac128) → AreScoredBy job.fit (restricted_problem job.tested input.problem) q wilcoxon → (stop : NestedStop Frac128)

@@ -8,6 +8,7 @@ use Rattle.loss_model.specs.declared.process.Process.{Process}
 use Rattle.loss_model.specs.declared.process.Segment.{Segment}
 use Rattle.loss_model.specs.declared.process.Trail.{Trail}
 use Rattle.loss_model.specs.declared.spill.Spill.{Spill}
+use Rattle.loss_model.specs.FullRank.{HasFullRank}
 use Rattle.loss_model.specs.Problem.{sample, value_at, IsWellShaped}
 use Rattle.loss_model.specs.Segment.{Covers, segments_of}
 use Rattle.loss_model.specs.StartStop.{IsDependent, IsStartSpill}
@@ -42,14 +43,15 @@ pub record IsStatisticBy (job : TestJob) (p : Problem Frac128) (wilcoxon : List 
   pub scores : AreScores value p job.tested (value_at value wilcoxon) fit.scores
   pub statistic : IsNestedStatistic (sample value p) (slice_index job.tested) (length job.tested) (column_score (sample value p) (value_at value wilcoxon)) (rational (value fit.statistic))
 
--- the right process of the problem without the tested columns, and the scores of these and the statistic by the Wilcoxon
--- scores of that process; what is told beside is the design's and the job's
+-- of independent columns, the right process of the problem without the tested ones, and the scores of these and the
+-- statistic by the Wilcoxon scores of that process; what is told beside is the design's and the job's
 pub record IsTestFitOf (job : TestJob) (input : Input) (fit : TestFit) : Type 0 where
   pub kept : fit.kept ≡ length input.design.rows
   pub dropped : fit.dropped ≡ input.design.dropped
   pub names : fit.names ≡ input.design.names
   pub tested : fit.tested ≡ job.tested
   pub shaped : IsWellShaped input.problem
+  pub rank : HasFullRank (sample value input.problem)
   pub wilcoxon : List Frac128
   pub scored : AreScoredBy job.fit (restricted_problem job.tested input.problem) fit.process wilcoxon
   pub statistic : IsStatisticBy job input.problem wilcoxon fit
@@ -78,10 +80,13 @@ pub record LacksStatistic (job : TestJob) (input : Input) (trail : Trail Frac128
   pub operation : IsTestSpill value most input.problem job.tested (value_at value wilcoxon) spill
 
 -- why an input has no test: dependent columns, or an operation that overflows, in the start of its problem, in its Gram
--- matrix or in the statistic; or the problem without the tested columns has no Wilcoxon scores
+-- matrix or in the statistic; or the problem without the tested columns has no Wilcoxon scores. A limit is reached only
+-- where the columns are independent
 abbrev pub HasTestCause : TestJob → Input → Halt → Type 0
 HasTestCause job input (Refused (Dependent combination)) = IsDependent value input.problem combination
 HasTestCause job input (Overflow places.Full trail spill) = IsStartSpill value most input.problem trail spill
 HasTestCause job input (Overflow places.Gram trail spill) = IsGramSpillAfter value most input.problem trail spill
 HasTestCause job input (Overflow places.Test trail spill) = LacksStatistic job input trail spill
+HasTestCause job input (PivotLimit place limit trail) =
+    HasFullRank (sample value input.problem) × HasScoredCause job.fit (restricted_problem job.tested input.problem) (PivotLimit place limit trail)
 HasTestCause job input halt = HasScoredCause job.fit (restricted_problem job.tested input.problem) halt

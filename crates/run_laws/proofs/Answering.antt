@@ -1,11 +1,14 @@
 -- Outcomes that are answers, told once of all jobs: what is left to show is why no other comes.
 use Rattle.std.specs.Prelude.{◌≡◌, ◌≢◌, ◌⊎◌, ℕ, List, Err}
 use Rattle.std.proofs.Common.{inl, inr}
+use Rattle.frac_core.specs.declared.frac128.Frac128.{Frac128}
+use Rattle.loss_model.specs.declared.process.Trail.{Trail}
 use Rattle.cert_checker.specs.declared.verdict.Rejection.{Rejection}
 use Rattle.lambda_path.specs.Laws.{PathHasCosts}
 use Rattle.rq_words.specs.Words.{words_of}
 use Rattle.rq_words.specs.declared.job.WordFault.{WordFault}
 use Rattle.rq_words.specs.declared.job.Job.{Job}
+use Rattle.report_text.specs.declared.report.Place.{Place}
 use Rattle.report_text.specs.declared.report.Refusal.{Refusal}
 use Rattle.report_text.specs.declared.report.Refusal.TheVariants as refusals
 use Rattle.report_text.specs.declared.report.Report.{Report}
@@ -15,7 +18,7 @@ use Rattle.rq_engine.specs.Jobs.{IsJobOf}
 use Rattle.rq_cli.specs.Outcomes.{IsAnswered, IsErrorFault, IsHalted, IsOutputFault, IsRun, IsTooLong, Stream}
 use Rattle.rq_cli.specs.declared.outcome.Outcome.{Outcome}
 use Rattle.rq_cli.specs.declared.outcome.Outcome.TheVariants.{Done, Refused, Usage, SourceFault, SinkFault, OutOfMemory, PivotLimit, Overflow, Rejected}
-use Rattle.run_laws.specs.Completeness.{IsAnswer, IsNoReport, IsNotTooLong, NoneRose}
+use Rattle.run_laws.specs.Completeness.{IsAnswer, IsNoReport, IsNotTooLong, IsUnfitted, NoneRose}
 use Rattle.run_laws.proofs.Needed.{limit_needed, overflow_needed}
 
 module _ (lawful : PathHasCosts) (words : List (List ℕ)) (source source' : Stream) (bytes : List ℕ)
@@ -95,3 +98,11 @@ module _ (words : List (List ℕ)) (source source' : Stream) (reported : (report
   no_report out out' err err' (PivotLimit place limit trail) run = tt
   no_report out out' err err' (Overflow place trail spill) run = tt
   no_report out out' err err' (Rejected rejection) run = tt
+
+-- nor a limit
+module _ (words : List (List ℕ)) (source source' : Stream) (reported : (report : Report) → ¬ IsAnswered words source source' report)
+    (limited : (place : Place) (limit : ℕ) (trail : Trail Frac128) → ¬ IsHalted words source source' (halts.PivotLimit place limit trail)) where
+  pub unfitted_with : (out out' err err' : Stream) (outcome : Outcome) → IsRun words source source' out out' err err' outcome → IsUnfitted outcome
+  unfitted_with out out' err err' (Done report) run = reported report run.cause
+  unfitted_with out out' err err' (PivotLimit place limit trail) run = limited place limit trail run.cause
+  unfitted_with out out' err err' outcome run = tt

@@ -37,13 +37,13 @@ use Rattle.rq_engine.specs.Answers.{IsRight, HasFitCause, HasCertifyCause, HasPr
 use Rattle.rq_engine.specs.Jobs.{IsJobOf, sample_fit}
 use Rattle.rq_cli.specs.Outcomes.{Stream, IsRun, IsAnswered, IsHalted, IsTooLong, Reads, Takes, WereRead}
 use Rattle.rq_cli.specs.declared.outcome.Outcome.{Outcome}
-use Rattle.rq_cli.specs.declared.outcome.Outcome.TheVariants.{Done, Refused, Usage, SourceFault, SinkFault, OutOfMemory, PivotLimit, Overflow, Rejected}
+use Rattle.rq_cli.specs.declared.outcome.Outcome.TheVariants.{Refused, PivotLimit, Rejected}
 use Rattle.stop_laws.proofs.Needed.{dependent, process_full}
 use Rattle.interval_laws.proofs.Needed.{interval_full}
 use Rattle.run_laws.specs.Completeness.{NoneRose, IsWellFormed, IsAnswer, IsLimitedProblem, IsNoReport, IsUnfitted, parts_of}
 use Rattle.run_laws.specs.NeededOutcomes.{IsFitJob, AskFit, WasInput, WasPosed, ReachesLimitAt, table_bytes}
 use Rattle.run_laws.proofs.AskedInputs.{asked_input}
-use Rattle.run_laws.proofs.Answering.{answered_with, no_report}
+use Rattle.run_laws.proofs.Answering.{answered_with, no_report, unfitted_with}
 use Rattle.run_laws.proofs.Needed.{limit_needed}
 
 -- ---- words
@@ -414,23 +414,21 @@ module _ (lawful : PathHasCosts) (words : List (List ℕ)) (source source' : Str
 
   pub unfitted : (first : FitJob) (kind : Bool) → AskFit words first kind → (out out' err err' : Stream) (outcome : Outcome) → IsRun words source source' out out' err err' outcome
       → ((fit : FitJob) (input : Input) → WasInput words source source' fit input → ¬ HasFullRank (sample value input.problem)) → IsUnfitted outcome
-  unfitted first kind asked out out' err err' (Done report) run dependent =
-      let h = report_process words source source' first kind asked report run.cause in
-      let end = h.3.right.results.ended in
-      dependent h.0 h.1 h.3.was (full_rank (sample value h.1.problem) (slice_index h.3.right.results.basis) end.a end.is_basis)
-  unfitted first kind asked out out' err err' (PivotLimit place limit trail) run dependent =
-      let needed = limit_needed lawful words source source' place limit trail run.cause in
-      of needed.0 needed.1 needed.2 (limited_rank place needed.0 needed.1 limit trail needed.3)
+  unfitted first kind asked out out' err err' outcome run dependent = unfitted_with words source source' reported limits out out' err err' outcome run
     where
+      reported : (report : Report) → ¬ IsAnswered words source source' report
+      reported report a =
+          let h = report_process words source source' first kind asked report a in
+          let end = h.3.right.results.ended in
+          dependent h.0 h.1 h.3.was (full_rank (sample value h.1.problem) (slice_index h.3.right.results.basis) end.a end.is_basis)
+
       of : (fit : FitJob) (problem : Problem Frac128) → WasPosed words source source' fit problem → HasFullRank (sample value problem) → ⊥
       of fit problem (inl input) full = dependent fit input.0 input.1 (subst (λ (p : Problem Frac128). HasFullRank (sample value p)) (sym input.2) full)
       of fit problem (inr (inl test)) full =
           no_test words asked.job first kind asked.is test.job (one_request words (jobs.Test test.job) asked.job test.was.read.asked asked.asked)
       of fit problem (inr (inr path)) full = no_path words asked.job first kind asked.is path.job (one_request words (jobs.Path path.job) asked.job path.read.asked asked.asked)
-  unfitted first kind asked out out' err err' (Refused refusal) run dependent = tt
-  unfitted first kind asked out out' err err' (Usage fault) run dependent = tt
-  unfitted first kind asked out out' err err' SourceFault run dependent = tt
-  unfitted first kind asked out out' err err' SinkFault run dependent = tt
-  unfitted first kind asked out out' err err' OutOfMemory run dependent = tt
-  unfitted first kind asked out out' err err' (Overflow place trail spill) run dependent = tt
-  unfitted first kind asked out out' err err' (Rejected rejection) run dependent = tt
+
+      limits : (place : Place) (limit : ℕ) (trail : Trail Frac128) → ¬ IsHalted words source source' (halts.PivotLimit place limit trail)
+      limits place limit trail h =
+          let needed = limit_needed lawful words source source' place limit trail h in
+          of needed.0 needed.1 needed.2 (limited_rank place needed.0 needed.1 limit trail needed.3)

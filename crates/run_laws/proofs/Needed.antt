@@ -120,15 +120,15 @@ module _ (lawful : PathHasCosts) (words : List (List ℕ)) (source source' : Str
         job.fit,
         q,
         inr (inl (record { job = job; same = refl; input = h.input; was = record { bytes = bytes; read = read; is = h.is }; without = refl })),
-        reached_process job.fit q limit trail costs h.cause.0 h.cause.1,
+        reached_process job.fit q limit trail costs h.cause.1 h.cause.2,
       )
-  test_limited job bytes read (places.Interval column tau) limit trail h = absurd h.cause
-  test_limited job bytes read places.Check limit trail h = absurd h.cause
-  test_limited job bytes read places.Full limit trail h = absurd h.cause
-  test_limited job bytes read places.Gram limit trail h = absurd h.cause
-  test_limited job bytes read places.Test limit trail h = absurd h.cause
-  test_limited job bytes read (places.Predict rec) limit trail h = absurd h.cause
-  test_limited job bytes read places.Path limit trail h = absurd h.cause
+  test_limited job bytes read (places.Interval column tau) limit trail h = absurd h.cause.1
+  test_limited job bytes read places.Check limit trail h = absurd h.cause.1
+  test_limited job bytes read places.Full limit trail h = absurd h.cause.1
+  test_limited job bytes read places.Gram limit trail h = absurd h.cause.1
+  test_limited job bytes read places.Test limit trail h = absurd h.cause.1
+  test_limited job bytes read (places.Predict rec) limit trail h = absurd h.cause.1
+  test_limited job bytes read places.Path limit trail h = absurd h.cause.1
 
   -- so is that of a path
   path_limited : (job : PathJob) (bytes : List ℕ) → WereRead words source source' (jobs.Path job) bytes → (place : Place) (limit : ℕ) (trail : Trail Frac128) → LacksPathFit job bytes (PivotLimit place limit trail)

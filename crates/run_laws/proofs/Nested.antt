@@ -6,6 +6,8 @@ use Rattle.exact_algebra.specs.Rational.{whole, ◌≤ℚ◌}
 use Rattle.exact_matrices.specs.Selections.{AreDistinct}
 use Rattle.frac_core.specs.declared.frac128.Frac128.{Frac128}
 use Rattle.loss_model.specs.declared.problem.Problem.{Problem}
+use Rattle.loss_model.specs.declared.process.Trail.{Trail}
+use Rattle.loss_model.specs.FullRank.{HasFullRank}
 use Rattle.loss_model.specs.Problem.{sample, IsWellShaped}
 use Rattle.loss_model.proofs.Vertices.{ascending}
 use Rattle.stop_laws.proofs.Needed.{dependent}
@@ -19,6 +21,7 @@ use Rattle.rq_words.specs.declared.job.TestJob.{TestJob}
 use Rattle.cert_checker.specs.declared.verdict.Rejection.{Rejection}
 use Rattle.report_text.specs.ReportText.{value}
 use Rattle.report_text.specs.declared.report.TestFit.{TestFit}
+use Rattle.report_text.specs.declared.report.Place.{Place}
 use Rattle.report_text.specs.declared.report.Refusal.{Refusal}
 use Rattle.report_text.specs.declared.report.Refusal.TheVariants as refusals
 use Rattle.report_text.specs.declared.report.Report.{Report}
@@ -34,10 +37,10 @@ use Rattle.rq_engine.specs.Answers.{HasTestFitCause, IsRight, IsTestFitOfBytes, 
 use Rattle.rq_engine.specs.Jobs.{IsJobOf}
 use Rattle.rq_cli.specs.Outcomes.{IsAnswered, IsHalted, IsRun, Stream, WereRead}
 use Rattle.rq_cli.specs.declared.outcome.Outcome.{Outcome}
-use Rattle.run_laws.specs.Completeness.{IsAnswer, IsLimitedProblem, IsNested, IsNoReport, IsNotTooLong, IsUnposed, NoneRose}
-use Rattle.run_laws.specs.NeededOutcomes.{WasRestricted}
+use Rattle.run_laws.specs.Completeness.{IsAnswer, IsLimitedProblem, IsNested, IsNoReport, IsNotTooLong, IsUnfitted, IsUnposed, NoneRose}
+use Rattle.run_laws.specs.NeededOutcomes.{WasRestricted, WasTested}
 use Rattle.run_laws.specs.TestReports.{IsRightTest}
-use Rattle.run_laws.proofs.Answering.{answered_with, no_report, not_too_long}
+use Rattle.run_laws.proofs.Answering.{answered_with, no_report, not_too_long, unfitted_with}
 use Rattle.run_laws.proofs.Complete.{none_beyond, were_told}
 use Rattle.run_laws.proofs.Stopless.{unposed_without}
 
@@ -95,6 +98,24 @@ module _ (words : List (List ℕ)) (first : TestJob) (asked : IsJobOf words (job
             let fit = right_test r.0 r.1 report r.3 in
             fit.1.2.scored.process.unlimited
             (reaches r.0.fit (restricted_problem r.0.tested fit.1.0.problem) (record { job = r.0; same = refl; input = fit.1.0; was = record { bytes = r.1; read = r.2; is = fit.1.1 }; without = refl }))
+
+    -- ---- dependent columns
+
+    pub test_unfitted : (out out' err err' : Stream) (outcome : Outcome) → IsRun words source source' out out' err err' outcome
+        → ((job : TestJob) (input : Input) → WasTested words source source' job input → ¬ HasFullRank (sample value input.problem)) → IsUnfitted outcome
+    test_unfitted out out' err err' outcome run dependent = unfitted_with words source source' none limits out out' err err' outcome run
+      where
+        none : (report : Report) → ¬ IsAnswered words source source' report
+        none report a =
+            let r = reported report a in
+            let fit = right_test r.0 r.1 report r.3 in
+            dependent r.0 fit.1.0 (record { bytes = r.1; read = r.2; is = fit.1.1 }) fit.1.2.rank
+
+        limits : (place : Place) (limit : ℕ) (trail : Trail Frac128) → ¬ IsHalted words source source' (halts.PivotLimit place limit trail)
+        limits place limit trail h =
+            let p = halted (halts.PivotLimit place limit trail) h in
+            let lacks : LacksTestFit p.0 p.1 (halts.PivotLimit place limit trail) = p.3 in
+            dependent p.0 lacks.input (record { bytes = p.1; read = p.2; is = lacks.is }) lacks.cause.0
 
     -- ---- faults
 

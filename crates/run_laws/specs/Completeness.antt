@@ -41,7 +41,7 @@ use Rattle.rq_engine.specs.Jobs.{IsJobOf, sample_fit, sample_table}
 use Rattle.rq_cli.specs.Outcomes.{Stream, IsRun, IsHalted, Reads}
 use Rattle.rq_cli.specs.declared.outcome.Outcome.{Outcome}
 use Rattle.rq_cli.specs.declared.outcome.Outcome.TheVariants.{Done, Refused, OutOfMemory, PivotLimit, Overflow}
-use Rattle.run_laws.specs.NeededOutcomes.{AskFit, IsLimitedAt, OverflowsAt, WasInput, WasPath, WasPosed, WasRestricted, table_bytes}
+use Rattle.run_laws.specs.NeededOutcomes.{AskFit, IsLimitedAt, OverflowsAt, WasInput, WasPath, WasPosed, WasRestricted, WasTested, table_bytes}
 
 -- no count of faults rose
 abbrev pub NoneRose : (source source' out out' err err' : Stream) → Type 0
@@ -273,4 +273,12 @@ DependenceIsAnswered =
     (words : List (List ℕ)) (source source' out out' err err' : Stream) (outcome : Outcome) (first : FitJob) (kind : Bool)
     → AskFit words first kind → IsRun words source source' out out' err err' outcome
     → ((fit : FitJob) (input : Input) → WasInput words source source' fit input → ¬ HasFullRank (sample value input.problem))
+    → IsUnfitted outcome
+
+-- nor is it where they ask for a rank test, and the columns of the whole problem are dependent
+abbrev pub TestDependenceIsAnswered : Type 0
+TestDependenceIsAnswered =
+    (words : List (List ℕ)) (source source' out out' err err' : Stream) (outcome : Outcome) (first : TestJob)
+    → IsJobOf words (jobs.Test first) → IsRun words source source' out out' err err' outcome
+    → ((job : TestJob) (input : Input) → WasTested words source source' job input → ¬ HasFullRank (sample value input.problem))
     → IsUnfitted outcome

@@ -1,6 +1,6 @@
 //! The laws of a run. Each function does nothing: its contract is the law.
 
-ghost use Rattle.run_laws.specs.Completeness.{Completeness, SampleIsAnswered, TestIsAnswered, PathIsAnswered, CheckIsAnswered, FaultIsAnswered, PredictionFaultIsAnswered, TestFaultIsAnswered, PathFaultIsAnswered, LimitIsAnswered, TestLimitIsAnswered, PathLimitIsAnswered, AmpleLimitIsNeverReached, DependenceIsAnswered};
+ghost use Rattle.run_laws.specs.Completeness.{Completeness, SampleIsAnswered, TestIsAnswered, PathIsAnswered, CheckIsAnswered, FaultIsAnswered, PredictionFaultIsAnswered, TestFaultIsAnswered, PathFaultIsAnswered, LimitIsAnswered, TestLimitIsAnswered, PathLimitIsAnswered, AmpleLimitIsNeverReached, DependenceIsAnswered, TestDependenceIsAnswered};
 ghost use Rattle.run_laws.specs.NeededOutcomes.{LimitIsNeeded, OverflowIsNeeded, DependenceIsNeeded};
 ghost use Rattle.run_laws.specs.PathReports.{PathIsLeast};
 ghost use Rattle.run_laws.specs.TestReports.{TestIsRight};
@@ -47,6 +47,7 @@ pub fn complete()
     ensures path_limited { PathLimitIsAnswered }
     ensures ample { AmpleLimitIsNeverReached }
     ensures dependent { DependenceIsAnswered }
+    ensures test_dependent { TestDependenceIsAnswered }
 {
     same_content();
     inputs_have_no_fault();

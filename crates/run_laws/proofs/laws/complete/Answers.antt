@@ -1,7 +1,7 @@
 use Rattle.run_laws.proofs.Complete.{answered, limited, ample, unfitted}
 use Rattle.run_laws.proofs.Checked.{accepted}
 use Rattle.run_laws.proofs.Generated.{sample_answered}
-use Rattle.run_laws.proofs.Nested.{test_answered, test_limited, test_unposed}
+use Rattle.run_laws.proofs.Nested.{test_answered, test_limited, test_unfitted, test_unposed}
 use Rattle.run_laws.proofs.Pathed.{path_answered, path_limited, path_unposed}
 use Rattle.run_laws.proofs.Unposed.{unposed}
 use Rattle.run_laws.proofs.Unpredicted.{unpredicted}
@@ -24,4 +24,5 @@ returns c =
       path_limited = λ words source source' out out' err err' outcome first asked run reaches. path_limited words first asked source source' out out' err err' outcome run reaches;
       ample = λ words source source' out out' err err' place limit trail long run. ample c.path_is_askable.ensures.costs words source source' out out' err err' place limit trail long run;
       dependent = λ words source source' out out' err err' outcome first kind asked run dependent. unfitted c.path_is_askable.ensures.costs words source source' first kind asked out out' err err' outcome run dependent;
+      test_dependent = λ words source source' out out' err err' outcome first asked run dependent. test_unfitted words first asked source source' out out' err err' outcome run dependent;
     }
