@@ -78,7 +78,8 @@ numbers_few found n h =
     let number = step_ok (number_option found (codes "number") 0 (count 10 0 (2 ^ 32 - 1))) _ _ limit.1 in
     let rows = step_ok (number_option found (codes "rows") 0 (count 5 1 most_rows)) _ _ number.1 in
     let columns = step_ok (number_option found (codes "columns") 0 (count 3 1 100)) _ _ rows.1 in
-    let same : taus.0 ≡ n.taus = same_taus _ n columns.1 in
+    let tau = step_ok (number_option found (codes "tau") zero number_text) _ _ columns.1 in
+    let same : taus.0 ≡ n.taus = same_taus _ n tau.1 in
     subst AreFew same (option_few (first_of (codes "rank-at") found) taus.0 (BadNumber (codes "rank-at")) taus.1)
 
 -- ---- the request
@@ -100,6 +101,7 @@ HasFew (request.Certify f) = IsFewOf f.rank
 HasFew request.Check = Unit {0}
 HasFew (request.Sample s) = Unit {0}
 HasFew (request.Predict f) = Unit {0}
+HasFew (request.Path p) = Unit {0}
 
 request_few : (kind : Kind) (found : List Row) (n : OptionNumbers) (chosen : Coding) → AreFew n.taus → HasFew (request_for kind found n chosen)
 request_few kind.Process found n chosen h = tt
@@ -108,13 +110,14 @@ request_few kind.Certify found n chosen h = rank_few n.crit n.taus h
 request_few kind.Check found n chosen h = tt
 request_few kind.Sample found n chosen h = tt
 request_few kind.Predict found n chosen h = tt
+request_few kind.Path found n chosen h = tt
 
 checked_few : (kind : Kind) (found : List Row) (r : Request) → checked kind found ≡ Ok r → HasFew r
 unfolding checked
 checked_few kind found r h =
     let numbers = step_both (numbers_of found) _ _ h in
     let chosen = step_ok (option BadContrasts found (codes "contrasts") Treatment coding) _ _ numbers.2 in
-    let sound = no_fault (fault_of numbers.0) (request_for kind found numbers.0 chosen.0) _ chosen.1 in
+    let sound = no_fault (fault_of kind numbers.0) (request_for kind found numbers.0 chosen.0) _ chosen.1 in
     subst HasFew sound.1 (request_few kind found numbers.0 chosen.0 (numbers_few found numbers.0 numbers.1))
 
 job_few : (kind : Kind) (words : List Text) (r : Request) → words_of_job kind words ≡ Ok r → HasFew r

@@ -7,9 +7,9 @@ use Rattle.exact_algebra.specs.Rational.{ℚ, le_ℚ, ◌≤ℚ◌}
 use Rattle.contrasts.specs.declared.Coding.{Coding}
 use Rattle.contrasts.specs.declared.Coding.TheVariants.{Treatment}
 use Rattle.rq_words.specs.Commands.{command_of, kind_of, options_of, read_by}
-use Rattle.rq_words.specs.Requests.{FitRequest, OptionNumbers, Request}
+use Rattle.rq_words.specs.Requests.{FitRequest, OptionNumbers, PathRequest, Request}
 use Rattle.rq_words.specs.Requests as request
-use Rattle.rq_words.specs.Words.{◌>>=◌, zero, one, option, coding, numbers_of, is_in_order, fault_of, request_for, checked, is_long, words_of_job, words_of}
+use Rattle.rq_words.specs.Words.{◌>>=◌, zero, one, option, coding, numbers_of, is_in_order, is_path_range, has_range, fault_of, request_for, checked, is_long, words_of_job, words_of}
 use Rattle.rq_words.specs.declared.command.Kind.{Kind}
 use Rattle.rq_words.specs.declared.command.Kind.TheVariants as kind
 use Rattle.rq_words.specs.declared.job.WordFault.{WordFault}
@@ -32,9 +32,9 @@ pub no_fault : {B : Type 0} (o : Option WordFault) (y x : B) → option_map_or (
 no_fault (Some fault) y x h = absurd (cc h)
 no_fault None y x h = (refl, cc h)
 
-pub in_order : (n : OptionNumbers) → fault_of n ≡ None → is_in_order n.lo n.hi ≡ true
+in_order : (kind : Kind) (n : OptionNumbers) → fault_of kind n ≡ None → has_range kind n ≡ true
 unfolding fault_of
-in_order n h = by (is_in_order n.lo n.hi) _ h
+in_order kind n h = by (has_range kind n) _ h
   where
     by : (b : Bool) (rest : Option WordFault) → (if not b then Some BadRange else rest) ≡ None → b ≡ true
     by true rest h = refl
@@ -46,25 +46,27 @@ IsOrdered (request.Process f) = is_in_order f.lo f.hi ≡ true
 IsOrdered (request.Ranks f) = Unit {0}
 IsOrdered (request.Certify f) = is_in_order f.lo f.hi ≡ true
 IsOrdered request.Check = Unit {0}
-IsOrdered (request.Sample s) = Unit {0}
+IsOrdered (request.Sample s) = is_in_order s.lo s.hi ≡ true
 IsOrdered (request.Predict f) = is_in_order f.lo f.hi ≡ true
+IsOrdered (request.Path p) = is_path_range p.tau p.fit.lo p.fit.hi ≡ true
 
-request_in_order : (kind : Kind) (found : List Row) (n : OptionNumbers) (chosen : Coding) → is_in_order n.lo n.hi ≡ true → IsOrdered (request_for kind found n chosen)
+request_in_order : (kind : Kind) (found : List Row) (n : OptionNumbers) (chosen : Coding) → has_range kind n ≡ true → IsOrdered (request_for kind found n chosen)
 request_in_order kind.Process found n chosen h = h
 request_in_order kind.Ranks found n chosen h = tt
 request_in_order kind.Certify found n chosen h = h
 request_in_order kind.Check found n chosen h = tt
-request_in_order kind.Sample found n chosen h = tt
+request_in_order kind.Sample found n chosen h = h
 request_in_order kind.Predict found n chosen h = h
+request_in_order kind.Path found n chosen h = h
 
-checked_in_order : (kind : Kind) (found : List Row) (r : Request) → checked kind found ≡ Ok r → IsOrdered r
+pub checked_in_order : (kind : Kind) (found : List Row) (r : Request) → checked kind found ≡ Ok r → IsOrdered r
 unfolding checked
 checked_in_order kind found r h =
     let numbers = step_ok (numbers_of found) _ _ h in
     let chosen = step_ok (option BadContrasts found (codes "contrasts") Treatment coding) _ _ numbers.1 in
     let n = numbers.0 in
-    let sound = no_fault (fault_of n) (request_for kind found n chosen.0) _ chosen.1 in
-    subst IsOrdered sound.1 (request_in_order kind found n chosen.0 (in_order n sound.0))
+    let sound = no_fault (fault_of kind n) (request_for kind found n chosen.0) _ chosen.1 in
+    subst IsOrdered sound.1 (request_in_order kind found n chosen.0 (in_order kind n sound.0))
 
 job_in_order : (kind : Kind) (words : List Text) (r : Request) → words_of_job kind words ≡ Ok r → IsOrdered r
 unfolding words_of_job
@@ -105,6 +107,28 @@ certify_range words f h = range_of f.lo f.hi (words_in_order words (request.Cert
 pub predict_range : (words : List Text) (f : FitRequest) → words_of words ≡ Ok (request.Predict f) → (zero ≤ℚ f.lo) × (f.lo ≤ℚ f.hi) × (f.hi ≤ℚ one)
 predict_range words f h = range_of f.lo f.hi (words_in_order words (request.Predict f) h)
 
+-- the range of lambda of a path lies above 0 and in order, and its quantile in 0 to 1
+pub record IsPathRange (p : PathRequest) : Type 0 where
+  pub tau_low : zero ≤ℚ p.tau
+  pub tau_high : p.tau ≤ℚ one
+  pub low : ¬ (p.fit.lo ≤ℚ zero)
+  pub ordered : p.fit.lo ≤ℚ p.fit.hi
+
+path_by : (p : PathRequest) → is_path_range p.tau p.fit.lo p.fit.hi ≡ true → IsPathRange p
+path_by p h =
+    let ordered = both (le_ℚ zero p.tau && le_ℚ p.tau one && not (le_ℚ p.fit.lo zero)) (le_ℚ p.fit.lo p.fit.hi) h in
+    let low = both (le_ℚ zero p.tau && le_ℚ p.tau one) (not (le_ℚ p.fit.lo zero)) ordered.0 in
+    let tau = both (le_ℚ zero p.tau) (le_ℚ p.tau one) low.0 in
+    record { tau_low = record { le = tau.0 }; tau_high = record { le = tau.1 }; low = λ l. denied (le_ℚ p.fit.lo zero) low.1 l.le; ordered = record { le = ordered.1 } }
+  where
+    denied : (b : Bool) → not b ≡ true → b ≡ true → ⊥
+    denied true h k = absurd (cc h)
+    denied false h k = absurd (cc k)
+
+-- so it is of a path that the words ask for
+pub path_range : (words : List Text) (p : PathRequest) → words_of words ≡ Ok (request.Path p) → IsPathRange p
+path_range words p h = path_by p (words_in_order words (request.Path p) h)
+
 -- ranks are taken over 0 to 1
 unit_range : (kind : Kind) (found : List Row) (n : OptionNumbers) (chosen : Coding) (f : FitRequest) → request_for kind found n chosen ≡ request.Ranks f → (zero ≡ f.lo) × (one ≡ f.hi)
 unit_range kind.Process found n chosen f h = absurd (cc h)
@@ -113,13 +137,14 @@ unit_range kind.Certify found n chosen f h = absurd (cc h)
 unit_range kind.Check found n chosen f h = absurd (cc h)
 unit_range kind.Sample found n chosen f h = absurd (cc h)
 unit_range kind.Predict found n chosen f h = absurd (cc h)
+unit_range kind.Path found n chosen f h = absurd (cc h)
 
 checked_over_all : (kind : Kind) (found : List Row) (f : FitRequest) → checked kind found ≡ Ok (request.Ranks f) → (zero ≡ f.lo) × (one ≡ f.hi)
 unfolding checked
 checked_over_all kind found f h =
     let numbers = step_ok (numbers_of found) _ _ h in
     let chosen = step_ok (option BadContrasts found (codes "contrasts") Treatment coding) _ _ numbers.1 in
-    unit_range kind found numbers.0 chosen.0 f (no_fault (fault_of numbers.0) (request_for kind found numbers.0 chosen.0) _ chosen.1).1
+    unit_range kind found numbers.0 chosen.0 f (no_fault (fault_of kind numbers.0) (request_for kind found numbers.0 chosen.0) _ chosen.1).1
 
 job_over_all : (kind : Kind) (words : List Text) (f : FitRequest) → words_of_job kind words ≡ Ok (request.Ranks f) → (zero ≡ f.lo) × (one ≡ f.hi)
 unfolding words_of_job

@@ -9,7 +9,7 @@ use Rattle.contrasts.specs.declared.Coding.TheVariants.{Treatment}
 use Rattle.rq_words.specs.Commands.{command_of, kind_of, options_of, read_by}
 use Rattle.rq_words.specs.Requests.{FitRequest, OptionNumbers, RankRequest, Request}
 use Rattle.rq_words.specs.Requests as request
-use Rattle.rq_words.specs.Words.{zero, option, coding, numbers_of, is_in_order, is_outside, fault_of, rank_of, unranked, fit, request_for, checked, is_long, words_of_job, words_of}
+use Rattle.rq_words.specs.Words.{zero, option, coding, numbers_of, has_range, is_outside, fault_of, rank_of, unranked, fit, request_for, checked, is_long, words_of_job, words_of}
 use Rattle.rq_words.specs.declared.command.Kind.{Kind}
 use Rattle.rq_words.specs.declared.command.Kind.TheVariants as kind
 use Rattle.rq_words.specs.declared.job.WordFault.{WordFault}
@@ -33,10 +33,10 @@ record AreSound (n : OptionNumbers) : Type 0 where
   taus : option_map_or (list_any is_outside) n.taus false ≡ false
   crit : option_map_or (λ crit. not (le_ℚ zero crit)) n.crit false ≡ false
 
-are_sound : (n : OptionNumbers) → fault_of n ≡ None → AreSound n
+are_sound : (kind : Kind) (n : OptionNumbers) → fault_of kind n ≡ None → AreSound n
 unfolding fault_of
-are_sound n h =
-    let range = untold (not (is_in_order n.lo n.hi)) BadRange _ h in
+are_sound kind n h =
+    let range = untold (not (has_range kind n)) BadRange _ h in
     let half = untold _ RankHalf _ range.1 in
     let taus = untold (option_map_or (list_any is_outside) n.taus false) BadTauForRank _ half.1 in
     let crit = untold (option_map_or (λ crit. not (le_ℚ zero crit)) n.crit false) NegativeLimit None taus.1 in
@@ -59,9 +59,9 @@ abbrev pub IsSoundOf : Option RankRequest → Type 0
 IsSoundOf None = Unit {0}
 IsSoundOf (Some r) = IsSound r
 
-sound_of : (n : OptionNumbers) → fault_of n ≡ None → (o : Option RankRequest) → rank_of n ≡ o → IsSoundOf o
-sound_of n h None e = tt
-sound_of n h (Some r) e = let sound = are_sound n h in sound_by n.crit n.taus sound.taus sound.crit r e
+sound_of : (kind : Kind) (n : OptionNumbers) → fault_of kind n ≡ None → (o : Option RankRequest) → rank_of n ≡ o → IsSoundOf o
+sound_of kind n h None e = tt
+sound_of kind n h (Some r) e = let sound = are_sound kind n h in sound_by n.crit n.taus sound.taus sound.crit r e
 
 -- the fit that a job asks for: of a process, of ranks, of a certificate or of predictions
 abbrev pub IsFitOf : Request → FitRequest → Type 0
@@ -81,6 +81,7 @@ same_rank kind.Certify found n chosen f h sound = subst IsSoundOf (ap rank_in h)
 same_rank kind.Check found n chosen f h sound = absurd h
 same_rank kind.Sample found n chosen f h sound = absurd h
 same_rank kind.Predict found n chosen f h sound = subst IsSoundOf (ap rank_in h) tt
+same_rank kind.Path found n chosen f h sound = absurd h
 
 module _ (asked : Request) (f : FitRequest) (is : IsFitOf asked f) where
   checked_sound : (kind : Kind) (found : List Row) → checked kind found ≡ Ok asked → IsSoundOf f.rank
@@ -89,8 +90,8 @@ module _ (asked : Request) (f : FitRequest) (is : IsFitOf asked f) where
       let numbers = step_ok (numbers_of found) _ _ h in
       let chosen = step_ok (option BadContrasts found (codes "contrasts") Treatment coding) _ _ numbers.1 in
       let n = numbers.0 in
-      let sound = no_fault (fault_of n) (request_for kind found n chosen.0) _ chosen.1 in
-      same_rank kind found n chosen.0 f (subst (λ r. IsFitOf r f) (sym sound.1) is) (sound_of n sound.0 (rank_of n) refl)
+      let sound = no_fault (fault_of kind n) (request_for kind found n chosen.0) _ chosen.1 in
+      same_rank kind found n chosen.0 f (subst (λ r. IsFitOf r f) (sym sound.1) is) (sound_of kind n sound.0 (rank_of n) refl)
 
   job_sound : (kind : Kind) (words : List Text) → words_of_job kind words ≡ Ok asked → IsSoundOf f.rank
   unfolding words_of_job
@@ -115,6 +116,7 @@ unranked_request kind.Ranks found n chosen f h = absurd (cc h)
 unranked_request kind.Certify found n chosen f h = absurd (cc h)
 unranked_request kind.Check found n chosen f h = absurd (cc h)
 unranked_request kind.Sample found n chosen f h = absurd (cc h)
+unranked_request kind.Path found n chosen f h = absurd (cc h)
 unranked_request kind.Predict found n chosen f h =
     let same : fit found (unranked n) chosen ≡ f = cc h in
     sym (ap rank_in same)
@@ -124,7 +126,7 @@ unfolding checked
 checked_unranked kind found f h =
     let numbers = step_ok (numbers_of found) _ _ h in
     let chosen = step_ok (option BadContrasts found (codes "contrasts") Treatment coding) _ _ numbers.1 in
-    unranked_request kind found numbers.0 chosen.0 f (no_fault (fault_of numbers.0) (request_for kind found numbers.0 chosen.0) _ chosen.1).1
+    unranked_request kind found numbers.0 chosen.0 f (no_fault (fault_of kind numbers.0) (request_for kind found numbers.0 chosen.0) _ chosen.1).1
 
 job_unranked : (kind : Kind) (words : List Text) (f : FitRequest) → words_of_job kind words ≡ Ok (request.Predict f) → f.rank ≡ None
 unfolding words_of_job

@@ -18,7 +18,7 @@ use Rattle.rq_words.specs.declared.command.Kind.TheVariants as kind
 use Rattle.rq_words.specs.declared.job.WordFault.{WordFault}
 use Rattle.rq_words.specs.declared.job.WordFault.TheVariants.{BadContrasts, BadNumber, BadOption, UnknownJob}
 use Rattle.rq_words.proofs.FewQuantiles.{step_both}
-use Rattle.rq_words.proofs.Orders.{both, found_ok, in_order, no_fault, range_of, short_ok, step_ok}
+use Rattle.rq_words.proofs.Orders.{both, checked_in_order, found_ok, no_fault, range_of, short_ok, step_ok}
 
 -- ---- numbers within their limits
 
@@ -53,7 +53,8 @@ numbers_within found n h =
     let number = step_ok (number_option found (codes "number") 0 (count 10 0 (2 ^ 32 - 1))) _ _ limit.1 in
     let rows = step_both (number_option found (codes "rows") 0 (count 5 1 most_rows)) _ _ number.1 in
     let columns = step_both (number_option found (codes "columns") 0 (count 3 1 100)) _ _ rows.2 in
-    let same = same_numbers _ n columns.2 in
+    let tau = step_ok (number_option found (codes "tau") zero number_text) _ _ columns.2 in
+    let same = same_numbers _ n tau.1 in
     record {
       rows = subst (λ r. r ≤ most_rows) (ap (λ (m : OptionNumbers). m.rows) same)
           (option_within 5 1 most_rows rows.0 (first_of (codes "rows") found) (BadNumber (codes "rows")) rows.1);
@@ -76,6 +77,7 @@ same_sample kind.Certify found n chosen s h = absurd (cc h)
 same_sample kind.Check found n chosen s h = absurd (cc h)
 same_sample kind.Sample found n chosen s h = cc h
 same_sample kind.Predict found n chosen s h = absurd (cc h)
+same_sample kind.Path found n chosen s h = absurd (cc h)
 
 module _ (s : SampleRequest) where
   checked_sample : (kind : Kind) (found : List Row) → checked kind found ≡ Ok (request.Sample s) → IsSoundSample s
@@ -84,10 +86,14 @@ module _ (s : SampleRequest) where
       let numbers = step_both (numbers_of found) _ _ h in
       let chosen = step_ok (option BadContrasts found (codes "contrasts") Treatment coding) _ _ numbers.2 in
       let n = numbers.0 in
-      let sound = no_fault (fault_of n) (request_for kind found n chosen.0) _ chosen.1 in
+      let sound = no_fault (fault_of kind n) (request_for kind found n chosen.0) _ chosen.1 in
       let within = numbers_within found n numbers.1 in
-      subst IsSoundSample (same_sample kind found n chosen.0 s sound.1)
-      (record { range = range_of n.lo n.hi (in_order n sound.0); rows = within.rows; columns = within.columns })
+      let same = same_sample kind found n chosen.0 s sound.1 in
+      record {
+        range = range_of s.lo s.hi (checked_in_order kind found (request.Sample s) h);
+        rows = subst (λ (t : SampleRequest). t.rows ≤ most_rows) same within.rows;
+        columns = subst (λ (t : SampleRequest). t.columns ≤ 100) same within.columns;
+      }
 
   job_sample : (kind : Kind) (words : List Text) → words_of_job kind words ≡ Ok (request.Sample s) → IsSoundSample s
   unfolding words_of_job

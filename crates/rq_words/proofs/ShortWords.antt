@@ -16,7 +16,7 @@ use Rattle.clap.specs.declared.builder.value_parser.Reading.{Reading}
 use Rattle.contrasts.specs.declared.Coding.{Coding}
 use Rattle.contrasts.specs.declared.Coding.TheVariants.{Treatment}
 use Rattle.rq_words.specs.Commands.{command_of, kind_of, options_of, read_by, some_if_none}
-use Rattle.rq_words.specs.Requests.{FitRequest, OptionNumbers, Request}
+use Rattle.rq_words.specs.Requests.{FitRequest, OptionNumbers, PathRequest, Request}
 use Rattle.rq_words.specs.Requests as request
 use Rattle.rq_words.specs.Words.{coding, fault_of, is_long, numbers_of, option as option_text, request_for, checked, text_or_empty, words_of_job, words_of}
 use Rattle.rq_words.specs.declared.command.Kind.{Kind}
@@ -302,6 +302,7 @@ options kind.Certify = search rules
 options kind.Check = tt
 options kind.Sample = search rules
 options kind.Predict = search rules
+options kind.Path = search rules
 
 short_words : (words : List Text) → list_any is_long words ≡ false → AllByRecursion (IsShort (2 ^ 31)) words
 short_words [] h = tt
@@ -342,6 +343,7 @@ formula_in (request.Certify f) = f.formula
 formula_in request.Check = []
 formula_in (request.Sample s) = []
 formula_in (request.Predict f) = f.formula
+formula_in (request.Path p) = p.fit.formula
 
 abbrev HasShortFormula : Request → Type 0
 HasShortFormula r = IsShort (2 ^ 31) (formula_in r)
@@ -354,13 +356,14 @@ request_short kind.Certify found n chosen h = h
 request_short kind.Check found n chosen h = lit< tt
 request_short kind.Sample found n chosen h = lit< tt
 request_short kind.Predict found n chosen h = h
+request_short kind.Path found n chosen h = h
 
 checked_short : (kind : Kind) (found : List Row) (r : Request) → checked kind found ≡ Ok r → IsShort (2 ^ 31) (text_or_empty (first_of (codes "formula") found)) → HasShortFormula r
 unfolding checked
 checked_short kind found r h short =
     let numbers = step_ok (numbers_of found) _ _ h in
     let chosen = step_ok (option_text BadContrasts found (codes "contrasts") Treatment coding) _ _ numbers.1 in
-    let sound = no_fault (fault_of numbers.0) (request_for kind found numbers.0 chosen.0) _ chosen.1 in
+    let sound = no_fault (fault_of kind numbers.0) (request_for kind found numbers.0 chosen.0) _ chosen.1 in
     subst HasShortFormula sound.1 (request_short kind found numbers.0 chosen.0 short)
 
 job_short : (kind : Kind) (words : List Text) (r : Request) → words_of_job kind words ≡ Ok r → HasShortFormula r
@@ -398,3 +401,7 @@ certify_formula words f h = request_formula words (request.Certify f) h
 -- and that of predictions
 pub predict_formula : (words : List Text) (f : FitRequest) → words_of words ≡ Ok (request.Predict f) → length f.formula < 2 ^ 31
 predict_formula words f h = request_formula words (request.Predict f) h
+
+-- and that of a path
+pub path_formula : (words : List Text) (p : PathRequest) → words_of words ≡ Ok (request.Path p) → length p.fit.formula < 2 ^ 31
+path_formula words p h = request_formula words (request.Path p) h

@@ -5,7 +5,7 @@ use Rattle.clap.specs.Words.{App, Kinds, Row, Rule, Text, new_rule, fault_of, ma
 use Rattle.clap.specs.Simple.{new_shape}
 use Rattle.clap.specs.declared.builder.action.ArgAction.TheVariants.{Set}
 use Rattle.rq_words.specs.declared.command.Kind.{Kind}
-use Rattle.rq_words.specs.declared.command.Kind.TheVariants.{Process, Ranks, Certify, Check, Sample, Predict}
+use Rattle.rq_words.specs.declared.command.Kind.TheVariants.{Process, Ranks, Certify, Check, Sample, Predict, Path}
 
 -- an option `--name` with one value
 abbrev pub option_rule : Text → Bool → Rule
@@ -43,6 +43,7 @@ options_of Ranks = rules_of (codes "formula" ∷ []) (codes "weights" ∷ codes 
 options_of Check = []
 options_of Sample = rules_of (codes "number" ∷ codes "rows" ∷ codes "columns" ∷ codes "lo" ∷ codes "hi" ∷ []) (codes "pivots" ∷ [])
 options_of Predict = model_rules
+options_of Path = rules_of (codes "formula" ∷ codes "tau" ∷ codes "lo" ∷ codes "hi" ∷ []) (codes "weights" ∷ codes "contrasts" ∷ codes "pivots" ∷ [])
 
 -- the job of a first word
 unfoldable pub kind_of : Text → Option Kind
@@ -51,7 +52,8 @@ kind_of word = if bytes_eq word (codes "process") then Some Process
     else if bytes_eq word (codes "certify") then Some Certify
     else if bytes_eq word (codes "check") then Some Check
     else if bytes_eq word (codes "sample") then Some Sample
-    else if bytes_eq word (codes "predict") then Some Predict else None
+    else if bytes_eq word (codes "predict") then Some Predict
+    else if bytes_eq word (codes "path") then Some Path else None
 
 -- the rows, where there is no fault
 abbrev pub some_if_none : Kinds → List Row → Option (List Row)

@@ -8,6 +8,7 @@ use Rattle.contrasts.specs.declared.Coding.{Coding}
 use Rattle.rq_words.specs.declared.job.Job.{Job}
 use Rattle.rq_words.specs.declared.job.Job.TheVariants as job
 use Rattle.rq_words.specs.declared.job.FitJob.{FitJob}
+use Rattle.rq_words.specs.declared.job.PathJob.{PathJob}
 use Rattle.rq_words.specs.declared.job.RankAsk.{RankAsk}
 use Rattle.rq_words.specs.declared.job.SampleJob.{SampleJob}
 use Rattle.rq_words.specs.declared.job.WordFault.{WordFault}
@@ -27,6 +28,7 @@ pub record OptionNumbers : Type 0 where
   pub number : ℕ
   pub rows : ℕ
   pub columns : ℕ
+  pub tau : ℚ
 
 -- rank intervals at these quantiles, with this critical value
 pub record RankRequest : Type 0 where
@@ -52,6 +54,11 @@ pub record SampleRequest : Type 0 where
   pub hi : ℚ
   pub limit : ℕ
 
+-- a path in lambda at a quantile; the range of the fit is that of lambda
+pub record PathRequest : Type 0 where
+  pub fit : FitRequest
+  pub tau : ℚ
+
 -- what a command asks for, by its job
 pub data Request : Type 0 where
   Process : FitRequest → Request
@@ -60,6 +67,7 @@ pub data Request : Type 0 where
   Check : Request
   Sample : SampleRequest → Request
   Predict : FitRequest → Request
+  Path : PathRequest → Request
 
 -- the numbers of the options that were read
 abbrev pub option_numbers : Numbers → OptionNumbers
@@ -72,6 +80,7 @@ option_numbers n = record {
   number = n.number;
   rows = n.rows;
   columns = n.columns;
+  tau = number n.tau;
 }
 
 -- the rank intervals that a job asks for
@@ -101,6 +110,10 @@ sample_request s = record {
   limit = s.limit;
 }
 
+-- the path that a job asks for
+abbrev pub path_request : PathJob → PathRequest
+path_request p = record { fit = fit_request p.fit; tau = number p.tau }
+
 -- what a job asks for
 abbrev pub request_of : Job → Request
 request_of (job.Process f) = Process (fit_request f)
@@ -109,6 +122,7 @@ request_of (job.Certify f) = Certify (fit_request f)
 request_of job.Check = Check
 request_of (job.Sample s) = Sample (sample_request s)
 request_of (job.Predict f) = Predict (fit_request f)
+request_of (job.Path p) = Path (path_request p)
 
 -- what an answer asks for, or its fault
 abbrev pub request_or_fault : Result Job WordFault → Result Request WordFault

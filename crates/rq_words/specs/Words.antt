@@ -12,7 +12,7 @@ use Rattle.frac_core.specs.Limits.{most_rows}
 use Rattle.contrasts.specs.declared.Coding.{Coding}
 use Rattle.contrasts.specs.declared.Coding.TheVariants.{Treatment, Sas, Sum, Helmert}
 use Rattle.rq_words.specs.Commands.{found_in, kind_of}
-use Rattle.rq_words.specs.Requests.{FitRequest, OptionNumbers, RankRequest, Request, SampleRequest}
+use Rattle.rq_words.specs.Requests.{FitRequest, OptionNumbers, PathRequest, RankRequest, Request, SampleRequest}
 use Rattle.rq_words.specs.Requests as request
 use Rattle.rq_words.specs.declared.command.Kind.{Kind}
 use Rattle.rq_words.specs.declared.command.Kind.TheVariants as kind
@@ -92,6 +92,7 @@ numbers_of found =
     number_option found (codes "number") 0 (count 10 0 (2 ^ 32 - 1)) >>= (λ number.
     number_option found (codes "rows") 0 (count 5 1 most_rows) >>= (λ rows.
     number_option found (codes "columns") 0 (count 3 1 100) >>= (λ columns.
+    number_option found (codes "tau") zero number_text >>= (λ tau.
     Ok (record {
       lo = lo;
       hi = hi;
@@ -101,11 +102,25 @@ numbers_of found =
       number = number;
       rows = rows;
       columns = columns;
-    })))))))))
+      tau = tau;
+    }))))))))))
 
 -- 0 is at most lo, lo at most hi, and hi at most 1
 abbrev pub is_in_order : ℚ → ℚ → Bool
 is_in_order lo hi = le_ℚ zero lo && le_ℚ lo hi && le_ℚ hi one
+
+-- tau lies in 0 to 1, 0 is below lo, and lo at most hi
+abbrev pub is_path_range : ℚ → ℚ → ℚ → Bool
+is_path_range tau lo hi = le_ℚ zero tau && le_ℚ tau one && not (le_ℚ lo zero) && le_ℚ lo hi
+
+-- the job is a path, whose range is one of lambda
+abbrev pub is_path : Kind → Bool
+is_path kind.Path = true
+is_path _ = false
+
+-- the range is in order, as the job wants it
+abbrev pub has_range : Kind → OptionNumbers → Bool
+has_range kind n = if is_path kind then is_path_range n.tau n.lo n.hi else is_in_order n.lo n.hi
 
 -- both are there, or neither
 abbrev pub are_alike : Bool → Bool → Bool
@@ -116,10 +131,10 @@ are_alike false b = not b
 abbrev pub is_outside : ℚ → Bool
 is_outside tau = le_ℚ tau zero || le_ℚ one tau
 
--- what is wrong with the numbers, if anything is
-unfoldable pub fault_of : OptionNumbers → Option WordFault
-fault_of n =
-    if not (is_in_order n.lo n.hi) then Some BadRange
+-- what is wrong with the numbers of a job, if anything is
+unfoldable pub fault_of : Kind → OptionNumbers → Option WordFault
+fault_of kind n =
+    if not (has_range kind n) then Some BadRange
     else if not (are_alike (is_some n.crit) (is_some n.taus)) then Some RankHalf
     else if option_map_or (list_any is_outside) n.taus false then Some BadTauForRank
     else if option_map_or (λ crit. not (le_ℚ zero crit)) n.crit false then Some NegativeLimit
@@ -167,6 +182,10 @@ over_all n = record n { lo = zero; hi = one }
 abbrev pub unranked : OptionNumbers → OptionNumbers
 unranked n = record n { crit = None; taus = None }
 
+-- the path of these options
+abbrev pub path : List Row → OptionNumbers → Coding → PathRequest
+path found n coding = record { fit = fit found (unranked n) coding; tau = n.tau }
+
 -- the request of a job with these options; ranks are taken over 0 to 1
 abbrev pub request_for : Kind → List Row → OptionNumbers → Coding → Request
 request_for kind.Process found n coding = request.Process (fit found n coding)
@@ -175,13 +194,14 @@ request_for kind.Certify found n coding = request.Certify (fit found n coding)
 request_for kind.Check found n coding = request.Check
 request_for kind.Sample found n coding = request.Sample (sample n)
 request_for kind.Predict found n coding = request.Predict (fit found (unranked n) coding)
+request_for kind.Path found n coding = request.Path (path found n coding)
 
 -- the request of a job's options
 unfoldable pub checked : Kind → List Row → Result Request WordFault
 checked kind found =
     numbers_of found >>= (λ n.
     option BadContrasts found (codes "contrasts") Treatment coding >>= (λ coding.
-    option_map_or (λ fault. Err fault) (fault_of n) (Ok (request_for kind found n coding))))
+    option_map_or (λ fault. Err fault) (fault_of kind n) (Ok (request_for kind found n coding))))
 
 -- a word of 2^31 bytes or more
 abbrev pub is_long : Text → Bool

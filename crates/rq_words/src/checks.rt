@@ -2,9 +2,10 @@ ghost use Rattle.std.specs.Prelude.{◌≡◌};
 ghost use Rattle.std.specs.List.{list_any};
 ghost use Rattle.exact_algebra.specs.Rational.{le_ℚ};
 ghost use Rattle.rq_words.specs.Requests.{number, option_numbers};
-ghost use Rattle.rq_words.specs.Words.{fault_of, is_in_order, is_outside};
+ghost use Rattle.rq_words.specs.Words.{fault_of, has_range as has_range_of, is_in_order, is_outside, is_path_range as is_path_range_of};
 
 use crate::WordFault;
+use crate::command::Kind;
 use crate::numbers::Numbers;
 use frac_core::{Exact, Frac128};
 use std::cmp::Ordering;
@@ -22,6 +23,16 @@ fn is_range(lo: Frac128, hi: Frac128) -> bool
     is_at_most(Frac128::zero(), lo) && is_at_most(lo, hi) && is_at_most(hi, Frac128::one())
 }
 
+// Whether `0 <= tau <= 1` and `0 < lo <= hi`.
+fn is_path_range(tau: Frac128, lo: Frac128, hi: Frac128) -> bool
+    ensures { result ≡ is_path_range_of (number tau) (number lo) (number hi) }
+{
+    is_at_most(Frac128::zero(), tau)
+        && is_at_most(tau, Frac128::one())
+        && !is_at_most(lo, Frac128::zero())
+        && is_at_most(lo, hi)
+}
+
 // Whether a quantile isn't strictly between 0 and 1.
 fn is_outside(tau: Frac128) -> bool
     ensures { result ≡ is_outside (number tau) }
@@ -36,12 +47,23 @@ fn has_outside(taus: &[Frac128]) -> bool
 }
 
 impl Numbers {
-    /// What is wrong with the numbers, the first that the checks find.
-    #[tactic(auto, using(crate::proofs::ItemTests::any_of_values), unfolding(crate::specs::Words::fault_of))]
-    pub fn fault(&self) -> Option<WordFault>
-        ensures { result ≡ fault_of (option_numbers self.now) }
+    // Whether the range is in order, as the job wants it.
+    fn has_range(&self, kind: Kind) -> bool
+        ensures { result ≡ has_range_of kind (option_numbers self.now) }
     {
-        if !is_range(self.lo, self.hi) {
+        if kind.is_path() {
+            is_path_range(self.tau, self.lo, self.hi)
+        } else {
+            is_range(self.lo, self.hi)
+        }
+    }
+
+    /// What is wrong with the numbers of a job, the first that the checks find.
+    #[tactic(auto, using(crate::proofs::ItemTests::any_of_values), unfolding(crate::specs::Words::fault_of))]
+    pub fn fault(&self, kind: Kind) -> Option<WordFault>
+        ensures { result ≡ fault_of kind (option_numbers self.now) }
+    {
+        if !self.has_range(kind) {
             return Some(WordFault::BadRange);
         }
         if self.crit.is_some() != self.taus.is_some() {

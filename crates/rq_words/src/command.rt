@@ -1,6 +1,7 @@
 ghost use Rattle.std.specs.Prelude.{◌≡◌, ◌⊎◌, Some, None, [], IfOk, MatchResult, codes, false, map, string_bytes};
 ghost use Rattle.clap.specs.Words.{app_of, rows_of, found_of, rule_of};
 ghost use Rattle.rq_words.specs.Commands.{option_rule, command_of, kind_of, options_of, read_by, with_rules};
+ghost use Rattle.rq_words.specs.Words.{is_path};
 
 use clap::{Arg, ArgAction, Command};
 use std::alloc::{AllocError, Global};
@@ -14,6 +15,7 @@ pub(crate) enum Kind {
     Check,
     Sample,
     Predict,
+    Path,
 }
 
 impl Kind {
@@ -29,8 +31,16 @@ impl Kind {
             "check" => Some(Kind::Check),
             "sample" => Some(Kind::Sample),
             "predict" => Some(Kind::Predict),
+            "path" => Some(Kind::Path),
             _ => None,
         }
+    }
+
+    /// Whether the job is a path, whose range is one of lambda.
+    pub fn is_path(self) -> bool
+        ensures { result ≡ is_path self }
+    {
+        matches!(self, Kind::Path)
     }
 }
 
@@ -42,6 +52,8 @@ static FIT_OPTIONAL: [&str; 5] = ["weights", "contrasts", "pivots", "crit", "ran
 static RANKS_REQUIRED: [&str; 1] = ["formula"];
 
 static MODEL_OPTIONAL: [&str; 3] = ["weights", "contrasts", "pivots"];
+
+static PATH_REQUIRED: [&str; 4] = ["formula", "tau", "lo", "hi"];
 
 static SAMPLE_REQUIRED: [&str; 5] = ["number", "rows", "columns", "lo", "hi"];
 
@@ -86,6 +98,7 @@ pub(crate) fn command<'a>(alloc: Global, kind: Kind) -> Result<Command<'a>, Allo
         Kind::Process | Kind::Certify => (FIT_REQUIRED.as_slice(), FIT_OPTIONAL.as_slice()),
         Kind::Ranks => (RANKS_REQUIRED.as_slice(), MODEL_OPTIONAL.as_slice()),
         Kind::Predict => (FIT_REQUIRED.as_slice(), MODEL_OPTIONAL.as_slice()),
+        Kind::Path => (PATH_REQUIRED.as_slice(), MODEL_OPTIONAL.as_slice()),
         Kind::Sample => (SAMPLE_REQUIRED.as_slice(), SAMPLE_OPTIONAL.as_slice()),
         Kind::Check => return Ok(new_command(alloc)),
     };

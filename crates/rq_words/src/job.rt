@@ -17,6 +17,8 @@ pub enum Job {
     /// Predict the missing responses of a table at each quantile of a range. No rank intervals are
     /// asked for.
     Predict(FitJob),
+    /// The l1 path of a fit in lambda. No rank intervals are asked for.
+    Path(PathJob),
 }
 
 /// A fit of a table.
@@ -45,6 +47,15 @@ pub struct RankAsk {
     pub crit: Frac128,
     /// The quantiles, as given.
     pub taus: List<Frac128>,
+}
+
+/// A path in lambda at one quantile: the check loss plus lambda times the sum of the absolute coefficients.
+#[derive(Drop)]
+pub struct PathJob {
+    /// The fit, whose range is that of lambda: its least value is above 0.
+    pub fit: FitJob,
+    /// The quantile, from 0 to 1.
+    pub tau: Frac128,
 }
 
 /// A fit of a generated table.
@@ -76,7 +87,7 @@ pub enum WordFault {
     BadOption,
     /// The value of this option isn't a number as the option wants it.
     BadNumber { option: Text },
-    /// The range isn't `0 <= lo <= hi <= 1`.
+    /// The range isn't `0 <= lo <= hi <= 1`; of a path, it isn't `0 < lo <= hi`, or not `0 <= tau <= 1`.
     BadRange,
     /// A quantile of the rank intervals is at most 0 or at least 1.
     BadTauForRank,

@@ -21,7 +21,7 @@ mod options;
 mod requests;
 
 use command::Kind;
-pub use job::{FitJob, Job, RankAsk, SampleJob, WordFault};
+pub use job::{FitJob, Job, PathJob, RankAsk, SampleJob, WordFault};
 use options::Options;
 use requests::job_of;
 use std::alloc::Global;
@@ -41,8 +41,9 @@ const LONG_WORD: usize = 1 << 31;
 /// | `check` | none | none |
 /// | `sample` | `number`, `rows`, `columns`, `lo`, `hi` | `pivots` |
 /// | `predict` | `formula`, `lo`, `hi` | `weights`, `contrasts`, `pivots` |
+/// | `path` | `formula`, `tau`, `lo`, `hi` | `weights`, `contrasts`, `pivots` |
 ///
-/// `lo`, `hi` and `crit` are number texts, and `rank-at` is up to 64 of them with commas between.
+/// `lo`, `hi`, `crit` and `tau` are number texts, and `rank-at` is up to 64 of them with commas between.
 /// Where an option isn't given, the range is 0 to 1, the pivots are 100,000 and the contrasts are
 /// treatment. Each fault comes exactly where the words have it and none that is looked for before;
 /// want of memory alone may come at any step.

@@ -22,6 +22,7 @@ pub(crate) struct Numbers {
     pub number: u32,
     pub rows: u32,
     pub columns: u32,
+    pub tau: Frac128,
 }
 
 /// The whole numbers of an option: how many digits they have at most, and their bounds.
@@ -215,6 +216,7 @@ impl Numbers {
         let number = count_or(alloc, options, "number", NUMBER, 0)?;
         let rows = count_or(alloc, options, "rows", ROWS, 0)?;
         let columns = count_or(alloc, options, "columns", COLUMNS, 0)?;
+        let tau = fraction_or(alloc, options, "tau", Frac128::zero())?;
         Ok(Numbers {
             lo,
             hi,
@@ -224,6 +226,7 @@ impl Numbers {
             number,
             rows,
             columns,
+            tau,
         })
     }
 

@@ -1,12 +1,12 @@
 ghost use Rattle.std.specs.Prelude.{◌≡◌, ◌⊎◌, Err, IfOk, codes, option_map};
 ghost use Rattle.std.specs.Result.{result_map_both};
-ghost use Rattle.rq_words.specs.Requests.{fit_request, option_numbers, request_or_fault, sample_request};
-ghost use Rattle.rq_words.specs.Words.{checked, coding, fit, option, sample};
+ghost use Rattle.rq_words.specs.Requests.{fit_request, option_numbers, path_request, request_or_fault, sample_request};
+ghost use Rattle.rq_words.specs.Words.{checked, coding, fit, option, path, sample};
 
 use crate::command::Kind;
 use crate::numbers::Numbers;
 use crate::options::Options;
-use crate::{FitJob, Job, RankAsk, SampleJob, WordFault};
+use crate::{FitJob, Job, PathJob, RankAsk, SampleJob, WordFault};
 use contrasts::Coding;
 use frac_core::{OutOfMemory, Text};
 use std::alloc::Global;
@@ -69,6 +69,20 @@ fn fit_of(
     })
 }
 
+fn path_of(
+    alloc: Global,
+    options: &Options,
+    numbers: Numbers,
+    coding: Coding,
+) -> Result<PathJob, OutOfMemory>
+    ensures { IfOk result (λ job.
+        path_request job ≡ path options.now (option_numbers numbers) coding) }
+{
+    let tau = numbers.tau;
+    let fit = fit_of(alloc, options, numbers.unranked(), coding)?;
+    Ok(PathJob { fit, tau })
+}
+
 fn sample_of(numbers: &Numbers) -> SampleJob
     ensures { sample_request result ≡ sample (option_numbers numbers.now) }
 {
@@ -90,7 +104,7 @@ pub(crate) fn job_of(alloc: Global, kind: Kind, options: &Options) -> Result<Job
 {
     let numbers = Numbers::read(alloc, options)?;
     let coding = chosen_coding(options)?;
-    if let Some(fault) = numbers.fault() {
+    if let Some(fault) = numbers.fault(kind) {
         return Err(fault);
     }
     let made = match kind {
@@ -100,6 +114,7 @@ pub(crate) fn job_of(alloc: Global, kind: Kind, options: &Options) -> Result<Job
         Kind::Ranks => fit_of(alloc, options, numbers.over_all(), coding).map(Job::Ranks),
         Kind::Certify => fit_of(alloc, options, numbers, coding).map(Job::Certify),
         Kind::Predict => fit_of(alloc, options, numbers.unranked(), coding).map(Job::Predict),
+        Kind::Path => path_of(alloc, options, numbers, coding).map(Job::Path),
     };
     match made {
         Ok(job) => Ok(job),
