@@ -4,6 +4,7 @@ use Rattle.exact_algebra.specs.Fraction.{rational}
 use Rattle.exact_algebra.specs.Rational.{ℚ, whole, ◌≤ℚ◌}
 use Rattle.rq_words.specs.declared.job.RankAsk.{RankAsk}
 use Rattle.rq_words.specs.declared.job.FitJob.{FitJob}
+use Rattle.rq_words.specs.declared.job.PathJob.{PathJob}
 use Rattle.report_text.specs.ReportText.{value}
 pub use Rattle.interval_jobs.specs.RankProblems.{IsInner}
 
@@ -23,6 +24,13 @@ pub record IsFitAsk (job : FitJob) : Type 0 where
   pub ordered : rational (value job.lo) ≤ℚ rational (value job.hi)
   pub high : rational (value job.hi) ≤ℚ whole (pos 1)
   pub rank : IsRankAskOf job.rank
+
+-- lambda is above 0, its range in order, and the quantile lies in 0 to 1
+pub record IsPathAsk (job : PathJob) : Type 0 where
+  pub low : ¬ (rational (value job.fit.lo) ≤ℚ whole (pos 0))
+  pub ordered : rational (value job.fit.lo) ≤ℚ rational (value job.fit.hi)
+  pub tau_low : whole (pos 0) ≤ℚ rational (value job.tau)
+  pub tau_high : rational (value job.tau) ≤ℚ whole (pos 1)
 
 -- it is 0 to 1
 pub record IsUnitAsk (job : FitJob) : Type 0 where

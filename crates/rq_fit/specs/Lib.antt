@@ -3,6 +3,7 @@ pub mod Fit
 pub mod Halts
 pub mod Intervals
 pub mod Lacking
+pub mod Paths
 pub mod Predicted
 pub mod RankProblems
 pub mod Ranks

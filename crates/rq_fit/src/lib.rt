@@ -12,9 +12,11 @@
 
 mod fit;
 mod halt;
+mod path;
 mod predictions;
 mod ranks;
 
 pub use fit::fit_input;
+pub use path::path_input;
 pub use predictions::predict_input;
 pub use ranks::ranks_input;

@@ -2,6 +2,7 @@ pub mod Halts
 pub mod Inputs
 pub mod Models
 pub mod Plain
+pub mod PlainRows
 pub mod Predicting
 pub mod Predictions
 pub mod Rows

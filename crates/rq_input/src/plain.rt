@@ -1,15 +1,49 @@
 //! The model and the input of a table where no smooths are taken.
 ghost use Rattle.std.specs.Prelude.{◌≡◌, ◌≤◌, ◌<◌, ◌^◌, All, length, IfOk, IfErr};
-ghost use Rattle.rq_input.specs.Plain.{HasPlainTableCause, IsPlainModel};
+ghost use Rattle.rq_input.specs.Plain.{HasPlainCause, HasPlainTableCause, IsPlain, IsPlainModel};
+ghost use Rattle.rq_input.specs.PlainRows.{HasIntercept};
 ghost use Rattle.rq_input.specs.Rows.{HasRows};
 
-use crate::halt::formula_halt;
+use crate::halt::{formula_halt, table_halt};
 use crate::input::{Input, model_input};
-use data_frame::Frame;
+use data_frame::{Frame, read_table};
 use formula_parser::{Formula, parse};
 use report_text::{Halt, Refusal};
 use rq_words::FitJob;
 use std::alloc::Global;
+
+/// The input of a job whose formula has no smooth, and whether it has an intercept.
+#[derive(Drop)]
+pub struct PlainInput {
+    pub input: Input,
+    pub intercept: bool,
+}
+
+/// The input of a job that takes no smooths, from at most 2^26 bytes.
+///
+/// `Refused` is the first fault, as of `read_input`; in place of `RankWithPenalty` it is `SmoothNotTaken`, exactly
+/// where the formula has a smooth. `OutOfMemory` may come at any step, and no other halt comes.
+pub fn read_plain(alloc: Global, job: &FitJob, bytes: &[u8]) -> Result<PlainInput, Halt>
+    requires long { length job.now.formula < 2 ^ 31 }
+    requires short { length bytes.now ≤ 2 ^ 26 }
+    ensures is { IfOk result (IsPlain job.now bytes.now) }
+    ensures rows { IfOk result (λ plain. HasRows plain.input) }
+    ensures unpenalised { IfOk result (λ plain. length plain.input.smoothing.rows ≡ 0) }
+    ensures intercept { IfOk result HasIntercept }
+    ensures cause { IfErr result (HasPlainCause job.now bytes.now) }
+{
+    let frame = match read_table(alloc, bytes) {
+        Ok(frame) => frame,
+        Err(fault) => return Err(table_halt(fault)),
+    };
+    match plain_model(alloc, job, &frame) {
+        Ok((model, input)) => Ok(PlainInput {
+            input,
+            intercept: model.intercept,
+        }),
+        Err(halt) => Err(halt),
+    }
+}
 
 /// The model of a table's formula, which has no smooth, and the input by it.
 ///
