@@ -1,6 +1,6 @@
 -- Stated. The printed text of a report: lines of words with one space between them. A type F of fractions
 -- is seen by a function into pairs.
-use Rattle.std.specs.Prelude.{◌≡◌, ◌≤◌, ℕ, ◌+◌, ◌-◌, Bool, true, false, nat_lt, List, [], ◌∷◌, ◌++◌, length, slice_get, Option, Some, codes, decimal, ⊤}
+use Rattle.std.specs.Prelude.{All, ◌≡◌, ◌≤◌, ℕ, ◌+◌, ◌-◌, Bool, true, false, nat_lt, List, [], ◌∷◌, ◌++◌, length, slice_get, Option, Some, codes, decimal, ⊤}
 use Rattle.std.specs.List.{flat_map, zip}
 use Rattle.exact_algebra.specs.Fraction.{Fraction}
 use Rattle.frac_core.specs.NumberText.{number_text_of}
@@ -17,10 +17,11 @@ use Rattle.rankscores.specs.declared.pair.ScorePair.{ScorePair}
 use Rattle.predict_steps.specs.declared.step.Step.{Step}
 use Rattle.report_text.specs.declared.report.Fit.{Fit}
 use Rattle.report_text.specs.declared.report.RanksFit.{RanksFit}
+use Rattle.report_text.specs.declared.report.PathFit.{PathFit}
 use Rattle.report_text.specs.declared.report.PredictFit.{PredictFit}
 use Rattle.report_text.specs.declared.report.Prediction.{Prediction}
 use Rattle.report_text.specs.declared.report.Report.{Report}
-use Rattle.report_text.specs.declared.report.Report.TheVariants.{Process, Ranks, Certificate, Checked, Sample, Predict}
+use Rattle.report_text.specs.declared.report.Report.TheVariants.{Process, Ranks, Certificate, Checked, Sample, Predict, Path}
 use Rattle.report_text.specs.Names.{name_bytes}
 
 -- the texts of the items, which are numbered from i, one after another
@@ -175,6 +176,40 @@ predict_head fit =
 unfoldable pub predict_text : PredictFit → List ℕ
 predict_text fit = predict_head fit ++ flat_map prediction_text fit.predictions ++ codes "end\n"
 
+-- + at a row above the fit, - below it, * at a row of the basis
+unfoldable pub sides_line : List Side → List ℕ
+sides_line sides = codes "sides " ++ numbered (row_mark 0) 0 sides ++ codes "\n"
+
+-- the dual values of a row of the basis at both ends, rows counted from 1
+unfoldable pub dual_line : (ℕ × Frac128) × Frac128 → List ℕ
+dual_line ((row, lo), hi) = codes "dual " ++ decimal (row + 1) ++ codes " " ++ number_text_of (value lo) ++ codes " " ++ number_text_of (value hi) ++ codes "\n"
+
+-- those of all rows of the basis
+abbrev pub duals_text : Segment Frac128 → List ℕ
+duals_text s = flat_map dual_line (zip (zip s.vertex.basis.rows s.basic_lo) s.basic_hi)
+
+-- one segment of a path: its range, its coefficients, its losses, its sides and its basic rows
+unfoldable pub path_segment_text : ℕ → Segment Frac128 → List ℕ
+path_segment_text i s =
+    segment_line value i s ++ numbered (coef_line value) 1 s.vertex.coef ++ loss_line value s.loss_lo s.loss_hi ++ sides_line s.vertex.sides ++ duals_text s
+
+-- how many rows and pivots a path has
+unfoldable pub path_size : PathFit → List ℕ
+path_size fit = data_line fit.data_rows (length fit.problem.rows - fit.data_rows) ++ pivots_line (length fit.process.trail.steps)
+
+-- what stands before the segments of a path
+unfoldable pub path_head : PathFit → List ℕ
+path_head fit = codes "quantreg path 1\n" ++ records_line fit.kept fit.dropped ++ numbered column_line 1 fit.names ++ path_size fit
+
+-- the report of a path
+unfoldable pub path_text : PathFit → List ℕ
+path_text fit = path_head fit ++ numbered path_segment_text 1 fit.process.segments ++ codes "end\n"
+
+-- as many values of basic rows at either end as there are basic rows
+pub record IsPaired (s : Segment Frac128) : Type 0 where
+  pub lo : length s.basic_lo ≡ length s.vertex.basis.rows
+  pub hi : length s.basic_hi ≡ length s.vertex.basis.rows
+
 -- the text of a report; that of a certificate is the certificate
 abbrev pub report_text : Report → List ℕ
 report_text (Process fit) = fit_text fit
@@ -183,8 +218,10 @@ report_text (Certificate cert) = cert_text cert
 report_text (Checked cert) = checked_text cert
 report_text (Sample fit) = sample_text fit
 report_text (Predict fit) = predict_text fit
+report_text (Path fit) = path_text fit
 
--- a fit has one list of scores per segment, and no more data rows than rows
+-- a fit has one list of scores per segment, and no more data rows than rows; so has a path, whose segments have their
+-- values
 abbrev pub IsPrintable : Report → Type 0
 IsPrintable (Process fit) = (length fit.scores ≡ length fit.process.segments) × (fit.data_rows ≤ length fit.problem.rows)
 IsPrintable (Ranks ranks) = ⊤
@@ -192,3 +229,4 @@ IsPrintable (Certificate cert) = ⊤
 IsPrintable (Checked cert) = ⊤
 IsPrintable (Sample fit) = ⊤
 IsPrintable (Predict fit) = ⊤
+IsPrintable (Path fit) = (fit.data_rows ≤ length fit.problem.rows) × All IsPaired fit.process.segments

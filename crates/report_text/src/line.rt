@@ -99,6 +99,7 @@ impl Page {
             Place::Interval { column, tau } => self.put_interval(column, tau),
             Place::Check => self.put(b"check"),
             Place::Predict { rec } => self.put_predicted(rec),
+            Place::Path => self.put(b"path"),
         }
     }
 

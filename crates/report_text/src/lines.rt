@@ -111,7 +111,7 @@ impl Page {
         Ok(())
     }
 
-    fn coef_lines<F: Exact>(&mut self, coef: &[F]) -> Result<(), OutOfMemory>
+    pub(crate) fn coef_lines<F: Exact>(&mut self, coef: &[F]) -> Result<(), OutOfMemory>
         ensures { OnOk result (self.new ≡ self.old ++ numbered (coef_line F.value) 1 coef.now) }
     {
         for (index, value) in coef.iter().enumerate() {
@@ -129,7 +129,7 @@ impl Page {
         Ok(())
     }
 
-    fn row_marks(&mut self, data_rows: u32, sides: &[Side]) -> Result<(), OutOfMemory>
+    pub(crate) fn row_marks(&mut self, data_rows: u32, sides: &[Side]) -> Result<(), OutOfMemory>
         ensures { OnOk result (self.new ≡ self.old ++ numbered (row_mark data_rows) 0 sides.now) }
     {
         for (row, side) in sides.iter().enumerate() {
@@ -234,7 +234,8 @@ impl Page {
 
 /// The text of a report. It refuses only for memory.
 ///
-/// A fit has one list of scores per segment, and no more data rows than rows.
+/// A fit has one list of scores per segment, and no more data rows than rows. A path has no more data rows than rows, and
+/// as many values of basic rows at either end of a segment as there are basic rows.
 pub fn report_bytes(alloc: Global, report: &Report) -> Result<Vec<u8>, OutOfMemory>
     requires { IsPrintable report.now }
     ensures { IfOk result (λ bytes. bytes.items ≡ report_text report.now) }
@@ -247,6 +248,7 @@ pub fn report_bytes(alloc: Global, report: &Report) -> Result<Vec<u8>, OutOfMemo
         Report::Checked(cert) => page.checked(cert)?,
         Report::Sample(fit) => page.sample(fit)?,
         Report::Predict(fit) => page.predict(fit)?,
+        Report::Path(fit) => page.path(fit)?,
     }
     Ok(page.into_bytes())
 }

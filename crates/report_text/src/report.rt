@@ -45,6 +45,18 @@ pub struct PredictFit {
     pub predictions: List<Prediction>,
 }
 
+/// A fitted path in lambda: its problem, of which the first `data_rows` rows are data rows, and the process over
+/// lambda.
+#[derive(Drop)]
+pub struct PathFit {
+    pub kept: u32,
+    pub dropped: u32,
+    pub names: List<Text>,
+    pub data_rows: u32,
+    pub problem: Problem<Frac128>,
+    pub process: Process<Frac128>,
+}
+
 /// What is predicted of a record, counted from 1: a step along each segment of the process, and the
 /// rearrangement of these steps.
 #[derive(Drop)]
@@ -67,6 +79,8 @@ pub enum Report {
     Sample(Fit),
     /// The predictions of missing responses.
     Predict(PredictFit),
+    /// The path in lambda.
+    Path(PathFit),
 }
 
 /// Why an input has no report. No fault in it is want of memory.
@@ -111,6 +125,8 @@ pub enum Place {
     Check,
     /// In the prediction of a record, counted from 1, or in its rearrangement.
     Predict { rec: u32 },
+    /// In the costs of a path problem.
+    Path,
 }
 
 /// Why a job ended without a report.

@@ -8,18 +8,18 @@ use Rattle.std.proofs.lemmas.List.Elements.{All-cons, All-nil}
 use Rattle.exact_algebra.specs.Fraction.{rational}
 use Rattle.exact_algebra.specs.Rational.{ℚ, le_ℚ}
 use Rattle.frac_core.specs.declared.frac128.Frac128.{Frac128}
-use Rattle.rq_words.specs.Requests.{fit_request, number, rank_request, sample_request}
+use Rattle.rq_words.specs.Requests.{fit_request, number, path_request, rank_request, sample_request}
 use Rattle.rq_words.specs.Requests as request
 use Rattle.rq_words.specs.Words.{zero, one, is_outside}
 use Rattle.rq_words.specs.declared.job.Job.{Job}
-use Rattle.rq_words.specs.declared.job.Job.TheVariants.{Process, Ranks, Certify, Check, Predict, Sample}
+use Rattle.rq_words.specs.declared.job.Job.TheVariants.{Process, Ranks, Certify, Check, Predict, Path, Sample}
 use Rattle.rq_words.specs.declared.job.RankAsk.{RankAsk}
-use Rattle.rq_words.proofs.Orders.{process_range, ranks_range, certify_range, predict_range}
+use Rattle.rq_words.proofs.Orders.{process_range, ranks_range, certify_range, path_range, predict_range}
 use Rattle.rq_words.proofs.RankRequests.{IsSoundOf, words_sound}
 use Rattle.rq_words.proofs.Samples.{words_sample}
-use Rattle.rq_words.proofs.ShortWords.{process_formula, ranks_formula, certify_formula, predict_formula}
+use Rattle.rq_words.proofs.ShortWords.{process_formula, ranks_formula, certify_formula, path_formula, predict_formula}
 use Rattle.report_text.specs.ReportText.{value}
-use Rattle.rq_fit.specs.Asks.{IsFitAsk, IsInner, IsRankAskOf, IsUnitAsk}
+use Rattle.rq_fit.specs.Asks.{IsFitAsk, IsInner, IsPathAsk, IsRankAskOf, IsUnitAsk}
 use Rattle.rq_engine.specs.Jobs.{IsJobOf, sample_fit}
 use Rattle.rq_engine.specs.SampleAsks.{IsSampleAsk}
 
@@ -49,6 +49,7 @@ IsAskedJob (Ranks fit) = IsUnitAsk fit × (length fit.formula < 2 ^ 31)
 IsAskedJob (Certify fit) = IsFitAsk fit × (length fit.formula < 2 ^ 31)
 IsAskedJob Check = ⊤
 IsAskedJob (Predict fit) = IsFitAsk fit × (length fit.formula < 2 ^ 31)
+IsAskedJob (Path job) = IsPathAsk job × (length job.fit.formula < 2 ^ 31)
 IsAskedJob (Sample sample) = IsSampleAsk sample
 
 pub asked_job : (words : List (List ℕ)) (job : Job) → IsJobOf words job → IsAskedJob job
@@ -73,6 +74,10 @@ asked_job words (Predict fit) asked =
     let range = predict_range words f asked in
     let rank = rank_by fit.rank (words_sound (request.Predict f) f refl words asked) in
     (record { low = range.0; ordered = range.1; high = range.2; rank = rank }, predict_formula words f asked)
+asked_job words (Path job) asked =
+    let p = path_request job in
+    let range = path_range words p asked in
+    (record { low = range.low; ordered = range.ordered; tau_low = range.tau_low; tau_high = range.tau_high }, path_formula words p asked)
 asked_job words (Sample sample) asked =
     let sound = words_sample (sample_request sample) words asked in
     let ask : IsFitAsk (sample_fit sample) = record { low = sound.range.0; ordered = sound.range.1; high = sound.range.2; rank = tt } in

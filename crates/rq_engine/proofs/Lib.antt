@@ -3,4 +3,5 @@ pub mod Causes
 pub mod Certifying
 pub mod Checks
 pub mod Listed
+pub mod Pathing
 pub mod Predicting

@@ -6,24 +6,30 @@ use Rattle.loss_model.specs.declared.process.Trail.{Trail}
 use Rattle.loss_model.specs.declared.spill.Spill.{Spill}
 use Rattle.cert_text.specs.declared.cert.Cert.{Cert}
 use Rattle.rq_input.specs.Inputs.{HasInputCause, IsInput}
+use Rattle.rq_input.specs.Plain.{HasPlainCause, IsPlain}
 use Rattle.rq_input.specs.Predictions.{HasPredictionCause, IsPrediction}
 use Rattle.rq_input.specs.Rows.{HasRows}
 use Rattle.rq_input.specs.declared.input.Input.{Input}
+use Rattle.rq_input.specs.declared.plain.PlainInput.{PlainInput}
 use Rattle.rq_input.specs.declared.predictions.PredictionInput.{PredictionInput}
 use Rattle.rq_words.specs.declared.job.FitJob.{FitJob}
 use Rattle.rq_words.specs.declared.job.Job.{Job}
+use Rattle.rq_words.specs.declared.job.PathJob.{PathJob}
 use Rattle.rq_words.specs.declared.job.Job.TheVariants as jobs
 use Rattle.report_text.specs.ReportText.{value}
 use Rattle.report_text.specs.declared.report.Fit.{Fit}
+use Rattle.report_text.specs.declared.report.PathFit.{PathFit}
 use Rattle.report_text.specs.declared.report.PredictFit.{PredictFit}
 use Rattle.report_text.specs.declared.report.RanksFit.{RanksFit}
 use Rattle.report_text.specs.declared.report.Report.{Report}
 use Rattle.report_text.specs.declared.report.Report.TheVariants as reports
-use Rattle.report_text.specs.declared.report.Refusal.TheVariants.{Dependent, CertTooLong}
+use Rattle.rq_program.specs.declared.fault.ProgramFault.TheVariants.{TooManyRows}
+use Rattle.report_text.specs.declared.report.Refusal.TheVariants.{Dependent, CertTooLong, Program}
 use Rattle.report_text.specs.declared.report.Place.TheVariants as places
 use Rattle.report_text.specs.declared.report.Halt.{Halt}
 use Rattle.report_text.specs.declared.report.Halt.TheVariants.{Refused, PivotLimit, Overflow}
 use Rattle.rq_fit.specs.Fit.{IsFitOf}
+use Rattle.rq_fit.specs.Paths.{HasPathCause, IsPathFitOf}
 use Rattle.rq_fit.specs.Predicted.{HasPredictedCause, IsPredictFitOf}
 use Rattle.rq_fit.specs.Ranks.{AreRanksOf}
 use Rattle.rq_fit.specs.Stops.{HasProblemCause, IsScoringSpill, most}
@@ -56,6 +62,10 @@ IsCertifiedOfBytes job bytes cert = (input : Input) × IsInput job (is_some job.
 abbrev pub IsPredictFitOfBytes : FitJob → List ℕ → PredictFit → Type 0
 IsPredictFitOfBytes job bytes fit = (asked : PredictionInput) × IsPrediction job bytes asked × IsPredictFitOf job asked fit
 
+-- the path is right for the input that the bytes are
+abbrev pub IsPathFitOfBytes : PathJob → List ℕ → PathFit → Type 0
+IsPathFitOfBytes job bytes fit = (plain : PlainInput) × IsPlain job.fit bytes plain × IsPathFitOf job plain fit
+
 -- the report is right for the job and for the bytes; that of a generated table is of the table's own bytes
 abbrev pub IsRight : Job → List ℕ → Report → Type 0
 IsRight (jobs.Process job) bytes (reports.Process fit) = IsFitOfBytes job (is_some job.rank) bytes fit
@@ -63,6 +73,7 @@ IsRight (jobs.Ranks job) bytes (reports.Ranks ranks) = AreRanksOfBytes job bytes
 IsRight (jobs.Certify job) bytes (reports.Certificate cert) = IsCertifiedOfBytes job bytes cert × IsWritten cert
 IsRight jobs.Check bytes (reports.Checked cert) = IsCheckedOf bytes cert
 IsRight (jobs.Predict job) bytes (reports.Predict fit) = IsPredictFitOfBytes job bytes fit
+IsRight (jobs.Path job) bytes (reports.Path fit) = IsPathFitOfBytes job bytes fit
 IsRight (jobs.Sample job) bytes (reports.Sample fit) = IsFitOfBytes (sample_fit job) false (sample_table job) fit
 IsRight _ bytes report = ⊥
 
@@ -119,6 +130,20 @@ HasPredictCause job bytes (PivotLimit place limit trail) = LacksPredictFit job b
 HasPredictCause job bytes (Overflow place trail spill) = LacksPredictFit job bytes (Overflow place trail spill)
 HasPredictCause job bytes halt = HasPredictionCause job bytes halt
 
+-- the input of the bytes has no path, for this halt
+pub record LacksPathFit (job : PathJob) (bytes : List ℕ) (halt : Halt) : Type 0 where
+  pub plain : PlainInput
+  pub is : IsPlain job.fit bytes plain
+  pub rows : HasRows plain.input
+  pub cause : HasPathCause job plain halt
+
+-- why bytes have no path: their input has none, or they have no input
+abbrev pub HasPathFitCause : PathJob → List ℕ → Halt → Type 0
+HasPathFitCause job bytes (Refused (Program TooManyRows)) = HasPlainCause job.fit bytes (Refused (Program TooManyRows)) ⊎ LacksPathFit job bytes (Refused (Program TooManyRows))
+HasPathFitCause job bytes (PivotLimit place limit trail) = LacksPathFit job bytes (PivotLimit place limit trail)
+HasPathFitCause job bytes (Overflow place trail spill) = LacksPathFit job bytes (Overflow place trail spill)
+HasPathFitCause job bytes halt = HasPlainCause job.fit bytes halt
+
 -- why there is no report for the job
 abbrev pub HasCause : Job → List ℕ → Halt → Type 0
 HasCause (jobs.Process job) bytes halt = HasFitCause job (is_some job.rank) bytes halt
@@ -126,4 +151,5 @@ HasCause (jobs.Ranks job) bytes halt = HasRanksCause job bytes halt
 HasCause (jobs.Certify job) bytes halt = HasCertifyCause job bytes halt
 HasCause jobs.Check bytes halt = HasCheckCause bytes halt
 HasCause (jobs.Predict job) bytes halt = HasPredictCause job bytes halt
+HasCause (jobs.Path job) bytes halt = HasPathFitCause job bytes halt
 HasCause (jobs.Sample job) bytes halt = HasFitCause (sample_fit job) false (sample_table job) halt

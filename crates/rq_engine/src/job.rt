@@ -6,6 +6,7 @@ ghost use Rattle.rq_engine.specs.Jobs.{IsJobOf};
 
 use crate::certify::certify_bytes;
 use crate::check::check_bytes;
+use crate::path::path_bytes;
 use crate::predict::predict_bytes;
 use crate::process::fit_bytes;
 use crate::ranks::ranks_bytes;
@@ -71,6 +72,12 @@ pub fn answer<R: Threads + Sync, G: Gate>(
         Job::Predict(fit_job) => {
             match predict_bytes(alloc, fit_job, bytes) {
                 Ok(fit) => Ok(Report::Predict(fit)),
+                Err(halt) => Err(halt),
+            }
+        }
+        Job::Path(path_job) => {
+            match path_bytes(alloc, path_job, bytes) {
+                Ok(fit) => Ok(Report::Path(fit)),
                 Err(halt) => Err(halt),
             }
         }

@@ -12,6 +12,7 @@
 mod certify;
 mod check;
 mod job;
+mod path;
 mod predict;
 mod process;
 mod ranks;

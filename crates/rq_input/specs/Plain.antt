@@ -9,11 +9,21 @@ use Rattle.report_text.specs.declared.report.Halt.TheVariants.{Refused}
 use Rattle.rq_input.specs.Inputs.{AreTable, HasInputCause, HasSmooth, HasTableCause, IsModelInput}
 use Rattle.rq_input.specs.Models.{IsModel}
 use Rattle.rq_input.specs.declared.input.Input.{Input}
+use Rattle.rq_input.specs.declared.plain.PlainInput.{PlainInput}
 
 -- the model is that of the formula of the job, which has no smooths, and this is the input by it
 pub record IsPlainModel (job : FitJob) (table : Table) (model : Formula) (input : Input) : Type 0 where
   pub stated : IsModel job true table model
   pub is : IsModelInput job table model input
+
+-- the input of the bytes, and whether its formula has an intercept
+pub record IsPlainTable (job : FitJob) (table : Table) (plain : PlainInput) : Type 0 where
+  pub model : Formula
+  pub by : IsPlainModel job table model plain.input
+  pub intercept : plain.intercept ≡ model.intercept
+
+abbrev pub IsPlain : FitJob → List ℕ → PlainInput → Type 0
+IsPlain job bytes plain = (table : Table) × AreTable bytes table × IsPlainTable job table plain
 
 -- why a table has none: its formula has a smooth, or it has no input
 abbrev pub HasPlainTableCause : FitJob → Table → Halt → Type 0

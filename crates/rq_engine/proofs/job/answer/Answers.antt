@@ -28,3 +28,9 @@ predict_bytes-requires-clause-ask g c = (subst IsAskedJob c.in-Predict.is (asked
 
 pub predict_bytes-requires-clause-long : goal.predict_bytes-requires-clause-long
 predict_bytes-requires-clause-long g c = (subst IsAskedJob c.in-Predict.is (asked_job c.requires.asked.0 c.args.job.now c.requires.asked.1)).1
+
+pub path_bytes-requires-clause-ask : goal.path_bytes-requires-clause-ask
+path_bytes-requires-clause-ask g c = (subst IsAskedJob c.in-Path.is (asked_job c.requires.asked.0 c.args.job.now c.requires.asked.1)).0
+
+pub path_bytes-requires-clause-long : goal.path_bytes-requires-clause-long
+path_bytes-requires-clause-long g c = (subst IsAskedJob c.in-Path.is (asked_job c.requires.asked.0 c.args.job.now c.requires.asked.1)).1
