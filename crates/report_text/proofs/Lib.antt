@@ -1,3 +1,4 @@
 pub mod Appends
+pub mod Duals
 pub mod Marks
 pub mod Numbered

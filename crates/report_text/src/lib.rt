@@ -27,4 +27,6 @@ mod sample;
 pub use fault::{MEMORY_LINE, SINK_LINE, SOURCE_LINE, fault_line};
 pub use lines::report_bytes;
 pub use page::Page;
-pub use report::{Fault, Fit, Halt, PathFit, Place, PredictFit, Prediction, RanksFit, Refusal, Report};
+pub use report::{
+    Fault, Fit, Halt, PathFit, Place, PredictFit, Prediction, RanksFit, Refusal, Report,
+};

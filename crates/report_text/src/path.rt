@@ -1,6 +1,6 @@
 //! The lines of a report of a path in lambda.
-ghost use Rattle.std.specs.Prelude.{◌≡◌, ◌++◌, ◌≤◌, OnOk, length};
-ghost use Rattle.report_text.specs.ReportText.{dual_line, duals_text, numbered, path_head, path_segment_text, path_size, path_text, sides_line};
+ghost use Rattle.std.specs.Prelude.{◌≡◌, ◌++◌, ◌≤◌, All, OnOk, length};
+ghost use Rattle.report_text.specs.ReportText.{IsPaired, dual_line, duals_text, numbered, path_head, path_segment_text, path_size, path_text, sides_line};
 
 use crate::page::Page;
 use crate::report::PathFit;
@@ -30,19 +30,20 @@ impl Page {
 
     // The dual values of the rows of the basis, at both ends.
     fn dual_lines(&mut self, segment: &Segment<Frac128>) -> Result<(), OutOfMemory>
+        requires { IsPaired segment.now }
         ensures { OnOk result (self.new ≡ self.old ++ duals_text segment.now) }
     {
-        let rows = segment.vertex.basis.rows.as_slice();
         let at_lo = segment.basic_lo.as_slice();
         let at_hi = segment.basic_hi.as_slice();
-        for ((row, lo), hi) in rows.iter().zip(at_lo.iter()).zip(at_hi.iter()) {
-            self.dual_line(*row, *lo, *hi)?;
+        for (k, row) in segment.vertex.basis.rows.as_slice().iter().enumerate() {
+            self.dual_line(*row, at_lo[k], at_hi[k])?;
         }
         Ok(())
     }
 
     #[tactic(auto, unfolding(crate::specs::ReportText::path_segment_text))]
     fn path_segment(&mut self, number: u64, segment: &Segment<Frac128>) -> Result<(), OutOfMemory>
+        requires { IsPaired segment.now }
         ensures { OnOk result (self.new ≡ self.old ++ path_segment_text number segment.now) }
     {
         self.segment_line(number, segment)?;
@@ -53,6 +54,7 @@ impl Page {
     }
 
     fn path_segments(&mut self, segments: &[Segment<Frac128>]) -> Result<(), OutOfMemory>
+        requires { All IsPaired segments.now }
         ensures { OnOk result (self.new ≡ self.old ++ numbered path_segment_text 1 segments.now) }
     {
         for (index, segment) in segments.iter().enumerate() {
@@ -88,7 +90,8 @@ impl Page {
     /// Adds the report of a path.
     #[tactic(auto, unfolding(crate::specs::ReportText::path_text))]
     pub(crate) fn path(&mut self, fit: &PathFit) -> Result<(), OutOfMemory>
-        requires { fit.now.data_rows ≤ length fit.now.problem.rows }
+        requires data { fit.now.data_rows ≤ length fit.now.problem.rows }
+        requires paired { All IsPaired fit.now.process.segments }
         ensures { OnOk result (self.new ≡ self.old ++ path_text fit.now) }
     {
         self.path_head(fit)?;
