@@ -2,17 +2,21 @@
 //!
 //! ```text
 //! formula = NAME "~" [ "+" | "-" ] item { ( "+" | "-" ) item }
-//! item    = "0" | "1" | "qss" "(" NAME "," NUMBER ")" | product
+//! item    = "0" | "1" | "qss" "(" NAME "," NUMBER ")" | "offset" "(" arith ")" | product
 //! sum     = [ "+" | "-" ] product { ( "+" | "-" ) product }
 //! product = inter { "*" inter }
 //! inter   = power { ":" power }
 //! power   = atom [ "^" DIGITS ]
-//! atom    = NAME | "factor" "(" NAME ")" | "." | "(" sum ")"
+//! atom    = NAME | "factor" "(" NAME ")" | "I" "(" arith ")" | "." | "(" sum ")"
+//! arith   = [ "+" | "-" ] aprod { ( "+" | "-" ) aprod }
+//! aprod   = apow { "*" apow }
+//! apow    = aatom [ "^" DIGITS ]
+//! aatom   = NAME | NUMBER | "(" arith ")"
 //! ```
 //!
-//! No `qss` follows `-`. Spaces, tabs and line ends stand freely between tokens. A name starts with
+//! No `qss` and no `offset` follows `-`. Spaces, tabs and line ends stand freely between tokens. A name starts with
 //! an ASCII letter, or with `.` and then a letter, `.` or `_`, and goes on with letters, digits, `.`
-//! and `_`; any text between backticks is one too. `factor` and `qss` are names unless `(` follows.
+//! and `_`; any text between backticks is one too. `factor`, `qss`, `I` and `offset` are names unless `(` follows.
 //! A number is the longest number text that starts with a digit, or with `.` and a digit; DIGITS is
 //! one of digits alone. This is R's formula language in the project's profile, with the smooths of
 //! Koenker, Ng and Portnoy (1994).
@@ -40,6 +44,8 @@
 //! Its tests stand in the crate `input_tests`.
 #![tactic(auto)]
 
+mod arith_levels;
+mod arith_reader;
 mod fault;
 mod laws;
 mod levels;
@@ -56,5 +62,5 @@ pub use laws::{one_formula, one_outcome};
 pub use lexer::tokens_of;
 pub use magnitude::Magnitude;
 pub use reader::read;
-pub use reading::{Reading, SmoothPart, Step};
+pub use reading::{ArithPart, ArithStep, Reading, SmoothPart, Step};
 pub use token::{Kind, Numeral, Sign, Span, Token, Whole};

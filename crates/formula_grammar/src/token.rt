@@ -47,6 +47,10 @@ pub enum Kind {
     FactorWord,
     /// `qss` before an open parenthesis.
     QssWord,
+    /// `I` before an open parenthesis.
+    ArithWord,
+    /// `offset` before an open parenthesis.
+    OffsetWord,
     Number(Numeral),
     Signed(Sign),
     Tilde,
