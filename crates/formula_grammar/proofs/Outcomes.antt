@@ -1,11 +1,11 @@
 -- What a reader holds behind some tokens, and what the next token does.
-use Rattle.std.proofs.Common.{◌≡◌, ◌<◌, ◌≤◌, ◌⊎◌, ℕ, ◌+◌, zero, suc, Bool, true, false, List, [], ◌∷◌, ◌++◌, Option, Some, None, IfSome, option_map, option_and_then, inl, inr, nat_le, refl, sym, ◌∙◌, ap, arith, below_more, cond, get_or, length, subst, take}
-use Rattle.std.proofs.lemmas.List.{get_or_default, take_more, take_all}
+use Rattle.std.proofs.Common.{◌≡◌, ◌<◌, ◌≤◌, ◌⊎◌, ℕ, ◌+◌, zero, suc, Bool, true, false, List, [], ◌∷◌, ◌++◌, Option, Some, None, IfSome, option_map, option_and_then, inl, inr, nat_le, refl, sym, ◌∙◌, ap, arith, below_more, cond, drop, get_or, length, subst, take}
+use Rattle.std.proofs.lemmas.List.{get_or_default, take-append-drop, take_more, take_all}
 use Rattle.formula_grammar.specs.Words.{Kind, Number, Caret, Open, End, Numeral, Digits, Token, Reading}
-use Rattle.formula_grammar.specs.Faults.{ReadFault, OutOfMemory, Syntax, TooDeep, PowerRange, NumberTooWide, token_at, depth_behind, depth_from, depth, is_power, number_fault, last_from, last_kind, limit_fault, limit_at, IsFaultAt, IsCleanBelow, IsFirstFault, IsFormula, IsReading, IsFault, EndText, OneFault, NoFormulaHasFaults, FormulaOrFault}
+use Rattle.formula_grammar.specs.Faults.{ReadFault, OutOfMemory, Syntax, TooDeep, PowerRange, NumberTooWide, token_at, depth_behind, depth_from, depth, is_power, number_fault, last_from, last_kind, limit_fault, limit_at, IsFaultAt, IsCleanBelow, IsFirstFault, IsFormula, IsReading, IsFault, EndText, OneFault, NoFormulaHasFaults, FormulaOrFault, FormulasKeepLimits}
 use Rattle.formula_grammar.specs.Machine.{Reader, token_read, Reads}
 use Rattle.formula_grammar.specs.Numerals.{is_wide}
-use Rattle.formula_grammar.specs.Grammar.{Formula, Plain, token, Begins}
+use Rattle.formula_grammar.specs.Grammar.{Formula, Plain, token, formula_tokens, Begins}
 use Rattle.formula_grammar.specs.Arithmetics.{Plain as PlainApow, Raised as RaisedApow}
 use Rattle.formula_grammar.proofs.ArithAutomaton.{Top, ArithState, Needs, Raises}
 use Rattle.formula_grammar.proofs.ArithAutomaton.{Begins as ArithBegins, Holds as ArithHolds}
@@ -277,3 +277,16 @@ formula_or_fault ts w =
           inl (f.0, f.2)
       | inr f ↦ inr f
     ]
+
+-- ---- what a formula keeps
+
+-- so many tokens of a formula begin one
+front_begins : (ts : List Token) (f : Formula) (i : ℕ) → ts ≡ formula_tokens f → Begins (take i ts)
+front_begins ts f i e = record { formula = f; rest = drop i ts; whole = take-append-drop i ts ∙ e }
+
+pub keeps_limits : FormulasKeepLimits
+keeps_limits ts f w i lt =
+    elim (limit_at ts i) as (λ l. limit_at ts i ≡ l → l ≡ None) [
+      | None ↦ λ e. refl
+      | Some fault ↦ λ e. absurd (w.clean i lt fault (limit_here ts i fault (front_begins ts f (i + 1) w.reads) e))
+    ] refl

@@ -105,3 +105,7 @@ NoFormulaHasFaults = (ts : List Token) (f : Formula) (fault : ReadFault) → IsF
 -- the tokens of a text are a formula or have a first fault
 abbrev pub FormulaOrFault : Type 0
 FormulaOrFault = (ts : List Token) → EndText ts → ((f : Formula) × IsFormula ts f) ⊎ ((fault : ReadFault) × IsFirstFault ts fault)
+
+-- no token of a formula passes a limit: parentheses, exponents and numbers are within their ranges
+abbrev pub FormulasKeepLimits : Type 0
+FormulasKeepLimits = (ts : List Token) (f : Formula) → IsFormula ts f → (i : ℕ) → i < length ts → limit_at ts i ≡ None

@@ -22,17 +22,21 @@
 //! Koenker, Ng and Portnoy (1994).
 //!
 //! `tokens_of` gives the tokens of a text, and `read` the code of the formula that they are: steps
-//! in postfix order over a stack of lists of terms, the intercept, and the smooths. Faults are looked
-//! for from left to right, and the first is the answer:
+//! in postfix order over a stack of lists of terms, the intercept, the smooths and the offsets. An
+//! arithmetic is read as its tokens and as steps over a stack of fractions. Faults are looked for from
+//! left to right, and the first is the answer:
 //! - `Syntax` at the first token that no formula can have there; the end of the text counts as one;
-//! - `TooDeep` at the 65th parenthesis that is open at once, those of `factor` and `qss` included;
+//! - `TooDeep` at the 65th parenthesis that is open at once, those of `factor` and `qss` and of
+//!   arithmetics included;
 //! - `PowerRange` at an exponent whose value isn't 1 to 8;
-//! - `NumberTooWide` at a lambda that fractions of 128 bits don't hold.
+//! - `NumberTooWide` at a lambda, or at a number of an arithmetic that is no exponent, that fractions of
+//!   128 bits don't hold.
 //!
 //! The crate's one contract: `read` gives the code of the one formula that has these tokens, or
 //! their first fault, as `specs/Grammar.antt`, `specs/Codes.antt` and `specs/Faults.antt` define
 //! them. `one_formula` says that no tokens are those of two formulas, and `one_outcome` that the
-//! tokens of a text are a formula or have one first fault, and never both.
+//! tokens of a text are a formula or have one first fault, and never both; `formulas_keep_limits` that
+//! no token of a formula passes a limit.
 //!
 //! A number token carries its value, a `Magnitude`: a fraction that isn't negative, since no sign
 //! is part of a token. So a lambda and an exponent are read once.
@@ -58,7 +62,7 @@ mod reading;
 mod token;
 
 pub use fault::ReadFault;
-pub use laws::{one_formula, one_outcome};
+pub use laws::{formulas_keep_limits, one_formula, one_outcome};
 pub use lexer::tokens_of;
 pub use magnitude::Magnitude;
 pub use reader::read;
