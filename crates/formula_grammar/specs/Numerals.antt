@@ -31,11 +31,11 @@ value_or_zero None = whole (pos 0)
 value_or_zero (Some m) = exact m.fraction
 
 -- 0 as a fraction
-pub zero_fraction : Frac128
+unfoldable pub zero_fraction : Frac128
 zero_fraction = record { num = pos (0 / gcd 0 1); den = 1 / gcd 0 1; within = lowest_within 0 1 (lit≤ tt) (lit≤ tt) (lit≤ tt) }
 
 -- 1 as a fraction
-pub one_fraction : Frac128
+unfoldable pub one_fraction : Frac128
 one_fraction = record { num = pos (1 / gcd 1 1); den = 1 / gcd 1 1; within = lowest_within 1 1 (lit≤ tt) (lit≤ tt) (lit≤ tt) }
 
 -- the fraction, or 0 where there is none
