@@ -35,6 +35,7 @@
 //! Its tests stand in the crate `input_tests`.
 #![tactic(auto)]
 
+mod arithmetics;
 mod crossing;
 mod evaluation;
 mod fault;
