@@ -1,8 +1,7 @@
 -- What the tokens and the code of a tree of an arithmetic say is the arithmetic of the tree.
-use Rattle.std.proofs.Common.{◌≡◌, ◌==◌, ℕ, Bool, true, false, not, List, [], ◌∷◌, ◌++◌, map, refl, sym, ◌∙◌, ap, append_assoc, append-nil}
+use Rattle.std.proofs.Common.{◌≡◌, ◌==◌, ℕ, true, false, not, List, [], ◌∷◌, ◌++◌, map, refl, sym, ◌∙◌, ap, append_assoc, append-nil}
 use Rattle.std.specs.Prelude.{codes, decimal}
 use Rattle.std.proofs.lemmas.List.{map-append}
-use Rattle.frac_core.specs.NumberText.{number_text_of}
 use Rattle.frac_core.specs.declared.arith.Arith.{Arith}
 use Rattle.frac_core.specs.declared.arith.ArithOp.{ArithOp}
 use Rattle.formula_arith.specs.Arithmetics.{arithmetic_names, atom_names, distinct_names, each_once, power_names, product_names, with_name}
@@ -10,7 +9,7 @@ use Rattle.formula_arith.specs.Codes.{arithmetic_code, atom_code, lead_code, pow
 use Rattle.formula_arith.specs.Texts.{arithmetic_text, atom_text, between, name_text, power_text, product_text}
 use Rattle.formula_arith.specs.Texts.{sign_text as plain_sign}
 use Rattle.formula_parser.specs.Words.{Span, Sign, Plus, Minus, Numeral, Kind, Name, Number, Signed, Star, Caret, Open, Close, Digits, Token, ArithStep}
-use Rattle.formula_grammar.specs.Numerals.{fraction_of, power_of}
+use Rattle.formula_grammar.specs.Numerals.{power_of}
 use Rattle.formula_grammar.specs.ArithCodes.{aatom_code, apow_code, aprod_code, arith_code, arith_signed_step, lead_steps, part_of}
 use Rattle.formula_grammar.specs.declared.reading.ArithStep.TheVariants as step
 use Rattle.formula_grammar.specs.Arithmetics.{token, Lead, Bare, Led, First, More, Aprod, One, Times, Apow, Plain, Raised, Aatom, Leaf, Constant, Group, aatom_tokens, apow_tokens, aprod_tokens, arith_tokens}

@@ -17,7 +17,6 @@ use Rattle.std.proofs.lemmas.List.Sums.{prefix_len-le-length}
 use Rattle.formula_grammar.specs.Codes.{items_code}
 use Rattle.formula_grammar.specs.Grammar.{items_tokens, formula_tokens}
 use Rattle.formula_grammar.specs.Arithmetics.{token}
-use Rattle.formula_grammar.specs.Tokens.{tokens}
 use Rattle.formula_parser.specs.Arithmetics.{arith_place}
 use Rattle.formula_parser.proofs.Held.{tokens_short}
 use Rattle.formula_parser.proofs.Loads.{ariths_few, items_loads}
@@ -153,9 +152,10 @@ term_few text names f h =
     spoken : (ts : Terms) → length (variables_in text names h.formula) ≤ 2 * (length names + length (ariths_in text names h.formula)) + 2
         → AllByRecursion (IsFew names (ariths_in text names h.formula)) (map (spoken_term names (ariths_in text names h.formula) (variables_in text names h.formula)) ts)
     spoken [] few = tt
-    spoken (t ∷ ts) few =
-        (omega (arith, members_few (variables_in text names h.formula) t, length-map (members (variables_in text names h.formula) t) (spoken_variable names (ariths_in text names h.formula))),
-        spoken ts few)
+    spoken (t ∷ ts) few = (
+      omega (arith, members_few (variables_in text names h.formula) t, length-map (members (variables_in text names h.formula) t) (spoken_variable names (ariths_in text names h.formula))),
+      spoken ts few,
+    )
 
 -- a formula loads at most one arithmetic for each two bytes
 formula_loads : (text : Text) (names : List Text) (f : Formula) (h : IsParsed text names f) → 2 * length (ariths_in text names h.formula) ≤ length text + 1

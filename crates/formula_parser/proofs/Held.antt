@@ -1,11 +1,12 @@
 -- The arithmetics of a formula hold what their texts say, can be evaluated, and have the names of columns.
 use Rattle.std.proofs.Common.{◌≡◌, ◌≤◌, ◌<◌, ◌+◌, ◌-◌, ◌^◌, ℕ, zero, suc, Bool, true, false, List, [], ◌∷◌, ◌++◌, Option, Some, None, All, length, map, refl, sym, ◌∙◌, ap, subst, arith}
-use Rattle.std.specs.Prelude.{Contains, cond, flat_map, get_or, nat_lt, option_to_list, slice_get}
-use Rattle.std.proofs.lemmas.List.Elements.{All-append, All-cons, All-contains, All-head, All-map, All-nil, All-push, All-tail, All-weaker, Contains-get_or}
+use Rattle.std.specs.Prelude.{Contains, cond, flat_map, nat_lt, option_to_list, slice_get}
+use Rattle.std.proofs.lemmas.List.Elements.{All-append, All-cons, All-head, All-map, All-nil, All-push, All-tail, All-weaker}
 use Rattle.std.proofs.lemmas.Option.{get_or_from_slice_get, slice_get_within}
 use Rattle.frac_core.specs.declared.arith.Arith.{Arith}
 use Rattle.formula_arith.specs.Arithmetics.{distinct_names, arithmetic_names}
-use Rattle.formula_parser.specs.Words.{Kind, End, Open, Token, ArithPart, Step, LoadArith, Reading}
+use Rattle.formula_parser.specs.Words.{End, Open, Token, ArithPart, Step, LoadArith, Reading}
+use Rattle.formula_grammar.specs.ArithCodes.{arith_code}
 use Rattle.formula_grammar.specs.Codes.{items_code, offsets_of}
 use Rattle.formula_grammar.specs.Grammar.{Formula as Tree}
 use Rattle.formula_grammar.specs.Grammar.{formula_tokens}
@@ -13,14 +14,15 @@ use Rattle.formula_grammar.specs.Faults.{IsFormula, IsReading}
 use Rattle.formula_grammar.specs.Tokens.{is_blank, lexeme, tokens, tokens_from}
 use Rattle.formula_parser.specs.Columns.{Text}
 use Rattle.formula_parser.specs.Scope.{Mention}
-use Rattle.formula_parser.specs.Parsed.{IsParsed, Formula, Term, arith_of_column, ariths_in, members, spoken_by, spoken_term, spoken_variable, unknown_name, variables_in}
+use Rattle.formula_parser.specs.Parsed.{Term, arith_of_column, ariths_in, members, spoken_by, spoken_term, spoken_variable, unknown_name, variables_in}
 use Rattle.formula_parser.specs.Terms.{Term as Bools}
-use Rattle.formula_parser.specs.Arithmetics.{arith_loaded, arith_place, ariths_from, column_name, part_said, with_arith}
+use Rattle.formula_parser.specs.Arithmetics.{arith_loaded, arith_place, ariths_from, column_name, part_said}
 use Rattle.formula_parser.specs.ArithTrees.{arith_said, told}
-use Rattle.formula_parser.specs.Held.{IsHeld, ariths_of, term_ariths}
+use Rattle.formula_parser.specs.Held.{IsHeld, term_ariths}
 use Rattle.formula_parser.specs.Laws.{ArithmeticsAreHeld}
 use Rattle.formula_parser.proofs.ArithTexts.{whole}
-use Rattle.formula_parser.proofs.Kept.{arith_counts, arith_in_range, arith_known, once_known}
+use Rattle.formula_parser.specs.Spoken.{IsCounted, IsShort, LoadsShort}
+use Rattle.formula_parser.proofs.Kept.{arith_counts, arith_in_range, arith_known, arith_long, once_known}
 use Rattle.formula_parser.proofs.Within.{Fine, IsWithin, Loads, formula_fine, items_in, items_within, offsets_within}
 
 -- ---- a text has no more tokens than bytes, but for its end
@@ -34,7 +36,7 @@ tokens_short_from at passed [] = omega arith
 tokens_short_from at (suc passed) (b ∷ bs) = let more = tokens_short_from (at + 1) passed bs in omega (arith, more)
 tokens_short_from at zero (b ∷ bs) =
     let more = one_more (is_blank b) (record { kind = (lexeme at b bs).kind; at = at }) (tokens_from (at + 1) 0 bs) (tokens_from (at + 1) ((lexeme at b bs).len - 1) bs) (length bs + 1)
-            (tokens_short_from (at + 1) 0 bs) (tokens_short_from (at + 1) ((lexeme at b bs).len - 1) bs) in
+    (tokens_short_from (at + 1) 0 bs) (tokens_short_from (at + 1) ((lexeme at b bs).len - 1) bs) in
     omega (arith, more)
 
 pub tokens_short : (text : Text) → length (tokens text) ≤ length text + 1
@@ -133,3 +135,25 @@ arithmetics_held text names f short said =
     All-append (IsHeld names) (flat_map term_ariths f.terms) f.offsets
     (subst (λ (ts : List Term). All (IsHeld names) (flat_map term_ariths ts)) (sym said.terms) (terms_held (IsHeld names) names (ariths_in text names t) ariths (variables_in text names t) said.ordered))
     (subst (All (IsHeld names)) (sym said.offsets) (parts_held text names n few (offsets_of t.items) (parts_within text names t said.is said.known)))
+
+-- ---- what was read is counted in 32 bits
+
+module _ (text : Text) (names : List Text) (n : ℕ) (few : n ≤ 2 ^ 31) where
+  part_short : (p : ArithPart) → IsWithin text names n p → IsShort p
+  part_short p w =
+      let short : length (arith_code w.tree) < 2 ^ 32 = omega (arith, arith_long w.tree, w.short, few) in
+      subst IsShort (sym w.is) short
+
+  step_short : (s : Step) → Loads (IsWithin text names n) s → LoadsShort s
+  step_short (LoadArith p) w = part_short p w
+  step_short s w = tt
+
+pub counted : (text : Text) (names : List Text) (r : Reading) → length text < 2 ^ 31 → IsReading (tokens text) r → unknown_name text names (tokens text) ≡ None → IsCounted r
+counted text names r short h known =
+    let n = length (tokens text) in
+    let few : n ≤ 2 ^ 31 = omega (arith, tokens_short text, short) in
+    let t = h.formula in
+    subst IsCounted (sym h.code) (record {
+      steps = All-weaker (Loads (IsWithin text names n)) LoadsShort (step_short text names n few) (items_code t.items) (steps_within text names t h.is known);
+      offsets = All-weaker (IsWithin text names n) IsShort (part_short text names n few) (offsets_of t.items) (parts_within text names t h.is known);
+    })

@@ -1,5 +1,5 @@
 -- What fine tokens of an arithmetic say of it: exponents are in range, names are columns, and its code isn't long.
-use Rattle.std.proofs.Common.{◌≡◌, ◌≤◌, ◌<◌, ◌+◌, ◌*◌, ◌-◌, ◌&&◌, ℕ, Bool, true, false, List, [], ◌∷◌, ◌++◌, Option, Some, None, All, Contains, length, leb-true, nat_le, refl, sym, ◌∙◌, ap, subst, arith}
+use Rattle.std.proofs.Common.{◌≡◌, ◌≤◌, ◌+◌, ◌*◌, ◌&&◌, ℕ, Bool, true, false, List, [], ◌∷◌, ◌++◌, Option, Some, None, All, Contains, length, leb-true, nat_le, refl, arith}
 use Rattle.std.specs.Prelude.{bytes_eq, cond, is_none, unwrap_or}
 use Rattle.std.specs.List.{list_any}
 use Rattle.std.proofs.lemmas.List.{length-append}
@@ -9,7 +9,7 @@ use Rattle.frac_core.specs.declared.arith.ArithOp.{ArithOp}
 use Rattle.frac_core.specs.declared.arith.ArithOp.TheVariants as op
 use Rattle.formula_grammar.specs.declared.reading.ArithStep.TheVariants as step
 use Rattle.formula_arith.specs.Arithmetics.{arithmetic_names, atom_has, atom_names, each_once, has_exponents, is_exponent, power_has, power_names, product_has, product_names, with_name}
-use Rattle.formula_arith.specs.Codes.{arithmetic_code, atom_code, lead_code, numbered, numbered_in, power_code, product_code, signed_op}
+use Rattle.formula_arith.specs.Codes.{arithmetic_code, atom_code, lead_code, numbered_in, power_code, product_code, signed_op}
 use Rattle.formula_parser.specs.Words.{Span, Sign, Plus, Minus, Kind, Name, Number, Digits, Signed, Star, Caret, Open, Close, Token}
 use Rattle.formula_grammar.specs.Numerals.{power_of}
 use Rattle.formula_grammar.specs.ArithCodes.{aatom_code, apow_code, aprod_code, arith_code, arith_signed_step, lead_steps}
@@ -135,8 +135,14 @@ module _ (text : Text) (names : List Text) where
       arith_counts (More a s n p) last h =
           let left = arith_counts a last (rest last (arith_tokens a) (token (Signed s) n ∷ aprod_tokens p) h) in
           let right = aprod_counts p (Signed s) (fine_right text names last (arith_tokens a) (token (Signed s) n ∷ aprod_tokens p) h).2 in
-          omega (arith, numbered_three (arithmetic_code known (arith_said named a)) (product_code known (aprod_said named p)) (signed_op (sign_said s) ∷ []), signed_numbered s,
-          length-append (arith_tokens a) (token (Signed s) n ∷ aprod_tokens p), left, right)
+          omega (
+            arith,
+            numbered_three (arithmetic_code known (arith_said named a)) (product_code known (aprod_said named p)) (signed_op (sign_said s) ∷ []),
+            signed_numbered s,
+            length-append (arith_tokens a) (token (Signed s) n ∷ aprod_tokens p),
+            left,
+            right,
+          )
 
       aprod_counts : (p : Aprod) (last : Kind) → Fine text names last (aprod_tokens p) → numbered_in (product_code known (aprod_said named p)) ≤ 2 * length (aprod_tokens p) + 1
       aprod_counts (One p) last h = apow_counts p last h

@@ -7,6 +7,7 @@ pub mod Within
 pub mod Kept
 pub mod Held
 pub mod Loads
+pub mod Places
 pub mod Speaking
 pub mod Lambdas
 pub mod Counting

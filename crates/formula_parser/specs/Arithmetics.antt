@@ -1,7 +1,7 @@
 -- Stated. The arithmetics of a formula over the names of a table. The text of one is its tokens, with one space on both
 -- sides of a `+`, `-` or `*` between two operands and no other spaces, and each number as its number text. A name stands in
 -- backticks where it was written so.
-use Rattle.std.specs.Prelude.{ℕ, ◌==◌, ◌+◌, not, Bool, true, false, List, [], ◌∷◌, ◌++◌, map, length, bytes_eq, codes, decimal, nat_lt, if◌then◌else◌}
+use Rattle.std.specs.Prelude.{ℕ, ◌==◌, not, Bool, true, false, List, [], ◌∷◌, ◌++◌, map, length, bytes_eq, codes, decimal, nat_lt, if◌then◌else◌}
 use Rattle.std.specs.List.{position_or_len}
 use Rattle.frac_core.specs.NumberText.{number_text_of}
 use Rattle.frac_core.specs.declared.arith.Arith.{Arith}

@@ -1,6 +1,7 @@
 //! The arithmetics of a formula: their texts, their names and their code.
 
 ghost use Rattle.std.specs.Prelude.{◌≡◌, ◌++◌, ◌<◌, ◌^◌, [], bytes_eq, length, map, position, string_bytes, All, IfOk, OnOk};
+ghost use Rattle.std.specs.List.{list_any};
 ghost use Rattle.formula_arith.specs.Arithmetics.{with_name};
 ghost use Rattle.formula_arith.specs.Codes.{name_index};
 ghost use Rattle.formula_parser.specs.Arithmetics.{arith_place, ariths_from, column_name, exponent_text, mark_text, names_from, numeral_text, op_of, opens_operand, part_said, sign_text, token_text, tokens_text, value_text, with_arith};
@@ -145,11 +146,18 @@ fn number_of(names: &[Text], name: &str) -> usize
     }
 }
 
+// Whether a name is among these.
+fn has_name(names: &[Text], name: &str) -> bool
+    ensures { result ≡ list_any (λ y. bytes_eq y name.now) names.now }
+{
+    names.iter().any(|other| other.as_str() == name)
+}
+
 // The names with one more, where it isn't there yet.
 fn add_name(alloc: Global, mut found: List<Text>, name: &str) -> Result<List<Text>, OutOfMemory>
     ensures { IfOk result (λ names. names ≡ with_name found name.now) }
 {
-    if number_of(found.as_slice(), name) < found.as_slice().len() {
+    if has_name(found.as_slice(), name) {
         return Ok(found);
     }
     found.add(Text::new(alloc, name)?)?;
@@ -160,21 +168,14 @@ fn add_name(alloc: Global, mut found: List<Text>, name: &str) -> Result<List<Tex
 fn column_name<'a>(source: &Source<'a>, span: Span) -> &'a str
     ensures { result.now ≡ column_name source.now.text.now source.now.names.now span }
 {
-    match source
-        .names
-        .get(column_at(source.text, source.names, span))
-    {
+    match source.names.get(column_at(source.text, source.names, span)) {
         Some(name) => name.as_str(),
         None => "",
     }
 }
 
 // The distinct names of an arithmetic, in the order in which they first stand.
-fn names_of(
-    alloc: Global,
-    source: &Source,
-    steps: &[ArithStep],
-) -> Result<List<Text>, OutOfMemory>
+fn names_of(alloc: Global, source: &Source, steps: &[ArithStep]) -> Result<List<Text>, OutOfMemory>
     ensures { IfOk result (λ names. names ≡ names_from source.now.text.now source.now.names.now [] steps.now) }
 {
     let mut found = List::new(alloc);
@@ -245,9 +246,7 @@ pub(crate) fn arith_of(
 fn with_text(ariths: &[Arith], text: &str) -> Option<usize>
     ensures { result ≡ position (λ a. bytes_eq a.text text.now) ariths.now }
 {
-    ariths
-        .iter()
-        .position(|other| other.text.as_str() == text)
+    ariths.iter().position(|other| other.text.as_str() == text)
 }
 
 /// The place of an arithmetic among those of a formula, by its text, or their number where none has
@@ -258,7 +257,8 @@ pub(crate) fn place_of(
     ariths: &[Arith],
     part: &ArithPart,
 ) -> Result<usize, OutOfMemory>
-    ensures { IfOk result (λ n. n ≡ arith_place source.now.text.now source.now.names.now ariths.now part.now) }
+    ensures place { IfOk result (λ n. n ≡ arith_place source.now.text.now source.now.names.now ariths.now part.now) }
+    ensures few { IfOk result (λ n. n < 2 ^ 63) }
 {
     let text = text_of(alloc, source, part.tokens.as_slice())?;
     match with_text(ariths, text.as_str()) {
