@@ -6,21 +6,15 @@ use crate::{Frac128, List, Text};
 #[derive(Clone, Copy, Debug, PartialEq, Eq)]
 pub enum ArithOp {
     /// The value of a name, counted from 0 in the order in which names first stand.
-    Load {
-        name: u32,
-    },
-    Constant {
-        value: Frac128,
-    },
+    Load { name: u32 },
+    Constant { value: Frac128 },
     /// A leading `-`.
     Negate,
     Add,
     Sub,
     Mul,
     /// `^`, with an exponent of 1 to 8.
-    Power {
-        exponent: u32,
-    },
+    Power { exponent: u32 },
 }
 
 /// An arithmetic.

@@ -300,6 +300,7 @@ fn variable(alloc: Global, word: &str) -> Result<Variable, OutOfMemory> {
     Ok(Variable {
         name: Text::new(alloc, inner.unwrap_or(word))?,
         as_factor: inner.is_some(),
+        arith: None,
     })
 }
 
@@ -321,6 +322,7 @@ pub(crate) fn formula(alloc: Global, text: &str) -> Result<Formula, OutOfMemory>
         intercept: text.starts_with('1'),
         terms,
         smooths: List::new(alloc),
+        offsets: List::new(alloc),
     })
 }
 

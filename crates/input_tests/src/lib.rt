@@ -7,6 +7,8 @@
 #![tactic(auto)]
 
 #[cfg(test)]
+mod arithmetics;
+#[cfg(test)]
 mod designs;
 #[cfg(test)]
 mod formulas;
