@@ -1,4 +1,5 @@
 pub mod Puts
+pub mod Evaluable
 pub mod Steps
 pub mod Bounds
 pub mod Same

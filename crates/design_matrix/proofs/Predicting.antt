@@ -21,7 +21,7 @@ use Rattle.design_matrix.specs.Designs.{RowOf, exact_row, row_of}
 use Rattle.design_matrix.specs.Faults.{IsDesign, terms_fault}
 use Rattle.design_matrix.specs.Lists.{each}
 use Rattle.design_matrix.specs.Parts.{Part, column_name, columns_of}
-use Rattle.design_matrix.specs.Predicted.{columns_with, is_predicted, is_unknown, kept_in, predicted, unknown_fault, unknown_level}
+use Rattle.design_matrix.specs.Predicted.{columns_with, is_predicted, kept_in, lacks_entry, predicted, unknown_fault, unknown_level}
 use Rattle.design_matrix.proofs.Behind.{faults_alike, names_alike}
 use Rattle.design_matrix.proofs.Lengths.{filtered_below}
 use Rattle.design_matrix.proofs.Shapes.{columns, names_are, rows_are, shaped}
@@ -149,11 +149,11 @@ behind P records all i e h =
 
 -- a variable's cell is no level, or is one
 
-pub unknown_found : (table : Table) (records : List ℕ) (i : ℕ) (v : Variable) (name : Text) → is_unknown v.as_factor (column_of table v.name) records i ≡ true
+pub unknown_found : (table : Table) (records : List ℕ) (i : ℕ) (v : Variable) (name : Text) → lacks_entry table records i v ≡ true
     → name ≡ printed_name v.as_factor v.name → unknown_fault table records i v ≡ Some (UnknownLevel (i + 1) name)
 unknown_found table records i v name e f =
     ap (λ b. cond b (Some (UnknownLevel (i + 1) (printed_name v.as_factor v.name))) None) e ∙ ap (λ n. Some (UnknownLevel (i + 1) n)) (sym f)
 
-pub unknown_none : (table : Table) (records : List ℕ) (i : ℕ) (v : Variable) → is_unknown v.as_factor (column_of table v.name) records i ≡ false
+pub unknown_none : (table : Table) (records : List ℕ) (i : ℕ) (v : Variable) → lacks_entry table records i v ≡ false
     → unknown_fault table records i v ≡ None
 unknown_none table records i v e = ap (λ b. cond b (Some (UnknownLevel (i + 1) (printed_name v.as_factor v.name))) None) e

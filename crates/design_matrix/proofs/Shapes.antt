@@ -177,7 +177,7 @@ module _ (table : Table) (model : Formula) (coding : Coding) (weights : Option T
   names_are = ap (λ d. d.names) is.design_is.exact
 
   pub rows_are : map exact_row design.rows
-      ≡ each (row_of (column_of table model.response) (weights_in table weights) (columns_of table model coding (kept table model weights))) 0 (kept table model weights)
+      ≡ each (row_of table (column_of table model.response) model.offsets (weights_in table weights) (columns_of table model coding (kept table model weights))) 0 (kept table model weights)
   unfolding design_of
   rows_are = ap (λ d. d.rows) is.design_is.exact
 
@@ -187,7 +187,7 @@ module _ (table : Table) (model : Formula) (coding : Coding) (weights : Option T
   rows_there : 1 ≤ length design.rows
   rows_there =
       let cs = columns_of table model coding (kept table model weights) in
-      let same = each_length exact_row (row_of (column_of table model.response) (weights_in table weights) cs) design.rows (kept table model weights) rows_are in
+      let same = each_length exact_row (row_of table (column_of table model.response) model.offsets (weights_in table weights) cs) design.rows (kept table model weights) rows_are in
       by (length design.rows) (λ e. no_rows table model coding weights is.sound (sym same ∙ e))
     where
       by : (n : ℕ) → (n ≡ 0 → ⊥) → 1 ≤ n
@@ -198,7 +198,7 @@ module _ (table : Table) (model : Formula) (coding : Coding) (weights : Option T
   entries_there k d l =
       let cs = columns_of table model coding (kept table model weights) in
       let entries = unmapped (λ q. length q.x ≡ length cs) exact_row design.rows _ rows_are
-      (each_all (λ q. length q.x ≡ length cs) (row_of (column_of table model.response) (weights_in table weights) cs) 0 (kept table model weights) (λ x. x ≡ x)
+      (each_all (λ q. length q.x ≡ length cs) (row_of table (column_of table model.response) model.offsets (weights_in table weights) cs) 0 (kept table model weights) (λ x. x ≡ x)
       (λ _ _ _. refl) (λ j x _. length-map cs (λ column. product (factors column j)))) in
       sym (length-map (get_or design.rows k d).x exact) ∙ entries k d l ∙ sym length_names
 
@@ -206,7 +206,7 @@ module _ (table : Table) (model : Formula) (coding : Coding) (weights : Option T
   weights_above =
       let cs = columns_of table model coding (kept table model weights) in
       unmapped (λ q. cmp_ℚ (whole (pos 0)) q.weight ≡ Less) exact_row design.rows _ rows_are
-      (each_all (λ q. cmp_ℚ (whole (pos 0)) q.weight ≡ Less) (row_of (column_of table model.response) (weights_in table weights) cs) 0 (kept table model weights)
+      (each_all (λ q. cmp_ℚ (whole (pos 0)) q.weight ≡ Less) (row_of table (column_of table model.response) model.offsets (weights_in table weights) cs) 0 (kept table model weights)
       (λ i. cmp_ℚ (whole (pos 0)) (weight_at (weights_in table weights) i) ≡ Less) (kept_above table model coding weights is.sound) (λ j x h. h))
 
   pub shaped : IsShaped model design
