@@ -87,8 +87,8 @@ unfolding expressions
 expressions_all P model h = once_all P [] (ariths_of model) (All-nil P) h
 
 -- they can be evaluated
-pub held_can : (names : List Text) (as : List Arith) → All (IsHeld names) as → All CanEvaluate as
-held_can names as h = All-weaker (IsHeld names) CanEvaluate (λ a k. record { tree = k.tree; is = k.is; short = k.short }) as h
+pub held_can : (names : List Text) (all : List Arith) → All (IsHeld names) all → All CanEvaluate all
+held_can names all h = All-weaker (IsHeld names) CanEvaluate (λ a k. record { tree = k.tree; is = k.is; short = k.short }) all h
 
 -- so can those of its variables
 pub variables_can : (model : Formula) → All CanEvaluate (ariths_of model) → All (λ t. All (λ v. IfSome v.arith CanEvaluate) t.variables) model.terms

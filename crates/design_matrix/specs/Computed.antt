@@ -44,7 +44,7 @@ with_text found a = cond (list_any (λ b. bytes_eq b.text a.text) found) found (
 -- each text once, where it first stands
 abbrev pub texts_once : List Arith → List Arith → List Arith
 texts_once found [] = found
-texts_once found (a ∷ as) = texts_once (with_text found a) as
+texts_once found (a ∷ rest) = texts_once (with_text found a) rest
 
 -- the arithmetics of a formula, equal ones once
 unfoldable pub expressions : Formula → List Arith

@@ -2,7 +2,8 @@
 
 ghost use Rattle.std.specs.Prelude.{◌≡◌, ◌⊎◌, ◌<◌, ◌+◌, ◌^◌, ◌++◌, [], All, None, Some, IfErr, IfOk, IfSome, OnOk, bytes_eq, length, map, pos, slice_index_or, take, List as list};
 ghost use Rattle.std.specs.List.{flat_map, list_any};
-ghost use Rattle.exact_algebra.specs.Rational.{whole};
+ghost use Rattle.std.proofs.Props.{props};
+ghost use Rattle.exact_algebra.specs.Rational.{whole, ℚ_set};
 ghost use Rattle.frac_core.specs.declared.arith.Arith.{Arith as Held};
 ghost use Rattle.frac_core.specs.declared.frac128.Frac128.{Frac128 as Fraction128};
 ghost use Rattle.formula_arith.specs.Evaluations.{NoneOverflows};
@@ -65,7 +66,7 @@ pub(crate) struct Computed<'a> {
     pub(crate) records: &'a [u32],
     // Those of the first records, up to one in which an operation overflows.
     values: Vec<Frac128>,
-    ghost right: { map exact values.items ≡ map (arith_at frame.now arith.now) (take (length values.items) records.now) },
+    ghost right: { map exact values.items ≡ map (arith_at frame.now arith.now) (take (length values.items) records.now) } by { Prim.hlevel (props, ℚ_set) },
 }
 
 impl Computed<'_> {

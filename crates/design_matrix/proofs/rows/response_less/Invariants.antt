@@ -6,6 +6,6 @@ use Rattle.design_matrix.proofs.rows.response_less.Given as goal
 
 abbrev pub invariant-loop-place : goal.invariant-loop-place
 invariant-loop-place l = record {
-  value : exact l.left ≡ less (exact l.response) (take l.place (map exact l.offsets));
-  fits : (t : ℕ) → t ≤ l.place → IsValue (less (exact l.response) (take t (map exact l.offsets)));
+  value : exact l.left ≡ less (exact l.fn.response) (take l.place (map exact l.offsets));
+  fits : (t : ℕ) → t ≤ l.place → IsValue (less (exact l.fn.response) (take t (map exact l.offsets)));
 }
