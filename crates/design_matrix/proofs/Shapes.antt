@@ -20,7 +20,8 @@ use Rattle.design_matrix.specs.declared.fault.DesignFault.TheVariants.{NegativeW
 use Rattle.design_matrix.specs.Cells.{Column, Table, column_of, is_complete, is_kept, kept, used_names, weight_at, weight_sign, weights_in}
 use Rattle.design_matrix.specs.CodedVariable.{CodedVariable, coded_term, coded_terms, width}
 use Rattle.design_matrix.specs.Designs.{design_of, exact_row, row_of}
-use Rattle.design_matrix.specs.Faults.{IsDesign, columns_fault, empty_fault, factor_fault, fault_of, lacks_columns, late_fault, level_fault, levels_fault, name_fault, rows_fault, terms_fault, used_fault, weight_fault, weights_fault, widths_fault}
+use Rattle.formula_parser.specs.Held.{ariths_of}
+use Rattle.design_matrix.specs.Faults.{ariths_fault, IsDesign, columns_fault, empty_fault, factor_fault, fault_of, lacks_columns, late_fault, level_fault, levels_fault, name_fault, rows_fault, terms_fault, used_fault, weight_fault, weights_fault, widths_fault}
 use Rattle.design_matrix.specs.Lists.{each, first_some}
 use Rattle.design_matrix.specs.Parts.{column_name, columns_in, columns_of, count, factors, term_columns}
 use Rattle.design_matrix.specs.Products.{product}
@@ -62,7 +63,8 @@ module _ (table : Table) (model : Formula) (coding : Coding) (weights : Option T
       let first = first_none (option_and_then (name_fault table) weights) _ used in
       let second = first_none (factor_fault ResponseNotNumeric (column_of table model.response)) _ first.1 in
       let third = first_none (option_and_then (factor_fault WeightNotNumeric) (weights_in table weights)) _ second.1 in
-      (first_none (widths_fault table (used_names model weights)) _ third.1).1
+      let fourth = first_none (ariths_fault table (ariths_of model)) _ third.1 in
+      (first_none (widths_fault table (used_names model weights)) _ fourth.1).1
 
   parts : (rows_fault (kept table model weights) ≡ None) × (late_fault table model coding (kept table model weights) ≡ None)
   unfolding fault_of

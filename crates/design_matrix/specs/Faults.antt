@@ -11,6 +11,8 @@ use Rattle.data_frame.specs.Cells.{numbers, factor, too_wide}
 use Rattle.data_frame.specs.Records.{Text}
 use Rattle.data_frame.specs.Tables.{column_named}
 use Rattle.frac_core.specs.declared.arith.Arith.{Arith}
+use Rattle.formula_arith.specs.declared.fault.ArithFault.{ArithFault}
+use Rattle.formula_arith.specs.declared.fault.ArithFault.TheVariants as arith_fault
 use Rattle.formula_parser.specs.Held.{ariths_of}
 use Rattle.formula_parser.specs.declared.formula.Formula.{Formula}
 use Rattle.design_matrix.specs.declared.design.Design.{Design}
@@ -18,7 +20,7 @@ use Rattle.design_matrix.specs.declared.fault.DesignFault.{DesignFault}
 use Rattle.design_matrix.specs.declared.fault.DesignFault.TheVariants.{OutOfMemory, UnknownWeights, ResponseNotNumeric, WeightNotNumeric, ArithNotNumeric, NumberTooWide, NegativeWeight, NoRows, OneLevel, NoColumns, TooManyColumns, Overflow}
 use Rattle.design_matrix.specs.Cells.{Column, Table, column_of, kept, used_names, weight_sign, weights_in}
 use Rattle.design_matrix.specs.CodedVariable.{CodedVariable, coded_terms, is_text, width}
-use Rattle.design_matrix.specs.Designs.{AllFit, OverflowsFirst, design_of, exact_design}
+use Rattle.design_matrix.specs.Designs.{AllFit, OverflowsFirst, arith_site, design_of, exact_design}
 use Rattle.design_matrix.specs.Lists.{first_some}
 use Rattle.design_matrix.specs.Parts.{columns_of}
 
@@ -104,6 +106,11 @@ unfoldable pub fault_of : Table → Formula → Coding → Option Text → Optio
 fault_of table model coding weights =
     option_or (used_fault table model weights)
     (option_or (rows_fault (kept table model weights)) (late_fault table model coding (kept table model weights)))
+
+-- the fault of the arithmetic at a place that has no value in a record
+abbrev pub refusal : ℕ → ℕ → ArithFault → DesignFault
+refusal i place arith_fault.OutOfMemory = OutOfMemory
+refusal i place (arith_fault.Overflow term op) = Overflow (record { site = arith_site (i + 1) place term op.kind; left = op.left; right = op.right })
 
 -- an operation overflows: the first by record, and in a record by the arithmetics, then the response, then the entries by
 -- column and by the number of their factors

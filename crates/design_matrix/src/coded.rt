@@ -84,7 +84,7 @@ fn values_by<'a>(
     records: &'a [u32],
 ) -> Result<Values<'a>, AllocError>
     requires counted { length records.now < 2 ^ 32 }
-    requires usable { IfSome variable.entry.now.arith CanEvaluate }
+    requires usable { IfSome variable.now.arith CanEvaluate }
     ensures { IfOk result (λ v. values_seen v ≡ values_by frame.entry.now variable.entry.now variable.entry.now.arith records.entry.now) }
 {
     match &variable.arith {
@@ -246,7 +246,7 @@ impl<'a> Coder<'a> {
         variable: &'a Variable,
     ) -> Result<CodedVariable<'a>, AllocError>
         requires counted { length self.now.records.now < 2 ^ 32 }
-        requires usable { IfSome variable.entry.now.arith CanEvaluate }
+        requires usable { IfSome variable.now.arith CanEvaluate }
         requires inside { number < length self.now.model.now.terms }
         requires there { place < length variables.now }
         ensures { IfOk result (λ v. coded_seen v ≡ coded_variable self.now.frame.now self.now.model.now
@@ -270,7 +270,7 @@ impl<'a> Coder<'a> {
         term: &'a Term,
     ) -> Result<Vec<CodedVariable<'a>>, AllocError>
         requires counted { length self.now.records.now < 2 ^ 32 }
-        requires usable { All (λ v. IfSome v.arith CanEvaluate) term.entry.now.variables }
+        requires usable { All (λ v. IfSome v.arith CanEvaluate) term.now.variables }
         requires inside { number < length self.now.model.now.terms }
         ensures coded { IfOk result (λ vs. map coded_seen vs.items ≡ coded_term self.now.frame.now
             self.now.model.now self.now.contrasts self.now.records.now number term.entry.now) }

@@ -1,6 +1,6 @@
 //! What the arithmetics of a formula come to in the records of a table.
 
-ghost use Rattle.std.specs.Prelude.{◌≡◌, ◌⊎◌, ◌<◌, ◌+◌, ◌^◌, ◌++◌, [], All, None, Some, IfErr, IfOk, IfSome, OnOk, bytes_eq, length, map, pos, slice_index_or, take, List as list};
+ghost use Rattle.std.specs.Prelude.{◌≡◌, ◌⊎◌, ◌<◌, ◌+◌, ◌^◌, ◌++◌, [], All, None, Some, IfErr, IfOk, OnOk, bytes_eq, length, map, pos, slice_get, slice_index_or, take, List as list};
 ghost use Rattle.std.specs.List.{flat_map, list_any};
 ghost use Rattle.std.proofs.Props.{props};
 ghost use Rattle.exact_algebra.specs.Rational.{whole, ℚ_set};
@@ -12,14 +12,15 @@ ghost use Rattle.loss_model.specs.declared.spill.Spill.{Spill as Spilt};
 ghost use Rattle.data_frame.specs.Views.{exact};
 ghost use Rattle.design_matrix.specs.Cells.{column_of, number_at};
 ghost use Rattle.design_matrix.specs.Computed.{CanEvaluate, HasArithCause, arith_at, arith_operations, expressions, named_values, offsets_at, texts_once, with_text};
-ghost use Rattle.design_matrix.specs.Designs.{ArithsFit, OverflowsInAriths, arith_site};
+ghost use Rattle.design_matrix.specs.Designs.{ArithsFit, OverflowsInAriths};
+ghost use Rattle.design_matrix.specs.Faults.{refusal};
 
 use crate::DesignFault;
 use crate::cells::{column, number_of};
 use data_frame::Frame;
 use formula_arith::{ArithFault, evaluate};
 use formula_parser::{Formula, Term};
-use frac_core::{Arith, Frac128, Op, Text};
+use frac_core::{Arith, Frac128, Text};
 use loss_model::{Quantity, Site, Spill};
 use std::alloc::{AllocError, Global};
 
@@ -69,17 +70,26 @@ pub(crate) struct Computed<'a> {
     ghost right: { map exact values.items ≡ map (arith_at frame.now arith.now) (take (length values.items) records.now) } by { Prim.hlevel (props, ℚ_set) },
 }
 
+fn value_at(values: &[Frac128], place: usize) -> Option<Frac128>
+    ensures { result ≡ slice_get values.now place }
+{
+    values.get(place).copied()
+}
+
 impl Computed<'_> {
     ghost use Rattle.std.specs.Prelude.{map, take};
     ghost use Rattle.data_frame.specs.Views.{exact};
     ghost use Rattle.design_matrix.specs.Computed.{arith_at};
 
-    /// The value at a place among the records. There is none behind a record in which an operation
-    /// overflows.
-    pub(crate) fn at(&self, place: usize) -> Option<Frac128>
-        ensures { IfSome result (λ x. exact x ≡ slice_index_or (map (arith_at self.now.frame.now self.now.arith.now) self.now.records.now) place (whole (pos 0))) }
+    /// The value at a place among the records. None is kept behind a record in which an operation
+    /// overflows: no entry is asked for there, and it is answered as want of memory.
+    pub(crate) fn at(&self, place: usize) -> Result<Frac128, AllocError>
+        ensures { IfOk result (λ x. exact x ≡ slice_index_or (map (arith_at self.now.frame.now self.now.arith.now) self.now.records.now) place (whole (pos 0))) }
     {
-        self.values.get(place).copied()
+        match value_at(&self.values, place) {
+            Some(value) => Ok(value),
+            None => Err(AllocError),
+        }
     }
 }
 
@@ -111,7 +121,7 @@ pub(crate) fn compute<'a>(
     arith: &'a Arith,
     records: &'a [u32],
 ) -> Result<Computed<'a>, AllocError>
-    requires { CanEvaluate arith.entry.now }
+    requires { CanEvaluate arith.now }
     ensures frame { IfOk result (λ c. c.frame.now ≡ frame.entry.now) }
     ensures arith { IfOk result (λ c. c.arith.now ≡ arith.entry.now) }
     ensures records { IfOk result (λ c. c.records.now ≡ records.entry.now) }
@@ -161,7 +171,7 @@ pub(crate) fn ariths_in(alloc: Global, model: &Formula) -> Result<Vec<&Arith>, A
 }
 
 fn has_text(found: &[&Arith], arith: &Arith) -> bool
-    ensures { result ≡ list_any (λ b. bytes_eq b.text arith.now.text) (map (λ a. a.now) found.now) }
+    ensures { result ≡ list_any (λ b. bytes_eq b.now.text arith.now.text) found.now }
 {
     found
         .iter()
@@ -170,12 +180,23 @@ fn has_text(found: &[&Arith], arith: &Arith) -> bool
 
 // The arithmetics with one more, where none has its text.
 fn add_text<'a>(mut found: Vec<&'a Arith>, arith: &'a Arith) -> Result<Vec<&'a Arith>, AllocError>
-    ensures { IfOk result (λ v. map (λ a. a.now) v.items ≡ with_text (map (λ a. a.now) found.items) arith.now) }
+    ensures { IfOk result (λ v. map (λ a. a.now) v.items ≡ with_text (map (λ a. a.now) found.entry.items) arith.entry.now) }
 {
     if has_text(&found, arith) {
         return Ok(found);
     }
     found.push(arith)?;
+    Ok(found)
+}
+
+// Each of these texts once.
+fn once<'a>(alloc: Global, ariths: &[&'a Arith]) -> Result<Vec<&'a Arith>, AllocError>
+    ensures { IfOk result (λ v. map (λ a. a.now) v.items ≡ texts_once [] (map (λ a. a.now) ariths.now)) }
+{
+    let mut found = Vec::new(alloc);
+    for arith in ariths {
+        found = add_text(found, *arith)?;
+    }
     Ok(found)
 }
 
@@ -185,29 +206,29 @@ pub(crate) fn expressions_in(alloc: Global, model: &Formula) -> Result<Vec<&Arit
     ensures { IfOk result (λ v. map (λ a. a.now) v.items ≡ expressions model.now) }
 {
     let ariths = ariths_in(alloc, model)?;
-    let mut found = Vec::new(alloc);
-    for arith in &ariths {
-        found = add_text(found, *arith)?;
-    }
+    let found = once(alloc, &ariths)?;
     Ok(found)
 }
 
-// An operation of the arithmetic at a place that overflows in a record.
-fn spill_of(index: u32, place: usize, term: u32, op: Op<Frac128>) -> Spill<Frac128>
+// The fault of the arithmetic at a place that has no value in a record.
+fn refusal(index: u32, place: usize, fault: ArithFault) -> DesignFault
     requires { index + 1 < 2 ^ 32 }
-    ensures { result ≡ record { site = arith_site (index + 1) place term op.kind; left = op.left; right = op.right } }
+    ensures { result ≡ refusal index place fault }
 {
-    Spill {
-        site: Site {
-            quantity: Quantity::ArithValue,
-            first: index + 1,
-            second: u32::try_from(place).unwrap_or(u32::MAX),
-            third: 0,
-            term,
-            kind: op.kind,
-        },
-        left: op.left,
-        right: op.right,
+    match fault {
+        ArithFault::OutOfMemory => DesignFault::OutOfMemory,
+        ArithFault::Overflow { term, op } => DesignFault::Overflow(Spill {
+            site: Site {
+                quantity: Quantity::ArithValue,
+                first: index + 1,
+                second: u32::try_from(place).unwrap_or(u32::MAX),
+                third: 0,
+                term,
+                kind: op.kind,
+            },
+            left: op.left,
+            right: op.right,
+        }),
     }
 }
 
@@ -228,10 +249,7 @@ pub(crate) fn check_ariths(
     for (place, arith) in ariths.iter().enumerate() {
         match arith_value(alloc, frame, *arith, index) {
             Ok(_) => {}
-            Err(ArithFault::OutOfMemory) => return Err(DesignFault::OutOfMemory),
-            Err(ArithFault::Overflow { term, op }) => {
-                return Err(DesignFault::Overflow(spill_of(index, place, term, op)));
-            }
+            Err(fault) => return Err(refusal(index, place, fault)),
         }
     }
     Ok(())

@@ -1,6 +1,6 @@
 //! The columns of a design, each as the parts that it is the product of.
 
-ghost use Rattle.std.specs.Prelude.{◌≡◌, ◌≤◌, ◌<◌, ◌^◌, ◌++◌, [], false, All, IfOk, IfSome, OnOk, length, map, min, pos, slice_index_or, unsigned_abs};
+ghost use Rattle.std.specs.Prelude.{◌≡◌, ◌≤◌, ◌<◌, ◌^◌, ◌++◌, [], false, All, IfOk, OnOk, length, map, min, pos, slice_index_or, unsigned_abs};
 ghost use Rattle.exact_algebra.specs.Rational.{whole};
 ghost use Rattle.frac_core.specs.Limits.{most_rows, most_columns};
 ghost use Rattle.data_frame.specs.Views.{exact};
@@ -29,20 +29,20 @@ impl Part<'_, '_> {
     /// The entry at a place among the kept records.
     ///
     /// An arithmetic has none behind a record in which one of its operations overflows.
-    pub(crate) fn entry(&self, place: usize) -> Option<Frac128>
-        ensures { IfSome result (λ x. exact x ≡ slice_index_or (part_seen self.now).entries place (whole (pos 0))) }
+    pub(crate) fn entry(&self, place: usize) -> Result<Frac128, AllocError>
+        ensures { IfOk result (λ x. exact x ≡ slice_index_or (part_seen self.now).entries place (whole (pos 0))) }
     {
         match &self.variable.values {
             Values::Numbers(cells, records) => match records.get(place) {
-                Some(index) => Some(number(cells, *index)),
-                None => Some(Frac128::zero()),
+                Some(index) => Ok(number(cells, *index)),
+                None => Ok(Frac128::zero()),
             },
             Values::Levels(levels) => match levels.places.get(place) {
                 Some(level) => {
                     let count = levels.texts.len() as u32;
-                    Some(whole_number(contrasts::entry(self.variable.coding, count, *level, self.column)))
+                    Ok(whole_number(contrasts::entry(self.variable.coding, count, *level, self.column)))
                 }
-                None => Some(Frac128::zero()),
+                None => Ok(Frac128::zero()),
             },
             Values::Computed(values) => values.at(place),
         }

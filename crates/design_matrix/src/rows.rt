@@ -56,9 +56,7 @@ fn product_of(
 {
     let mut product = Frac128::one();
     for (term, part) in parts.iter().enumerate() {
-        let Some(factor) = part.entry(place) else {
-            return Err(DesignFault::OutOfMemory);
-        };
+        let factor = part.entry(place)?;
         let site = Site {
             quantity: Quantity::DesignEntry,
             first: rec,

@@ -2,6 +2,7 @@
 
 ghost use Rattle.std.specs.Prelude.{◌≡◌, ◌⊎◌, ◌++◌, None, Some, IfErr, IfOk, OnOk, map, option_and_then, option_copied, option_to_list};
 ghost use Rattle.std.specs.List.{flat_map};
+ghost use Rattle.formula_parser.specs.Held.{ariths_of};
 ghost use Rattle.data_frame.specs.Views.{lent_column};
 ghost use Rattle.design_matrix.specs.Cells.{column_of, names_by, predictor_names, term_names, used_names, weights_in};
 ghost use Rattle.design_matrix.specs.Faults.{ariths_fault, name_fault, named_fault, used_fault, wide_fault, widths_fault};
@@ -139,6 +140,17 @@ fn check_arith_names(
     Ok(())
 }
 
+// The same of a formula's.
+fn check_ariths(alloc: Global, frame: &Frame, model: &Formula) -> Result<(), DesignFault>
+    ensures sound { OnOk result (ariths_fault frame.now (ariths_of model.now) ≡ None) }
+    ensures fault { IfErr result (λ e. (e ≡ DesignFault.OutOfMemory)
+        ⊎ (ariths_fault frame.now (ariths_of model.now) ≡ Some e)) }
+{
+    let ariths = ariths_in(alloc, model)?;
+    check_arith_names(alloc, frame, &ariths)?;
+    Ok(())
+}
+
 // The names of the columns that are used.
 #[tactic(auto, unfolding(crate::specs::Cells::used_names))]
 fn names_used<'a>(
@@ -230,7 +242,7 @@ pub(crate) fn used_columns<'a>(
     if weighing.is_text() {
         return Err(DesignFault::WeightNotNumeric);
     }
-    check_arith_names(alloc, frame, &ariths_in(alloc, model)?)?;
+    check_ariths(alloc, frame, model)?;
     let names = names_used(alloc, model, weights)?;
     let columns = narrow_columns(alloc, frame, &names)?;
     check_weights(&weighing, frame.records())?;
