@@ -1,15 +1,14 @@
 -- Arithmetics that can be evaluated: what they come to, and those of a formula.
-use Rattle.std.proofs.Common.{◌≡◌, ℕ, Bool, true, false, List, [], ◌∷◌, ◌++◌, Option, Some, None, All, IfOk, IfErr, OnOk, IfSome, Result, Ok, Err, cond, flat_map, map, option_to_list, refl, sym, subst, ap, ◌∙◌}
+use Rattle.std.proofs.Common.{◌≡◌, ℕ, Bool, true, false, List, [], ◌∷◌, ◌++◌, Option, Some, None, All, IfOk, IfErr, OnOk, IfSome, Result, Ok, Err, cond, flat_map, map, option_to_list, sym, subst, ap, ◌∙◌}
 use Rattle.std.specs.Prelude.{bytes_eq}
 use Rattle.std.specs.List.{list_any}
 use Rattle.std.proofs.lemmas.List.Elements.{All-cons, All-head, All-nil, All-push, All-tail, All-weaker}
-use Rattle.exact_algebra.specs.Rational.{ℚ}
 use Rattle.frac_core.specs.declared.arith.Arith.{Arith}
 use Rattle.frac_core.specs.declared.frac128.Frac128.{Frac128}
 use Rattle.formula_arith.specs.declared.fault.ArithFault.{ArithFault}
 use Rattle.formula_arith.specs.declared.fault.ArithFault.TheVariants.{OutOfMemory, Overflow}
 use Rattle.formula_arith.specs.Arithmetics.{distinct_names}
-use Rattle.formula_arith.specs.Evaluations.{HasCause, IsCause, IsFirstOverflow, IsValue, IsValueOf, NoneOverflows, operations_at, value_at}
+use Rattle.formula_arith.specs.Evaluations.{IsCause, IsFirstOverflow, IsValue, NoneOverflows, operations_at, value_at}
 use Rattle.formula_arith.specs.Machine.{code_operations, exec, top}
 use Rattle.formula_arith.specs.Values.{Operation}
 use Rattle.formula_arith.proofs.Runs.{whole_operations, whole_runs}

@@ -1,10 +1,10 @@
 -- Responses less the values of offsets, and arithmetics in order.
-use Rattle.std.proofs.Common.{◌≡◌, ◌<◌, ◌≤◌, ◌^◌, ◌-◌, ℕ, zero, suc, ◌+◌, Bool, true, false, List, [], ◌∷◌, ◌++◌, ◌⊎◌, inl, inr, Option, Some, None, length, map, option_map, take, pos, refl, sym, ap, subst, ◌∙◌, arith, get_or, leb, leb-true, leb-false}
+use Rattle.std.proofs.Common.{◌≡◌, ◌<◌, ◌≤◌, ℕ, ◌+◌, Bool, true, false, List, [], ◌∷◌, ◌++◌, ◌⊎◌, inl, inr, Some, None, length, map, option_map, take, refl, sym, ap, subst, ◌∙◌, arith, get_or, leb, leb-true, leb-false}
 use Rattle.std.specs.Prelude.{bytes_eq, cond, slice_get}
 use Rattle.std.specs.List.{list_any}
 use Rattle.std.proofs.lemmas.List.{get_or-map, get_or-take, length-map, map-append, take-map, take_more}
 use Rattle.std.proofs.lemmas.Option.{get_or_from_slice_get, slice_get-map, slice_get_read, slice_get_within}
-use Rattle.exact_algebra.specs.Rational.{ℚ, ◌-ℚ◌, whole}
+use Rattle.exact_algebra.specs.Rational.{ℚ, ◌-ℚ◌}
 use Rattle.frac_core.specs.declared.frac128.Frac128.{Frac128}
 use Rattle.frac_core.specs.declared.arith.Arith.{Arith}
 use Rattle.formula_arith.specs.declared.fault.ArithFault.{ArithFault}
@@ -69,8 +69,11 @@ pub refused : (table : Table) (ariths : List Arith) (i place : ℕ) (a : Arith) 
     → (refusal i place fault ≡ OutOfMemory) ⊎ ((s : Spill Frac128) × (refusal i place fault ≡ Overflow s) × OverflowsInAriths table ariths i s)
 refused table ariths i place a arith_fault.OutOfMemory there before h = inl refl
 refused table ariths i place a (arith_fault.Overflow term op) there before h =
-    inr (record { site = arith_site (i + 1) place term op.kind; left = op.left; right = op.right }, refl,
-    record { place = place; arith = a; there = there; before = before; term = term; op = op; first = h; is = refl })
+    inr (
+      record { site = arith_site (i + 1) place term op.kind; left = op.left; right = op.right },
+      refl,
+      record { place = place; arith = a; there = there; before = before; term = term; op = op; first = h; is = refl },
+    )
 
 -- a text that is there, and one that isn't
 pub text_there : {X : Type 0} (f : X → Arith) (found : List X) (a : Arith) (b : Bool) → b ≡ list_any (λ x. bytes_eq (f x).text a.text) found → b ≡ true

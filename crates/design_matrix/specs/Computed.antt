@@ -1,5 +1,5 @@
 -- Stated. What the arithmetics of a formula come to in the records of a table. Records are counted from 0 here.
-use Rattle.std.specs.Prelude.{◌≡◌, ◌<◌, ◌^◌, ℕ, ◌++◌, List, [], ◌∷◌, bytes_eq, cond, map}
+use Rattle.std.specs.Prelude.{◌<◌, ◌^◌, ℕ, ◌++◌, List, [], ◌∷◌, bytes_eq, cond, map}
 use Rattle.std.specs.List.{list_any}
 use Rattle.exact_algebra.specs.Rational.{ℚ, ◌-ℚ◌}
 use Rattle.frac_core.specs.declared.arith.Arith.{Arith}

@@ -40,7 +40,12 @@ impl Part<'_, '_> {
             Values::Levels(levels) => match levels.places.get(place) {
                 Some(level) => {
                     let count = levels.texts.len() as u32;
-                    Ok(whole_number(contrasts::entry(self.variable.coding, count, *level, self.column)))
+                    Ok(whole_number(contrasts::entry(
+                        self.variable.coding,
+                        count,
+                        *level,
+                        self.column,
+                    )))
                 }
                 None => Ok(Frac128::zero()),
             },

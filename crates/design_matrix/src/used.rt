@@ -125,11 +125,7 @@ fn check_names(alloc: Global, frame: &Frame, names: &[Text]) -> Result<(), Desig
 
 // The same of these arithmetics.
 #[tactic(auto, unfolding(crate::specs::Faults::ariths_fault))]
-fn check_arith_names(
-    alloc: Global,
-    frame: &Frame,
-    ariths: &[&Arith],
-) -> Result<(), DesignFault>
+fn check_arith_names(alloc: Global, frame: &Frame, ariths: &[&Arith]) -> Result<(), DesignFault>
     ensures sound { OnOk result (ariths_fault frame.now (map (λ a. a.now) ariths.now) ≡ None) }
     ensures fault { IfErr result (λ e. (e ≡ DesignFault.OutOfMemory)
         ⊎ (ariths_fault frame.now (map (λ a. a.now) ariths.now) ≡ Some e)) }

@@ -26,8 +26,12 @@ returns-in_err-check_ariths-clause-fault c =
     let p = err_from_is_err_and c.from_residual-in_err-check_ariths.result c.from_residual-in_err-check_ariths.ensures.1 in
     rw (p.1, p.2) (elim c.in_err-check_ariths.ensures.fault [
       | inl memory ↦ inl memory
-      | inr spilt ↦ inr (spilt.0, spilt.1, first_record coder.frame.now coder.model.now (columns_seen c.args.columns.now) coder.records.now _ index spilt.0 c.loop-place-test.true refl c.loop-place.invariant.fits
-          (in_ariths (subst (λ l. OverflowsInAriths coder.frame.now l index spilt.0) ariths spilt.2)))
+      | inr spilt ↦ inr (
+        spilt.0,
+        spilt.1,
+        first_record coder.frame.now coder.model.now (columns_seen c.args.columns.now) coder.records.now _ index spilt.0 c.loop-place-test.true refl c.loop-place.invariant.fits
+            (in_ariths (subst (λ l. OverflowsInAriths coder.frame.now l index spilt.0) ariths spilt.2)),
+      )
     ])
 
 pub returns-in_err-y-clause-fault : goal.returns-in_err-y-clause-fault
@@ -39,8 +43,12 @@ returns-in_err-y-clause-fault c =
     let p = err_from_is_err_and c.from_residual-in_err-y.result c.from_residual-in_err-y.ensures.1 in
     rw (p.1, p.2) (elim c.in_err-y.ensures.fault [
       | inl memory ↦ inl memory
-      | inr spilt ↦ inr (spilt.0, spilt.1, first_record coder.frame.now coder.model.now (columns_seen c.args.columns.now) coder.records.now _ index spilt.0 c.loop-place-test.true refl c.loop-place.invariant.fits
-          (in_response fits (subst (λ r. OverflowsInResponse (number_at r index) (offsets_at coder.frame.now coder.model.now.offsets index) (index + 1) spilt.0) c.requires.response spilt.2)))
+      | inr spilt ↦ inr (
+        spilt.0,
+        spilt.1,
+        first_record coder.frame.now coder.model.now (columns_seen c.args.columns.now) coder.records.now _ index spilt.0 c.loop-place-test.true refl c.loop-place.invariant.fits
+            (in_response fits (subst (λ r. OverflowsInResponse (number_at r index) (offsets_at coder.frame.now coder.model.now.offsets index) (index + 1) spilt.0) c.requires.response spilt.2)),
+      )
     ])
 
 pub returns-in_err-entries-clause-fault : goal.returns-in_err-entries-clause-fault
@@ -53,8 +61,12 @@ returns-in_err-entries-clause-fault c =
     let p = err_from_is_err_and c.from_residual-in_err-entries.result c.from_residual-in_err-entries.ensures.1 in
     rw (p.1, p.2) (elim c.in_err-entries.ensures.fault [
       | inl memory ↦ inl memory
-      | inr spilt ↦ inr (spilt.0, spilt.1, first_record coder.frame.now coder.model.now (columns_seen c.args.columns.now) coder.records.now _ index spilt.0 c.loop-place-test.true refl c.loop-place.invariant.fits
-          (in_entries fits response spilt.2))
+      | inr spilt ↦ inr (
+        spilt.0,
+        spilt.1,
+        first_record coder.frame.now coder.model.now (columns_seen c.args.columns.now) coder.records.now _ index spilt.0 c.loop-place-test.true refl c.loop-place.invariant.fits
+            (in_entries fits response spilt.2),
+      )
     ])
 
 pub loop-place-preserved : goal.loop-place-preserved

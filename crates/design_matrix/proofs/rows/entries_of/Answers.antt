@@ -1,4 +1,4 @@
-use Rattle.std.proofs.Common.{List, ap, inl, inr, map, refl, subst, take_all, ◌∙◌, Vec}
+use Rattle.std.proofs.Common.{List, ap, inl, inr, map, subst, take_all, ◌∙◌, Vec}
 use Rattle.std.specs.declared.alloc.Global.{Global}
 use Rattle.std.proofs.lemmas.Result.{err_from_is_err_and}
 use Rattle.data_frame.specs.Views.{exact}

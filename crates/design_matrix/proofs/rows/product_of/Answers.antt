@@ -30,13 +30,17 @@ pub returns-in-Err-clause-fault : goal.returns-in-Err-clause-fault
 returns-in-Err-clause-fault c =
     let spilled = c.in-Err.ensures.spill in
     let n : length (factors (map part_seen c.args.parts.now) c.args.place) ≡ length c.args.parts.now = length_maps part_seen (λ p. slice_index_or p.entries c.args.place (whole (pos 0))) c.args.parts.now in
-    inr (c.in-Err.spill, refl, record {
-      term = c.loop-term.term;
-      some = spilled.0;
-      more = omega (arith, n, c.loop-term-test.true);
-      first = c.loop-term.invariant.fits;
-      operation = spilt part_seen (λ p. slice_index_or p.entries c.args.place (whole (pos 0))) c.args.parts.now _ _ _ _ _ _ c.loop-term-test.true c.index-parts-term.is c.loop-term.invariant.value c.in_ok-factor.ensures spilled.1;
-    })
+    inr (
+      c.in-Err.spill,
+      refl,
+      record {
+        term = c.loop-term.term;
+        some = spilled.0;
+        more = omega (arith, n, c.loop-term-test.true);
+        first = c.loop-term.invariant.fits;
+        operation = spilt part_seen (λ p. slice_index_or p.entries c.args.place (whole (pos 0))) c.args.parts.now _ _ _ _ _ _ c.loop-term-test.true c.index-parts-term.is c.loop-term.invariant.value c.in_ok-factor.ensures spilled.1;
+      },
+    )
 
 pub returns-clause-fits : goal.returns-clause-fits
 returns-clause-fits c t h =

@@ -1,4 +1,4 @@
-use Rattle.std.proofs.Common.{arith, length, map, refl}
+use Rattle.std.proofs.Common.{arith, map, refl}
 use Rattle.std.proofs.lemmas.List.{length-map}
 use Rattle.data_frame.specs.Views.{exact}
 use Rattle.design_matrix.proofs.Responses.{less_fits, less_more, less_none}

@@ -11,7 +11,7 @@ returns-then-is_text-clause-fault c =
     inr (next_found (named_fault c.args.frame.now) c.args.names.now _ _ _ c.loop-name-test.true c.name-item.is c.loop-name.invariant
     (name_is c.args.frame.now name c.as_str.result.now _ _ c.is_text.ensures c.column.ensures c.as_str.ensures
     ∙ ap (λ b. cond b (Some (ArithNotNumeric name)) None) c.if-is_text.true
-    ∙ ap (λ n. Some (ArithNotNumeric n)) (sym (c.in_ok-new.ensures ∙ c.as_str-2.ensures))))
+    ∙ ap (λ n. Some (ArithNotNumeric n)) (sym (c.in_ok-new.ensures ∙ c.as_str-then-is_text.ensures))))
 
 pub loop-name-preserved : goal.loop-name-preserved
 loop-name-preserved c =
