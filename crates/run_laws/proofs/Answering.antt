@@ -33,20 +33,8 @@ module _ (lawful : PathHasCosts) (words : List (List ℕ)) (source source' : Str
       by : (outcome : Outcome) → IsRun words source source' out out' err err' outcome → IsAnswer words source source' bytes outcome
       by (Done report) run = right report run.cause
       by (Refused refusals.TooLong) run = absurd (short run.cause)
-      by (Refused (refusals.Table fault)) run = absurd (refused (refusals.Table fault) (λ n. λ e. cc e) run.cause)
-      by (Refused (refusals.Formula fault)) run = absurd (refused (refusals.Formula fault) (λ n. λ e. cc e) run.cause)
-      by (Refused refusals.RankWithPenalty) run = absurd (refused refusals.RankWithPenalty (λ n. λ e. cc e) run.cause)
-      by (Refused refusals.SmoothNotTaken) run = absurd (refused refusals.SmoothNotTaken (λ n. λ e. cc e) run.cause)
-      by (Refused (refusals.Design fault)) run = absurd (refused (refusals.Design fault) (λ n. λ e. cc e) run.cause)
-      by (Refused (refusals.Penalty fault)) run = absurd (refused (refusals.Penalty fault) (λ n. λ e. cc e) run.cause)
-      by (Refused (refusals.Program fault)) run = absurd (refused (refusals.Program fault) (λ n. λ e. cc e) run.cause)
-      by (Refused refusals.NothingToPredict) run = absurd (refused refusals.NothingToPredict (λ n. λ e. cc e) run.cause)
-      by (Refused (refusals.NoSuchColumn number)) run = absurd (refused (refusals.NoSuchColumn number) (λ n. λ e. cc e) run.cause)
-      by (Refused refusals.AllTested) run = absurd (refused refusals.AllTested (λ n. λ e. cc e) run.cause)
-      by (Refused (refusals.TooManyPredictions found)) run = absurd (refused (refusals.TooManyPredictions found) (λ n. λ e. cc e) run.cause)
       by (Refused (refusals.CertTooLong n)) run = run.cause
-      by (Refused (refusals.Certificate fault)) run = absurd (refused (refusals.Certificate fault) (λ n. λ e. cc e) run.cause)
-      by (Refused (refusals.Dependent combination)) run = absurd (refused (refusals.Dependent combination) (λ n. λ e. cc e) run.cause)
+      by (Refused refusal) run = absurd (refused refusal (λ n. λ e. cc e) run.cause)
       by (Usage fault) run = absurd (asked fault run.cause)
       by SourceFault run = absurd (none.0 run.cause.1)
       by SinkFault run = failed run.cause
@@ -62,42 +50,14 @@ module _ (lawful : PathHasCosts) (words : List (List ℕ)) (source source' : Str
 -- an outcome is no certificate that is too long where none comes
 module _ (words : List (List ℕ)) (source source' : Stream) (short : (n : ℕ) → ¬ IsHalted words source source' (halts.Refused (refusals.CertTooLong n))) where
   pub not_too_long : (out out' err err' : Stream) (outcome : Outcome) → IsRun words source source' out out' err err' outcome → IsNotTooLong outcome
-  not_too_long out out' err err' (Done report) run = tt
-  not_too_long out out' err err' (Refused refusals.TooLong) run = tt
-  not_too_long out out' err err' (Refused (refusals.Table fault)) run = tt
-  not_too_long out out' err err' (Refused (refusals.Formula fault)) run = tt
-  not_too_long out out' err err' (Refused refusals.RankWithPenalty) run = tt
-  not_too_long out out' err err' (Refused refusals.SmoothNotTaken) run = tt
-  not_too_long out out' err err' (Refused (refusals.Design fault)) run = tt
-  not_too_long out out' err err' (Refused (refusals.Penalty fault)) run = tt
-  not_too_long out out' err err' (Refused (refusals.Program fault)) run = tt
-  not_too_long out out' err err' (Refused refusals.NothingToPredict) run = tt
-  not_too_long out out' err err' (Refused (refusals.NoSuchColumn number)) run = tt
-  not_too_long out out' err err' (Refused refusals.AllTested) run = tt
-  not_too_long out out' err err' (Refused (refusals.TooManyPredictions found)) run = tt
   not_too_long out out' err err' (Refused (refusals.CertTooLong n)) run = short n run.cause
-  not_too_long out out' err err' (Refused (refusals.Certificate fault)) run = tt
-  not_too_long out out' err err' (Refused (refusals.Dependent combination)) run = tt
-  not_too_long out out' err err' (Usage fault) run = tt
-  not_too_long out out' err err' SourceFault run = tt
-  not_too_long out out' err err' SinkFault run = tt
-  not_too_long out out' err err' OutOfMemory run = tt
-  not_too_long out out' err err' (PivotLimit place limit trail) run = tt
-  not_too_long out out' err err' (Overflow place trail spill) run = tt
-  not_too_long out out' err err' (Rejected rejection) run = tt
+  not_too_long out out' err err' outcome run = tt
 
 -- nor is it a report
 module _ (words : List (List ℕ)) (source source' : Stream) (reported : (report : Report) → ¬ IsAnswered words source source' report) where
   pub no_report : (out out' err err' : Stream) (outcome : Outcome) → IsRun words source source' out out' err err' outcome → IsNoReport outcome
   no_report out out' err err' (Done report) run = reported report run.cause
-  no_report out out' err err' (Refused refusal) run = tt
-  no_report out out' err err' (Usage fault) run = tt
-  no_report out out' err err' SourceFault run = tt
-  no_report out out' err err' SinkFault run = tt
-  no_report out out' err err' OutOfMemory run = tt
-  no_report out out' err err' (PivotLimit place limit trail) run = tt
-  no_report out out' err err' (Overflow place trail spill) run = tt
-  no_report out out' err err' (Rejected rejection) run = tt
+  no_report out out' err err' outcome run = tt
 
 -- nor a limit
 module _ (words : List (List ℕ)) (source source' : Stream) (reported : (report : Report) → ¬ IsAnswered words source source' report)

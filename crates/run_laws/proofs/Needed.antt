@@ -120,7 +120,7 @@ module _ (lawful : PathHasCosts) (words : List (List ℕ)) (source source' : Str
         job.fit,
         q,
         inr (inl (record { job = job; same = refl; input = h.input; was = record { bytes = bytes; read = read; is = h.is }; without = refl })),
-        reached_process job.fit q limit trail costs h.cause.1 h.cause.2,
+        reached_process job.fit q limit trail costs h.cause.1.0 h.cause.1.1,
       )
   test_limited job bytes read (places.Interval column tau) limit trail h = absurd h.cause.1
   test_limited job bytes read places.Check limit trail h = absurd h.cause.1

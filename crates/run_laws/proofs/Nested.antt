@@ -46,14 +46,8 @@ use Rattle.run_laws.proofs.Stopless.{unposed_without}
 
 -- the only report of a rank test
 right_test : (job : TestJob) (bytes : List ℕ) (report : Report) → IsRight (jobs.Test job) bytes report → (fit : TestFit) × IsTestFitOfBytes job bytes fit
-right_test job bytes (reports.Process f) right = absurd right
-right_test job bytes (reports.Ranks f) right = absurd right
-right_test job bytes (reports.Certificate c) right = absurd right
-right_test job bytes (reports.Checked c) right = absurd right
 right_test job bytes (reports.Test f) right = (f, right)
-right_test job bytes (reports.Predict f) right = absurd right
-right_test job bytes (reports.Path f) right = absurd right
-right_test job bytes (reports.Sample f) right = absurd right
+right_test job bytes report right = absurd right
 
 module _ (words : List (List ℕ)) (first : TestJob) (asked : IsJobOf words (jobs.Test first)) where
   -- words that ask for a rank test ask for no other job

@@ -39,14 +39,8 @@ use Rattle.run_laws.proofs.Stopless.{unposed_without}
 
 -- the only report of a path
 right_path : (job : PathJob) (bytes : List ℕ) (report : Report) → IsRight (jobs.Path job) bytes report → (fit : PathFit) × IsPathFitOfBytes job bytes fit
-right_path job bytes (reports.Process f) right = absurd right
-right_path job bytes (reports.Ranks f) right = absurd right
-right_path job bytes (reports.Certificate c) right = absurd right
-right_path job bytes (reports.Checked c) right = absurd right
-right_path job bytes (reports.Test f) right = absurd right
-right_path job bytes (reports.Predict f) right = absurd right
 right_path job bytes (reports.Path f) right = (f, right)
-right_path job bytes (reports.Sample f) right = absurd right
+right_path job bytes report right = absurd right
 
 -- the rows of a path's problem are those of the records and of the penalties
 few_rows : (job : PathJob) (plain : PlainInput) (q : Problem Frac128) → IsPathProblem job plain q → IsWellShaped q → path_rows plain ≤ most_rows
@@ -57,22 +51,7 @@ no_plain : (job : PathJob) (bytes : List ℕ) (refusal : Refusal) → HasPathFit
     → HasPlainCause job.fit bytes (halts.Refused refusal) ⊎ ((plain : PlainInput) × IsPlain job.fit bytes plain × (most_rows < path_rows plain))
 no_plain job bytes (refusals.Program programs.TooManyRows) (inl h) = inl h
 no_plain job bytes (refusals.Program programs.TooManyRows) (inr h) = inr (h.plain, h.is, h.cause)
-no_plain job bytes (refusals.Program programs.TooManyColumns) h = inl h
-no_plain job bytes (refusals.Program programs.OutOfMemory) h = inl h
-no_plain job bytes (refusals.Dependent combination) h = inl h
-no_plain job bytes refusals.TooLong h = inl h
-no_plain job bytes (refusals.Table fault) h = inl h
-no_plain job bytes (refusals.Formula fault) h = inl h
-no_plain job bytes refusals.RankWithPenalty h = inl h
-no_plain job bytes refusals.SmoothNotTaken h = inl h
-no_plain job bytes (refusals.Design fault) h = inl h
-no_plain job bytes (refusals.Penalty fault) h = inl h
-no_plain job bytes refusals.NothingToPredict h = inl h
-no_plain job bytes (refusals.NoSuchColumn number) h = inl h
-no_plain job bytes refusals.AllTested h = inl h
-no_plain job bytes (refusals.TooManyPredictions found) h = inl h
-no_plain job bytes (refusals.CertTooLong n) h = inl h
-no_plain job bytes (refusals.Certificate fault) h = inl h
+no_plain job bytes refusal h = inl h
 
 module _ (words : List (List ℕ)) (first : PathJob) (asked : IsJobOf words (jobs.Path first)) where
   -- words that ask for a path ask for no other job

@@ -9,7 +9,7 @@ use Rattle.report_text.specs.declared.report.Report.{Report}
 use Rattle.report_text.specs.declared.report.Halt.TheVariants as halts
 use Rattle.rq_cli.specs.Outcomes.{Stream, IsRun, IsAnswered, IsHalted}
 use Rattle.rq_cli.specs.declared.outcome.Outcome.{Outcome}
-use Rattle.rq_cli.specs.declared.outcome.Outcome.TheVariants.{Done, Refused, Usage, SourceFault, SinkFault, OutOfMemory, PivotLimit, Overflow, Rejected}
+use Rattle.rq_cli.specs.declared.outcome.Outcome.TheVariants.{Done, Refused, PivotLimit, Overflow}
 use Rattle.run_laws.specs.Completeness.{IsUnposed}
 
 module _ (words : List (List ℕ)) (source source' : Stream)
@@ -24,21 +24,4 @@ module _ (words : List (List ℕ)) (source source' : Stream)
   unposed_without out out' err err' (Overflow place trail spill) run = spilled place trail spill run.cause
   unposed_without out out' err err' (Refused (refusals.Dependent combination)) run = dependent combination run.cause
   unposed_without out out' err err' (Refused (refusals.CertTooLong n)) run = too_long n run.cause
-  unposed_without out out' err err' (Refused refusals.TooLong) run = tt
-  unposed_without out out' err err' (Refused (refusals.Table fault)) run = tt
-  unposed_without out out' err err' (Refused (refusals.Formula fault)) run = tt
-  unposed_without out out' err err' (Refused refusals.RankWithPenalty) run = tt
-  unposed_without out out' err err' (Refused refusals.SmoothNotTaken) run = tt
-  unposed_without out out' err err' (Refused (refusals.Design fault)) run = tt
-  unposed_without out out' err err' (Refused (refusals.Penalty fault)) run = tt
-  unposed_without out out' err err' (Refused (refusals.Program fault)) run = tt
-  unposed_without out out' err err' (Refused refusals.NothingToPredict) run = tt
-  unposed_without out out' err err' (Refused (refusals.NoSuchColumn number)) run = tt
-  unposed_without out out' err err' (Refused refusals.AllTested) run = tt
-  unposed_without out out' err err' (Refused (refusals.TooManyPredictions found)) run = tt
-  unposed_without out out' err err' (Refused (refusals.Certificate fault)) run = tt
-  unposed_without out out' err err' (Usage fault) run = tt
-  unposed_without out out' err err' SourceFault run = tt
-  unposed_without out out' err err' SinkFault run = tt
-  unposed_without out out' err err' OutOfMemory run = tt
-  unposed_without out out' err err' (Rejected rejection) run = tt
+  unposed_without out out' err err' outcome run = tt
