@@ -4,6 +4,7 @@ pub mod Spilled
 pub mod Needed
 pub mod Answering
 pub mod Complete
+pub mod OnlyJob
 pub mod Stopless
 pub mod Checked
 pub mod Nested

@@ -42,6 +42,7 @@ use Rattle.run_laws.specs.NeededOutcomes.{WasRestricted, WasTested}
 use Rattle.run_laws.specs.TestReports.{IsRightTest}
 use Rattle.run_laws.proofs.Answering.{answered_with, no_report, not_too_long, unfitted_with}
 use Rattle.run_laws.proofs.Complete.{none_beyond, were_told}
+use Rattle.run_laws.proofs.OnlyJob.{only_halted, only_reported}
 use Rattle.run_laws.proofs.Stopless.{unposed_without}
 
 -- the only report of a rank test
@@ -52,29 +53,17 @@ right_test job bytes report right = absurd right
 module _ (words : List (List ℕ)) (first : TestJob) (asked : IsJobOf words (jobs.Test first)) where
   -- words that ask for a rank test ask for no other job
   alone : (job : Job) → IsJobOf words job → (P : Job → Type 0) → ((test : TestJob) → P (jobs.Test test)) → P job
-  alone (jobs.Process fit) again P p = absurd (cc (sym again ∙ asked))
-  alone (jobs.Ranks fit) again P p = absurd (cc (sym again ∙ asked))
-  alone (jobs.Certify fit) again P p = absurd (cc (sym again ∙ asked))
-  alone jobs.Check again P p = absurd (cc (sym again ∙ asked))
   alone (jobs.Test test) again P p = p test
-  alone (jobs.Predict fit) again P p = absurd (cc (sym again ∙ asked))
-  alone (jobs.Path path) again P p = absurd (cc (sym again ∙ asked))
-  alone (jobs.Sample job) again P p = absurd (cc (sym again ∙ asked))
+  alone job again P p = absurd (cc (sym again ∙ asked))
 
   module _ (source source' : Stream) where
     -- so a halt of these words is one of a test
     halted : (halt : Halt) → IsHalted words source source' halt → (job : TestJob) × (bytes : List ℕ) × WereRead words source source' (jobs.Test job) bytes × engine.HasCause (jobs.Test job) bytes halt
-    halted halt h =
-        alone h.job h.read.asked
-        (λ (job : Job). WereRead words source source' job h.bytes → engine.HasCause job h.bytes halt → (test : TestJob) × (bytes : List ℕ) × WereRead words source source' (jobs.Test test) bytes × engine.HasCause (jobs.Test test) bytes halt)
-        (λ test read cause. (test, h.bytes, read, cause)) h.read h.cause
+    halted = only_halted jobs.Test words alone source source'
 
     -- and so is a report
     reported : (report : Report) → IsAnswered words source source' report → (job : TestJob) × (bytes : List ℕ) × WereRead words source source' (jobs.Test job) bytes × IsRight (jobs.Test job) bytes report
-    reported report a =
-        alone a.job a.read.asked
-        (λ (job : Job). WereRead words source source' job a.bytes → IsRight job a.bytes report → (test : TestJob) × (bytes : List ℕ) × WereRead words source source' (jobs.Test test) bytes × IsRight (jobs.Test test) bytes report)
-        (λ test read right. (test, a.bytes, read, right)) a.read a.right
+    reported = only_reported jobs.Test words alone source source'
 
     -- none of them has a certificate
     too_long : (n : ℕ) → ¬ IsHalted words source source' (halts.Refused (refusals.CertTooLong n))

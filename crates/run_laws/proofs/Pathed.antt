@@ -35,6 +35,7 @@ use Rattle.run_laws.specs.Completeness.{HasPathFault, IsAnswer, IsLimitedProblem
 use Rattle.run_laws.specs.NeededOutcomes.{WasPath}
 use Rattle.run_laws.proofs.Answering.{answered_with, no_report, not_too_long}
 use Rattle.run_laws.proofs.Complete.{none_beyond, were_told}
+use Rattle.run_laws.proofs.OnlyJob.{only_halted, only_reported}
 use Rattle.run_laws.proofs.Stopless.{unposed_without}
 
 -- the only report of a path
@@ -56,29 +57,17 @@ no_plain job bytes refusal h = inl h
 module _ (words : List (List ℕ)) (first : PathJob) (asked : IsJobOf words (jobs.Path first)) where
   -- words that ask for a path ask for no other job
   alone : (job : Job) → IsJobOf words job → (P : Job → Type 0) → ((path : PathJob) → P (jobs.Path path)) → P job
-  alone (jobs.Process fit) again P p = absurd (cc (sym again ∙ asked))
-  alone (jobs.Ranks fit) again P p = absurd (cc (sym again ∙ asked))
-  alone (jobs.Certify fit) again P p = absurd (cc (sym again ∙ asked))
-  alone jobs.Check again P p = absurd (cc (sym again ∙ asked))
-  alone (jobs.Test job) again P p = absurd (cc (sym again ∙ asked))
-  alone (jobs.Predict fit) again P p = absurd (cc (sym again ∙ asked))
   alone (jobs.Path path) again P p = p path
-  alone (jobs.Sample job) again P p = absurd (cc (sym again ∙ asked))
+  alone job again P p = absurd (cc (sym again ∙ asked))
 
   module _ (source source' : Stream) where
     -- so a halt of these words is one of a path
     halted : (halt : _) → IsHalted words source source' halt → (job : PathJob) × (bytes : List ℕ) × WereRead words source source' (jobs.Path job) bytes × engine.HasCause (jobs.Path job) bytes halt
-    halted halt h =
-        alone h.job h.read.asked
-        (λ (job : Job). WereRead words source source' job h.bytes → engine.HasCause job h.bytes halt → (path : PathJob) × (bytes : List ℕ) × WereRead words source source' (jobs.Path path) bytes × engine.HasCause (jobs.Path path) bytes halt)
-        (λ path read cause. (path, h.bytes, read, cause)) h.read h.cause
+    halted = only_halted jobs.Path words alone source source'
 
     -- and so is a report
     reported : (report : Report) → IsAnswered words source source' report → (job : PathJob) × (bytes : List ℕ) × WereRead words source source' (jobs.Path job) bytes × IsRight (jobs.Path job) bytes report
-    reported report a =
-        alone a.job a.read.asked
-        (λ (job : Job). WereRead words source source' job a.bytes → IsRight job a.bytes report → (path : PathJob) × (bytes : List ℕ) × WereRead words source source' (jobs.Path path) bytes × IsRight (jobs.Path path) bytes report)
-        (λ path read right. (path, a.bytes, read, right)) a.read a.right
+    reported = only_reported jobs.Path words alone source source'
 
     -- none of them has a certificate
     too_long : (n : ℕ) → ¬ IsHalted words source source' (halts.Refused (refusals.CertTooLong n))
