@@ -1,4 +1,5 @@
-# Times rq.fit.br over all quantiles on the generated tables of process_bench.txt.
+# The best of three times of rq.fit.br over all quantiles on each of the generated tables of process_bench.txt, in milliseconds of a
+# processor: the first call of a session compiles R's own code too.
 library(quantreg)
 
 # The first `count` cells of the generated table of number 1: (z div 65536) mod 1000 for each next z, which is
@@ -19,6 +20,9 @@ for (shape in list(c(100, 5), c(1000, 5), c(2000, 5), c(5000, 4), c(100, 10), c(
     x <- cbind(1, table[, -1])
     # rq.fit.br names its process by the names of the columns.
     colnames(x) <- paste0("x", seq_len(ncol(x)) - 1)
-    spent <- system.time(fit <- rq.fit.br(x, table[, 1], tau = -1))
-    cat(sprintf("R: %d x %d: %.0f ms, %d breakpoints\n", shape[1], shape[2], 1000 * spent[["user.self"]], ncol(fit$sol)))
+    spent <- vapply(1:3, function(turn) {
+        taken <- system.time(fit <<- rq.fit.br(x, table[, 1], tau = -1))
+        taken[["user.self"]] + taken[["sys.self"]]
+    }, 0)
+    cat(sprintf("R: %d x %d: %.0f ms, %d breakpoints\n", shape[1], shape[2], 1000 * min(spent), ncol(fit$sol)))
 }

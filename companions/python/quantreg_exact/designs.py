@@ -1,7 +1,8 @@
 """The design of a fit, read back from the names of its columns.
 
 A report names the columns of its design and leaves their entries out. Where the table stands beside it, each name says what
-its entries are: a numeric column, a level of a factor, a column of a coding, a knot of a smooth, or a product of the first three.
+its entries are: a numeric column, an arithmetic of such, a level of a factor, a column of a coding, a knot of a smooth, or a
+product of the first four.
 """
 
 import csv
@@ -10,14 +11,10 @@ import re
 from dataclasses import dataclass, field
 from fractions import Fraction
 
+from .arithmetics import TOKEN, Arithmetic, Parts, name_of
 from .numbers import is_number_text
 
 _BLANKS = " \t"
-# The tokens of a formula that matter here: names, with or without backticks, numbers, the dot of all columns, and what may open.
-_TOKEN = re.compile(
-    r"`(?P<quoted>[^`]*)`|(?P<name>(?:[A-Za-z]|\.[A-Za-z._])[A-Za-z0-9._]*)|(?:[0-9]+\.?[0-9]*|\.[0-9]+)(?:[eE][+-]?[0-9]+)?"
-    r"|(?P<dot>\.)|(?P<open>\()|[^\s]"
-)
 _KNOT = re.compile(r"qss\((?P<name>.*)\)\[(?P<knot>[^\]]*)\]", re.DOTALL)
 
 
@@ -79,33 +76,45 @@ def _is_numeric(cell):
 
 def response_name(formula):
     """The name of a formula's response, without backticks."""
-    first = _TOKEN.search(formula)
-    return first["name"] or first["quoted"]
+    return name_of(TOKEN.search(formula))
 
 
-def _variables(formula, names):
-    """What a formula's right side may name: the columns as they are, and those in `factor( )`."""
-    tokens = list(_TOKEN.finditer(formula))
+def _variables(tokens, names):
+    """What the tokens of a formula may name on its right side: the columns as they are, and those in `factor( )`."""
     plain, factors = set(), set()
     for at, token in enumerate(tokens[2:], 2):
         opens = at + 2 < len(tokens) and tokens[at + 1]["open"]
         if token["dot"]:
-            plain |= set(names) - {response_name(formula)}
+            plain |= set(names) - {name_of(tokens[0])}
         elif token["name"] == "factor" and opens:
-            factors.add(tokens[at + 2]["name"] or tokens[at + 2]["quoted"])
-        elif token["name"] or token["quoted"] is not None:
-            plain.add(token["name"] or token["quoted"])
+            factors.add(name_of(tokens[at + 2]))
+        elif name_of(token) is not None:
+            plain.add(name_of(token))
     return plain, factors
+
+
+def _value(arithmetic, table, record):
+    return arithmetic.value(lambda name: table.number(record, name))
 
 
 @dataclass(frozen=True)
 class _Variable:
-    """A column of the table as the formula takes it: its label in names, and whether it is a factor."""
+    """A column of the table as the formula takes it: its label in names, and whether it is a factor; or an arithmetic."""
 
     column: str
     label: str
     is_factor: bool
     is_number: bool
+    arithmetic: Arithmetic = None
+
+    @property
+    def columns(self):
+        """The columns of the table that it takes."""
+        return self.arithmetic.names if self.arithmetic else (self.column,)
+
+    def number(self, table, record):
+        """Its number in a record, where it is no factor."""
+        return _value(self.arithmetic, table, record) if self.arithmetic else table.number(record, self.column)
 
     def level(self, table, record):
         """The level of a record's cell: the cell as it stands, or the number that it is."""
@@ -122,7 +131,7 @@ class _Part:
 
     def entry(self, table, record, levels, coding):
         if not self.variable.is_factor:
-            return table.number(record, self.variable.column)
+            return self.variable.number(table, record)
         level = self.variable.level(table, record)
         if level not in levels[self.variable.label]:
             raise ValueError(f"record {record + 1} has a level of {self.variable.column} that the fit lacks: {level!s}")
@@ -144,16 +153,19 @@ class Names:
 
     def __init__(self, fit):
         self.fit, self.table = fit, fit.table
+        self.formula = Parts.of(fit.formula)
         self.candidates = self._candidates()
         self.parts = [self._of_name(name) for name in fit.names]
-        self.variables = list(dict.fromkeys(part.variable.column for parts in self.parts for part in parts))
+        used = [part.variable.columns for parts in self.parts for part in parts] + [it.names for it in self.formula.offsets]
+        self.variables = list(dict.fromkeys(column for columns in used for column in columns))
         self.kept = self.table.kept(fit, self.variables)
         self.levels = self._levels()
 
     def _candidates(self):
         """Each variable that the formula may name, with the suffixes that its columns may have."""
-        plain, factors = _variables(self.fit.formula, self.table.cells)
-        candidates = []
+        plain, factors = _variables(self.formula.tokens, self.table.cells)
+        computed = [_Variable("", f"I({it.text})", False, True, it) for it in self.formula.computed]
+        candidates = [self._candidate(variable) for variable in computed]
         for name in self.table.cells:
             is_number = name in self.table.numeric
             if name in factors:
@@ -218,6 +230,10 @@ class Names:
             row.append(entry)
         return row
 
+    def offset(self, table, record):
+        """What the offsets come to together in a record."""
+        return sum((_value(it, table, record) for it in self.formula.offsets), Fraction(0))
+
 
 @dataclass(frozen=True)
 class _Column:
@@ -226,17 +242,29 @@ class _Column:
     number: int
 
 
+def _records(fit, table):
+    """The records of the fit's own table that were kept; of another one each, or None where a cell that is used is missing."""
+    names = fit.meaning
+    if table is fit.table:
+        return names.kept
+    absent = [name for name in names.variables if name not in table.cells]
+    if absent:
+        raise ValueError(f"the new data have no column {', '.join(absent)}")
+    return [record if table.has(record, names.variables) else None for record in range(table.records)]
+
+
+def offset_values(fit, table):
+    """What the offsets come to together: in each kept record of the fit's own table, of another one a number or None for each."""
+    return [None if record is None else fit.meaning.offset(table, record) for record in _records(fit, table)]
+
+
 def design_rows(fit, table):
     """The rows of the fit's design: of its own table those of the kept records, of another one a row or None for each."""
-    names = fit.meaning
+    rows = [None if record is None else fit.meaning.row(table, record) for record in _records(fit, table)]
     if table is not fit.table:
-        absent = [name for name in names.variables if name not in table.cells]
-        if absent:
-            raise ValueError(f"the new data have no column {', '.join(absent)}")
-        return [names.row(table, it) if table.has(it, names.variables) else None for it in range(table.records)]
-    rows = [names.row(table, record) for record in names.kept]
-    response, segment = table.response(fit), fit.segments[0]
+        return rows
+    response, offsets, segment = table.response(fit), offset_values(fit, table), fit.segments[0]
     for row in (it for it in segment.basis if it <= fit.data):
-        if sum(x * b for x, b in zip(rows[row - 1], segment.coef)) != response[row - 1]:
+        if offsets[row - 1] + sum(x * b for x, b in zip(rows[row - 1], segment.coef)) != response[row - 1]:
             raise ValueError(f"record {row} of the basis is not fitted by the design that was read from the names")
     return rows

@@ -8,7 +8,7 @@ from pathlib import Path
 
 import pandas
 
-from .designs import Names, Table, design_rows
+from .designs import Names, Table, design_rows, offset_values
 from .numbers import as_fraction, number_text
 from .program import run
 from .reports import PathReport, ProcessReport, read_report
@@ -31,23 +31,32 @@ class OfTable:
         Of new data a record has None in place of its row where a cell that is used is missing. Raises ValueError where
         a name of a column can be read in two ways, and where new data have a level that the fit has not.
         """
-        table = self.table if newdata is None else Table.of_bytes(_table_bytes(newdata))
-        return design_rows(self, table)
+        return design_rows(self, self._table_of(newdata))
+
+    def offsets(self, newdata=None):
+        """What the formula's offsets come to together, which the fit takes from the response, as `design` has the rows."""
+        return offset_values(self, self._table_of(newdata))
+
+    def _table_of(self, newdata):
+        return self.table if newdata is None else Table.of_bytes(_table_bytes(newdata))
+
+    def _sums(self, table, place, side):
+        """Entries times coefficients plus the offsets, for each row of `design`."""
+        coef = self.segment_at(place, side).coef
+        both = zip(design_rows(self, table), offset_values(self, table))
+        return [None if row is None else offset + sum(x * b for x, b in zip(row, coef)) for row, offset in both]
 
     def predict(self, newdata, place, side="lower"):
         """The predictions for new data at a place: a fraction for each record, None where a cell is missing."""
-        coef = self.segment_at(place, side).coef
-        rows = self.design(newdata)
-        return [None if row is None else sum(x * b for x, b in zip(row, coef)) for row in rows]
+        return self._sums(self._table_of(newdata), place, side)
 
     def response(self):
-        """The response of each kept record."""
+        """The response of each kept record, as it stands in the table."""
         return self.table.response(self)
 
     def fitted(self, place, side="lower"):
-        """The fitted value of each kept record at a place."""
-        coef = self.segment_at(place, side).coef
-        return [sum(x * b for x, b in zip(row, coef)) for row in self.design()]
+        """The fitted value of each kept record at a place, its offsets included."""
+        return self._sums(self.table, place, side)
 
     def residuals(self, place, side="lower"):
         """The residual of each kept record at a place."""
@@ -89,13 +98,12 @@ class PathFit(OfTable, PathReport):
                     raise ValueError(f"segment {segment.number}, at lambda {lam}: {fault}")
 
     def rows(self):
-        """The rows of records and of penalties: entries, response, and what a unit above and a unit below the fit costs.
+        """The rows of records and of penalties: entries, response less offsets, and what a unit above and a unit below the fit costs.
 
         A cost is a pair: what stays, and what lambda multiplies.
         """
-        weights = self.table.weights(self)
-        data = zip(self.design(), self.response(), weights)
-        rows = [(x, y, (w * self.tau, 0), (w * (1 - self.tau), 0)) for x, y, w in data]
+        data = zip(self.design(), self.response(), self.offsets(), self.table.weights(self))
+        rows = [(x, y - offset, (w * self.tau, 0), (w * (1 - self.tau), 0)) for x, y, offset, w in data]
         for column in range(len(self.names) - self.penalty, len(self.names)):
             entries = [Fraction(column == k) for k in range(len(self.names))]
             rows.append((entries, Fraction(0), (0, 1), (0, 1)))

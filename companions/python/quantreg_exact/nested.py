@@ -21,7 +21,8 @@ def rank_test_of_process(process, full, tested):
     tested = _checked(tested, full)
     others = [column for column in range(len(full.names)) if column + 1 not in tested]
     wilcoxon, design = process.wilcoxon(), full.design()
-    _check_basis(process, [[row[column] for column in others] for row in design], full.response())
+    response = [number - offset for number, offset in zip(full.response(), full.offsets())]
+    _check_basis(process, [[row[column] for column in others] for row in design], response)
     scaled = [[weight * entry for entry in row] for weight, row in zip(full.table.weights(full), design)]
     sums = [_product(column, wilcoxon) for column in zip(*scaled)]
     if any(sums[column] for column in others):

@@ -150,6 +150,8 @@ def plot_fit(fit, x=None, taus=None, *, units=None, width=6.4, height=4.6):
     x = x or (slopes[0] if len(slopes) == 1 else None)
     if slopes != [x]:
         raise ValueError(f"the fit has {len(slopes)} columns beside the intercept; this picture is of one regressor")
+    if any(fit.offsets()):
+        raise ValueError("with offsets the fit is no line; this picture has none")
     at = fit.names.index(x)
     across = [float(row[at]) for row in fit.design()]
     figure, axis = plt.subplots(figsize=(width, height), layout="constrained")

@@ -196,23 +196,23 @@ class ProcessReport(Stretches):
                 return False
         return True
 
-    def steps(self, entries):
+    def steps(self, entries, offset=0):
         """The prediction for one row of the design over the range: a step for each segment.
 
         `entries` has a number for each column, in their order or by their names; the intercept may be left out of the
-        latter.
+        latter. `offset` is what the formula's offsets come to together.
         """
-        row = self._row(entries)
-        return [Step(s.lo, s.hi, sum(x * b for x, b in zip(row, s.coef))) for s in self.segments]
+        row, offset = self._row(entries), as_fraction(offset)
+        return [Step(s.lo, s.hi, sum((x * b for x, b in zip(row, s.coef)), offset)) for s in self.segments]
 
-    def rearranged(self, entries):
+    def rearranged(self, entries, offset=0):
         """The prediction of `steps`, rearranged so that it never falls."""
-        return rearrange(self.steps(entries))
+        return rearrange(self.steps(entries, offset))
 
-    def predict_entries(self, entries, tau, side="lower"):
+    def predict_entries(self, entries, tau, side="lower", offset=0):
         """The prediction for one row of the design at a quantile."""
         row = self._row(entries)
-        return sum(x * b for x, b in zip(row, self.segment_at(tau, side).coef))
+        return sum((x * b for x, b in zip(row, self.segment_at(tau, side).coef)), as_fraction(offset))
 
     def _row(self, entries):
         if hasattr(entries, "keys"):

@@ -12,20 +12,21 @@ verdict <- function(difference, losses, strict) {
 #' The fit of quantreg's rq beside the exact one at each quantile, with the difference of coefficients and of losses.
 #'
 #' A difference is the greatest one of a coefficient, over 1 or its size where that is more. The loss of rq is that of its
-#' coefficients in the design of R. Needs the package quantreg.
+#' coefficients in the design of R. Offsets, which rq passes over, are taken from the response of both. Needs the package quantreg.
 compare_rq <- function(formula, data, tau = 0.5, weights = NULL, program = NULL, method = "br") {
     if (!requireNamespace("quantreg", quietly = TRUE)) stop("the package quantreg is needed", call. = FALSE)
     fit <- rq_exact(formula, data, tau, weights, program = program)
     if (fit$is_process) stop("a comparison is of single quantiles", call. = FALSE)
     design <- design_of(fit)
+    y <- design$y - design$offset
     levels <- fraction_value(fit$tau)
     exact <- as.matrix(fit$coefficients)
     rows <- lapply(seq_along(levels), function(at) {
-        inner <- if (is.null(weights)) quantreg::rq.fit(design$x, design$y, tau = levels[at], method = method)
-            else quantreg::rq.wfit(design$x, design$y, tau = levels[at], weights = design$weight, method = method)
+        inner <- if (is.null(weights)) quantreg::rq.fit(design$x, y, tau = levels[at], method = method)
+            else quantreg::rq.wfit(design$x, y, tau = levels[at], weights = design$weight, method = method)
         theirs <- inner$coefficients
         difference <- max(abs(theirs - exact[, at]) / pmax(1, abs(exact[, at])))
-        losses <- c(fit$loss[at], check_loss(drop(design$y - design$x %*% theirs), levels[at], design$weight))
+        losses <- c(fit$loss[at], check_loss(drop(y - design$x %*% theirs), levels[at], design$weight))
         strict <- is_strict(fit$segments[[at]])
         list(
             coefficients = data.frame(tau = fit$tau[at], column = fit$names, exact = exact[, at], rq = unname(theirs), row.names = NULL),

@@ -1,6 +1,7 @@
 # The fit, as users of R know it.
 
 fit_words <- function(job, formula, options) {
+    check_formula(formula)
     options <- options[!vapply(options, is.null, NA)]
     values <- vapply(options, function(it) paste(vapply(it, number_text, ""), collapse = ","), "")
     c(job, paste0("--formula=", deparse1(formula)), paste0("--", names(options), "=", values, recycle0 = TRUE))

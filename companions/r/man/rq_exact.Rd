@@ -29,7 +29,8 @@ rank_test_exact(formula, data, tested, weights = NULL,
 \method{plot}{rq_exact}(x, columns = x$names, alpha = NULL, mfrow = NULL, ...)
 }
 \arguments{
-\item{formula}{a formula in the profile of quantreg: \code{+ - : * ^ .}, parentheses and \code{factor()}.}
+\item{formula}{a formula in the profile of quantreg: \code{+ - : * ^ .}, parentheses, \code{factor()}, and \code{I()} and \code{offset()}
+with \code{+ - * ^}, numbers and parentheses. A ratio of digits is one number; any other quotient is refused.}
 \item{data}{a data frame, which is written by \code{write.csv}: doubles have 15 digits.}
 \item{tau}{quantiles from 0 to 1 as numbers or as texts such as \code{"1/3"}; one outside stands for all quantiles, as in \code{rq}.}
 \item{lo, hi}{the ends of a range of quantiles, as \code{tau}; for \code{path_exact} those of a range of lambda, above 0.}
@@ -57,7 +58,8 @@ tested columns have coefficients 0: \code{scores} by the names of these columns,
 \code{anova(.., test = "rank", score = "wilcoxon")} of quantreg calls F value, where nothing is tied. A run without a report ends
 with a condition of class \code{quantreg_error}, with \code{status}, \code{line}, \code{group}, \code{name} and \code{fields}.}
 \details{Levels of factors are sorted by bytes. A factor whose levels are numbers is refused: make the column numeric and write
-\code{factor(name)}. Residuals are those of R's \code{model.matrix}, once they are seen to have the loss of the report. Where the program
+\code{factor(name)}. Residuals are those of R's \code{model.matrix}, once they are seen to have the loss of the report;
+offsets are taken from the response and added to fitted values. Where the program
 makes no rank intervals yet, \code{summary} warns with its line and gives the coefficients alone.}
 \examples{
 \dontrun{

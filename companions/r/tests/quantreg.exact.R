@@ -152,6 +152,64 @@ fault <- tryCatch(
 )
 stopifnot(fault$status == 1, fault$name == "NumberTooWide", identical(fault$fields, list(record = "1", column = "a b=\\c")))
 
+# Three of four records lie on the square of x, and the second lies 1 above: the dual values -3/16, 1/2, -3/8 and 1/16 balance 1, x and
+# its square.
+curve <- "quantreg 1
+records 4 dropped 0
+column 1 (Intercept)
+column 2 x
+column 3 I(x^2)
+data 4 penalty 0
+pivots 1
+segment 1 1/2 1/2
+coef 1 0
+coef 2 0
+coef 3 1
+loss 1/2 1/2
+scores *1**
+basic 1 5/16 5/16
+basic 3 1/8 1/8
+basic 4 9/16 9/16
+end
+"
+four <- data.frame(y = c(0, 2, 4, 16), x = c(0, 1, 2, 4))
+program <- fake(strsplit(curve, "\n")[[1]])
+fit <- rq_exact(y ~ x + I(x^2), four, program = program)
+stopifnot(
+    identical(readLines(paste0(program, ".words"))[2], "--formula=y ~ x + I(x^2)"),
+    identical(coef(fit, exact = TRUE), c("(Intercept)" = "0", x = "0", "I(x^2)" = "1")),
+    all.equal(unname(residuals(fit)), c(0, 1, 0, 0)), all.equal(unname(fitted(fit)), c(0, 1, 4, 16))
+)
+# Half of x is 0, 1 and 3, and less twice z the responses are 0, 2 and 3: the line above, at its median. The fourth record lacks z.
+shifted <- data.frame(y = 2, x = c(0, 2, 6, 1), z = c(1, 0, -0.5, NA))
+half <- sub("interval.*end", "end", sub("column 2 x", "column 2 I(1/2 * x)", sub("dropped 0", "dropped 1", sub("0 3/5\nscores", "1/2 1/2\nscores", line))))
+half <- sub("segment 1 0 3/5", "segment 1 1/2 1/2", sub("segment 2.*end", "end", half))
+half <- sub("basic 3 1 1/5", "basic 3 1/3 1/3", sub("basic 1 1 0", "basic 1 1/6 1/6", half))
+program <- fake(strsplit(half, "\n")[[1]])
+fit <- rq_exact(y ~ I(0.5 * x) + offset(2 * z), shifted, program = program)
+stopifnot(
+    identical(readLines(paste0(program, ".words"))[2], "--formula=y ~ I(0.5 * x) + offset(2 * z)"),
+    identical(readLines(paste0(program, ".table")), c("\"y\",\"x\",\"z\"", "2,0,1", "2,2,0", "2,6,-0.5", "2,1,NA")),
+    identical(names(coef(fit)), c("(Intercept)", "I(1/2 * x)")), identical(fit$exact_loss, "1/2"),
+    all.equal(unname(residuals(fit)), c(0, 1, 0)), all.equal(unname(fitted(fit)), c(2, 1, 2))
+)
+# R and the program read these alike.
+for (formula in list(y ~ I(1/2 * x) + offset(2 * z), y ~ I(2/4 * x) + offset(z) + offset((z)), y ~ I(x * 0.5) + offset(3 * z) + offset(-z))) {
+    fit$formula <- formula
+    fit$names[2] <- names(fit$coefficients)[2] <- if ("I(x * 0.5)" %in% attr(terms(formula), "term.labels")) "I(x * 1/2)" else "I(1/2 * x)"
+    stopifnot(all.equal(unname(residuals(fit)), c(0, 1, 0)))
+}
+# A quotient of columns has no meaning for the program, and of these numbers another one.
+for (wrong in list(y ~ I(x/2), y ~ I(3/2^2 * x), y ~ offset(1/x), y ~ x:I((x + 1)/2), y ~ I(x * 3/2))) {
+    fault <- tryCatch(rq_exact(wrong, four, program = program), error = conditionMessage)
+    stopifnot(grepl("no division", fault))
+}
+fault <- tryCatch(rq_exact(y ~ offset(x) + offset(2 * x) + offset(x), four, program = program), error = conditionMessage)
+stopifnot(grepl("of equal offsets, as offset(x),", fault, fixed = TRUE))
+# Another offset than that of the fit has another loss.
+fit$formula <- y ~ I(0.5 * x) + offset(3 * z)
+stopifnot(inherits(try(residuals(fit), silent = TRUE), "try-error"))
+
 if (!nzchar(Sys.getenv("QUANTREG"))) {
     cat("skipped: fits by the program, which QUANTREG doesn't name\n")
     quit(status = 0)
@@ -177,6 +235,18 @@ for (wrong in list(data.frame(y = 1:2, f = factor(1:2)), data.frame(y = c(1, Inf
     stopifnot(inherits(try(rq_exact(y ~ f, wrong), silent = TRUE), "try-error"))
 }
 stopifnot(identical(ranks_exact(y ~ x, three)$exact, c("-1/5", "3/10", "-1/10")))
+fit <- rq_exact(y ~ x + I(x^2), four)
+stopifnot(identical(unname(coef(fit, exact = TRUE)), c("0", "0", "1")), all.equal(unname(residuals(fit)), c(0, 1, 0, 0)))
+fit <- rq_exact(y ~ I(0.5 * x) + offset(2 * z), shifted)
+stopifnot(
+    identical(coef(fit, exact = TRUE), c("(Intercept)" = "0", "I(1/2 * x)" = "1")), fit$dropped == 1,
+    all.equal(unname(residuals(fit)), c(0, 1, 0)), all.equal(unname(fitted(fit)), c(2, 1, 2))
+)
+# Less their offsets the responses are 0, 2 and 1, and the median 1 has the offset 5 added.
+asked <- predictions_exact(y ~ offset(x), data.frame(y = c(1, 3, 2, NA), x = c(1, 1, 1, 5)), lo = "1/2", hi = "1/2")
+stopifnot(identical(asked$exact$value, c("6", "6")))
+fault <- tryCatch(rq_exact(y ~ I(f + 1), data.frame(y = 1:2, f = c("a", "b"))), quantreg_error = identity)
+stopifnot(fault$status == 1, fault$name == "ArithNotNumeric", identical(fault$fields, list(name = "f")))
 asked <- predictions_exact(y ~ x, data.frame(y = c(0, 2, 3, NA, NA), x = c(0, 1, 3, 4, -1)))
 stopifnot(identical(asked$exact, predicted), identical(asked$steps$value, c(4, 3.5, 3.5, 4, -1, 1, -1, 1)))
 stopifnot(identical(path_exact(y ~ x, three, tau = 0.5, lo = 0.25, hi = 2), bent))
@@ -218,6 +288,11 @@ stopifnot(inherits(try(plot(median), silent = TRUE), "try-error"))
 if (requireNamespace("quantreg", quietly = TRUE)) {
     both <- compare_rq(stack.loss ~ ., stackloss, c(0.25, 0.5))
     stopifnot(both$summary$verdict == "same", both$summary$difference < 1e-9, nrow(both$coefficients) == 8)
+    # A curve, and a known slope, which rq itself passes over.
+    for (formula in list(dist ~ speed + I(speed^2), dist ~ I(0.5 * speed) + offset(2 * speed))) {
+        found <- compare_rq(formula, cars, c(0.25, 0.5, 0.75))
+        stopifnot(found$summary$verdict %in% c("same", "not unique: both losses agree"))
+    }
     # At 1/2 of two records any value between them has the same loss.
     two <- compare_rq(y ~ 1, data.frame(y = c(1, 2, 3, 4)))
     stopifnot(two$summary$verdict %in% c("same", "not unique: both losses agree"))

@@ -2,16 +2,17 @@
 use Rattle.std.specs.Cmp.{IsTotalOrder}
 use Rattle.std.specs.List.{cons_option, list_any}
 use Rattle.std.specs.Option.{option_map_or}
-use Rattle.std.proofs.Common.{◌≡◌, ◌+◌, ◌++◌, ℕ, not, Bool, true, false, List, [], ◌∷◌, Option, Some, None, is_eq, Ordering, map, refl, sym, ap, ◌∙◌}
+use Rattle.std.proofs.Common.{◌≡◌, ◌+◌, ◌++◌, ◌&&◌, ℕ, is_none, not, Bool, true, false, List, [], ◌∷◌, Option, Some, None, is_eq, Ordering, map, refl, sym, ap, ◌∙◌}
 use Rattle.std.proofs.lemmas.List.Elements.{filter_map-append}
 use Rattle.contrasts.specs.declared.Coding.{Coding}
 use Rattle.data_frame.specs.Cells.{numbers, factor, too_wide}
+use Rattle.frac_core.specs.declared.arith.Arith.{Arith}
 use Rattle.formula_parser.specs.declared.formula.Formula.{Formula}
 use Rattle.formula_parser.specs.declared.formula.Term.{Term}
 use Rattle.formula_parser.specs.declared.formula.Variable.{Variable}
 use Rattle.design_matrix.specs.declared.fault.DesignFault.TheVariants.{UnknownLevel}
 use Rattle.design_matrix.specs.Cells.{Column, Table, cell_of, column_of, present}
-use Rattle.design_matrix.specs.CodedVariable.{categorical, coded_term, coded_terms, coded_variable, coding_of, printed_name, values_in}
+use Rattle.design_matrix.specs.CodedVariable.{categorical, coded_term, coded_terms, coded_variable, coding_of, printed_name, values_by, values_in}
 use Rattle.design_matrix.specs.Faults.{terms_fault}
 use Rattle.design_matrix.specs.Levels.{levels_of, number_order, number_text, put_all, text_order}
 use Rattle.design_matrix.specs.Lists.{first_some}
@@ -48,12 +49,17 @@ module _ (table : Table) (model : Formula) (coding : Coding) (records : List ℕ
   values_alike false (numbers cells) h = refl
   values_alike as_factor (too_wide rec) h = refl
 
+  by_alike : (v : Variable) (o : Option Arith) → (is_none o && is_unknown v.as_factor (column_of table v.name) records i) ≡ false
+      → bare_values (values_by table v o (records ++ i ∷ [])) ≡ bare_values (values_by table v o records)
+  by_alike v None h = values_alike v.as_factor (column_of table v.name) h
+  by_alike v (Some a) h = refl
+
   variable_alike : (number : ℕ) (vs : List Variable) (place : ℕ) (v : Variable) → unknown_fault table records i v ≡ None
       → bare (coded_variable table model coding (records ++ i ∷ []) number vs place v) ≡ bare (coded_variable table model coding records number vs place v)
   unfolding coded_variable
   variable_alike number vs place v h =
       ap (λ s. record { name = printed_name v.as_factor v.name; coding = coding_of table model coding number vs place; values = s })
-      (values_alike v.as_factor (column_of table v.name) (if_none _ (UnknownLevel (i + 1) (printed_name v.as_factor v.name)) h))
+      (by_alike v v.arith (if_none _ (UnknownLevel (i + 1) (printed_name v.as_factor v.name)) h))
 
   term_alike : (number : ℕ) (t : Term) → first_some (unknown_fault table records i) t.variables ≡ None
       → map bare (coded_term table model coding (records ++ i ∷ []) number t) ≡ map bare (coded_term table model coding records number t)

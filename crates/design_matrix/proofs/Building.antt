@@ -29,29 +29,29 @@ use Rattle.design_matrix.proofs.Usable.{terms_few, terms_usable}
 
 made_is : (table : Table) (model : Formula) (coding : Coding) (weights : Option Column) (records : List ℕ) (columns : List (List Part)) (response : Column) (d : Design)
     → columns ≡ columns_of table model coding records → response ≡ column_of table model.response
-    → d.names ≡ map column_name columns → map exact_row d.rows ≡ each (row_of response weights columns) 0 records → d.dropped ≡ table.records - length records
+    → d.names ≡ map column_name columns → map exact_row d.rows ≡ each (row_of table response model.offsets weights columns) 0 records → d.dropped ≡ table.records - length records
     → exact_design d ≡ design_of table model coding weights records
 unfolding design_of
 made_is table model coding weights records columns response d p r e f g =
     let names = e ∙ ap (map column_name) p in
     let rows = f
-    ∙ ap (λ x. each (row_of x weights columns) 0 records) r
-    ∙ ap (λ x. each (row_of (column_of table model.response) weights x) 0 records) p in
+    ∙ ap (λ x. each (row_of table x model.offsets weights columns) 0 records) r
+    ∙ ap (λ x. each (row_of table (column_of table model.response) model.offsets weights x) 0 records) p in
     λ i. record { names = names i; rows = rows i; dropped = g i }
 
 pub made : (table : Table) (model : Formula) (coding : Coding) (weights : Option Column) (records : List ℕ) (columns : List (List Part)) (response : Column) (d : Design)
     → columns ≡ columns_of table model coding records → response ≡ column_of table model.response
-    → d.names ≡ map column_name columns → map exact_row d.rows ≡ each (row_of response weights columns) 0 records → d.dropped ≡ table.records - length records
-    → AllFit columns records → HasDesign table model coding weights records d
+    → d.names ≡ map column_name columns → map exact_row d.rows ≡ each (row_of table response model.offsets weights columns) 0 records → d.dropped ≡ table.records - length records
+    → AllFit table model columns records → HasDesign table model coding weights records d
 made table model coding weights records columns response d p r e f g fits =
-    let P : List (List Part) → Type 0 = λ x. AllFit x records in
+    let P : List (List Part) → Type 0 = λ x. AllFit table model x records in
     record { exact = made_is table model coding weights records columns response d p r e f g; fits = subst P p fits }
 
 pub overflowed : (table : Table) (model : Formula) (coding : Coding) (records : List ℕ) (columns : List (List Part)) (fault : DesignFault) (s : Spill Frac128)
-    → columns ≡ columns_of table model coding records → fault ≡ Overflow s → OverflowsFirst columns records s
+    → columns ≡ columns_of table model coding records → fault ≡ Overflow s → OverflowsFirst table model columns records s
     → IsOverflow table model coding records fault
 overflowed table model coding records columns fault s p e o =
-    let P : List (List Part) → Type 0 = λ x. OverflowsFirst x records s in
+    let P : List (List Part) → Type 0 = λ x. OverflowsFirst table model x records s in
     record { spill = s; is = e; first = subst P p o }
 
 pub seen_columns : (table : Table) (model : Formula) (coding : Coding) (records : List ℕ) (columns : List (List Part)) (terms : List (List CodedVariable))

@@ -1,4 +1,6 @@
 pub mod Puts
+pub mod Evaluable
+pub mod Responses
 pub mod Steps
 pub mod Bounds
 pub mod Same

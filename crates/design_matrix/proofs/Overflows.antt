@@ -1,9 +1,11 @@
 -- The first product of a row, and of rows, that overflows.
-use Rattle.std.proofs.Common.{◌≡◌, ◌<◌, ℕ, zero, suc, ◌+◌, List, [], ◌∷◌, length, map, take, get_or, refl, sym, ap, ◌∙◌, arith, subst}
+use Rattle.std.proofs.Common.{◌≡◌, ◌<◌, ℕ, zero, suc, List, [], ◌∷◌, length, map, take, get_or, refl, sym, ap, ◌∙◌, arith, subst}
 use Rattle.std.proofs.lemmas.List.{get_or-map, length-map, take-map}
 use Rattle.frac_core.specs.declared.frac128.Frac128.{Frac128}
 use Rattle.loss_model.specs.declared.spill.Spill.{Spill}
-use Rattle.design_matrix.specs.Designs.{OverflowsFirst, OverflowsInColumn, OverflowsInRow, RowFits}
+use Rattle.design_matrix.specs.Designs.{OverflowsFirst, OverflowsInColumn, OverflowsInRecord, OverflowsInRow, RecordFits, RowFits}
+use Rattle.formula_parser.specs.declared.formula.Formula.{Formula}
+use Rattle.design_matrix.specs.Cells.{Table}
 use Rattle.design_matrix.specs.Parts.{Part}
 
 pub in_row : {X : Type 0} (told : X → List Part) (columns : List X) (i : ℕ) (x : X) (place rec : ℕ) (s : Spill Frac128) → i < length columns
@@ -20,12 +22,12 @@ in_row told columns i x place rec s h e fits o =
       before = subst Q (sym (take-map told i columns)) fits;
     }
 
-pub first_row : (columns : List (List Part)) (records : List ℕ) (place index : ℕ) (s : Spill Frac128) → place < length records
-    → index ≡ get_or records place 0 → ((q : ℕ) → q < place → RowFits columns q) → OverflowsInRow columns place (index + 1) s
-    → OverflowsFirst columns records s
-first_row columns records place index s h e fits o =
-    let P : ℕ → Type 0 = λ r. OverflowsInRow columns place (r + 1) s in
-    record { place = place; there = h; row = subst P e o; before = fits }
+pub first_record : (table : Table) (model : Formula) (columns : List (List Part)) (records : List ℕ) (place index : ℕ) (s : Spill Frac128) → place < length records
+    → index ≡ get_or records place 0 → ((q : ℕ) → q < place → RecordFits table model columns q (get_or records q 0)) → OverflowsInRecord table model columns place index s
+    → OverflowsFirst table model columns records s
+first_record table model columns records place index s h e fits o =
+    let P : ℕ → Type 0 = λ i. OverflowsInRecord table model columns place i s in
+    record { place = place; there = h; here = subst P e o; before = fits }
 
 pub any_default : {A : Type 0} (xs : List A) (i : ℕ) (d e : A) → i < length xs → get_or xs i d ≡ get_or xs i e
 any_default [] i d e h = absurd (omega arith)

@@ -15,13 +15,14 @@ use Rattle.formula_parser.specs.declared.formula.Formula.{Formula}
 use Rattle.formula_parser.specs.declared.formula.Variable.{Variable}
 use Rattle.design_matrix.specs.declared.design.Design.{Design}
 use Rattle.design_matrix.specs.declared.fault.DesignFault.TheVariants.{UnknownLevel}
+use Rattle.frac_core.specs.declared.arith.Arith.{Arith}
 use Rattle.design_matrix.specs.Cells.{Column, Table, column_of, is_complete, is_kept, is_present, kept, predictor_names, used_names, weight_sign, weights_in}
 use Rattle.design_matrix.specs.CodedVariable.{coded_terms, printed_name}
 use Rattle.design_matrix.specs.Designs.{RowOf, exact_row, row_of}
 use Rattle.design_matrix.specs.Faults.{IsDesign, terms_fault}
 use Rattle.design_matrix.specs.Lists.{each}
 use Rattle.design_matrix.specs.Parts.{Part, column_name, columns_of}
-use Rattle.design_matrix.specs.Predicted.{columns_with, is_predicted, is_unknown, kept_in, predicted, unknown_fault, unknown_level}
+use Rattle.design_matrix.specs.Predicted.{columns_with, is_predicted, kept_in, lacks_entry, predicted, unknown_fault, unknown_level}
 use Rattle.design_matrix.proofs.Behind.{faults_alike, names_alike}
 use Rattle.design_matrix.proofs.Lengths.{filtered_below}
 use Rattle.design_matrix.proofs.Shapes.{columns, names_are, rows_are, shaped}
@@ -94,11 +95,12 @@ fewer_kept table model weights rec is =
 abbrev index_in : RowOf → ℕ
 index_in row = row.rec - 1
 
-indices : (response : Column) (weights : Option Column) (cs : List (List Part)) (k : ℕ) (records : List ℕ) → map index_in (each (row_of response weights cs) k records) ≡ records
-indices response weights cs k [] = refl
-indices response weights cs k (i ∷ is) =
-    ap (λ j. j ∷ map index_in (each (row_of response weights cs) (k + 1) is)) (let same : i + 1 - 1 ≡ i = omega arith in same)
-    ∙ ap (λ l. i ∷ l) (indices response weights cs (k + 1) is)
+indices : (table : Table) (response : Column) (offsets : List Arith) (weights : Option Column) (cs : List (List Part)) (k : ℕ) (records : List ℕ)
+    → map index_in (each (row_of table response offsets weights cs) k records) ≡ records
+indices table response offsets weights cs k [] = refl
+indices table response offsets weights cs k (i ∷ is) =
+    ap (λ j. j ∷ map index_in (each (row_of table response offsets weights cs) (k + 1) is)) (let same : i + 1 - 1 ≡ i = omega arith in same)
+    ∙ ap (λ l. i ∷ l) (indices table response offsets weights cs (k + 1) is)
 
 module _ (table : Table) (model : Formula) (coding : Coding) (weights : Option Text) (design : Design) (is : IsDesign table model coding weights design) where
   -- the records of the rows are those that are kept
@@ -106,7 +108,7 @@ module _ (table : Table) (model : Formula) (coding : Coding) (weights : Option T
   kept_are =
       sym (map_map index_in exact_row design.rows)
       ∙ ap (map index_in) (rows_are table model coding weights design is)
-      ∙ indices (column_of table model.response) (weights_in table weights) (columns_of table model coding (kept table model weights)) 0 (kept table model weights)
+      ∙ indices table (column_of table model.response) model.offsets (weights_in table weights) (columns_of table model coding (kept table model weights)) 0 (kept table model weights)
 
   -- a predicted record behind them leaves them no more than the records of the table
   pub few_behind : (rec : ℕ) (all : List ℕ) → IsAsked table model rec → all ≡ kept_in design ++ (rec - 1) ∷ [] → length all ≤ table.records
@@ -149,11 +151,11 @@ behind P records all i e h =
 
 -- a variable's cell is no level, or is one
 
-pub unknown_found : (table : Table) (records : List ℕ) (i : ℕ) (v : Variable) (name : Text) → is_unknown v.as_factor (column_of table v.name) records i ≡ true
+pub unknown_found : (table : Table) (records : List ℕ) (i : ℕ) (v : Variable) (name : Text) → lacks_entry table records i v ≡ true
     → name ≡ printed_name v.as_factor v.name → unknown_fault table records i v ≡ Some (UnknownLevel (i + 1) name)
 unknown_found table records i v name e f =
     ap (λ b. cond b (Some (UnknownLevel (i + 1) (printed_name v.as_factor v.name))) None) e ∙ ap (λ n. Some (UnknownLevel (i + 1) n)) (sym f)
 
-pub unknown_none : (table : Table) (records : List ℕ) (i : ℕ) (v : Variable) → is_unknown v.as_factor (column_of table v.name) records i ≡ false
+pub unknown_none : (table : Table) (records : List ℕ) (i : ℕ) (v : Variable) → lacks_entry table records i v ≡ false
     → unknown_fault table records i v ≡ None
 unknown_none table records i v e = ap (λ b. cond b (Some (UnknownLevel (i + 1) (printed_name v.as_factor v.name))) None) e

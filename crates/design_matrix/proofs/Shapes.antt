@@ -20,7 +20,8 @@ use Rattle.design_matrix.specs.declared.fault.DesignFault.TheVariants.{NegativeW
 use Rattle.design_matrix.specs.Cells.{Column, Table, column_of, is_complete, is_kept, kept, used_names, weight_at, weight_sign, weights_in}
 use Rattle.design_matrix.specs.CodedVariable.{CodedVariable, coded_term, coded_terms, width}
 use Rattle.design_matrix.specs.Designs.{design_of, exact_row, row_of}
-use Rattle.design_matrix.specs.Faults.{IsDesign, columns_fault, empty_fault, factor_fault, fault_of, lacks_columns, late_fault, level_fault, levels_fault, name_fault, rows_fault, terms_fault, used_fault, weight_fault, weights_fault, widths_fault}
+use Rattle.formula_parser.specs.Held.{ariths_of}
+use Rattle.design_matrix.specs.Faults.{ariths_fault, IsDesign, columns_fault, empty_fault, factor_fault, fault_of, lacks_columns, late_fault, level_fault, levels_fault, name_fault, rows_fault, terms_fault, used_fault, weight_fault, weights_fault, widths_fault}
 use Rattle.design_matrix.specs.Lists.{each, first_some}
 use Rattle.design_matrix.specs.Parts.{column_name, columns_in, columns_of, count, factors, term_columns}
 use Rattle.design_matrix.specs.Products.{product}
@@ -62,7 +63,8 @@ module _ (table : Table) (model : Formula) (coding : Coding) (weights : Option T
       let first = first_none (option_and_then (name_fault table) weights) _ used in
       let second = first_none (factor_fault ResponseNotNumeric (column_of table model.response)) _ first.1 in
       let third = first_none (option_and_then (factor_fault WeightNotNumeric) (weights_in table weights)) _ second.1 in
-      (first_none (widths_fault table (used_names model weights)) _ third.1).1
+      let fourth = first_none (ariths_fault table (ariths_of model)) _ third.1 in
+      (first_none (widths_fault table (used_names model weights)) _ fourth.1).1
 
   parts : (rows_fault (kept table model weights) ≡ None) × (late_fault table model coding (kept table model weights) ≡ None)
   unfolding fault_of
@@ -177,7 +179,7 @@ module _ (table : Table) (model : Formula) (coding : Coding) (weights : Option T
   names_are = ap (λ d. d.names) is.design_is.exact
 
   pub rows_are : map exact_row design.rows
-      ≡ each (row_of (column_of table model.response) (weights_in table weights) (columns_of table model coding (kept table model weights))) 0 (kept table model weights)
+      ≡ each (row_of table (column_of table model.response) model.offsets (weights_in table weights) (columns_of table model coding (kept table model weights))) 0 (kept table model weights)
   unfolding design_of
   rows_are = ap (λ d. d.rows) is.design_is.exact
 
@@ -187,7 +189,7 @@ module _ (table : Table) (model : Formula) (coding : Coding) (weights : Option T
   rows_there : 1 ≤ length design.rows
   rows_there =
       let cs = columns_of table model coding (kept table model weights) in
-      let same = each_length exact_row (row_of (column_of table model.response) (weights_in table weights) cs) design.rows (kept table model weights) rows_are in
+      let same = each_length exact_row (row_of table (column_of table model.response) model.offsets (weights_in table weights) cs) design.rows (kept table model weights) rows_are in
       by (length design.rows) (λ e. no_rows table model coding weights is.sound (sym same ∙ e))
     where
       by : (n : ℕ) → (n ≡ 0 → ⊥) → 1 ≤ n
@@ -198,7 +200,7 @@ module _ (table : Table) (model : Formula) (coding : Coding) (weights : Option T
   entries_there k d l =
       let cs = columns_of table model coding (kept table model weights) in
       let entries = unmapped (λ q. length q.x ≡ length cs) exact_row design.rows _ rows_are
-      (each_all (λ q. length q.x ≡ length cs) (row_of (column_of table model.response) (weights_in table weights) cs) 0 (kept table model weights) (λ x. x ≡ x)
+      (each_all (λ q. length q.x ≡ length cs) (row_of table (column_of table model.response) model.offsets (weights_in table weights) cs) 0 (kept table model weights) (λ x. x ≡ x)
       (λ _ _ _. refl) (λ j x _. length-map cs (λ column. product (factors column j)))) in
       sym (length-map (get_or design.rows k d).x exact) ∙ entries k d l ∙ sym length_names
 
@@ -206,7 +208,7 @@ module _ (table : Table) (model : Formula) (coding : Coding) (weights : Option T
   weights_above =
       let cs = columns_of table model coding (kept table model weights) in
       unmapped (λ q. cmp_ℚ (whole (pos 0)) q.weight ≡ Less) exact_row design.rows _ rows_are
-      (each_all (λ q. cmp_ℚ (whole (pos 0)) q.weight ≡ Less) (row_of (column_of table model.response) (weights_in table weights) cs) 0 (kept table model weights)
+      (each_all (λ q. cmp_ℚ (whole (pos 0)) q.weight ≡ Less) (row_of table (column_of table model.response) model.offsets (weights_in table weights) cs) 0 (kept table model weights)
       (λ i. cmp_ℚ (whole (pos 0)) (weight_at (weights_in table weights) i) ≡ Less) (kept_above table model coding weights is.sound) (λ j x h. h))
 
   pub shaped : IsShaped model design

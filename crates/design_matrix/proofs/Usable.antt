@@ -11,7 +11,7 @@ use Rattle.contrasts.specs.declared.Coding.TheVariants.{Treatment, Sas, Sum, Hel
 use Rattle.contrasts.specs.Coding.{width_of}
 use Rattle.design_matrix.specs.declared.coded.CodedVariable.{CodedVariable as Held}
 use Rattle.design_matrix.specs.declared.coded.Values.{Values}
-use Rattle.design_matrix.specs.declared.coded.Values.TheVariants.{Numbers, Levels}
+use Rattle.design_matrix.specs.declared.coded.Values.TheVariants.{Numbers, Levels, Computed}
 use Rattle.design_matrix.specs.CodedVariable.{CodedVariable, width, width_in}
 use Rattle.design_matrix.specs.declared.fault.DesignFault.TheVariants.{OneLevel}
 use Rattle.design_matrix.specs.Faults.{level_fault, levels_fault}
@@ -49,6 +49,7 @@ has_width v e = at (nat_eq (width v) 0) refl
 width_same : (coding : Coding) (values : Values) → width_in coding (values_seen values) ≡ width_held coding values
 width_same coding (Numbers cells records) = refl
 width_same coding (Levels levels) = refl
+width_same coding (Computed values) = refl
 
 width_near : (coding : Coding) (n : ℕ) → n ≤ width_of coding n + 1
 width_near Treatment n = omega arith
@@ -60,6 +61,7 @@ width_near Indicator n = omega arith
 levels_near : (coding : Coding) (values : Values) → levels_held values ≤ width_held coding values + 1
 levels_near coding (Numbers cells records) = omega arith
 levels_near coding (Levels levels) = width_near coding (length levels.texts.items)
+levels_near coding (Computed values) = omega arith
 
 product_some : (a b : ℕ) → 1 ≤ a → 1 ≤ b → 1 ≤ a * b
 product_some a b h k = let p : a * 1 ≤ a * b = mul-le-mul_left a k in omega arith

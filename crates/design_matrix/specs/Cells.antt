@@ -11,7 +11,9 @@ use Rattle.data_frame.specs.Cells.{ColumnOf, numbers, factor, too_wide}
 use Rattle.data_frame.specs.Records.{Text}
 use Rattle.data_frame.specs.Tables.{TableOf, column_named}
 use Rattle.data_frame.specs.Views.{exact}
+use Rattle.frac_core.specs.declared.arith.Arith.{Arith}
 use Rattle.formula_parser.specs.declared.formula.Formula.{Formula}
+use Rattle.formula_parser.specs.declared.formula.Term.{Term}
 
 -- a table as the program holds it
 abbrev pub Table : Type 0
@@ -49,9 +51,18 @@ number_at (too_wide rec) i = whole (pos 0)
 abbrev pub present : {K : Type 0} → List (Option K) → List ℕ → List K
 present cells records = filter_map (cell_of cells) records
 
--- the names of the columns that explain: the variables by terms and then by variables, and the smooths
+-- the name of a variable's column, or the names of its arithmetic
+abbrev pub names_by : Text → Option Arith → List Text
+names_by name None = name ∷ []
+names_by name (Some a) = a.names
+
+-- the names of the columns of a term's variables
+abbrev pub term_names : Term → List Text
+term_names t = flat_map (λ v. names_by v.name v.arith) t.variables
+
+-- the names of the columns that explain: the variables by terms and then by variables, the offsets, and the smooths
 abbrev pub predictor_names : Formula → List Text
-predictor_names model = flat_map (λ t. map (λ v. v.name) t.variables) model.terms ++ map (λ s. s.name) model.smooths
+predictor_names model = flat_map term_names model.terms ++ (flat_map (λ a. a.names) model.offsets ++ map (λ s. s.name) model.smooths)
 
 -- the names of the columns that are used: the response, the weights, and those that explain
 unfoldable pub used_names : Formula → Option Text → List Text

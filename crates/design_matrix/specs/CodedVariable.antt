@@ -1,6 +1,6 @@
 -- Stated. The variables of terms with their values at the kept records and their codings (Chambers and Hastie 1992,
 -- chapter 2; the rule for terms of two or more variables is this project's own).
-use Rattle.std.specs.Prelude.{◌==◌, ℕ, ◌+◌, ◌++◌, ◌&&◌, ◌||◌, Bool, true, false, List, [], ◌∷◌, codes, length, map, take, drop, if◌then◌else◌}
+use Rattle.std.specs.Prelude.{◌==◌, ℕ, ◌+◌, ◌++◌, ◌&&◌, ◌||◌, Bool, true, false, List, [], ◌∷◌, Option, Some, None, is_none, is_some, codes, length, map, take, drop, if◌then◌else◌}
 use Rattle.std.specs.List.{list_all, list_any}
 use Rattle.std.specs.Str.{bytes_eq}
 use Rattle.std.specs.declared.cmp.Ordering.{Ordering}
@@ -14,6 +14,8 @@ use Rattle.formula_parser.specs.declared.formula.Variable.{Variable}
 use Rattle.formula_parser.specs.declared.formula.Term.{Term}
 use Rattle.formula_parser.specs.declared.formula.Formula.{Formula}
 use Rattle.design_matrix.specs.Lists.{each}
+use Rattle.frac_core.specs.declared.arith.Arith.{Arith}
+use Rattle.design_matrix.specs.Computed.{arith_at}
 use Rattle.design_matrix.specs.Cells.{Column, Table, column_of, number_in, present}
 use Rattle.design_matrix.specs.Levels.{level_of, levels_of, number_order, number_text, text_order}
 
@@ -40,6 +42,11 @@ values_in true (numbers cells) records = factor_values number_order number_text 
 values_in false (numbers cells) records = numeric (map (number_in cells) records)
 values_in as_factor (too_wide rec) records = numeric []
 
+-- the values of a variable: those of its column, or what its arithmetic comes to
+abbrev pub values_by : Table → Variable → Option Arith → List ℕ → Values
+values_by table v None records = values_in v.as_factor (column_of table v.name) records
+values_by table v (Some a) records = numeric (map (arith_at table a) records)
+
 -- the name of a variable in names of columns: factor(NAME) where `factor` was written
 abbrev pub printed_name : Bool → Text → Text
 printed_name true name = codes "factor(" ++ (name ++ codes ")")
@@ -51,9 +58,9 @@ is_text (numbers cells) = false
 is_text (factor cells) = true
 is_text (too_wide rec) = false
 
--- the column is a factor, or `factor` was written
+-- the column is a factor, or `factor` was written; an arithmetic is none
 unfoldable pub is_factor : Table → Variable → Bool
-is_factor table v = v.as_factor || is_text (column_of table v.name)
+is_factor table v = is_none v.arith && (v.as_factor || is_text (column_of table v.name))
 
 -- both are true, or both false
 abbrev pub same_bool : Bool → Bool → Bool
@@ -61,9 +68,9 @@ same_bool true b = b
 same_bool false true = false
 same_bool false false = true
 
--- of the same column, and both or neither written with `factor`
+-- of the same name, and both or neither an arithmetic, or written with `factor`
 abbrev pub same_variable : Variable → Variable → Bool
-same_variable v w = bytes_eq v.name w.name && same_bool v.as_factor w.as_factor
+same_variable v w = bytes_eq v.name w.name && (same_bool v.as_factor w.as_factor && same_bool (is_some v.arith) (is_some w.arith))
 
 -- the same variables in the same order
 abbrev pub same_variables : List Variable → List Variable → Bool
@@ -102,7 +109,7 @@ unfoldable pub coded_variable : Table → Formula → Coding → List ℕ → �
 coded_variable table model contrasts records number vs place v = record {
   name = printed_name v.as_factor v.name;
   coding = coding_of table model contrasts number vs place;
-  values = values_in v.as_factor (column_of table v.name) records;
+  values = values_by table v v.arith records;
 }
 
 -- the variables of the term of this number, each at its place

@@ -10,13 +10,17 @@ use Rattle.loss_model.specs.declared.spill.Spill.{Spill}
 use Rattle.data_frame.specs.Cells.{numbers, factor, too_wide}
 use Rattle.data_frame.specs.Records.{Text}
 use Rattle.data_frame.specs.Tables.{column_named}
+use Rattle.frac_core.specs.declared.arith.Arith.{Arith}
+use Rattle.formula_arith.specs.declared.fault.ArithFault.{ArithFault}
+use Rattle.formula_arith.specs.declared.fault.ArithFault.TheVariants as arith_fault
+use Rattle.formula_parser.specs.Held.{ariths_of}
 use Rattle.formula_parser.specs.declared.formula.Formula.{Formula}
 use Rattle.design_matrix.specs.declared.design.Design.{Design}
 use Rattle.design_matrix.specs.declared.fault.DesignFault.{DesignFault}
-use Rattle.design_matrix.specs.declared.fault.DesignFault.TheVariants.{OutOfMemory, UnknownWeights, ResponseNotNumeric, WeightNotNumeric, NumberTooWide, NegativeWeight, NoRows, OneLevel, NoColumns, TooManyColumns, Overflow}
+use Rattle.design_matrix.specs.declared.fault.DesignFault.TheVariants.{OutOfMemory, UnknownWeights, ResponseNotNumeric, WeightNotNumeric, ArithNotNumeric, NumberTooWide, NegativeWeight, NoRows, OneLevel, NoColumns, TooManyColumns, Overflow}
 use Rattle.design_matrix.specs.Cells.{Column, Table, column_of, kept, used_names, weight_sign, weights_in}
 use Rattle.design_matrix.specs.CodedVariable.{CodedVariable, coded_terms, is_text, width}
-use Rattle.design_matrix.specs.Designs.{AllFit, OverflowsFirst, design_of, exact_design}
+use Rattle.design_matrix.specs.Designs.{AllFit, OverflowsFirst, arith_site, design_of, exact_design}
 use Rattle.design_matrix.specs.Lists.{first_some}
 use Rattle.design_matrix.specs.Parts.{columns_of}
 
@@ -27,6 +31,14 @@ name_fault table name = if is_some (column_named name table) then None else Some
 -- a column of numbers, the response or the weights, is a factor
 abbrev pub factor_fault : DesignFault → Column → Option DesignFault
 factor_fault fault column = if is_text column then Some fault else None
+
+-- a name of an arithmetic is that of a factor
+abbrev pub named_fault : Table → Text → Option DesignFault
+named_fault table name = factor_fault (ArithNotNumeric name) (column_of table name)
+
+-- the first such name, by arithmetics and then by their names
+unfoldable pub ariths_fault : Table → List Arith → Option DesignFault
+ariths_fault table ariths = first_some (λ a. first_some (named_fault table) a.names) ariths
 
 -- a column has a number that is too wide
 abbrev pub wide_fault : Text → Column → Option DesignFault
@@ -52,7 +64,8 @@ used_fault table model weights =
     option_or (option_and_then (name_fault table) weights)
     (option_or (factor_fault ResponseNotNumeric (column_of table model.response))
     (option_or (option_and_then (factor_fault WeightNotNumeric) (weights_in table weights))
-    (option_or (widths_fault table (used_names model weights)) (weights_fault (weights_in table weights) table.records))))
+    (option_or (ariths_fault table (ariths_of model))
+    (option_or (widths_fault table (used_names model weights)) (weights_fault (weights_in table weights) table.records)))))
 
 -- no record is kept
 abbrev pub rows_fault : List ℕ → Option DesignFault
@@ -88,22 +101,28 @@ late_fault table model coding records =
     option_or (terms_fault (coded_terms table model coding records))
     (option_or (empty_fault model) (columns_fault (length (columns_of table model coding records))))
 
--- the first fault but for products that overflow
+-- the first fault but for operations that overflow
 unfoldable pub fault_of : Table → Formula → Coding → Option Text → Option DesignFault
 fault_of table model coding weights =
     option_or (used_fault table model weights)
     (option_or (rows_fault (kept table model weights)) (late_fault table model coding (kept table model weights)))
 
--- a product overflows: the first by record, by column and by the number of its factors
+-- the fault of the arithmetic at a place that has no value in a record
+abbrev pub refusal : ℕ → ℕ → ArithFault → DesignFault
+refusal i place arith_fault.OutOfMemory = OutOfMemory
+refusal i place (arith_fault.Overflow term op) = Overflow (record { site = arith_site (i + 1) place term op.kind; left = op.left; right = op.right })
+
+-- an operation overflows: the first by record, and in a record by the arithmetics, then the response, then the entries by
+-- column and by the number of their factors
 pub record IsOverflow (table : Table) (model : Formula) (coding : Coding) (records : List ℕ) (fault : DesignFault) : Type 0 where
   pub spill : Spill Frac128
   pub is : fault ≡ Overflow spill
-  pub first : OverflowsFirst (columns_of table model coding records) records spill
+  pub first : OverflowsFirst table model (columns_of table model coding records) records spill
 
--- the design is that of these records with these weights, and no product overflows
+-- the design is that of these records with these weights, and no operation overflows
 pub record HasDesign (table : Table) (model : Formula) (coding : Coding) (weights : Option Column) (records : List ℕ) (design : Design) : Type 0 where
   pub exact : exact_design design ≡ design_of table model coding weights records
-  pub fits : AllFit (columns_of table model coding records) records
+  pub fits : AllFit table model (columns_of table model coding records) records
 
 -- the design is that of the table, the formula and the weights, and nothing is wrong with these
 pub record IsDesign (table : Table) (model : Formula) (coding : Coding) (weights : Option Text) (design : Design) : Type 0 where

@@ -1,5 +1,6 @@
 pub mod Lists
 pub mod Cells
+pub mod Computed
 pub mod Levels
 pub mod Laws
 pub mod CodedVariable

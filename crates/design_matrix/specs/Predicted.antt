@@ -1,5 +1,5 @@
 -- Stated. The records that are predicted, and their rows by the levels of the kept records.
-use Rattle.std.specs.Prelude.{◌≡◌, ◌⊎◌, ◌+◌, ◌-◌, ◌++◌, ◌&&◌, ℕ, Bool, true, false, not, List, [], ◌∷◌, Option, Some, None, filter, length, map, if◌then◌else◌}
+use Rattle.std.specs.Prelude.{◌≡◌, ◌⊎◌, ◌+◌, ◌-◌, ◌++◌, ◌&&◌, ℕ, Bool, true, false, not, List, [], ◌∷◌, Option, Some, None, is_none, filter, length, map, if◌then◌else◌}
 use Rattle.std.specs.List.{list_any, range_with_len}
 use Rattle.std.specs.Option.{option_map_or}
 use Rattle.std.specs.Ordering.{is_eq}
@@ -17,7 +17,8 @@ use Rattle.design_matrix.specs.declared.fault.DesignFault.{DesignFault}
 use Rattle.design_matrix.specs.declared.fault.DesignFault.TheVariants.{OutOfMemory, Overflow, UnknownLevel}
 use Rattle.design_matrix.specs.Cells.{Column, Table, cell_of, column_of, is_complete, is_present, predictor_names, present}
 use Rattle.design_matrix.specs.CodedVariable.{printed_name}
-use Rattle.design_matrix.specs.Designs.{OverflowsInRow, RowFits}
+use Rattle.design_matrix.specs.Designs.{ArithsFit, OverflowsInAriths, OverflowsInRow, RowFits}
+use Rattle.design_matrix.specs.Computed.{expressions, offsets_at}
 use Rattle.design_matrix.specs.Levels.{levels_of, number_order, text_order}
 use Rattle.design_matrix.specs.Lists.{first_some}
 use Rattle.design_matrix.specs.Parts.{Part, column_name, columns_of, factors}
@@ -50,10 +51,13 @@ is_unknown true (numbers cells) records i = not (is_level number_order cells rec
 is_unknown false (numbers cells) records i = false
 is_unknown as_factor (too_wide rec) records i = false
 
--- so it has no entry in the columns of this variable
+-- so it has no entry in the columns of this variable, which is no arithmetic
+abbrev pub lacks_entry : Table → List ℕ → ℕ → Variable → Bool
+lacks_entry table records i v = is_none v.arith && is_unknown v.as_factor (column_of table v.name) records i
+
+-- the fault of a variable of which a record has no entry
 abbrev pub unknown_fault : Table → List ℕ → ℕ → Variable → Option DesignFault
-unknown_fault table records i v =
-    if is_unknown v.as_factor (column_of table v.name) records i then Some (UnknownLevel (i + 1) (printed_name v.as_factor v.name)) else None
+unknown_fault table records i v = if lacks_entry table records i v then Some (UnknownLevel (i + 1) (printed_name v.as_factor v.name)) else None
 
 -- the first such variable, by terms and then by variables
 unfoldable pub unknown_level : Table → Formula → List ℕ → ℕ → Option DesignFault
@@ -64,14 +68,21 @@ abbrev pub columns_with : Table → Formula → Coding → List ℕ → ℕ → 
 columns_with table model coding records i = columns_of table model coding (records ++ i ∷ [])
 
 -- The row of a record, counted from 1: its columns are called as those of the records' design, the entry of each is the product
--- of its parts at the record, and none overflows. A formula has no offsets yet.
+-- of its parts at the record, the offsets are as they are valued there, and no operation overflows.
 pub record IsPredictRow (table : Table) (model : Formula) (coding : Coding) (records : List ℕ) (rec : ℕ) (row : PredictRow) : Type 0 where
   pub known : unknown_level table model records (rec - 1) ≡ None
   pub named : row.rec ≡ rec
   pub columns : map column_name (columns_with table model coding records (rec - 1)) ≡ map column_name (columns_of table model coding records)
   pub entries : map exact row.x ≡ map (λ column. product (factors column (length records))) (columns_with table model coding records (rec - 1))
+  pub offsets : map exact row.offsets ≡ offsets_at table model.offsets (rec - 1)
+  pub computed : ArithsFit table (expressions model) (rec - 1)
   pub fits : RowFits (columns_with table model coding records (rec - 1)) (length records)
-  pub offsets : row.offsets ≡ []
+
+-- an operation of the row overflows: the first, by arithmetics and then by entries
+pub data OverflowsInPrediction (table : Table) (model : Formula) (coding : Coding) (records : List ℕ) (rec : ℕ) (s : Spill Frac128) : Type 0 where
+  in_ariths : OverflowsInAriths table (expressions model) (rec - 1) s → OverflowsInPrediction table model coding records rec s
+  in_entries : ArithsFit table (expressions model) (rec - 1) → OverflowsInRow (columns_with table model coding records (rec - 1)) (length records) rec s
+      → OverflowsInPrediction table model coding records rec s
 
 -- Why a record has no row. Want of memory has no cause here; an overflow is looked for last.
 abbrev pub HasRowCause : Table → Formula → Coding → List ℕ → ℕ → DesignFault → Type 0
@@ -79,4 +90,4 @@ HasRowCause table model coding records rec fault =
     (fault ≡ OutOfMemory)
     ⊎ ((unknown_level table model records (rec - 1) ≡ Some fault)
     ⊎ ((unknown_level table model records (rec - 1) ≡ None)
-    × ((s : Spill Frac128) × (fault ≡ Overflow s) × OverflowsInRow (columns_with table model coding records (rec - 1)) (length records) rec s)))
+    × ((s : Spill Frac128) × (fault ≡ Overflow s) × OverflowsInPrediction table model coding records rec s)))

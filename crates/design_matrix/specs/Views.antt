@@ -11,6 +11,7 @@ use Rattle.data_frame.specs.Records.{Text}
 use Rattle.data_frame.specs.Views.{lent_column}
 use Rattle.formula_parser.specs.declared.formula.Formula.{Formula}
 use Rattle.design_matrix.specs.Cells.{Column, Table, column_of, number_in, used_names, weights_in}
+use Rattle.design_matrix.specs.Computed.{arith_at}
 use Rattle.design_matrix.specs.CodedVariable.{CodedVariable, Values, categorical, numeric}
 use Rattle.design_matrix.specs.Parts.{Part, part_of}
 
@@ -18,6 +19,7 @@ use Rattle.design_matrix.specs.Parts.{Part, part_of}
 abbrev pub values_seen : Held → Values
 values_seen (held.Numbers cells records) = numeric (map (number_in cells.now) records.now)
 values_seen (held.Levels levels) = categorical levels.texts.items levels.places.items
+values_seen (held.Computed c) = numeric (map (arith_at c.frame.now c.arith.now) c.records.now)
 
 -- a variable of a term
 abbrev pub coded_seen : HeldCoded → CodedVariable

@@ -4,7 +4,9 @@ ghost use Rattle.std.specs.Prelude.{◌≡◌, ◌≤◌, ◌<◌, ◌+◌, ◌^
 ghost use Rattle.frac_core.specs.Limits.{most_columns};
 ghost use Rattle.data_frame.specs.Views.{lent_column};
 ghost use Rattle.design_matrix.specs.Cells.{column_of};
+ghost use Rattle.formula_parser.specs.Held.{IsHeld, ariths_of};
 ghost use Rattle.design_matrix.specs.CodedVariable.{coded_terms};
+ghost use Rattle.design_matrix.specs.Computed.{CanEvaluate};
 ghost use Rattle.design_matrix.specs.Faults.{HasCause, HasDesign, HasLateCause, IsDesign, IsOverflow, lacks_columns, late_fault};
 ghost use Rattle.design_matrix.specs.Parts.{column_name, columns_in};
 ghost use Rattle.design_matrix.specs.Shapes.{IsShaped};
@@ -64,6 +66,7 @@ fn design_from(
     requires usable { All (λ vs. All IsUsable vs.items) terms.now }
     requires few { length (columns_in coder.now.model.now.intercept (terms_seen terms.now)) ≤ most_columns }
     requires short { All (λ vs. length vs.items < 2 ^ 32) terms.now }
+    requires held { All CanEvaluate (ariths_of coder.now.model.now) }
     ensures design { IfOk result (HasDesign coder.now.frame.now coder.now.model.now coder.now.contrasts
         (weights_seen used.now.weights) coder.now.records.now) }
     ensures fault { IfErr result (λ e. (e ≡ DesignFault.OutOfMemory)
@@ -71,7 +74,7 @@ fn design_from(
 {
     let columns = design_columns(alloc, coder.model.intercept, terms)?;
     let names = names_of(alloc, &columns)?;
-    let rows = design_rows(alloc, used, &columns, coder.records)?;
+    let rows = design_rows(alloc, coder, used, &columns)?;
     let dropped = coder.frame.records() - coder.records.len() as u32;
     Ok(Design {
         names: List::from(names),
@@ -91,6 +94,7 @@ fn build_kept(
     requires counted { coder.now.frame.now.records < 2 ^ 32 }
     requires response { lent_column used.now.response ≡ column_of coder.now.frame.now coder.now.model.now.response }
     requires short { All (λ t. length t.variables < 2 ^ 32) coder.now.model.now.terms }
+    requires held { All CanEvaluate (ariths_of coder.now.model.now) }
     ensures sound { OnOk result (late_fault coder.now.frame.now coder.now.model.now coder.now.contrasts coder.now.records.now ≡ None) }
     ensures design { IfOk result (HasDesign coder.now.frame.now coder.now.model.now coder.now.contrasts
         (weights_seen used.now.weights) coder.now.records.now) }
@@ -114,14 +118,21 @@ fn build_kept(
 /// Makes the design of a table by a formula and weights.
 ///
 /// The columns that are used are the response, the weights, those of the variables by terms and then
-/// by variables, and those of the smooths. A record is kept where none of their cells is missing and
-/// its weight isn't 0; the others are counted. Without weights each weight is 1.
+/// by variables, where an arithmetic has those of its names, and those of the offsets and of the
+/// smooths. A record is kept where none of their cells is missing and its weight isn't 0; the others
+/// are counted. Without weights each weight is 1. A response is less by the value of each offset in
+/// turn.
 ///
 /// Want of memory may come at any step. Each other fault comes exactly where it is the first, in the
-/// order of `DesignFault`: `NumberTooWide` is that of the first used column with one, and
-/// `NegativeWeight` that of the first record with one, kept or not; an overflow is that of the first
-/// product by record, then by column, and then by the number of its factors. The table, the formula
-/// and the weights have a design exactly where none comes.
+/// order of `DesignFault`, except that `ArithNotNumeric` comes behind `WeightNotNumeric`: it names the
+/// first factor in an arithmetic, by terms, variables and names, and then by offsets; `NumberTooWide`
+/// is that of the first used column with one, and `NegativeWeight` that of the first record with one,
+/// kept or not. An overflow is the first by record, and in a record by the arithmetics, equal ones
+/// once, then in the response, and then in the entries by column and by the number of their factors.
+/// The table, the formula and the weights have a design exactly where none comes.
+///
+/// Each arithmetic of the formula holds the text, the names and the code of one arithmetic that can be
+/// evaluated, and its names are columns of the table, as a formula's are that was read for its names.
 ///
 /// A design has a row, in each row an entry for each name and a weight above 0, and at most 128
 /// columns; where the formula has no smooths it has a column.
@@ -136,6 +147,7 @@ pub fn build(
     weights: Option<&str>,
 ) -> Result<Design, DesignFault>
     requires short { All (λ t. length t.variables < 2 ^ 32) model.now.terms }
+    requires held { All (IsHeld frame.now.names) (ariths_of model.now) }
     ensures design { IfOk result (IsDesign frame.now model.now coding (option_copied weights.entry)) }
     ensures shape { IfOk result (IsShaped model.now) }
     ensures fault { IfErr result (HasCause frame.now model.now coding (option_copied weights.entry)) }

@@ -1,14 +1,16 @@
 //! The variables of terms with their values and codings.
 
-ghost use Rattle.std.specs.Prelude.{◌≡◌, ◌<◌, ◌^◌, All, IfOk, length, map};
+ghost use Rattle.std.specs.Prelude.{◌≡◌, ◌<◌, ◌^◌, All, IfOk, IfSome, length, map};
 ghost use Rattle.std.specs.List.{list_all, list_any};
 ghost use Rattle.data_frame.specs.Views.{lent_column};
 ghost use Rattle.design_matrix.specs.Cells.{column_of};
-ghost use Rattle.design_matrix.specs.CodedVariable.{coded_term, coded_variable, coding_of, is_factor, is_in_model, is_spanned, is_text, is_whole_factor, printed_name, same_bool, same_variable, same_variables, values_in, width, without};
+ghost use Rattle.design_matrix.specs.CodedVariable.{coded_term, coded_variable, coding_of, is_factor, is_in_model, is_spanned, is_text, is_whole_factor, printed_name, same_bool, same_variable, same_variables, values_by, values_in, width, without};
+ghost use Rattle.design_matrix.specs.Computed.{CanEvaluate};
 ghost use Rattle.design_matrix.specs.Lists.{each};
 ghost use Rattle.design_matrix.specs.Views.{coded_seen, values_seen};
 
 use crate::cells::column;
+use crate::computed::{Computed, compute};
 use crate::levels::Levels;
 use contrasts::Coding;
 use data_frame::{Column, Frame};
@@ -22,6 +24,8 @@ pub(crate) enum Values<'a> {
     /// The cells of a column of numbers, and the records that are kept.
     Numbers(&'a [Option<Frac128>], &'a [u32]),
     Levels(Levels),
+    /// What an arithmetic comes to.
+    Computed(Computed<'a>),
 }
 
 /// A variable of a term.
@@ -41,6 +45,7 @@ impl CodedVariable<'_> {
     {
         match &self.values {
             Values::Numbers(..) => 1,
+            Values::Computed(_) => 1,
             Values::Levels(levels) => match levels.texts.len() {
                 0 => 0,
                 count => contrasts::width(self.coding, count as u32),
@@ -71,6 +76,26 @@ fn values_of<'a>(
     }
 }
 
+// The values of a variable: those of its column, or what its arithmetic comes to.
+fn values_by<'a>(
+    alloc: Global,
+    frame: &'a Frame,
+    variable: &'a Variable,
+    records: &'a [u32],
+) -> Result<Values<'a>, AllocError>
+    requires counted { length records.now < 2 ^ 32 }
+    requires usable { IfSome variable.now.arith CanEvaluate }
+    ensures { IfOk result (λ v. values_seen v ≡ values_by frame.entry.now variable.entry.now variable.entry.now.arith records.entry.now) }
+{
+    match &variable.arith {
+        Some(arith) => Ok(Values::Computed(compute(alloc, frame, arith, records)?)),
+        None => {
+            let found = column(frame, variable.name.as_str());
+            values_of(alloc, variable.as_factor, found, records)
+        }
+    }
+}
+
 pub(crate) fn print_name(alloc: Global, as_factor: bool, name: &str) -> Result<Text, AllocError>
     ensures { IfOk result (λ t. t ≡ printed_name as_factor name.now) }
 {
@@ -96,6 +121,9 @@ pub(crate) fn is_text(column: &Column<'_>) -> bool
 fn is_factor(frame: &Frame, variable: &Variable) -> bool
     ensures { result ≡ is_factor frame.now variable.now }
 {
+    if variable.arith.is_some() {
+        return false;
+    }
     variable.as_factor || is_text(&column(frame, variable.name.as_str()))
 }
 
@@ -124,7 +152,10 @@ fn has_whole_factor(frame: &Frame, terms: &[Term]) -> bool
 fn is_same(left: &Variable, right: &Variable) -> bool
     ensures { result ≡ same_variable left.now right.now }
 {
-    left.name.as_str() == right.name.as_str() && left.as_factor == right.as_factor
+    if left.name.as_str() != right.name.as_str() {
+        return false;
+    }
+    left.as_factor == right.as_factor && left.arith.is_some() == right.arith.is_some()
 }
 
 fn are_same(left: &[Variable], right: &[Variable]) -> bool
@@ -212,18 +243,18 @@ impl<'a> Coder<'a> {
         number: usize,
         variables: &[Variable],
         place: usize,
-        variable: &Variable,
+        variable: &'a Variable,
     ) -> Result<CodedVariable<'a>, AllocError>
         requires counted { length self.now.records.now < 2 ^ 32 }
+        requires usable { IfSome variable.now.arith CanEvaluate }
         requires inside { number < length self.now.model.now.terms }
         requires there { place < length variables.now }
         ensures { IfOk result (λ v. coded_seen v ≡ coded_variable self.now.frame.now self.now.model.now
-            self.now.contrasts self.now.records.now number variables.now place variable.now) }
+            self.now.contrasts self.now.records.now number variables.now place variable.entry.now) }
     {
         let name = print_name(alloc, variable.as_factor, variable.name.as_str())?;
         let coding = self.coding(number, variables, place);
-        let found = column(self.frame, variable.name.as_str());
-        let values = values_of(alloc, variable.as_factor, found, self.records)?;
+        let values = values_by(alloc, self.frame, variable, self.records)?;
         Ok(CodedVariable {
             name,
             coding,
@@ -236,13 +267,14 @@ impl<'a> Coder<'a> {
         &self,
         alloc: Global,
         number: usize,
-        term: &Term,
+        term: &'a Term,
     ) -> Result<Vec<CodedVariable<'a>>, AllocError>
         requires counted { length self.now.records.now < 2 ^ 32 }
+        requires usable { All (λ v. IfSome v.arith CanEvaluate) term.now.variables }
         requires inside { number < length self.now.model.now.terms }
         ensures coded { IfOk result (λ vs. map coded_seen vs.items ≡ coded_term self.now.frame.now
-            self.now.model.now self.now.contrasts self.now.records.now number term.now) }
-        ensures counted { IfOk result (λ vs. length vs.items ≡ length term.now.variables) }
+            self.now.model.now self.now.contrasts self.now.records.now number term.entry.now) }
+        ensures counted { IfOk result (λ vs. length vs.items ≡ length term.entry.now.variables) }
     {
         let variables = term.variables.as_slice();
         let mut coded = Vec::with_capacity(alloc, variables.len())?;
@@ -256,6 +288,7 @@ impl<'a> Coder<'a> {
     pub(crate) fn terms(&self, alloc: Global) -> Result<Vec<Vec<CodedVariable<'a>>>, AllocError>
         requires counted { length self.now.records.now < 2 ^ 32 }
         requires short { All (λ t. length t.variables < 2 ^ 32) self.now.model.now.terms }
+        requires usable { All (λ t. All (λ v. IfSome v.arith CanEvaluate) t.variables) self.now.model.now.terms }
         ensures coded { IfOk result (λ ts. map (λ vs. map coded_seen vs.items) ts.items
             ≡ each (coded_term self.now.frame.now self.now.model.now self.now.contrasts self.now.records.now)
             0 self.now.model.now.terms) }

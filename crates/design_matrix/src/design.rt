@@ -7,7 +7,7 @@ pub struct DesignRow {
     pub rec: u32,
     /// An entry for each column of the design.
     pub x: List<Frac128>,
-    /// The response.
+    /// The response, less the value of each offset.
     pub y: Frac128,
     /// The weight, which is above 0.
     pub weight: Frac128,
@@ -20,7 +20,7 @@ pub struct PredictRow {
     pub rec: u32,
     /// An entry for each column of the design.
     pub x: List<Frac128>,
-    /// The values of the formula's offsets. Formulas have no offsets yet, so there are none.
+    /// The values of the formula's offsets, in their order.
     pub offsets: List<Frac128>,
 }
 

@@ -5,8 +5,8 @@ use frac_core::{Frac128, Text};
 use loss_model::Spill;
 use std::alloc::{AllocError, AllocFailed};
 
-/// Why a table and a formula have no design, in the order in which the causes are looked for.
-/// Records are counted from 1.
+/// Why a table and a formula have no design, in the order in which the causes are looked for, except for the last
+/// two. Records are counted from 1.
 #[derive(Drop)]
 pub enum DesignFault {
     /// No memory was found.
@@ -29,8 +29,11 @@ pub enum DesignFault {
     NoColumns,
     /// The design has more than 128 columns.
     TooManyColumns,
-    /// A product of entries overflows.
+    /// An operation of an arithmetic, of a response or of an entry overflows.
     Overflow(Spill<Frac128>),
+    /// The name stands in an arithmetic, and its column is a factor. It is looked for before numbers that are
+    /// too wide.
+    ArithNotNumeric { name: Text },
     /// The record is predicted, and its cell of the factor is no level of the kept records. It is looked
     /// for when the record is predicted.
     UnknownLevel { rec: u32, factor: Text },

@@ -1,10 +1,11 @@
 //! Designs: the rows of a regression from a table, a formula and weights.
 //!
-//! The columns that are used are the response, the weights, those of the formula's variables and
-//! those of its smooths. A record is kept where none of their cells is missing and its weight isn't
+//! The columns that are used are the response, the weights, those of the formula's variables, where an
+//! arithmetic has those of its names, and those of its offsets and of its smooths. A record is kept where none of their cells is missing and its weight isn't
 //! 0, and gives a row; without weights each weight is 1. A variable is a factor where its column is,
 //! or where `factor` was written; its levels are the distinct cells of the kept records, by bytes, or
-//! by value in a column of numbers.
+//! by value in a column of numbers. An arithmetic is numeric, and its value in a record is by
+//! `specs/Computed.antt`; the values of the offsets are taken off the response in turn.
 //!
 //! A factor is coded by contrasts where the model has the columns that those of its levels add up
 //! to, and else by an indicator for each level. These are: for a factor that is a whole term the
@@ -32,6 +33,7 @@ mod builder;
 mod cells;
 mod checks;
 mod coded;
+mod computed;
 mod design;
 mod fault;
 mod kept;

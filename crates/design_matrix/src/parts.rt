@@ -27,21 +27,29 @@ fn whole_number(number: i64) -> Frac128
 
 impl Part<'_, '_> {
     /// The entry at a place among the kept records.
-    pub(crate) fn entry(&self, place: usize) -> Frac128
-        ensures { exact result ≡ slice_index_or (part_seen self.now).entries place (whole (pos 0)) }
+    ///
+    /// An arithmetic has none behind a record in which one of its operations overflows.
+    pub(crate) fn entry(&self, place: usize) -> Result<Frac128, AllocError>
+        ensures { IfOk result (λ x. exact x ≡ slice_index_or (part_seen self.now).entries place (whole (pos 0))) }
     {
         match &self.variable.values {
             Values::Numbers(cells, records) => match records.get(place) {
-                Some(index) => number(cells, *index),
-                None => Frac128::zero(),
+                Some(index) => Ok(number(cells, *index)),
+                None => Ok(Frac128::zero()),
             },
             Values::Levels(levels) => match levels.places.get(place) {
                 Some(level) => {
                     let count = levels.texts.len() as u32;
-                    whole_number(contrasts::entry(self.variable.coding, count, *level, self.column))
+                    Ok(whole_number(contrasts::entry(
+                        self.variable.coding,
+                        count,
+                        *level,
+                        self.column,
+                    )))
                 }
-                None => Frac128::zero(),
+                None => Ok(Frac128::zero()),
             },
+            Values::Computed(values) => values.at(place),
         }
     }
 
@@ -52,6 +60,7 @@ impl Part<'_, '_> {
         let name = self.variable.name.as_str();
         let labelled = match &self.variable.values {
             Values::Numbers(..) => Text::new(alloc, name),
+            Values::Computed(_) => Text::new(alloc, name),
             Values::Levels(levels) => {
                 contrasts::label(
                     alloc,

@@ -7,12 +7,14 @@ ghost use Rattle.std.specs.Ordering.{is_eq};
 ghost use Rattle.data_frame.specs.Records.{Text as text};
 ghost use Rattle.data_frame.specs.Views.{exact};
 ghost use Rattle.design_matrix.specs.Cells.{column_of};
+ghost use Rattle.formula_parser.specs.Held.{IsHeld, ariths_of};
 ghost use Rattle.design_matrix.specs.CodedVariable.{coded_terms};
+ghost use Rattle.design_matrix.specs.Computed.{CanEvaluate};
 ghost use Rattle.design_matrix.specs.Designs.{OverflowsInRow, RowFits};
 ghost use Rattle.design_matrix.specs.Faults.{IsDesign, terms_fault};
 ghost use Rattle.design_matrix.specs.Lists.{first_some};
 ghost use Rattle.design_matrix.specs.Parts.{columns_of, factors};
-ghost use Rattle.design_matrix.specs.Predicted.{HasRowCause, IsPredictRow, is_level as is_level_of, is_unknown as is_unknown_in, kept_in as kept_in_design, predicted, unknown_fault, unknown_level};
+ghost use Rattle.design_matrix.specs.Predicted.{HasRowCause, IsPredictRow, is_level as is_level_of, kept_in as kept_in_design, lacks_entry, predicted, unknown_fault, unknown_level};
 ghost use Rattle.design_matrix.specs.Products.{product};
 ghost use Rattle.frac_core.specs.Limits.{most_columns};
 ghost use Rattle.frac_core.specs.declared.frac128.Frac128.{Frac128 as Fraction128};
@@ -20,6 +22,7 @@ ghost use Rattle.loss_model.specs.declared.spill.Spill.{Spill as Spilt};
 
 use crate::cells::{cell, column};
 use crate::coded::{Coder, print_name};
+use crate::computed::{check_ariths, expressions_in, offset_values};
 use crate::levels::{Cell, sorted_levels};
 use crate::parts::design_columns;
 use crate::rows::entries_of;
@@ -75,8 +78,11 @@ fn is_unknown(
     kept: &[u32],
     index: u32,
 ) -> Result<bool, AllocError>
-    ensures { IfOk result (λ b. b ≡ is_unknown_in variable.now.as_factor (column_of frame.now variable.now.name) kept.now index) }
+    ensures { IfOk result (λ b. b ≡ lacks_entry frame.now kept.now index variable.now) }
 {
+    if variable.arith.is_some() {
+        return Ok(false);
+    }
     match column(frame, variable.name.as_str()) {
         Column::Factor(cells) => Ok(!is_level(alloc, cells, kept, index)?),
         Column::Numbers(cells) => {
@@ -140,6 +146,7 @@ fn last_entries(alloc: Global, coder: &Coder<'_>, rec: u32) -> Result<Vec<Frac12
     requires short { All (λ t. length t.variables < 2 ^ 32) coder.now.model.now.terms }
     requires usable { terms_fault (coded_terms coder.now.frame.now coder.now.model.now coder.now.contrasts coder.now.records.now) ≡ None }
     requires few { length (columns_of coder.now.frame.now coder.now.model.now coder.now.contrasts coder.now.records.now) ≤ most_columns }
+    requires held { All CanEvaluate (ariths_of coder.now.model.now) }
     ensures exact { let n = length coder.now.records.now in IfOk result (λ x. map exact x.items
         ≡ map (λ column. product (factors column (n - 1))) (columns_of coder.now.frame.now coder.now.model.now coder.now.contrasts coder.now.records.now)) }
     ensures fits { let n = length coder.now.records.now in
@@ -155,13 +162,14 @@ fn last_entries(alloc: Global, coder: &Coder<'_>, rec: u32) -> Result<Vec<Frac12
 }
 
 /// The row of a predicted record: the entry of each column of the design by the levels of the kept records,
-/// and the values of the offsets. Formulas have no offsets yet, so there are none.
+/// and the values of the offsets.
 ///
 /// The record is one that `predicted_records` gives, the design was built from the table, the formula and the
-/// coding, with whatever weights, and the formula has no smooth. Want of memory may come at any step. `UnknownLevel` comes exactly where a factor's cell is
+/// coding, with whatever weights, and the formula has no smooth; its arithmetics are as `build` asks. Want of
+/// memory may come at any step. `UnknownLevel` comes exactly where a factor's cell is
 /// no level of the kept records, with the first such variable by terms and then by variables; and else
-/// `Overflow` exactly where a product of entries overflows, the first by column and then by the number of its
-/// factors.
+/// `Overflow` exactly where an operation overflows: the first by the arithmetics, equal ones once, and then by
+/// column and by the number of its factors.
 pub fn predict_row(
     alloc: Global,
     frame: &Frame,
@@ -171,6 +179,7 @@ pub fn predict_row(
     rec: u32,
 ) -> Result<PredictRow, DesignFault>
     requires short { All (λ t. length t.variables < 2 ^ 32) model.now.terms }
+    requires held { All (IsHeld frame.now.names) (ariths_of model.now) }
     requires built { (weights : option text) × IsDesign frame.now model.now coding weights design.now }
     requires plain { length model.now.smooths ≡ 0 }
     requires asked { Contains (predicted frame.now model.now) rec }
@@ -188,10 +197,13 @@ pub fn predict_row(
         contrasts: coding,
         records: records.as_slice(),
     };
+    let ariths = expressions_in(alloc, model)?;
+    check_ariths(alloc, frame, &ariths, index)?;
+    let offsets = offset_values(alloc, frame, model.offsets.as_slice(), index)?;
     let x = last_entries(alloc, &coder, rec)?;
     Ok(PredictRow {
         rec,
         x: List::from(x),
-        offsets: List::new(alloc),
+        offsets: List::from(offsets),
     })
 }

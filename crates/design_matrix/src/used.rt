@@ -1,18 +1,22 @@
 //! The columns that a formula and weights use.
 
 ghost use Rattle.std.specs.Prelude.{◌≡◌, ◌⊎◌, ◌++◌, None, Some, IfErr, IfOk, OnOk, map, option_and_then, option_copied, option_to_list};
+ghost use Rattle.std.specs.List.{flat_map};
+ghost use Rattle.formula_parser.specs.Held.{ariths_of};
 ghost use Rattle.data_frame.specs.Views.{lent_column};
-ghost use Rattle.design_matrix.specs.Cells.{column_of, predictor_names, used_names, weights_in};
-ghost use Rattle.design_matrix.specs.Faults.{name_fault, used_fault, wide_fault, widths_fault};
+ghost use Rattle.design_matrix.specs.Cells.{column_of, names_by, predictor_names, term_names, used_names, weights_in};
+ghost use Rattle.design_matrix.specs.Faults.{ariths_fault, name_fault, named_fault, used_fault, wide_fault, widths_fault};
+ghost use Rattle.design_matrix.specs.Lists.{first_some};
 ghost use Rattle.design_matrix.specs.Views.{AreUsed, weights_seen};
 
 use crate::DesignFault;
 use crate::cells::column;
 use crate::coded::is_text;
+use crate::computed::ariths_in;
 use crate::weights::{Weights, check_weights};
 use data_frame::{Column, Frame};
-use formula_parser::{Formula, Smooth, Term};
-use frac_core::Text;
+use formula_parser::{Formula, Smooth, Term, Variable};
+use frac_core::{Arith, Text};
 use std::alloc::{AllocError, Global};
 
 /// The columns that a formula and weights use.
@@ -34,13 +38,44 @@ fn push_weights<'a>(names: &mut Vec<&'a str>, weights: Option<&'a str>) -> Resul
     Ok(())
 }
 
+fn push_names<'a>(names: &mut Vec<&'a str>, more: &'a [Text]) -> Result<(), AllocError>
+    ensures { OnOk result (map (λ n. n.now) names.new.items ≡ map (λ n. n.now) names.old.items ++ more.now) }
+{
+    for name in more {
+        names.push(name.as_str())?;
+    }
+    Ok(())
+}
+
+// Adds the name of a variable's column, or the names of its arithmetic.
+fn push_variable<'a>(names: &mut Vec<&'a str>, variable: &'a Variable) -> Result<(), AllocError>
+    ensures { OnOk result (map (λ n. n.now) names.new.items
+        ≡ map (λ n. n.now) names.old.items ++ names_by variable.now.name variable.now.arith) }
+{
+    match &variable.arith {
+        Some(arith) => push_names(names, arith.names.as_slice())?,
+        None => names.push(variable.name.as_str())?,
+    }
+    Ok(())
+}
+
 fn push_variables<'a>(names: &mut Vec<&'a str>, term: &'a Term) -> Result<(), AllocError>
     ensures { OnOk result (map (λ n. n.now) names.new.items
-        ≡ map (λ n. n.now) names.old.items ++ map (λ v. v.name) term.now.variables) }
+        ≡ map (λ n. n.now) names.old.items ++ term_names term.now) }
 {
     let variables = term.variables.as_slice();
     for variable in variables {
-        names.push(variable.name.as_str())?;
+        push_variable(names, variable)?;
+    }
+    Ok(())
+}
+
+fn push_offsets<'a>(names: &mut Vec<&'a str>, offsets: &'a [Arith]) -> Result<(), AllocError>
+    ensures { OnOk result (map (λ n. n.now) names.new.items
+        ≡ map (λ n. n.now) names.old.items ++ flat_map (λ a. a.names) offsets.now) }
+{
+    for offset in offsets {
+        push_names(names, offset.names.as_slice())?;
     }
     Ok(())
 }
@@ -55,8 +90,8 @@ fn push_smooths<'a>(names: &mut Vec<&'a str>, smooths: &'a [Smooth]) -> Result<(
     Ok(())
 }
 
-/// Adds the names of the columns that explain: those of the variables, by terms and then by variables, and
-/// those of the smooths.
+/// Adds the names of the columns that explain: those of the variables, by terms and then by variables, of the
+/// offsets, and of the smooths.
 pub(crate) fn push_predictors<'a>(
     names: &mut Vec<&'a str>,
     model: &'a Formula,
@@ -67,7 +102,48 @@ pub(crate) fn push_predictors<'a>(
     for term in terms {
         push_variables(names, term)?;
     }
+    push_offsets(names, model.offsets.as_slice())?;
     push_smooths(names, model.smooths.as_slice())?;
+    Ok(())
+}
+
+// Refuses an arithmetic of which a name is that of a factor: the first name.
+fn check_names(alloc: Global, frame: &Frame, names: &[Text]) -> Result<(), DesignFault>
+    ensures sound { OnOk result (first_some (named_fault frame.now) names.now ≡ None) }
+    ensures fault { IfErr result (λ e. (e ≡ DesignFault.OutOfMemory)
+        ⊎ (first_some (named_fault frame.now) names.now ≡ Some e)) }
+{
+    for name in names {
+        if is_text(&column(frame, name.as_str())) {
+            return Err(DesignFault::ArithNotNumeric {
+                name: Text::new(alloc, name.as_str())?,
+            });
+        }
+    }
+    Ok(())
+}
+
+// The same of these arithmetics.
+#[tactic(auto, unfolding(crate::specs::Faults::ariths_fault))]
+fn check_arith_names(alloc: Global, frame: &Frame, ariths: &[&Arith]) -> Result<(), DesignFault>
+    ensures sound { OnOk result (ariths_fault frame.now (map (λ a. a.now) ariths.now) ≡ None) }
+    ensures fault { IfErr result (λ e. (e ≡ DesignFault.OutOfMemory)
+        ⊎ (ariths_fault frame.now (map (λ a. a.now) ariths.now) ≡ Some e)) }
+{
+    for arith in ariths {
+        check_names(alloc, frame, arith.names.as_slice())?;
+    }
+    Ok(())
+}
+
+// The same of a formula's.
+fn check_ariths(alloc: Global, frame: &Frame, model: &Formula) -> Result<(), DesignFault>
+    ensures sound { OnOk result (ariths_fault frame.now (ariths_of model.now) ≡ None) }
+    ensures fault { IfErr result (λ e. (e ≡ DesignFault.OutOfMemory)
+        ⊎ (ariths_fault frame.now (ariths_of model.now) ≡ Some e)) }
+{
+    let ariths = ariths_in(alloc, model)?;
+    check_arith_names(alloc, frame, &ariths)?;
     Ok(())
 }
 
@@ -141,7 +217,7 @@ fn weights_column<'a>(frame: &'a Frame, weights: Option<&str>) -> Result<Weights
 }
 
 /// The columns that are used, unless something is wrong with them: the weights are unknown, the
-/// response or the weights are a factor, a number is too wide, or a weight is below 0.
+/// response, the weights or a name of an arithmetic are a factor, a number is too wide, or a weight is below 0.
 #[tactic(auto, unfolding(crate::specs::Faults::used_fault))]
 pub(crate) fn used_columns<'a>(
     alloc: Global,
@@ -162,6 +238,7 @@ pub(crate) fn used_columns<'a>(
     if weighing.is_text() {
         return Err(DesignFault::WeightNotNumeric);
     }
+    check_ariths(alloc, frame, model)?;
     let names = names_used(alloc, model, weights)?;
     let columns = narrow_columns(alloc, frame, &names)?;
     check_weights(&weighing, frame.records())?;

@@ -1,4 +1,4 @@
--- Law. Arithmetics, one type for each line of the grammar, and their names.
+-- Stated. Arithmetics, one type for each line of the grammar, and their names.
 --
 --   arith = [ "+" | "-" ] aprod { ( "+" | "-" ) aprod }
 --   aprod = apow { "*" apow }

@@ -1,4 +1,4 @@
--- Law. The code of an arithmetic: that of its operands, left first, and then its operation. A leading `+` and
+-- Stated. The code of an arithmetic: that of its operands, left first, and then its operation. A leading `+` and
 -- parentheses add nothing.
 use Rattle.std.specs.Prelude.{ℕ, ◌+◌, ◌-◌, List, [], ◌∷◌, ◌++◌, bytes_eq}
 use Rattle.std.specs.List.{position_or_len}

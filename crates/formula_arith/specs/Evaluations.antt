@@ -1,4 +1,4 @@
--- Law. What an evaluation answers: the value of the arithmetic that the code is of, or the
+-- Stated. What an evaluation answers: the value of the arithmetic that the code is of, or the
 -- first of its operations that overflows.
 use Rattle.std.specs.Prelude.{◌≡◌, ◌+◌, ◌-◌, ◌^◌, ℕ, true, List, [], ◌∷◌, ◌++◌, length, map, pos, slice_index_or}
 use Rattle.exact_algebra.specs.Rational.{ℚ, whole}

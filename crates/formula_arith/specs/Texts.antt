@@ -1,4 +1,4 @@
--- Law. The text of an arithmetic: its tokens, with one space on both sides of a `+`, `-` or `*` between two operands
+-- Stated. The text of an arithmetic: its tokens, with one space on both sides of a `+`, `-` or `*` between two operands
 -- and no other spaces. A name stands in backticks where it was written so, and each number is its number text.
 use Rattle.std.specs.Prelude.{Bool, true, false, [], ◌++◌, codes, decimal}
 use Rattle.frac_core.specs.NumberText.{number_text_of}

@@ -1,4 +1,4 @@
--- Law. The value of an arithmetic, and its operations in the order of its code: operands first, and left first. A
+-- Stated. The value of an arithmetic, and its operations in the order of its code: operands first, and left first. A
 -- negation is no operation, for it never overflows.
 use Rattle.std.specs.Prelude.{ℕ, zero, suc, ◌-◌, List, [], ◌∷◌, ◌++◌}
 use Rattle.exact_algebra.specs.Fraction.{rational}

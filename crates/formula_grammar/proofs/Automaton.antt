@@ -1,7 +1,9 @@
 -- Reading tokens one by one: what has been read of a formula as partial trees, and what comes of the next token.
-use Rattle.std.specs.Prelude.{ℕ, List, [], ◌∷◌, Option, Some, None, option_and_then}
-use Rattle.formula_grammar.specs.Words.{Span, Sign, Plus, Minus, Zero, Unity, Numeral, Digits, Kind, Name, FactorWord, QssWord, Number, Signed, Tilde, Star, Colon, Caret, Open, Close, Comma, Point, End, Token}
-use Rattle.formula_grammar.specs.Grammar.{Lead, Bare, Led, Sum, First, More, Product, One, Times, Inter, Lone, Cross, Power, Plain, Raised, Atom, Leaf, Factor, Dot, Group, Smooth, Item, Nil, Intercept, Term, Items, Start, StartSmooth, StartPlus, Then, ThenSmooth, Head, Formula}
+use Rattle.std.specs.Prelude.{ℕ, List, [], ◌∷◌, Option, Some, None, option_and_then, option_map}
+use Rattle.formula_grammar.specs.Words.{Span, Sign, Plus, Minus, Zero, Unity, Numeral, Digits, Kind, Name, FactorWord, QssWord, ArithWord, OffsetWord, Number, Signed, Tilde, Star, Colon, Caret, Open, Close, Comma, Point, End, Token}
+use Rattle.formula_grammar.specs.Grammar.{Lead, Bare, Led, Sum, First, More, Product, One, Times, Inter, Lone, Cross, Power, Plain, Raised, Atom, Leaf, Factor, Computed, Dot, Group, Part, Smoothing, Offsetting, Item, Nil, Intercept, Term, Items, Start, StartPart, StartPlus, Then, ThenPart, Head, Formula}
+use Rattle.formula_grammar.specs.Arithmetics.{Arith}
+use Rattle.formula_grammar.proofs.ArithAutomaton.{Top, ArithState, Begins, arith_step, arith_ending}
 
 -- a left operand and the place of its operator
 pub record Left (T : Type 0) : Type 0 where
@@ -20,16 +22,21 @@ pub data Front (T : Type 0) : Type 0 where
   Leads : (lead : Lead) → Front T
   After : (left : T) (sign : Sign) (place : ℕ) → Front T
 
--- what may stand before a smooth
-pub data SmoothFront : Type 0 where
-  Nowhere : SmoothFront
-  BehindPlus : (place : ℕ) → SmoothFront
-  BehindItems : (left : Items) (place : ℕ) → SmoothFront
+-- what may stand before a smooth or an offset
+pub data PartFront : Type 0 where
+  Nowhere : PartFront
+  BehindPlus : (place : ℕ) → PartFront
+  BehindItems : (left : Items) (place : ℕ) → PartFront
 
 -- what is open around the product to come
 pub data Around : Type 0 where
   Bottom : (head : Head) (front : Front Items) → Around
   Inside : (front : Front Sum) (opened : ℕ) (lefts : Lefts) (outer : Around) → Around
+
+-- where an arithmetic stands: in `I( )` or in `offset( )`
+pub data Slot : Type 0 where
+  TermSlot : (word opened : ℕ) (lefts : Lefts) (around : Around) → Slot
+  OffsetSlot : (word opened : ℕ) (head : Head) (front : PartFront) → Slot
 
 pub data State : Type 0 where
   Begin : State
@@ -41,13 +48,16 @@ pub data State : Type 0 where
   Factor1 : (word : ℕ) (lefts : Lefts) (around : Around) → State
   Factor2 : (word opened : ℕ) (lefts : Lefts) (around : Around) → State
   Factor3 : (word opened : ℕ) (name : Span) (place : ℕ) (lefts : Lefts) (around : Around) → State
+  Arith1 : (word : ℕ) (lefts : Lefts) (around : Around) → State
+  Offset1 : (word : ℕ) (head : Head) (front : PartFront) → State
+  Computing : (slot : Slot) (arith : ArithState) → State
   Has : (power : Power) (lefts : Lefts) (around : Around) → State
   Raising : (atom : Atom) (caret : ℕ) (lefts : Lefts) (around : Around) → State
-  Smooth1 : (word : ℕ) (head : Head) (front : SmoothFront) → State
-  Smooth2 : (word opened : ℕ) (head : Head) (front : SmoothFront) → State
-  Smooth3 : (word opened : ℕ) (name : Span) (place : ℕ) (head : Head) (front : SmoothFront) → State
-  Smooth4 : (word opened : ℕ) (name : Span) (place comma : ℕ) (head : Head) (front : SmoothFront) → State
-  Smooth5 : (word opened : ℕ) (name : Span) (place comma : ℕ) (lambda : Numeral) (at : ℕ) (head : Head) (front : SmoothFront) → State
+  Smooth1 : (word : ℕ) (head : Head) (front : PartFront) → State
+  Smooth2 : (word opened : ℕ) (head : Head) (front : PartFront) → State
+  Smooth3 : (word opened : ℕ) (name : Span) (place : ℕ) (head : Head) (front : PartFront) → State
+  Smooth4 : (word opened : ℕ) (name : Span) (place comma : ℕ) (head : Head) (front : PartFront) → State
+  Smooth5 : (word opened : ℕ) (name : Span) (place comma : ℕ) (lambda : Numeral) (at : ℕ) (head : Head) (front : PartFront) → State
   HasItems : (items : Items) (head : Head) → State
   Done : (formula : Formula) → State
 
@@ -70,23 +80,24 @@ abbrev pub onto_items : Front Items → Item → Items
 onto_items (Leads l) i = Start l i
 onto_items (After j x n) i = Then j x n i
 
-abbrev pub onto_smooth : SmoothFront → Smooth → Items
-onto_smooth Nowhere s = StartSmooth s
-onto_smooth (BehindPlus n) s = StartPlus n s
-onto_smooth (BehindItems j n) s = ThenSmooth j n s
+abbrev pub onto_part : PartFront → Part → Items
+onto_part Nowhere p = StartPart p
+onto_part (BehindPlus n) p = StartPlus n p
+onto_part (BehindItems j n) p = ThenPart j n p
 
--- a smooth never follows a minus
-abbrev pub may_smooth : Front Items → ℕ → Head → Option State
-may_smooth (Leads Bare) n h = Some (Smooth1 n h Nowhere)
-may_smooth (Leads (Led Plus k)) n h = Some (Smooth1 n h (BehindPlus k))
-may_smooth (Leads (Led Minus k)) n h = None
-may_smooth (After j Plus k) n h = Some (Smooth1 n h (BehindItems j k))
-may_smooth (After j Minus k) n h = None
+-- a smooth or an offset never follows a minus
+abbrev pub part_front : Front Items → Option PartFront
+part_front (Leads Bare) = Some Nowhere
+part_front (Leads (Led Plus k)) = Some (BehindPlus k)
+part_front (Leads (Led Minus k)) = None
+part_front (After j Plus k) = Some (BehindItems j k)
+part_front (After j Minus k) = None
 
 abbrev pub operand : Lefts → Around → ℕ → Kind → Option State
 operand l o n (Name x) = Some (Has (Plain (Leaf x n)) l o)
 operand l o n Point = Some (Has (Plain (Dot n)) l o)
 operand l o n FactorWord = Some (Factor1 n l o)
+operand l o n ArithWord = Some (Arith1 n l o)
 operand l o n Open = Some (Fresh (Inside (Leads Bare) n l o))
 operand l o n k = None
 
@@ -99,15 +110,17 @@ abbrev pub item : Around → ℕ → Item → Option State
 item (Bottom h f) n i = Some (HasItems (onto_items f i) h)
 item (Inside f p l o) n i = None
 
-abbrev pub smooth : Around → ℕ → Option State
-smooth (Bottom h f) n = may_smooth f n h
-smooth (Inside f p l o) n = None
+-- `begun` is what comes of the word of a smooth or an offset behind a front
+abbrev pub part : (Head → PartFront → State) → Around → Option State
+part begun (Bottom h f) = option_map (begun h) (part_front f)
+part begun (Inside f p l o) = None
 
 abbrev pub fresh : Around → ℕ → Kind → Option State
 fresh o n (Signed x) = led o x n
 fresh o n (Number (Digits Zero)) = item o n (Nil n)
 fresh o n (Number (Digits Unity)) = item o n (Intercept n)
-fresh o n QssWord = smooth o n
+fresh o n QssWord = part (Smooth1 n) o
+fresh o n OffsetWord = part (Offset1 n) o
 fresh o n k = operand no_lefts o n k
 
 abbrev pub signed : Product → Around → Sign → ℕ → State
@@ -136,6 +149,16 @@ behind_items i h n (Signed x) = Some (Fresh (Bottom h (After i x n)))
 behind_items i h n End = Some (Done (record { head = h; items = i; ended = n }))
 behind_items i h n k = None
 
+-- behind an arithmetic that ended
+abbrev pub slot_end : Slot → Arith → ℕ → State
+slot_end (TermSlot w p l o) a n = Has (Plain (Computed w p a n)) l o
+slot_end (OffsetSlot w p h f) a n = HasItems (onto_part f (Offsetting (record { word = w; opened = p; arith = a; closed = n }))) h
+
+abbrev pub slot_step : Slot → ℕ → Option Arith → Option ArithState → Option State
+slot_step c n (Some a) q = Some (slot_end c a n)
+slot_step c n None None = None
+slot_step c n None (Some s) = Some (Computing c s)
+
 abbrev pub step_at : State → ℕ → Kind → Option State
 step_at Begin n (Name x) = Some (Named x n)
 step_at (Named x m) n Tilde = Some (Fresh (Bottom (record { response = x; place = m; tilde = n }) (Leads Bare)))
@@ -144,6 +167,9 @@ step_at (Wants l o) n k = operand l o n k
 step_at (Factor1 w l o) n Open = Some (Factor2 w n l o)
 step_at (Factor2 w p l o) n (Name x) = Some (Factor3 w p x n l o)
 step_at (Factor3 w p x m l o) n Close = Some (Has (Plain (Factor w p x m n)) l o)
+step_at (Arith1 w l o) n Open = Some (Computing (TermSlot w n l o) (Begins Top))
+step_at (Offset1 w h f) n Open = Some (Computing (OffsetSlot w n h f) (Begins Top))
+step_at (Computing c s) n k = slot_step c n (arith_ending s k) (arith_step s n k)
 step_at (Has (Plain a) l o) n Caret = Some (Raising a n l o)
 step_at (Has p l o) n k = behind p l o n k
 step_at (Raising a c l o) n (Number (Digits e)) = Some (Has (Raised a c e n) l o)
@@ -151,7 +177,7 @@ step_at (Smooth1 w h f) n Open = Some (Smooth2 w n h f)
 step_at (Smooth2 w p h f) n (Name x) = Some (Smooth3 w p x n h f)
 step_at (Smooth3 w p x m h f) n Comma = Some (Smooth4 w p x m n h f)
 step_at (Smooth4 w p x m c h f) n (Number v) = Some (Smooth5 w p x m c v n h f)
-step_at (Smooth5 w p x m c v q h f) n Close = Some (HasItems (onto_smooth f (record { word = w; opened = p; name = x; place = m; comma = c; lambda = v; at = q; closed = n })) h)
+step_at (Smooth5 w p x m c v q h f) n Close = Some (HasItems (onto_part f (Smoothing (record { word = w; opened = p; name = x; place = m; comma = c; lambda = v; at = q; closed = n }))) h)
 step_at (HasItems i h) n k = behind_items i h n k
 step_at s n k = None
 

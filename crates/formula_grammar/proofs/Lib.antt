@@ -1,4 +1,8 @@
 pub mod Phases
+pub mod ArithAutomaton
+pub mod WholeArithmetics
+pub mod ArithShown
+pub mod ArithShapes
 pub mod Automaton
 pub mod WholeFormulas
 pub mod Shown

@@ -1,12 +1,15 @@
 -- What a reader holds behind some tokens, and what the next token does.
-use Rattle.std.proofs.Common.{◌≡◌, ◌<◌, ◌≤◌, ◌⊎◌, ℕ, ◌+◌, zero, suc, Bool, true, false, List, [], ◌∷◌, ◌++◌, Option, Some, None, IfSome, option_map, option_and_then, inl, inr, nat_le, refl, sym, ◌∙◌, ap, arith, below_more, cond, get_or, length, subst, take}
-use Rattle.std.proofs.lemmas.List.{get_or_default, take_more, take_all}
-use Rattle.formula_grammar.specs.Words.{Kind, Number, Caret, Open, Comma, End, Numeral, Digits, Token, Reading}
-use Rattle.formula_grammar.specs.Faults.{ReadFault, OutOfMemory, Syntax, TooDeep, PowerRange, NumberTooWide, token_at, depth_behind, depth_from, depth, is_power, number_fault, last_from, last_kind, limit_fault, limit_at, IsFaultAt, IsCleanBelow, IsFirstFault, IsFormula, IsReading, IsFault, EndText, OneFault, NoFormulaHasFaults, FormulaOrFault}
+use Rattle.std.proofs.Common.{◌≡◌, ◌<◌, ◌≤◌, ◌⊎◌, ℕ, ◌+◌, zero, suc, Bool, true, false, List, [], ◌∷◌, ◌++◌, Option, Some, None, IfSome, option_map, option_and_then, inl, inr, nat_le, refl, sym, ◌∙◌, ap, arith, below_more, cond, drop, get_or, length, subst, take}
+use Rattle.std.proofs.lemmas.List.{get_or_default, take-append-drop, take_more, take_all}
+use Rattle.formula_grammar.specs.Words.{Kind, Number, Caret, Open, End, Numeral, Digits, Token, Reading}
+use Rattle.formula_grammar.specs.Faults.{ReadFault, OutOfMemory, Syntax, TooDeep, PowerRange, NumberTooWide, token_at, depth_behind, depth_from, depth, is_power, number_fault, last_from, last_kind, limit_fault, limit_at, IsFaultAt, IsCleanBelow, IsFirstFault, IsFormula, IsReading, IsFault, EndText, OneFault, NoFormulaHasFaults, FormulaOrFault, FormulasKeepLimits}
 use Rattle.formula_grammar.specs.Machine.{Reader, token_read, Reads}
 use Rattle.formula_grammar.specs.Numerals.{is_wide}
-use Rattle.formula_grammar.specs.Grammar.{Formula, Plain, token, Begins}
-use Rattle.formula_grammar.proofs.Automaton.{State, Begin, Fresh, Has, HasItems, Done, Bottom, step, step_at, run}
+use Rattle.formula_grammar.specs.Grammar.{Formula, Plain, token, formula_tokens, Begins}
+use Rattle.formula_grammar.specs.Arithmetics.{Plain as PlainApow, Raised as RaisedApow}
+use Rattle.formula_grammar.proofs.ArithAutomaton.{Top, ArithState, Needs, Raises}
+use Rattle.formula_grammar.proofs.ArithAutomaton.{Begins as ArithBegins, Holds as ArithHolds}
+use Rattle.formula_grammar.proofs.Automaton.{Slot, State, Computing, Begin, Fresh, Has, HasItems, Done, Bottom, step, step_at, run}
 use Rattle.formula_grammar.proofs.Shown.{begins, begins_not, run_append, reads_only, some_is}
 use Rattle.formula_grammar.proofs.Shapes.{shape, commutes}
 
@@ -104,8 +107,7 @@ either_limit false x y h k = k
 
 number_limit : (before : Kind) (x : Numeral) (n : ℕ) → IfSome (number_fault before x n) IsLimit
 number_limit Caret (Digits k) n = either_limit (is_power k) None (Some (PowerRange n)) tt tt
-number_limit Comma x n = either_limit (is_wide x) (Some (NumberTooWide n)) None tt tt
-number_limit before x n = tt
+number_limit before x n = either_limit (is_wide x) (Some (NumberTooWide n)) None tt tt
 
 any_limit : (k : Kind) (n opened : ℕ) (before : Kind) → IfSome (limit_fault k n opened before) IsLimit
 any_limit Open n opened before = either_limit (nat_le 64 opened) (Some (TooDeep n)) None tt tt
@@ -160,11 +162,22 @@ record Ended (s : State) : Type 0 where
 done : (f : Formula) (s : State) → Some (Done f) ≡ Some s → Ended s
 done f s e = record { formula = f; is = sym (some_is e) }
 
+-- inside an arithmetic it can't stand
+never_inside : (c : Slot) (s : ArithState) (n : ℕ) → step_at (Computing c s) n End ≡ None
+never_inside c (ArithBegins h) n = refl
+never_inside c (Needs l f h) n = refl
+never_inside c (ArithHolds (PlainApow a) l f Top) n = refl
+never_inside c (ArithHolds (PlainApow a) l f h) n = refl
+never_inside c (ArithHolds (RaisedApow a i e m) l f Top) n = refl
+never_inside c (ArithHolds (RaisedApow a i e m) l f h) n = refl
+never_inside c (Raises a i l f h) n = refl
+
 ended : (s : State) (n : ℕ) (s' : State) → step_at s n End ≡ Some s' → Ended s'
 ended (Has (Plain a) l (Bottom h f)) n s' e = done _ s' e
 ended (Has p l (Bottom h f)) n s' e = done _ s' e
 ended (HasItems i h) n s' e = done _ s' e
 ended (Fresh (Bottom h f)) n s' e = cc
+ended (Computing c s) n s' e = absurd (cc (sym (never_inside c s n) ∙ e))
 ended s n s' e = cc
 
 step_ended : (q : Option State) (n : ℕ) (s' : State) → option_and_then (λ s. option_and_then (λ s. Some s) (step_at s n End)) q ≡ Some s' → Ended s'
@@ -187,14 +200,14 @@ is_formula ts s i w e le clean =
     (d.formula, d.is, record { reads = reads_only ts d.formula (e ∙ ap (λ (x : State). Some x) d.is); clean = λ j lt. clean j (omega arith) })
 
 pub reading_held : (ts : List Token) (i : ℕ) (r : Reader) → EndText ts → length ts ≤ i → Holds (take i ts) r → IsCleanBelow ts i
-    → IsReading ts (record { response = r.response; intercept = r.intercept; steps = r.steps; smooths = r.smooths })
+    → IsReading ts (record { response = r.response; intercept = r.intercept; steps = r.steps; smooths = r.smooths; offsets = r.offsets })
 reading_held ts i r w le h clean =
     let held = whole_held ts i r le h in
     let f = is_formula ts held.state i w held.is le clean in
     record {
       formula = f.0;
       is = f.2;
-      code = ap (λ (x : Reader). let y : Reading = record { response = x.response; intercept = x.intercept; steps = x.steps; smooths = x.smooths } in y) (held.shaped ∙ ap shape f.1);
+      code = ap (λ (x : Reader). let y : Reading = record { response = x.response; intercept = x.intercept; steps = x.steps; smooths = x.smooths; offsets = x.offsets } in y) (held.shaped ∙ ap shape f.1);
     }
 
 -- ---- one outcome
@@ -264,3 +277,16 @@ formula_or_fault ts w =
           inl (f.0, f.2)
       | inr f ↦ inr f
     ]
+
+-- ---- what a formula keeps
+
+-- so many tokens of a formula begin one
+front_begins : (ts : List Token) (f : Formula) (i : ℕ) → ts ≡ formula_tokens f → Begins (take i ts)
+front_begins ts f i e = record { formula = f; rest = drop i ts; whole = take-append-drop i ts ∙ e }
+
+pub keeps_limits : FormulasKeepLimits
+keeps_limits ts f w i lt =
+    elim (limit_at ts i) as (λ l. limit_at ts i ≡ l → l ≡ None) [
+      | None ↦ λ e. refl
+      | Some fault ↦ λ e. absurd (w.clean i lt fault (limit_here ts i fault (front_begins ts f (i + 1) w.reads) e))
+    ] refl

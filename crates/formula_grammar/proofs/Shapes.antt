@@ -1,11 +1,16 @@
 -- The reader of the code holds what was read of a formula.
-use Rattle.std.proofs.Common.{◌==◌, arith, cond, length, ◌≡◌, ℕ, Bool, true, false, List, [], ◌∷◌, ◌++◌, Option, Some, None, option_map, refl, sym, ◌∙◌, ap, append_assoc, append-nil}
+use Rattle.std.proofs.Common.{◌==◌, arith, cond, is_some, length, ◌≡◌, ℕ, Bool, true, false, List, [], ◌∷◌, ◌++◌, Option, Some, None, option_map, refl, sym, ◌∙◌, ap, append_assoc, append-nil}
 use Rattle.std.proofs.lemmas.Bool.Decides.{nat_tests}
-use Rattle.formula_grammar.specs.Words.{Span, Sign, Plus, Minus, Zero, Unity, Numeral, Digits, Kind, Name, FactorWord, QssWord, Number, Signed, Tilde, Star, Colon, Caret, Open, Close, Comma, Point, End, Step, Load, LoadAll, Nothing, Multiply, Interact, SmoothPart}
-use Rattle.formula_grammar.specs.Machine.{Operator, Level, Phase, Response, BeforeTilde, Opening, Operand, FactorOpen, FactorName, FactorClose, BehindAtom, Exponent, BehindPower, SmoothOpen, SmoothName, SmoothComma, SmoothLambda, SmoothClose, BehindItem, Ended, Reader, step_of, sum_step, inter_end, sum_end, bare, operand_read, sign_read, intercept_read, smooth_read, power_read, token_read}
-use Rattle.formula_grammar.specs.Grammar.{token, Bare, Led, Sum, Product, Inter, Power, Plain, Raised, Group, Nil, Intercept, Term, Items, Then, Head}
-use Rattle.formula_grammar.specs.Codes.{sum_code, product_code, inter_code, power_code, atom_code, items_code, has_intercept, smooths_of}
-use Rattle.formula_grammar.proofs.Automaton.{Left, Lefts, no_lefts, Front, Leads, After, SmoothFront, Nowhere, BehindPlus, BehindItems, Around, Bottom, Inside, State, Begin, Named, Fresh, Wants, Factor1, Factor2, Factor3, Has, Raising, Smooth1, Smooth2, Smooth3, Smooth4, Smooth5, HasItems, Done, onto_inter, onto_product, product_of, onto_sum, onto_items, led, item, smooth, behind, step_at}
+use Rattle.formula_grammar.specs.Words.{Span, Sign, Plus, Minus, Zero, Unity, Numeral, Digits, Kind, Name, FactorWord, QssWord, ArithWord, OffsetWord, Number, Signed, Tilde, Star, Colon, Caret, Open, Close, Comma, Point, End, Step, Load, LoadAll, LoadArith, Nothing, Multiply, Interact, SmoothPart, ArithPart}
+use Rattle.formula_grammar.specs.Machine.{Operator, Level, Phase, Response, BeforeTilde, Opening, Operand, FactorOpen, FactorName, FactorClose, BehindAtom, Exponent, BehindPower, SmoothOpen, SmoothName, SmoothComma, SmoothLambda, SmoothClose, BehindItem, ArithOpen, ArithInside, OffsetOpen, OffsetInside, Ended, Reader, step_of, sum_step, inter_end, sum_end, bare, operand_read, sign_read, intercept_read, part_read, power_read, token_read, with_arith}
+use Rattle.formula_grammar.specs.Grammar.{token, Bare, Led, Sum, Product, Inter, Power, Plain, Raised, Group, Nil, Intercept, Term, Items, Then, ThenPart, Offsetting, Smoothing, Head}
+use Rattle.formula_grammar.specs.Codes.{sum_code, product_code, inter_code, power_code, atom_code, items_code, has_intercept, smooths_of, offsets_of}
+use Rattle.formula_grammar.specs.ArithCodes.{part_of}
+use Rattle.formula_grammar.specs.ArithMachine.{arith_ends_at, arith_fresh, arith_part, arith_read}
+use Rattle.formula_grammar.specs.Arithmetics.{Arith}
+use Rattle.formula_grammar.proofs.ArithAutomaton.{ArithState, arith_ending, arith_step}
+use Rattle.formula_grammar.proofs.ArithShapes.{arith_commutes, arith_ends, arith_part_is, arith_shape}
+use Rattle.formula_grammar.proofs.Automaton.{Left, Lefts, no_lefts, Front, Leads, After, PartFront, Nowhere, BehindPlus, BehindItems, Around, Bottom, Inside, Slot, TermSlot, OffsetSlot, State, Arith1, Offset1, Computing, Begin, Named, Fresh, Wants, Factor1, Factor2, Factor3, Has, Raising, Smooth1, Smooth2, Smooth3, Smooth4, Smooth5, HasItems, Done, onto_inter, onto_product, product_of, onto_sum, onto_items, led, item, part, behind, slot_end, slot_step, step_at}
 
 abbrev place_of : {T : Type 0} → Option (Left T) → Option ℕ
 place_of None = None
@@ -47,6 +52,14 @@ abbrev smooths_around : Around → List SmoothPart
 smooths_around (Bottom h f) = front_smooths f
 smooths_around (Inside f m l o) = smooths_around o
 
+abbrev front_offsets : Front Items → List ArithPart
+front_offsets (Leads l) = []
+front_offsets (After j x n) = offsets_of j
+
+abbrev offsets_around : Around → List ArithPart
+offsets_around (Bottom h f) = front_offsets f
+offsets_around (Inside f m l o) = offsets_around o
+
 abbrev product_before : Option (Left Product) → List Step
 product_before None = []
 product_before (Some l) = product_code l.tree
@@ -78,34 +91,43 @@ held o l steps p = record {
   response = response_of o;
   intercept = intercept_of o;
   smooths = smooths_around o;
+  offsets = offsets_around o;
   steps = steps;
+  arith = arith_fresh;
   level = level_of o l;
   outer = outer_of o;
   phase = p;
 }
 
-abbrev smooth_intercept : SmoothFront → Bool
-smooth_intercept Nowhere = true
-smooth_intercept (BehindPlus n) = true
-smooth_intercept (BehindItems j n) = has_intercept j
+abbrev part_intercept : PartFront → Bool
+part_intercept Nowhere = true
+part_intercept (BehindPlus n) = true
+part_intercept (BehindItems j n) = has_intercept j
 
-abbrev smooths_before : SmoothFront → List SmoothPart
+abbrev smooths_before : PartFront → List SmoothPart
 smooths_before Nowhere = []
 smooths_before (BehindPlus n) = []
 smooths_before (BehindItems j n) = smooths_of j
 
-abbrev smooth_steps : SmoothFront → List Step
-smooth_steps Nowhere = Nothing ∷ []
-smooth_steps (BehindPlus n) = Nothing ∷ []
-smooth_steps (BehindItems j n) = items_code j
+abbrev offsets_before : PartFront → List ArithPart
+offsets_before Nowhere = []
+offsets_before (BehindPlus n) = []
+offsets_before (BehindItems j n) = offsets_of j
 
--- the reader inside a smooth
-abbrev smooth_held : Head → SmoothFront → Phase → Reader
-smooth_held h f p = record {
+abbrev part_steps : PartFront → List Step
+part_steps Nowhere = Nothing ∷ []
+part_steps (BehindPlus n) = Nothing ∷ []
+part_steps (BehindItems j n) = items_code j
+
+-- the reader inside a smooth or an offset
+abbrev part_held : Head → PartFront → Phase → Reader
+part_held h f p = record {
   response = h.response;
-  intercept = smooth_intercept f;
+  intercept = part_intercept f;
   smooths = smooths_before f;
-  steps = smooth_steps f;
+  offsets = offsets_before f;
+  steps = part_steps f;
+  arith = arith_fresh;
   level = bare;
   outer = [];
   phase = p;
@@ -117,18 +139,25 @@ items_held h i p = record {
   response = h.response;
   intercept = has_intercept i;
   smooths = smooths_of i;
+  offsets = offsets_of i;
   steps = items_code i;
+  arith = arith_fresh;
   level = bare;
   outer = [];
   phase = p;
 }
 
 abbrev nothing_held : Span → Phase → Reader
-nothing_held x p = record { response = x; intercept = true; smooths = []; steps = []; level = bare; outer = []; phase = p }
+nothing_held x p = record { response = x; intercept = true; smooths = []; offsets = []; steps = []; arith = arith_fresh; level = bare; outer = []; phase = p }
 
 abbrev phase_behind : Power → Phase
 phase_behind (Plain a) = BehindAtom
 phase_behind (Raised a c e m) = BehindPower
+
+-- the reader inside an arithmetic, but for that
+abbrev slot_held : Slot → Reader
+slot_held (TermSlot w p l o) = held o l (outside o ++ before l) ArithInside
+slot_held (OffsetSlot w p h f) = part_held h f OffsetInside
 
 abbrev pub shape : State → Reader
 shape Begin = nothing_held (record { start = 0; len = 0 }) Response
@@ -138,13 +167,16 @@ shape (Wants l o) = held o l (outside o ++ before l) Operand
 shape (Factor1 w l o) = held o l (outside o ++ before l) FactorOpen
 shape (Factor2 w p l o) = held o l (outside o ++ before l) FactorName
 shape (Factor3 w p x m l o) = held o l (outside o ++ before l) (FactorClose x)
+shape (Arith1 w l o) = held o l (outside o ++ before l) ArithOpen
+shape (Offset1 w h f) = part_held h f OffsetOpen
+shape (Computing c s) = record (slot_held c) { arith = arith_shape s }
 shape (Has p l o) = held o l (outside o ++ (before l ++ power_code p)) (phase_behind p)
 shape (Raising a c l o) = held o l (outside o ++ (before l ++ atom_code a)) (Exponent c)
-shape (Smooth1 w h f) = smooth_held h f SmoothOpen
-shape (Smooth2 w p h f) = smooth_held h f SmoothName
-shape (Smooth3 w p x m h f) = smooth_held h f (SmoothComma x)
-shape (Smooth4 w p x m c h f) = smooth_held h f (SmoothLambda x)
-shape (Smooth5 w p x m c v q h f) = smooth_held h f (SmoothClose (record { name = x; lambda = v }))
+shape (Smooth1 w h f) = part_held h f SmoothOpen
+shape (Smooth2 w p h f) = part_held h f SmoothName
+shape (Smooth3 w p x m h f) = part_held h f (SmoothComma x)
+shape (Smooth4 w p x m c h f) = part_held h f (SmoothLambda x)
+shape (Smooth5 w p x m c v q h f) = part_held h f (SmoothClose (record { name = x; lambda = v }))
 shape (HasItems i h) = items_held h i BehindItem
 shape (Done f) = items_held f.head f.items Ended
 
@@ -224,17 +256,24 @@ unity_commutes (Bottom h (After j Minus m)) n = same_steps (items_held h (Then j
 unity_commutes (Inside f p l o) n = none_inside (level_of o l) (outer_of o) _
 unity_commutes o n = refl
 
-smooth_commutes : (o : Around) (n : ℕ) → smooth_read (shape (Fresh o)) ≡ option_map shape (smooth o n)
+smooth_commutes : (o : Around) (n : ℕ) → part_read (shape (Fresh o)) SmoothOpen ≡ option_map shape (part (Smooth1 n) o)
 smooth_commutes (Bottom h (Leads (Led Plus m))) n = refl
-smooth_commutes (Bottom h (After j Plus m)) n = same_steps (smooth_held h (BehindItems j m) SmoothOpen) _ _ (append-nil (items_code j))
+smooth_commutes (Bottom h (After j Plus m)) n = same_steps (part_held h (BehindItems j m) SmoothOpen) _ _ (append-nil (items_code j))
 smooth_commutes (Inside f p l o) n = none_inside (level_of o l) (outer_of o) _
 smooth_commutes o n = refl
+
+offset_commutes : (o : Around) (n : ℕ) → part_read (shape (Fresh o)) OffsetOpen ≡ option_map shape (part (Offset1 n) o)
+offset_commutes (Bottom h (Leads (Led Plus m))) n = refl
+offset_commutes (Bottom h (After j Plus m)) n = same_steps (part_held h (BehindItems j m) OffsetOpen) _ _ (append-nil (items_code j))
+offset_commutes (Inside f p l o) n = none_inside (level_of o l) (outer_of o) _
+offset_commutes o n = refl
 
 -- an operand may stand where a sign or an item may
 fresh_operand : (o : Around) (k : Kind) → operand_read (held o no_lefts (outside o) Opening) k ≡ operand_read (held o no_lefts (outside o ++ []) Operand) k
 fresh_operand o (Name x) = same_steps (held o no_lefts [] BehindAtom) _ _ (ap (λ (x' : List Step). x' ++ (Load x false ∷ [])) (sym (append-nil (outside o))))
 fresh_operand o Point = same_steps (held o no_lefts [] BehindAtom) _ _ (ap (λ (x : List Step). x ++ (LoadAll ∷ [])) (sym (append-nil (outside o))))
 fresh_operand o FactorWord = same_steps (held o no_lefts [] FactorOpen) _ _ (sym (append-nil (outside o)))
+fresh_operand o ArithWord = same_steps (held o no_lefts [] ArithOpen) _ _ (sym (append-nil (outside o)))
 fresh_operand o Open = same_steps (record (held o no_lefts [] Opening) { level = bare; outer = level_of o no_lefts ∷ outer_of o }) _ _ (sym (append-nil (outside o)))
 fresh_operand o k = refl
 
@@ -243,6 +282,7 @@ fresh_commutes o n (Signed x) = leading_commutes o x n
 fresh_commutes o n (Number (Digits Zero)) = zero_commutes o n
 fresh_commutes o n (Number (Digits Unity)) = unity_commutes o n
 fresh_commutes o n QssWord = smooth_commutes o n
+fresh_commutes o n OffsetWord = offset_commutes o n
 fresh_commutes o n k = fresh_operand o k ∙ operand_commutes no_lefts o n k
 
 -- ---- behind a power
@@ -279,9 +319,50 @@ behind_commutes p l (Bottom h (After j y m)) n End q = same_steps (items_held h 
 behind_commutes p l (Inside f m r o) n End q = none_inside (level_of o r) (outer_of o) _
 behind_commutes p l o n k q = refl
 
-smooth_end_commutes : (w p : ℕ) (x : Span) (m c : ℕ) (v : Numeral) (q : ℕ) (h : Head) (f : SmoothFront) (n : ℕ) → Commutes (Smooth5 w p x m c v q h f) n Close
+smooth_end_commutes : (w p : ℕ) (x : Span) (m c : ℕ) (v : Numeral) (q : ℕ) (h : Head) (f : PartFront) (n : ℕ) → Commutes (Smooth5 w p x m c v q h f) n Close
 smooth_end_commutes w p x m c v q h Nowhere n = refl
-smooth_end_commutes w p x m c v q h f n = refl
+smooth_end_commutes w p x m c v q h (BehindPlus k) n = refl
+smooth_end_commutes w p x m c v q h (BehindItems j k) n = ap (λ (x' : List ArithPart). let r : Reader = record (items_held h (ThenPart j k (Smoothing (record { word = w; opened = p; name = x; place = m; comma = c; lambda = v; at = q; closed = n }))) BehindItem) { offsets = x' } in Some r) (sym (append-nil (offsets_of j)))
+
+-- ---- inside an arithmetic
+
+-- the reader behind an arithmetic that ended
+abbrev slot_behind : Slot → ArithPart → Reader
+slot_behind (TermSlot w p l o) a = held o l ((outside o ++ before l) ++ (LoadArith a ∷ [])) BehindAtom
+slot_behind (OffsetSlot w p h f) a = record (part_held h f BehindItem) { offsets = offsets_before f ++ (a ∷ []) }
+
+slot_reads : (c : Slot) (s : ArithState) (n : ℕ) (k : Kind)
+    → token_read (shape (Computing c s)) (token k n) ≡ cond (arith_ends_at (arith_shape s) k) (Some (slot_behind c (arith_part (arith_shape s)))) (with_arith (shape (Computing c s)) (arith_read (arith_shape s) (token k n)))
+slot_reads (TermSlot w p l o) s n k = refl
+slot_reads (OffsetSlot w p h f) s n k = refl
+
+slot_ended : (c : Slot) (a : Arith) (n : ℕ) → slot_behind c (part_of a) ≡ shape (slot_end c a n)
+slot_ended (TermSlot w p l o) a n = ap (λ (x : List Step). held o l x BehindAtom) (append_assoc (outside o) (before l) (LoadArith (part_of a) ∷ []))
+slot_ended (OffsetSlot w p h Nowhere) a n = refl
+slot_ended (OffsetSlot w p h (BehindPlus m)) a n = refl
+slot_ended (OffsetSlot w p h (BehindItems j m)) a n = ap (λ (x : List SmoothPart). record (items_held h (ThenPart j m (Offsetting (record { word = w; opened = p; arith = a; closed = n }))) BehindItem) { smooths = x }) (sym (append-nil (smooths_of j)))
+
+with_arith_is : (c : Slot) (s : ArithState) (q : Option ArithState) → with_arith (shape (Computing c s)) (option_map arith_shape q) ≡ option_map shape (slot_step c 0 None q)
+with_arith_is c s None = refl
+with_arith_is c s (Some m) = refl
+
+slot_step_none : (c : Slot) (n : ℕ) (q : Option ArithState) → slot_step c n None q ≡ slot_step c 0 None q
+slot_step_none c n None = refl
+slot_step_none c n (Some s) = refl
+
+slot_goes : (c : Slot) (s : ArithState) (n : ℕ) (k : Kind) (a : Option Arith) → arith_ending s k ≡ a
+    → cond (is_some a) (Some (slot_behind c (arith_part (arith_shape s)))) (with_arith (shape (Computing c s)) (arith_read (arith_shape s) (token k n))) ≡ option_map shape (slot_step c n a (arith_step s n k))
+slot_goes c s n k (Some a) e = ap (λ (x : ArithPart). Some (slot_behind c x)) (arith_part_is s k a e) ∙ ap (λ (x : Reader). Some x) (slot_ended c a n)
+slot_goes c s n k None e =
+    ap (with_arith (shape (Computing c s))) (arith_commutes s n k)
+    ∙ with_arith_is c s (arith_step s n k)
+    ∙ ap (option_map shape) (sym (slot_step_none c n (arith_step s n k)))
+
+slot_commutes : (c : Slot) (s : ArithState) (n : ℕ) (k : Kind) → Commutes (Computing c s) n k
+slot_commutes c s n k =
+    slot_reads c s n k
+    ∙ ap (λ (b : Bool). cond b (Some (slot_behind c (arith_part (arith_shape s)))) (with_arith (shape (Computing c s)) (arith_read (arith_shape s) (token k n)))) (arith_ends s k)
+    ∙ slot_goes c s n k (arith_ending s k) refl
 
 -- The reader goes where the reading goes.
 pub commutes : (s : State) (n : ℕ) (k : Kind) → Commutes s n k
@@ -292,6 +373,9 @@ commutes (Wants l o) n k = operand_commutes l o n k
 commutes (Factor1 w l o) n Open = refl
 commutes (Factor2 w p l o) n (Name x) = refl
 commutes (Factor3 w p x m l o) n Close = same_steps (held o l [] BehindAtom) _ _ (append_assoc (outside o) (before l) (Load x true ∷ []))
+commutes (Arith1 w l o) n Open = refl
+commutes (Offset1 w h f) n Open = refl
+commutes (Computing c s) n k = slot_commutes c s n k
 commutes (Has (Plain a) l o) n Caret = refl
 commutes (Has (Plain a) l o) n k = behind_commutes (Plain a) l o n k BehindAtom
 commutes (Raising a c l o) n (Number (Digits e)) = same_steps (held o l [] BehindPower) _ _ (simp append_assoc)

@@ -6,7 +6,8 @@ use Rattle.std.specs.Str.Parse.{starts_with_minus}
 use Rattle.std.proofs.lemmas.Bool.Decides.{nat_tests}
 use mathlib.Core.HLevel.{is_prop→PathP}
 use Rattle.exact_algebra.specs.Fraction.{Fraction, rational}
-use Rattle.exact_algebra.specs.Rational.{ℚ, quotient}
+use Rattle.exact_algebra.specs.Rational.{ℚ, quotient, whole}
+use Rattle.exact_algebra.proofs.Quotients.{quotient-one}
 use Rattle.frac_core.specs.Gcd.{gcd, gcd-is}
 use Rattle.frac_core.specs.Lowest.{same_fraction, IsWithin-along}
 use Rattle.frac_core.specs.NumberText.{in_range, number_of, with_sign, written, written_body}
@@ -16,7 +17,7 @@ use Rattle.frac_core.specs.declared.number_reader.NumberFault.TheVariants.{TooWi
 use Rattle.frac_core.proofs.Products.{reduced_is}
 use Rattle.frac_core.proofs.ReaderSteps.{IsUnsigned, reduces, unsigned_body}
 use Rattle.formula_grammar.specs.Magnitudes.{Magnitude, magnitude, magnitude_if, magnitude_of, range}
-use Rattle.formula_grammar.specs.Numerals.{exact}
+use Rattle.formula_grammar.specs.Numerals.{exact, one_fraction, zero_fraction}
 use Rattle.formula_grammar.specs.Numbers.{is_signed}
 use Rattle.formula_grammar.proofs.NumberTexts.{unsigned}
 
@@ -76,3 +77,19 @@ read_magnitude text r u h e =
 
 pub read_none : (text : List ℕ) (f : NumberFault) → is_signed text ≡ false → number_of range text ≡ Err f → None ≡ magnitude_of text
 read_none text f h e = sym (read_as text (Err f) h e)
+
+-- ---- 0 and 1
+
+zero_exact : exact zero_fraction ≡ whole (pos 0)
+unfolding zero_fraction
+zero_exact = lowest_exact 0 1 (omega arith) (omega arith) (omega arith) ∙ quotient-one (pos 0)
+
+one_exact : exact one_fraction ≡ whole (pos 1)
+unfolding one_fraction
+one_exact = lowest_exact 1 1 (omega arith) (omega arith) (omega arith) ∙ quotient-one (pos 1)
+
+pub zero_is : (x : Frac128) → exact x ≡ whole (pos 0) → x ≡ zero_fraction
+zero_is x e = same_exact x zero_fraction (e ∙ sym zero_exact)
+
+pub one_is : (x : Frac128) → exact x ≡ whole (pos 1) → x ≡ one_fraction
+one_is x e = same_exact x one_fraction (e ∙ sym one_exact)

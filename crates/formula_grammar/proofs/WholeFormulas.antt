@@ -1,8 +1,12 @@
 -- Every formula is read.
 use Rattle.std.proofs.Common.{◌≡◌, ℕ, List, [], ◌∷◌, ◌++◌, Option, Some, None, option_and_then, refl, sym, ◌∙◌, ap, append_assoc}
 use Rattle.formula_grammar.specs.Words.{Sign, Plus, Digits, Kind, Number, Signed, Star, Colon, Caret, Close, End, Token}
-use Rattle.formula_grammar.specs.Grammar.{token, Bare, Led, Sum, First, More, Product, One, Times, Inter, Lone, Cross, Power, Plain, Raised, Atom, Leaf, Factor, Dot, Group, Item, Nil, Intercept, Term, Items, Start, StartSmooth, StartPlus, Then, ThenSmooth, Head, Formula, sum_tokens, product_tokens, inter_tokens, power_tokens, atom_tokens, smooth_tokens, item_tokens, items_tokens, formula_tokens, OneFormula}
-use Rattle.formula_grammar.proofs.Automaton.{Left, Lefts, no_lefts, Front, Leads, After, Around, Bottom, Inside, State, Begin, Fresh, Wants, Has, HasItems, Done, onto_inter, onto_product, product_of, onto_sum, onto_items, signed, closing, ending, behind, behind_items, run}
+use Rattle.formula_grammar.specs.Grammar.{token, Bare, Led, Sum, First, More, Product, One, Times, Inter, Lone, Cross, Power, Plain, Raised, Atom, Leaf, Factor, Computed, Dot, Group, Offset, Part, Smoothing, Offsetting, Item, Nil, Intercept, Term, Items, Start, StartPart, StartPlus, Then, ThenPart, Head, Formula, sum_tokens, product_tokens, inter_tokens, power_tokens, atom_tokens, part_tokens, offset_tokens, item_tokens, items_tokens, formula_tokens, OneFormula}
+use Rattle.formula_grammar.proofs.Automaton.{Left, Lefts, no_lefts, Front, Leads, After, PartFront, Nowhere, BehindPlus, BehindItems, Around, Bottom, Inside, Slot, TermSlot, OffsetSlot, State, Begin, Computing, Fresh, Wants, Has, HasItems, Done, onto_inter, onto_product, product_of, onto_sum, onto_items, signed, closing, ending, behind, behind_items, onto_part, slot_end, slot_step, step_at, run}
+use Rattle.formula_grammar.specs.Arithmetics.{Arith, arith_tokens}
+use Rattle.formula_grammar.proofs.ArithAutomaton.{Top, ArithState, Begins, arith_run, arith_step}
+use Rattle.formula_grammar.proofs.ArithShown.{no_ending}
+use Rattle.formula_grammar.proofs.WholeArithmetics.{arith_is_read, arith_that_is_read, holds_arith}
 
 abbrev last_inter : Inter → Power
 last_inter (Lone a) = a
@@ -78,10 +82,31 @@ product_end p o n rest =
     power_next (last_inter (last_product p)) (lefts (left_product p) (left_inter (last_product p))) o n End rest tt
     ∙ ap (λ (q : Product). option_and_then (λ s. run s rest) (ending q o n)) (whole_product p)
 
+-- A token of an arithmetic is one of the formula.
+inside_step : (c : Slot) (s : ArithState) (n : ℕ) (k : Kind) (s' : ArithState) → arith_step s n k ≡ Some s' → step_at (Computing c s) n k ≡ Some (Computing c s')
+inside_step c s n k s' e =
+    ap (λ (x : Option Arith). slot_step c n x (arith_step s n k)) (no_ending s n k s' e)
+    ∙ ap (λ (q : Option ArithState). slot_step c n None q) e
+
+inside_run : (c : Slot) (ts rest : List Token) (s s' : ArithState) → arith_run s ts ≡ Some s' → run (Computing c s) (ts ++ rest) ≡ run (Computing c s') rest
+inside_run c [] rest s s' h = let e : s ≡ s' = cc in ap (λ (x : ArithState). run (Computing c x) rest) e
+inside_run c (t ∷ ts) rest s s' h =
+    elim (arith_step s t.at t.kind) as (λ q. arith_step s t.at t.kind ≡ q → option_and_then (λ x. arith_run x ts) q ≡ Some s' → run (Computing c s) ((t ∷ ts) ++ rest) ≡ run (Computing c s') rest) [
+      | None ↦ λ e h. cc
+      | Some m ↦ λ e h. ap (option_and_then (λ x. run x (ts ++ rest))) (inside_step c s t.at t.kind m e) ∙ inside_run c ts rest m s' h
+    ] refl h
+
+-- An arithmetic and the parenthesis behind it.
+reads_slot : (c : Slot) (a : Arith) (n : ℕ) (rest : List Token) → run (Computing c (Begins Top)) (arith_tokens a ++ (token Close n ∷ rest)) ≡ run (slot_end c a n) rest
+reads_slot c a n rest =
+    inside_run c (arith_tokens a) (token Close n ∷ rest) (Begins Top) (holds_arith a Top) (arith_is_read a Top)
+    ∙ ap (λ (b : Arith). run (slot_end c b n) rest) (arith_that_is_read a)
+
 -- A product may stand where a sign or an item may.
 opens_atom : (a : Atom) (o : Around) (rest : List Token) → run (Fresh o) (atom_tokens a ++ rest) ≡ run (Wants no_lefts o) (atom_tokens a ++ rest)
 opens_atom (Leaf x n) o rest = refl
 opens_atom (Factor w p x n c) o rest = refl
+opens_atom (Computed w p a c) o rest = refl
 opens_atom (Dot n) o rest = refl
 opens_atom (Group n s c) o rest = refl
 
@@ -136,6 +161,9 @@ mutual
   reads_atom : (a : Atom) (l : Lefts) (o : Around) (rest : List Token) → run (Wants l o) (atom_tokens a ++ rest) ≡ run (Has (Plain a) l o) rest
   reads_atom (Leaf x n) l o rest = refl
   reads_atom (Factor w p x n c) l o rest = refl
+  reads_atom (Computed w p a c) l o rest =
+      ap (run (Computing (TermSlot w p l o) (Begins Top))) (append_assoc (arith_tokens a) (token Close c ∷ []) rest)
+      ∙ reads_slot (TermSlot w p l o) a c rest
   reads_atom (Dot n) l o rest = refl
   reads_atom (Group m s c) l o rest =
       ap (run (Fresh (Inside (Leads Bare) m l o))) (append_assoc (sum_tokens s) (token Close c ∷ []) rest)
@@ -150,10 +178,10 @@ has_item (Term p) h f = has_product p (Bottom h f)
 
 abbrev has_items : Items → Head → State
 has_items (Start l i) h = has_item i h (Leads l)
-has_items (StartSmooth s) h = HasItems (StartSmooth s) h
-has_items (StartPlus n s) h = HasItems (StartPlus n s) h
+has_items (StartPart p) h = HasItems (StartPart p) h
+has_items (StartPlus n p) h = HasItems (StartPlus n p) h
 has_items (Then j x n i) h = has_item i h (After j x n)
-has_items (ThenSmooth j n s) h = HasItems (ThenSmooth j n s) h
+has_items (ThenPart j n p) h = HasItems (ThenPart j n p) h
 
 reads_item : (i : Item) (h : Head) (f : Front Items) (rest : List Token) → run (Fresh (Bottom h f)) (item_tokens i ++ rest) ≡ run (has_item i h f) rest
 reads_item (Nil n) h f rest = refl
@@ -176,24 +204,45 @@ item_next (Intercept m) h f n k rest w = refl
 items_next : (j : Items) (h : Head) (n : ℕ) (k : Kind) (rest : List Token) → IsNext k → run (has_items j h) (token k n ∷ rest) ≡ option_and_then (λ s. run s rest) (behind_items j h n k)
 items_next (Start l i) h n k rest w = item_next i h (Leads l) n k rest w
 items_next (Then j x m i) h n k rest w = item_next i h (After j x m) n k rest w
-items_next (StartSmooth s) h n k rest w = refl
-items_next (StartPlus m s) h n k rest w = refl
-items_next (ThenSmooth j m s) h n k rest w = refl
+items_next (StartPart p) h n k rest w = refl
+items_next (StartPlus m p) h n k rest w = refl
+items_next (ThenPart j m p) h n k rest w = refl
+
+-- a smooth or an offset behind its front
+abbrev fronted : PartFront → Front Items
+fronted Nowhere = Leads Bare
+fronted (BehindPlus n) = Leads (Led Plus n)
+fronted (BehindItems j n) = After j Plus n
+
+offset_opens : (f : PartFront) (g : Offset) (h : Head) (rest : List Token) → run (Fresh (Bottom h (fronted f))) (offset_tokens g ++ rest) ≡ run (Computing (OffsetSlot g.word g.opened h f) (Begins Top)) ((arith_tokens g.arith ++ (token Close g.closed ∷ [])) ++ rest)
+offset_opens Nowhere g h rest = refl
+offset_opens (BehindPlus n) g h rest = refl
+offset_opens (BehindItems j n) g h rest = refl
+
+reads_part : (f : PartFront) (p : Part) (h : Head) (rest : List Token) → run (Fresh (Bottom h (fronted f))) (part_tokens p ++ rest) ≡ run (HasItems (onto_part f p) h) rest
+reads_part Nowhere (Smoothing s) h rest = refl
+reads_part (BehindPlus n) (Smoothing s) h rest = refl
+reads_part (BehindItems j n) (Smoothing s) h rest = refl
+reads_part f (Offsetting g) h rest =
+    offset_opens f g h rest
+    ∙ ap (run (Computing (OffsetSlot g.word g.opened h f) (Begins Top))) (append_assoc (arith_tokens g.arith) (token Close g.closed ∷ []) rest)
+    ∙ reads_slot (OffsetSlot g.word g.opened h f) g.arith g.closed rest
 
 reads_items : (i : Items) (h : Head) (rest : List Token) → run (Fresh (Bottom h (Leads Bare))) (items_tokens i ++ rest) ≡ run (has_items i h) rest
 reads_items (Start Bare i) h rest = reads_item i h (Leads Bare) rest
 reads_items (Start (Led x n) i) h rest = reads_item i h (Leads (Led x n)) rest
-reads_items (StartSmooth s) h rest = refl
-reads_items (StartPlus n s) h rest = refl
+reads_items (StartPart p) h rest = reads_part Nowhere p h rest
+reads_items (StartPlus n p) h rest = reads_part (BehindPlus n) p h rest
 reads_items (Then j x n i) h rest =
     ap (run (Fresh (Bottom h (Leads Bare)))) (append_assoc (items_tokens j) (token (Signed x) n ∷ item_tokens i) rest)
     ∙ reads_items j h (token (Signed x) n ∷ (item_tokens i ++ rest))
     ∙ items_next j h n (Signed x) (item_tokens i ++ rest) tt
     ∙ reads_item i h (After j x n) rest
-reads_items (ThenSmooth j n s) h rest =
-    ap (run (Fresh (Bottom h (Leads Bare)))) (append_assoc (items_tokens j) (token (Signed Plus) n ∷ smooth_tokens s) rest)
-    ∙ reads_items j h (token (Signed Plus) n ∷ (smooth_tokens s ++ rest))
-    ∙ items_next j h n (Signed Plus) (smooth_tokens s ++ rest) tt
+reads_items (ThenPart j n p) h rest =
+    ap (run (Fresh (Bottom h (Leads Bare)))) (append_assoc (items_tokens j) (token (Signed Plus) n ∷ part_tokens p) rest)
+    ∙ reads_items j h (token (Signed Plus) n ∷ (part_tokens p ++ rest))
+    ∙ items_next j h n (Signed Plus) (part_tokens p ++ rest) tt
+    ∙ reads_part (BehindItems j n) p h rest
 
 -- Every formula is read.
 pub reads_formula : (f : Formula) → run Begin (formula_tokens f) ≡ Some (Done f)

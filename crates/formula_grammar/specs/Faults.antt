@@ -1,6 +1,6 @@
 -- Stated. The formula of some tokens, or their first fault.
 use Rattle.std.specs.Prelude.{◌≡◌, ◌⊎◌, ◌++◌, ◌<◌, ◌+◌, ◌-◌, ◌&&◌, ℕ, Bool, nat_le, List, [], ◌∷◌, length, take, slice_index_or, Option, Some, None, if◌then◌else◌}
-use Rattle.formula_grammar.specs.Words.{Kind, Number, Caret, Open, Close, Comma, End, Whole, Numeral, Digits, Token, Reading}
+use Rattle.formula_grammar.specs.Words.{Kind, Number, Caret, Open, Close, End, Whole, Numeral, Digits, Token, Reading}
 pub use Rattle.formula_grammar.specs.declared.fault.ReadFault.{ReadFault}
 pub use Rattle.formula_grammar.specs.declared.fault.ReadFault.TheVariants.{OutOfMemory, Syntax, TooDeep, PowerRange, NumberTooWide}
 use Rattle.formula_grammar.specs.Numerals.{is_wide, power_of}
@@ -39,11 +39,11 @@ last_kind ts = last_from End ts
 abbrev pub is_power : Whole → Bool
 is_power k = nat_le 1 (power_of k) && nat_le (power_of k) 8
 
--- an exponent, which is digits behind `^`, whose value isn't 1 to 8; a lambda, which is a number behind a comma, that is too wide
+-- an exponent, which is digits behind `^`, whose value isn't 1 to 8; any other number that is too wide, which is a lambda or
+-- stands in an arithmetic
 abbrev pub number_fault : Kind → Numeral → ℕ → Option ReadFault
 number_fault Caret (Digits k) n = if is_power k then None else Some (PowerRange n)
-number_fault Comma x n = if is_wide x then Some (NumberTooWide n) else None
-number_fault before x n = None
+number_fault before x n = if is_wide x then Some (NumberTooWide n) else None
 
 -- the limit that a token passes, behind a token of this kind and with so many open parentheses
 abbrev pub limit_fault : Kind → ℕ → ℕ → Kind → Option ReadFault
@@ -105,3 +105,7 @@ NoFormulaHasFaults = (ts : List Token) (f : Formula) (fault : ReadFault) → IsF
 -- the tokens of a text are a formula or have a first fault
 abbrev pub FormulaOrFault : Type 0
 FormulaOrFault = (ts : List Token) → EndText ts → ((f : Formula) × IsFormula ts f) ⊎ ((fault : ReadFault) × IsFirstFault ts fault)
+
+-- no token of a formula passes a limit: parentheses, exponents and numbers are within their ranges
+abbrev pub FormulasKeepLimits : Type 0
+FormulasKeepLimits = (ts : List Token) (f : Formula) → IsFormula ts f → (i : ℕ) → i < length ts → limit_at ts i ≡ None

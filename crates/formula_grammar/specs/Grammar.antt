@@ -1,24 +1,17 @@
 -- Stated. The grammar of formulas, one type for each line of it. A tree keeps where its tokens begin. It is a profile
 -- of R's (Chambers and Hastie 1992, Statistical Models in S, chapter 2), with smooths (Koenker, Ng and Portnoy 1994).
 --
---   formula = NAME "~" [ "+" | "-" ] item { ( "+" | "-" ) item }      no qss follows "-"
---   item    = "0" | "1" | "qss" "(" NAME "," NUMBER ")" | product
+--   formula = NAME "~" [ "+" | "-" ] item { ( "+" | "-" ) item }      no qss and no offset follows "-"
+--   item    = "0" | "1" | "qss" "(" NAME "," NUMBER ")" | "offset" "(" arith ")" | product
 --   sum     = [ "+" | "-" ] product { ( "+" | "-" ) product }
 --   product = inter { "*" inter }
 --   inter   = power { ":" power }
 --   power   = atom [ "^" DIGITS ]
---   atom    = NAME | "factor" "(" NAME ")" | "." | "(" sum ")"
+--   atom    = NAME | "factor" "(" NAME ")" | "I" "(" arith ")" | "." | "(" sum ")"
 use Rattle.std.specs.Prelude.{◌≡◌, ℕ, List, [], ◌∷◌, ◌++◌}
-use Rattle.formula_grammar.specs.Words.{Span, Sign, Plus, Whole, Zero, Unity, Numeral, Digits, Kind, Name, FactorWord, QssWord, Number, Signed, Tilde, Star, Colon, Caret, Open, Close, Comma, Point, End, Token}
-
--- the token of a kind that begins at a place
-abbrev pub token : Kind → ℕ → Token
-token kind place = record { kind = kind; at = place }
-
--- a leading sign, or none
-pub data Lead : Type 0 where
-  Bare : Lead
-  Led : (sign : Sign) (place : ℕ) → Lead
+use Rattle.formula_grammar.specs.Words.{Span, Sign, Plus, Whole, Zero, Unity, Numeral, Digits, Name, FactorWord, QssWord, ArithWord, OffsetWord, Number, Signed, Tilde, Star, Colon, Caret, Open, Close, Comma, Point, End, Token}
+pub use Rattle.formula_grammar.specs.Arithmetics.{token, Lead, Bare, Led, lead_tokens}
+use Rattle.formula_grammar.specs.Arithmetics.{Arith, arith_tokens}
 
 mutual
   -- sum: products with the signs between them
@@ -41,10 +34,11 @@ mutual
     Plain : (only : Atom) → Power
     Raised : (base : Atom) (place : ℕ) (exponent : Whole) (at : ℕ) → Power
 
-  -- atom: a name, a name in `factor( )`, the point, or a sum in parentheses
+  -- atom: a name, a name in `factor( )`, an arithmetic in `I( )`, the point, or a sum in parentheses
   pub data Atom : Type 0 where
     Leaf : (name : Span) (place : ℕ) → Atom
     Factor : (word opened : ℕ) (name : Span) (place closed : ℕ) → Atom
+    Computed : (word opened : ℕ) (arith : Arith) (closed : ℕ) → Atom
     Dot : (place : ℕ) → Atom
     Group : (opened : ℕ) (inner : Sum) (closed : ℕ) → Atom
 
@@ -59,19 +53,31 @@ pub record Smooth : Type 0 where
   pub at : ℕ
   pub closed : ℕ
 
--- an item that isn't a smooth
+-- the item of an offset
+pub record Offset : Type 0 where
+  pub word : ℕ
+  pub opened : ℕ
+  pub arith : Arith
+  pub closed : ℕ
+
+-- a smooth or an offset
+pub data Part : Type 0 where
+  Smoothing : (smooth : Smooth) → Part
+  Offsetting : (offset : Offset) → Part
+
+-- an item that is neither
 pub data Item : Type 0 where
   Nil : (place : ℕ) → Item
   Intercept : (place : ℕ) → Item
   Term : (product : Product) → Item
 
--- items with the signs between them; a smooth stands first, behind a leading plus, or behind a plus
+-- items with the signs between them; a smooth or an offset stands first, behind a leading plus, or behind a plus
 pub data Items : Type 0 where
   Start : (lead : Lead) (item : Item) → Items
-  StartSmooth : (smooth : Smooth) → Items
-  StartPlus : (place : ℕ) (smooth : Smooth) → Items
+  StartPart : (part : Part) → Items
+  StartPlus : (place : ℕ) (part : Part) → Items
   Then : (left : Items) (sign : Sign) (place : ℕ) (item : Item) → Items
-  ThenSmooth : (left : Items) (place : ℕ) (smooth : Smooth) → Items
+  ThenPart : (left : Items) (place : ℕ) (part : Part) → Items
 
 -- the response and the tilde
 pub record Head : Type 0 where
@@ -84,11 +90,6 @@ pub record Formula : Type 0 where
   pub head : Head
   pub items : Items
   pub ended : ℕ
-
--- the tokens of each of these, from left to right
-abbrev pub lead_tokens : Lead → List Token
-lead_tokens Bare = []
-lead_tokens (Led s n) = token (Signed s) n ∷ []
 
 abbrev mutual
   -- the tokens of a sum and of what is in it
@@ -111,6 +112,7 @@ abbrev mutual
   pub atom_tokens : Atom → List Token
   atom_tokens (Leaf x n) = token (Name x) n ∷ []
   atom_tokens (Factor w o x n c) = token FactorWord w ∷ token Open o ∷ token (Name x) n ∷ token Close c ∷ []
+  atom_tokens (Computed w o a c) = token ArithWord w ∷ token Open o ∷ (arith_tokens a ++ (token Close c ∷ []))
   atom_tokens (Dot n) = token Point n ∷ []
   atom_tokens (Group o s c) = token Open o ∷ (sum_tokens s ++ (token Close c ∷ []))
 
@@ -119,6 +121,15 @@ abbrev pub smooth_tokens : Smooth → List Token
 smooth_tokens s =
     token QssWord s.word ∷ token Open s.opened ∷ token (Name s.name) s.place ∷ token Comma s.comma
     ∷ token (Number s.lambda) s.at ∷ token Close s.closed ∷ []
+
+-- the tokens of an offset
+abbrev pub offset_tokens : Offset → List Token
+offset_tokens f = token OffsetWord f.word ∷ token Open f.opened ∷ (arith_tokens f.arith ++ (token Close f.closed ∷ []))
+
+-- the tokens of either
+abbrev pub part_tokens : Part → List Token
+part_tokens (Smoothing s) = smooth_tokens s
+part_tokens (Offsetting f) = offset_tokens f
 
 -- the tokens of an item
 abbrev pub item_tokens : Item → List Token
@@ -129,10 +140,10 @@ item_tokens (Term p) = product_tokens p
 -- the tokens of items
 abbrev pub items_tokens : Items → List Token
 items_tokens (Start l i) = lead_tokens l ++ item_tokens i
-items_tokens (StartSmooth s) = smooth_tokens s
-items_tokens (StartPlus n s) = token (Signed Plus) n ∷ smooth_tokens s
+items_tokens (StartPart p) = part_tokens p
+items_tokens (StartPlus n p) = token (Signed Plus) n ∷ part_tokens p
 items_tokens (Then i x n j) = items_tokens i ++ (token (Signed x) n ∷ item_tokens j)
-items_tokens (ThenSmooth i n s) = items_tokens i ++ (token (Signed Plus) n ∷ smooth_tokens s)
+items_tokens (ThenPart i n p) = items_tokens i ++ (token (Signed Plus) n ∷ part_tokens p)
 
 -- the tokens of the response and the tilde
 abbrev pub head_tokens : Head → List Token

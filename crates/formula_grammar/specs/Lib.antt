@@ -1,6 +1,9 @@
 pub mod Words
 pub mod Magnitudes
 pub mod Numerals
+pub mod Arithmetics
+pub mod ArithCodes
+pub mod ArithMachine
 pub mod Grammar
 pub mod Codes
 pub mod Faults

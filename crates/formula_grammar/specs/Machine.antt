@@ -1,13 +1,15 @@
 -- Inner. What a token does to a half read formula: the formula then, or none where it can't stand there.
-use Rattle.std.specs.Prelude.{◌≡◌, ℕ, ◌==◌, Bool, true, false, not, List, [], ◌∷◌, ◌++◌, length, Option, Some, None, if◌then◌else◌}
-use Rattle.formula_grammar.specs.Words.{Span, Sign, Plus, Minus, Zero, Unity, Digits, Kind, Name, FactorWord, QssWord, Number, Signed, Tilde, Star, Colon, Caret, Open, Close, Comma, Point, End, Token, Step, Load, LoadAll, Nothing, Multiply, Interact, Raise, SmoothPart}
+use Rattle.std.specs.Prelude.{ℕ, ◌==◌, Bool, true, false, not, List, [], ◌∷◌, ◌++◌, length, Option, Some, None, if◌then◌else◌}
+use Rattle.formula_grammar.specs.Words.{Span, Sign, Plus, Minus, Zero, Unity, Digits, Kind, Name, FactorWord, QssWord, ArithWord, OffsetWord, Number, Signed, Tilde, Star, Colon, Caret, Open, Close, Comma, Point, End, Token, Step, Load, LoadAll, LoadArith, Nothing, Multiply, Interact, Raise, SmoothPart}
 pub use Rattle.formula_grammar.specs.declared.levels.Operator.{Operator}
 pub use Rattle.formula_grammar.specs.declared.levels.Level.{Level}
 pub use Rattle.formula_grammar.specs.declared.reader.Phase.{Phase}
-pub use Rattle.formula_grammar.specs.declared.reader.Phase.TheVariants.{Response, BeforeTilde, Opening, Operand, FactorOpen, FactorName, FactorClose, BehindAtom, Exponent, BehindPower, SmoothOpen, SmoothName, SmoothComma, SmoothLambda, SmoothClose, BehindItem, Ended}
+pub use Rattle.formula_grammar.specs.declared.reader.Phase.TheVariants.{Response, BeforeTilde, Opening, Operand, FactorOpen, FactorName, FactorClose, BehindAtom, Exponent, BehindPower, SmoothOpen, SmoothName, SmoothComma, SmoothLambda, SmoothClose, BehindItem, ArithOpen, ArithInside, OffsetOpen, OffsetInside, Ended}
 pub use Rattle.formula_grammar.specs.declared.reader.Reader.{Reader}
 use Rattle.formula_grammar.specs.Numerals.{power_of}
 use Rattle.formula_grammar.specs.Codes.{signed_step}
+pub use Rattle.formula_grammar.specs.ArithMachine.{Reads}
+use Rattle.formula_grammar.specs.ArithMachine.{ArithReader, arith_ends_at, arith_fresh, arith_part, arith_read}
 
 -- the steps of the operators that a token ends
 abbrev pub step_of : (ℕ → Step) → Option ℕ → List Step
@@ -55,6 +57,7 @@ abbrev pub operand_read : Reader → Kind → Option Reader
 operand_read r (Name x) = Some (record r { steps = r.steps ++ (Load x false ∷ []); phase = BehindAtom })
 operand_read r Point = Some (record r { steps = r.steps ++ (LoadAll ∷ []); phase = BehindAtom })
 operand_read r FactorWord = Some (record r { phase = FactorOpen })
+operand_read r ArithWord = Some (record r { phase = ArithOpen })
 operand_read r Open = Some (record r { level = bare; outer = r.level ∷ r.outer; phase = Opening })
 operand_read r k = None
 
@@ -70,21 +73,22 @@ intercept_read r one =
     then Some (record r { intercept = with_sign (operator_sign r.level.sum) one; steps = r.steps ++ first_step r.level.sum; level = bare; phase = BehindItem })
     else None
 
--- a smooth behind a sign
-abbrev pub smooth_read_behind : Reader → Sign → Option Reader
-smooth_read_behind r Plus = Some (record r { steps = r.steps ++ first_step r.level.sum; level = bare; phase = SmoothOpen })
-smooth_read_behind r Minus = None
+-- a smooth or an offset behind a sign, which leads to this phase
+abbrev pub part_read_behind : Reader → Phase → Sign → Option Reader
+part_read_behind r p Plus = Some (record r { steps = r.steps ++ first_step r.level.sum; level = bare; phase = p })
+part_read_behind r p Minus = None
 
--- a smooth, which no parentheses may hold
-abbrev pub smooth_read : Reader → Option Reader
-smooth_read r = if length r.outer == 0 then smooth_read_behind r (operator_sign r.level.sum) else None
+-- a smooth or an offset, which no parentheses may hold
+abbrev pub part_read : Reader → Phase → Option Reader
+part_read r p = if length r.outer == 0 then part_read_behind r p (operator_sign r.level.sum) else None
 
 -- where a sum or an item begins
 abbrev pub opening_read : Reader → ℕ → Kind → Option Reader
 opening_read r n (Signed x) = sign_read r r.level.sum x n
 opening_read r n (Number (Digits Zero)) = intercept_read r false
 opening_read r n (Number (Digits Unity)) = intercept_read r true
-opening_read r n QssWord = smooth_read r
+opening_read r n QssWord = part_read r SmoothOpen
+opening_read r n OffsetWord = part_read r OffsetOpen
 opening_read r n k = operand_read r k
 
 -- a parenthesis that closes
@@ -136,9 +140,28 @@ abbrev pub smooth_end_read : Reader → SmoothPart → Kind → Option Reader
 smooth_end_read r s Close = Some (record r { smooths = r.smooths ++ (s ∷ []); phase = BehindItem })
 smooth_end_read r s k = None
 
--- the tokens that stand for nothing but themselves, and those inside `factor(..)` and `qss(..)`
+-- a reader with another arithmetic, or none
+abbrev pub with_arith : Reader → Option ArithReader → Option Reader
+with_arith r None = None
+with_arith r (Some a) = Some (record r { arith = a })
+
+-- a token inside `I( )`, or the parenthesis behind it
+abbrev pub inside_read : Reader → Token → Option Reader
+inside_read r t =
+    if arith_ends_at r.arith t.kind then Some (record r { steps = r.steps ++ (LoadArith (arith_part r.arith) ∷ []); arith = arith_fresh; phase = BehindAtom })
+    else with_arith r (arith_read r.arith t)
+
+-- a token inside `offset( )`, or the parenthesis behind it
+abbrev pub offset_read : Reader → Token → Option Reader
+offset_read r t =
+    if arith_ends_at r.arith t.kind then Some (record r { offsets = r.offsets ++ (arith_part r.arith ∷ []); arith = arith_fresh; phase = BehindItem })
+    else with_arith r (arith_read r.arith t)
+
+-- the tokens that stand for nothing but themselves, those inside `factor(..)` and `qss(..)`, and what opens an arithmetic
 abbrev pub next_phase : Phase → Kind → Option Phase
 next_phase BeforeTilde Tilde = Some Opening
+next_phase ArithOpen Open = Some ArithInside
+next_phase OffsetOpen Open = Some OffsetInside
 next_phase FactorOpen Open = Some FactorName
 next_phase FactorName (Name x) = Some (FactorClose x)
 next_phase SmoothOpen Open = Some SmoothName
@@ -163,13 +186,10 @@ read_in (Exponent c) r n k = exponent_read r c k
 read_in BehindPower r n k = power_read r n k
 read_in (SmoothClose s) r n k = smooth_end_read r s k
 read_in BehindItem r n k = item_read r n k
+read_in ArithInside r n k = inside_read r (record { kind = k; at = n })
+read_in OffsetInside r n k = offset_read r (record { kind = k; at = n })
 read_in p r n k = phase_read r (next_phase p k)
 
 -- a token in the phase of the reader
 abbrev pub token_read : Reader → Token → Option Reader
 token_read r t = read_in r.phase r t.at t.kind
-
--- a call that answers whether the token can stand there, and changes the reader where it can
-abbrev pub Reads : Option Reader → Bool → Reader → Type 0
-Reads q true r = q ≡ Some r
-Reads q false r = q ≡ None

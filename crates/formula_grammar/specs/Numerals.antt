@@ -1,9 +1,11 @@
 -- Stated. What the number of a token says.
-use Rattle.std.specs.Prelude.{ℕ, Bool, false, Option, Some, None, is_none, pos}
+use Rattle.std.specs.Prelude.{ℕ, ◌/◌, Bool, false, Option, Some, None, is_none, pos}
+use Rattle.std.proofs.Common.{lit≤}
+use Rattle.frac_core.specs.Gcd.{gcd}
 use Rattle.exact_algebra.specs.Fraction.{rational}
 use Rattle.exact_algebra.specs.Rational.{ℚ, whole}
 use Rattle.frac_core.specs.declared.frac128.Frac128.{Frac128}
-use Rattle.formula_grammar.specs.Magnitudes.{Magnitude, capped}
+use Rattle.formula_grammar.specs.Magnitudes.{Magnitude, capped, lowest_within}
 use Rattle.formula_grammar.specs.Words.{Whole, Zero, Unity, Longer, Numeral, Digits, Written}
 
 -- the value of a fraction
@@ -27,6 +29,26 @@ is_wide (Written m) = is_none m
 abbrev pub value_or_zero : Option Magnitude → ℚ
 value_or_zero None = whole (pos 0)
 value_or_zero (Some m) = exact m.fraction
+
+-- 0 as a fraction
+unfoldable pub zero_fraction : Frac128
+zero_fraction = record { num = pos (0 / gcd 0 1); den = 1 / gcd 0 1; within = lowest_within 0 1 (lit≤ tt) (lit≤ tt) (lit≤ tt) }
+
+-- 1 as a fraction
+unfoldable pub one_fraction : Frac128
+one_fraction = record { num = pos (1 / gcd 1 1); den = 1 / gcd 1 1; within = lowest_within 1 1 (lit≤ tt) (lit≤ tt) (lit≤ tt) }
+
+-- the fraction, or 0 where there is none
+abbrev pub fraction_or_zero : Option Magnitude → Frac128
+fraction_or_zero None = zero_fraction
+fraction_or_zero (Some m) = m.fraction
+
+-- the fraction of a number, or 0 where it is wide
+abbrev pub fraction_of : Numeral → Frac128
+fraction_of (Digits Zero) = zero_fraction
+fraction_of (Digits Unity) = one_fraction
+fraction_of (Digits (Longer m)) = fraction_or_zero m
+fraction_of (Written m) = fraction_or_zero m
 
 -- the value of a number, or 0 where it is wide
 abbrev pub value_of : Numeral → ℚ

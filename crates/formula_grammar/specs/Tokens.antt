@@ -2,7 +2,7 @@
 use Rattle.std.specs.Prelude.{ℕ, zero, suc, ◌+◌, ◌-◌, ◌==◌, ◌&&◌, ◌||◌, Bool, false, nat_le, bytes_eq, codes, List, [], ◌∷◌, Option, Some, None, length, take, drop, position, if◌then◌else◌}
 use Rattle.std.specs.List.{prefix_len}
 use Rattle.std.specs.Char.{is_ascii_digit}
-use Rattle.formula_grammar.specs.Words.{Plus, Minus, Kind, Name, FactorWord, QssWord, Number, Signed, Tilde, Star, Colon, Caret, Open, Close, Comma, Point, End, Stray, Token}
+use Rattle.formula_grammar.specs.Words.{Plus, Minus, Kind, Name, FactorWord, QssWord, ArithWord, OffsetWord, Number, Signed, Tilde, Star, Colon, Caret, Open, Close, Comma, Point, End, Stray, Token}
 pub use Rattle.formula_grammar.specs.declared.lexer.Lexeme.{Lexeme}
 use Rattle.formula_grammar.specs.Numbers.{number_len, numeral_of}
 
@@ -40,11 +40,13 @@ abbrev pub opens : List ℕ → Bool
 opens [] = false
 opens (b ∷ bs) = if is_blank b then opens bs else (b == 40)
 
--- a name by its place, its text and what follows: `factor` and `qss` are words before an open parenthesis
+-- a name by its place, its text and what follows: `factor`, `qss`, `I` and `offset` are words before an open parenthesis
 unfoldable pub name_or_word : ℕ → List ℕ → List ℕ → Kind
 name_or_word at name rest =
     if bytes_eq name (codes "factor") && opens rest then FactorWord
     else if bytes_eq name (codes "qss") && opens rest then QssWord
+    else if bytes_eq name (codes "I") && opens rest then ArithWord
+    else if bytes_eq name (codes "offset") && opens rest then OffsetWord
     else Name (record { start = at; len = length name })
 
 -- what follows a backtick: a name up to the next one

@@ -86,6 +86,10 @@ fn name_or_word(at: u32, name: &[u8], rest: &[u8]) -> Kind
         Kind::FactorWord
     } else if name == b"qss".as_slice() && opens(rest) {
         Kind::QssWord
+    } else if name == b"I".as_slice() && opens(rest) {
+        Kind::ArithWord
+    } else if name == b"offset".as_slice() && opens(rest) {
+        Kind::OffsetWord
     } else {
         Kind::Name(Span {
             start: at,

@@ -20,17 +20,25 @@ fn is_power(whole: Whole) -> bool
     1 <= whole.power() && whole.power() <= 8
 }
 
-// The fault of a number as an exponent or a lambda.
+// The fault of a number: as an exponent, or as any other that stands in a formula.
 fn number_fault(last: Kind, number: Numeral, offset: u32) -> Option<ReadFault>
     ensures { result ≡ number_fault last number offset }
 {
-    match last {
-        Kind::Caret => match number {
-            Numeral::Digits(whole) if !is_power(whole) => Some(ReadFault::PowerRange { offset }),
-            _ => None,
-        },
-        Kind::Comma if number.is_wide() => Some(ReadFault::NumberTooWide { offset }),
-        _ => None,
+    match (last, number) {
+        (Kind::Caret, Numeral::Digits(whole)) => {
+            if is_power(whole) {
+                None
+            } else {
+                Some(ReadFault::PowerRange { offset })
+            }
+        }
+        _ => {
+            if number.is_wide() {
+                Some(ReadFault::NumberTooWide { offset })
+            } else {
+                None
+            }
+        }
     }
 }
 

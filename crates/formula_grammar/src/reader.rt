@@ -1,12 +1,14 @@
 ghost use Rattle.std.specs.Prelude.{◌≡◌, ◌++◌, ◌∷◌, [], true, false, None, IfErr, IfOk, OnOk};
+ghost use Rattle.formula_grammar.specs.ArithMachine.{arith_fresh, arith_part};
 ghost use Rattle.formula_grammar.specs.Codes.{signed_step};
 ghost use Rattle.formula_grammar.specs.Faults.{EndText, IsFault, IsReading};
-ghost use Rattle.formula_grammar.specs.Machine.{atom_read, bare, close_read, end_read, exponent_read, factor_read, first_step, inter_end, intercept_read, item_read, next_phase, opening_read, operand_read, operator_sign, phase_read, power_read, product_end, response_read, sign_read, smooth_end_read, smooth_read, sum_end, token_read, with_sign, Reads};
+ghost use Rattle.formula_grammar.specs.Machine.{atom_read, bare, close_read, end_read, exponent_read, factor_read, first_step, inter_end, intercept_read, item_read, inside_read, next_phase, offset_read, opening_read, operand_read, operator_sign, phase_read, power_read, product_end, response_read, sign_read, smooth_end_read, part_read, sum_end, token_read, with_sign, Reads};
 
+use crate::arith_reader::ArithReader;
 use crate::fault::ReadFault;
 use crate::levels::{Level, Levels, Operator};
 use crate::limits::Limits;
-use crate::reading::{Reading, SmoothPart, Step};
+use crate::reading::{ArithPart, Reading, SmoothPart, Step};
 use crate::token::{Kind, Numeral, Sign, Span, Token, Whole};
 use frac_core::{List, OutOfMemory};
 use std::alloc::Global;
@@ -33,6 +35,12 @@ pub(crate) enum Phase {
     SmoothLambda(Span),
     SmoothClose(SmoothPart),
     BehindItem,
+    ArithOpen,
+    /// An arithmetic, or the parenthesis behind it.
+    ArithInside,
+    OffsetOpen,
+    /// The same in an offset.
+    OffsetInside,
     Ended,
 }
 
@@ -42,7 +50,10 @@ pub(crate) struct Reader {
     pub response: Span,
     pub intercept: bool,
     pub smooths: List<SmoothPart>,
+    pub offsets: List<ArithPart>,
     pub steps: List<Step>,
+    /// The arithmetic that is half read, if one is.
+    pub arith: ArithReader,
     pub level: Level,
     pub outer: Levels,
     pub phase: Phase,
@@ -87,6 +98,8 @@ fn next_phase(phase: Phase, kind: Kind) -> Option<Phase>
 {
     match (phase, kind) {
         (Phase::BeforeTilde, Kind::Tilde) => Some(Phase::Opening),
+        (Phase::ArithOpen, Kind::Open) => Some(Phase::ArithInside),
+        (Phase::OffsetOpen, Kind::Open) => Some(Phase::OffsetInside),
         (Phase::FactorOpen, Kind::Open) => Some(Phase::FactorName),
         (Phase::FactorName, Kind::Name(name)) => Some(Phase::FactorClose(name)),
         (Phase::SmoothOpen, Kind::Open) => Some(Phase::SmoothName),
@@ -106,7 +119,9 @@ impl Reader {
           response = record { start = 0; len = 0 };
           intercept = true;
           smooths = [];
+          offsets = [];
           steps = [];
+          arith = arith_fresh;
           level = bare;
           outer = [];
           phase = Phase.Response;
@@ -116,7 +131,9 @@ impl Reader {
             response: Span { start: 0, len: 0 },
             intercept: true,
             smooths: List::new(alloc),
+            offsets: List::new(alloc),
             steps: List::new(alloc),
+            arith: ArithReader::new(alloc),
             level: BARE,
             outer: Levels::new(alloc),
             phase: Phase::Response,
@@ -197,6 +214,10 @@ impl Reader {
                 self.phase = Phase::FactorOpen;
                 Ok(true)
             }
+            Kind::ArithWord => {
+                self.phase = Phase::ArithOpen;
+                Ok(true)
+            }
             Kind::Open => {
                 self.outer.push(self.level)?;
                 self.level = BARE;
@@ -241,9 +262,9 @@ impl Reader {
         Ok(true)
     }
 
-    // `qss` before its parenthesis.
-    fn take_smooth(&mut self) -> Result<bool, OutOfMemory>
-        ensures { IfOk result (λ can. Reads (smooth_read self.old) can self.new) }
+    // `qss` or `offset` before its parenthesis, which this phase waits for.
+    fn take_part(&mut self, phase: Phase) -> Result<bool, OutOfMemory>
+        ensures { IfOk result (λ can. Reads (part_read self.old phase) can self.new) }
     {
         if !self.outer.is_empty() {
             return Ok(false);
@@ -253,7 +274,7 @@ impl Reader {
             Sign::Plus => {
                 self.begin_item()?;
                 self.level = BARE;
-                self.phase = Phase::SmoothOpen;
+                self.phase = phase;
                 Ok(true)
             }
         }
@@ -266,7 +287,8 @@ impl Reader {
             Kind::Signed(sign) => self.take_leading_sign(sign, at),
             Kind::Number(Numeral::Digits(Whole::Zero)) => self.take_intercept(false),
             Kind::Number(Numeral::Digits(Whole::Unity)) => self.take_intercept(true),
-            Kind::QssWord => self.take_smooth(),
+            Kind::QssWord => self.take_part(Phase::SmoothOpen),
+            Kind::OffsetWord => self.take_part(Phase::OffsetOpen),
             _ => self.take_operand(kind),
         }
     }
@@ -423,6 +445,40 @@ impl Reader {
         }
     }
 
+    // The arithmetic that was read, which ends.
+    fn end_arith(&mut self, alloc: Global) -> Result<ArithPart, OutOfMemory>
+        ensures part { IfOk result (λ part. part ≡ arith_part self.old.arith) }
+        ensures fresh { self.new ≡ record self.old { arith = arith_fresh } }
+    {
+        std::mem::replace(&mut self.arith, ArithReader::new(alloc)).into_part()
+    }
+
+    // A token inside `I( )`, or the parenthesis behind it.
+    fn take_arith(&mut self, alloc: Global, token: Token) -> Result<bool, OutOfMemory>
+        ensures { IfOk result (λ can. Reads (inside_read self.old token) can self.new) }
+    {
+        if !self.arith.ends_at(token.kind) {
+            return self.arith.take(token);
+        }
+        let part = self.end_arith(alloc)?;
+        self.emit(Step::LoadArith { part })?;
+        self.phase = Phase::BehindAtom;
+        Ok(true)
+    }
+
+    // A token inside `offset( )`, or the parenthesis behind it.
+    fn take_offset(&mut self, alloc: Global, token: Token) -> Result<bool, OutOfMemory>
+        ensures { IfOk result (λ can. Reads (offset_read self.old token) can self.new) }
+    {
+        if !self.arith.ends_at(token.kind) {
+            return self.arith.take(token);
+        }
+        let part = self.end_arith(alloc)?;
+        self.offsets.add(part)?;
+        self.phase = Phase::BehindItem;
+        Ok(true)
+    }
+
     fn take_other(&mut self, kind: Kind) -> bool
         ensures { Reads (phase_read self.old (next_phase self.old.phase kind)) result self.new }
     {
@@ -437,7 +493,7 @@ impl Reader {
 
     /// Reads a token, and says whether a formula can have it there. After `false` or an error
     /// nothing is known of the reader.
-    pub(crate) fn take(&mut self, token: Token) -> Result<bool, OutOfMemory>
+    pub(crate) fn take(&mut self, alloc: Global, token: Token) -> Result<bool, OutOfMemory>
         ensures { IfOk result (λ can. Reads (token_read self.old token) can self.new) }
     {
         let Token { kind, at } = token;
@@ -451,6 +507,8 @@ impl Reader {
             Phase::BehindPower => self.take_behind_power(at, kind),
             Phase::SmoothClose(smooth) => self.take_smooth_close(smooth, kind),
             Phase::BehindItem => Ok(self.take_behind_item(at, kind)),
+            Phase::ArithInside => self.take_arith(alloc, token),
+            Phase::OffsetInside => self.take_offset(alloc, token),
             _ => Ok(self.take_other(kind)),
         }
     }
@@ -461,7 +519,8 @@ impl Reader {
 /// The answer is the code of the one formula that has these tokens, or else their first fault from
 /// left to right: `Syntax` at the first token that no formula can have there, where the end of the
 /// text counts as a token; `TooDeep` at the 65th parenthesis that is open at once; `PowerRange` at
-/// an exponent whose value isn't 1 to 8; `NumberTooWide` at a lambda that `Frac128` doesn't hold.
+/// an exponent whose value isn't 1 to 8; `NumberTooWide` at a lambda, or at a number of an arithmetic
+/// that is no exponent, that `Frac128` doesn't hold.
 /// `OutOfMemory` may come at any token. The reader keeps its own stack: deep or long formulas take
 /// no more of the program's.
 pub fn read(alloc: Global, tokens: &[Token]) -> Result<Reading, ReadFault>
@@ -472,7 +531,7 @@ pub fn read(alloc: Global, tokens: &[Token]) -> Result<Reading, ReadFault>
     let mut reader = Reader::new(alloc);
     let mut limits = Limits::new();
     for token in tokens {
-        let can_stand = reader.take(*token)?;
+        let can_stand = reader.take(alloc, *token)?;
         if !can_stand {
             return Err(ReadFault::Syntax { offset: token.at });
         }
@@ -486,5 +545,6 @@ pub fn read(alloc: Global, tokens: &[Token]) -> Result<Reading, ReadFault>
         intercept: reader.intercept,
         steps: reader.steps,
         smooths: reader.smooths,
+        offsets: reader.offsets,
     })
 }

@@ -1,5 +1,6 @@
-ghost use Rattle.std.specs.Prelude.{◌≡◌};
-ghost use Rattle.formula_grammar.specs.Numerals.{exact, is_wide, power_of, value_of, value_or_zero};
+ghost use Rattle.std.specs.Prelude.{◌≡◌, pos};
+ghost use Rattle.exact_algebra.specs.Rational.{whole};
+ghost use Rattle.formula_grammar.specs.Numerals.{exact, fraction_of, fraction_or_zero, is_wide, one_fraction, power_of, value_of, value_or_zero, zero_fraction};
 
 use crate::magnitude::Magnitude;
 use frac_core::{Exact, Frac128};
@@ -47,6 +48,10 @@ pub enum Kind {
     FactorWord,
     /// `qss` before an open parenthesis.
     QssWord,
+    /// `I` before an open parenthesis.
+    ArithWord,
+    /// `offset` before an open parenthesis.
+    OffsetWord,
     Number(Numeral),
     Signed(Sign),
     Tilde,
@@ -85,12 +90,27 @@ impl Whole {
     }
 }
 
+fn zero() -> Frac128
+    ensures fraction { result ≡ zero_fraction }
+    ensures exact { exact result ≡ whole (pos 0) }
+{
+    Frac128::zero()
+}
+
+fn one() -> Frac128
+    ensures fraction { result ≡ one_fraction }
+    ensures exact { exact result ≡ whole (pos 1) }
+{
+    Frac128::one()
+}
+
 // The value, or 0 where there is none.
 fn value_or_zero(value: Option<Magnitude>) -> Frac128
-    ensures { exact result ≡ value_or_zero value }
+    ensures fraction { result ≡ fraction_or_zero value }
+    ensures exact { exact result ≡ value_or_zero value }
 {
     match value {
-        None => Frac128::zero(),
+        None => zero(),
         Some(value) => value.fraction(),
     }
 }
@@ -109,11 +129,12 @@ impl Numeral {
 
     /// The number's value, or 0 where it is wide.
     pub fn value(self) -> Frac128
-        ensures { exact result ≡ value_of self }
+        ensures fraction { result ≡ fraction_of self }
+        ensures exact { exact result ≡ value_of self }
     {
         match self {
-            Numeral::Digits(Whole::Zero) => Frac128::zero(),
-            Numeral::Digits(Whole::Unity) => Frac128::one(),
+            Numeral::Digits(Whole::Zero) => zero(),
+            Numeral::Digits(Whole::Unity) => one(),
             Numeral::Digits(Whole::Longer(value)) => value_or_zero(value),
             Numeral::Written(value) => value_or_zero(value),
         }

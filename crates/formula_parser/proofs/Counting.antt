@@ -1,5 +1,5 @@
--- How many variables the terms of a formula have.
-use Rattle.std.proofs.Common.{◌≡◌, ◌∙◌, ◌<◌, ◌≤◌, ◌+◌, ◌*◌, ◌^◌, ◌==◌, ◌&&◌, ℕ, zero, suc, Bool, true, false, List, [], ◌∷◌, ◌++◌, Some, None, All, cond, eqb, filter, flat_map, length, map, nat_lt, position, refl, sym, subst, arith, zip, bytes_eq}
+-- How many variables the terms of a formula have, and how many offsets it has.
+use Rattle.std.proofs.Common.{◌≡◌, ◌∙◌, ◌<◌, ◌≤◌, ◌+◌, ◌*◌, ◌^◌, ◌==◌, ◌&&◌, ℕ, zero, suc, Bool, true, false, List, [], ◌∷◌, ◌++◌, Some, None, cond, eqb, filter, flat_map, length, map, nat_lt, position, refl, sym, subst, arith, zip, bytes_eq}
 use Rattle.std.specs.List.{AllByRecursion, IsDistinct, list_any, position_or_len, range_with_len}
 use Rattle.std.specs.Option.{unwrap_or}
 use Rattle.std.proofs.lemmas.Bool.{eqb-true, ltb-true}
@@ -10,10 +10,19 @@ use Rattle.std.proofs.lemmas.List.{length-map, map-append}
 use Rattle.std.proofs.lemmas.Map.Keys.{IsDistinct-push}
 use Rattle.std.proofs.lemmas.Map.Steps.{length-le_from_distinct_below}
 use mathlib.Core.Bool.{beq}
-use Rattle.formula_parser.specs.Words.{Span, Step, Load, LoadAll}
-use Rattle.formula_grammar.specs.Codes.{items_code}
+use Rattle.frac_core.specs.declared.arith.Arith.{Arith}
+use Rattle.formula_parser.specs.Words.{ArithPart, End, Span, Step, Token, Load, LoadAll, LoadArith}
+use Rattle.std.proofs.lemmas.List.{length-append}
+use Rattle.std.proofs.lemmas.List.Sums.{prefix_len-le-length}
+use Rattle.formula_grammar.specs.Codes.{items_code, offsets_of}
+use Rattle.formula_grammar.specs.Grammar.{items_tokens, formula_tokens}
+use Rattle.formula_grammar.specs.Arithmetics.{token}
+use Rattle.formula_parser.specs.Arithmetics.{arith_place, part_said}
+use Rattle.formula_parser.specs.Laws.{FormulasAreCountable}
+use Rattle.formula_parser.proofs.Held.{tokens_short}
+use Rattle.formula_parser.proofs.Loads.{ariths_few, items_loads, offsets_few}
 use Rattle.formula_parser.specs.Scope.{Mention, Text, column_at, each_once, loaded, other_columns, piece, same, variable, variables_of, with_variable}
-use Rattle.formula_parser.specs.Parsed.{Formula, Term, IsParsed, members, spoken_term, spoken_variable, variables_in}
+use Rattle.formula_parser.specs.Parsed.{Formula, Term, IsParsed, ariths_in, members, spoken_term, spoken_variable, variables_in}
 use Rattle.formula_parser.specs.Terms.{Terms}
 use Rattle.formula_parser.specs.Terms.{Term as Bools}
 
@@ -98,24 +107,28 @@ module _ (most : ℕ) where
   below_column : (text : Text) (names : List Text) (x : Span) → length names < most → column_at text names x < most
   below_column text names x h = below_found (λ n. bytes_eq n (piece text x)) names h
 
-  below_loaded : (text : Text) (names : List Text) (response : ℕ) (step : Step) → length names < most
-      → AreBelow (loaded text names (other_columns (length names) response) step)
-  below_loaded text names response (Load x f) h = (below_column text names x h, tt)
-  below_loaded text names response LoadAll h = below_range _ 0 (length names) (omega arith)
-  below_loaded text names response step h = tt
+  place_few : (text : Text) (names : List Text) (ariths : List Arith) (p : ArithPart) → arith_place text names ariths p ≤ length ariths
+  place_few text names ariths p = prefix_len-le-length _ ariths
 
-  below_steps : (text : Text) (names : List Text) (response : ℕ) (steps : List Step) → length names < most
-      → AreBelow (flat_map (loaded text names (other_columns (length names) response)) steps)
-  below_steps text names response [] h = tt
-  below_steps text names response (step ∷ steps) h = joined _ _ (below_loaded text names response step h) (below_steps text names response steps h)
+  below_loaded : (text : Text) (names : List Text) (response : ℕ) (ariths : List Arith) (step : Step) → length names + length ariths < most
+      → AreBelow (loaded text names (other_columns (length names) response) ariths step)
+  below_loaded text names response ariths (Load x f) h = (below_column text names x (omega arith), tt)
+  below_loaded text names response ariths (LoadArith p) h = (omega (arith, place_few text names ariths p), tt)
+  below_loaded text names response ariths LoadAll h = below_range _ 0 (length names) (omega arith)
+  below_loaded text names response ariths step h = tt
 
--- a formula has at most two variables for each column and two more
-few_variables : (text : Text) (names : List Text) (response : ℕ) (steps : List Step)
-    → length (variables_of text names (other_columns (length names) response) steps) ≤ 2 * length names + 2
+  below_steps : (text : Text) (names : List Text) (response : ℕ) (ariths : List Arith) (steps : List Step) → length names + length ariths < most
+      → AreBelow (flat_map (loaded text names (other_columns (length names) response) ariths) steps)
+  below_steps text names response ariths [] h = tt
+  below_steps text names response ariths (step ∷ steps) h = joined _ _ (below_loaded text names response ariths step h) (below_steps text names response ariths steps h)
+
+-- a formula has at most two variables for each column and each arithmetic, and two more
+few_variables : (text : Text) (names : List Text) (response : ℕ) (ariths : List Arith) (steps : List Step)
+    → length (variables_of text names (other_columns (length names) response) ariths steps) ≤ 2 * (length names + length ariths) + 2
 unfolding IsDistinct
-few_variables text names response steps =
-    let loads = below_steps (length names + 1) text names response steps (omega arith) in
-    let few = few_once (length names + 1) _ (all_once (length names + 1) [] _ (record { distinct = tt; below = tt }) loads) in
+few_variables text names response ariths steps =
+    let loads = below_steps (length names + length ariths + 1) text names response ariths steps (omega arith) in
+    let few = few_once (length names + length ariths + 1) _ (all_once (length names + length ariths + 1) [] _ (record { distinct = tt; below = tt }) loads) in
     omega arith
 
 -- ---- the variables of a term
@@ -129,20 +142,40 @@ members_few (v ∷ vs) (b ∷ t) =
     [ true ↦ omega (arith, few) | false ↦ omega (arith, few) ]
 
 -- so does each of its terms
-term_few : (text : Text) (names : List Text) (f : Formula) → IsParsed text names f → AllByRecursion (λ t. length t.variables ≤ 2 * length names + 2) f.terms
-term_few text names f h =
-    let few = few_variables text names (column_at text names h.formula.head.response) (items_code h.formula.items) in
-    subst (λ (ts : List Term). AllByRecursion (λ t. length t.variables ≤ 2 * length names + 2) ts) (sym h.terms) (spoken h.ordered few)
-  where
-    spoken : (ts : Terms) → length (variables_in text names h.formula) ≤ 2 * length names + 2
-        → AllByRecursion (λ t. length t.variables ≤ 2 * length names + 2) (map (spoken_term names (variables_in text names h.formula)) ts)
-    spoken [] few = tt
-    spoken (t ∷ ts) few = (omega (arith, members_few (variables_in text names h.formula) t, length-map (members (variables_in text names h.formula) t) (spoken_variable names)), spoken ts few)
+abbrev IsFew : List Text → List Arith → Term → Type 0
+IsFew names ariths t = length t.variables ≤ 2 * (length names + length ariths) + 2
 
--- the variables of a term are counted in 32 bits
-pub terms_short : (text : Text) (names : List Text) (f : Formula) → IsParsed text names f → length names ≤ 1024 → All (λ t. length t.variables < 2 ^ 32) f.terms
-terms_short text names f h few = All-from_recursion (λ t. length t.variables < 2 ^ 32) f.terms (all f.terms (term_few text names f h))
+term_few : (text : Text) (names : List Text) (f : Formula) (h : IsParsed text names f) → AllByRecursion (IsFew names (ariths_in text names h.formula)) f.terms
+term_few text names f h =
+    let few = few_variables text names (column_at text names h.formula.head.response) (ariths_in text names h.formula) (items_code h.formula.items) in
+    subst (AllByRecursion (IsFew names (ariths_in text names h.formula))) (sym h.terms) (spoken h.ordered few)
   where
-    all : (ts : List Term) → AllByRecursion (λ t. length t.variables ≤ 2 * length names + 2) ts → AllByRecursion (λ t. length t.variables < 2 ^ 32) ts
+    spoken : (ts : Terms) → length (variables_in text names h.formula) ≤ 2 * (length names + length (ariths_in text names h.formula)) + 2
+        → AllByRecursion (IsFew names (ariths_in text names h.formula)) (map (spoken_term names (ariths_in text names h.formula) (variables_in text names h.formula)) ts)
+    spoken [] few = tt
+    spoken (t ∷ ts) few = (
+      omega (arith, members_few (variables_in text names h.formula) t, length-map (members (variables_in text names h.formula) t) (spoken_variable names (ariths_in text names h.formula))),
+      spoken ts few,
+    )
+
+-- the tokens of a formula's items are no more than the bytes of its text, but for one
+items_short : (text : Text) (names : List Text) (f : Formula) (h : IsParsed text names f) → length (items_tokens h.formula.items) ≤ length text + 1
+items_short text names f h =
+    let t = h.formula in
+    let long : length (formula_tokens t) ≤ length text + 1 = subst (λ (ts : List Token). length ts ≤ length text + 1) h.is.reads (tokens_short text) in
+    omega (arith, length-append (items_tokens t.items) (token End t.ended ∷ []), long)
+
+-- the variables of a term and the offsets are counted in 32 bits
+pub formulas_countable : FormulasAreCountable
+formulas_countable text names f few short h = record {
+  variables = All-from_recursion (λ t. length t.variables < 2 ^ 32) f.terms (all f.terms (term_few text names f h));
+  offsets = subst (λ fs. length fs < 2 ^ 31) (sym h.offsets)
+      (omega (arith, length-map (offsets_of h.formula.items) (part_said text names), offsets_few h.formula.items, items_short text names f h, short));
+}
+  where
+    loads : 2 * length (ariths_in text names h.formula) ≤ length text + 1
+    loads = omega (arith, ariths_few text names [] (items_code h.formula.items), items_loads h.formula.items, items_short text names f h)
+
+    all : (ts : List Term) → AllByRecursion (IsFew names (ariths_in text names h.formula)) ts → AllByRecursion (λ t. length t.variables < 2 ^ 32) ts
     all [] each = tt
-    all (t ∷ ts) each = (omega (arith, each.0), all ts each.1)
+    all (t ∷ ts) each = (omega (arith, each.0, few, short, loads), all ts each.1)

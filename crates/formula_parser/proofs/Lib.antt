@@ -2,6 +2,12 @@ pub mod Unions
 pub mod Limited
 pub mod Mentions
 pub mod Runs
+pub mod ArithTexts
+pub mod Within
+pub mod Kept
+pub mod Held
+pub mod Loads
+pub mod Places
 pub mod Speaking
 pub mod Lambdas
 pub mod Counting

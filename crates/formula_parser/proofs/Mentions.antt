@@ -8,10 +8,10 @@ once_append : (found a b : List Mention) → each_once found (a ++ b) ≡ each_o
 once_append found [] b = refl
 once_append found (v ∷ a) b = once_append (with_variable found v) a b
 
-pub step_loaded : (f : Step → List Mention) (steps : List Step) (found found' all : List Mention) (i : ℕ) (d : Step) → i < length steps → found' ≡ each_once found (f (get_or steps i d))
+pub step_loaded : (f : Step → List Mention) (steps : List Step) (found found' all : List Mention) (i : ℕ) (t : Step) → i < length steps → t ≡ get_or steps i t → found' ≡ each_once found (f t)
     → each_once found (flat_map f (drop i steps)) ≡ all → each_once found' (flat_map f (drop (i + 1) steps)) ≡ all
-step_loaded f steps found found' all i d lt e h =
-    ap (λ (x : List Mention). each_once x (flat_map f (drop (i + 1) steps))) e
-    ∙ sym (once_append found (f (get_or steps i d)) (flat_map f (drop (i + 1) steps)))
-    ∙ ap (λ (x : List Step). each_once found (flat_map f x)) (sym (split_at steps i d lt))
+step_loaded f steps found found' all i t lt is e h =
+    ap (λ (x : List Mention). each_once x (flat_map f (drop (i + 1) steps))) (e ∙ ap (λ (s : Step). each_once found (f s)) is)
+    ∙ sym (once_append found (f (get_or steps i t)) (flat_map f (drop (i + 1) steps)))
+    ∙ ap (λ (x : List Step). each_once found (flat_map f x)) (sym (split_at steps i t lt))
     ∙ h

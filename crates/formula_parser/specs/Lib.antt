@@ -3,8 +3,12 @@ pub mod Terms
 pub mod Known
 pub mod Meaning
 pub mod Stack
+pub mod Columns
+pub mod Arithmetics
+pub mod ArithTrees
 pub mod Scope
 pub mod Parsed
+pub mod Held
 pub mod Spoken
 pub mod Widened
 pub mod Laws

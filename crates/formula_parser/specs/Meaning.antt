@@ -1,9 +1,11 @@
 -- Stated. The meaning of a formula's expressions: a list of distinct terms, or the offset of the first operator whose
 -- meaning has more than 4,096. Operators are evaluated operands first and left first.
 use Rattle.std.specs.Prelude.{ℕ, Bool, true, false, [], ◌∷◌, length, Result, Ok, Err, nat_lt, if◌then◌else◌}
-use Rattle.formula_parser.specs.Words.{Span, Sign, Plus, Minus}
+use Rattle.formula_parser.specs.Words.{ArithPart, Span, Sign, Plus, Minus}
 use Rattle.formula_grammar.specs.Numerals.{power_of}
-use Rattle.formula_grammar.specs.Grammar.{Bare, Led, Sum, First, More, Product, One, Times, Inter, Lone, Cross, Power, Plain, Raised, Atom, Leaf, Factor, Dot, Group, Nil, Intercept, Items, Start, StartSmooth, StartPlus, Then, ThenSmooth}
+use Rattle.formula_grammar.specs.Arithmetics.{Bare, Led}
+use Rattle.formula_grammar.specs.Grammar.{Sum, First, More, Product, One, Times, Inter, Lone, Cross, Power, Plain, Raised, Atom, Leaf, Factor, Computed, Dot, Group, Nil, Intercept, Items, Start, StartPart, StartPlus, Then, ThenPart}
+use Rattle.formula_grammar.specs.ArithCodes.{part_of}
 use Rattle.formula_grammar.specs.Grammar.{Term as TermItem}
 use Rattle.formula_parser.specs.Terms.{Term, Terms, plus, minus, cross, times, raised}
 
@@ -22,8 +24,9 @@ abbrev pub combined : Sign → Terms → Terms → Terms
 combined Plus a b = plus a b
 combined Minus a b = minus a b
 
--- `only` gives the term of one variable, by its name and whether `factor` was written; `all` are the terms of `.`
-module _ (only : Span → Bool → Term) (all : Terms) where
+-- `only` gives the term of one variable, by its name and whether `factor` was written, and `computed` that of an arithmetic;
+-- `all` are the terms of `.`
+module _ (only : Span → Bool → Term) (computed : ArithPart → Term) (all : Terms) where
   -- a leading sign acts on the empty list
   abbrev mutual
     -- the meaning of each of these, with that of its parts
@@ -47,6 +50,7 @@ module _ (only : Span → Bool → Term) (all : Terms) where
     pub atom_meaning : Atom → Result Terms ℕ
     atom_meaning (Leaf x n) = Ok (only x false ∷ [])
     atom_meaning (Factor w o x n c) = Ok (only x true ∷ [])
+    atom_meaning (Computed w o a c) = Ok (computed (part_of a) ∷ [])
     atom_meaning (Dot n) = Ok all
     atom_meaning (Group o s c) = sum_meaning s
 
@@ -55,9 +59,9 @@ module _ (only : Span → Bool → Term) (all : Terms) where
   items_meaning (Start l (TermItem p)) = sum_meaning (First l p)
   items_meaning (Start l (Nil m)) = Ok []
   items_meaning (Start l (Intercept m)) = Ok []
-  items_meaning (StartSmooth s) = Ok []
-  items_meaning (StartPlus n s) = Ok []
+  items_meaning (StartPart p) = Ok []
+  items_meaning (StartPlus n p) = Ok []
   items_meaning (Then j x n (TermItem p)) = items_meaning j >>= λ a. product_meaning p >>= λ b. limited n (combined x a b)
   items_meaning (Then j x n (Nil m)) = items_meaning j
   items_meaning (Then j x n (Intercept m)) = items_meaning j
-  items_meaning (ThenSmooth j n s) = items_meaning j
+  items_meaning (ThenPart j n p) = items_meaning j

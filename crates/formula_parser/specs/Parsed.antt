@@ -1,5 +1,5 @@
 -- Stated. The formula of a text over the columns of a table, or its first fault.
-use Rattle.std.specs.Prelude.{◌≡◌, ℕ, Bool, false, List, [], ◌∷◌, map, zip, length, Option, Some, None, is_none, Result, Ok, Err, if◌then◌else◌}
+use Rattle.std.specs.Prelude.{◌≡◌, ℕ, ◌-◌, ◌++◌, Bool, false, List, [], ◌∷◌, codes, nat_lt, slice_get, map, zip, length, Option, Some, None, is_none, Result, Ok, Err, if◌then◌else◌}
 use Rattle.std.specs.List.{filter}
 use Rattle.std.specs.List.Sorted.{IsPermutation, IsSortedByKey, IsStableByKey}
 use Rattle.std.specs.Ordering.{nat_cmp}
@@ -9,16 +9,18 @@ use Rattle.formula_grammar.specs.declared.fault.ReadFault.TheVariants as read_fa
 pub use Rattle.formula_grammar.specs.Numerals.{exact}
 use Rattle.formula_grammar.specs.Numerals.{value_of}
 use Rattle.formula_grammar.specs.Grammar.{Formula as Tree}
-use Rattle.formula_grammar.specs.Codes.{items_code, has_intercept, smooths_of}
+use Rattle.formula_grammar.specs.Codes.{items_code, has_intercept, offsets_of, smooths_of}
 use Rattle.formula_grammar.specs.Faults.{IsFormula, IsFirstFault}
 use Rattle.formula_grammar.specs.Tokens.{tokens}
-use Rattle.formula_parser.specs.Scope.{Mention, Text, column_at, column_of, dot_terms, name_at, named_term, other_columns, piece, variables_of}
+use Rattle.formula_parser.specs.Scope.{Mention, Text, arith_term, column_at, column_of, dot_terms, name_at, named_term, other_columns, piece, variables_of}
 pub use Rattle.formula_parser.specs.declared.formula.Variable.{Variable}
 pub use Rattle.formula_parser.specs.declared.formula.Term.{Term}
 pub use Rattle.formula_parser.specs.declared.formula.Smooth.{Smooth}
 pub use Rattle.formula_parser.specs.declared.formula.Formula.{Formula}
 pub use Rattle.formula_parser.specs.declared.fault.FormulaFault.{FormulaFault}
 pub use Rattle.formula_parser.specs.declared.fault.FormulaFault.TheVariants.{OutOfMemory, Syntax, UnknownName, TooDeep, TooManyTerms, PowerRange, NumberTooWide}
+use Rattle.frac_core.specs.declared.arith.Arith.{Arith}
+use Rattle.formula_parser.specs.Arithmetics.{ariths_from, part_said}
 use Rattle.formula_parser.specs.Terms.{Terms, size}
 use Rattle.formula_parser.specs.Terms.{Term as Bools}
 use Rattle.formula_parser.specs.Meaning.{items_meaning}
@@ -43,17 +45,30 @@ pub record IsBySize (old new : Terms) : Type 0 where
   pub sorted : IsSortedByKey size nat_cmp new
   pub stable : IsStableByKey size nat_cmp old new
 
--- a variable by the name of its column
-abbrev pub spoken_variable : List Text → Mention → Variable
-spoken_variable names v = record { name = name_at names v.column; as_factor = v.as_factor }
+-- the arithmetic that counts as a column behind those of the table
+abbrev pub arith_of_column : List Text → List Arith → ℕ → Option Arith
+arith_of_column names ariths column = if nat_lt column (length names) then None else slice_get ariths (column - length names)
+
+-- `I(`, the text of an arithmetic and `)`
+abbrev pub computed_name : Arith → Text
+computed_name a = codes "I(" ++ (a.text ++ codes ")")
+
+-- a variable by the name of its column, or by its arithmetic
+abbrev pub spoken_by : List Text → Mention → Option Arith → Variable
+spoken_by names v None = record { name = name_at names v.column; as_factor = v.as_factor; arith = None }
+spoken_by names v (Some a) = record { name = computed_name a; as_factor = v.as_factor; arith = Some a }
+
+-- a variable that was mentioned
+abbrev pub spoken_variable : List Text → List Arith → Mention → Variable
+spoken_variable names ariths v = spoken_by names v (arith_of_column names ariths v.column)
 
 -- the variables of a term, in their order
 abbrev pub members : List Mention → Bools → List Mention
 members vs t = map (λ p. p.0) (filter (λ p. p.1) (zip vs t))
 
 -- a term by its variables
-abbrev pub spoken_term : List Text → List Mention → Bools → Term
-spoken_term names vs t = record { variables = map (spoken_variable names) (members vs t) }
+abbrev pub spoken_term : List Text → List Arith → List Mention → Bools → Term
+spoken_term names ariths vs t = record { variables = map (spoken_variable names ariths) (members vs t) }
 
 -- a smooth, as its name and its number
 pub record NamedNumber : Type 0 where
@@ -74,14 +89,19 @@ meant_smooth text names s = record { name = name_at names (column_at text names 
 abbrev pub others_of : Text → List Text → Span → List ℕ
 others_of text names response = other_columns (length names) (column_at text names response)
 
+-- the arithmetics of a formula, each text once, in the order in which they first stand in its text
+abbrev pub ariths_in : Text → List Text → Tree → List Arith
+ariths_in text names f = ariths_from text names [] (items_code f.items)
+
 -- the variables of a formula, in the order in which they first stand in its text
 abbrev pub variables_in : Text → List Text → Tree → List Mention
-variables_in text names f = variables_of text names (others_of text names f.head.response) (items_code f.items)
+variables_in text names f = variables_of text names (others_of text names f.head.response) (ariths_in text names f) (items_code f.items)
 
 -- the terms of a formula, or the offset of the first operator that has too many
 abbrev pub meaning_of : Text → List Text → Tree → Result Terms ℕ
 meaning_of text names f =
-    items_meaning (named_term text names (variables_in text names f)) (dot_terms (variables_in text names f) (others_of text names f.head.response)) f.items
+    items_meaning (named_term text names (variables_in text names f)) (arith_term text names (ariths_in text names f) (variables_in text names f))
+    (dot_terms (variables_in text names f) (others_of text names f.head.response)) f.items
 
 -- the text is a formula over the columns, and this is what it says
 pub record IsParsed (text : Text) (names : List Text) (f : Formula) : Type 0 where
@@ -94,8 +114,9 @@ pub record IsParsed (text : Text) (names : List Text) (f : Formula) : Type 0 whe
   pub by_size : IsBySize meaning ordered
   pub response : f.response ≡ name_at names (column_at text names formula.head.response)
   pub intercept : f.intercept ≡ has_intercept formula.items
-  pub terms : f.terms ≡ map (spoken_term names (variables_in text names formula)) ordered
+  pub terms : f.terms ≡ map (spoken_term names (ariths_in text names formula) (variables_in text names formula)) ordered
   pub smooths : map told_smooth f.smooths ≡ map (meant_smooth text names) (smooths_of formula.items)
+  pub offsets : f.offsets ≡ map (part_said text names) (offsets_of formula.items)
 
 -- the text is a formula, and this is the first name that is no column
 pub record HasUnknownName (text : Text) (names : List Text) (n : ℕ) : Type 0 where

@@ -1,30 +1,13 @@
 -- Stated. What the names of a formula stand for.
-use Rattle.std.specs.Prelude.{ℕ, ◌==◌, ◌&&◌, not, Bool, false, List, [], ◌∷◌, ◌++◌, map, flat_map, cond, bytes_eq, position, take, drop, slice_index_or, unwrap_or, Option}
+use Rattle.std.specs.Prelude.{ℕ, ◌==◌, ◌&&◌, not, Bool, false, List, [], ◌∷◌, ◌++◌, map, flat_map, cond, length, ◌+◌}
 use Rattle.std.specs.List.{filter, list_any, range_with_len}
 use mathlib.Core.Bool.{beq}
-use Rattle.formula_parser.specs.Words.{Span, Step, Load, LoadAll}
+use Rattle.formula_parser.specs.Words.{ArithPart, Span, Step, Load, LoadAll, LoadArith}
 pub use Rattle.formula_parser.specs.declared.scope.Mention.{Mention}
+pub use Rattle.formula_parser.specs.Columns.{Text, piece, column_of, column_at, name_at}
+use Rattle.frac_core.specs.declared.arith.Arith.{Arith}
+use Rattle.formula_parser.specs.Arithmetics.{arith_place}
 use Rattle.formula_parser.specs.Terms.{Term, Terms}
-
--- bytes
-abbrev pub Text : Type 0
-Text = List ℕ
-
--- the piece of a text at a span
-abbrev pub piece : Text → Span → Text
-piece text x = take x.len (drop x.start text)
-
--- the first column of a name
-abbrev pub column_of : List Text → Text → Option ℕ
-column_of names name = position (λ n. bytes_eq n name) names
-
--- the column that the name at a span stands for
-abbrev pub column_at : Text → List Text → Span → ℕ
-column_at text names x = unwrap_or (column_of names (piece text x)) 0
-
--- the name of a column
-abbrev pub name_at : List Text → ℕ → Text
-name_at names column = slice_index_or names column []
 
 -- a variable: a column, and whether it was written with `factor`
 abbrev pub variable : ℕ → Bool → Mention
@@ -38,11 +21,16 @@ same v w = (v.column == w.column) && beq v.as_factor w.as_factor
 abbrev pub other_columns : ℕ → ℕ → List ℕ
 other_columns count response = filter (λ c. not (c == response)) (range_with_len 0 count)
 
+-- the variable of an arithmetic: the arithmetics count as columns behind those of the table
+abbrev pub computed : Text → List Text → List Arith → ArithPart → Mention
+computed text names ariths p = variable (length names + arith_place text names ariths p) false
+
 -- the variables that a step loads
-abbrev pub loaded : Text → List Text → List ℕ → Step → List Mention
-loaded text names others (Load x f) = variable (column_at text names x) f ∷ []
-loaded text names others LoadAll = map (λ c. variable c false) others
-loaded text names others step = []
+abbrev pub loaded : Text → List Text → List ℕ → List Arith → Step → List Mention
+loaded text names others ariths (Load x f) = variable (column_at text names x) f ∷ []
+loaded text names others ariths (LoadArith p) = computed text names ariths p ∷ []
+loaded text names others ariths LoadAll = map (λ c. variable c false) others
+loaded text names others ariths step = []
 
 -- a variable at the end, where the list lacks it
 abbrev pub with_variable : List Mention → Mention → List Mention
@@ -54,8 +42,8 @@ each_once found [] = found
 each_once found (v ∷ vs) = each_once (with_variable found v) vs
 
 -- the variables of a formula in the order in which they first stand in its text
-abbrev pub variables_of : Text → List Text → List ℕ → List Step → List Mention
-variables_of text names others steps = each_once [] (flat_map (loaded text names others) steps)
+abbrev pub variables_of : Text → List Text → List ℕ → List Arith → List Step → List Mention
+variables_of text names others ariths steps = each_once [] (flat_map (loaded text names others ariths) steps)
 
 -- the term of one variable
 abbrev pub only_term : List Mention → Mention → Term
@@ -64,6 +52,10 @@ only_term vs v = map (λ w. same w v) vs
 -- the term of a name in the text
 abbrev pub named_term : Text → List Text → List Mention → Span → Bool → Term
 named_term text names vs x f = only_term vs (variable (column_at text names x) f)
+
+-- the term of an arithmetic
+abbrev pub arith_term : Text → List Text → List Arith → List Mention → ArithPart → Term
+arith_term text names ariths vs p = only_term vs (computed text names ariths p)
 
 -- the terms of `.`
 abbrev pub dot_terms : List Mention → List ℕ → Terms

@@ -1,6 +1,6 @@
 -- Inner. The steps of a formula's code on a stack of meanings, the top first. A missing operand is the empty list.
 use Rattle.std.specs.Prelude.{◌≡◌, ℕ, Bool, List, [], ◌∷◌, Result, Ok, Err}
-use Rattle.formula_parser.specs.Words.{Span, Step, Load, LoadAll, Nothing, Add, Remove, Multiply, Interact, Raise}
+use Rattle.formula_parser.specs.Words.{ArithPart, Span, Step, Load, LoadAll, LoadArith, Nothing, Add, Remove, Multiply, Interact, Raise}
 pub use Rattle.formula_parser.specs.declared.evaluation.Halt.{Halt}
 pub use Rattle.formula_parser.specs.declared.evaluation.Halt.TheVariants.{OutOfMemory, TooManyTerms}
 use Rattle.formula_parser.specs.Terms.{Term, Terms, plus, minus, cross, times, raised}
@@ -24,10 +24,11 @@ pushed stack a = Ok (a ∷ stack)
 abbrev pub on_two : (Terms → Terms → Terms) → ℕ → List Terms → Result (List Terms) ℕ
 on_two f n stack = limited n (f (top (below stack)) (top stack)) >>= λ c. pushed (below (below stack)) c
 
-module _ (only : Span → Bool → Term) (all : Terms) where
+module _ (only : Span → Bool → Term) (computed : ArithPart → Term) (all : Terms) where
   -- one step
   abbrev pub act : Step → List Terms → Result (List Terms) ℕ
   act (Load x f) stack = pushed stack (only x f ∷ [])
+  act (LoadArith p) stack = pushed stack (computed p ∷ [])
   act LoadAll stack = pushed stack all
   act Nothing stack = pushed stack []
   act (Add n) stack = on_two plus n stack

@@ -7,10 +7,12 @@ pub use Rattle.formula_grammar.specs.declared.token.Whole.TheVariants.{Zero, Uni
 pub use Rattle.formula_grammar.specs.declared.token.Numeral.{Numeral}
 pub use Rattle.formula_grammar.specs.declared.token.Numeral.TheVariants.{Digits, Written}
 pub use Rattle.formula_grammar.specs.declared.token.Kind.{Kind}
-pub use Rattle.formula_grammar.specs.declared.token.Kind.TheVariants.{Name, FactorWord, QssWord, Number, Signed, Tilde, Star, Colon, Caret, Open, Close, Comma, Point, End, Stray}
+pub use Rattle.formula_grammar.specs.declared.token.Kind.TheVariants.{Name, FactorWord, QssWord, ArithWord, OffsetWord, Number, Signed, Tilde, Star, Colon, Caret, Open, Close, Comma, Point, End, Stray}
 pub use Rattle.formula_grammar.specs.declared.token.Token.{Token}
 pub use Rattle.formula_grammar.specs.declared.reading.Step.{Step}
-pub use Rattle.formula_grammar.specs.declared.reading.Step.TheVariants.{Load, LoadAll, Nothing, Add, Remove, Multiply, Interact, Raise}
+pub use Rattle.formula_grammar.specs.declared.reading.Step.TheVariants.{Load, LoadAll, LoadArith, Nothing, Add, Remove, Multiply, Interact, Raise}
 pub use Rattle.formula_grammar.specs.declared.reading.SmoothPart.{SmoothPart}
+pub use Rattle.formula_grammar.specs.declared.reading.ArithStep.{ArithStep}
+pub use Rattle.formula_grammar.specs.declared.reading.ArithPart.{ArithPart}
 pub use Rattle.formula_grammar.specs.declared.reading.Reading.{Reading}
 pub use Rattle.formula_grammar.specs.declared.fault.ReadFault.{ReadFault}

@@ -1,7 +1,7 @@
 ghost use Rattle.std.specs.Prelude.{◌≡◌, ◌∷◌, [], Ok, IfErr, IfOk, OnOk};
 ghost use Rattle.formula_parser.specs.Terms.{Terms, cross, minus, plus, raised, times};
 ghost use Rattle.formula_parser.specs.Meaning.{limited};
-ghost use Rattle.formula_parser.specs.Scope.{dot_terms, named_term};
+ghost use Rattle.formula_parser.specs.Scope.{arith_term, dot_terms, named_term};
 ghost use Rattle.formula_parser.specs.Stack.{Halts, act, below, operated, run_steps, top};
 ghost use Rattle.formula_parser.specs.declared.evaluation.Halt.TheVariants.{OutOfMemory};
 
@@ -176,19 +176,20 @@ fn removed(alloc: Global, left: TermSet, right: &TermSet, at: u32) -> Result<Ter
 }
 
 // An operator of two operands, the right one on top.
-fn operate(alloc: Global, stack: &mut Stack, step: Step) -> Result<TermSet, Halt>
+fn operate(alloc: Global, stack: &mut Stack, step: &Step) -> Result<TermSet, Halt>
     ensures stack { OnOk result (stack.new ≡ below (below stack.old)) }
-    ensures ok { IfOk result (λ s. operated step (top (below stack.old)) (top stack.old) ≡ Ok s) }
+    ensures ok { IfOk result (λ s.
+        operated step.now (top (below stack.old)) (top stack.old) ≡ Ok s) }
     ensures err { IfErr result
-        (Halts (operated step (top (below stack.old)) (top stack.old))) }
+        (Halts (operated step.now (top (below stack.old)) (top stack.old))) }
 {
     let right = stack.pop(alloc);
     let left = stack.pop(alloc);
     match step {
-        Step::Add { at } => added(alloc, left, &right, at),
-        Step::Remove { at } => removed(alloc, left, &right, at),
-        Step::Multiply { at } => multiplied(alloc, left, &right, at),
-        Step::Interact { at } => crossed(alloc, &left, &right, at),
+        Step::Add { at } => added(alloc, left, &right, *at),
+        Step::Remove { at } => removed(alloc, left, &right, *at),
+        Step::Multiply { at } => multiplied(alloc, left, &right, *at),
+        Step::Interact { at } => crossed(alloc, &left, &right, *at),
         _ => Ok(left),
     }
 }
@@ -199,23 +200,28 @@ fn act(
     scope: &Scope,
     variables: &[Mention],
     stack: &mut Stack,
-    step: Step,
+    step: &Step,
 ) -> Result<(), Halt>
     ensures ok { let s = scope.now in let vs = variables.now in OnOk result
-        (act (named_term s.text.now s.names.now vs) (dot_terms vs s.others.now) step stack.old
+        (act (named_term s.text.now s.names.now vs) (arith_term s.text.now s.names.now s.ariths.now vs) (dot_terms vs s.others.now) step.now stack.old
         ≡ Ok stack.new) }
     ensures err { let s = scope.now in let vs = variables.now in IfErr result
-        (Halts (act (named_term s.text.now s.names.now vs) (dot_terms vs s.others.now) step stack.old)) }
+        (Halts (act (named_term s.text.now s.names.now vs) (arith_term s.text.now s.names.now s.ariths.now vs) (dot_terms vs s.others.now) step.now stack.old)) }
 {
     let list = match step {
         Step::Load { name, as_factor } => {
-            let column = column_at(scope.text, scope.names, name);
+            let column = column_at(scope.text, scope.names, *name);
+            let as_factor = *as_factor;
             let term = only_term(alloc, variables, Mention { column, as_factor })?;
+            TermSet::new(alloc).push(alloc, term)?
+        }
+        Step::LoadArith { part } => {
+            let term = only_term(alloc, variables, scope.computed(alloc, part)?)?;
             TermSet::new(alloc).push(alloc, term)?
         }
         Step::LoadAll => dot_terms(alloc, variables, scope.others)?,
         Step::Nothing => TermSet::new(alloc),
-        Step::Raise { exponent, at } => raised(alloc, stack.pop(alloc), exponent, at)?,
+        Step::Raise { exponent, at } => raised(alloc, stack.pop(alloc), *exponent, *at)?,
         _ => operate(alloc, stack, step)?,
     };
     stack.push(list)?;
@@ -230,14 +236,14 @@ pub(crate) fn evaluate(
     steps: &[Step],
 ) -> Result<TermSet, Halt>
     ensures ok { let s = scope.now in let vs = variables.now in IfOk result (λ ts.
-        run_steps (named_term s.text.now s.names.now vs) (dot_terms vs s.others.now) steps.now
+        run_steps (named_term s.text.now s.names.now vs) (arith_term s.text.now s.names.now s.ariths.now vs) (dot_terms vs s.others.now) steps.now
         ≡ Ok ts) }
     ensures err { let s = scope.now in let vs = variables.now in IfErr result
-        (Halts (run_steps (named_term s.text.now s.names.now vs) (dot_terms vs s.others.now) steps.now)) }
+        (Halts (run_steps (named_term s.text.now s.names.now vs) (arith_term s.text.now s.names.now s.ariths.now vs) (dot_terms vs s.others.now) steps.now)) }
 {
     let mut stack = Stack::new(alloc);
     for step in steps {
-        act(alloc, scope, variables, &mut stack, *step)?;
+        act(alloc, scope, variables, &mut stack, step)?;
     }
     Ok(stack.pop(alloc))
 }

@@ -1,12 +1,13 @@
-use frac_core::{Frac128, List, Text};
+use frac_core::{Arith, Frac128, List, Text};
 
-/// A column of the table as a formula names it.
+/// A column of the table as a formula names it, or an arithmetic of columns.
 #[derive(Drop)]
 pub struct Variable {
-    /// The name of the column.
+    /// The name of the column, or `I(`, the text of the arithmetic and `)`.
     pub name: Text,
     /// It was written as `factor(NAME)`: numbers in the column are levels.
     pub as_factor: bool,
+    pub arith: Option<Arith>,
 }
 
 /// A set of variables, in the order in which each first stands in the formula.
@@ -37,4 +38,6 @@ pub struct Formula {
     pub terms: List<Term>,
     /// The smooths in the order of the text.
     pub smooths: List<Smooth>,
+    /// What is subtracted from the response, in the order of the text.
+    pub offsets: List<Arith>,
 }

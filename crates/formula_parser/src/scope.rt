@@ -1,13 +1,15 @@
 ghost use Rattle.std.specs.Prelude.{◌≡◌, false, map, IfOk};
 ghost use Rattle.std.specs.List.{list_any};
-ghost use Rattle.formula_parser.specs.Scope.{column_at, column_of, dot_terms, each_once, loaded, only_term, other_columns, piece, same, variable, variables_of, with_variable};
+ghost use Rattle.formula_parser.specs.Scope.{column_at, column_of, computed, dot_terms, each_once, loaded, only_term, other_columns, piece, same, variable, variables_of, with_variable};
 
+use crate::arithmetics::{Source, place_of};
 use crate::term_set::TermSet;
-use formula_grammar::{Span, Step};
-use frac_core::Text;
+use formula_grammar::{ArithPart, Span, Step};
+use frac_core::{Arith, Text};
 use std::alloc::{AllocError, Global};
 
 /// A variable as a column of the table, counted from 0, and whether it was written with `factor`.
+/// The arithmetics of the formula count as columns behind those of the table.
 #[derive(Clone, Copy)]
 pub(crate) struct Mention {
     pub column: usize,
@@ -23,6 +25,28 @@ pub(crate) struct Scope<'a> {
     pub names: &'a [Text],
     /// The columns that `.` stands for.
     pub others: &'a [usize],
+    /// The arithmetics of the formula, each text once.
+    pub ariths: &'a [Arith],
+}
+
+impl Scope<'_> {
+    /// The variable of an arithmetic.
+    pub(crate) fn computed(&self, alloc: Global, part: &ArithPart) -> Result<Mention, AllocError>
+        ensures { let s = self.now in IfOk result (λ v. v
+            ≡ computed s.text.now s.names.now s.ariths.now part.now) }
+    {
+        let source = Source {
+            text: self.text,
+            names: self.names,
+        };
+        match place_of(alloc, &source, self.ariths, part) {
+            Ok(place) => Ok(Mention {
+                column: self.names.len() + place,
+                as_factor: false,
+            }),
+            Err(_) => Err(AllocError),
+        }
+    }
 }
 
 /// The piece of a text at a span, as far as the text goes.
@@ -98,15 +122,22 @@ fn add_columns(mut found: Vec<Mention>, columns: &[usize]) -> Result<Vec<Mention
     Ok(found)
 }
 
-fn add_loaded(scope: &Scope, found: Vec<Mention>, step: Step) -> Result<Vec<Mention>, AllocError>
+fn add_loaded(
+    alloc: Global,
+    scope: &Scope,
+    found: Vec<Mention>,
+    step: &Step,
+) -> Result<Vec<Mention>, AllocError>
     ensures { let s = scope.now in IfOk result (λ v. v.items
-        ≡ each_once found.items (loaded s.text.now s.names.now s.others.now step)) }
+        ≡ each_once found.items (loaded s.text.now s.names.now s.others.now s.ariths.now step.now)) }
 {
     match step {
         Step::Load { name, as_factor } => {
-            let column = column_at(scope.text, scope.names, name);
+            let column = column_at(scope.text, scope.names, *name);
+            let as_factor = *as_factor;
             add_variable(found, Mention { column, as_factor })
         }
+        Step::LoadArith { part } => add_variable(found, scope.computed(alloc, part)?),
         Step::LoadAll => add_columns(found, scope.others),
         _ => Ok(found),
     }
@@ -119,11 +150,11 @@ pub(crate) fn variables_of(
     steps: &[Step],
 ) -> Result<Vec<Mention>, AllocError>
     ensures { let s = scope.now in IfOk result (λ v. v.items
-        ≡ variables_of s.text.now s.names.now s.others.now steps.now) }
+        ≡ variables_of s.text.now s.names.now s.others.now s.ariths.now steps.now) }
 {
     let mut found = Vec::new(alloc);
     for step in steps {
-        found = add_loaded(scope, found, *step)?;
+        found = add_loaded(alloc, scope, found, step)?;
     }
     Ok(found)
 }

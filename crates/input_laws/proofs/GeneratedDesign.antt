@@ -1,6 +1,6 @@
 -- Where all columns of a table are numbers in every record, and every term is one of them, there is nothing wrong with
 -- the design.
-use Rattle.std.proofs.Common.{◌≡◌, ◌≢◌, ℕ, zero, suc, ◌+◌, ◌/◌, ◌<◌, ◌≤◌, Bool, true, false, is_some, List, [], ◌∷◌, ◌++◌, Option, Some, None, map, length, get_or, filter, codes, option_map, position, unwrap_or, flat_map, nat_lt, pos, arith, inl, inr, refl, sym, ap, subst, ◌∙◌}
+use Rattle.std.proofs.Common.{◌≡◌, ◌≢◌, ℕ, zero, suc, ◌+◌, ◌/◌, ◌<◌, ◌≤◌, Bool, true, false, is_some, List, [], ◌∷◌, ◌++◌, Option, Some, None, map, length, get_or, filter, codes, option_map, option_to_list, position, slice_get, unwrap_or, flat_map, nat_lt, pos, arith, inl, inr, refl, sym, ap, subst, ◌∙◌}
 use Rattle.std.specs.List.{AllByRecursion, position_or_len, range_with_len}
 use Rattle.std.specs.Ordering.{is_lt, is_ne}
 use Rattle.std.specs.Str.{bytes_eq}
@@ -14,19 +14,22 @@ use Rattle.std.proofs.Math.ListN as seq
 use Rattle.contrasts.specs.declared.Coding.{Coding}
 use Rattle.exact_algebra.specs.Rational.{le_ℚ, whole}
 use Rattle.frac_core.specs.Limits.{most_columns}
+use Rattle.frac_core.specs.declared.arith.Arith.{Arith}
 use Rattle.frac_core.specs.declared.frac128.Frac128.{Frac128}
 use Rattle.data_frame.specs.Cells.{ColumnOf, numbers, factor, too_wide}
 use Rattle.data_frame.specs.Records.{Text}
 use Rattle.data_frame.specs.Tables.{column_named}
 use Rattle.data_frame.specs.Views.{exact, exact_column}
+use Rattle.formula_parser.specs.Held.{ariths_of, term_ariths}
 use Rattle.formula_parser.specs.Scope.{name_at}
 use Rattle.formula_parser.specs.declared.formula.Formula.{Formula}
 use Rattle.formula_parser.specs.declared.formula.Term.{Term}
 use Rattle.formula_parser.specs.declared.formula.Variable.{Variable}
-use Rattle.design_matrix.specs.Cells.{Column, Table, column_of, is_complete, is_kept, is_present, kept, used_names, weight_sign}
+use Rattle.design_matrix.specs.Cells.{Column, Table, column_of, is_complete, is_kept, is_present, kept, names_by, term_names, used_names, weight_sign}
 use Rattle.design_matrix.specs.CodedVariable.{CodedVariable, coded_term, coded_terms, coded_variable, values_in, width, width_in}
-use Rattle.design_matrix.specs.Designs.{OverflowsFirst}
-use Rattle.design_matrix.specs.Faults.{HasCause, factor_fault, fault_of, late_fault, levels_fault, rows_fault, terms_fault, used_fault, weight_fault, weights_fault, wide_fault, widths_fault}
+use Rattle.design_matrix.specs.Computed.{arith_at, expressions, texts_once}
+use Rattle.design_matrix.specs.Designs.{OverflowsFirst, OverflowsInRecord, OverflowsInRow, in_ariths, in_entries, in_response}
+use Rattle.design_matrix.specs.Faults.{HasCause, ariths_fault, factor_fault, named_fault, fault_of, late_fault, levels_fault, rows_fault, terms_fault, used_fault, weight_fault, weights_fault, wide_fault, widths_fault}
 use Rattle.design_matrix.specs.Lists.{each, first_some}
 use Rattle.design_matrix.specs.Parts.{Part, chosen, columns_in, columns_of, count, term_columns}
 use Rattle.design_matrix.specs.declared.fault.DesignFault.{DesignFault}
@@ -112,16 +115,16 @@ module _ (table : Table) (model : Formula) (coding : Coding) (rows : ℕ) (some 
 
   -- ---- names that are used
 
-  term_named : (t : Term) → IsColumn table.names t → AllByRecursion Named (map (λ v. v.name) t.variables)
-  term_named t h = subst (λ vs. AllByRecursion Named (map (λ v. v.name) vs)) (sym h.2) (named h.0 h.1, tt)
+  term_named : (t : Term) → IsColumn table.names t → AllByRecursion Named (term_names t)
+  term_named t h = subst (λ vs. AllByRecursion Named (flat_map (λ v. names_by v.name v.arith) vs)) (sym h.2) (named h.0 h.1, tt)
 
   all_append : (xs ys : List Text) → AllByRecursion Named xs → AllByRecursion Named ys → AllByRecursion Named (xs ++ ys)
   all_append [] ys h k = k
   all_append (x ∷ xs) ys h k = (h.0, all_append xs ys h.1 k)
 
-  terms_named : (ts : List Term) → AllByRecursion (IsColumn table.names) ts → AllByRecursion Named (flat_map (λ t. map (λ v. v.name) t.variables) ts)
+  terms_named : (ts : List Term) → AllByRecursion (IsColumn table.names) ts → AllByRecursion Named (flat_map term_names ts)
   terms_named [] h = tt
-  terms_named (t ∷ ts) h = all_append (map (λ v. v.name) t.variables) (flat_map (λ t. map (λ v. v.name) t.variables) ts) (term_named t h.0) (terms_named ts h.1)
+  terms_named (t ∷ ts) h = all_append (term_names t) (flat_map term_names ts) (term_named t h.0) (terms_named ts h.1)
 
   single : AllByRecursion (IsColumn table.names) model.terms
   single = recursion_from_All (IsColumn table.names) model.terms said.single
@@ -134,7 +137,30 @@ module _ (table : Table) (model : Formula) (coding : Coding) (rows : ℕ) (some 
 
   used : AllByRecursion Named (used_names model None)
   unfolding used_names
-  used = (response, all_append (flat_map (λ t. map (λ v. v.name) t.variables) model.terms) (map (λ s. s.name) model.smooths) (terms_named model.terms single) (subst (λ ss. AllByRecursion Named (map (λ s. s.name) ss)) (sym said.smooths) tt))
+  used = (
+    response,
+    all_append (flat_map term_names model.terms) (flat_map (λ a. a.names) model.offsets ++ map (λ s. s.name) model.smooths) (terms_named model.terms single)
+        (all_append (flat_map (λ a. a.names) model.offsets) (map (λ s. s.name) model.smooths) (subst (λ (os : List Arith). AllByRecursion Named (flat_map (λ a. a.names) os)) (sym said.offsets) tt)
+        (subst (λ ss. AllByRecursion Named (map (λ s. s.name) ss)) (sym said.smooths) tt)),
+  )
+
+  -- ---- arithmetics
+
+  none_of_terms : (ts : List Term) → AllByRecursion (IsColumn table.names) ts → flat_map term_ariths ts ≡ []
+  none_of_terms [] h = refl
+  none_of_terms (t ∷ ts) h =
+      ap (λ l. l ++ flat_map term_ariths ts) (ap (flat_map (λ v. option_to_list v.arith)) h.0.2) ∙ none_of_terms ts h.1
+
+  no_ariths : ariths_of model ≡ []
+  no_ariths = ap (λ l. l ++ model.offsets) (none_of_terms model.terms single) ∙ said.offsets
+
+  no_expressions : expressions model ≡ []
+  unfolding expressions
+  no_expressions = ap (texts_once []) no_ariths
+
+  no_arith_fault : ariths_fault table (ariths_of model) ≡ None
+  unfolding ariths_fault
+  no_arith_fault = ap (λ l. first_some (λ a. first_some (named_fault table) a.names) l) no_ariths
 
   none_wide : (names : List Text) → AllByRecursion Named names → first_some (λ name. wide_fault name (column_of table name)) names ≡ None
   none_wide [] h = refl
@@ -142,7 +168,7 @@ module _ (table : Table) (model : Formula) (coding : Coding) (rows : ℕ) (some 
 
   used_sound : used_fault table model None ≡ None
   unfolding used_fault widths_fault weights_fault
-  used_sound = rw (not_factor rows designs.ResponseNotNumeric (column_of table model.response) response, none_wide (used_names model None) used) (none_negative (range_with_len 0 table.records))
+  used_sound = rw (not_factor rows designs.ResponseNotNumeric (column_of table model.response) response, no_arith_fault, none_wide (used_names model None) used) (none_negative (range_with_len 0 table.records))
 
   -- ---- records
 
@@ -190,7 +216,7 @@ module _ (table : Table) (model : Formula) (coding : Coding) (rows : ℕ) (some 
   one_coded : (records : List ℕ) (k : ℕ) (t : Term) → IsColumn table.names t → IsSingle (coded_term table model coding records k t)
   unfolding coded_variable
   one_coded records k t h =
-      let v : Variable = record { name = name_at table.names h.0; as_factor = false } in
+      let v : Variable = record { name = name_at table.names h.0; as_factor = false; arith = None } in
       record {
         only = coded_variable table model coding records k (v ∷ []) 0 v;
         is = ap (λ vs. each (coded_variable table model coding records k vs) 0 vs) h.2;
@@ -264,14 +290,22 @@ module _ (table : Table) (model : Formula) (coding : Coding) (rows : ℕ) (some 
   unfolding Short
   all_short records = subst (AllByRecursion Short) (sym (columns_are records)) (omega arith, short_terms (coded_terms table model coding records) (coded records))
 
-  none_overflows : (records : List ℕ) (spill : Spill Frac128) → OverflowsFirst (columns_of table model coding records) records spill → ⊥
+  none_in_row : (records : List ℕ) (place rec : ℕ) (spill : Spill Frac128) → OverflowsInRow (columns_of table model coding records) place rec spill → ⊥
   unfolding Short
-  none_overflows records spill h =
+  none_in_row records place rec spill h =
       let columns = columns_of table model coding records in
-      let parts = get_or columns h.row.column [] in
-      let short : length parts ≤ 1 = All-from_recursion Short columns (all_short records) h.row.column [] h.row.there in
-      let k = h.row.first in
-      absurd (omega (arith, short, k.some, k.more, length-map parts (λ p. get_or p.entries h.place (whole (pos 0)))))
+      let parts = get_or columns h.column [] in
+      let short : length parts ≤ 1 = All-from_recursion Short columns (all_short records) h.column [] h.there in
+      let k = h.first in
+      absurd (omega (arith, short, k.some, k.more, length-map parts (λ p. get_or p.entries place (whole (pos 0)))))
+
+  none_in_record : (records : List ℕ) (place i : ℕ) (spill : Spill Frac128) → OverflowsInRecord table model (columns_of table model coding records) place i spill → ⊥
+  none_in_record records place i spill (in_ariths h) = absurd (cc (sym (ap (λ l. slice_get l h.place) no_expressions) ∙ h.there))
+  none_in_record records place i spill (in_response a h) = absurd (omega (arith, h.there, length-map model.offsets (λ a. arith_at table a i), ap length said.offsets))
+  none_in_record records place i spill (in_entries a r h) = none_in_row records place (i + 1) spill h
+
+  none_overflows : (records : List ℕ) (spill : Spill Frac128) → OverflowsFirst table model (columns_of table model coding records) records spill → ⊥
+  none_overflows records spill h = none_in_record records h.place (get_or records h.place 0) spill h.here
 
   late_sound : (records : List ℕ) → late_fault table model coding records ≡ None
   unfolding late_fault terms_fault

@@ -7,13 +7,15 @@ use Rattle.std.proofs.lemmas.List.Elements.{All-cons, All-map, All-nil}
 use Rattle.std.proofs.lemmas.List.FromFn.{length-range_with_len, map-range_with_len_more}
 use Rattle.std.proofs.lemmas.List.Sorted.{All-permutation, length_permutation}
 use native.Mathlib.Decide.{dec_lt}
-use Rattle.formula_grammar.specs.Codes.{has_intercept, smooths_of}
+use Rattle.formula_grammar.specs.Codes.{has_intercept, offsets_of, smooths_of}
 use Rattle.formula_grammar.specs.Faults.{IsCleanBelow, IsFormula, NoFormulaHasFaults, limit_at}
-use Rattle.formula_grammar.specs.Grammar.{Begins, OneFormula, Start, Bare, One, Lone, Plain, Dot, formula_tokens}
+use Rattle.formula_grammar.specs.Arithmetics.{Bare}
+use Rattle.formula_grammar.specs.Grammar.{Begins, OneFormula, Start, One, Lone, Plain, Dot, formula_tokens}
 use Rattle.formula_grammar.specs.Grammar.{Formula as Tree, Term as term_item}
 use Rattle.formula_grammar.specs.Tokens.{name_or_word, tokens}
 use Rattle.formula_grammar.specs.declared.fault.ReadFault.TheVariants as read_fault
-use Rattle.formula_parser.specs.Parsed.{IsFault, IsParsed, meaning_of, meant_smooth, members, spoken_term, spoken_variable, told_smooth, variables_in, others_of, unknown_name}
+use Rattle.formula_parser.specs.Arithmetics.{part_said}
+use Rattle.formula_parser.specs.Parsed.{IsFault, IsParsed, ariths_in, meaning_of, meant_smooth, members, spoken_term, spoken_variable, told_smooth, variables_in, others_of, unknown_name}
 use Rattle.formula_parser.specs.Scope.{Text, column_at, column_of, dot_terms, each_once, name_at, only_term, other_columns, same, variable, with_variable}
 use Rattle.formula_parser.specs.declared.formula.Formula.{Formula}
 use Rattle.formula_parser.specs.declared.formula.Smooth.{Smooth}
@@ -112,13 +114,14 @@ one_chosen c a (suc n) l k = elim (dec_lt a c) [
 
 -- a term is the numbers of one column
 abbrev pub IsColumn : List Text → Term → Type 0
-IsColumn names t = (c : ℕ) × (c < length names) × (t.variables ≡ record { name = name_at names c; as_factor = false } ∷ [])
+IsColumn names t = (c : ℕ) × (c < length names) × (t.variables ≡ record { name = name_at names c; as_factor = false; arith = None } ∷ [])
 
 -- a term for each of the other columns
 pub record AreColumns (names : List Text) (model : Formula) : Type 0 where
   pub response : model.response ≡ codes "y"
   pub intercept : model.intercept ≡ true
   pub smooths : model.smooths ≡ []
+  pub offsets : model.offsets ≡ []
   pub number : 1 + length model.terms ≡ length names
   pub single : All (IsColumn names) model.terms
 
@@ -150,10 +153,14 @@ module _ (more : List Text) where
 
   -- a term that a list of truth values says, over the variables of the point
   abbrev IsSpoken : List Bool → Type 0
-  IsSpoken t = IsColumn names (spoken_term names (map (λ k. variable k false) (range_with_len 1 m)) t)
+  IsSpoken t = IsColumn names (spoken_term names [] (map (λ k. variable k false) (range_with_len 1 m)) t)
+
+  -- the variable of a column, for there are no arithmetics
+  plain : (c : ℕ) → c < length names → spoken_variable names [] (variable c false) ≡ record { name = name_at names c; as_factor = false; arith = None }
+  plain c l = rw (lt-ltb c (length names) l) refl
 
   spoken : (c : ℕ) → 1 ≤ c → c < 1 + m → IsSpoken (only_term (map (λ k. variable k false) (range_with_len 1 m)) (variable c false))
-  spoken c some l = (c, omega (arith, l), ap (map (spoken_variable names)) (one_chosen c 1 m some l))
+  spoken c some l = (c, omega (arith, l), ap (map (spoken_variable names [])) (one_chosen c 1 m some l) ∙ ap (λ v. v ∷ []) (plain c (omega (arith, l))))
 
   all_spoken : (a n : ℕ) → 1 ≤ a → a + n ≤ 1 + m → All IsSpoken (dot_terms (map (λ k. variable k false) (range_with_len 1 m)) (range_with_len a n))
   all_spoken a zero some l = All-nil IsSpoken
@@ -175,12 +182,14 @@ module _ (more : List Text) where
     all_ordered : All IsSpoken p.ordered
     all_ordered = All-permutation IsSpoken p.meaning p.ordered p.by_size.moved (subst (All IsSpoken) (sym same_meaning) (all_spoken 1 m (omega arith) (omega arith)))
 
-    terms : model.terms ≡ map (spoken_term names (map (λ k. variable k false) (range_with_len 1 m))) p.ordered
-    terms = p.terms ∙ ap (λ f. map (spoken_term names (variables_in dot_formula names f)) p.ordered) tree ∙ ap (λ vs. map (spoken_term names vs) p.ordered) variables
+    terms : model.terms ≡ map (spoken_term names [] (map (λ k. variable k false) (range_with_len 1 m))) p.ordered
+    terms =
+        p.terms ∙ ap (λ f. map (spoken_term names (ariths_in dot_formula names f) (variables_in dot_formula names f)) p.ordered) tree
+        ∙ ap (λ vs. map (spoken_term names [] vs) p.ordered) variables
 
     count : length model.terms ≡ m
     count =
-        ap length terms ∙ length-map p.ordered (spoken_term names (map (λ k. variable k false) (range_with_len 1 m)))
+        ap length terms ∙ length-map p.ordered (spoken_term names [] (map (λ k. variable k false) (range_with_len 1 m)))
         ∙ length_permutation p.meaning p.ordered p.by_size.moved ∙ ap length same_meaning
         ∙ length-map (range_with_len 1 m) (λ c. only_term (map (λ k. variable k false) (range_with_len 1 m)) (variable c false)) ∙ length-range_with_len 1 m
 
@@ -189,8 +198,9 @@ module _ (more : List Text) where
       response = p.response ∙ ap (λ f. name_at names (column_at dot_formula names f.head.response)) tree ∙ ap (name_at names) response_column;
       intercept = p.intercept ∙ ap (λ f. has_intercept f.items) tree;
       smooths = none_smooth model.smooths (p.smooths ∙ ap (λ f. map (meant_smooth dot_formula names) (smooths_of f.items)) tree);
+      offsets = p.offsets ∙ ap (λ f. map (part_said dot_formula names) (offsets_of f.items)) tree;
       number = omega (arith, count);
-      single = subst (All (IsColumn names)) (sym terms) (All-map (IsColumn names) (spoken_term names (map (λ k. variable k false) (range_with_len 1 m))) p.ordered all_ordered);
+      single = subst (All (IsColumn names)) (sym terms) (All-map (IsColumn names) (spoken_term names [] (map (λ k. variable k false) (range_with_len 1 m))) p.ordered all_ordered);
     }
 
   -- and nothing is wrong with it

@@ -2,6 +2,7 @@ pub mod Ordered
 pub mod Same
 pub mod Parsed
 pub mod Products
+pub mod Overflows
 pub mod Sound
 pub mod Inputs
 pub mod Plain

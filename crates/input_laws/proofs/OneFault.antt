@@ -38,7 +38,8 @@ use Rattle.rq_input.specs.Models.{IsDesigned, IsModel, IsSmoothed}
 use Rattle.input_laws.specs.Laws.{OneInputFault}
 use Rattle.input_laws.proofs.Inputs.{one_table}
 use Rattle.input_laws.proofs.Parsed.{no_fault, one_formula, one_tree}
-use Rattle.input_laws.proofs.Products.{same_first, same_spill}
+use Rattle.input_laws.proofs.Overflows.{same_first}
+use Rattle.input_laws.proofs.Products.{same_spill}
 use Rattle.input_laws.proofs.Sound.{as_many_rows, no_design_fault, no_penalty_fault, none_overflows, one_design}
 
 -- ---- the formula
@@ -91,7 +92,7 @@ same_design_fault table model job a b p q (inr (inl h)) (inr (inl k)) = cc (sym 
 same_design_fault table model job a b p q (inr (inl h)) (inr (inr k)) = absurd (cc (sym h ∙ k.0))
 same_design_fault table model job a b p q (inr (inr h)) (inr (inl k)) = absurd (cc (sym h.0 ∙ k))
 same_design_fault table model job a b p q (inr (inr h)) (inr (inr k)) =
-    h.1.is ∙ ap (λ s. designs.Overflow s) (same_first _ _ h.1.spill k.1.spill h.1.first k.1.first) ∙ sym k.1.is
+    h.1.is ∙ ap (λ s. designs.Overflow s) (same_first _ _ _ _ h.1.spill k.1.spill h.1.first k.1.first) ∙ sym k.1.is
 
 -- ---- what smooths add
 

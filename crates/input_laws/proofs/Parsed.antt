@@ -2,13 +2,14 @@
 use Rattle.std.proofs.Common.{◌≡◌, ◌≢◌, ℕ, List, map, Result, Ok, refl, sym, ap, subst, ◌∙◌}
 use Rattle.std.specs.List.Sorted.{IsStableByKey}
 use Rattle.std.specs.Ordering.{nat_cmp}
-use Rattle.formula_grammar.specs.Codes.{has_intercept, smooths_of}
+use Rattle.formula_grammar.specs.Codes.{has_intercept, offsets_of, smooths_of}
 use Rattle.formula_grammar.specs.Faults.{IsFormula, NoFormulaHasFaults}
 use Rattle.formula_grammar.specs.Grammar.{OneFormula}
 use Rattle.formula_grammar.specs.Grammar.{Formula as Tree}
 use Rattle.formula_grammar.specs.Tokens.{tokens}
 use Rattle.formula_grammar.specs.declared.fault.ReadFault.TheVariants as read_fault
-use Rattle.formula_parser.specs.Parsed.{IsFault, IsParsed, meaning_of, meant_smooth, spoken_term, told_smooth, variables_in}
+use Rattle.formula_parser.specs.Arithmetics.{part_said}
+use Rattle.formula_parser.specs.Parsed.{IsFault, IsParsed, ariths_in, meaning_of, meant_smooth, spoken_term, told_smooth, variables_in}
 use Rattle.formula_parser.specs.Scope.{Text, column_at, name_at}
 use Rattle.formula_parser.specs.Terms.{Terms, size}
 use Rattle.formula_parser.specs.declared.formula.Formula.{Formula}
@@ -36,9 +37,11 @@ module _ (one : OneFormula) (text : Text) (names : List Text) where
       one_order size q.meaning p.ordered q.ordered p.by_size.sorted (subst (λ m. IsStableByKey size nat_cmp m p.ordered) meaning p.by_size.stable) q.by_size.sorted q.by_size.stable in
       let response = p.response ∙ ap (λ f. name_at names (column_at text names f.head.response)) tree ∙ sym q.response in
       let intercept = p.intercept ∙ ap (λ f. has_intercept f.items) tree ∙ sym q.intercept in
-      let terms = p.terms ∙ ap (λ f. map (spoken_term names (variables_in text names f)) p.ordered) tree ∙ ap (map (spoken_term names (variables_in text names q.formula))) ordered ∙ sym q.terms in
+      let terms = p.terms ∙ ap (λ f. map (spoken_term names (ariths_in text names f) (variables_in text names f)) p.ordered) tree
+      ∙ ap (map (spoken_term names (ariths_in text names q.formula) (variables_in text names q.formula))) ordered ∙ sym q.terms in
+      let offsets = p.offsets ∙ ap (λ f. map (part_said text names) (offsets_of f.items)) tree ∙ sym q.offsets in
       let smooths = same_lists told_smooth same_smooth a.smooths b.smooths (p.smooths ∙ ap (λ f. map (meant_smooth text names) (smooths_of f.items)) tree ∙ sym q.smooths) in
-      λ i. record { response = response i; intercept = intercept i; terms = terms i; smooths = smooths i }
+      λ i. record { response = response i; intercept = intercept i; terms = terms i; smooths = smooths i; offsets = offsets i }
     where
       same_meaning : (x y : Terms) → ◌≡◌ {A = Result Terms ℕ} (Ok x) (Ok y) → x ≡ y
       same_meaning x y h = cc h

@@ -1,12 +1,13 @@
 -- Bytes that ask for predictions have no fault: neither as an input, nor in what is predicted.
-use Rattle.std.proofs.Common.{◌≢◌, ℕ, true, List, length, arith, inl, inr, sym, ap, subst, ◌∙◌}
+use Rattle.std.proofs.Common.{◌≢◌, ◌-◌, ℕ, true, List, length, arith, inl, inr, sym, ap, subst, ◌∙◌}
 use Rattle.loss_model.specs.Problem.{IsWellShaped}
 use Rattle.contrasts.specs.declared.Coding.{Coding}
 use Rattle.formula_grammar.specs.Faults.{NoFormulaHasFaults}
 use Rattle.formula_grammar.specs.Grammar.{OneFormula}
 use Rattle.formula_parser.specs.declared.formula.Formula.{Formula}
 use Rattle.design_matrix.specs.Cells.{Table}
-use Rattle.design_matrix.specs.Predicted.{HasRowCause, IsPredictRow, kept_in, predicted}
+use Rattle.design_matrix.specs.Computed.{expressions}
+use Rattle.design_matrix.specs.Predicted.{HasRowCause, IsPredictRow, in_ariths, in_entries, kept_in, predicted}
 use Rattle.design_matrix.specs.declared.design.Design.{Design}
 use Rattle.design_matrix.specs.declared.design.PredictRow.{PredictRow}
 use Rattle.design_matrix.specs.declared.fault.DesignFault.{DesignFault}
@@ -26,6 +27,7 @@ use Rattle.input_laws.specs.Laws.{PredictionsHaveNoFault}
 use Rattle.input_laws.proofs.Inputs.{one_table}
 use Rattle.input_laws.proofs.Parsed.{one_formula}
 use Rattle.input_laws.proofs.Plain.{plain_sound}
+use Rattle.input_laws.proofs.Overflows.{none_in_ariths}
 use Rattle.input_laws.proofs.Products.{none_in_row}
 use Rattle.input_laws.proofs.Sound.{one_design}
 
@@ -36,7 +38,10 @@ module _ (table : Table) (model : Formula) (coding : Coding) where
   no_row_fault : (records : List ℕ) (rec : ℕ) (row : PredictRow) (fault : DesignFault) → IsPredictRow table model coding records rec row → fault ≢ designs.OutOfMemory → ¬ HasRowCause table model coding records rec fault
   no_row_fault records rec row fault is named (inl memory) = named memory
   no_row_fault records rec row fault is named (inr (inl unknown)) = absurd (cc (sym is.known ∙ unknown))
-  no_row_fault records rec row fault is named (inr (inr late)) = none_in_row _ _ rec late.1.0 is.fits late.1.2
+  no_row_fault records rec row fault is named (inr (inr late)) = elim late.1.2 [
+    | in_ariths h ↦ none_in_ariths table (expressions model) (rec - 1) late.1.0 is.computed h
+    | in_entries a h ↦ none_in_row _ _ rec late.1.0 is.fits h
+  ]
 
   no_records_fault : (design : Design) (rows : List PredictRow) → ArePredicted table model coding design rows → (refusal : Refusal) → ¬ HasRecordsCause table model coding design refusal
   no_records_fault design rows are refusals.NothingToPredict h =

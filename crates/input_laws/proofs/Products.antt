@@ -1,5 +1,5 @@
--- A product that is a fraction of the program is no multiplication that overflows.
-use Rattle.std.proofs.Common.{◌≡◌, ◌≤◌, ◌<◌, ◌+◌, ◌-◌, ◌*◌, ◌/◌, ◌^◌, ℕ, zero, suc, ℤ, pos, ◌*ℤ◌, unsigned_abs, List, [], ◌∷◌, length, take, get_or, arith, refl, sym, ap, ap₂, subst, ◌∙◌, one-mul}
+-- A product that is a fraction of the program is no multiplication that overflows, and the first in a row that overflows is one.
+use Rattle.std.proofs.Common.{◌≡◌, ◌≤◌, ◌<◌, ◌-◌, ◌*◌, ◌/◌, ◌^◌, ℕ, zero, suc, ℤ, pos, ◌*ℤ◌, unsigned_abs, List, [], ◌∷◌, length, take, get_or, arith, refl, sym, ap, ap₂, subst, ◌∙◌, one-mul}
 use Rattle.std.proofs.Math.Nat.{dvd-mul_left, div-mul_cancel, mul-div_cancel, mul_comm}
 use Rattle.std.proofs.lemmas.Int.{unsigned_abs-mul}
 use Rattle.std.specs.Int.{◌∣◌}
@@ -11,7 +11,7 @@ use Rattle.frac_core.specs.GcdLaws.{dvd_from_coprime, gcd-mul, gcd_comm, quotien
 use Rattle.frac_core.specs.Overflow.{IsWithin, ReducesWithin}
 use Rattle.frac_core.specs.declared.frac128.Frac128.{Frac128}
 use Rattle.loss_model.specs.declared.spill.Spill.{Spill}
-use Rattle.design_matrix.specs.Designs.{AllFit, OverflowsFirst, OverflowsInColumn, OverflowsInRow, RowFits, entry_site}
+use Rattle.design_matrix.specs.Designs.{OverflowsInColumn, OverflowsInRow, RowFits, entry_site}
 use Rattle.design_matrix.specs.Parts.{Part, factors}
 use Rattle.design_matrix.specs.Products.{Fits, IsValue, product, product_onto, value}
 use Rattle.loss_model.specs.declared.spill.Site.{Site}
@@ -78,11 +78,6 @@ none_in_column parts place rec column spill fits h = none_beyond parts place rec
 pub none_in_row : (columns : List (List Part)) (place rec : ℕ) (spill : Spill Frac128) → RowFits columns place → OverflowsInRow columns place rec spill → ⊥
 none_in_row columns place rec spill fits h = none_in_column (get_or columns h.column []) place rec h.column spill (fits h.column [] h.there) h.first
 
-pub none_first : (columns : List (List Part)) (records : List ℕ) (spill : Spill Frac128) → AllFit columns records → OverflowsFirst columns records spill → ⊥
-none_first columns records spill fit h =
-    let column = h.row.column in
-    none_in_column (get_or columns column []) h.place _ column spill (fit h.place h.there column [] h.row.there) h.row.first
-
 -- ---- the first product that overflows is one
 
 pub same_spill : (site : Site) (left right : ℚ) (s t : Spill Frac128) → s.site ≡ site → t.site ≡ site
@@ -107,7 +102,7 @@ same_in_column parts place rec column s t h k = elim (dec_lt h.term k.term) [
   ]
 ]
 
-same_in_row : (columns : List (List Part)) (place rec : ℕ) (s t : Spill Frac128) → OverflowsInRow columns place rec s → OverflowsInRow columns place rec t → s ≡ t
+pub same_in_row : (columns : List (List Part)) (place rec : ℕ) (s t : Spill Frac128) → OverflowsInRow columns place rec s → OverflowsInRow columns place rec t → s ≡ t
 same_in_row columns place rec s t h k = elim (dec_lt h.column k.column) [
   | yes before ↦ absurd (earlier s h k.column k.before before)
   | no late ↦ elim (dec_lt k.column h.column) [
@@ -123,14 +118,3 @@ same_in_row columns place rec s t h k = elim (dec_lt h.column k.column) [
         let there : h.column < length (take n columns) = omega (arith, below, h.there, length-take n columns) in
         let of : get_or (take n columns) h.column [] ≡ get_or columns h.column [] = get_or-take n columns h.column [] below in
         none_in_column (get_or columns h.column []) place rec h.column u (subst (λ c. Fits (factors c place)) of (fits h.column [] there)) h.first
-
-pub same_first : (columns : List (List Part)) (records : List ℕ) (s t : Spill Frac128) → OverflowsFirst columns records s → OverflowsFirst columns records t → s ≡ t
-same_first columns records s t h k = elim (dec_lt h.place k.place) [
-  | yes before ↦ absurd (none_in_row columns h.place _ s (k.before h.place before) h.row)
-  | no late ↦ elim (dec_lt k.place h.place) [
-    | yes after ↦ absurd (none_in_row columns k.place _ t (h.before k.place after) k.row)
-    | no early ↦
-        let e : k.place ≡ h.place = omega (arith, late, early) in
-        same_in_row columns h.place (get_or records h.place 0 + 1) s t h.row (subst (λ p. OverflowsInRow columns p (get_or records p 0 + 1) t) e k.row)
-  ]
-]

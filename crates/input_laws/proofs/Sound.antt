@@ -30,7 +30,7 @@ use Rattle.rq_program.specs.Programs.{exact_row as exact_program_row}
 use Rattle.rq_program.specs.declared.fault.ProgramFault.{ProgramFault}
 use Rattle.rq_program.specs.declared.fault.ProgramFault.TheVariants as programs
 use Rattle.rq_input.specs.Models.{IsProblemOf, IsSmoothed}
-use Rattle.input_laws.proofs.Products.{none_first}
+use Rattle.input_laws.proofs.Overflows.{none_first}
 use Rattle.input_laws.proofs.Same.{same_lists, same_number}
 
 -- ---- the design
@@ -39,7 +39,7 @@ module _ (table : Table) (model : Formula) (coding : Coding) (weights : Option T
   pub no_design_fault : (design : Design) → IsDesign table model coding weights design → (fault : DesignFault) → fault ≢ designs.OutOfMemory → ¬ HasDesignCause table model coding weights fault
   no_design_fault design is fault named (inl memory) = named memory
   no_design_fault design is fault named (inr (inl found)) = absurd (cc (sym is.sound ∙ found))
-  no_design_fault design is fault named (inr (inr late)) = none_first _ _ late.1.spill is.design_is.fits late.1.first
+  no_design_fault design is fault named (inr (inr late)) = none_first _ _ _ _ late.1.spill is.design_is.fits late.1.first
 
   same_row : (a b : DesignRow) → exact_row a ≡ exact_row b → a ≡ b
   same_row a b e =

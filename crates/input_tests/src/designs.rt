@@ -4,163 +4,163 @@
 //! record 6 misses g. What each design is was worked out apart from this program, from the tables of
 //! the codings and the coding rule.
 
-ghost use Rattle.std.specs.Prelude.{◌<◌, ◌^◌, All, IsTrue, length};
+ghost use Rattle.std.specs.Prelude.{◌<◌, ◌^◌, All, length};
+ghost use Rattle.formula_parser.specs.Held.{IsHeld, ariths_of};
 
 use crate::helpers::{Told, frame_of};
+use crate::models::model_of;
 use contrasts::Coding;
 use data_frame::Frame;
 use design_matrix::{Design, DesignFault, DesignRow, build};
-use formula_parser::{Formula, Term, Variable};
-use frac_core::{Exact, Frac128, List, OutOfMemory, Text};
-use std::alloc::Global;
+use formula_parser::Formula;
+use frac_core::{Exact, Frac128};
 use std::process::Abort;
 
 static TABLE: &[u8] =
     b"y,f,g,x,z\n1,b,v,3,2\n2,a,u,1,5\n3,c,v,-1,2\n4,a,v,1/2,NA\n5,b,u,2,5\n6,c,,4,2\n";
 
-/// The terms of a formula behind 1 for an intercept and 0 for none, and the design: the names of its columns, and each
-/// row with the number of its record.
+/// A formula and its design: the names of its columns, and each row with the number of its record.
 static TREATMENT: &str = "
-1 f => (Intercept),fb,fc | 1: 1 1 0 | 2: 1 0 0 | 3: 1 0 1 | 4: 1 0 0 | 5: 1 1 0 | 6: 1 0 1
-1 f x f:x => (Intercept),fb,fc,x,fb:x,fc:x | 1: 1 1 0 3 3 0 | 2: 1 0 0 1 0 0 | 3: 1 0 1 -1 0 -1 | 4: 1 0 0 1/2 0 0 | 5: 1 1 0 2 2 0 | 6: 1 0 1 4 0 4
-1 f g f:g => (Intercept),fb,fc,gv,fb:gv,fc:gv | 1: 1 1 0 1 1 0 | 2: 1 0 0 0 0 0 | 3: 1 0 1 1 0 1 | 4: 1 0 0 1 0 0 | 5: 1 1 0 0 0 0
-0 f g f:g => fa,fb,fc,gv,fb:gv,fc:gv | 1: 0 1 0 1 1 0 | 2: 1 0 0 0 0 0 | 3: 0 0 1 1 0 1 | 4: 1 0 0 1 0 0 | 5: 0 1 0 0 0 0
-0 x f:x => x,fb:x,fc:x | 1: 3 3 0 | 2: 1 0 0 | 3: -1 0 -1 | 4: 1/2 0 0 | 5: 2 2 0 | 6: 4 0 4
-0 f:g => fa:gu,fb:gu,fc:gu,fa:gv,fb:gv,fc:gv | 1: 0 0 0 0 1 0 | 2: 1 0 0 0 0 0 | 3: 0 0 0 0 0 1 | 4: 0 0 0 1 0 0 | 5: 0 1 0 0 0 0
-0 factor(z) => factor(z)2,factor(z)5 | 1: 1 0 | 2: 0 1 | 3: 1 0 | 5: 0 1 | 6: 1 0
-1 z f g z:f f:g => (Intercept),z,fb,fc,gv,z:fb,z:fc,fb:gv,fc:gv | 1: 1 2 1 0 1 2 0 1 0 | 2: 1 5 0 0 0 0 0 0 0 | 3: 1 2 0 1 1 0 2 0 1 | 5: 1 5 1 0 0 5 0 0 0
+y ~ f => (Intercept),fb,fc | 1: 1 1 0 | 2: 1 0 0 | 3: 1 0 1 | 4: 1 0 0 | 5: 1 1 0 | 6: 1 0 1
+y ~ f + x + f:x => (Intercept),fb,fc,x,fb:x,fc:x | 1: 1 1 0 3 3 0 | 2: 1 0 0 1 0 0 | 3: 1 0 1 -1 0 -1 | 4: 1 0 0 1/2 0 0 | 5: 1 1 0 2 2 0 | 6: 1 0 1 4 0 4
+y ~ f + g + f:g => (Intercept),fb,fc,gv,fb:gv,fc:gv | 1: 1 1 0 1 1 0 | 2: 1 0 0 0 0 0 | 3: 1 0 1 1 0 1 | 4: 1 0 0 1 0 0 | 5: 1 1 0 0 0 0
+y ~ 0 + f + g + f:g => fa,fb,fc,gv,fb:gv,fc:gv | 1: 0 1 0 1 1 0 | 2: 1 0 0 0 0 0 | 3: 0 0 1 1 0 1 | 4: 1 0 0 1 0 0 | 5: 0 1 0 0 0 0
+y ~ 0 + f:x + x => x,fb:x,fc:x | 1: 3 3 0 | 2: 1 0 0 | 3: -1 0 -1 | 4: 1/2 0 0 | 5: 2 2 0 | 6: 4 0 4
+y ~ 0 + f:g => fa:gu,fb:gu,fc:gu,fa:gv,fb:gv,fc:gv | 1: 0 0 0 0 1 0 | 2: 1 0 0 0 0 0 | 3: 0 0 0 0 0 1 | 4: 0 0 0 1 0 0 | 5: 0 1 0 0 0 0
+y ~ 0 + factor(z) => factor(z)2,factor(z)5 | 1: 1 0 | 2: 0 1 | 3: 1 0 | 5: 0 1 | 6: 1 0
+y ~ z + f + g + z:f + f:g => (Intercept),z,fb,fc,gv,z:fb,z:fc,fb:gv,fc:gv | 1: 1 2 1 0 1 2 0 1 0 | 2: 1 5 0 0 0 0 0 0 0 | 3: 1 2 0 1 1 0 2 0 1 | 5: 1 5 1 0 0 5 0 0 0
 ";
 
 static SAS: &str = "
-1 f => (Intercept),fa,fb | 1: 1 0 1 | 2: 1 1 0 | 3: 1 0 0 | 4: 1 1 0 | 5: 1 0 1 | 6: 1 0 0
-0 f => fa,fb,fc | 1: 0 1 0 | 2: 1 0 0 | 3: 0 0 1 | 4: 1 0 0 | 5: 0 1 0 | 6: 0 0 1
-1 f x f:x => (Intercept),fa,fb,x,fa:x,fb:x | 1: 1 0 1 3 0 3 | 2: 1 1 0 1 1 0 | 3: 1 0 0 -1 0 0 | 4: 1 1 0 1/2 1/2 0 | 5: 1 0 1 2 0 2 | 6: 1 0 0 4 0 0
-1 f g => (Intercept),fa,fb,gu | 1: 1 0 1 0 | 2: 1 1 0 1 | 3: 1 0 0 0 | 4: 1 1 0 0 | 5: 1 0 1 1
-1 f g f:g => (Intercept),fa,fb,gu,fa:gu,fb:gu | 1: 1 0 1 0 0 0 | 2: 1 1 0 1 1 0 | 3: 1 0 0 0 0 0 | 4: 1 1 0 0 0 0 | 5: 1 0 1 1 0 1
-0 f g => fa,fb,fc,gu | 1: 0 1 0 0 | 2: 1 0 0 1 | 3: 0 0 1 0 | 4: 1 0 0 0 | 5: 0 1 0 1
-1 x f:x => (Intercept),x,fa:x,fb:x | 1: 1 3 0 3 | 2: 1 1 1 0 | 3: 1 -1 0 0 | 4: 1 1/2 1/2 0 | 5: 1 2 0 2 | 6: 1 4 0 0
-1 f:x => (Intercept),fa:x,fb:x,fc:x | 1: 1 0 3 0 | 2: 1 1 0 0 | 3: 1 0 0 -1 | 4: 1 1/2 0 0 | 5: 1 0 2 0 | 6: 1 0 0 4
-1 f:g => (Intercept),fa:gu,fb:gu,fc:gu,fa:gv,fb:gv,fc:gv | 1: 1 0 0 0 0 1 0 | 2: 1 1 0 0 0 0 0 | 3: 1 0 0 0 0 0 1 | 4: 1 0 0 0 1 0 0 | 5: 1 0 1 0 0 0 0
-1 factor(x) => (Intercept),factor(x)-1,factor(x)1/2,factor(x)1,factor(x)2,factor(x)3 | 1: 1 0 0 0 0 1 | 2: 1 0 0 1 0 0 | 3: 1 1 0 0 0 0 | 4: 1 0 1 0 0 0 | 5: 1 0 0 0 1 0 | 6: 1 0 0 0 0 0
-1 factor(z) f => (Intercept),factor(z)2,fa,fb | 1: 1 1 0 1 | 2: 1 0 1 0 | 3: 1 1 0 0 | 5: 1 0 0 1 | 6: 1 1 0 0
-1 x f x:f:g => (Intercept),x,fa,fb,x:fa:gu,x:fb:gu,x:fc:gu,x:fa:gv,x:fb:gv,x:fc:gv | 1: 1 3 0 1 0 0 0 0 3 0 | 2: 1 1 1 0 1 0 0 0 0 0 | 3: 1 -1 0 0 0 0 0 0 0 -1 | 4: 1 1/2 1 0 0 0 0 1/2 0 0 | 5: 1 2 0 1 0 2 0 0 0 0
+y ~ f => (Intercept),fa,fb | 1: 1 0 1 | 2: 1 1 0 | 3: 1 0 0 | 4: 1 1 0 | 5: 1 0 1 | 6: 1 0 0
+y ~ 0 + f => fa,fb,fc | 1: 0 1 0 | 2: 1 0 0 | 3: 0 0 1 | 4: 1 0 0 | 5: 0 1 0 | 6: 0 0 1
+y ~ f + x + f:x => (Intercept),fa,fb,x,fa:x,fb:x | 1: 1 0 1 3 0 3 | 2: 1 1 0 1 1 0 | 3: 1 0 0 -1 0 0 | 4: 1 1 0 1/2 1/2 0 | 5: 1 0 1 2 0 2 | 6: 1 0 0 4 0 0
+y ~ f + g => (Intercept),fa,fb,gu | 1: 1 0 1 0 | 2: 1 1 0 1 | 3: 1 0 0 0 | 4: 1 1 0 0 | 5: 1 0 1 1
+y ~ f + g + f:g => (Intercept),fa,fb,gu,fa:gu,fb:gu | 1: 1 0 1 0 0 0 | 2: 1 1 0 1 1 0 | 3: 1 0 0 0 0 0 | 4: 1 1 0 0 0 0 | 5: 1 0 1 1 0 1
+y ~ 0 + f + g => fa,fb,fc,gu | 1: 0 1 0 0 | 2: 1 0 0 1 | 3: 0 0 1 0 | 4: 1 0 0 0 | 5: 0 1 0 1
+y ~ f:x + x => (Intercept),x,fa:x,fb:x | 1: 1 3 0 3 | 2: 1 1 1 0 | 3: 1 -1 0 0 | 4: 1 1/2 1/2 0 | 5: 1 2 0 2 | 6: 1 4 0 0
+y ~ f:x => (Intercept),fa:x,fb:x,fc:x | 1: 1 0 3 0 | 2: 1 1 0 0 | 3: 1 0 0 -1 | 4: 1 1/2 0 0 | 5: 1 0 2 0 | 6: 1 0 0 4
+y ~ f:g => (Intercept),fa:gu,fb:gu,fc:gu,fa:gv,fb:gv,fc:gv | 1: 1 0 0 0 0 1 0 | 2: 1 1 0 0 0 0 0 | 3: 1 0 0 0 0 0 1 | 4: 1 0 0 0 1 0 0 | 5: 1 0 1 0 0 0 0
+y ~ factor(x) => (Intercept),factor(x)-1,factor(x)1/2,factor(x)1,factor(x)2,factor(x)3 | 1: 1 0 0 0 0 1 | 2: 1 0 0 1 0 0 | 3: 1 1 0 0 0 0 | 4: 1 0 1 0 0 0 | 5: 1 0 0 0 1 0 | 6: 1 0 0 0 0 0
+y ~ factor(z) + f => (Intercept),factor(z)2,fa,fb | 1: 1 1 0 1 | 2: 1 0 1 0 | 3: 1 1 0 0 | 5: 1 0 0 1 | 6: 1 1 0 0
+y ~ x + f + x:f:g => (Intercept),x,fa,fb,x:fa:gu,x:fb:gu,x:fc:gu,x:fa:gv,x:fb:gv,x:fc:gv | 1: 1 3 0 1 0 0 0 0 3 0 | 2: 1 1 1 0 1 0 0 0 0 0 | 3: 1 -1 0 0 0 0 0 0 0 -1 | 4: 1 1/2 1 0 0 0 0 1/2 0 0 | 5: 1 2 0 1 0 2 0 0 0 0
 ";
 
 static SUM: &str = "
-1 f => (Intercept),f1,f2 | 1: 1 0 1 | 2: 1 1 0 | 3: 1 -1 -1 | 4: 1 1 0 | 5: 1 0 1 | 6: 1 -1 -1
-1 x => (Intercept),x | 1: 1 3 | 2: 1 1 | 3: 1 -1 | 4: 1 1/2 | 5: 1 2 | 6: 1 4
-1 f x f:x => (Intercept),f1,f2,x,f1:x,f2:x | 1: 1 0 1 3 0 3 | 2: 1 1 0 1 1 0 | 3: 1 -1 -1 -1 1 1 | 4: 1 1 0 1/2 1/2 0 | 5: 1 0 1 2 0 2 | 6: 1 -1 -1 4 -4 -4
-1 f g f:g => (Intercept),f1,f2,g1,f1:g1,f2:g1 | 1: 1 0 1 -1 0 -1 | 2: 1 1 0 1 1 0 | 3: 1 -1 -1 -1 1 1 | 4: 1 1 0 -1 -1 0 | 5: 1 0 1 1 0 1
-0 f g f:g => fa,fb,fc,g1,f1:g1,f2:g1 | 1: 0 1 0 -1 0 -1 | 2: 1 0 0 1 1 0 | 3: 0 0 1 -1 1 1 | 4: 1 0 0 -1 -1 0 | 5: 0 1 0 1 0 1
-0 x f:x => x,f1:x,f2:x | 1: 3 0 3 | 2: 1 1 0 | 3: -1 1 1 | 4: 1/2 1/2 0 | 5: 2 0 2 | 6: 4 -4 -4
-0 f:g => fa:gu,fb:gu,fc:gu,fa:gv,fb:gv,fc:gv | 1: 0 0 0 0 1 0 | 2: 1 0 0 0 0 0 | 3: 0 0 0 0 0 1 | 4: 0 0 0 1 0 0 | 5: 0 1 0 0 0 0
-1 x z x:z => (Intercept),x,z,x:z | 1: 1 3 2 6 | 2: 1 1 5 5 | 3: 1 -1 2 -2 | 5: 1 2 5 10 | 6: 1 4 2 8
-0 factor(z) => factor(z)2,factor(z)5 | 1: 1 0 | 2: 0 1 | 3: 1 0 | 5: 0 1 | 6: 1 0
-1 z f g z:f f:g => (Intercept),z,f1,f2,g1,z:f1,z:f2,f1:g1,f2:g1 | 1: 1 2 0 1 -1 0 2 0 -1 | 2: 1 5 1 0 1 5 0 1 0 | 3: 1 2 -1 -1 -1 -2 -2 1 1 | 5: 1 5 0 1 1 0 5 0 1
+y ~ f => (Intercept),f1,f2 | 1: 1 0 1 | 2: 1 1 0 | 3: 1 -1 -1 | 4: 1 1 0 | 5: 1 0 1 | 6: 1 -1 -1
+y ~ x => (Intercept),x | 1: 1 3 | 2: 1 1 | 3: 1 -1 | 4: 1 1/2 | 5: 1 2 | 6: 1 4
+y ~ f + x + f:x => (Intercept),f1,f2,x,f1:x,f2:x | 1: 1 0 1 3 0 3 | 2: 1 1 0 1 1 0 | 3: 1 -1 -1 -1 1 1 | 4: 1 1 0 1/2 1/2 0 | 5: 1 0 1 2 0 2 | 6: 1 -1 -1 4 -4 -4
+y ~ f + g + f:g => (Intercept),f1,f2,g1,f1:g1,f2:g1 | 1: 1 0 1 -1 0 -1 | 2: 1 1 0 1 1 0 | 3: 1 -1 -1 -1 1 1 | 4: 1 1 0 -1 -1 0 | 5: 1 0 1 1 0 1
+y ~ 0 + f + g + f:g => fa,fb,fc,g1,f1:g1,f2:g1 | 1: 0 1 0 -1 0 -1 | 2: 1 0 0 1 1 0 | 3: 0 0 1 -1 1 1 | 4: 1 0 0 -1 -1 0 | 5: 0 1 0 1 0 1
+y ~ 0 + f:x + x => x,f1:x,f2:x | 1: 3 0 3 | 2: 1 1 0 | 3: -1 1 1 | 4: 1/2 1/2 0 | 5: 2 0 2 | 6: 4 -4 -4
+y ~ 0 + f:g => fa:gu,fb:gu,fc:gu,fa:gv,fb:gv,fc:gv | 1: 0 0 0 0 1 0 | 2: 1 0 0 0 0 0 | 3: 0 0 0 0 0 1 | 4: 0 0 0 1 0 0 | 5: 0 1 0 0 0 0
+y ~ x + z + x:z => (Intercept),x,z,x:z | 1: 1 3 2 6 | 2: 1 1 5 5 | 3: 1 -1 2 -2 | 5: 1 2 5 10 | 6: 1 4 2 8
+y ~ 0 + factor(z) => factor(z)2,factor(z)5 | 1: 1 0 | 2: 0 1 | 3: 1 0 | 5: 0 1 | 6: 1 0
+y ~ z + f + g + z:f + f:g => (Intercept),z,f1,f2,g1,z:f1,z:f2,f1:g1,f2:g1 | 1: 1 2 0 1 -1 0 2 0 -1 | 2: 1 5 1 0 1 5 0 1 0 | 3: 1 2 -1 -1 -1 -2 -2 1 1 | 5: 1 5 0 1 1 0 5 0 1
 ";
 
 static HELMERT: &str = "
-1 f => (Intercept),f1,f2 | 1: 1 1 -1 | 2: 1 -1 -1 | 3: 1 0 2 | 4: 1 -1 -1 | 5: 1 1 -1 | 6: 1 0 2
-0 f => fa,fb,fc | 1: 0 1 0 | 2: 1 0 0 | 3: 0 0 1 | 4: 1 0 0 | 5: 0 1 0 | 6: 0 0 1
-0 x => x | 1: 3 | 2: 1 | 3: -1 | 4: 1/2 | 5: 2 | 6: 4
-1 f x f:x => (Intercept),f1,f2,x,f1:x,f2:x | 1: 1 1 -1 3 3 -3 | 2: 1 -1 -1 1 -1 -1 | 3: 1 0 2 -1 0 -2 | 4: 1 -1 -1 1/2 -1/2 -1/2 | 5: 1 1 -1 2 2 -2 | 6: 1 0 2 4 0 8
-1 f g => (Intercept),f1,f2,g1 | 1: 1 1 -1 1 | 2: 1 -1 -1 -1 | 3: 1 0 2 1 | 4: 1 -1 -1 1 | 5: 1 1 -1 -1
-1 f g f:g => (Intercept),f1,f2,g1,f1:g1,f2:g1 | 1: 1 1 -1 1 1 -1 | 2: 1 -1 -1 -1 1 1 | 3: 1 0 2 1 0 2 | 4: 1 -1 -1 1 -1 -1 | 5: 1 1 -1 -1 -1 1
-0 f g => fa,fb,fc,g1 | 1: 0 1 0 1 | 2: 1 0 0 -1 | 3: 0 0 1 1 | 4: 1 0 0 1 | 5: 0 1 0 -1
-1 x f:x => (Intercept),x,f1:x,f2:x | 1: 1 3 3 -3 | 2: 1 1 -1 -1 | 3: 1 -1 0 -2 | 4: 1 1/2 -1/2 -1/2 | 5: 1 2 2 -2 | 6: 1 4 0 8
-1 f:x => (Intercept),fa:x,fb:x,fc:x | 1: 1 0 3 0 | 2: 1 1 0 0 | 3: 1 0 0 -1 | 4: 1 1/2 0 0 | 5: 1 0 2 0 | 6: 1 0 0 4
-1 f:g => (Intercept),fa:gu,fb:gu,fc:gu,fa:gv,fb:gv,fc:gv | 1: 1 0 0 0 0 1 0 | 2: 1 1 0 0 0 0 0 | 3: 1 0 0 0 0 0 1 | 4: 1 0 0 0 1 0 0 | 5: 1 0 1 0 0 0 0
-1 factor(x) => (Intercept),factor(x)1,factor(x)2,factor(x)3,factor(x)4,factor(x)5 | 1: 1 0 0 0 4 -1 | 2: 1 0 2 -1 -1 -1 | 3: 1 -1 -1 -1 -1 -1 | 4: 1 1 -1 -1 -1 -1 | 5: 1 0 0 3 -1 -1 | 6: 1 0 0 0 0 5
-1 factor(z) f => (Intercept),factor(z)1,f1,f2 | 1: 1 -1 1 -1 | 2: 1 1 -1 -1 | 3: 1 -1 0 2 | 5: 1 1 1 -1 | 6: 1 -1 0 2
-1 x f x:f:g => (Intercept),x,f1,f2,x:fa:gu,x:fb:gu,x:fc:gu,x:fa:gv,x:fb:gv,x:fc:gv | 1: 1 3 1 -1 0 0 0 0 3 0 | 2: 1 1 -1 -1 1 0 0 0 0 0 | 3: 1 -1 0 2 0 0 0 0 0 -1 | 4: 1 1/2 -1 -1 0 0 0 1/2 0 0 | 5: 1 2 1 -1 0 2 0 0 0 0
+y ~ f => (Intercept),f1,f2 | 1: 1 1 -1 | 2: 1 -1 -1 | 3: 1 0 2 | 4: 1 -1 -1 | 5: 1 1 -1 | 6: 1 0 2
+y ~ 0 + f => fa,fb,fc | 1: 0 1 0 | 2: 1 0 0 | 3: 0 0 1 | 4: 1 0 0 | 5: 0 1 0 | 6: 0 0 1
+y ~ 0 + x => x | 1: 3 | 2: 1 | 3: -1 | 4: 1/2 | 5: 2 | 6: 4
+y ~ f + x + f:x => (Intercept),f1,f2,x,f1:x,f2:x | 1: 1 1 -1 3 3 -3 | 2: 1 -1 -1 1 -1 -1 | 3: 1 0 2 -1 0 -2 | 4: 1 -1 -1 1/2 -1/2 -1/2 | 5: 1 1 -1 2 2 -2 | 6: 1 0 2 4 0 8
+y ~ f + g => (Intercept),f1,f2,g1 | 1: 1 1 -1 1 | 2: 1 -1 -1 -1 | 3: 1 0 2 1 | 4: 1 -1 -1 1 | 5: 1 1 -1 -1
+y ~ f + g + f:g => (Intercept),f1,f2,g1,f1:g1,f2:g1 | 1: 1 1 -1 1 1 -1 | 2: 1 -1 -1 -1 1 1 | 3: 1 0 2 1 0 2 | 4: 1 -1 -1 1 -1 -1 | 5: 1 1 -1 -1 -1 1
+y ~ 0 + f + g => fa,fb,fc,g1 | 1: 0 1 0 1 | 2: 1 0 0 -1 | 3: 0 0 1 1 | 4: 1 0 0 1 | 5: 0 1 0 -1
+y ~ f:x + x => (Intercept),x,f1:x,f2:x | 1: 1 3 3 -3 | 2: 1 1 -1 -1 | 3: 1 -1 0 -2 | 4: 1 1/2 -1/2 -1/2 | 5: 1 2 2 -2 | 6: 1 4 0 8
+y ~ f:x => (Intercept),fa:x,fb:x,fc:x | 1: 1 0 3 0 | 2: 1 1 0 0 | 3: 1 0 0 -1 | 4: 1 1/2 0 0 | 5: 1 0 2 0 | 6: 1 0 0 4
+y ~ f:g => (Intercept),fa:gu,fb:gu,fc:gu,fa:gv,fb:gv,fc:gv | 1: 1 0 0 0 0 1 0 | 2: 1 1 0 0 0 0 0 | 3: 1 0 0 0 0 0 1 | 4: 1 0 0 0 1 0 0 | 5: 1 0 1 0 0 0 0
+y ~ factor(x) => (Intercept),factor(x)1,factor(x)2,factor(x)3,factor(x)4,factor(x)5 | 1: 1 0 0 0 4 -1 | 2: 1 0 2 -1 -1 -1 | 3: 1 -1 -1 -1 -1 -1 | 4: 1 1 -1 -1 -1 -1 | 5: 1 0 0 3 -1 -1 | 6: 1 0 0 0 0 5
+y ~ factor(z) + f => (Intercept),factor(z)1,f1,f2 | 1: 1 -1 1 -1 | 2: 1 1 -1 -1 | 3: 1 -1 0 2 | 5: 1 1 1 -1 | 6: 1 -1 0 2
+y ~ x + f + x:f:g => (Intercept),x,f1,f2,x:fa:gu,x:fb:gu,x:fc:gu,x:fa:gv,x:fb:gv,x:fc:gv | 1: 1 3 1 -1 0 0 0 0 3 0 | 2: 1 1 -1 -1 1 0 0 0 0 0 | 3: 1 -1 0 2 0 0 0 0 0 -1 | 4: 1 1/2 -1 -1 0 0 0 1/2 0 0 | 5: 1 2 1 -1 0 2 0 0 0 0
 ";
 
-/// A table, the terms of a formula, and the design or why there is none.
+/// A table, a formula, and the design or why there is none.
 #[derive(Clone, Copy)]
 struct Hostile {
     table: &'static [u8],
-    terms: &'static str,
+    formula: &'static str,
     answer: &'static str,
 }
 
 static HOSTILE: [Hostile; 14] = [
     Hostile {
         table: b"y\n",
-        terms: "1",
+        formula: "y ~ 1",
         answer: "NoRows",
     },
     Hostile {
         table: b"y,x\n3,0.1e-40\n",
-        terms: "1",
+        formula: "y ~ 1",
         answer: "(Intercept) | 1: 1",
     },
     Hostile {
         table: b"y,x\n3,0.1e-40\n",
-        terms: "1 x",
+        formula: "y ~ x",
         answer: "NumberTooWide 1 x",
     },
     Hostile {
         table: b"y,x\n1,NA\n2,5\n,3\n4,4\n",
-        terms: "1",
+        formula: "y ~ 1",
         answer: "(Intercept) | 1: 1 | 2: 1 | 4: 1",
     },
     Hostile {
         table: b"y,x\n1,NA\n2,5\n,3\n4,4\n",
-        terms: "1 x",
+        formula: "y ~ x",
         answer: "(Intercept),x | 2: 1 5 | 4: 1 4",
     },
     Hostile {
         table: b"y,x\na,0.1e-40\n",
-        terms: "1 x",
+        formula: "y ~ x",
         answer: "ResponseNotNumeric",
     },
     Hostile {
         table: b"y,x\nNA,1\n2,NA\n",
-        terms: "0 x",
+        formula: "y ~ 0 + x",
         answer: "NoRows",
     },
     Hostile {
         table: b"y,f\n1,a\n2,a\n",
-        terms: "1 f",
+        formula: "y ~ f",
         answer: "OneLevel f",
     },
     Hostile {
         table: b"y,f\n1,a\n2,a\n",
-        terms: "0 f",
+        formula: "y ~ 0 + f",
         answer: "fa | 1: 1 | 2: 1",
     },
     Hostile {
         table: b"y,f,x\n1,a,2\n2,b,2\n,c,3\n",
-        terms: "0 f factor(x)",
+        formula: "y ~ 0 + f + factor(x)",
         answer: "OneLevel factor(x)",
     },
     Hostile {
         table: b"y\n1\n",
-        terms: "0",
+        formula: "y ~ 0",
         answer: "NoColumns",
     },
     Hostile {
         table: b"y,x,z\n1,1e38,1e38\n",
-        terms: "1 x:z",
+        formula: "y ~ x:z",
         answer: "Overflow 1 1 1",
     },
     Hostile {
         table: b"y,x,z\n1,1e38,1\n2,1e38,0\n3,2,1e38\n",
-        terms: "0 z x:z",
+        formula: "y ~ 0 + z + x:z",
         answer: "Overflow 3 1 1",
     },
     Hostile {
         table: b"y,x,z,u\n1,1e19,1e19,1e19\n",
-        terms: "0 x:z:u",
+        formula: "y ~ 0 + x:z:u",
         answer: "Overflow 1 0 2",
     },
 ];
 
-/// A table, the terms of a formula, the name of the weights, and the design or why there is none.
+/// A table, a formula, the name of the weights, and the design or why there is none.
 #[derive(Clone, Copy)]
 struct Weighted {
     table: &'static [u8],
-    terms: &'static str,
+    formula: &'static str,
     weights: &'static str,
     answer: &'static str,
 }
@@ -168,172 +168,130 @@ struct Weighted {
 static WEIGHTED: [Weighted; 20] = [
     Weighted {
         table: b"y,w\n1,1\n2,3\n",
-        terms: "1",
+        formula: "y ~ 1",
         weights: "w",
         answer: "(Intercept) | 1: 1 | 2*3: 1",
     },
     // A record of weight 0 is dropped, with the level that it alone has.
     Weighted {
         table: b"y,w\n1,1\n2,3\n9,0\n",
-        terms: "1",
+        formula: "y ~ 1",
         weights: "w",
         answer: "(Intercept) | 1: 1 | 2*3: 1",
     },
     Weighted {
         table: b"y,w\n1,0\n2,0.0\n3,-0\n4,0/7\n",
-        terms: "1",
+        formula: "y ~ 1",
         weights: "w",
         answer: "NoRows",
     },
     Weighted {
         table: b"y,f,w\n1,a,1\n2,b,0\n",
-        terms: "1 f",
+        formula: "y ~ f",
         weights: "w",
         answer: "OneLevel f",
     },
     Weighted {
         table: b"y,f,w\n1,b,1/2\n2,a,0\n3,c,2.5\n",
-        terms: "0 f",
+        formula: "y ~ 0 + f",
         weights: "w",
         answer: "fb,fc | 1*1/2: 1 0 | 3*5/2: 0 1",
     },
     // So is one that misses its weight.
     Weighted {
         table: b"y,w\n1,NA\n2,1/2\n,3\n",
-        terms: "1",
+        formula: "y ~ 1",
         weights: "w",
         answer: "(Intercept) | 2*1/2: 1",
     },
     Weighted {
         table: b"y,x,w\n1,NA,2\n3,4,5\n6,7, \n",
-        terms: "1 x",
+        formula: "y ~ x",
         weights: "w",
         answer: "(Intercept),x | 2*5: 1 4",
     },
     // The weights may be a variable too, or the response.
     Weighted {
         table: b"y,w\n1,2\n3,4\n",
-        terms: "1 w",
+        formula: "y ~ w",
         weights: "w",
         answer: "(Intercept),w | 1*2: 1 2 | 2*4: 1 4",
     },
     Weighted {
         table: b"y\n1\n2\n",
-        terms: "1",
+        formula: "y ~ 1",
         weights: "y",
         answer: "(Intercept) | 1: 1 | 2*2: 1",
     },
     // The first negative weight, kept or not.
     Weighted {
         table: b"y,w\n1,1\n2,3\n9,-1\n",
-        terms: "1",
+        formula: "y ~ 1",
         weights: "w",
         answer: "NegativeWeight 3",
     },
     Weighted {
         table: b"y,w\n1,1\nNA,-1/2\n2,-3\n",
-        terms: "1",
+        formula: "y ~ 1",
         weights: "w",
         answer: "NegativeWeight 2",
     },
     // The faults in their order.
     Weighted {
         table: b"y,w\na,1\n",
-        terms: "1",
+        formula: "y ~ 1",
         weights: "v",
         answer: "UnknownWeights",
     },
     Weighted {
         table: b"y,w\n1,1\n",
-        terms: "1",
+        formula: "y ~ 1",
         weights: "",
         answer: "UnknownWeights",
     },
     Weighted {
         table: b"y,w\na,b\n",
-        terms: "1",
+        formula: "y ~ 1",
         weights: "w",
         answer: "ResponseNotNumeric",
     },
     Weighted {
         table: b"y,w\n1e99,b\n",
-        terms: "1",
+        formula: "y ~ 1",
         weights: "w",
         answer: "WeightNotNumeric",
     },
     Weighted {
         table: b"y,x,w\n1e99,1,1e99\n",
-        terms: "1 x",
+        formula: "y ~ x",
         weights: "w",
         answer: "NumberTooWide 1 y",
     },
     Weighted {
         table: b"y,x,w\n1,1e99,1\n2,1,1e99\n",
-        terms: "1 x",
+        formula: "y ~ x",
         weights: "w",
         answer: "NumberTooWide 2 w",
     },
     Weighted {
         table: b"y,x,w\n1,1,-1\n2,1e99,1\n",
-        terms: "1 x",
+        formula: "y ~ x",
         weights: "w",
         answer: "NumberTooWide 2 x",
     },
     Weighted {
         table: b"y,w\nNA,1\n,-1\n",
-        terms: "1",
+        formula: "y ~ 1",
         weights: "w",
         answer: "NegativeWeight 2",
     },
     Weighted {
         table: b"y,x,z,w\n1,1e38,1e38,0\n2,1e38,1e38,1\n",
-        terms: "1 x:z",
+        formula: "y ~ x:z",
         weights: "w",
         answer: "Overflow 2 1 1",
     },
 ];
-
-fn variable(alloc: Global, word: &str) -> Result<Variable, OutOfMemory> {
-    let inner = word
-        .strip_prefix("factor(")
-        .and_then(|rest| rest.strip_suffix(")"));
-    Ok(Variable {
-        name: Text::new(alloc, inner.unwrap_or(word))?,
-        as_factor: inner.is_some(),
-    })
-}
-
-fn term(alloc: Global, text: &str) -> Result<Term, OutOfMemory> {
-    let mut variables = List::new(alloc);
-    for word in text.split(':') {
-        variables.add(variable(alloc, word)?)?;
-    }
-    Ok(Term { variables })
-}
-
-pub(crate) fn formula(alloc: Global, text: &str) -> Result<Formula, OutOfMemory> {
-    let mut terms = List::new(alloc);
-    for word in text.split(' ').skip(1) {
-        terms.add(term(alloc, word)?)?;
-    }
-    Ok(Formula {
-        response: Text::new(alloc, "y")?,
-        intercept: text.starts_with('1'),
-        terms,
-        smooths: List::new(alloc),
-    })
-}
-
-pub(crate) fn are_short(terms: &[Term]) -> bool
-    ensures { IsTrue result → All (λ t. length t.variables < 2 ^ 32) terms.now }
-{
-    for term in terms {
-        if term.variables.as_slice().len() >= 1 << 32 {
-            return false;
-        }
-    }
-    true
-}
 
 // A row by the number of its record, its weight where that isn't 1, and its entries.
 fn tell_row(told: &mut Told, row: &DesignRow) {
@@ -378,6 +336,10 @@ pub(crate) fn tell_fault(told: &mut Told, fault: &DesignFault) {
             told.put(" ");
             told.put(factor.as_str());
         }
+        DesignFault::ArithNotNumeric { name } => {
+            told.put("ArithNotNumeric ");
+            told.put(name.as_str());
+        }
         _ => told.put("another fault"),
     }
 }
@@ -386,32 +348,25 @@ pub(crate) fn tell_fault(told: &mut Told, fault: &DesignFault) {
 #[derive(Clone, Copy)]
 struct Asked {
     table: &'static [u8],
-    terms: &'static str,
+    formula: &'static str,
     coding: Coding,
     weights: Option<&'static str>,
 }
 
-// The design of a formula, none where one of its terms is too long.
-fn design_of(
-    alloc: Global,
-    frame: &Frame,
-    model: &Formula,
-    asked: Asked,
-) -> Option<Result<Design, DesignFault>> {
-    if !are_short(model.terms.as_slice()) {
-        return None;
+fn tell_model(told: &mut Told, frame: &Frame, model: &Formula, asked: Asked)
+    requires short { All (λ t. length t.variables < 2 ^ 32) model.now.terms }
+    requires held { All (IsHeld frame.now.names) (ariths_of model.now) }
+{
+    match build(told.alloc(), frame, model, asked.coding, asked.weights) {
+        Ok(design) => tell_design(told, &design),
+        Err(fault) => tell_fault(told, &fault),
     }
-    Some(build(alloc, frame, model, asked.coding, asked.weights))
 }
 
 fn tell(told: &mut Told, frame: &Frame, asked: Asked) {
-    match formula(told.alloc(), asked.terms) {
-        Ok(model) => match design_of(told.alloc(), frame, &model, asked) {
-            Some(Ok(design)) => tell_design(told, &design),
-            Some(Err(fault)) => tell_fault(told, &fault),
-            None => told.put("a long term"),
-        },
-        Err(_) => told.put("no formula"),
+    match model_of(told.alloc(), frame, asked.formula) {
+        Some(model) => tell_model(told, frame, &model, asked),
+        None => told.put("no formula"),
     }
 }
 
@@ -422,17 +377,17 @@ fn expect(rt: &(impl Abort + AllocGlobal), asked: Asked, want: &str) {
         Some(frame) => tell(&mut told, &frame, asked),
         None => told.put("no table"),
     }
-    told.expect(rt, want, asked.terms);
+    told.expect(rt, want, asked.formula);
 }
 
 // The designs under a coding are these. Gives how many there are.
 fn run(rt: &(impl Abort + AllocGlobal), coding: Coding, cases: &'static str) -> u32 {
     let mut count = 0u32;
     for line in cases.lines() {
-        if let Some((terms, want)) = line.split_once(" => ") {
+        if let Some((formula, want)) = line.split_once(" => ") {
             let asked = Asked {
                 table: TABLE,
-                terms,
+                formula,
                 coding,
                 weights: None,
             };
@@ -456,7 +411,7 @@ fn hostile_tables(rt: HostRuntime) {
     for case in &HOSTILE {
         let asked = Asked {
             table: case.table,
-            terms: case.terms,
+            formula: case.formula,
             coding: Coding::Treatment,
             weights: None,
         };
@@ -469,7 +424,7 @@ fn weights_and_their_faults(rt: HostRuntime) {
     for case in &WEIGHTED {
         let asked = Asked {
             table: case.table,
-            terms: case.terms,
+            formula: case.formula,
             coding: Coding::Treatment,
             weights: Some(case.weights),
         };

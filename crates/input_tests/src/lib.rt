@@ -7,11 +7,17 @@
 #![tactic(auto)]
 
 #[cfg(test)]
+mod arith_designs;
+#[cfg(test)]
+mod arithmetics;
+#[cfg(test)]
 mod designs;
 #[cfg(test)]
 mod formulas;
 #[cfg(test)]
 mod helpers;
+#[cfg(test)]
+mod models;
 #[cfg(test)]
 mod predicted;
 #[cfg(test)]

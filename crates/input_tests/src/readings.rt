@@ -4,7 +4,9 @@
 //! the empty list, and an operator stands with its offset. A fault is told as `Debug` writes it.
 
 use crate::helpers::Told;
-use formula_grammar::{ReadFault, Reading, SmoothPart, Span, Step, read, tokens_of};
+use formula_grammar::{
+    ArithPart, ArithStep, ReadFault, Reading, SmoothPart, Span, Step, read, tokens_of,
+};
 use std::alloc::Global;
 use std::process::Abort;
 use std::test::Fail;
@@ -19,21 +21,44 @@ fn tell_span(told: &mut Told, text: &str, span: Span) {
     told.put(piece_of(text, span).unwrap_or("a span cuts the text"));
 }
 
-fn tell_step(told: &mut Told, text: &str, step: Step) {
+fn tell_arith_step(told: &mut Told, text: &str, step: ArithStep) {
+    match step {
+        ArithStep::Load { name } => tell_span(told, text, name),
+        ArithStep::Constant { number } => told.put_number(number.value()),
+        ArithStep::Negate => told.put("neg"),
+        ArithStep::Add => told.put("+"),
+        ArithStep::Sub => told.put("-"),
+        ArithStep::Mul => told.put("*"),
+        ArithStep::Power { exponent } => told.put_named("^", exponent),
+    }
+}
+
+// The steps of an arithmetic.
+fn tell_part(told: &mut Told, text: &str, part: &ArithPart) {
+    told.put("I[");
+    for step in part.steps.as_slice() {
+        told.put(" ");
+        tell_arith_step(told, text, *step);
+    }
+    told.put(" ]");
+}
+
+fn tell_step(told: &mut Told, text: &str, step: &Step) {
     match step {
         Step::Load { name, as_factor } => {
-            told.put(if as_factor { "factor:" } else { "" });
-            tell_span(told, text, name);
+            told.put(if *as_factor { "factor:" } else { "" });
+            tell_span(told, text, *name);
         }
+        Step::LoadArith { part } => tell_part(told, text, part),
         Step::LoadAll => told.put("."),
         Step::Nothing => told.put("()"),
-        Step::Add { at } => told.put_named("+", at),
-        Step::Remove { at } => told.put_named("-", at),
-        Step::Multiply { at } => told.put_named("*", at),
-        Step::Interact { at } => told.put_named(":", at),
+        Step::Add { at } => told.put_named("+", *at),
+        Step::Remove { at } => told.put_named("-", *at),
+        Step::Multiply { at } => told.put_named("*", *at),
+        Step::Interact { at } => told.put_named(":", *at),
         Step::Raise { exponent, at } => {
-            told.put_named("^", exponent);
-            told.put_named("@", at);
+            told.put_named("^", *exponent);
+            told.put_named("@", *at);
         }
     }
 }
@@ -50,10 +75,14 @@ fn tell_reading(told: &mut Told, text: &str, reading: &Reading) {
     told.put(if reading.intercept { " 1" } else { " 0" });
     for step in reading.steps.as_slice() {
         told.put(" ");
-        tell_step(told, text, *step);
+        tell_step(told, text, step);
     }
     for smooth in reading.smooths.as_slice() {
         tell_smooth(told, text, *smooth);
+    }
+    for offset in reading.offsets.as_slice() {
+        told.put(" offset:");
+        tell_part(told, text, offset);
     }
 }
 
@@ -249,7 +278,7 @@ fn reads_by_the_grammar(rt: HostRuntime) {
 }
 
 /// How many parentheses are opened round some tokens, and as many closed.
-static DEPTHS: [(usize, &str, &str); 10] = [
+static DEPTHS: [(usize, &str, &str); 14] = [
     (64, "a", "y 1 a"),
     (65, "a", "TooDeep { offset: 68 }"),
     (100, "", "TooDeep { offset: 68 }"),
@@ -259,6 +288,10 @@ static DEPTHS: [(usize, &str, &str); 10] = [
     (64, "a(", "Syntax { offset: 69 }"),
     (64, "a)+(b", "y 1 a b +70"),
     (64, "a)+((b)", "TooDeep { offset: 72 }"),
+    (63, "I(a)", "y 1 I[ a ]"),
+    (64, "I(a)", "TooDeep { offset: 69 }"),
+    (62, "I((a))", "y 1 I[ a ]"),
+    (63, "I((a))", "TooDeep { offset: 69 }"),
     (64, "a:1", "Syntax { offset: 70 }"),
 ];
 

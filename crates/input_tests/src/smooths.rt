@@ -1,12 +1,15 @@
 //! Knots, columns and penalty rows of smooths, and their faults. Each answer was worked out by hand
 //! from the definitions.
 
-use crate::designs::are_short;
+ghost use Rattle.std.specs.Prelude.{◌<◌, ◌^◌, All, length};
+ghost use Rattle.formula_parser.specs.Held.{IsHeld, ariths_of};
+
 use crate::helpers::{Told, frame_of};
+use crate::models::model_of;
 use contrasts::Coding;
 use data_frame::Frame;
 use design_matrix::{Design, build};
-use formula_parser::{Formula, parse};
+use formula_parser::Formula;
 use frac_core::{Exact, Frac128};
 use std::alloc::Global;
 use std::process::Abort;
@@ -21,7 +24,7 @@ struct Case {
     answer: &'static str,
 }
 
-static CASES: [Case; 15] = [
+static CASES: [Case; 16] = [
     Case {
         table: b"y,x\n0,0\n2,1\n0,2\n",
         formula: "y ~ qss(x, 1)",
@@ -73,6 +76,12 @@ static CASES: [Case; 15] = [
         table: b"y,f,x\n0,a,0\n2,b,1\n0,c,1\n",
         formula: "y ~ f + qss(x, 1)",
         answer: "TooFewKnots x",
+    },
+    // so isn't one that misses a cell of an offset
+    Case {
+        table: b"y,x,z\n0,0,1\n2,1,NA\n0,2,1\n0,3,1\n",
+        formula: "y ~ qss(x, 1) + offset(2*z)",
+        answer: "qss(x)[2] qss(x)[3]; 0 0; 1 0; 0 1 | 1: -3/2 1",
     },
     // the first smooth's fault comes first
     Case {
@@ -148,17 +157,10 @@ struct Input {
     design: Design,
 }
 
-fn model_of(alloc: Global, frame: &Frame, formula: &str) -> Option<Formula> {
-    if formula.len() > 1 << 20 {
-        return None;
-    }
-    parse(alloc, formula, frame.names()).ok()
-}
-
-fn design_of(alloc: Global, frame: &Frame, model: &Formula) -> Option<Design> {
-    if !are_short(model.terms.as_slice()) {
-        return None;
-    }
+fn design_of(alloc: Global, frame: &Frame, model: &Formula) -> Option<Design>
+    requires short { All (λ t. length t.variables < 2 ^ 32) model.now.terms }
+    requires held { All (IsHeld frame.now.names) (ariths_of model.now) }
+{
     build(alloc, frame, model, Coding::Treatment, None).ok()
 }
 

@@ -161,6 +161,7 @@ design_line (designs.OneLevel factor) = line (codes "design") (codes "OneLevel")
 design_line designs.NoColumns = line (codes "design") (codes "NoColumns") []
 design_line designs.TooManyColumns = line (codes "design") (codes "TooManyColumns") []
 design_line (designs.Overflow spill) = line (codes "design") (codes "Overflow") (spill_text spill ∷ [])
+design_line (designs.ArithNotNumeric name) = line (codes "design") (codes "ArithNotNumeric") (text (codes "name") name ∷ [])
 design_line (designs.UnknownLevel rec factor) = line (codes "design") (codes "UnknownLevel") (number (codes "record") rec ∷ text (codes "factor") factor ∷ [])
 design_line designs.OutOfMemory = memory_line
 

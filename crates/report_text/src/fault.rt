@@ -145,6 +145,9 @@ impl Page {
             DesignFault::NoColumns => self.line(b"design", b"NoColumns", &[]),
             DesignFault::TooManyColumns => self.line(b"design", b"TooManyColumns", &[]),
             DesignFault::Overflow(spill) => self.line(b"design", b"Overflow", &[Spill(spill)]),
+            DesignFault::ArithNotNumeric { name } => {
+                self.line(b"design", b"ArithNotNumeric", &[Name(b"name", name)])
+            }
             DesignFault::UnknownLevel { rec, factor } => {
                 self.line(
                     b"design",

@@ -1,5 +1,5 @@
 -- Stated. What an outcome of a run says of the words, of the bytes that came, and of what was written.
-use Rattle.std.specs.Prelude.{◌≡◌, ℕ, ◌^◌, ◌<◌, ◌≤◌, ◌+◌, ◌⊎◌, List, [], Option, Err, length, ⊤}
+use Rattle.std.specs.Prelude.{◌≡◌, ℕ, ◌<◌, ◌≤◌, ◌+◌, ◌⊎◌, List, [], Option, Err, length, ⊤}
 use Rattle.std.specs.Io.KnownBytes.{Appends, Keeps}
 use Rattle.port_io.specs.Counts.{Rose}
 use Rattle.port_io.specs.Told.{most_bytes, TakesAll, TakesFirst, AppendsPart}

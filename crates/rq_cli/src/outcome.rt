@@ -56,4 +56,13 @@ impl Outcome {
             Outcome::Rejected(_) => 8,
         }
     }
+
+    /// The exit status of an outcome, which is let go.
+    pub(crate) fn into_code(self) -> u8
+        ensures { result ≡ code_of self }
+    {
+        let code = self.code();
+        drop(self);
+        code
+    }
 }

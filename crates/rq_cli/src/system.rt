@@ -59,5 +59,5 @@ pub fn status<R: Threads + Sync, I: Read + Drop, O: Write + Drop, E: Write + Dro
     let mut source = StdSource::new(input);
     let mut out = StdSink::new(output);
     let mut err = StdSink::new(errors);
-    run(rt, alloc, words, &mut source, &mut out, &mut err, &Open).code()
+    run(rt, alloc, words, &mut source, &mut out, &mut err, &Open).into_code()
 }

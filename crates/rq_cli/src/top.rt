@@ -166,7 +166,8 @@ fn read_source<S: Source>(alloc: Global, job: &Job, source: &mut S) -> Result<Ve
     }
 }
 
-// Writes a report. After a failed write one line is still tried on `err`.
+// Writes a report. After a failed write one line is still tried on `err`, and the report is let go by its type: what a
+// function lets go of so many kinds by itself takes long to prove.
 fn print<K: Sink, E: Sink>(report: Report, text: &[u8], out: &mut K, err: &mut E) -> Outcome
     requires { text.now ≡ report_text report }
     ensures { WasPrinted report result
@@ -177,6 +178,7 @@ fn print<K: Sink, E: Sink>(report: Report, text: &[u8], out: &mut K, err: &mut E
         Ok(()) => Outcome::Done(report),
         Err(Failed) => {
             let _tried = write_all(err, SINK_LINE);
+            drop(report);
             Outcome::SinkFault
         }
     }

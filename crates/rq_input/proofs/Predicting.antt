@@ -1,5 +1,5 @@
 -- The rows of predicted records, and why there are none.
-use Rattle.std.proofs.Common.{◌≡◌, ◌≢◌, ◌⊎◌, ◌+◌, ◌<◌, ◌≤◌, ◌==◌, ℕ, zero, suc, true, false, filter, List, [], ◌∷◌, All, length, Some, get_or, slice_get, take, arith, inl, inr, refl, sym, ap, subst, ◌∙◌}
+use Rattle.std.proofs.Common.{◌≡◌, ◌≢◌, ◌⊎◌, ◌+◌, ◌-◌, ◌<◌, ◌≤◌, ◌^◌, ◌==◌, ℕ, zero, suc, true, false, filter, List, [], ◌∷◌, All, length, Some, get_or, slice_get, take, arith, inl, inr, refl, sym, ap, subst, ◌∙◌}
 use Rattle.std.specs.List.{AllZip, range_with_len}
 use Rattle.std.proofs.lemmas.Bool.{eqb-true}
 use Rattle.std.proofs.lemmas.List.{length-map}
@@ -7,7 +7,9 @@ use Rattle.std.proofs.lemmas.List.Elements.{All-cons, All-nil}
 use Rattle.std.proofs.lemmas.Option.{slice_get-get_or}
 use Rattle.contrasts.specs.declared.Coding.{Coding}
 use Rattle.formula_parser.specs.declared.formula.Formula.{Formula}
+use Rattle.data_frame.specs.Views.{exact}
 use Rattle.design_matrix.specs.Cells.{Table}
+use Rattle.design_matrix.specs.Computed.{arith_at}
 use Rattle.design_matrix.specs.Predicted.{HasRowCause, IsPredictRow, is_predicted, kept_in, predicted}
 use Rattle.design_matrix.specs.declared.design.Design.{Design}
 use Rattle.design_matrix.specs.declared.design.PredictRow.{PredictRow}
@@ -132,14 +134,15 @@ module _ (table : Table) (model : Formula) (coding : Coding) (design : Design) w
       }
 
   -- their entries can be numbered
-  pub all_entries : length design.names ≤ 128 → (records : List ℕ) (rows : List PredictRow) → AllZip (HasRow table model coding design) records rows → All (HasEntries (length design.names)) rows
-  all_entries few [] [] all = All-nil (HasEntries (length design.names))
-  all_entries few [] (row ∷ rows) all = absurd all
-  all_entries few (rec ∷ records) [] all = absurd all
-  all_entries few (rec ∷ records) (row ∷ rows) all =
+  pub all_entries : length design.names ≤ 128 → length model.offsets < 2 ^ 31 → (records : List ℕ) (rows : List PredictRow) → AllZip (HasRow table model coding design) records rows → All (HasEntries (length design.names)) rows
+  all_entries few short [] [] all = All-nil (HasEntries (length design.names))
+  all_entries few short [] (row ∷ rows) all = absurd all
+  all_entries few short (rec ∷ records) [] all = absurd all
+  all_entries few short (rec ∷ records) (row ∷ rows) all =
+      let offsets = sym (length-map row.offsets exact) ∙ ap (λ l. length l) all.0.is.offsets ∙ length-map model.offsets (λ a. arith_at table a (rec - 1)) in
       All-cons (HasEntries (length design.names)) row rows
-      (record { entries = all.0.wide; terms = omega (arith, few, all.0.wide, ap (λ l. length l) all.0.is.offsets) })
-      (all_entries few records rows all.1)
+      (record { entries = all.0.wide; terms = omega (arith, few, all.0.wide, short, offsets) })
+      (all_entries few short records rows all.1)
 
   -- ---- a row that isn't there
 

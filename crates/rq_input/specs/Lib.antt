@@ -3,6 +3,7 @@ pub mod Inputs
 pub mod Models
 pub mod Plain
 pub mod PlainRows
+pub mod Buildable
 pub mod Predicting
 pub mod Predictions
 pub mod Rows

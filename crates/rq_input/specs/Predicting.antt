@@ -1,5 +1,5 @@
 -- Inner. The rows of predicted records, step by step.
-use Rattle.std.specs.Prelude.{◌≡◌, ◌⊎◌, ◌<◌, ◌^◌, ℕ, All, Option, length, ⊤}
+use Rattle.std.specs.Prelude.{◌≡◌, ◌⊎◌, ℕ, Option, length, ⊤}
 use Rattle.contrasts.specs.declared.Coding.{Coding}
 use Rattle.data_frame.specs.Records.{Text}
 use Rattle.formula_parser.specs.declared.formula.Formula.{Formula}
@@ -12,11 +12,12 @@ use Rattle.design_matrix.specs.declared.fault.DesignFault.{DesignFault}
 use Rattle.design_matrix.specs.declared.fault.DesignFault.TheVariants as designs
 use Rattle.report_text.specs.declared.report.Halt.{Halt}
 use Rattle.report_text.specs.declared.report.Halt.TheVariants.{Refused, OutOfMemory}
+use Rattle.rq_input.specs.Buildable.{IsBuildable}
 use Rattle.rq_input.specs.Predictions.{HasRecordsCause, LacksRow}
 
--- the design is that of the table by a model without smooths, whose terms can be counted
+-- the design is that of the table by a model without smooths that was read for its names
 pub record Modelled (table : Table) (model : Formula) (coding : Coding) (design : Design) : Type 0 where
-  pub countable : All (λ t. length t.variables < 2 ^ 32) model.terms
+  pub buildable : IsBuildable table.names model
   pub weights : Option Text
   pub built : IsDesign table model coding weights design
   pub plain : length model.smooths ≡ 0

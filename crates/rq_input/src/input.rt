@@ -1,13 +1,15 @@
 //! An input, step by step: the table, its model, the design, what its smooths add, and the problem.
-ghost use Rattle.std.specs.Prelude.{◌≡◌, ◌≤◌, ◌<◌, ◌^◌, All, length, option_copied, true, IfOk, IfErr};
+ghost use Rattle.std.specs.Prelude.{◌≡◌, ◌≤◌, ◌<◌, ◌^◌, length, option_copied, true, IfOk, IfErr};
+ghost use Rattle.rq_input.specs.Buildable.{IsBuildable};
 ghost use Rattle.rq_input.specs.Inputs.{HasInputCause, HasModelCause, HasTableCause, IsInput, IsModelInput, IsTableInput};
 ghost use Rattle.rq_input.specs.PlainRows.{HasIntercept};
 ghost use Rattle.rq_input.specs.Rows.{HasRows};
 
 use crate::halt::{design_halt, formula_halt, penalty_halt, program_halt, table_halt};
+use crate::model::read_model;
 use data_frame::{Frame, read_table};
 use design_matrix::{Design, build};
-use formula_parser::{Formula, parse};
+use formula_parser::Formula;
 use frac_core::Frac128;
 use loss_model::Problem;
 use report_text::{Halt, Refusal};
@@ -56,7 +58,7 @@ fn table_input(alloc: Global, job: &FitJob, ranked: bool, frame: &Frame) -> Resu
     ensures unpenalised { IfOk result (λ input. ranked ≡ true → length input.smoothing.rows ≡ 0) }
     ensures cause { IfErr result (HasTableCause job.now ranked frame.now) }
 {
-    let model = match parse(alloc, job.formula.as_str(), frame.names()) {
+    let model = match read_model(alloc, job, frame) {
         Ok(model) => model,
         Err(fault) => return Err(formula_halt(fault)),
     };
@@ -86,7 +88,7 @@ pub(crate) fn model_input(
     frame: &Frame,
     model: &Formula,
 ) -> Result<Input, Halt>
-    requires countable { All (λ t. length t.variables < 2 ^ 32) model.now.terms }
+    requires buildable { IsBuildable frame.now.names model.now }
     ensures is { IfOk result (IsModelInput job.now frame.now model.now) }
     ensures rows { IfOk result HasRows }
     ensures unpenalised { IfOk result (λ input. length model.now.smooths ≡ 0 → length input.smoothing.rows ≡ 0) }

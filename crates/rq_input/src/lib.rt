@@ -14,6 +14,7 @@
 mod halt;
 mod input;
 pub mod laws;
+mod model;
 mod plain;
 mod predictions;
 mod tested;

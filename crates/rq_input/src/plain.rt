@@ -1,13 +1,15 @@
 //! The model and the input of a table where no smooths are taken.
-ghost use Rattle.std.specs.Prelude.{◌≡◌, ◌≤◌, ◌<◌, ◌^◌, All, length, IfOk, IfErr};
+ghost use Rattle.std.specs.Prelude.{◌≡◌, ◌≤◌, ◌<◌, ◌^◌, length, IfOk, IfErr};
+ghost use Rattle.rq_input.specs.Buildable.{IsBuildable};
 ghost use Rattle.rq_input.specs.Plain.{HasPlainCause, HasPlainTableCause, IsPlain, IsPlainModel};
 ghost use Rattle.rq_input.specs.PlainRows.{HasIntercept};
 ghost use Rattle.rq_input.specs.Rows.{HasRows};
 
 use crate::halt::{formula_halt, table_halt};
 use crate::input::{Input, model_input};
+use crate::model::read_model;
 use data_frame::{Frame, read_table};
-use formula_parser::{Formula, parse};
+use formula_parser::Formula;
 use report_text::{Halt, Refusal};
 use rq_words::FitJob;
 use std::alloc::Global;
@@ -60,10 +62,10 @@ pub(crate) fn plain_model(
     ensures rows { IfOk result (λ found. HasRows found.1) }
     ensures unpenalised { IfOk result (λ found. length found.1.smoothing.rows ≡ 0) }
     ensures intercept { IfOk result (λ found. HasIntercept found.0.intercept found.1) }
-    ensures countable { IfOk result (λ found. All (λ t. length t.variables < 2 ^ 32) found.0.terms) }
+    ensures buildable { IfOk result (λ found. IsBuildable frame.now.names found.0) }
     ensures cause { IfErr result (HasPlainTableCause job.now frame.now) }
 {
-    let model = match parse(alloc, job.formula.as_str(), frame.names()) {
+    let model = match read_model(alloc, job, frame) {
         Ok(model) => model,
         Err(fault) => return Err(formula_halt(fault)),
     };

@@ -2,6 +2,8 @@
 #![tactic(auto)]
 
 #[cfg(test)]
+mod arithmetics;
+#[cfg(test)]
 mod certificates;
 #[cfg(test)]
 mod formulas;

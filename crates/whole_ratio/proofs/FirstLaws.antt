@@ -22,7 +22,7 @@ module _ (l : Line) (line : IsLine l) where
   trans = before_trans (model l) (at_of l) (inverse_at l) l.position
 
   -- what holds of the rows before row n and of row n holds of one more
-  at_last : (n k : ℕ) (Q : ℕ → Type 0) → k < n + 1 → Q n → (k < n → Q k) → Q k
+  pub at_last : (n k : ℕ) (Q : ℕ → Type 0) → k < n + 1 → Q n → (k < n → Q k) → Q k
   at_last n k Q lk own before = by (k == n) refl
     where
       by : (t : Bool) → (k == n) ≡ t → Q k

@@ -2,3 +2,4 @@ pub mod Signs
 pub mod Movers
 pub mod Ties
 pub mod FirstLaws
+pub mod Passed

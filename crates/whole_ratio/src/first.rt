@@ -1,9 +1,10 @@
 //! The first of the rows that move.
-ghost use Rattle.std.specs.Prelude.{◌≡◌, ℕ, ◌+◌, ◌<◌, length, true, IfOk};
+ghost use Rattle.std.specs.Prelude.{◌≡◌, ℕ, ◌+◌, ◌<◌, length, true, IfOk, IsTrue};
 ghost use Rattle.walk_rule.specs.Walks.{IsFirstMover};
-ghost use Rattle.whole_ratio.specs.Lines.{IsLine, IsMover, IsMoverAt, IsFirstBelow, IsEarlierMover, model, at_of, inverse_at, is_moving};
+ghost use Rattle.whole_ratio.specs.Lines.{IsLine, IsMover, IsMoverAt, IsFirstBelow, IsEarlierMover, model, at_of, inverse_at, is_moving, comes_before};
 
-use crate::line::{Line, Mover};
+use crate::less::is_surely_less;
+use crate::line::{Line, Mover, goes_towards};
 use frac_core::Exact;
 use std::alloc::Global;
 use whole_inverse::Obstacle;
@@ -26,6 +27,36 @@ impl<'a> Line<'a> {
             Ok(second)
         } else {
             Ok(first)
+        }
+    }
+
+    /// Whether a row doesn't move, or comes after a mover. Of numbers beyond 64 bits it isn't said.
+    fn comes_after(&self, first: &Mover, row: u32) -> bool
+        requires line { IsLine self.now }
+        requires first { IsMover self.now first.now }
+        requires row { row < length self.now.basis.now.rows.now }
+        ensures { IsTrue result → is_moving self.now row ≡ true → comes_before self.now first.now.row row ≡ true }
+    {
+        let sides = self.sides;
+        let residuals = self.residuals;
+        let coords = self.coords;
+        let coord = coords[row as usize];
+        let moves = goes_towards(sides[row as usize], self.direction, coord);
+        let residual = residuals[row as usize].unsigned_abs();
+        let later = is_surely_less(first.residual, first.coord, residual, coord.unsigned_abs());
+        !moves | later
+    }
+
+    /// Whether the first of the movers before a row is that of those up to it too. It may be so where this isn't said.
+    fn stays_first(&self, best: &Option<Mover>, row: u32) -> bool
+        requires line { IsLine self.now }
+        requires row { row < length self.now.basis.now.rows.now }
+        requires best { IsFirstBelow self.now row best.now }
+        ensures { IsTrue result → IsFirstBelow self.now (row + 1) best.now }
+    {
+        match best {
+            Some(first) => self.comes_after(first, row),
+            None => false,
         }
     }
 
@@ -61,6 +92,9 @@ impl<'a> Line<'a> {
     {
         let mut best = None;
         for row in 0..self.sides.len() as u32 {
+            if self.stays_first(&best, row) {
+                continue;
+            }
             match self.one_more::<F>(alloc, best, row) {
                 Ok(next) => best = next,
                 Err(obstacle) => return Err(obstacle),

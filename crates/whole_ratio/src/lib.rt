@@ -6,6 +6,7 @@
 #![tactic(auto)]
 
 mod first;
+mod less;
 mod line;
 mod order;
 

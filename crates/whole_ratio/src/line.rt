@@ -68,14 +68,19 @@ fn rises(direction: Direction, coord: i128) -> bool
     }
 }
 
-/// Whether the change that a coordinate makes in a direction takes a residual on the side towards 0.
-fn goes_towards(side: Side, direction: Direction, coord: i128) -> bool
+/// Whether the change that a coordinate makes in a direction takes a residual on the side towards 0. Both answers stand
+/// before the side is looked at: nothing foretells it, and a branch would often be taken back.
+pub(crate) fn goes_towards(side: Side, direction: Direction, coord: i128) -> bool
     ensures { (d : ℤ) → pos 1 ≤ℤ d → result ≡ is_towards side (turned_by direction (share coord d)) }
 {
-    match side {
-        Side::Up => falls(direction, coord),
-        Side::Down => rises(direction, coord),
-        Side::Basic => false,
+    let falls = falls(direction, coord);
+    let rises = rises(direction, coord);
+    if side == Side::Up {
+        falls
+    } else if side == Side::Down {
+        rises
+    } else {
+        false
     }
 }
 

@@ -1,7 +1,9 @@
 pub mod Numbers
+pub mod NarrowSums
 pub mod Made
 pub mod Reading
 pub mod ShareProducts
 pub mod Balanced
 pub mod Same
+pub mod Basics
 pub mod Moved

@@ -6,6 +6,7 @@ ghost use Rattle.wide_int.specs.Numbers.{sizes};
 ghost use Rattle.whole_inverse.specs.Shares.{share_at, whole_at};
 ghost use Rattle.whole_rows.specs.Wholes.{of_whole};
 
+use crate::narrow::narrow_products;
 use crate::room::room_for;
 use frac_core::List;
 use std::alloc::Global;
@@ -50,7 +51,13 @@ pub fn row_products(
     ensures each { IfOk result (λ made. (d : ℤ) (i : ℕ) → i < length rows.now → share_at d made i ≡ sum_ℚ (length column.now) (λ k. of_whole rows.now (λ r. whole_at r.x k) i *ℚ share_at d column.now k)) }
 {
     match bound_of(column, limit) {
-        Some(_) => bounded_products(alloc, rows, column, limit),
+        Some(bound) => {
+            if bound <= i64::MAX as u128 {
+                narrow_products(alloc, rows, column, limit)
+            } else {
+                bounded_products(alloc, rows, column, limit)
+            }
+        }
         None => Err(Obstacle::TooWide),
     }
 }

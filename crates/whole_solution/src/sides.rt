@@ -1,5 +1,5 @@
 //! The sides of all rows.
-ghost use Rattle.std.specs.Prelude.{◌≡◌, ◌≢◌, ℕ, ℤ, ◌<◌, ◌≤◌, ◌≤ℤ◌, All, length, slice_index, unsigned_abs, IfOk, pos};
+ghost use Rattle.std.specs.Prelude.{◌≡◌, ◌≢◌, ℕ, ℤ, ◌<◌, ◌≤◌, ◌≤ℤ◌, false, if◌then◌else◌, All, length, slice_index, unsigned_abs, IfOk, pos};
 ghost use Rattle.exact_matrices.specs.Selections.{is_among};
 ghost use Rattle.loss_model.specs.declared.vertex.Side.TheVariants.{Basic};
 ghost use Rattle.loss_model.specs.Sample.{residual};
@@ -81,6 +81,37 @@ impl<'a> WholeBasis<'a> {
         self.outside_side(row, number)
     }
 
+    /// The side of a row, where it is outside the basis. A residual that isn't 0 tells it, without a look at the basis.
+    fn free_side(&self, row: u32, number: i128) -> Result<Side, Obstacle>
+        requires basis { IsWholeBasis self.now }
+        requires row { row < length self.now.rows.now }
+        requires residual { let s = self.now.inverse.now in let p = sample_of_rows (length s.columns) self.now.rows.now in let at = slice_index self.now.basis.now.rows in
+            share number s.determinant ≡ residual p (coefficient p at (inverse_of s)) row }
+        ensures { let s = self.now.inverse.now in let p = sample_of_rows (length s.columns) self.now.rows.now in let at = slice_index self.now.basis.now.rows in
+            IfOk result (λ o. is_among at p.columns row ≡ false → o ≡ side_at p at (inverse_of s) row) }
+    {
+        if number != 0 {
+            return Ok(side_of_number(number));
+        }
+        let side = self.side_of_row(row, number)?;
+        Ok(side)
+    }
+
+    /// The sides with `Basic` at the rows of the basis.
+    fn with_basis(&self, sides: List<Side>) -> List<Side>
+        requires basis { IsWholeBasis self.now }
+        requires size { length sides ≡ length self.now.rows.now }
+        ensures size { length result ≡ length self.now.rows.now }
+        ensures each { (i : ℕ) → side_in result i ≡ (if is_among (slice_index self.now.basis.now.rows) (length self.now.basis.now.rows) i then Basic else side_in sides i) }
+    {
+        let mut made = sides;
+        let basis = self.basis.rows.as_slice();
+        for j in 0..basis.len() {
+            made.replace(basis[j], Side::Basic);
+        }
+        made
+    }
+
     /// The sides of all rows, which have these residuals.
     pub fn sides(&self, alloc: Global, residuals: &[i128]) -> Result<List<Side>, Obstacle>
         requires basis { IsWholeBasis self.now }
@@ -93,11 +124,11 @@ impl<'a> WholeBasis<'a> {
     {
         let mut made = room_for(alloc, residuals.len())?;
         for row in 0..residuals.len() {
-            let side = self.side_of_row(row as u32, residuals[row])?;
+            let side = self.free_side(row as u32, residuals[row])?;
             if made.push(side).is_err() {
                 return Err(Obstacle::OutOfMemory);
             }
         }
-        Ok(made)
+        Ok(self.with_basis(made))
     }
 }

@@ -48,12 +48,7 @@ impl Turn {
     fn stays(self) -> bool
         ensures { IsTrue result → self.to ≡ self.from }
     {
-        match (self.from, self.to) {
-            (Side::Up, Side::Up) => true,
-            (Side::Down, Side::Down) => true,
-            (Side::Basic, Side::Basic) => true,
-            _ => false,
-        }
+        self.to == self.from
     }
 }
 

@@ -6,7 +6,12 @@ use Rattle.design_matrix.specs.Cells.{is_kept}
 use Rattle.design_matrix.specs.Views.{weights_seen}
 use Rattle.design_matrix.proofs.Building.{caused, designed, fault_rows, fault_used, fewer_from, kept_from, numbered_from}
 use Rattle.design_matrix.proofs.Shapes.{shaped}
+use Rattle.formula_parser.specs.Held.{ariths_of}
+use Rattle.design_matrix.proofs.Evaluable.{held_can}
 use Rattle.design_matrix.proofs.builder.build.Goals as goal
+
+pub build_kept-requires-clause-held : goal.build_kept-requires-clause-held
+build_kept-requires-clause-held c = held_can c.args.frame.now.names (ariths_of c.args.model.now) c.requires.held
 
 pub returns-in_err-used-clause-fault : goal.returns-in_err-used-clause-fault
 returns-in_err-used-clause-fault c =

@@ -7,7 +7,11 @@ use Rattle.design_matrix.specs.Parts.{columns_in}
 use Rattle.design_matrix.specs.Views.{terms_seen}
 use Rattle.design_matrix.specs.Widths.{IsUsable}
 use Rattle.design_matrix.proofs.Building.{coded_from, late_empty, late_many, late_none, late_terms, usable_from}
+use Rattle.design_matrix.proofs.Evaluable.{variables_can}
 use Rattle.design_matrix.proofs.builder.build_kept.Goals as goal
+
+pub terms-requires-clause-usable : goal.terms-requires-clause-usable
+terms-requires-clause-usable c = variables_can c.args.coder.now.model.now c.requires.held
 
 pub returns-in_err-check_terms-clause-fault : goal.returns-in_err-check_terms-clause-fault
 returns-in_err-check_terms-clause-fault c =

@@ -30,6 +30,8 @@ design_rows-requires c =
     let P : List (Vec Held Global) → Type 0 = λ l. AreShort l in
     record {
       numbered = c.requires.numbered;
+      response = c.requires.response;
+      usable = c.requires.held;
       few = omega (arith, c.requires.few);
       short = subst P (sym c.deref-2.ensures.value) c.in_ok-columns.ensures.short;
     }

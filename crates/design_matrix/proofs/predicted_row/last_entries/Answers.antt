@@ -6,7 +6,11 @@ use Rattle.design_matrix.specs.Parts.{Part, columns_of, factors}
 use Rattle.design_matrix.specs.Products.{product}
 use Rattle.design_matrix.specs.Views.{columns_seen, part_seen, terms_seen}
 use Rattle.design_matrix.proofs.Building.{told_columns, told_few, told_usable}
+use Rattle.design_matrix.proofs.Evaluable.{variables_can}
 use Rattle.design_matrix.proofs.predicted_row.last_entries.Goals as goal
+
+pub terms-requires-clause-usable : goal.terms-requires-clause-usable
+terms-requires-clause-usable c = variables_can c.args.coder.now.model.now c.requires.held
 
 pub design_columns-requires-clause-usable : goal.design_columns-requires-clause-usable
 design_columns-requires-clause-usable c =

@@ -1,4 +1,4 @@
-use Rattle.std.proofs.Common.{List, ap, inl, inr, map, refl, subst, take_all, ◌∙◌, Vec}
+use Rattle.std.proofs.Common.{List, ap, inl, inr, map, subst, take_all, ◌∙◌, Vec}
 use Rattle.std.specs.declared.alloc.Global.{Global}
 use Rattle.std.proofs.lemmas.Result.{err_from_is_err_and}
 use Rattle.data_frame.specs.Views.{exact}
@@ -13,13 +13,17 @@ use Rattle.design_matrix.proofs.rows.entries_of.Goals as goal
 
 pub returns-in-Err-clause-fault : goal.returns-in-Err-clause-fault
 returns-in-Err-clause-fault c =
-    let P : List Held → Type 0 = λ l. OverflowsInColumn (map part_seen l) c.args.place c.args.rec c.loop-column.column c.in-Err.spill in
-    inr (
-      c.in-Err.spill,
-      refl,
-      in_row (λ parts. map part_seen parts.items) c.args.columns.now _ _ c.args.place c.args.rec _ c.loop-column-test.true
-          c.index-columns-column.is c.loop-column.invariant.fits (subst P c.deref.ensures.value c.in-Err.ensures.spill),
-    )
+    elim c.in-Err.ensures.fault [
+      | inl memory ↦ inl memory
+      | inr spilt ↦
+          let P : List Held → Type 0 = λ l. OverflowsInColumn (map part_seen l) c.args.place c.args.rec c.loop-column.column spilt.0 in
+          inr (
+            spilt.0,
+            spilt.1,
+            in_row (λ parts. map part_seen parts.items) c.args.columns.now _ _ c.args.place c.args.rec _ c.loop-column-test.true
+                c.index-columns-column.is c.loop-column.invariant.fits (subst P c.deref.ensures.value spilt.2),
+          )
+    ]
 
 pub loop-column-preserved : goal.loop-column-preserved
 loop-column-preserved c =

@@ -1,4 +1,4 @@
-use Rattle.std.proofs.Common.{arith, refl, ap, ◌∙◌, inl, inr}
+use Rattle.std.proofs.Common.{arith, refl, ap, inl, inr}
 use Rattle.rq_cli.specs.Steps.{outcome_of}
 use Rattle.rq_cli.proofs.Runs.{printed_run, told_run, memory_run}
 use Rattle.rq_cli.proofs.top.run.Goals as goal

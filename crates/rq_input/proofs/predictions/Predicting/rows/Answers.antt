@@ -21,4 +21,4 @@ returns-in-Ok-rows_of-clause-rows c =
 pub returns-in-Ok-rows_of-clause-entries : goal.returns-in-Ok-rows_of-clause-entries
 returns-in-Ok-rows_of-clause-entries c =
     let self = c.args.self.now in
-    all_entries self.frame.now self.model.now self.coding self.design.now c.requires.few c.as_slice-records.result.now c.in-Ok-rows_of.rows c.in-Ok-rows_of.ensures.rows
+    all_entries self.frame.now self.model.now self.coding self.design.now c.requires.few c.requires.built.buildable.counted.offsets c.as_slice-records.result.now c.in-Ok-rows_of.rows c.in-Ok-rows_of.ensures.rows
