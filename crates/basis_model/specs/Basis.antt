@@ -3,8 +3,8 @@
 use Rattle.std.specs.Prelude.{ℕ, if◌then◌else◌, pos}
 use Rattle.exact_algebra.specs.Rational.{ℚ, ◌+ℚ◌, ◌*ℚ◌, neg_ℚ, whole}
 use Rattle.exact_algebra.specs.RationalSums.{sum_ℚ}
-use Rattle.exact_matrices.specs.Matrices.{AreInverse, coordinate}
-use Rattle.exact_matrices.specs.Selections.{is_among, AreDistinct}
+use Rattle.loss_model.specs.Matrices.{AreInverse, coordinate}
+use Rattle.loss_model.specs.Selections.{is_among, AreDistinct}
 use Rattle.loss_model.specs.declared.vertex.Side.{Side}
 use Rattle.loss_model.specs.declared.vertex.Side.TheVariants.{Up, Down, Basic}
 use Rattle.loss_model.specs.Sample.{Sample, residual}

@@ -2,7 +2,7 @@
 use Rattle.std.specs.Prelude.{◌≡◌, ◌⊎◌, ℕ, zero, suc, ◌+◌, Bool, true, false, if◌then◌else◌, pos}
 use Rattle.exact_algebra.specs.Fraction.{Fraction}
 use Rattle.exact_algebra.specs.Rational.{ℚ, neg_ℚ, whole}
-use Rattle.frac_core.specs.declared.exact.OpKind.TheVariants.{Add, Sub}
+use Rattle.loss_model.specs.OpKind.TheVariants.{Add, Sub}
 use Rattle.loss_model.specs.declared.vertex.Side.{Side}
 use Rattle.loss_model.specs.declared.vertex.Side.TheVariants.{Up, Basic}
 use Rattle.loss_model.specs.declared.spill.Quantity.TheVariants.{Coefficient, NonbasicTotal, BasicDual, DualValue, Slope, CostSum}

@@ -1,7 +1,7 @@
 -- Stated. The operations of perturbed ratios that overflow.
 use Rattle.std.specs.Prelude.{◌≡◌, ◌⊎◌, ℕ, ◌<◌, ◌≤◌}
 use Rattle.exact_algebra.specs.Fraction.{Fraction}
-use Rattle.frac_core.specs.declared.exact.OpKind.TheVariants.{Div}
+use Rattle.loss_model.specs.OpKind.TheVariants.{Div}
 use Rattle.loss_model.specs.declared.spill.Quantity.TheVariants.{PerturbedRatio}
 use Rattle.loss_model.specs.declared.spill.Site.{Site}
 use Rattle.loss_model.specs.declared.spill.Spill.{Spill}

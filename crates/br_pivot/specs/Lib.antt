@@ -1,3 +1,3 @@
-pub mod Solves
+pub use Rattle.tableau.specs.Solves
 pub mod Solutions
 pub mod Answers

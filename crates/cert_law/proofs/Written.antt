@@ -22,7 +22,7 @@ use Rattle.pivot_rule.specs.Duals.{HasCosts}
 use Rattle.pivot_rule.specs.Trails.{AtBasis}
 use Rattle.rank_walk.specs.Ends.{IsEndAt, IsHandedOut}
 use Rattle.rank_walk.specs.RankWalks.{Way}
-use Rattle.rank_inversion.specs.declared.column_test.Asked.{Asked}
+use Rattle.rq_engine.specs.Asked.{Asked}
 use Rattle.cert_text.specs.Laws.{SameContent}
 use Rattle.cert_text.specs.Limits.{IsWithinLimits}
 use Rattle.cert_text.specs.Trees.{cert_text}
@@ -37,10 +37,10 @@ use Rattle.report_text.specs.ReportText.{value}
 use Rattle.report_text.specs.declared.report.Fit.{Fit}
 use Rattle.report_text.specs.declared.report.Report.TheVariants as reports
 use Rattle.rq_input.specs.declared.input.Input.{Input}
-use Rattle.rq_fit.specs.Asks.{IsFitAsk}
-use Rattle.rq_fit.specs.Fit.{IsRightFit, IsRightSegment}
-use Rattle.rq_fit.specs.Intervals.{AreRightIntervals, IsRightInterval, asked_at, asked_by, asked_over}
-use Rattle.rq_fit.proofs.Costs.{high_costs, low_costs}
+use Rattle.rq_engine.specs.Asks.{IsFitAsk}
+use Rattle.rq_engine.specs.Fit.{IsRightFit, IsRightSegment}
+use Rattle.rq_engine.specs.Intervals.{AreRightIntervals, IsRightInterval, asked_at, asked_by, asked_over}
+use Rattle.rq_engine.proofs.Costs.{high_costs, low_costs}
 use Rattle.rq_input.proofs.Lists.{zip_length}
 use Rattle.rq_engine.specs.Answers.{IsCertified, IsRight}
 use Rattle.rq_engine.specs.Jobs.{IsJobOf}

@@ -8,7 +8,7 @@ use Rattle.loss_model.specs.declared.problem.Problem.{Problem}
 use Rattle.loss_model.specs.declared.stop.Stop.{Stop}
 use Rattle.loss_model.specs.Problem.{sample}
 use Rattle.pivot_rule.specs.Duals.{HasCosts}
-use Rattle.br_pivot.specs.Solves.{IsSolveStop}
+use Rattle.rank_inversion.specs.Solves.{IsSolveStop}
 use Rattle.rank_inversion.specs.GramStops.{IsGramStop, IsInverted}
 use Rattle.rank_inversion.specs.Intervals.{IsExactInterval, IsRankInterval}
 use Rattle.rank_inversion.specs.Inversions.{IsAskable}

@@ -2,7 +2,7 @@
 use Rattle.std.specs.Prelude.{◌≡◌, ℕ, ◌≤◌, length, Result, Ok, Err}
 use Rattle.exact_algebra.specs.Fraction.{Fraction, rational}
 use Rattle.loss_model.specs.declared.interval.Interval.{Interval}
-use Rattle.br_pivot.specs.Solutions.{IsSolution}
+use Rattle.rank_inversion.specs.Solutions.{IsSolution}
 use Rattle.rank_inversion.specs.Stops.{IsIntervalStop}
 use Rattle.rank_inversion.specs.declared.column_test.Asked.{Asked}
 use Rattle.interval_jobs.specs.Intervals.{IsRightInterval}

@@ -6,8 +6,8 @@ use Rattle.loss_model.specs.declared.problem.Problem.{Problem}
 use Rattle.loss_model.specs.Dual.{IsDataRow}
 use Rattle.loss_model.specs.Problem.{sample, IsWellShaped}
 use Rattle.loss_model.specs.Strict.{◌<ℚ◌}
-use Rattle.br_pivot.specs.Solutions.{IsSolution}
-use Rattle.br_pivot.specs.declared.solve.Solved.{Solved}
+use Rattle.rank_inversion.specs.Solutions.{IsSolution}
+use Rattle.rank_inversion.specs.Solved.{Solved}
 use Rattle.rank_inversion.specs.GramStops.{IsInverted}
 use Rattle.rank_inversion.specs.Inversions.{IsAskable}
 use Rattle.rank_inversion.specs.declared.column_test.Asked.{Asked}

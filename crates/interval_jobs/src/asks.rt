@@ -6,10 +6,9 @@ ghost use Rattle.interval_jobs.specs.Answers.{first_asked, IsIntervalAnswer, IsS
 ghost use Rattle.interval_jobs.specs.Intervals.{IsRightInterval};
 ghost use Rattle.interval_jobs.specs.RankProblems.{IsSolvable, IsWalkable};
 
-use br_pivot::{Solved, solve_at};
 use frac_core::Exact;
 use loss_model::{Interval, Problem, Stop};
-use rank_inversion::{Asked, GramInverse, interval_from, rank_test};
+use rank_inversion::{Asked, GramInverse, Solved, interval_from, rank_test, solve_at};
 use std::alloc::Global;
 
 /// What is asked of a problem: intervals for a critical value, at these quantiles, and the limit of the pivots of

@@ -6,10 +6,9 @@ ghost use Rattle.interval_jobs.specs.Answers.{IsIntervalAnswer, IsSolveAnswer};
 ghost use Rattle.rank_inversion.specs.Jobs.{range, value};
 
 use crate::asks::{IntervalStop, RankProblem, SolvedAt};
-use br_pivot::Solved;
 use frac_core::{Exact, Frac128};
 use loss_model::Interval;
-use rank_inversion::Asked;
+use rank_inversion::{Asked, Solved};
 use rq_fan::{Gate, Work};
 use std::alloc::Global;
 use std::marker::Model;

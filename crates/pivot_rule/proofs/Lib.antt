@@ -11,3 +11,7 @@ pub mod Solved
 pub mod Counting
 pub mod PerturbedLosses
 pub mod OneVertex
+pub use Rattle.basis_model.proofs.LexicographicLaws
+pub use Rattle.basis_model.proofs.Ordered
+pub use Rattle.basis_model.proofs.Ratios
+pub use Rattle.basis_model.proofs.Signs

@@ -5,3 +5,10 @@ pub mod Trails
 pub mod Results
 pub mod Responses
 pub mod Laws
+pub use Rattle.basis_model.specs.Basis
+pub use Rattle.basis_model.specs.BasisSpills
+pub use Rattle.basis_model.specs.Lexicographic
+pub use Rattle.basis_model.specs.Perturbed
+pub use Rattle.basis_model.specs.PerturbedLoss
+pub use Rattle.basis_model.specs.RatioSpill
+pub use Rattle.basis_model.specs.declared.part.Part

@@ -10,3 +10,6 @@ pub mod Walks
 pub mod Inversions
 pub mod Intervals
 pub mod Jobs
+pub use Rattle.br_pivot.specs.Solutions
+pub use Rattle.br_pivot.specs.Solves
+pub use Rattle.br_pivot.specs.declared.solve.Solved

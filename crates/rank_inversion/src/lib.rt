@@ -20,6 +20,7 @@ mod projection;
 mod station;
 mod walking;
 
+pub use br_pivot::{Solved, solve_at};
 pub use column_test::{Asked, RankTest, rank_test};
 pub use gram::{GramInverse, gram_inverse};
 pub use inversion::{interval, interval_from};

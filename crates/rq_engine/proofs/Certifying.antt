@@ -20,7 +20,7 @@ use Rattle.pivot_rule.proofs.Solved.{any_default}
 use Rattle.rank_walk.specs.Ends.{IsEndAt, IsHandedOut}
 use Rattle.rank_walk.specs.Intervals.{bound_by, IsIntervalOf}
 use Rattle.rank_walk.specs.RankWalks.{Way, rise, fall}
-use Rattle.rank_inversion.specs.declared.column_test.Asked.{Asked}
+use Rattle.rq_fit.specs.Asked.{Asked}
 use Rattle.cert_text.specs.Kept.{is_finite, is_outside, IsKeptEnd, IsKeptInterval, IsKeptSegment}
 use Rattle.cert_text.specs.declared.cert.Cert.{Cert}
 use Rattle.rq_words.specs.declared.job.FitJob.{FitJob}

@@ -6,3 +6,4 @@ pub mod Listed
 pub mod Pathing
 pub mod Predicting
 pub mod Testing
+pub use Rattle.rq_fit.proofs.Costs

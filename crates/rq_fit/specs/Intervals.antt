@@ -1,7 +1,7 @@
 -- Stated. The rank intervals that a job asks for.
 use Rattle.std.specs.Prelude.{ℕ, List, [], Option, None, Some}
 use Rattle.frac_core.specs.declared.frac128.Frac128.{Frac128}
-use Rattle.rank_inversion.specs.declared.column_test.Asked.{Asked}
+use Rattle.interval_jobs.specs.Asked.{Asked}
 use Rattle.rq_words.specs.declared.job.RankAsk.{RankAsk}
 pub use Rattle.interval_jobs.specs.Intervals.{AreRightIntervals, asked_at, asked_over, IsFirstStop, IsRightInterval}
 

@@ -19,22 +19,22 @@ use Rattle.exact_algebra.proofs.RationalSumLaws.{sum_ℚ-same, sum_ℚ-scale}
 use Rattle.exact_algebra.proofs.Inverses.{*ℚ_cancel}
 use Rattle.exact_algebra.specs.Order.{cmp_ℚ}
 use Rattle.exact_algebra.proofs.OrderLaws.{cmp_ℚ-Less, cmp_ℚ-Equal, cmp_ℚ-Greater, by_cmp, ≤ℚ-from_mul}
-use Rattle.exact_matrices.specs.Terms.{delta}
-use Rattle.exact_matrices.proofs.TermLaws.{if-other}
-use Rattle.exact_matrices.specs.Matrices.{AreInverse, coordinate}
-use Rattle.exact_matrices.specs.Selections.{is_among, AreDistinct}
+use Rattle.walk_rule.specs.Terms.{delta}
+use Rattle.walk_rule.proofs.TermLaws.{if-other}
+use Rattle.walk_rule.specs.Matrices.{AreInverse, coordinate}
+use Rattle.walk_rule.specs.Selections.{is_among, AreDistinct}
 use Rattle.loss_model.specs.declared.vertex.Side.{Side}
 use Rattle.loss_model.specs.declared.vertex.Side.TheVariants.{Up, Down, Basic}
 use Rattle.loss_model.specs.Sample.{Sample, residual, up_cost, down_cost}
-use Rattle.basis_model.specs.Lexicographic.{lex_cmp}
-use Rattle.basis_model.specs.Perturbed.{Nonbasic, perturbed, zeros, side_of, perturbed_side}
-use Rattle.basis_model.proofs.Signs.{perturbed_side-same}
-use Rattle.basis_model.specs.declared.part.Part.{Part}
-use Rattle.basis_model.specs.declared.part.Part.TheVariants.{Constant, Linear}
-use Rattle.basis_model.specs.Basis.{IsBasis, coord, coefficient, outside_row, side_at, bound_part, nonbasic_total, balancing, basic_dual, dual_value}
-use Rattle.pivot_rule.specs.declared.direction.Direction.{Direction}
-use Rattle.pivot_rule.specs.declared.direction.Direction.TheVariants.{Upward, Downward}
-use Rattle.pivot_rule.specs.Steps.{slope}
+use Rattle.walk_rule.specs.Lexicographic.{lex_cmp}
+use Rattle.walk_rule.specs.Perturbed.{Nonbasic, perturbed, zeros, side_of, perturbed_side}
+use Rattle.walk_rule.proofs.Signs.{perturbed_side-same}
+use Rattle.walk_rule.specs.Part.{Part}
+use Rattle.walk_rule.specs.Part.TheVariants.{Constant, Linear}
+use Rattle.walk_rule.specs.Basis.{IsBasis, coord, coefficient, outside_row, side_at, bound_part, nonbasic_total, balancing, basic_dual, dual_value}
+use Rattle.walk_rule.specs.Direction.{Direction}
+use Rattle.walk_rule.specs.Direction.TheVariants.{Upward, Downward}
+use Rattle.walk_rule.specs.Steps.{slope}
 use Rattle.scaled_model.specs.Scaled.{IsScaled, unscaled}
 
 -- ---- what a positive factor leaves

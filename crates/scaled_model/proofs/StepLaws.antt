@@ -15,14 +15,14 @@ use Rattle.loss_model.specs.declared.vertex.Side.{Side}
 use Rattle.loss_model.specs.declared.vertex.Side.TheVariants.{Up, Down, Basic}
 use Rattle.loss_model.specs.Sample.{Sample, residual, up_cost, down_cost}
 use Rattle.loss_model.specs.Spill.{abs_ℚ}
-use Rattle.basis_model.specs.Lexicographic.{lex_cmp}
-use Rattle.basis_model.specs.Perturbed.{Nonbasic, held_coordinate, perturbed, perturbed_side, turned, ratio_on, ratio}
-use Rattle.basis_model.proofs.Signs.{perturbed_side-same, perturbed-same}
-use Rattle.basis_model.specs.Basis.{coord, coefficient, outside_row, side_at}
-use Rattle.pivot_rule.specs.declared.direction.Direction.{Direction}
-use Rattle.pivot_rule.specs.declared.direction.Direction.TheVariants.{Upward, Downward}
-use Rattle.pivot_rule.specs.Duals.{◌<ℚ◌}
-use Rattle.pivot_rule.specs.Steps.{slope, HasNoNegativeSlope, is_towards, change, moves, is_before, passing, slope_before, IsLeaving, IsEntering, IsSolvingStep}
+use Rattle.walk_rule.specs.Lexicographic.{lex_cmp}
+use Rattle.walk_rule.specs.Perturbed.{Nonbasic, held_coordinate, perturbed, perturbed_side, turned, ratio_on, ratio}
+use Rattle.walk_rule.proofs.Signs.{perturbed_side-same, perturbed-same}
+use Rattle.walk_rule.specs.Basis.{coord, coefficient, outside_row, side_at}
+use Rattle.walk_rule.specs.Direction.{Direction}
+use Rattle.walk_rule.specs.Direction.TheVariants.{Upward, Downward}
+use Rattle.walk_rule.specs.Duals.{◌<ℚ◌}
+use Rattle.walk_rule.specs.Steps.{slope, HasNoNegativeSlope, is_towards, change, moves, is_before, passing, slope_before, IsLeaving, IsEntering, IsSolvingStep}
 use Rattle.walk_rule.specs.Walks.{IsFirstMover}
 use Rattle.scaled_model.specs.Scaled.{IsScaled, unscaled}
 use Rattle.scaled_model.proofs.ScalingLaws.{coord-scaled, residual-scaled, side_at-scaled, slope-scaled, perturbed_side-positive}

@@ -15,7 +15,7 @@ use Rattle.pivot_rule.specs.Duals.{HasCosts}
 use Rattle.pivot_rule.specs.Trails.{ReachesLimit}
 use Rattle.pivot_rule.proofs.Solved.{full_rank}
 use Rattle.walk_rule.specs.WalkTrails.{ReachesProcessLimit}
-use Rattle.br_pivot.specs.Solves.{IsSolveStop}
+use Rattle.tau_process.specs.Solves.{IsSolveStop}
 use Rattle.tau_process.specs.Stops.{IsProcessStop}
 use Rattle.pivot_bound.specs.BoundLaws.{further_bases}
 use Rattle.pivot_bound.proofs.Bounds.{solve_within, process_within}

@@ -10,7 +10,7 @@ use Rattle.loss_model.specs.declared.stop.Stop.TheVariants.{OutOfMemory, PivotLi
 use Rattle.loss_model.specs.FullRank.{HasFullRank}
 use Rattle.loss_model.specs.Problem.{sample}
 use Rattle.pivot_rule.specs.Duals.{HasCosts}
-use Rattle.br_pivot.specs.Solves.{IsSolveStop, IsLimited}
+use Rattle.tau_process.specs.Solves.{IsSolveStop, IsLimited}
 use Rattle.tau_process.specs.Stops.{IsProcessStop, IsLimited as IsProcessLimited}
 use Rattle.pivot_bound.specs.BoundLaws.{further_bases}
 

@@ -8,6 +8,7 @@ use Rattle.loss_model.specs.declared.spill.Spill.{Spill}
 use Rattle.loss_model.specs.declared.stop.Stop.{Stop}
 use Rattle.loss_model.specs.declared.stop.Stop.TheVariants.{OutOfMemory as StopForMemory, PivotLimit as StopAtLimit, Overflow as StopByOverflow}
 use Rattle.loss_model.specs.Problem.{sample}
+use Rattle.pivot_rule.specs.Spills.{IsStepSpill}
 use Rattle.pivot_rule.specs.Steps.{IsSolvingStep}
 use Rattle.pivot_rule.specs.Trails.{AtBasis, IsSolvingTrail, ReachesLimit}
 use Rattle.tableau_model.specs.declared.refusal.Refusal.{Refusal}
@@ -19,7 +20,8 @@ use Rattle.tableau_model.specs.Questions.{Question, solving}
 use Rattle.tableau_model.specs.Refusals.{IsRefusalAt, IsRefusedOf}
 use Rattle.tableau.specs.declared.solving.Halt.{Halt}
 use Rattle.tableau.specs.declared.solving.Halt.TheVariants.{OutOfMemory as NoMemory, PivotLimit, Refused}
-use Rattle.tableau.specs.Solving.{IsRefusal, IsHaltOf, IsHalted, stop_of}
+use Rattle.tableau.specs.Solves.{IsSolveSpill}
+use Rattle.tableau.specs.Solving.{IsRefusal, IsHaltOf, IsHalted, IsRefusedAfter, stop_of}
 
 -- what holds of the inverse of a place holds at its basis
 pub at_place : {F : Type 0} (value : F → Fraction) (h : Place F) → IsPlace value h → (Q : (ℕ → ℕ → ℚ) → Type 0) → Q h.inverse → AtBasis (sample_of value h) h.rows Q
@@ -74,3 +76,14 @@ module _ {F : Type 0} (limit : ℕ) (D : Halt F → Type 0) where
   by_halt Q memory reached spilled (PivotLimit trail) s e h = let same : StopAtLimit limit trail ≡ s = cc e in subst Q same (reached trail h)
   by_halt Q memory reached spilled (Refused trail (Overflow spill)) s e h = let same : StopByOverflow trail spill ≡ s = cc e in subst Q same (spilled trail spill h)
   by_halt Q memory reached spilled (Refused trail TooWide) s e h = absurd (cc e)
+
+-- an overflow that halts a solve stops it
+pub overflow_stops : {F : Type 0} (value : F → Fraction) (range : ℕ) (task : Task F) (theta : ℚ) (limit : ℕ) (trail : Trail F) (s : Spill F) → IsRefusedAfter value range task theta limit trail (Overflow s) → IsSolveSpill value range task.problem theta limit trail s
+overflow_stops value range task theta limit trail s h =
+    subst (λ (x : Task F). IsSolveSpill value range x.problem theta limit trail s) h.same
+    (record {
+      basis = h.here.rows;
+      lawful = h.lawful;
+      short = h.short;
+      here = at_place value h.here h.is_place (λ a. IsStepSpill value range (sample_of value h.here) (at_of h.here) a theta s) h.refusal.1;
+    })

@@ -1,3 +1,4 @@
 pub mod Bodies
 pub mod Solving
 pub mod Walking
+pub mod Solves

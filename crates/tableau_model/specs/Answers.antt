@@ -2,8 +2,8 @@
 use Rattle.std.specs.Prelude.{Option, Some, None}
 use Rattle.exact_algebra.specs.Fraction.{Fraction}
 use Rattle.exact_algebra.specs.Rational.{ℚ}
-use Rattle.pivot_rule.specs.Steps.{HasNoNegativeSlope, IsSolvingStep}
-use Rattle.pivot_rule.specs.Results.{IsVertexAt, AreBasicDuals}
+use Rattle.walk_rule.specs.Steps.{HasNoNegativeSlope, IsSolvingStep}
+use Rattle.walk_rule.specs.Results.{IsVertexAt, AreBasicDuals}
 use Rattle.tableau_model.specs.declared.answer.Step.{Step}
 use Rattle.tableau_model.specs.declared.answer.Fitted.{Fitted}
 use Rattle.tableau_model.specs.Places.{Place, at_of, sample_of}

@@ -5,8 +5,8 @@ use Rattle.exact_algebra.specs.Rational.{ℚ}
 use Rattle.loss_model.specs.declared.problem.Problem.{Problem}
 use Rattle.loss_model.specs.Problem.{sample, IsWellShaped}
 use Rattle.loss_model.specs.Sample.{Sample}
-use Rattle.basis_model.specs.Basis.{IsBasis}
-use Rattle.pivot_rule.specs.Trails.{EndsAt}
+use Rattle.walk_rule.specs.Basis.{IsBasis}
+use Rattle.walk_rule.specs.Trails.{EndsAt}
 
 -- which body keeps it
 pub data Body : Type 0 where

@@ -3,8 +3,8 @@ use Rattle.std.specs.Prelude.{ℕ}
 use Rattle.exact_algebra.specs.Fraction.{Fraction}
 use Rattle.exact_algebra.specs.Rational.{ℚ}
 use Rattle.loss_model.specs.declared.spill.Spill.{Spill}
-use Rattle.pivot_rule.specs.Steps.{IsSolvingStep}
-use Rattle.pivot_rule.specs.Spills.{IsStepSpill}
+use Rattle.walk_rule.specs.Steps.{IsSolvingStep}
+use Rattle.walk_rule.specs.Spills.{IsStepSpill}
 use Rattle.walk_rule.specs.Families.{over_quantiles}
 use Rattle.walk_rule.specs.Walks.{IsWalkingStep}
 use Rattle.walk_rule.specs.WalkTrails.{is_below}

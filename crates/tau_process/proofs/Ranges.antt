@@ -26,8 +26,7 @@ use Rattle.tableau_model.specs.Places.{Task, at_of, sample_of}
 use Rattle.tableau.specs.declared.solving.Halt.{Halt}
 use Rattle.tableau.specs.Solving.{IsHalted, stop_of}
 use Rattle.tableau.specs.Walking.{IsWalkDone, IsWalkRefusedAfter, IsWalkHalted}
-use Rattle.tableau.proofs.Halts.{at_place, by_halt}
-use Rattle.br_pivot.proofs.Halts.{overflow_stops}
+use Rattle.tableau.proofs.Halts.{at_place, by_halt, overflow_stops}
 use Rattle.tau_process.specs.Answers.{IsAnswer}
 use Rattle.tau_process.specs.Processes.{IsProcess}
 use Rattle.tau_process.specs.Stops.{IsWalkSpill, IsLimited}

@@ -7,7 +7,7 @@ use Rattle.loss_model.specs.declared.problem.Problem.{Problem}
 use Rattle.loss_model.specs.declared.process.Process.{Process}
 use Rattle.loss_model.specs.declared.stop.Stop.{Stop}
 use Rattle.loss_model.specs.Problem.{sample}
-use Rattle.br_pivot.specs.Solves.{IsLimitAnswer}
+use Rattle.tableau.specs.Solves.{IsLimitAnswer}
 use Rattle.tau_process.specs.Processes.{IsProcess}
 use Rattle.tau_process.specs.Stops.{IsProcessStop, IsLimited}
 

@@ -11,7 +11,7 @@ use Rattle.loss_model.specs.Problem.{sample}
 use Rattle.loss_model.specs.Sample.{Sample}
 use Rattle.loss_model.specs.StartStop.{IsStartSpill, IsDependent}
 use Rattle.pivot_rule.specs.Trails.{AtBasis}
-use Rattle.br_pivot.specs.Solves.{IsSolveSpill}
+use Rattle.tableau.specs.Solves.{IsSolveSpill}
 use Rattle.walk_rule.specs.WalkSpills.{IsStaySpill}
 use Rattle.walk_rule.specs.WalkTrails.{IsProcessTrail, ReachesProcessLimit}
 

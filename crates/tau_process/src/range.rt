@@ -7,7 +7,7 @@ ghost use Rattle.pivot_rule.specs.Duals.{HasCosts};
 ghost use Rattle.tableau_model.specs.Places.{in_fractions, sample_of};
 ghost use Rattle.tableau.specs.Bodies.{place_of};
 ghost use Rattle.tableau.specs.Solving.{IsBegun};
-ghost use Rattle.br_pivot.specs.Solves.{IsLimitAnswer};
+ghost use Rattle.tableau.specs.Solves.{IsLimitAnswer};
 ghost use Rattle.tau_process.specs.Answers.{IsAnswer};
 ghost use Rattle.tau_process.specs.Processes.{IsProcess};
 ghost use Rattle.tau_process.specs.Stops.{IsProcessStop, IsLimited};

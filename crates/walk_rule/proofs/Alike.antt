@@ -11,15 +11,15 @@ use Rattle.exact_matrices.specs.Selections.{is_among}
 use Rattle.loss_model.specs.declared.vertex.Side.{Side}
 use Rattle.loss_model.specs.declared.vertex.Side.TheVariants.{Up, Down, Basic}
 use Rattle.loss_model.specs.Sample.{Sample}
-use Rattle.basis_model.specs.Perturbed.{perturbed, zeros, side_of}
-use Rattle.basis_model.proofs.Signs.{lex_cmp-same}
-use Rattle.basis_model.specs.Basis.{IsBasis, outside_row, side_at}
+use Rattle.pivot_rule.specs.Perturbed.{perturbed, zeros, side_of}
+use Rattle.pivot_rule.proofs.Signs.{lex_cmp-same}
+use Rattle.pivot_rule.specs.Basis.{IsBasis, outside_row, side_at}
 use Rattle.pivot_rule.specs.Responses.{residual_for, response}
 use Rattle.pivot_rule.proofs.Among.{among_at, among_place}
 use Rattle.pivot_rule.proofs.Bounds.{is_basic}
 use Rattle.pivot_rule.proofs.Exchanged.{perturbed_is, residual_fit}
 use Rattle.pivot_rule.proofs.Sides.{side_basic, side_outside, fitted_for}
-use Rattle.basis_model.specs.PerturbedLoss.{perturbed_sum, perturbed_coefficient}
+use Rattle.pivot_rule.specs.PerturbedLoss.{perturbed_sum, perturbed_coefficient}
 use Rattle.walk_rule.proofs.Changes.{coefficient_for}
 use Rattle.walk_rule.proofs.Exchanges.{outside_from}
 use Rattle.walk_rule.proofs.Improved.{price, priced, sum_is, coefficient_is}

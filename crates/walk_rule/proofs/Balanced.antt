@@ -15,8 +15,8 @@ use Rattle.exact_matrices.specs.Selections.{is_among}
 use Rattle.exact_matrices.proofs.SelectionLaws.{sum_ℚ-among, sum_ℚ-split}
 use Rattle.loss_model.specs.Sample.{Sample}
 use Rattle.loss_model.specs.Vertex.{value_of_side}
-use Rattle.basis_model.specs.Perturbed.{held_coordinate}
-use Rattle.basis_model.specs.Basis.{IsBasis, coord, dual_value}
+use Rattle.pivot_rule.specs.Perturbed.{held_coordinate}
+use Rattle.pivot_rule.specs.Basis.{IsBasis, coord, dual_value}
 use Rattle.pivot_rule.proofs.Among.{among_place}
 use Rattle.pivot_rule.proofs.Bounds.{dual_is, is_basic, bound}
 use Rattle.pivot_rule.proofs.Sides.{side_basic, value_inside}

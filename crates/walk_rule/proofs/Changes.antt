@@ -14,9 +14,9 @@ use Rattle.loss_model.specs.declared.vertex.Side.{Side}
 use Rattle.loss_model.specs.declared.vertex.Side.TheVariants.{Basic}
 use Rattle.loss_model.specs.Sample.{Sample, residual}
 use Rattle.pivot_rule.specs.declared.direction.Direction.{Direction}
-use Rattle.basis_model.specs.declared.part.Part.{Part}
-use Rattle.basis_model.specs.declared.part.Part.TheVariants.{Constant, Linear}
-use Rattle.basis_model.specs.Basis.{IsBasis, coord, coefficient, side_at, bound_part, nonbasic_total}
+use Rattle.pivot_rule.specs.Part.{Part}
+use Rattle.pivot_rule.specs.Part.TheVariants.{Constant, Linear}
+use Rattle.pivot_rule.specs.Basis.{IsBasis, coord, coefficient, side_at, bound_part, nonbasic_total}
 use Rattle.pivot_rule.specs.Responses.{residual_for}
 use Rattle.pivot_rule.proofs.Among.{among_at}
 use Rattle.pivot_rule.proofs.Bounds.{is_basic}

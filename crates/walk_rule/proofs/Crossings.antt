@@ -10,8 +10,8 @@ use Rattle.loss_model.specs.Sample.{Sample, up_cost, down_cost}
 use Rattle.loss_model.specs.Vertex.{value_of_side}
 use Rattle.pivot_rule.specs.declared.direction.Direction.{Direction}
 use Rattle.pivot_rule.specs.declared.direction.Direction.TheVariants.{Upward, Downward}
-use Rattle.basis_model.specs.declared.part.Part.TheVariants.{Constant, Linear}
-use Rattle.basis_model.specs.Basis.{bound_part, basic_dual, dual_value}
+use Rattle.pivot_rule.specs.Part.TheVariants.{Constant, Linear}
+use Rattle.pivot_rule.specs.Basis.{bound_part, basic_dual, dual_value}
 use Rattle.walk_rule.specs.Families.{over_quantiles, rising_value, falling_value, slope_part}
 use Rattle.walk_rule.specs.Walks.{side_towards, slope_change, Crosses}
 use Rattle.walk_rule.proofs.Lines.{root}

@@ -13,8 +13,8 @@ use Rattle.exact_matrices.proofs.MatrixLaws.{AreInverse-same, inverse-unique}
 use Rattle.exact_matrices.specs.Exchange.{exchanged, with_row}
 use Rattle.exact_matrices.proofs.ExchangeLaws.{exchange-inverse}
 use Rattle.loss_model.specs.Sample.{Sample}
-use Rattle.basis_model.specs.Perturbed.{IsOutside}
-use Rattle.basis_model.specs.Basis.{IsBasis, coord}
+use Rattle.pivot_rule.specs.Perturbed.{IsOutside}
+use Rattle.pivot_rule.specs.Basis.{IsBasis, coord}
 use Rattle.pivot_rule.specs.Responses.{residual_for, exchanged_rows}
 use Rattle.pivot_rule.proofs.Among.{among_at, among_place}
 use Rattle.pivot_rule.proofs.Bounds.{is_basic}

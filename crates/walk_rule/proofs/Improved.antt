@@ -19,13 +19,13 @@ use Rattle.loss_model.specs.declared.vertex.Side.{Side}
 use Rattle.loss_model.specs.declared.vertex.Side.TheVariants.{Up, Down, Basic}
 use Rattle.loss_model.specs.Sample.{Sample, up_cost, down_cost}
 use Rattle.loss_model.specs.Vertex.{value_of_side}
-use Rattle.basis_model.specs.Lexicographic.{lex_cmp}
-use Rattle.basis_model.proofs.LexicographicLaws.{lex_cmp_swap}
-use Rattle.basis_model.specs.Perturbed.{perturbed, zeros, turned}
+use Rattle.pivot_rule.specs.Lexicographic.{lex_cmp}
+use Rattle.pivot_rule.proofs.LexicographicLaws.{lex_cmp_swap}
+use Rattle.pivot_rule.specs.Perturbed.{perturbed, zeros, turned}
 use Rattle.pivot_rule.specs.declared.direction.Direction.{Direction}
 use Rattle.pivot_rule.specs.declared.direction.Direction.TheVariants.{Upward, Downward}
-use Rattle.basis_model.specs.declared.part.Part.TheVariants.{Linear}
-use Rattle.basis_model.specs.Basis.{IsBasis, coord, outside_row, side_at, bound_part, nonbasic_total, basic_dual, dual_value}
+use Rattle.pivot_rule.specs.Part.TheVariants.{Linear}
+use Rattle.pivot_rule.specs.Basis.{IsBasis, coord, outside_row, side_at, bound_part, nonbasic_total, basic_dual, dual_value}
 use Rattle.pivot_rule.specs.Duals.{◌<ℚ◌}
 use Rattle.pivot_rule.specs.Steps.{slope, change}
 use Rattle.pivot_rule.specs.Responses.{residual_for, response}
@@ -35,7 +35,7 @@ use Rattle.pivot_rule.proofs.Exchanged.{perturbed_is, held_sum}
 use Rattle.pivot_rule.proofs.Sides.{side_basic}
 use Rattle.walk_rule.specs.Families.{over_quantiles, rising_value, falling_value, slope_in, slope_part}
 use Rattle.walk_rule.specs.Walks.{IsFirstMover, side_towards, AreExchanged, Crosses}
-use Rattle.basis_model.specs.PerturbedLoss.{by_side, perturbed_sum, perturbed_loss, change_list, perturbed_coefficient}
+use Rattle.pivot_rule.specs.PerturbedLoss.{by_side, perturbed_sum, perturbed_loss, change_list, perturbed_coefficient}
 use Rattle.walk_rule.proofs.Lines.{positive_neg, negative_neg, le_by}
 use Rattle.walk_rule.proofs.Lists.{cmp_by, lex_cmp-by, sign_scaled}
 use Rattle.walk_rule.proofs.Slopes.{crossing, slope_is, nothing_added}

@@ -3,10 +3,10 @@ use Rattle.std.specs.Prelude.{◌≡◌, ◌≢◌, ℕ, suc, ◌<◌, true, fal
 use Rattle.std.specs.declared.cmp.Ordering.TheVariants.{Greater}
 use Rattle.exact_algebra.specs.Rational.{ℚ, ◌*ℚ◌, neg_ℚ, inverse, whole}
 use Rattle.loss_model.specs.Sample.{Sample}
-use Rattle.basis_model.specs.Lexicographic.{lex_cmp}
-use Rattle.basis_model.specs.Perturbed.{perturbed, zeros}
+use Rattle.pivot_rule.specs.Lexicographic.{lex_cmp}
+use Rattle.pivot_rule.specs.Perturbed.{perturbed, zeros}
 use Rattle.pivot_rule.specs.declared.direction.Direction.{Direction}
-use Rattle.basis_model.specs.Basis.{IsBasis, coord, outside_row, side_at}
+use Rattle.pivot_rule.specs.Basis.{IsBasis, coord, outside_row, side_at}
 use Rattle.pivot_rule.specs.Steps.{change}
 use Rattle.pivot_rule.proofs.Bounds.{is_basic}
 use Rattle.walk_rule.specs.Walks.{IsFirstMover, side_towards, AreExchanged}

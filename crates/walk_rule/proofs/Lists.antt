@@ -10,10 +10,10 @@ use Rattle.exact_algebra.proofs.RationalLaws.{ring_ℚ, ring_by_ℚ, ≤ℚ_refl
 use Rattle.exact_algebra.proofs.Inverses.{inverse_nonzero}
 use Rattle.exact_algebra.specs.Order.{cmp_ℚ}
 use Rattle.exact_algebra.proofs.OrderLaws.{cmp_ℚ-Less, cmp_ℚ-Equal, cmp_ℚ-Greater, by_cmp, le_from_not, ≤ℚ-from_mul, inverse_not_negative}
-use Rattle.basis_model.specs.Lexicographic.{lex_cmp}
-use Rattle.basis_model.proofs.LexicographicLaws.{lex_cmp_swap, less-trans}
-use Rattle.basis_model.specs.Perturbed.{zeros}
-use Rattle.basis_model.proofs.Signs.{lex_cmp-same}
+use Rattle.pivot_rule.specs.Lexicographic.{lex_cmp}
+use Rattle.pivot_rule.proofs.LexicographicLaws.{lex_cmp_swap, less-trans}
+use Rattle.pivot_rule.specs.Perturbed.{zeros}
+use Rattle.pivot_rule.proofs.Signs.{lex_cmp-same}
 use Rattle.pivot_rule.specs.Duals.{◌<ℚ◌}
 use Rattle.walk_rule.proofs.Lines.{le_by, positive_neg}
 

@@ -17,14 +17,14 @@ use Rattle.exact_matrices.proofs.TermLaws.{if-same, if-other}
 use Rattle.loss_model.specs.declared.vertex.Side.TheVariants.{Up, Down}
 use Rattle.loss_model.specs.Sample.{Sample}
 use Rattle.loss_model.specs.Spill.{abs_ℚ}
-use Rattle.basis_model.specs.Lexicographic.{lex_cmp}
-use Rattle.basis_model.specs.Perturbed.{IsOutside, perturbed, zeros, side_of, ratio, ratio_on}
-use Rattle.basis_model.proofs.Ratios.{abs_not_negative, abs_nonzero}
-use Rattle.basis_model.proofs.Signs.{lex_cmp-same}
-use Rattle.basis_model.proofs.Ordered.{not_zero}
+use Rattle.pivot_rule.specs.Lexicographic.{lex_cmp}
+use Rattle.pivot_rule.specs.Perturbed.{IsOutside, perturbed, zeros, side_of, ratio, ratio_on}
+use Rattle.pivot_rule.proofs.Ratios.{abs_not_negative, abs_nonzero}
+use Rattle.pivot_rule.proofs.Signs.{lex_cmp-same}
+use Rattle.pivot_rule.proofs.Ordered.{not_zero}
 use Rattle.pivot_rule.specs.declared.direction.Direction.{Direction}
 use Rattle.pivot_rule.specs.declared.direction.Direction.TheVariants.{Upward, Downward}
-use Rattle.basis_model.specs.Basis.{IsBasis, coord, outside_row, side_at}
+use Rattle.pivot_rule.specs.Basis.{IsBasis, coord, outside_row, side_at}
 use Rattle.pivot_rule.specs.Duals.{◌<ℚ◌}
 use Rattle.pivot_rule.specs.Steps.{is_towards, change, moves, is_before}
 use Rattle.pivot_rule.specs.Responses.{residual_for, response}

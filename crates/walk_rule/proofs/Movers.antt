@@ -11,7 +11,7 @@ use Rattle.exact_algebra.proofs.RationalSumLaws.{sum_ℚ-same, sum_ℚ-zero}
 use Rattle.exact_algebra.proofs.OrderLaws.{cmp_ℚ-Less}
 use Rattle.loss_model.specs.Sample.{Sample}
 use Rattle.pivot_rule.specs.declared.direction.Direction.{Direction}
-use Rattle.basis_model.specs.Basis.{IsBasis}
+use Rattle.pivot_rule.specs.Basis.{IsBasis}
 use Rattle.pivot_rule.specs.Duals.{HasCosts, ◌<ℚ◌}
 use Rattle.pivot_rule.specs.Steps.{slope, moves, is_before, passing}
 use Rattle.pivot_rule.proofs.Entering.{enough}

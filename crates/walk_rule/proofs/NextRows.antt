@@ -14,9 +14,9 @@ use Rattle.exact_matrices.specs.Selections.{AreDistinct}
 use Rattle.exact_matrices.specs.Exchange.{exchanged, with_row}
 use Rattle.exact_matrices.proofs.ExchangeLaws.{exchange-inverse}
 use Rattle.loss_model.specs.Sample.{Sample}
-use Rattle.basis_model.specs.Perturbed.{IsOutside}
+use Rattle.pivot_rule.specs.Perturbed.{IsOutside}
 use Rattle.pivot_rule.specs.declared.direction.Direction.{Direction}
-use Rattle.basis_model.specs.Basis.{IsBasis}
+use Rattle.pivot_rule.specs.Basis.{IsBasis}
 use Rattle.pivot_rule.specs.Trails.{EndsAt}
 use Rattle.pivot_rule.proofs.Passing.{mover_some, is_outside}
 use Rattle.pivot_rule.specs.Steps.{moves}

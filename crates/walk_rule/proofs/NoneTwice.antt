@@ -10,15 +10,15 @@ use Rattle.exact_matrices.specs.Selections.{is_among}
 use Rattle.exact_matrices.specs.Exchange.{exchanged}
 use Rattle.loss_model.specs.declared.process.Exchange.{Exchange}
 use Rattle.loss_model.specs.Sample.{Sample}
-use Rattle.basis_model.specs.Lexicographic.{lex_cmp}
-use Rattle.basis_model.proofs.LexicographicLaws.{lex_cmp-Equal, less-trans}
-use Rattle.basis_model.specs.Basis.{IsBasis}
+use Rattle.pivot_rule.specs.Lexicographic.{lex_cmp}
+use Rattle.pivot_rule.proofs.LexicographicLaws.{lex_cmp-Equal, less-trans}
+use Rattle.pivot_rule.specs.Basis.{IsBasis}
 use Rattle.pivot_rule.specs.Trails.{EndsAt, basis_after}
 use Rattle.pivot_rule.proofs.Unique.{same_inverse}
 use Rattle.walk_rule.specs.Families.{Family, over_quantiles, rising_value, falling_value}
 use Rattle.walk_rule.specs.Walks.{AreExchanged, IsWalkingStep}
 use Rattle.walk_rule.specs.WalkTrails.{AreWalkingSteps}
-use Rattle.basis_model.specs.PerturbedLoss.{change_list, perturbed_coefficient}
+use Rattle.pivot_rule.specs.PerturbedLoss.{change_list, perturbed_coefficient}
 use Rattle.walk_rule.proofs.Lists.{cmp_by, lex_cmp-by}
 use Rattle.walk_rule.proofs.Improved.{change_falls, coefficient_moves}
 use Rattle.walk_rule.proofs.Alike.{sum_same, coefficient_same}

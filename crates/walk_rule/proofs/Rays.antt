@@ -22,11 +22,11 @@ use Rattle.loss_model.specs.declared.vertex.Side.TheVariants.{Up, Down, Basic}
 use Rattle.loss_model.specs.Sample.{Sample, up_cost, down_cost, fitted}
 use Rattle.loss_model.specs.Complements.{IsComplementary, residual_change}
 use Rattle.loss_model.specs.Vertex.{value_of_side}
-use Rattle.basis_model.specs.Perturbed.{side_of}
+use Rattle.pivot_rule.specs.Perturbed.{side_of}
 use Rattle.pivot_rule.specs.declared.direction.Direction.{Direction}
 use Rattle.pivot_rule.specs.declared.direction.Direction.TheVariants.{Upward, Downward}
-use Rattle.basis_model.specs.declared.part.Part.TheVariants.{Linear}
-use Rattle.basis_model.specs.Basis.{IsBasis, coord, side_at}
+use Rattle.pivot_rule.specs.Part.TheVariants.{Linear}
+use Rattle.pivot_rule.specs.Basis.{IsBasis, coord, side_at}
 use Rattle.pivot_rule.specs.Duals.{◌<ℚ◌}
 use Rattle.pivot_rule.specs.Steps.{is_towards, change, moves}
 use Rattle.pivot_rule.proofs.Among.{among_place}

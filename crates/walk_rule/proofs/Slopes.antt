@@ -8,11 +8,11 @@ use Rattle.exact_algebra.proofs.RationalSumLaws.{sum_ℚ-same, sum_ℚ-zero}
 use Rattle.exact_matrices.specs.Matrices.{coordinate}
 use Rattle.loss_model.specs.Sample.{Sample, up_cost, down_cost}
 use Rattle.loss_model.specs.Vertex.{value_of_side}
-use Rattle.basis_model.specs.Perturbed.{held_coordinate}
+use Rattle.pivot_rule.specs.Perturbed.{held_coordinate}
 use Rattle.pivot_rule.specs.declared.direction.Direction.{Direction}
 use Rattle.pivot_rule.specs.declared.direction.Direction.TheVariants.{Upward, Downward}
-use Rattle.basis_model.specs.declared.part.Part.TheVariants.{Constant, Linear}
-use Rattle.basis_model.specs.Basis.{side_at, basic_dual, dual_value}
+use Rattle.pivot_rule.specs.Part.TheVariants.{Constant, Linear}
+use Rattle.pivot_rule.specs.Basis.{side_at, basic_dual, dual_value}
 use Rattle.pivot_rule.specs.Duals.{HasCosts, dual, ◌<ℚ◌}
 use Rattle.pivot_rule.specs.Steps.{slope}
 use Rattle.walk_rule.specs.Families.{Parameter, by_quantile, by_weight, theta_at, part_of, Family, over_quantiles, basic_at, dual_in, slope_in, value_part, slope_part, IsOptimalIn}

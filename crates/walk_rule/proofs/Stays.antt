@@ -13,7 +13,7 @@ use Rattle.loss_model.specs.Complements.{IsComplementary}
 use Rattle.loss_model.specs.Vertex.{value_of_side, IsOn}
 use Rattle.pivot_rule.specs.declared.direction.Direction.{Direction}
 use Rattle.pivot_rule.specs.declared.direction.Direction.TheVariants.{Upward, Downward}
-use Rattle.basis_model.specs.Basis.{IsBasis, coefficient, side_at}
+use Rattle.pivot_rule.specs.Basis.{IsBasis, coefficient, side_at}
 use Rattle.pivot_rule.specs.Duals.{HasCosts, ◌<ℚ◌}
 use Rattle.pivot_rule.proofs.Among.{among_at}
 use Rattle.pivot_rule.proofs.Bounds.{is_basic, bound}

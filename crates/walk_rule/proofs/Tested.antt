@@ -12,7 +12,7 @@ use Rattle.exact_matrices.proofs.MatrixLaws.{coordinate-delta}
 use Rattle.loss_model.specs.Sample.{Sample, up_cost, down_cost}
 use Rattle.pivot_rule.specs.declared.direction.Direction.{Direction}
 use Rattle.pivot_rule.specs.declared.direction.Direction.TheVariants.{Upward, Downward}
-use Rattle.basis_model.specs.Basis.{dual_value}
+use Rattle.pivot_rule.specs.Basis.{dual_value}
 use Rattle.pivot_rule.specs.Steps.{slope}
 use Rattle.walk_rule.specs.Families.{by_weight, Family, rising_value, falling_value, IsFeasibleIn, basic_at, slope_in}
 use Rattle.walk_rule.specs.TestedLaws.{WeighAlone}

@@ -20,7 +20,7 @@ use Rattle.loss_model.specs.Problem.{value_at, sample}
 use Rattle.loss_model.specs.Segment.{Covers, dual_at, segments_of}
 use Rattle.loss_model.specs.Vertex.{dual_value}
 use Rattle.pivot_rule.specs.declared.direction.Direction.{Direction}
-use Rattle.basis_model.specs.Basis.{IsBasis}
+use Rattle.pivot_rule.specs.Basis.{IsBasis}
 use Rattle.pivot_rule.specs.Duals.{HasCosts, ◌<ℚ◌}
 use Rattle.pivot_rule.specs.Steps.{HasNoNegativeSlope}
 use Rattle.pivot_rule.specs.Results.{IsVertexAt, AreBasicDuals}

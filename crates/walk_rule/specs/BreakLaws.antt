@@ -1,7 +1,7 @@
 -- Law. Between breakpoints: where the next one is, and that an optimal basis stays optimal up to it.
 use Rattle.std.specs.Prelude.{◌≡◌, ◌≢◌, ◌⊎◌, ℕ, ◌<◌, pos}
 use Rattle.exact_algebra.specs.Rational.{ℚ, whole, ◌≤ℚ◌}
-use Rattle.basis_model.specs.declared.part.Part.TheVariants.{Linear}
+use Rattle.pivot_rule.specs.Part.TheVariants.{Linear}
 use Rattle.pivot_rule.specs.declared.direction.Direction.{Direction}
 use Rattle.pivot_rule.specs.Duals.{◌<ℚ◌}
 use Rattle.walk_rule.specs.Families.{Family, slope_part, IsOptimalIn}

@@ -7,7 +7,7 @@ use Rattle.loss_model.specs.declared.process.Exchange.{Exchange}
 use Rattle.loss_model.specs.declared.process.Segment.{Segment}
 use Rattle.loss_model.specs.Problem.{sample}
 use Rattle.loss_model.specs.Segment.{Covers, segments_of}
-use Rattle.basis_model.specs.Basis.{IsBasis}
+use Rattle.pivot_rule.specs.Basis.{IsBasis}
 use Rattle.pivot_rule.specs.Duals.{HasCosts, ◌<ℚ◌}
 use Rattle.pivot_rule.specs.Steps.{HasNoNegativeSlope}
 use Rattle.pivot_rule.specs.Trails.{EndsAt, IsOptimalBasis}

@@ -12,12 +12,12 @@ use Rattle.exact_matrices.specs.Terms.{delta}
 use Rattle.exact_matrices.specs.Matrices.{coordinate}
 use Rattle.loss_model.specs.Sample.{Sample, up_cost, down_cost}
 use Rattle.loss_model.specs.Vertex.{value_of_side}
-use Rattle.basis_model.specs.Perturbed.{held_coordinate}
+use Rattle.pivot_rule.specs.Perturbed.{held_coordinate}
 use Rattle.pivot_rule.specs.declared.direction.Direction.{Direction}
 use Rattle.pivot_rule.specs.declared.direction.Direction.TheVariants.{Upward, Downward}
-use Rattle.basis_model.specs.declared.part.Part.{Part}
-use Rattle.basis_model.specs.declared.part.Part.TheVariants.{Constant, Linear}
-use Rattle.basis_model.specs.Basis.{side_at, basic_dual, dual_value}
+use Rattle.pivot_rule.specs.Part.{Part}
+use Rattle.pivot_rule.specs.Part.TheVariants.{Constant, Linear}
+use Rattle.pivot_rule.specs.Basis.{side_at, basic_dual, dual_value}
 
 -- what the parameter is: the quantile, or what a column is to weigh at the quantile tau
 pub data Parameter : Type 0 where

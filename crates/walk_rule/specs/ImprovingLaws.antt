@@ -7,9 +7,9 @@ use Rattle.exact_algebra.specs.Rational.{ℚ}
 use Rattle.exact_matrices.specs.Selections.{is_among}
 use Rattle.loss_model.specs.declared.process.Exchange.{Exchange}
 use Rattle.loss_model.specs.Sample.{Sample}
-use Rattle.basis_model.specs.Lexicographic.{lex_cmp}
-use Rattle.basis_model.specs.Basis.{IsBasis}
-use Rattle.basis_model.specs.PerturbedLoss.{perturbed_loss, change_list, perturbed_coefficient}
+use Rattle.pivot_rule.specs.Lexicographic.{lex_cmp}
+use Rattle.pivot_rule.specs.Basis.{IsBasis}
+use Rattle.pivot_rule.specs.PerturbedLoss.{perturbed_loss, change_list, perturbed_coefficient}
 use Rattle.pivot_rule.specs.declared.direction.Direction.{Direction}
 use Rattle.pivot_rule.specs.Trails.{EndsAt, basis_after}
 use Rattle.walk_rule.specs.Families.{Family, over_quantiles, rising_value, falling_value}

@@ -5,8 +5,8 @@ use Rattle.exact_algebra.specs.Rational.{ℚ, ◌+ℚ◌, ◌-ℚ◌, ◌*ℚ◌
 use Rattle.exact_matrices.specs.Exchange.{exchanged}
 use Rattle.loss_model.specs.Sample.{Sample, residual}
 use Rattle.loss_model.specs.Complements.{IsComplementary}
-use Rattle.basis_model.specs.declared.part.Part.{Part}
-use Rattle.basis_model.specs.Basis.{IsBasis, coord, coefficient, bound_part, nonbasic_total, side_at}
+use Rattle.pivot_rule.specs.Part.{Part}
+use Rattle.pivot_rule.specs.Basis.{IsBasis, coord, coefficient, bound_part, nonbasic_total, side_at}
 use Rattle.pivot_rule.specs.declared.direction.Direction.{Direction}
 use Rattle.pivot_rule.specs.Duals.{HasCosts}
 use Rattle.pivot_rule.specs.Trails.{EndsAt}

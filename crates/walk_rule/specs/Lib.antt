@@ -13,3 +13,16 @@ pub mod TrailLaws
 pub mod CoverLaws
 pub mod TestedLaws
 pub mod ImprovingLaws
+pub use Rattle.pivot_rule.specs.Basis
+pub use Rattle.pivot_rule.specs.Duals
+pub use Rattle.pivot_rule.specs.Lexicographic
+pub use Rattle.pivot_rule.specs.Part
+pub use Rattle.pivot_rule.specs.Perturbed
+pub use Rattle.pivot_rule.specs.Steps
+pub use Rattle.pivot_rule.specs.declared.direction.Direction
+pub use Rattle.pivot_rule.specs.Results
+pub use Rattle.pivot_rule.specs.Spills
+pub use Rattle.pivot_rule.specs.Trails
+pub use Rattle.exact_matrices.specs.Matrices
+pub use Rattle.exact_matrices.specs.Selections
+pub use Rattle.exact_matrices.specs.Terms

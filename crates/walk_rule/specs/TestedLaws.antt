@@ -4,7 +4,7 @@ use Rattle.exact_algebra.specs.Rational.{ℚ, ◌+ℚ◌, ◌*ℚ◌, neg_ℚ, w
 use Rattle.exact_algebra.specs.RationalSums.{sum_ℚ}
 use Rattle.loss_model.specs.Sample.{Sample}
 use Rattle.loss_model.specs.Complements.{IsComplementary, residual_change}
-use Rattle.basis_model.specs.Basis.{IsBasis, dual_value}
+use Rattle.pivot_rule.specs.Basis.{IsBasis, dual_value}
 use Rattle.pivot_rule.specs.declared.direction.Direction.{Direction}
 use Rattle.pivot_rule.specs.Steps.{slope, moves}
 use Rattle.walk_rule.specs.Families.{Family, rising_value, falling_value, IsFeasibleIn, basic_at, dual_in, slope_in, IsOptimalIn}

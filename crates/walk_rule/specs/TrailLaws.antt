@@ -5,7 +5,7 @@ use Rattle.exact_algebra.specs.Rational.{ℚ}
 use Rattle.loss_model.specs.declared.process.Exchange.{Exchange}
 use Rattle.loss_model.specs.declared.process.Trail.{Trail}
 use Rattle.loss_model.specs.Sample.{Sample}
-use Rattle.basis_model.specs.Basis.{IsBasis}
+use Rattle.pivot_rule.specs.Basis.{IsBasis}
 use Rattle.pivot_rule.specs.Duals.{HasCosts}
 use Rattle.pivot_rule.specs.Trails.{EndsAt, AtBasis, basis_after}
 use Rattle.walk_rule.specs.Families.{Family, over_quantiles, theta_of}

@@ -6,7 +6,7 @@ use Rattle.loss_model.specs.declared.problem.Problem.{Problem}
 use Rattle.loss_model.specs.declared.process.Exchange.{Exchange}
 use Rattle.loss_model.specs.declared.process.Segment.{Segment}
 use Rattle.loss_model.specs.Problem.{sample}
-use Rattle.basis_model.specs.Basis.{IsBasis}
+use Rattle.pivot_rule.specs.Basis.{IsBasis}
 use Rattle.pivot_rule.specs.Trails.{EndsAt, basis_after}
 use Rattle.walk_rule.specs.Families.{over_quantiles, IsOptimalIn}
 use Rattle.walk_rule.specs.WalkTrails.{theta_value, AreWalkingSteps, value_after, is_below}

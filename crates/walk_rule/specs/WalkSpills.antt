@@ -11,10 +11,10 @@ use Rattle.loss_model.specs.Sample.{Sample}
 use Rattle.loss_model.specs.Spill.{IsOperation, IsTermSpill, IsSpillOf, IsSideCostSpill, site_of, loss_products}
 use Rattle.loss_model.specs.Quantities.{IsEntrySpill}
 use Rattle.loss_model.specs.Vertex.{value_of_side}
-use Rattle.basis_model.specs.RatioSpill.{IsRatioEntrySpill, IsRatioSpill}
-use Rattle.basis_model.specs.declared.part.Part.TheVariants.{Constant, Linear}
-use Rattle.basis_model.specs.Basis.{bound_part, outside_row, coefficient, basic_dual, dual_value}
-use Rattle.basis_model.specs.BasisSpills.{IsDualValueSpill, IsBasisSpill}
+use Rattle.pivot_rule.specs.RatioSpill.{IsRatioEntrySpill, IsRatioSpill}
+use Rattle.pivot_rule.specs.Part.TheVariants.{Constant, Linear}
+use Rattle.pivot_rule.specs.Basis.{bound_part, outside_row, coefficient, basic_dual, dual_value}
+use Rattle.pivot_rule.specs.BasisSpills.{IsDualValueSpill, IsBasisSpill}
 use Rattle.pivot_rule.specs.declared.direction.Direction.{Direction}
 use Rattle.pivot_rule.specs.Duals.{◌<ℚ◌}
 use Rattle.pivot_rule.specs.Spills.{direction_number, IsCostSpill}

@@ -15,3 +15,4 @@ mod solving;
 
 pub use quantile::Quantile;
 pub use solving::solving_step;
+pub use whole_steps::{Quotient, Station, fraction_of};
