@@ -1,13 +1,12 @@
 -- The first of the rows that move, row by row.
-use Rattle.std.specs.Prelude.{◌≡◌, ◌≢◌, ◌⊎◌, ℕ, ◌+◌, ◌<◌, ◌≤◌, Bool, true, false, ◌==◌, length, Option, Some, None}
+use Rattle.std.specs.Prelude.{◌≡◌, ◌≢◌, ◌⊎◌, ℕ, ◌+◌, ◌<◌, Bool, true, false, ◌==◌, length, Option, Some, None}
 use Rattle.std.proofs.Common.{arith, refl, sym, ap, subst, ◌∙◌, inl, inr}
 use borrow.Author.Tests.{eqb-true, eqb-false}
-use Rattle.pivot_rule.specs.Steps.{moves, is_before}
 use Rattle.pivot_rule.proofs.Passing.{mover_order, before_trans}
 use Rattle.walk_rule.specs.Walks.{IsFirstMover}
 use Rattle.whole_ratio.specs.declared.line.Line.{Line}
 use Rattle.whole_ratio.specs.declared.line.Mover.{Mover}
-use Rattle.whole_ratio.specs.Lines.{model, at_of, inverse_at, IsLine, IsMover, IsMoverAt, IsEarlierMover, IsFirstMoverBelow, IsFirstBelow, is_moving, comes_before}
+use Rattle.whole_ratio.specs.Lines.{model, at_of, inverse_at, IsLine, IsMover, IsEarlierMover, IsFirstMoverBelow, IsFirstBelow, is_moving, comes_before}
 
 no : true ≡ false → ⊥
 no h = cc

@@ -1,5 +1,6 @@
 pub mod Signs
 pub mod Movers
 pub mod Ties
+pub mod Leading
 pub mod FirstLaws
 pub mod Passed

@@ -1,29 +1,28 @@
 -- Rows that move, by their numerators.
-use Rattle.std.specs.Prelude.{◌≡◌, ◌≢◌, ℕ, ℤ, ◌<◌, ◌≤◌, ◌≤ℤ◌, unsigned_abs, Bool, true, false, [], ◌∷◌, length, get_or, pos}
-use Rattle.std.proofs.Common.{arith, refl, sym, ap, ap₂, subst, ◌∙◌}
+use Rattle.std.specs.Prelude.{◌≡◌, ◌≢◌, ℕ, ℤ, ◌<◌, ◌≤◌, ◌≤ℤ◌, unsigned_abs, true, [], ◌∷◌, length, get_or, pos}
+use Rattle.std.proofs.Common.{arith, refl, sym, ap, ap₂, ◌∙◌}
 use Rattle.std.proofs.lemmas.Int.{ints}
 use Rattle.exact_algebra.specs.Solver.{negated, ◌⊠◌, v0, v1}
-use Rattle.exact_algebra.specs.Rational.{ℚ, ◌*ℚ◌, neg_ℚ, inverse, whole}
+use Rattle.exact_algebra.specs.Rational.{ℚ, ◌*ℚ◌, inverse, whole}
 use Rattle.exact_algebra.proofs.RationalLaws.{ring_ℚ}
 use Rattle.loss_model.specs.declared.vertex.Side.{Side}
 use Rattle.loss_model.specs.declared.vertex.Side.TheVariants.{Up, Down, Basic}
 use Rattle.loss_model.specs.Sample.{Sample, residual}
 use Rattle.loss_model.specs.Spill.{abs_ℚ}
-use Rattle.basis_model.specs.Perturbed.{Nonbasic, turned, side_of, perturbed_side, ratio}
+use Rattle.basis_model.specs.Perturbed.{turned, side_of, perturbed_side}
 use Rattle.basis_model.proofs.Signs.{side-residual}
 use Rattle.basis_model.specs.Basis.{coord, coefficient, outside_row, side_at}
 use Rattle.exact_algebra.specs.Order.{cmp_ℚ}
 use Rattle.pivot_rule.specs.declared.direction.Direction.{Direction}
 use Rattle.pivot_rule.specs.declared.direction.Direction.TheVariants.{Upward, Downward}
-use Rattle.pivot_rule.specs.Steps.{is_towards, change, moves}
+use Rattle.pivot_rule.specs.Steps.{is_towards, change}
 use Rattle.pivot_rule.proofs.Passing.{mover_some}
-use Rattle.whole_inverse.specs.Shares.{share, share_at}
+use Rattle.whole_inverse.specs.Shares.{share}
 use Rattle.whole_inverse.proofs.Lists.{share_read}
 use Rattle.whole_inverse.proofs.Turned.{share-quotient}
 use Rattle.whole_solution.proofs.Numbers.{share_none, share_some}
 use Rattle.whole_solution.proofs.Reading.{side_read}
 use Rattle.whole_ratio.specs.declared.line.Line.{Line}
-use Rattle.whole_ratio.specs.declared.line.Mover.{Mover}
 use Rattle.whole_ratio.specs.Lines.{turned_by, model, at_of, inverse_at, over_of, IsLine, IsMover, is_moving}
 use Rattle.whole_ratio.proofs.Signs.{abs_share, turned_share}
 

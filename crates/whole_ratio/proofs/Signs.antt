@@ -1,17 +1,16 @@
 -- Signs and sizes of shares.
-use Rattle.std.specs.Prelude.{◌≡◌, ◌≢◌, ◌⊎◌, ℕ, zero, suc, ℤ, ◌<◌, ◌≤◌, ◌<ℤ◌, ◌≤ℤ◌, ◌*◌, ◌*ℤ◌, neg_ℤ, unsigned_abs, Bool, true, false, [], ◌∷◌, pos, negsuc}
+use Rattle.std.specs.Prelude.{◌≡◌, ◌≢◌, ℕ, zero, suc, ℤ, ◌≤◌, ◌<ℤ◌, ◌≤ℤ◌, ◌*◌, ◌*ℤ◌, neg_ℤ, unsigned_abs, true, false, [], ◌∷◌, pos, negsuc}
 use Rattle.std.specs.Ordering.{is_lt, is_gt, nat_cmp, int_cmp, ordering_reverse}
 use Rattle.std.specs.declared.cmp.Ordering.{Ordering}
 use Rattle.std.specs.declared.cmp.Ordering.TheVariants.{Less, Equal, Greater}
 use Rattle.std.proofs.Common.{refl, sym, ap, ap₂, subst, ◌∙◌, arith}
 use Rattle.std.proofs.lemmas.Int.{ints}
-use Rattle.exact_algebra.specs.Solver.{number, negated, ◌⊠◌, v0, v1}
-use Rattle.exact_algebra.specs.Rational.{ℚ, ◌*ℚ◌, neg_ℚ, whole, inverse, quotient, ◌≤ℚ◌}
+use Rattle.exact_algebra.specs.Solver.{number, negated, v0}
+use Rattle.exact_algebra.specs.Rational.{ℚ, neg_ℚ, whole, ◌≤ℚ◌}
 use Rattle.exact_algebra.proofs.RationalLaws.{ring_ℚ}
 use Rattle.exact_algebra.specs.Order.{cmp_ℚ}
 use Rattle.exact_algebra.proofs.OrderLaws.{by_cmp, cmp_ℚ-Less, cmp_ℚ-Equal, cmp_ℚ-Greater, cmp_ℚ-not_Less, cmp_ℚ-not_Greater, cmp_ℚ-quotient, ≤ℚ_neg}
 use Rattle.loss_model.specs.declared.vertex.Side.{Side}
-use Rattle.loss_model.specs.declared.vertex.Side.TheVariants.{Up, Down, Basic}
 use Rattle.loss_model.specs.Spill.{abs_ℚ}
 use Rattle.basis_model.specs.Perturbed.{turned, side_of}
 use Rattle.basis_model.proofs.Ratios.{turned-zero}

@@ -1,5 +1,5 @@
 -- Inner. The line along which a position leaves a basis of rows in whole numbers, and the rows that move on it.
-use Rattle.std.specs.Prelude.{◌≡◌, ◌≢◌, ◌⊎◌, ℕ, ℤ, ◌<◌, ◌≤◌, Bool, true, false, List, length, slice_index, Option, Some, None, pos}
+use Rattle.std.specs.Prelude.{◌≡◌, ◌≢◌, ◌⊎◌, ℕ, ℤ, ◌<◌, ◌≤◌, Bool, true, false, length, slice_index, Option, Some, None, pos}
 use Rattle.exact_algebra.specs.Fraction.{Fraction, rational}
 use Rattle.exact_algebra.specs.Rational.{ℚ, neg_ℚ}
 use Rattle.loss_model.specs.Sample.{Sample, residual}

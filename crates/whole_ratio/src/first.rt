@@ -30,7 +30,7 @@ impl<'a> Line<'a> {
         }
     }
 
-    /// Whether a row doesn't move, or comes after a mover. Of numbers beyond 64 bits it isn't said.
+    /// Whether a row doesn't move, or surely comes after a mover. Of ratios whose leading bits agree it isn't said.
     fn comes_after(&self, first: &Mover, row: u32) -> bool
         requires line { IsLine self.now }
         requires first { IsMover self.now first.now }
@@ -43,7 +43,13 @@ impl<'a> Line<'a> {
         let coord = coords[row as usize];
         let moves = goes_towards(sides[row as usize], self.direction, coord);
         let residual = residuals[row as usize].unsigned_abs();
-        let later = is_surely_less(first.residual, first.coord, residual, coord.unsigned_abs());
+        let size = coord.unsigned_abs();
+        let here = Mover {
+            row,
+            residual,
+            coord: size,
+        };
+        let later = is_surely_less(*first, here);
         !moves | later
     }
 

@@ -1,5 +1,5 @@
 pub mod Numbers
-pub mod NarrowSums
+pub mod HalfSums
 pub mod Made
 pub mod Reading
 pub mod ShareProducts

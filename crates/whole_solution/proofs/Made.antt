@@ -1,23 +1,18 @@
 -- The side of a row by numerators.
-use Rattle.std.specs.Prelude.{◌≡◌, ◌≢◌, ℕ, ℤ, true, false, ◌<◌, ◌≤◌, ◌≤ℤ◌, List, length, slice_get, Option, Some, pos, ◌==◌, if◌then◌else◌}
-use Rattle.std.specs.Option.{option_map_or}
-use Rattle.std.proofs.Common.{refl, sym, ap, ap₂, subst, ◌∙◌, get_or, arith}
-use Rattle.std.proofs.lemmas.Option.{slice_get_read}
-use Rattle.exact_algebra.specs.Rational.{ℚ, ◌-ℚ◌, ◌*ℚ◌, neg_ℚ, whole}
-use Rattle.exact_algebra.specs.RationalSums.{sum_ℚ}
+use Rattle.std.specs.Prelude.{◌≡◌, ◌≢◌, ℕ, ℤ, true, false, ◌<◌, ◌≤ℤ◌, List, length, pos, if◌then◌else◌}
+use Rattle.std.proofs.Common.{refl, sym, ap, ◌∙◌, get_or}
+use Rattle.exact_algebra.specs.Rational.{ℚ, ◌*ℚ◌, neg_ℚ, whole}
 use Rattle.exact_algebra.proofs.RationalSumLaws.{sum_ℚ-same}
 use Rattle.exact_algebra.specs.Order.{cmp_ℚ}
 use Rattle.exact_matrices.specs.Matrices.{coordinate}
 use Rattle.exact_matrices.specs.Selections.{is_among}
 use Rattle.pivot_rule.proofs.Among.{among_at}
-use Rattle.exact_matrices.proofs.SelectionLaws.{not_among}
-use Rattle.loss_model.specs.declared.vertex.Side.{Side}
-use Rattle.loss_model.specs.declared.vertex.Side.TheVariants.{Up, Down, Basic}
+use Rattle.loss_model.specs.declared.vertex.Side.TheVariants.{Up, Basic}
 use Rattle.loss_model.specs.Sample.{Sample, residual}
-use Rattle.basis_model.specs.Perturbed.{Nonbasic, IsOutside, perturbed_side, side_of}
+use Rattle.basis_model.specs.Perturbed.{IsOutside, perturbed_side, side_of}
 use Rattle.basis_model.proofs.Signs.{side-residual, perturbed_side-same}
 use Rattle.basis_model.specs.Basis.{coefficient, coord, outside_row, side_at}
-use Rattle.lex_rule.specs.Scan.{AreZeroAt, AreZeroBetween, IsNextAt}
+use Rattle.lex_rule.specs.Scan.{AreZeroBetween, IsNextAt}
 use Rattle.whole_inverse.specs.Shares.{share, share_at, whole_at}
 use Rattle.whole_rows.specs.declared.rows.WholeRow.{WholeRow}
 use Rattle.whole_rows.specs.Wholes.{of_whole, sample_of_rows}

@@ -1,5 +1,5 @@
 -- Totals as rows change sides one after the other.
-use Rattle.std.specs.Prelude.{◌≡◌, ℕ, ◌+◌, ◌<◌, ℤ, List, [], ◌∷◌, length, pos, ◌+ℤ◌, ◌*ℤ◌, neg_ℤ}
+use Rattle.std.specs.Prelude.{◌≡◌, ℕ, ◌+◌, ◌<◌, ℤ, [], ◌∷◌, length, pos, ◌+ℤ◌, ◌*ℤ◌, neg_ℤ}
 use Rattle.std.proofs.Common.{arith, refl, sym, ap, ap₂, subst, ◌∙◌}
 use Rattle.exact_algebra.specs.Solver.{number, negated, ◌⊞◌, ◌⊟◌, ◌⊠◌, v0, v1, v2, v3, v4, v5}
 use Rattle.exact_algebra.specs.Rational.{ℚ, ◌+ℚ◌, ◌-ℚ◌, ◌*ℚ◌, neg_ℚ, whole}
@@ -16,7 +16,7 @@ use Rattle.whole_inverse.specs.Shares.{whole_at}
 use Rattle.whole_rows.specs.declared.rows.WholeRow.{WholeRow}
 use Rattle.whole_solution.specs.declared.totals.Totals.{Totals}
 use Rattle.whole_solution.specs.declared.totals.Weights.{Weights}
-use Rattle.whole_solution.specs.Weighing.{bound_of, weighed, AreTotals, AreWeights, AreRaised, AreTurned}
+use Rattle.whole_solution.specs.Weighing.{bound_of, weighed, AreTotals, AreRaised, AreTurned}
 
 -- a whole number raised by a product, in ℚ
 pub raised_whole : (n t w x : ℤ) → n ≡ t +ℤ (w *ℤ x) → whole n ≡ whole t +ℚ (whole x *ℚ whole w)

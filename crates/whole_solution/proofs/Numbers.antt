@@ -1,5 +1,5 @@
 -- Numerators and the values that they stand for.
-use Rattle.std.specs.Prelude.{◌≡◌, ◌≢◌, ◌↔◌, ◌⊎◌, ℕ, ℤ, ◌<◌, ◌≤◌, ◌<ℤ◌, ◌≤ℤ◌, ◌+ℤ◌, ◌*ℤ◌, neg_ℤ, List, length, slice_get, Option, Some, None, [], ◌∷◌, pos}
+use Rattle.std.specs.Prelude.{◌≡◌, ◌≢◌, ◌↔◌, ℕ, ℤ, ◌<◌, ◌<ℤ◌, ◌≤ℤ◌, ◌+ℤ◌, ◌*ℤ◌, neg_ℤ, List, length, slice_get, Option, Some, None, [], ◌∷◌, pos}
 use Rattle.std.specs.Option.{option_map_or}
 use Rattle.std.specs.declared.cmp.Ordering.TheVariants.{Less, Equal, Greater}
 use Rattle.std.specs.declared.cmp.Ordering.{Ordering}
@@ -12,7 +12,6 @@ use Rattle.exact_algebra.proofs.RationalLaws.{whole-add, whole-mul, *ℚ-inverse
 use Rattle.exact_algebra.specs.Order.{cmp_ℚ}
 use Rattle.exact_algebra.proofs.OrderLaws.{cmp_ℚ-Greater, cmp_ℚ-not_Greater, ≤ℚ-from_mul}
 use Rattle.exact_algebra.proofs.WholeNumbers.{same_from_whole, le_from_whole, whole-le, whole-neg}
-use Rattle.loss_model.specs.declared.vertex.Side.{Side}
 use Rattle.loss_model.specs.declared.vertex.Side.TheVariants.{Up, Down}
 use Rattle.basis_model.specs.Perturbed.{side_of}
 use Rattle.lex_rule.specs.Scan.{AreZeroAt}

@@ -1,6 +1,6 @@
 -- What all rows weigh, and what balances it.
-use Rattle.std.specs.Prelude.{◌≡◌, ℕ, ◌<◌, List, length}
-use Rattle.std.proofs.Common.{arith, refl, sym, ap, ◌∙◌}
+use Rattle.std.specs.Prelude.{◌≡◌, ℕ, ◌<◌}
+use Rattle.std.proofs.Common.{ap, ◌∙◌}
 use Rattle.exact_algebra.specs.Rational.{ℚ, ◌-ℚ◌, ◌*ℚ◌, neg_ℚ}
 use Rattle.exact_algebra.proofs.RationalSumLaws.{sum_ℚ-same}
 use Rattle.loss_model.specs.declared.vertex.Side.{Side}

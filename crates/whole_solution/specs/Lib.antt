@@ -1,3 +1,4 @@
 pub mod Outside
+pub mod Halving
 pub mod Weighing
 pub mod Standing

@@ -8,7 +8,7 @@ use Rattle.loss_model.specs.Sample.{Sample, residual}
 use Rattle.basis_model.specs.declared.part.Part.TheVariants.{Constant, Linear}
 use Rattle.basis_model.specs.Basis.{coefficient, side_at, basic_dual}
 use Rattle.whole_inverse.specs.Shares.{share_at}
-use Rattle.whole_inverse.specs.Squares.{WholeSquare, IsWholeSquare, inverse_of}
+use Rattle.whole_inverse.specs.Squares.{IsWholeSquare}
 use Rattle.whole_solution.specs.declared.basis.WholeBasis.{WholeBasis}
 use Rattle.whole_solution.specs.declared.solution.WholeSolution.{WholeSolution}
 use Rattle.whole_solution.specs.Weighing.{AreWeights}

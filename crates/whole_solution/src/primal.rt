@@ -1,5 +1,5 @@
 //! The numerators of the coefficients at a basis, and of the residuals of all rows.
-ghost use Rattle.std.specs.Prelude.{◌≡◌, ℕ, ℤ, ◌<◌, ◌≤◌, ◌≤ℤ◌, ◌*ℤ◌, All, length, slice_index, unsigned_abs, IfOk, IfSome, pos};
+ghost use Rattle.std.specs.Prelude.{◌≡◌, ℕ, ℤ, ◌*◌, ◌^◌, ◌<◌, ◌≤◌, ◌≤ℤ◌, ◌*ℤ◌, All, length, slice_index, unsigned_abs, IfOk, IfSome, pos};
 ghost use Rattle.exact_algebra.specs.Rational.{◌-ℚ◌, ◌*ℚ◌, whole};
 ghost use Rattle.exact_algebra.specs.RationalSums.{sum_ℚ};
 ghost use Rattle.basis_model.specs.Basis.{coefficient};
@@ -105,36 +105,69 @@ pub fn coefficients(
     Ok(made)
 }
 
-/// A response times the determinant.
-fn level_of(y: i64, determinant: i128) -> Option<i128>
-    ensures { IfSome result (λ n. n ≡ y *ℤ determinant) }
+/// A determinant, with a bound of the numbers whose products with it have room.
+#[derive(Clone, Copy)]
+struct Scale {
+    determinant: i128,
+    room: u64,
+}
+
+/// A determinant with the greatest such bound.
+fn scale_of(determinant: i128) -> Scale
+    requires { pos 1 ≤ℤ determinant }
+    ensures determinant { result.determinant ≡ determinant }
+    ensures room { result.room * unsigned_abs determinant < 2 ^ 127 }
 {
-    match i64::try_from(determinant) {
-        // Of numbers of 64 bits the product has room, and the compiler knows it.
-        Ok(narrow) => i128::from(y).checked_mul(i128::from(narrow)),
-        Err(_) => i128::from(y).checked_mul(determinant),
+    let most = i128::MAX as u128 / determinant.unsigned_abs();
+    let room = u64::try_from(most).unwrap_or(u64::MAX);
+    Scale { determinant, room }
+}
+
+/// A response times the determinant. One comparison takes the place of a checked product, which is a call.
+fn level_of(y: i64, scale: Scale) -> Option<i128>
+    requires { scale.room * unsigned_abs scale.determinant < 2 ^ 127 }
+    ensures { IfSome result (λ n. n ≡ y *ℤ scale.determinant) }
+{
+    if y.unsigned_abs() <= scale.room {
+        Some(i128::from(y) * scale.determinant)
+    } else {
+        i128::from(y).checked_mul(scale.determinant)
     }
 }
 
 /// The numerator of what is left of a response, over the determinant over which the fit stands.
-fn residual_numerator(y: i64, fit: i128, determinant: i128) -> Option<i128>
-    requires { pos 1 ≤ℤ determinant }
-    ensures { IfSome result (λ r. share r determinant ≡ whole y -ℚ share fit determinant) }
+fn residual_numerator(y: i64, fit: i128, scale: Scale) -> Option<i128>
+    requires some { pos 1 ≤ℤ scale.determinant }
+    requires room { scale.room * unsigned_abs scale.determinant < 2 ^ 127 }
+    ensures { IfSome result (λ r. share r scale.determinant ≡ whole y -ℚ share fit scale.determinant) }
 {
-    let level = level_of(y, determinant)?;
+    let level = level_of(y, scale)?;
     let rest = level.checked_sub(fit)?;
     Some(rest)
 }
 
 /// The numerator of a residual, or a refusal.
+fn scaled_residual(y: i64, fit: i128, scale: Scale) -> Result<i128, Obstacle>
+    requires some { pos 1 ≤ℤ scale.determinant }
+    requires room { scale.room * unsigned_abs scale.determinant < 2 ^ 127 }
+    ensures { IfOk result (λ r. share r scale.determinant ≡ whole y -ℚ share fit scale.determinant) }
+{
+    match residual_numerator(y, fit, scale) {
+        Some(r) => Ok(r),
+        None => Err(Obstacle::TooWide),
+    }
+}
+
+/// The numerator of one residual, or a refusal.
 pub fn residual_of(y: i64, fit: i128, determinant: i128) -> Result<i128, Obstacle>
     requires { pos 1 ≤ℤ determinant }
     ensures { IfOk result (λ r. share r determinant ≡ whole y -ℚ share fit determinant) }
 {
-    match residual_numerator(y, fit, determinant) {
-        Some(r) => Ok(r),
-        None => Err(Obstacle::TooWide),
-    }
+    let scale = Scale {
+        determinant,
+        room: 0,
+    };
+    scaled_residual(y, fit, scale)
 }
 
 /// The numerators of the residuals of all rows, from those of their fits.
@@ -149,9 +182,10 @@ pub fn residuals(
     ensures size { IfOk result (λ made. length made ≡ length rows.now) }
     ensures each { IfOk result (λ made. (i : ℕ) → i < length rows.now → share_at determinant made i ≡ of_whole rows.now (λ r. whole r.y) i -ℚ share_at determinant fits.now i) }
 {
+    let scale = scale_of(determinant);
     let mut made = room_for(alloc, rows.len())?;
     for i in 0..rows.len() {
-        let number = residual_of(rows[i].y, fits[i], determinant)?;
+        let number = scaled_residual(rows[i].y, fits[i], scale)?;
         if made.push(number).is_err() {
             return Err(Obstacle::OutOfMemory);
         }

@@ -6,7 +6,7 @@ ghost use Rattle.wide_int.specs.Numbers.{sizes};
 ghost use Rattle.whole_inverse.specs.Shares.{share_at, whole_at};
 ghost use Rattle.whole_rows.specs.Wholes.{of_whole};
 
-use crate::narrow::narrow_products;
+use crate::halves::{column_halves, halved_products, room_of};
 use crate::room::room_for;
 use frac_core::List;
 use std::alloc::Global;
@@ -38,6 +38,45 @@ fn bounded_products(
     Ok(made)
 }
 
+/// The same, by halves of the numerators.
+fn products_by_halves(
+    alloc: Global,
+    rows: &[WholeRow],
+    column: &[i128],
+    limit: u64,
+) -> Result<List<i128>, Obstacle>
+    requires wide { All (λ r. length r.x ≡ length column.now) rows.now }
+    requires small { All (λ r. All (λ e. unsigned_abs e ≤ limit) r.x) rows.now }
+    ensures size { IfOk result (λ made. length made ≡ length rows.now) }
+    ensures each { IfOk result (λ made. (d : ℤ) (i : ℕ) → i < length rows.now → share_at d made i ≡ sum_ℚ (length column.now) (λ k. of_whole rows.now (λ r. whole_at r.x k) i *ℚ share_at d column.now k)) }
+{
+    match room_of(limit, column.len()) {
+        Some(room) => {
+            let halves = column_halves(alloc, column, room.unit)?;
+            halved_products(alloc, rows, halves.as_slice(), room)
+        }
+        None => Err(Obstacle::TooWide),
+    }
+}
+
+/// The same, where numbers have no room in halves.
+fn wide_products(
+    alloc: Global,
+    rows: &[WholeRow],
+    column: &[i128],
+    limit: u64,
+) -> Result<List<i128>, Obstacle>
+    requires wide { All (λ r. length r.x ≡ length column.now) rows.now }
+    requires small { All (λ r. All (λ e. unsigned_abs e ≤ limit) r.x) rows.now }
+    ensures size { IfOk result (λ made. length made ≡ length rows.now) }
+    ensures each { IfOk result (λ made. (d : ℤ) (i : ℕ) → i < length rows.now → share_at d made i ≡ sum_ℚ (length column.now) (λ k. of_whole rows.now (λ r. whole_at r.x k) i *ℚ share_at d column.now k)) }
+{
+    match bound_of(column, limit) {
+        Some(_) => bounded_products(alloc, rows, column, limit),
+        None => Err(Obstacle::TooWide),
+    }
+}
+
 /// The numerators of the products of all rows, whose entries are within the limit, and a column of numerators.
 pub fn row_products(
     alloc: Global,
@@ -50,14 +89,8 @@ pub fn row_products(
     ensures size { IfOk result (λ made. length made ≡ length rows.now) }
     ensures each { IfOk result (λ made. (d : ℤ) (i : ℕ) → i < length rows.now → share_at d made i ≡ sum_ℚ (length column.now) (λ k. of_whole rows.now (λ r. whole_at r.x k) i *ℚ share_at d column.now k)) }
 {
-    match bound_of(column, limit) {
-        Some(bound) => {
-            if bound <= i64::MAX as u128 {
-                narrow_products(alloc, rows, column, limit)
-            } else {
-                bounded_products(alloc, rows, column, limit)
-            }
-        }
-        None => Err(Obstacle::TooWide),
+    match products_by_halves(alloc, rows, column, limit) {
+        Err(Obstacle::TooWide) => wide_products(alloc, rows, column, limit),
+        answer => answer,
     }
 }

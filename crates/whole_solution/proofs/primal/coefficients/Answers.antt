@@ -1,10 +1,9 @@
 -- A coefficient more.
-use Rattle.std.proofs.Common.{rules, ◌≡◌, ◌++◌, ◌∷◌, [], ◌<◌, ℕ, ℤ, length, arith, refl, ◌∙◌}
+use Rattle.std.proofs.Common.{rules, ◌≡◌, ◌++◌, ◌∷◌, [], refl, ◌∙◌}
 use Rattle.std.specs.Prelude.{slice_index}
-use Rattle.exact_algebra.specs.Rational.{◌*ℚ◌, whole}
-use Rattle.exact_algebra.specs.RationalSums.{sum_ℚ}
+use Rattle.exact_algebra.specs.Rational.{whole}
 use Rattle.basis_model.specs.Basis.{coefficient}
-use Rattle.whole_inverse.specs.Shares.{share, share_at, shares, whole_at}
+use Rattle.whole_inverse.specs.Shares.{whole_at}
 use Rattle.whole_inverse.specs.Squares.{inverse_of}
 use Rattle.whole_rows.specs.Wholes.{of_whole, sample_of_rows}
 use Rattle.whole_inverse.proofs.Lists.{share_pushed, length_pushed}

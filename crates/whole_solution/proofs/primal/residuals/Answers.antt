@@ -1,5 +1,5 @@
 -- A residual more.
-use Rattle.std.proofs.Common.{rules, ◌≡◌, ◌<◌, ◌++◌, ◌∷◌, [], ℕ, length, get_or, pos, to_z, of_z, w64, arith, sym, ap₂, ◌∙◌}
+use Rattle.std.proofs.Common.{rules, ◌≡◌, ◌<◌, ◌++◌, ◌∷◌, [], length, get_or, pos, to_z, of_z, arith, sym, ap₂, ◌∙◌}
 use mir.Syntax.{w128}
 use Rattle.exact_algebra.specs.Rational.{◌-ℚ◌, whole}
 use Rattle.whole_inverse.specs.Shares.{share, share_at}

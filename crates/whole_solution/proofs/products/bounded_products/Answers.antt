@@ -1,9 +1,9 @@
 -- A row more.
-use Rattle.std.proofs.Common.{rules, ◌≡◌, ◌<◌, ◌++◌, ◌∷◌, [], ℕ, ℤ, length, to_z, of_z, ap, ◌∙◌}
+use Rattle.std.proofs.Common.{rules, ◌≡◌, ◌++◌, ◌∷◌, [], length, to_z, of_z, ap, ◌∙◌}
 use mir.Syntax.{w128}
 use Rattle.exact_algebra.specs.Rational.{◌*ℚ◌}
 use Rattle.exact_algebra.specs.RationalSums.{sum_ℚ}
-use Rattle.whole_inverse.specs.Shares.{share, share_at, whole_at}
+use Rattle.whole_inverse.specs.Shares.{share_at, whole_at}
 use Rattle.whole_inverse.proofs.Lists.{share_pushed, length_pushed}
 use Rattle.whole_rows.specs.Wholes.{of_whole}
 use Rattle.whole_solution.proofs.Reading.{product_of_row}

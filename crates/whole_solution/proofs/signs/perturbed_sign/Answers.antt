@@ -1,5 +1,5 @@
 -- By the residual, by the first coordinate, or by the row itself.
-use Rattle.std.proofs.Common.{rules, ◌≡◌, ◌≢◌, ◌<◌, ◌≤ℤ◌, ℤ, length, slice_index, pos, get_or, to_z, of_z, arith, sym, ◌∙◌}
+use Rattle.std.proofs.Common.{rules, ◌≡◌, ◌≢◌, ◌<◌, ◌≤ℤ◌, ℤ, length, slice_index, pos, get_or, to_z, of_z, arith, ◌∙◌}
 use mir.Syntax.{w128}
 use Rattle.exact_algebra.specs.Rational.{neg_ℚ, whole}
 use Rattle.exact_algebra.specs.Order.{cmp_ℚ}

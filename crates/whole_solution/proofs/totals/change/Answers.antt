@@ -1,7 +1,6 @@
 -- The difference of the bounds.
 use Rattle.std.proofs.Common.{rules, ◌≡◌, ◌+ℤ◌, neg_ℤ, to_z, of_z}
 use mir.Syntax.{w128}
-use Rattle.whole_solution.specs.Weighing.{bound_of}
 use Rattle.whole_solution.proofs.Moved.{difference_whole}
 use Rattle.whole_solution.proofs.totals.change.Goals as goal
 

@@ -1,5 +1,5 @@
 -- A column more.
-use Rattle.std.proofs.Common.{rules, ◌≡◌, ◌<◌, ◌++◌, ◌∷◌, [], ℕ, length, get_or, pos, to_z, of_z, w64, ◌+ℤ◌, ◌*ℤ◌, arith, sym, ap₂, ◌∙◌}
+use Rattle.std.proofs.Common.{rules, ◌≡◌, ◌<◌, ◌++◌, ◌∷◌, [], length, get_or, pos, to_z, of_z, ◌+ℤ◌, ◌*ℤ◌, arith, sym, ap₂, ◌∙◌}
 use mir.Syntax.{w128}
 use Rattle.exact_algebra.specs.Rational.{◌+ℚ◌, ◌*ℚ◌, whole}
 use Rattle.whole_inverse.specs.Shares.{whole_at}

@@ -1,7 +1,7 @@
 -- By all entries.
-use Rattle.std.proofs.Common.{◌≡◌, length, refl}
+use Rattle.std.proofs.Common.{length, refl}
 use Rattle.lex_rule.specs.declared.less.Ratio.{Ratio}
-use Rattle.lex_rule.specs.Compared.{of_ratio, IsRatioAt}
+use Rattle.lex_rule.specs.Compared.{of_ratio}
 use Rattle.whole_ratio.proofs.Ties.{row_of, ratio_at, tie_exact}
 use Rattle.whole_ratio.proofs.line.Line.break_tie.Goals as goal
 

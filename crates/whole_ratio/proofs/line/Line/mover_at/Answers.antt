@@ -1,9 +1,7 @@
 -- Whether the row moves, and what it is as a mover.
-use Rattle.std.proofs.Common.{rules, ◌≡◌, ◌≤ℤ◌, ℤ, true, false, get_or, pos, unsigned_abs, to_z, of_z, sym, refl, ◌∙◌}
+use Rattle.std.proofs.Common.{rules, ◌≡◌, true, get_or, pos, unsigned_abs, to_z, of_z, sym, refl, ◌∙◌}
 use mir.Syntax.{w128}
-use Rattle.pivot_rule.specs.Steps.{is_towards}
-use Rattle.whole_inverse.specs.Shares.{share}
-use Rattle.whole_ratio.specs.Lines.{turned_by, over_of, is_moving}
+use Rattle.whole_ratio.specs.Lines.{over_of, is_moving}
 use Rattle.whole_ratio.proofs.Movers.{moving_is, mover_here}
 use Rattle.whole_ratio.proofs.line.Line.mover_at.Goals as goal
 

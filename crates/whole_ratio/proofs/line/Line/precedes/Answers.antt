@@ -1,6 +1,6 @@
 -- By the cross products.
-use Rattle.std.proofs.Common.{rules, ◌≡◌, ◌*◌, false, ap, ap₂, ◌∙◌}
-use Rattle.std.specs.Ordering.{is_lt, is_eq, nat_cmp}
+use Rattle.std.proofs.Common.{rules, ◌≡◌, ◌*◌, false, ap₂, ◌∙◌}
+use Rattle.std.specs.Ordering.{is_eq, nat_cmp}
 use Rattle.whole_ratio.proofs.Ties.{first_decides}
 use Rattle.whole_ratio.proofs.line.Line.precedes.Goals as goal
 

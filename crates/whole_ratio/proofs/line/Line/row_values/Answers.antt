@@ -5,7 +5,7 @@ use Rattle.exact_algebra.specs.Fraction.{rational}
 use Rattle.exact_matrices.specs.Matrices.{coordinate}
 use Rattle.whole_inverse.specs.Shares.{share, share_at, whole_at}
 use Rattle.whole_solution.proofs.Made.{coords_made}
-use Rattle.whole_ratio.specs.Lines.{model, at_of, inverse_at, over_of}
+use Rattle.whole_ratio.specs.Lines.{at_of, inverse_at, over_of}
 use Rattle.whole_ratio.proofs.Movers.{residual_here}
 use Rattle.whole_ratio.proofs.line.Line.row_values.Goals as goal
 

@@ -1,10 +1,8 @@
 -- What is left of the responses.
-use Rattle.std.proofs.Common.{rules, ◌≡◌, ℕ, ◌<◌, length, to_z, of_z, ap, ◌∙◌}
+use Rattle.std.proofs.Common.{rules, ◌≡◌, to_z, of_z, ap, ◌∙◌}
 use mir.Syntax.{w128}
 use Rattle.std.proofs.lemmas.Result.{IfOk-weaker}
-use Rattle.exact_algebra.specs.Rational.{◌-ℚ◌, ◌*ℚ◌, whole}
-use Rattle.exact_algebra.specs.RationalSums.{sum_ℚ}
-use Rattle.whole_inverse.specs.Shares.{share_at, whole_at}
+use Rattle.exact_algebra.specs.Rational.{◌-ℚ◌, whole}
 use Rattle.whole_rows.specs.Wholes.{of_whole}
 use Rattle.whole_solution.proofs.basis.WholeBasis.residuals_of.Goals as goal
 

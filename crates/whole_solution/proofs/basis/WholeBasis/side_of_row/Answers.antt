@@ -1,5 +1,5 @@
 -- Of a row of the basis, and of another.
-use Rattle.std.proofs.Common.{rules, ◌≡◌, length, slice_index, true, false, sym, subst, ◌∙◌}
+use Rattle.std.proofs.Common.{◌≡◌, length, slice_index, true, false, sym, subst, ◌∙◌}
 use Rattle.std.proofs.lemmas.Result.{IfOk-weaker}
 use Rattle.exact_matrices.specs.Selections.{is_among}
 use Rattle.whole_inverse.specs.Squares.{inverse_of}

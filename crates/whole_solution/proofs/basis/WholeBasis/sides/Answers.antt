@@ -1,5 +1,5 @@
 -- A row more, and at the end those of the basis.
-use Rattle.std.proofs.Common.{rules, ◌≡◌, ◌<◌, ◌++◌, ◌∷◌, [], ℕ, false, length, slice_index, get_or, pos, to_z, of_z, arith, sym, ◌∙◌}
+use Rattle.std.proofs.Common.{rules, ◌≡◌, ◌++◌, ◌∷◌, [], false, length, slice_index, get_or, pos, to_z, of_z, arith, ◌∙◌}
 use mir.Syntax.{w128}
 use Rattle.exact_matrices.specs.Selections.{is_among}
 use Rattle.basis_model.specs.Basis.{side_at}

@@ -1,6 +1,5 @@
 -- The parts together.
-use Rattle.std.proofs.Common.{rules, ◌≡◌, ℕ, ◌<◌, length, slice_index, arith, sym, subst, ◌∙◌}
-use Rattle.loss_model.specs.Sample.{residual}
+use Rattle.std.proofs.Common.{length, slice_index, ◌∙◌}
 use Rattle.basis_model.specs.declared.part.Part.TheVariants.{Constant, Linear}
 use Rattle.basis_model.specs.Basis.{coefficient}
 use Rattle.whole_inverse.specs.Shares.{share_at}

@@ -1,5 +1,5 @@
 -- The numbers of the row times the change of its bound.
-use Rattle.std.proofs.Common.{rules, ◌≡◌, to_z, of_z, w64, ◌+ℤ◌, ◌*ℤ◌, ap, ◌∙◌}
+use Rattle.std.proofs.Common.{rules, ◌≡◌, to_z, of_z, ◌+ℤ◌, ◌*ℤ◌, ap, ◌∙◌}
 use mir.Syntax.{w128}
 use Rattle.exact_algebra.specs.Rational.{◌+ℚ◌, ◌*ℚ◌, whole}
 use Rattle.whole_inverse.specs.Shares.{whole_at}

@@ -1,5 +1,5 @@
 -- A row more.
-use Rattle.std.proofs.Common.{rules, ◌≡◌, ◌<◌, ℕ, length, get_or, arith, refl, sym, ap, subst, ◌∙◌}
+use Rattle.std.proofs.Common.{◌≡◌, ◌<◌, ℕ, length, arith, sym, ap, ◌∙◌}
 use Rattle.loss_model.specs.declared.vertex.Side.{Side}
 use Rattle.loss_model.specs.declared.vertex.Side.TheVariants.{Up}
 use Rattle.basis_model.specs.declared.part.Part.{Part}
@@ -8,10 +8,10 @@ use Rattle.basis_model.specs.Basis.{bound_part}
 use Rattle.exact_algebra.specs.Rational.{whole}
 use Rattle.whole_inverse.specs.Shares.{whole_at}
 use Rattle.whole_rows.specs.declared.rows.WholeRow.{WholeRow}
-use Rattle.whole_rows.specs.Wholes.{of_whole, sample_of_rows}
+use Rattle.whole_rows.specs.Wholes.{sample_of_rows}
 use Rattle.whole_solution.specs.Standing.{side_in}
 use Rattle.whole_solution.specs.Weighing.{bound_of}
-use Rattle.whole_solution.proofs.Moved.{AreMoved, moved_none, moved_more, moved_same, moved_all, turned_read}
+use Rattle.whole_solution.proofs.Moved.{moved_none, moved_more, moved_same, moved_all, turned_read}
 use Rattle.whole_solution.proofs.Reading.{row_read, bound_read, side_read}
 use Rattle.whole_solution.proofs.totals.Weights.after.Goals as goal
 use Rattle.whole_solution.proofs.totals.Weights.after.Goals.{then-not-stays+in-Ok, else-not-stays}

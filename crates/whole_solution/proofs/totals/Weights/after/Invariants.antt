@@ -1,4 +1,4 @@
-use Rattle.std.specs.Prelude.{◌≡◌, length}
+use Rattle.std.specs.Prelude.{length}
 use Rattle.basis_model.specs.declared.part.Part.TheVariants.{Constant, Linear}
 use Rattle.whole_rows.specs.Wholes.{sample_of_rows}
 use Rattle.whole_solution.specs.Standing.{side_in}
