@@ -4,7 +4,7 @@ pub mod Certifying
 pub mod Checks
 pub mod Jobs
 pub mod SampleAsks
-pub use Rattle.rank_inversion.specs.declared.column_test.Asked
+pub use Rattle.rq_fit.specs.Asked
 pub use Rattle.rq_fit.specs.Asks
 pub use Rattle.rq_fit.specs.Fit
 pub use Rattle.rq_fit.specs.Intervals
