@@ -3,93 +3,94 @@
 //! A code is told by its steps: the number of a name, `=` and a constant, `neg`, `+`, `-`, `*`, and `^` and an
 //! exponent. The answer is the value, or the number of the first operation that overflows, its kind and its operands.
 
+use crate::helpers::{parted, push, text_of};
 use formula_arith::{ArithFault, evaluate, is_short};
-use frac_core::{Arith, ArithOp, Frac128, List, Op, Text, number_text, read_number};
+use frac_core::{Arith, ArithOp, Frac128, List, Op, Text, read_number};
 use std::alloc::Global;
 use std::process::Abort;
-use std::test::Fail;
 
-fn number(text: &str) -> Result<Frac128, Fail> {
-    match read_number::<Frac128>(text) {
-        Ok(value) => Ok(value),
-        Err(_) => Err(Fail::from("no number")),
-    }
+fn number(rt: &impl Abort, text: &str) -> Frac128 {
+    read_number::<Frac128>(text).ok().expect(rt, "a number")
 }
 
-fn whole(text: &str) -> Result<u32, Fail> {
-    match text.parse::<u32>() {
-        Ok(value) => Ok(value),
-        Err(_) => Err(Fail::from("no whole number")),
-    }
+fn whole(rt: &impl Abort, text: &str) -> u32 {
+    text.parse::<u32>().ok().expect(rt, "a whole number")
 }
 
-fn step(word: &str) -> Result<ArithOp, Fail> {
+fn step(rt: &impl Abort, word: &str) -> ArithOp {
     if let Some(text) = word.strip_prefix('=') {
-        return Ok(ArithOp::Constant {
-            value: number(text)?,
-        });
+        return ArithOp::Constant {
+            value: number(rt, text),
+        };
     }
     if let Some(text) = word.strip_prefix('^') {
-        return Ok(ArithOp::Power {
-            exponent: whole(text)?,
-        });
+        return ArithOp::Power {
+            exponent: whole(rt, text),
+        };
     }
     match word {
-        "neg" => Ok(ArithOp::Negate),
-        "+" => Ok(ArithOp::Add),
-        "-" => Ok(ArithOp::Sub),
-        "*" => Ok(ArithOp::Mul),
-        _ => Ok(ArithOp::Load { name: whole(word)? }),
+        "neg" => ArithOp::Negate,
+        "+" => ArithOp::Add,
+        "-" => ArithOp::Sub,
+        "*" => ArithOp::Mul,
+        _ => ArithOp::Load {
+            name: whole(rt, word),
+        },
     }
 }
 
 // The arithmetic of a text, with the steps of its code.
-fn arithmetic(alloc: Global, text: &str, steps: &str) -> Result<Arith, Fail> {
-    let mut code = List::new(alloc);
+fn arithmetic(rt: &impl Abort, alloc: Global, text: &str, steps: &str) -> Arith {
+    let mut code = Vec::new(alloc);
     for word in steps.split(' ') {
-        code.add(step(word)?)?;
+        push(rt, &mut code, step(rt, word));
     }
-    Ok(Arith {
-        text: Text::new(alloc, text)?,
+    Arith {
+        text: Text::new(alloc, text).ok().expect(rt, "memory"),
         names: List::new(alloc),
-        code,
-    })
+        code: List::from(code),
+    }
 }
 
-fn numbers(alloc: Global, text: &str) -> Result<Vec<Frac128>, Fail> {
+fn numbers(rt: &impl Abort, alloc: Global, text: &str) -> Vec<Frac128> {
     let mut values = Vec::new(alloc);
     for word in text.split(' ') {
         if !word.is_empty() {
-            values.push(number(word)?)?;
+            push(rt, &mut values, number(rt, word));
         }
     }
-    Ok(values)
+    values
 }
 
-fn tell_fault(alloc: Global, term: u32, op: Op<Frac128>) -> Result<String, Fail> {
-    let left = number_text(alloc, op.left)?;
-    let right = number_text(alloc, op.right)?;
-    Ok(format!(in alloc; "{term} {:?} {} {}", op.kind, left.as_str(), right.as_str())?)
+fn expect_fault(rt: &impl Abort, alloc: Global, (term, op): (u32, Op<Frac128>), want: &str) {
+    let (left, right) = (text_of(rt, alloc, op.left), text_of(rt, alloc, op.right));
+    let (left, right) = (left.as_str(), right.as_str());
+    let told = format!(in alloc; "{term} {:?} {left} {right}", op.kind);
+    let told = told.ok().expect(rt, "memory");
+    assert!(rt; told.as_str() == want, "{told}");
 }
 
-fn answer(alloc: Global, arith: &Arith, values: &[Frac128]) -> Result<String, Fail> {
-    if !is_short(arith) {
-        return Err(Fail::from("too long"));
-    }
+fn expect_value(rt: &impl Abort, alloc: Global, value: Frac128, want: &str) {
+    let told = text_of(rt, alloc, value);
+    assert!(rt; told.as_str() == want, "{}", told.as_str());
+}
+
+fn expect_answer(rt: &impl Abort, alloc: Global, arith: &Arith, values: &[Frac128], want: &str) {
+    assert!(rt; is_short(arith));
     match evaluate(alloc, arith, values) {
-        Ok(value) => Ok(String::from_str(alloc, number_text(alloc, value)?.as_str())?),
-        Err(ArithFault::OutOfMemory) => Err(Fail::from("no memory")),
-        Err(ArithFault::Overflow { term, op }) => tell_fault(alloc, term, op),
+        Ok(value) => expect_value(rt, alloc, value, want),
+        Err(ArithFault::OutOfMemory) => panic!(rt; "memory"),
+        Err(ArithFault::Overflow { term, op }) => expect_fault(rt, alloc, (term, op), want),
     }
 }
 
-// What a line asks: an arithmetic, its code and the values of its names.
-fn asked(alloc: Global, line: &str) -> Result<String, Fail> {
-    let (text, rest) = line.split_once(" ; ").ok_or("no code")?;
-    let (code, values) = rest.split_once(" ; ").ok_or("no values")?;
-    let arith = arithmetic(alloc, text, code)?;
-    let values = numbers(alloc, values)?;
-    answer(alloc, &arith, values.as_slice())
+// The arithmetic of a line has this answer.
+fn expect(rt: &impl Abort, alloc: Global, line: &str, want: &str) {
+    let (text, rest) = parted(rt, line, " ; ");
+    let (code, values) = parted(rt, rest, " ; ");
+    let arith = arithmetic(rt, alloc, text, code);
+    let values = numbers(rt, alloc, values);
+    expect_answer(rt, alloc, &arith, values.as_slice(), want);
 }
 
 // Lines of an arithmetic, its code, the values of its names, and the answer.
@@ -165,15 +166,12 @@ x + z ; 0 1 + ; 1/100000000000000000000000000000000000000 1/30000000000000000000
 ";
 
 #[test]
-fn arithmetics(rt: HostRuntime) -> Result<(), Fail> {
-    let mut count: u32 = 0;
+fn arithmetics(rt: HostRuntime) {
+    let mut count = 0u32;
     for line in CASES.lines() {
-        let (ask, want) = line.split_once(" => ").ok_or("no answer")?;
-        let told = asked(rt.alloc(), ask)?;
-        let found = told.as_str();
-        assert!(rt; found == want, "{ask}: {found}");
+        let (asked, want) = parted(&rt, line, " => ");
+        expect(&rt, rt.alloc(), asked, want);
         count = count.wrapping_add(1);
     }
     assert!(rt; count == 68, "{count}");
-    Ok(())
 }

@@ -3,10 +3,9 @@
 ghost use Rattle.std.specs.Prelude.{◌<◌};
 
 use contrasts::{Coding, entry, label, width};
-use frac_core::{OutOfMemory, Text};
+use frac_core::Text;
 use std::alloc::Global;
 use std::process::Abort;
-use std::test::Fail;
 
 /// A coding, its entries by level and column, and the names of its columns.
 #[derive(Clone, Copy)]
@@ -64,30 +63,28 @@ fn entries_of_three_levels(rt: HostRuntime) {
     }
 }
 
-fn names_are(alloc: Global, coding: Coding, names: &[&str]) -> Result<bool, OutOfMemory> {
+fn text(rt: &impl Abort, alloc: Global, word: &str) -> Text {
+    Text::new(alloc, word).ok().expect(rt, "memory")
+}
+
+fn expect_names(rt: &impl Abort, alloc: Global, coding: Coding, names: &[&str]) {
     let levels = [
-        Text::new(alloc, "a")?,
-        Text::new(alloc, "b")?,
-        Text::new(alloc, "c")?,
+        text(rt, alloc, "a"),
+        text(rt, alloc, "b"),
+        text(rt, alloc, "c"),
     ];
     let columns = width(coding, 3);
-    if names.len() != columns as usize {
-        return Ok(false);
-    }
+    assert!(rt; names.len() == columns as usize, "{coding:?}");
     for column in 0..columns {
-        let name = label(alloc, coding, &levels, "f", column)?;
-        if name.as_str() != names[column as usize] {
-            return Ok(false);
-        }
+        let name = label(alloc, coding, &levels, "f", column);
+        let name = name.ok().expect(rt, "memory");
+        assert!(rt; name.as_str() == names[column as usize], "{coding:?}");
     }
-    Ok(true)
 }
 
 #[test]
-fn names_of_three_levels(rt: HostRuntime) -> Result<(), Fail> {
+fn names_of_three_levels(rt: HostRuntime) {
     for table in &TABLES {
-        let are_so = names_are(rt.alloc(), table.coding, table.names)?;
-        assert!(rt; are_so, "{:?}", table.coding);
+        expect_names(&rt, rt.alloc(), table.coding, table.names);
     }
-    Ok(())
 }

@@ -3,7 +3,6 @@
 
 use std::alloc::Global;
 use std::process::Abort;
-use std::test::Fail;
 use table_maker::make;
 
 /// A number, how many records and columns there are, and the table.
@@ -45,36 +44,33 @@ static CASES: [Case; 4] = [
     },
 ];
 
-fn is_made(alloc: Global, case: &Case) -> Result<bool, Fail> {
-    if case.rows > 3 || case.columns > 12 {
-        return Ok(false);
-    }
-    let made = make(alloc, case.number, case.rows, case.columns)?;
-    Ok(made.as_slice() == case.table)
+fn expect_made(rt: &impl Abort, alloc: Global, case: &Case) {
+    assert!(rt; case.rows <= 3);
+    assert!(rt; case.columns <= 12);
+    let made = make(alloc, case.number, case.rows, case.columns)
+        .ok()
+        .expect(rt, "memory");
+    assert!(rt; made.as_slice() == case.table, "number {}", case.number);
 }
 
 #[test]
-fn tables_of_small_numbers(rt: HostRuntime) -> Result<(), Fail> {
+fn tables_of_small_numbers(rt: HostRuntime) {
     for case in &CASES {
-        let are_so = is_made(rt.alloc(), case)?;
-        assert!(rt; are_so, "number {}", case.number);
+        expect_made(&rt, rt.alloc(), case);
     }
-    Ok(())
 }
 
 #[test]
-fn the_largest_table(rt: HostRuntime) -> Result<(), Fail> {
-    let table = make(rt.alloc(), 1, 16384, 100)?;
+fn the_largest_table(rt: HostRuntime) {
+    let table = make(rt.alloc(), 1, 16384, 100).ok().expect(&rt, "memory");
     assert!(rt; table.len() == 6_435_613);
     assert!(rt; table.starts_with(b"y,x1,x2,x3,"));
     assert!(rt; table.ends_with(b",414,824,958,531\n"));
-    Ok(())
 }
 
 #[test]
-fn the_longest_table_of_one_column(rt: HostRuntime) -> Result<(), Fail> {
-    let table = make(rt.alloc(), 7, 16384, 1)?;
+fn the_longest_table_of_one_column(rt: HostRuntime) {
+    let table = make(rt.alloc(), 7, 16384, 1).ok().expect(&rt, "memory");
     assert!(rt; table.len() == 127_442);
     assert!(rt; table.ends_with(b"\n456,498\n317,971\n178,944\n"));
-    Ok(())
 }

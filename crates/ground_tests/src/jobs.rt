@@ -1,11 +1,11 @@
 //! Jobs at once: their answers stand in their order, and two of them are under way together.
 ghost use Rattle.std.specs.Prelude.{⊤};
 
-use frac_core::OutOfMemory;
+use crate::helpers::push;
 use rq_fan::{Work, run_jobs};
 use std::alloc::Global;
+use std::process::Abort;
 use std::sync::atomic::{AtomicBool, Ordering};
-use std::test::Fail;
 use std::thread::Threads;
 
 /// A job that squares a number.
@@ -24,19 +24,12 @@ impl Work for Square {
     }
 }
 
-fn squares<R: Threads + Sync>(
-    rt: &R,
-    alloc: Global,
-    numbers: &[u32],
-) -> Result<Vec<u64>, OutOfMemory> {
+fn squares<R: Abort + Threads + Sync>(rt: &R, alloc: Global, numbers: &[u32]) -> Vec<u64> {
     let mut jobs = Vec::new(alloc);
     for number in numbers {
-        match jobs.push(Square { number: *number }) {
-            Ok(()) => {}
-            Err(_) => return Err(OutOfMemory),
-        }
+        push(rt, &mut jobs, Square { number: *number });
     }
-    run_jobs(rt, alloc, jobs)
+    run_jobs(rt, alloc, jobs).expect(rt, "memory")
 }
 
 static NUMBERS: [u32; 3] = [2, 3, 4];
@@ -45,24 +38,23 @@ static SQUARES: [u64; 3] = [4, 9, 16];
 
 #[test]
 fn three_squares(rt: HostRuntime) {
-    let squares = squares(&rt, rt.alloc(), &NUMBERS).expect(&rt, "memory");
+    let squares = squares(&rt, rt.alloc(), &NUMBERS);
     assert!(rt; squares.as_slice() == SQUARES.as_slice());
 }
 
 /// More than twice as many jobs as there are parts of a list that is halved six times.
 #[test]
-fn many_squares_in_order(rt: HostRuntime) -> Result<(), Fail> {
+fn many_squares_in_order(rt: HostRuntime) {
     let mut numbers = Vec::new(rt.alloc());
     for number in 0..150 {
-        numbers.push(number)?;
+        push(&rt, &mut numbers, number);
     }
-    let squares = squares(&rt, rt.alloc(), numbers.as_slice()).expect(&rt, "memory");
+    let squares = squares(&rt, rt.alloc(), numbers.as_slice());
     assert!(rt; squares.len() == 150);
     for number in 0..150u32 {
         let square = u64::from(number) * u64::from(number);
         assert!(rt; squares.get(number as usize) == Some(&square), "{number}");
     }
-    Ok(())
 }
 
 /// How often a job looks for the other before it gives up.
@@ -94,18 +86,12 @@ impl<'a> Work for Meeting<'a> {
 static BOTH_MET: [bool; 2] = [true, true];
 
 #[test]
-fn fan_gate(rt: HostRuntime) -> Result<(), Fail> {
+fn fan_gate(rt: HostRuntime) {
     let (first, second) = (AtomicBool::new(false), AtomicBool::new(false));
     let mut jobs = Vec::new(rt.alloc());
-    jobs.push(Meeting {
-        mine: &first,
-        other: &second,
-    })?;
-    jobs.push(Meeting {
-        mine: &second,
-        other: &first,
-    })?;
+    for (mine, other) in [(&first, &second), (&second, &first)] {
+        push(&rt, &mut jobs, Meeting { mine, other });
+    }
     let met = run_jobs(&rt, rt.alloc(), jobs).expect(&rt, "memory");
     assert!(rt; met.as_slice() == BOTH_MET.as_slice());
-    Ok(())
 }

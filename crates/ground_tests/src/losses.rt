@@ -1,14 +1,13 @@
 //! Losses and spills worked by hand.
 
-use crate::helpers::{Ratio, crosses, fraction, is_shaped, list, ratio};
+use crate::helpers::{Ratio, crosses, fraction, is_shaped, list, push, ratio};
 use frac_core::{Exact, Frac128, List, OpKind};
 use loss_model::{
     Problem, Process, Quantity, Row, Short, Site, Spill, loss_at, minus_at, over_at, plus_at,
     times_at,
 };
-use std::alloc::{AllocError, Global};
+use std::alloc::Global;
 use std::process::Abort;
-use std::test::Fail;
 
 /// A row worked by hand: its entries, its response, and the parts of its costs, upwards and then
 /// downwards, each of them constant and then by the quantile.
@@ -38,35 +37,30 @@ const EIGHTH: [Ratio; 4] = [(1, 8), (0, 1), (1, 8), (0, 1)];
 /// The widest number.
 const M: i128 = Frac128::RANGE;
 
-fn row(rt: &impl Abort, alloc: Global, (x, y, costs): &Plain) -> Result<Row<Frac128>, AllocError> {
+fn row(rt: &impl Abort, alloc: Global, (x, y, costs): &Plain) -> Row<Frac128> {
     let mut entries = Vec::new(alloc);
     for entry in *x {
-        entries.push(fraction(rt, (*entry, 1)))?;
+        push(rt, &mut entries, fraction(rt, (*entry, 1)));
     }
-    Ok(Row {
+    Row {
         x: List::from(entries),
         y: fraction(rt, (*y, 1)),
         up0: fraction(rt, costs[0]),
         up1: fraction(rt, costs[1]),
         down0: fraction(rt, costs[2]),
         down1: fraction(rt, costs[3]),
-    })
+    }
 }
 
-fn problem(
-    rt: &impl Abort,
-    alloc: Global,
-    columns: u32,
-    rows: &[Plain],
-) -> Result<Problem<Frac128>, AllocError> {
+fn problem(rt: &impl Abort, alloc: Global, columns: u32, rows: &[Plain]) -> Problem<Frac128> {
     let mut made = Vec::new(alloc);
     for plain in rows {
-        made.push(row(rt, alloc, plain)?)?;
+        push(rt, &mut made, row(rt, alloc, plain));
     }
-    Ok(Problem {
+    Problem {
         columns,
         rows: List::from(made),
-    })
+    }
 }
 
 // The loss of coefficients at theta, or its spill.
@@ -76,32 +70,26 @@ fn outcome(
     problem: &Problem<Frac128>,
     coef: &[Ratio],
     theta: Ratio,
-) -> Result<Result<Ratio, Spill<Frac128>>, AllocError> {
-    let coef = list(rt, alloc, coef)?;
+) -> Result<Ratio, Spill<Frac128>> {
+    let coef: List<Frac128> = list(rt, alloc, coef);
     let coef = coef.as_slice();
     let theta = fraction(rt, theta);
     assert!(rt; is_shaped(problem));
     assert!(rt; coef.len() == problem.columns as usize);
-    Ok(match loss_at(problem, coef, theta) {
+    match loss_at(problem, coef, theta) {
         Ok(loss) => Ok(ratio(loss)),
         Err(spill) => Err(spill),
-    })
+    }
 }
 
 // The losses of rows are these.
-fn expect_losses(
-    rt: &impl Abort,
-    alloc: Global,
-    columns: u32,
-    rows: &[Plain],
-    cases: &[Case],
-) -> Result<(), AllocError> {
-    let problem = problem(rt, alloc, columns, rows)?;
+fn expect_losses(rt: &impl Abort, alloc: Global, columns: u32, rows: &[Plain], cases: &[Case]) {
+    let problem = problem(rt, alloc, columns, rows);
     for (coef, theta, want) in cases {
-        let found = outcome(rt, alloc, &problem, coef, *theta)?;
+        let found = outcome(rt, alloc, &problem, coef, *theta);
         assert!(rt; found == Ok(*want), "{coef:?} at {theta:?}: {found:?}");
     }
-    Ok(())
+    drop(problem);
 }
 
 static THREE: [Plain; 3] = [(&[1], 1, ONCE), (&[1], 2, ONCE), (&[1], 3, ONCE)];
@@ -119,9 +107,8 @@ static MEDIANS: [Case; 8] = [
 ];
 
 #[test]
-fn three_responses(rt: HostRuntime) -> Result<(), Fail> {
-    expect_losses(&rt, rt.alloc(), 1, &THREE, &MEDIANS)?;
-    Ok(())
+fn three_responses(rt: HostRuntime) {
+    expect_losses(&rt, rt.alloc(), 1, &THREE, &MEDIANS);
 }
 
 static LINE: [Plain; 3] = [(&[1, 0], 0, ONCE), (&[1, 1], 2, ONCE), (&[1, 3], 3, ONCE)];
@@ -136,9 +123,8 @@ static LINES: [Case; 6] = [
 ];
 
 #[test]
-fn line_of_three_points(rt: HostRuntime) -> Result<(), Fail> {
-    expect_losses(&rt, rt.alloc(), 2, &LINE, &LINES)?;
-    Ok(())
+fn line_of_three_points(rt: HostRuntime) {
+    expect_losses(&rt, rt.alloc(), 2, &LINE, &LINES);
 }
 
 static WEIGHTED: [Plain; 2] = [(&[1], 1, ONCE), (&[1], 2, THRICE)];
@@ -174,11 +160,10 @@ static ROUGHER: [Case; 3] = [
 ];
 
 #[test]
-fn weights_and_penalties(rt: HostRuntime) -> Result<(), Fail> {
-    expect_losses(&rt, rt.alloc(), 1, &WEIGHTED, &WEIGHTS)?;
-    expect_losses(&rt, rt.alloc(), 3, &SMOOTH, &SMOOTHER)?;
-    expect_losses(&rt, rt.alloc(), 3, &ROUGH, &ROUGHER)?;
-    Ok(())
+fn weights_and_penalties(rt: HostRuntime) {
+    expect_losses(&rt, rt.alloc(), 1, &WEIGHTED, &WEIGHTS);
+    expect_losses(&rt, rt.alloc(), 3, &SMOOTH, &SMOOTHER);
+    expect_losses(&rt, rt.alloc(), 3, &ROUGH, &ROUGHER);
 }
 
 // Rows of one entry, a coefficient and a quantile at which their loss is tried, and the operation that
@@ -193,16 +178,16 @@ struct Wide {
     right: i128,
 }
 
-fn expect_spill(rt: &impl Abort, alloc: Global, case: &Wide) -> Result<(), AllocError> {
-    let problem = problem(rt, alloc, 1, case.rows)?;
+fn expect_spill(rt: &impl Abort, alloc: Global, case: &Wide) {
+    let problem = problem(rt, alloc, 1, case.rows);
     let want = Spill {
         site: case.site,
         left: fraction(rt, (case.left, 1)),
         right: fraction(rt, (case.right, 1)),
     };
-    let found = outcome(rt, alloc, &problem, &[case.coef], case.theta)?;
+    let found = outcome(rt, alloc, &problem, &[case.coef], case.theta);
     assert!(rt; found == Err(want), "{found:?}");
-    Ok(())
+    drop(problem);
 }
 
 static SPILLS: [Wide; 5] = [
@@ -284,11 +269,10 @@ static SPILLS: [Wide; 5] = [
 ];
 
 #[test]
-fn spills_name_their_operation(rt: HostRuntime) -> Result<(), Fail> {
+fn spills_name_their_operation(rt: HostRuntime) {
     for case in &SPILLS {
-        expect_spill(&rt, rt.alloc(), case)?;
+        expect_spill(&rt, rt.alloc(), case);
     }
-    Ok(())
 }
 
 // The costs are 5e37: 15e37 and 10e37 are too wide together.
@@ -311,10 +295,9 @@ static WIDE_SUM: Wide = Wide {
 static WIDE_LOSS: [Case; 1] = [(&[(2, 1)], (1, 2), (WEIGHT, 1))];
 
 #[test]
-fn sum_of_wide_losses_spills_at_its_row(rt: HostRuntime) -> Result<(), Fail> {
-    expect_spill(&rt, rt.alloc(), &WIDE_SUM)?;
-    expect_losses(&rt, rt.alloc(), 1, WIDE_SUM.rows, &WIDE_LOSS)?;
-    Ok(())
+fn sum_of_wide_losses_spills_at_its_row(rt: HostRuntime) {
+    expect_spill(&rt, rt.alloc(), &WIDE_SUM);
+    expect_losses(&rt, rt.alloc(), 1, WIDE_SUM.rows, &WIDE_LOSS);
 }
 
 // An operation, its operands, and its value or `None` for a spill.

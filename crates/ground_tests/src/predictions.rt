@@ -3,12 +3,12 @@
 
 ghost use Rattle.std.specs.Prelude.{◌≡◌, ◌+◌, ◌<◌, ◌≤◌, ◌^◌, All, IsTrue, length};
 
-use frac_core::{Exact, Frac128, List, number_text, read_number};
+use crate::helpers::{parted, push, text_of};
+use frac_core::{Exact, Frac128, List, read_number};
 use loss_model::{Basis, Process, Segment, Short, Spill, Trail, Vertex};
 use predict_steps::{Step, rearrange, steps};
-use std::alloc::{AllocError, Global};
+use std::alloc::Global;
 use std::process::Abort;
-use std::test::Fail;
 
 fn number(rt: &impl Abort, text: &str) -> Frac128 {
     read_number(text.trim())
@@ -17,19 +17,19 @@ fn number(rt: &impl Abort, text: &str) -> Frac128 {
 }
 
 // The numbers of a text, with blanks between.
-fn numbers(rt: &impl Abort, alloc: Global, text: &str) -> Result<List<Frac128>, AllocError> {
+fn numbers(rt: &impl Abort, alloc: Global, text: &str) -> List<Frac128> {
     let mut made = Vec::new(alloc);
     for word in text.split(' ') {
         if !word.is_empty() {
-            made.push(number(rt, word))?;
+            push(rt, &mut made, number(rt, word));
         }
     }
-    Ok(List::from(made))
+    List::from(made)
 }
 
 // The end before the first blank of a part, and what stands behind it.
 fn end<'a>(rt: &impl Abort, part: &'a str) -> (Frac128, &'a str) {
-    let (end, rest) = part.trim().split_once(' ').expect(rt, "an end and more");
+    let (end, rest) = parted(rt, part.trim(), " ");
     (number(rt, end), rest)
 }
 
@@ -52,18 +52,13 @@ fn segment(alloc: Global, lo: Frac128, hi: Frac128, coef: List<Frac128>) -> Segm
     }
 }
 
-fn process(
-    rt: &impl Abort,
-    alloc: Global,
-    low: Frac128,
-    text: &str,
-) -> Result<Process<Frac128>, AllocError> {
+fn process(rt: &impl Abort, alloc: Global, low: Frac128, text: &str) -> Process<Frac128> {
     let mut segments = Vec::new(alloc);
     let mut lo = low;
     for part in text.split(';') {
         let (hi, coef) = end(rt, part);
-        let coef = numbers(rt, alloc, coef)?;
-        segments.push(segment(alloc, lo, hi, coef))?;
+        let coef = numbers(rt, alloc, coef);
+        push(rt, &mut segments, segment(alloc, lo, hi, coef));
         lo = hi;
     }
     let trail = Trail {
@@ -72,10 +67,10 @@ fn process(
         rise: List::new(alloc),
         fall: List::new(alloc),
     };
-    Ok(Process {
+    Process {
         segments: List::from(segments),
         trail,
-    })
+    }
 }
 
 fn has_entries(process: &Process<Frac128>, x: &[Frac128], offsets: &[Frac128]) -> bool
@@ -103,18 +98,16 @@ struct Prediction {
 }
 
 // The prediction of a fit: entries, offsets, the low end, and the high end and the coefficients of each segment.
-fn predicted(rt: &impl Abort, alloc: Global, fit: &str) -> Result<Prediction, AllocError> {
+fn predicted(rt: &impl Abort, alloc: Global, fit: &str) -> Prediction {
     let mut parts = fit.split('|');
-    let x = numbers(rt, alloc, parts.next().unwrap_or(""))?;
-    let offsets = numbers(rt, alloc, parts.next().unwrap_or(""))?;
+    let x = numbers(rt, alloc, parts.next().unwrap_or(""));
+    let offsets = numbers(rt, alloc, parts.next().unwrap_or(""));
     let lo = number(rt, parts.next().unwrap_or(""));
-    let process = process(rt, alloc, lo, parts.next().unwrap_or(""))?;
-    let (x, offsets) = (x.as_slice(), offsets.as_slice());
-    assert!(rt; has_entries(&process, x, offsets));
-    Ok(Prediction {
-        lo,
-        steps: steps(alloc, &process, x, offsets, 3),
-    })
+    let process = process(rt, alloc, lo, parts.next().unwrap_or(""));
+    assert!(rt; has_entries(&process, x.as_slice(), offsets.as_slice()));
+    let steps = steps(alloc, &process, x.as_slice(), offsets.as_slice(), 3);
+    drop(process);
+    Prediction { lo, steps }
 }
 
 fn rearranged(rt: &impl Abort, alloc: Global, steps: &[Step<Frac128>]) -> Stepped {
@@ -124,21 +117,16 @@ fn rearranged(rt: &impl Abort, alloc: Global, steps: &[Step<Frac128>]) -> Steppe
 }
 
 // The steps from a low end, whose text has the high end and the value of each.
-fn steps_from(
-    rt: &impl Abort,
-    alloc: Global,
-    low: Frac128,
-    text: &str,
-) -> Result<Vec<Step<Frac128>>, AllocError> {
+fn steps_from(rt: &impl Abort, alloc: Global, low: Frac128, text: &str) -> Vec<Step<Frac128>> {
     let mut made = Vec::new(alloc);
     let mut lo = low;
     for part in text.split(';') {
         let (hi, value) = end(rt, part);
         let value = number(rt, value);
-        made.push(Step { lo, hi, value })?;
+        push(rt, &mut made, Step { lo, hi, value });
         lo = hi;
     }
-    Ok(made)
+    made
 }
 
 // What is made is these steps, which are handed back.
@@ -148,20 +136,19 @@ fn expect_steps(
     made: Stepped,
     low: Frac128,
     text: &str,
-) -> Result<List<Step<Frac128>>, AllocError> {
+) -> List<Step<Frac128>> {
     let made = made.ok().expect(rt, "numbers in range");
-    let wanted = steps_from(rt, alloc, low, text)?;
+    let wanted = steps_from(rt, alloc, low, text);
     assert!(rt; made.as_slice() == wanted.as_slice(), "{text}");
-    Ok(made)
+    made
 }
 
-fn expect_case(rt: &impl Abort, alloc: Global, fit: &str, wanted: &str) -> Result<(), AllocError> {
-    let (stepped, in_order) = wanted.split_once(" => ").expect(rt, "a rearrangement");
-    let Prediction { lo, steps } = predicted(rt, alloc, fit)?;
-    let made = expect_steps(rt, alloc, steps, lo, stepped)?;
+fn expect_case(rt: &impl Abort, alloc: Global, fit: &str, wanted: &str) {
+    let (stepped, in_order) = parted(rt, wanted, " => ");
+    let Prediction { lo, steps } = predicted(rt, alloc, fit);
+    let made = expect_steps(rt, alloc, steps, lo, stepped);
     let made = rearranged(rt, alloc, made.as_slice());
-    expect_steps(rt, alloc, made, lo, in_order)?;
-    Ok(())
+    expect_steps(rt, alloc, made, lo, in_order);
 }
 
 // Lines of a fit, the steps of its prediction, and their rearrangement. In the first two a line runs through two of three
@@ -213,44 +200,45 @@ static CASES: &str = "\
 ";
 
 #[test]
-fn predictions(rt: HostRuntime) -> Result<(), Fail> {
+fn predictions(rt: HostRuntime) {
     let mut count: u32 = 0;
     for line in CASES.lines() {
-        let (fit, wanted) = line.split_once(" => ").ok_or("no steps")?;
-        expect_case(&rt, rt.alloc(), fit, wanted)?;
+        let (fit, wanted) = parted(&rt, line, " => ");
+        expect_case(&rt, rt.alloc(), fit, wanted);
         count = count.wrapping_add(1);
     }
     assert!(rt; count == 42, "{count}");
-    Ok(())
 }
 
 // What overflows: the quantity, its indices, the term and the operation, and its operands.
-fn tell_spill(alloc: Global, spill: Spill<Frac128>) -> Result<String, Fail> {
+fn tell_spill(rt: &impl Abort, alloc: Global, spill: &Spill<Frac128>) -> String {
     let site = spill.site;
-    let left = number_text(alloc, spill.left)?;
-    let right = number_text(alloc, spill.right)?;
     let at = format!(in alloc;
         "{:?} {} {} {}",
         site.quantity, site.first, site.second, site.third
-    )?;
-    Ok(format!(in alloc;
+    );
+    let at = at.ok().expect(rt, "memory");
+    let left = text_of(rt, alloc, spill.left);
+    let right = text_of(rt, alloc, spill.right);
+    let told = format!(in alloc;
         "{at} {} {:?} {} {}",
         site.term,
         site.kind,
         left.as_str(),
         right.as_str()
-    )?)
+    );
+    told.ok().expect(rt, "memory")
 }
 
-fn expect_spill(rt: &impl Abort, alloc: Global, found: Stepped, wanted: &str) -> Result<(), Fail> {
-    match found {
+fn expect_spill(rt: &impl Abort, alloc: Global, found: Stepped, wanted: &str) {
+    match &found {
         Err(Short::Overflow(spill)) => {
-            let told = tell_spill(alloc, spill)?;
-            assert!(rt; told.as_str() == wanted, "{}", told.as_str());
-            Ok(())
+            let told = tell_spill(rt, alloc, spill);
+            assert!(rt; told.as_str() == wanted, "{told}");
         }
         _ => panic!(rt; "the numbers are wide"),
     }
+    drop(found);
 }
 
 // Lines of a fit, and what overflows in its prediction. The widest number is 170141183460469231731687303715884105727: a
@@ -262,16 +250,15 @@ static WIDE: &str = "\
 ";
 
 #[test]
-fn predictions_that_are_too_wide(rt: HostRuntime) -> Result<(), Fail> {
+fn predictions_that_are_too_wide(rt: HostRuntime) {
     let mut count: u32 = 0;
     for line in WIDE.lines() {
-        let (fit, wanted) = line.split_once(" => ").ok_or("no operation")?;
-        let found = predicted(&rt, rt.alloc(), fit)?;
-        expect_spill(&rt, rt.alloc(), found.steps, wanted)?;
+        let (fit, wanted) = parted(&rt, line, " => ");
+        let found = predicted(&rt, rt.alloc(), fit);
+        expect_spill(&rt, rt.alloc(), found.steps, wanted);
         count = count.wrapping_add(1);
     }
     assert!(rt; count == 3, "{count}");
-    Ok(())
 }
 
 // Lines of steps from 0, with denominators whose product is too wide, and what overflows in their rearrangement: the
@@ -282,15 +269,14 @@ static FAR: &str = "\
 ";
 
 #[test]
-fn rearrangements_that_are_too_wide(rt: HostRuntime) -> Result<(), Fail> {
+fn rearrangements_that_are_too_wide(rt: HostRuntime) {
     let mut count: u32 = 0;
     for line in FAR.lines() {
-        let (text, wanted) = line.split_once(" => ").ok_or("no operation")?;
-        let steps = steps_from(&rt, rt.alloc(), Frac128::zero(), text)?;
+        let (text, wanted) = parted(&rt, line, " => ");
+        let steps = steps_from(&rt, rt.alloc(), Frac128::zero(), text);
         let found = rearranged(&rt, rt.alloc(), steps.as_slice());
-        expect_spill(&rt, rt.alloc(), found, wanted)?;
+        expect_spill(&rt, rt.alloc(), found, wanted);
         count = count.wrapping_add(1);
     }
     assert!(rt; count == 2, "{count}");
-    Ok(())
 }

@@ -1,9 +1,10 @@
 //! Streams in memory and over std: reads and writes that fail in their midst, and those that don't.
 
 use port_io::{MemSink, MemSource, ReadFault, StdSink, StdSource, SureSource, read_all, write_all};
+use std::alloc::Global;
 use std::io;
 use std::io::{Read, Write};
-use std::test::Fail;
+use std::process::Abort;
 
 const TABLE: &[u8] = b"y\n1\n2\n3\n";
 
@@ -22,23 +23,30 @@ static READS: [(usize, &[u32], bool); 9] = [
     (100_000, &[3, 0], true),
 ];
 
-#[test]
-fn reads_of_memory_fail_as_told(rt: HostRuntime) -> Result<(), Fail> {
-    for (piece, fails, whole) in &READS {
-        let bytes = TABLE.to_vec(rt.alloc())?;
-        let mut source = MemSource::new(bytes, *piece, fails.to_vec(rt.alloc())?);
-        match read_all(rt.alloc(), &mut source) {
-            Ok(read) => {
-                assert!(rt; *whole, "{piece} {fails:?}");
-                assert!(rt; read.as_slice() == TABLE);
-            }
-            Err(fault) => {
-                assert!(rt; !*whole, "{piece} {fails:?}");
-                assert!(rt; fault == ReadFault::Failed);
-            }
+// Whether the table is read whole by such reads; else the source is what failed.
+fn is_read(rt: &impl Abort, alloc: Global, piece: usize, fails: &[u32]) -> bool {
+    assert!(rt; piece > 0);
+    let bytes = TABLE.to_vec(alloc).ok().expect(rt, "memory");
+    let fails = fails.to_vec(alloc).ok().expect(rt, "memory");
+    let mut source = MemSource::new(bytes, piece, fails);
+    match read_all(alloc, &mut source) {
+        Ok(read) => {
+            assert!(rt; read.as_slice() == TABLE);
+            true
+        }
+        Err(fault) => {
+            assert!(rt; fault == ReadFault::Failed);
+            false
         }
     }
-    Ok(())
+}
+
+#[test]
+fn reads_of_memory_fail_as_told(rt: HostRuntime) {
+    for (piece, fails, whole) in &READS {
+        let found = is_read(&rt, rt.alloc(), *piece, fails);
+        assert!(rt; found == *whole, "{piece} {fails:?}");
+    }
 }
 
 // Each case: the room, the most bytes of a write, the calls that fail, and how many bytes are held
@@ -54,31 +62,40 @@ static WRITES: [(usize, usize, &[u32], usize); 8] = [
     (0, 1, &[], 0),
 ];
 
+// So many bytes of the report are held in the end.
+fn expect_held(
+    rt: &impl Abort,
+    alloc: Global,
+    room: usize,
+    piece: usize,
+    fails: &[u32],
+    held: usize,
+) {
+    assert!(rt; piece > 0);
+    let fails = fails.to_vec(alloc).ok().expect(rt, "memory");
+    let mut sink = MemSink::new(alloc, room, piece, fails)
+        .ok()
+        .expect(rt, "memory");
+    let written = write_all(&mut sink, REPORT);
+    assert!(rt; written.is_ok() == (held == REPORT.len()), "{room} {piece}");
+    assert!(rt; sink.written() == &REPORT[..held.min(31)], "{room} {piece}");
+}
+
 #[test]
-fn writes_to_memory_fail_as_told(rt: HostRuntime) -> Result<(), Fail> {
+fn writes_to_memory_fail_as_told(rt: HostRuntime) {
     for (room, piece, fails, held) in &WRITES {
-        let mut sink = MemSink::new(rt.alloc(), *room, *piece, fails.to_vec(rt.alloc())?)?;
-        let written = write_all(&mut sink, REPORT);
-        assert!(rt;
-            written.is_ok() == (*held == REPORT.len()),
-            "{room} {piece} {fails:?}"
-        );
-        assert!(rt;
-            sink.written() == &REPORT[..(*held).min(31)],
-            "{room} {piece} {fails:?}"
-        );
+        expect_held(&rt, rt.alloc(), *room, *piece, fails, *held);
     }
-    Ok(())
 }
 
 // More than the first room holds.
 #[test]
-fn a_large_source_is_read_whole(rt: HostRuntime) -> Result<(), Fail> {
-    let bytes = vec![in rt.alloc(); 7; 300_000]?;
-    let read = read_all(rt.alloc(), &mut SureSource::new(bytes))?;
+fn a_large_source_is_read_whole(rt: HostRuntime) {
+    let bytes = vec![in rt.alloc(); 7; 300_000].ok().expect(&rt, "memory");
+    let mut source = SureSource::new(bytes);
+    let read = read_all(rt.alloc(), &mut source).ok().expect(&rt, "bytes");
     assert!(rt; read.len() == 300_000);
     assert!(rt; read.iter().all(|byte| *byte == 7));
-    Ok(())
 }
 
 // Gives one byte a read, and fails in the read of this number.
@@ -106,24 +123,30 @@ impl<'a> Read for Dripping<'a> {
     }
 }
 
+// Whether the table is read whole where the read of this number fails; else that is the fault.
+fn is_dripped(rt: &impl Abort, alloc: Global, fails: u32) -> bool {
+    let reader = Dripping {
+        left: TABLE,
+        reads: 0,
+        fails,
+    };
+    let read = read_all(alloc, &mut StdSource::new(reader));
+    let is_whole = read.is_ok();
+    assert!(rt;
+        is_whole || read.err() == Some(ReadFault::Failed),
+        "{fails}"
+    );
+    is_whole
+}
+
 #[test]
-fn a_reader_of_std_is_a_source(rt: HostRuntime) -> Result<(), Fail> {
-    let read = read_all(rt.alloc(), &mut StdSource::new(TABLE))?;
+fn a_reader_of_std_is_a_source(rt: HostRuntime) {
+    let read = read_all(rt.alloc(), &mut StdSource::new(TABLE));
+    let read = read.ok().expect(&rt, "bytes");
     assert!(rt; read.as_slice() == TABLE);
     for (fails, whole) in [(1, false), (3, false), (9, false), (10, true)] {
-        let reader = Dripping {
-            left: TABLE,
-            reads: 0,
-            fails,
-        };
-        let read = read_all(rt.alloc(), &mut StdSource::new(reader));
-        assert!(rt; read.is_ok() == whole, "{fails}");
-        assert!(rt;
-            read.is_ok() || read.err() == Some(ReadFault::Failed),
-            "{fails}"
-        );
+        assert!(rt; is_dripped(&rt, rt.alloc(), fails) == whole, "{fails}");
     }
-    Ok(())
 }
 
 // Takes two bytes a write, and counts its writes and flushes. The write and the flush of these
@@ -163,33 +186,37 @@ impl Write for Sluggish {
 
 // Each case: the bad write, the bad flush and the idle write; then whether all is written, how
 // many bytes are held and how often the writer was flushed.
+static SLUGGISH: [([u32; 3], bool, usize, u32); 5] = [
+    ([0, 0, 0], true, 8, 4),
+    ([3, 0, 0], false, 4, 2),
+    ([0, 2, 0], false, 4, 2),
+    ([0, 0, 4], false, 6, 3),
+    ([5, 5, 5], true, 8, 4),
+];
+
+// What is left of the table that is written to such a writer.
+fn sluggishly(alloc: Global, [bad_write, bad_flush, idle]: [u32; 3]) -> (bool, usize, u32) {
+    let mut writer = Sluggish {
+        held: Vec::new(alloc),
+        writes: 0,
+        flushes: 0,
+        bad_write,
+        bad_flush,
+        idle,
+    };
+    let written = write_all(&mut StdSink::new(&mut writer), TABLE);
+    (written.is_ok(), writer.held.len(), writer.flushes)
+}
+
 #[test]
-fn a_writer_of_std_is_a_sink(rt: HostRuntime) -> Result<(), Fail> {
+fn a_writer_of_std_is_a_sink(rt: HostRuntime) {
     let mut held = Vec::new(rt.alloc());
     assert!(rt; write_all(&mut StdSink::new(&mut held), REPORT).is_ok());
     assert!(rt; held.as_slice() == REPORT);
-    let cases = [
-        (0, 0, 0, true, 8, 4),
-        (3, 0, 0, false, 4, 2),
-        (0, 2, 0, false, 4, 2),
-        (0, 0, 4, false, 6, 3),
-        (5, 5, 5, true, 8, 4),
-    ];
-    for (bad_write, bad_flush, idle, whole, len, flushes) in cases {
-        let mut writer = Sluggish {
-            held: Vec::new(rt.alloc()),
-            writes: 0,
-            flushes: 0,
-            bad_write,
-            bad_flush,
-            idle,
-        };
-        let written = write_all(&mut StdSink::new(&mut writer), TABLE);
-        assert!(rt; written.is_ok() == whole, "{bad_write} {bad_flush} {idle}");
-        assert!(rt; writer.held.len() == len, "{bad_write} {bad_flush} {idle}");
-        assert!(rt; writer.flushes == flushes, "{bad_write} {bad_flush} {idle}");
+    for (troubles, whole, len, flushes) in &SLUGGISH {
+        let found = sluggishly(rt.alloc(), *troubles);
+        assert!(rt; found == (*whole, *len, *flushes), "{troubles:?}");
     }
-    Ok(())
 }
 
 // Holds back what it takes until it is flushed, and counts the flushes.
@@ -217,7 +244,7 @@ impl Write for Holding {
 
 // All that a sink says is written has left the writer's own room: 31 bytes in pieces of 3.
 #[test]
-fn each_write_is_flushed(rt: HostRuntime) -> Result<(), Fail> {
+fn each_write_is_flushed(rt: HostRuntime) {
     let mut writer = Holding {
         waiting: Vec::new(rt.alloc()),
         arrived: Vec::new(rt.alloc()),
@@ -227,5 +254,4 @@ fn each_write_is_flushed(rt: HostRuntime) -> Result<(), Fail> {
     assert!(rt; writer.arrived.as_slice() == REPORT);
     assert!(rt; writer.waiting.is_empty());
     assert!(rt; writer.flushes == 11);
-    Ok(())
 }

@@ -1,14 +1,13 @@
 //! Fractions in 64 bits and back, and problems and answers so.
 
-use crate::helpers::{Ratio, fraction, is_shaped, ratio};
+use crate::helpers::{Ratio, fraction, is_shaped, list, push, ratio};
 use frac_core::{Exact, Frac64, Frac128, List, narrow, widen};
 use loss_model::{
     Basis, Exchange, Problem, Process, Row, Segment, Side, Stop, Trail, Vertex, narrow_problem,
     widen_process, widen_stop,
 };
-use std::alloc::{AllocError, Global};
+use std::alloc::Global;
 use std::process::Abort;
-use std::test::Fail;
 
 /// The widest number of 64 bits.
 const L: i128 = Frac64::RANGE;
@@ -65,40 +64,31 @@ static ROWS: [(&Numbers, bool); 5] = [
     ),
 ];
 
-fn row(rt: &impl Abort, alloc: Global, numbers: &Numbers) -> Result<Row<Frac128>, AllocError> {
-    let mut x = Vec::new(alloc);
-    x.push(fraction(rt, numbers[0]))?;
-    Ok(Row {
-        x: List::from(x),
+fn row(rt: &impl Abort, alloc: Global, numbers: &Numbers) -> Row<Frac128> {
+    Row {
+        x: list(rt, alloc, &[numbers[0]]),
         y: fraction(rt, numbers[1]),
         up0: fraction(rt, numbers[2]),
         up1: fraction(rt, numbers[3]),
         down0: fraction(rt, numbers[4]),
         down1: fraction(rt, numbers[5]),
-    })
+    }
 }
 
 // The row in 64 bits, where it fits.
-fn narrow_row(
-    rt: &impl Abort,
-    alloc: Global,
-    numbers: &Numbers,
-) -> Result<Option<Row<Frac64>>, AllocError> {
+fn narrow_row(rt: &impl Abort, alloc: Global, numbers: &Numbers) -> Option<Row<Frac64>> {
     let mut rows = Vec::new(alloc);
-    rows.push(row(rt, alloc, numbers)?)?;
+    push(rt, &mut rows, row(rt, alloc, numbers));
     let problem = Problem {
         columns: 1,
         rows: List::from(rows),
     };
     assert!(rt; is_shaped(&problem));
-    match narrow_problem(alloc, &problem) {
-        Ok(Some(narrow)) => {
-            assert!(rt; narrow.columns == 1);
-            Ok(narrow.rows.into_vec().pop())
-        },
-        Ok(None) => Ok(None),
-        Err(_) => Err(AllocError),
-    }
+    let made = narrow_problem(alloc, &problem).ok().expect(rt, "memory");
+    drop(problem);
+    let narrow = made?;
+    assert!(rt; narrow.columns == 1);
+    narrow.rows.into_vec().pop()
 }
 
 // Whether a row has one entry, and these are its numbers.
@@ -119,32 +109,37 @@ fn has_numbers(row: &Row<Frac64>, numbers: &Numbers) -> bool {
 }
 
 #[test]
-fn problems_in_64_bits(rt: HostRuntime) -> Result<(), Fail> {
+fn problems_in_64_bits(rt: HostRuntime) {
     for (numbers, fits) in &ROWS {
-        match narrow_row(&rt, rt.alloc(), numbers)? {
-            Some(made) => assert!(rt; *fits && has_numbers(&made, numbers), "{numbers:?}"),
+        let narrow = narrow_row(&rt, rt.alloc(), numbers);
+        match &narrow {
+            Some(made) => assert!(rt; *fits && has_numbers(made, numbers), "{numbers:?}"),
             None => assert!(rt; !*fits, "{numbers:?}"),
         }
+        drop(narrow);
     }
-    Ok(())
+}
+
+// A list of one item.
+fn one<T: Drop>(rt: &impl Abort, alloc: Global, item: T) -> List<T> {
+    let mut items = Vec::new(alloc);
+    push(rt, &mut items, item);
+    List::from(items)
 }
 
 // A trail of one step.
-fn trail(rt: &impl Abort, alloc: Global) -> Result<Trail<Frac64>, AllocError> {
-    let mut start = Vec::new(alloc);
-    start.push(Some(7))?;
-    let mut steps = Vec::new(alloc);
-    steps.push(Exchange {
+fn trail(rt: &impl Abort, alloc: Global) -> Trail<Frac64> {
+    let step = Exchange {
         theta: fraction(rt, (1, 3)),
         position: 0,
         row: 9,
-    })?;
-    Ok(Trail {
-        start: List::from(start),
-        steps: List::from(steps),
+    };
+    Trail {
+        start: one(rt, alloc, Some(7)),
+        steps: one(rt, alloc, step),
         rise: List::new(alloc),
         fall: List::new(alloc),
-    })
+    }
 }
 
 fn is_trail(trail: &Trail<Frac128>) -> bool {
@@ -159,46 +154,38 @@ fn is_trail(trail: &Trail<Frac128>) -> bool {
 }
 
 #[test]
-fn stops_in_128_bits(rt: HostRuntime) -> Result<(), Fail> {
+fn stops_in_128_bits(rt: HostRuntime) {
     let alloc = rt.alloc();
     let stop = Stop::PivotLimit {
         limit: 1,
-        trail: trail(&rt, alloc)?,
+        trail: trail(&rt, alloc),
     };
-    match widen_stop(alloc, &stop) {
-        Ok(Stop::PivotLimit { limit, trail }) => assert!(rt; limit == 1 && is_trail(&trail)),
+    let wide = widen_stop(alloc, &stop).ok().expect(&rt, "memory");
+    match &wide {
+        Stop::PivotLimit { limit, trail } => assert!(rt; *limit == 1 && is_trail(trail)),
         _ => panic!(&rt; "a limit stays a limit"),
     }
-    Ok(())
-}
-
-fn one(rt: &impl Abort, alloc: Global, number: Ratio) -> Result<List<Frac64>, AllocError> {
-    let mut list = Vec::new(alloc);
-    list.push(fraction(rt, number))?;
-    Ok(List::from(list))
+    drop(wide);
+    drop(stop);
 }
 
 // A segment of one column.
-fn segment(rt: &impl Abort, alloc: Global) -> Result<Segment<Frac64>, AllocError> {
-    let mut rows = Vec::new(alloc);
-    rows.push(9)?;
-    let mut sides = Vec::new(alloc);
-    sides.push(Side::Basic)?;
-    Ok(Segment {
+fn segment(rt: &impl Abort, alloc: Global) -> Segment<Frac64> {
+    Segment {
         lo: fraction(rt, (0, 1)),
         hi: fraction(rt, (1, 2)),
         vertex: Vertex {
             basis: Basis {
-                rows: List::from(rows),
+                rows: one(rt, alloc, 9),
             },
-            sides: List::from(sides),
-            coef: one(rt, alloc, (-L, 1))?,
+            sides: one(rt, alloc, Side::Basic),
+            coef: list(rt, alloc, &[(-L, 1)]),
         },
-        basic_lo: one(rt, alloc, (0, 1))?,
-        basic_hi: one(rt, alloc, (-1, 2))?,
+        basic_lo: list(rt, alloc, &[(0, 1)]),
+        basic_hi: list(rt, alloc, &[(-1, 2)]),
         loss_lo: fraction(rt, (3, 1)),
         loss_hi: fraction(rt, (L, 2)),
-    })
+    }
 }
 
 fn is_one(list: &List<Frac128>, number: Ratio) -> bool {
@@ -222,23 +209,18 @@ fn is_segment(segment: &Segment<Frac128>) -> bool {
 }
 
 #[test]
-fn processes_in_128_bits(rt: HostRuntime) -> Result<(), Fail> {
+fn processes_in_128_bits(rt: HostRuntime) {
     let alloc = rt.alloc();
-    let mut segments = Vec::new(alloc);
-    segments.push(segment(&rt, alloc)?)?;
     let process = Process {
-        segments: List::from(segments),
-        trail: trail(&rt, alloc)?,
+        segments: one(&rt, alloc, segment(&rt, alloc)),
+        trail: trail(&rt, alloc),
     };
-    match widen_process(alloc, &process) {
-        Ok(wide) => {
-            assert!(rt; is_trail(&wide.trail));
-            match wide.segments.as_slice() {
-                [found] => assert!(rt; is_segment(found)),
-                _ => panic!(&rt; "there is one segment")
-            }
-        }
-        Err(_) => return Err(Fail::from(AllocError)),
+    let wide = widen_process(alloc, &process).ok().expect(&rt, "memory");
+    assert!(rt; is_trail(&wide.trail));
+    match wide.segments.as_slice() {
+        [found] => assert!(rt; is_segment(found)),
+        _ => panic!(&rt; "there is one segment")
     }
-    Ok(())
+    drop(wide);
+    drop(process);
 }

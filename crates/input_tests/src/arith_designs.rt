@@ -145,22 +145,23 @@ struct Asked {
     weights: Option<&'static str>,
 }
 
-// What a line asks, and what is wanted.
-fn asked_in(line: &'static str) -> Option<(Asked, &'static str)> {
-    let (asked, want) = line.split_once(" => ")?;
-    let (table, model) = asked.split_once(" ? ")?;
-    let (formula, weights) = match model.split_once(" @ ") {
+// A formula, and the weights behind it.
+fn parts_of(model: &str) -> (&str, Option<&str>) {
+    match model.split_once(" @ ") {
         Some((formula, name)) => (formula, Some(name)),
         None => (model, None),
-    };
-    Some((
-        Asked {
-            table,
-            formula,
-            weights,
-        },
-        want,
-    ))
+    }
+}
+
+// What a line asks.
+fn asked_in(rt: &impl Abort, line: &'static str) -> Asked {
+    let (table, model) = line.split_once(" ? ").expect(rt, "a formula");
+    let (formula, weights) = parts_of(model);
+    Asked {
+        table,
+        formula,
+        weights,
+    }
 }
 
 fn table_of(alloc: Global, lines: &str) -> Option<Frame> {
@@ -172,12 +173,17 @@ fn table_of(alloc: Global, lines: &str) -> Option<Frame> {
     frame_of(alloc, text.as_str().as_bytes())
 }
 
+// A weight that isn't 1.
+fn tell_weight(told: &mut Told, weight: Frac128) {
+    if weight != Frac128::one() {
+        told.put("*");
+        told.put_number(weight);
+    }
+}
+
 fn tell_row(told: &mut Told, row: &DesignRow) {
     told.put_named(" | ", row.rec);
-    if row.weight != Frac128::one() {
-        told.put("*");
-        told.put_number(row.weight);
-    }
+    tell_weight(told, row.weight);
     told.put(" ");
     told.put_number(row.y);
     told.put(": ");
@@ -203,15 +209,23 @@ fn tell_spill(told: &mut Told, spill: &Spill<Frac128>) {
     told.put_numbers(&[spill.left, spill.right]);
 }
 
+fn tell_refused(told: &mut Told, fault: &DesignFault) {
+    match fault {
+        DesignFault::Overflow(spill) => tell_spill(told, spill),
+        _ => tell_fault(told, fault),
+    }
+}
+
 fn tell_built(told: &mut Told, frame: &Frame, model: &Formula, weights: Option<&str>)
     requires short { All (λ t. length t.variables < 2 ^ 32) model.now.terms }
     requires held { All (IsHeld frame.now.names) (ariths_of model.now) }
 {
-    match build(told.alloc(), frame, model, Coding::Treatment, weights) {
-        Ok(design) => tell_design(told, &design),
-        Err(DesignFault::Overflow(spill)) => tell_spill(told, &spill),
-        Err(fault) => tell_fault(told, &fault),
+    let built = build(told.alloc(), frame, model, Coding::Treatment, weights);
+    match &built {
+        Ok(design) => tell_design(told, design),
+        Err(fault) => tell_refused(told, fault),
     }
+    drop(built);
 }
 
 fn tell(told: &mut Told, frame: &Frame, asked: Asked, predicted: bool) {
@@ -222,6 +236,7 @@ fn tell(told: &mut Told, frame: &Frame, asked: Asked, predicted: bool) {
             } else {
                 tell_built(told, frame, &model, asked.weights);
             }
+            drop(model);
         }
         None => told.put("no formula"),
     }
@@ -230,7 +245,10 @@ fn tell(told: &mut Told, frame: &Frame, asked: Asked, predicted: bool) {
 fn expect(rt: &(impl Abort + AllocGlobal), asked: Asked, predicted: bool, want: &str) {
     let mut told = Told::new(rt.alloc());
     match table_of(rt.alloc(), asked.table) {
-        Some(frame) => tell(&mut told, &frame, asked, predicted),
+        Some(frame) => {
+            tell(&mut told, &frame, asked, predicted);
+            drop(frame);
+        }
         None => told.put("no table"),
     }
     told.expect(rt, want, asked.formula);
@@ -240,8 +258,8 @@ fn expect(rt: &(impl Abort + AllocGlobal), asked: Asked, predicted: bool, want: 
 fn run(rt: &(impl Abort + AllocGlobal), lines: &'static str, predicted: bool) -> u32 {
     let mut count = 0u32;
     for line in lines.lines() {
-        if let Some((asked, want)) = asked_in(line) {
-            expect(rt, asked, predicted, want);
+        if let Some((asked, want)) = line.split_once(" => ") {
+            expect(rt, asked_in(rt, asked), predicted, want);
             count = count.wrapping_add(1);
         }
     }

@@ -13,7 +13,7 @@ use crate::models::model_of;
 use contrasts::Coding;
 use data_frame::Frame;
 use design_matrix::{DesignRow, build};
-use formula_parser::{Formula, FormulaFault, Variable, parse};
+use formula_parser::{Formula, FormulaFault, parse};
 use frac_core::{Arith, ArithOp};
 use std::alloc::Global;
 use std::process::Abort;
@@ -25,10 +25,10 @@ fn parsed(alloc: Global, text: &str) -> Option<Result<Formula, FormulaFault>> {
     if text.len() > 1 << 30 {
         return None;
     }
-    match frame_of(alloc, TABLE) {
-        Some(frame) => Some(parse(alloc, text, frame.names())),
-        None => None,
-    }
+    let frame = frame_of(alloc, TABLE)?;
+    let answer = parse(alloc, text, frame.names());
+    drop(frame);
+    Some(answer)
 }
 
 fn tell_op(told: &mut Told, op: ArithOp) {
@@ -60,18 +60,13 @@ fn tell_arith(told: &mut Told, arith: &Arith) {
 
 // The arithmetic of a formula with just one term of just one variable.
 fn only_arith(formula: &Formula) -> Option<&Arith> {
-    match formula.terms.as_slice() {
-        [term] => match term.variables.as_slice() {
-            [
-                Variable {
-                    arith: Some(arith),
-                    ..
-                },
-            ] => Some(arith),
-            _ => None,
-        },
-        _ => None,
-    }
+    let [term] = formula.terms.as_slice() else {
+        return None;
+    };
+    let [variable] = term.variables.as_slice() else {
+        return None;
+    };
+    variable.arith.as_ref()
 }
 
 // The intercept, the terms, the smooths and the offsets.
@@ -111,14 +106,16 @@ fn tell_values(told: &mut Told, frame: &Frame, model: &Formula)
     requires short { All (λ t. length t.variables < 2 ^ 32) model.now.terms }
     requires held { All (IsHeld frame.now.names) (ariths_of model.now) }
 {
-    match build(told.alloc(), frame, model, Coding::Treatment, None) {
+    let built = build(told.alloc(), frame, model, Coding::Treatment, None);
+    match &built {
         Ok(design) => {
             for row in design.rows.as_slice() {
                 tell_value(told, row);
             }
         }
-        Err(fault) => tell_fault(told, &fault),
+        Err(fault) => tell_fault(told, fault),
     }
+    drop(built);
 }
 
 // What `y ~ I(..)` says of its arithmetic, and the values of that.
@@ -132,6 +129,7 @@ fn tell_model(told: &mut Told, frame: &Frame, text: &str) {
     }
     told.put(" |");
     tell_values(told, frame, &model);
+    drop(model);
 }
 
 fn expect_arith(rt: &(impl Abort + AllocGlobal), arith: &str, want: &str, asked: &str) {
@@ -141,7 +139,10 @@ fn expect_arith(rt: &(impl Abort + AllocGlobal), arith: &str, want: &str, asked:
     text.put(arith);
     text.put(")");
     match frame_of(rt.alloc(), TABLE) {
-        Some(frame) => tell_model(&mut told, &frame, text.as_str()),
+        Some(frame) => {
+            tell_model(&mut told, &frame, text.as_str());
+            drop(frame);
+        }
         None => told.put("no table"),
     }
     told.expect(rt, want, asked);
@@ -150,11 +151,13 @@ fn expect_arith(rt: &(impl Abort + AllocGlobal), arith: &str, want: &str, asked:
 // What a formula says.
 fn expect(rt: &(impl Abort + AllocGlobal), text: &str, want: &str, asked: &str) {
     let mut told = Told::new(rt.alloc());
-    match parsed(rt.alloc(), text) {
-        Some(Ok(formula)) => tell_formula(&mut told, &formula),
-        Some(Err(fault)) => told.put_debug(&fault),
+    let answer = parsed(rt.alloc(), text);
+    match &answer {
+        Some(Ok(formula)) => tell_formula(&mut told, formula),
+        Some(Err(fault)) => told.put_debug(fault),
         None => told.put("too long"),
     }
+    drop(answer);
     told.expect(rt, want, asked);
 }
 

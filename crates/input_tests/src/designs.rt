@@ -357,15 +357,20 @@ fn tell_model(told: &mut Told, frame: &Frame, model: &Formula, asked: Asked)
     requires short { All (λ t. length t.variables < 2 ^ 32) model.now.terms }
     requires held { All (IsHeld frame.now.names) (ariths_of model.now) }
 {
-    match build(told.alloc(), frame, model, asked.coding, asked.weights) {
-        Ok(design) => tell_design(told, &design),
-        Err(fault) => tell_fault(told, &fault),
+    let built = build(told.alloc(), frame, model, asked.coding, asked.weights);
+    match &built {
+        Ok(design) => tell_design(told, design),
+        Err(fault) => tell_fault(told, fault),
     }
+    drop(built);
 }
 
 fn tell(told: &mut Told, frame: &Frame, asked: Asked) {
     match model_of(told.alloc(), frame, asked.formula) {
-        Some(model) => tell_model(told, frame, &model, asked),
+        Some(model) => {
+            tell_model(told, frame, &model, asked);
+            drop(model);
+        }
         None => told.put("no formula"),
     }
 }
@@ -374,7 +379,10 @@ fn tell(told: &mut Told, frame: &Frame, asked: Asked) {
 fn expect(rt: &(impl Abort + AllocGlobal), asked: Asked, want: &str) {
     let mut told = Told::new(rt.alloc());
     match frame_of(rt.alloc(), asked.table) {
-        Some(frame) => tell(&mut told, &frame, asked),
+        Some(frame) => {
+            tell(&mut told, &frame, asked);
+            drop(frame);
+        }
         None => told.put("no table"),
     }
     told.expect(rt, want, asked.formula);

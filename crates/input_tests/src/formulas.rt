@@ -66,11 +66,13 @@ fn expect(
     asked: &str,
 ) {
     let mut told = Told::new(rt.alloc());
-    match parsed(rt.alloc(), formula, header) {
-        Some(Ok(formula)) => tell_formula(&mut told, &formula),
-        Some(Err(fault)) => told.put_debug(&fault),
+    let answer = parsed(rt.alloc(), formula, header);
+    match &answer {
+        Some(Ok(formula)) => tell_formula(&mut told, formula),
+        Some(Err(fault)) => told.put_debug(fault),
         None => told.put("too long"),
     }
+    drop(answer);
     told.expect(rt, want, asked);
 }
 
@@ -249,11 +251,13 @@ fn tell_count(told: &mut Told, text: &str, end: u32) {
     let mut header = Told::new(told.alloc());
     header.put("y ");
     put_variables(&mut header, " v", 1, end);
-    match parsed(told.alloc(), text, header.as_str()) {
+    let answer = parsed(told.alloc(), text, header.as_str());
+    match &answer {
         Some(Ok(formula)) => told.put_count(formula.terms.as_slice().len()),
-        Some(Err(fault)) => told.put_debug(&fault),
+        Some(Err(fault)) => told.put_debug(fault),
         None => told.put("too long"),
     }
+    drop(answer);
 }
 
 // The sum of so many variables, what follows it, and how many terms there are.

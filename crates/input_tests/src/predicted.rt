@@ -202,10 +202,12 @@ fn tell_record(
     requires plain { length model.now.smooths ≡ 0 }
     requires asked { Contains (predicted frame.now model.now) rec }
 {
-    match predict_row(told.alloc(), frame, model, coding, design, rec) {
-        Ok(row) => tell_row(told, &row),
-        Err(fault) => tell_fault(told, &fault),
+    let answer = predict_row(told.alloc(), frame, model, coding, design, rec);
+    match &answer {
+        Ok(row) => tell_row(told, row),
+        Err(fault) => tell_fault(told, fault),
     }
+    drop(answer);
 }
 
 // What comes of each predicted record.
@@ -244,14 +246,23 @@ pub(crate) fn tell_predictions(
         return told.put("a smooth");
     }
     match build(told.alloc(), frame, model, coding, weights) {
-        Ok(design) => tell_records(told, frame, model, coding, &design),
-        Err(fault) => tell_fault(told, &fault),
+        Ok(design) => {
+            tell_records(told, frame, model, coding, &design);
+            drop(design);
+        }
+        Err(fault) => {
+            tell_fault(told, &fault);
+            drop(fault);
+        }
     }
 }
 
 fn tell_case(told: &mut Told, frame: &Frame, case: Case) {
     match model_of(told.alloc(), frame, case.formula) {
-        Some(model) => tell_predictions(told, frame, &model, case.coding, case.weights),
+        Some(model) => {
+            tell_predictions(told, frame, &model, case.coding, case.weights);
+            drop(model);
+        }
         None => told.put("no formula"),
     }
 }
@@ -259,7 +270,10 @@ fn tell_case(told: &mut Told, frame: &Frame, case: Case) {
 fn expect(rt: &(impl Abort + AllocGlobal), case: Case) {
     let mut told = Told::new(rt.alloc());
     match frame_of(rt.alloc(), case.table) {
-        Some(frame) => tell_case(&mut told, &frame, case),
+        Some(frame) => {
+            tell_case(&mut told, &frame, case);
+            drop(frame);
+        }
         None => told.put("no table"),
     }
     told.expect(rt, case.answer, case.formula);

@@ -9,7 +9,6 @@ use formula_grammar::{
 };
 use std::alloc::Global;
 use std::process::Abort;
-use std::test::Fail;
 
 fn piece_of(text: &str, span: Span) -> Option<&str> {
     let start = span.start as usize;
@@ -99,11 +98,13 @@ fn reading_of(alloc: Global, text: &str) -> Option<Result<Reading, ReadFault>> {
 // The reading of a text is this.
 fn expect(rt: &(impl Abort + AllocGlobal), text: &str, want: &str, asked: &str) {
     let mut told = Told::new(rt.alloc());
-    match reading_of(rt.alloc(), text) {
-        Some(Ok(reading)) => tell_reading(&mut told, text, &reading),
-        Some(Err(fault)) => told.put_debug(&fault),
+    let answer = reading_of(rt.alloc(), text);
+    match &answer {
+        Some(Ok(reading)) => tell_reading(&mut told, text, reading),
+        Some(Err(fault)) => told.put_debug(fault),
         None => told.put("no tokens"),
     }
+    drop(answer);
     told.expect(rt, want, asked);
 }
 
@@ -333,8 +334,10 @@ fn a_million_tokens(rt: HostRuntime) {
     let mut text = Told::new(rt.alloc());
     text.put("y ~ a");
     text.put_many("+a", 500000);
-    match reading_of(rt.alloc(), text.as_str()) {
+    let answer = reading_of(rt.alloc(), text.as_str());
+    match &answer {
         Some(Ok(reading)) => assert!(&rt; reading.steps.as_slice().len() == 1000001),
         _ => panic!(&rt; "no formula"),
     }
+    drop(answer);
 }

@@ -164,44 +164,39 @@ fn design_of(alloc: Global, frame: &Frame, model: &Formula) -> Option<Design>
     build(alloc, frame, model, Coding::Treatment, None).ok()
 }
 
-fn input_of(alloc: Global, table: &[u8], formula: &str) -> Option<Input> {
-    let frame = frame_of(alloc, table)?;
-    let model = model_of(alloc, &frame, formula)?;
-    let design = design_of(alloc, &frame, &model)?;
-    Some(Input {
+fn input_of(rt: &impl Abort, alloc: Global, table: &[u8], formula: &str) -> Input {
+    let frame = frame_of(alloc, table).expect(rt, "a table");
+    let model = model_of(alloc, &frame, formula).expect(rt, "a formula");
+    let design = design_of(alloc, &frame, &model).expect(rt, "a design");
+    Input {
         frame,
         model,
         design,
-    })
+    }
 }
 
 fn tell_added(told: &mut Told, added: Result<Smoothing, PenaltyFault>) {
-    match added {
-        Ok(smoothing) => tell_smoothing(told, &smoothing),
-        Err(fault) => tell_fault(told, &fault),
+    match &added {
+        Ok(smoothing) => tell_smoothing(told, smoothing),
+        Err(fault) => tell_fault(told, fault),
     }
+    drop(added);
 }
 
 // What the smooths add, with penalty rows.
-fn tell_rows(told: &mut Told, table: &[u8], formula: &str) {
-    match input_of(told.alloc(), table, formula) {
-        Some(input) => {
-            let added = qss_rows(told.alloc(), &input.frame, &input.design, &input.model);
-            tell_added(told, added);
-        }
-        None => told.put("no input"),
-    }
+fn tell_rows(rt: &impl Abort, told: &mut Told, table: &[u8], formula: &str) {
+    let input = input_of(rt, told.alloc(), table, formula);
+    let added = qss_rows(told.alloc(), &input.frame, &input.design, &input.model);
+    drop(input);
+    tell_added(told, added);
 }
 
 // And without.
-fn tell_columns(told: &mut Told, table: &[u8], formula: &str) {
-    match input_of(told.alloc(), table, formula) {
-        Some(input) => {
-            let added = qss_columns(told.alloc(), &input.frame, &input.design, &input.model);
-            tell_added(told, added);
-        }
-        None => told.put("no input"),
-    }
+fn tell_columns(rt: &impl Abort, told: &mut Told, table: &[u8], formula: &str) {
+    let input = input_of(rt, told.alloc(), table, formula);
+    let added = qss_columns(told.alloc(), &input.frame, &input.design, &input.model);
+    drop(input);
+    tell_added(told, added);
 }
 
 // The knots of the first smooth.
@@ -209,17 +204,19 @@ fn tell_knots(told: &mut Told, input: &Input) {
     let Some(smooth) = input.model.smooths.as_slice().first() else {
         return told.put("no smooth");
     };
-    match knots(told.alloc(), &input.frame, &input.design, smooth) {
+    let answer = knots(told.alloc(), &input.frame, &input.design, smooth);
+    match &answer {
         Ok(knots) => told.put_numbers(knots.as_slice()),
-        Err(fault) => tell_fault(told, &fault),
+        Err(fault) => tell_fault(told, fault),
     }
+    drop(answer);
 }
 
 #[test]
 fn smooths_of_small_tables(rt: HostRuntime) {
     for case in &CASES {
         let mut told = Told::new(rt.alloc());
-        tell_rows(&mut told, case.table, case.formula);
+        tell_rows(&rt, &mut told, case.table, case.formula);
         told.expect(&rt, case.answer, case.formula);
     }
 }
@@ -227,7 +224,7 @@ fn smooths_of_small_tables(rt: HostRuntime) {
 #[test]
 fn columns_without_penalty_rows(rt: HostRuntime) {
     let mut told = Told::new(rt.alloc());
-    tell_columns(&mut told, b"y,x\n0,0\n2,1\n0,2\n", "y ~ qss(x, 1)");
+    tell_columns(&rt, &mut told, b"y,x\n0,0\n2,1\n0,2\n", "y ~ qss(x, 1)");
     let want = "qss(x)[1] qss(x)[2]; 0 0; 1 0; 0 1 |";
     told.expect(&rt, want, "columns alone");
 }
@@ -242,10 +239,9 @@ static KNOTS: [(&[u8], &str); 2] = [
 fn knots_ascend_once_each(rt: HostRuntime) {
     for (table, want) in &KNOTS {
         let mut told = Told::new(rt.alloc());
-        match input_of(rt.alloc(), table, "y ~ qss(x, 1)") {
-            Some(input) => tell_knots(&mut told, &input),
-            None => told.put("no input"),
-        }
+        let input = input_of(&rt, rt.alloc(), table, "y ~ qss(x, 1)");
+        tell_knots(&mut told, &input);
+        drop(input);
         told.expect(&rt, want, want);
     }
 }
@@ -260,16 +256,18 @@ fn put_records(table: &mut Told, records: u32) {
 }
 
 // How many penalty rows the smooth of such a table has.
-fn tell_size(told: &mut Told, records: u32) {
+fn tell_size(rt: &impl Abort, told: &mut Told, records: u32) {
     let mut table = Told::new(told.alloc());
     put_records(&mut table, records);
-    let Some(input) = input_of(told.alloc(), table.as_str().as_bytes(), "y ~ qss(x, 1)") else {
-        return told.put("no input");
-    };
-    match qss_rows(told.alloc(), &input.frame, &input.design, &input.model) {
+    let table = table.as_str().as_bytes();
+    let input = input_of(rt, told.alloc(), table, "y ~ qss(x, 1)");
+    let added = qss_rows(told.alloc(), &input.frame, &input.design, &input.model);
+    match &added {
         Ok(smoothing) => told.put_count(smoothing.rows.as_slice().len()),
-        Err(fault) => tell_fault(told, &fault),
+        Err(fault) => tell_fault(told, fault),
     }
+    drop(added);
+    drop(input);
 }
 
 static SIZES: [(u32, &str); 3] = [
@@ -283,7 +281,7 @@ static SIZES: [(u32, &str); 3] = [
 fn as_many_columns_as_there_may_be(rt: HostRuntime) {
     for (records, want) in &SIZES {
         let mut told = Told::new(rt.alloc());
-        tell_size(&mut told, *records);
+        tell_size(&rt, &mut told, *records);
         told.expect(&rt, want, "so many records");
     }
 }
@@ -293,10 +291,12 @@ fn tell_lasso(told: &mut Told, columns: u32, first: u32, lambda: Frac128) {
     if first > columns {
         return told.put("beyond the columns");
     }
-    match l1_rows(told.alloc(), columns, first, lambda) {
+    let rows = l1_rows(told.alloc(), columns, first, lambda);
+    match &rows {
         Ok(rows) => tell_penalties(told, rows.as_slice()),
-        Err(fault) => tell_fault(told, &fault),
+        Err(fault) => tell_fault(told, fault),
     }
+    drop(rows);
 }
 
 /// So many columns, the first that is penalised, and the rows.

@@ -10,7 +10,6 @@ use data_frame::{Column, Frame, read_table};
 use frac_core::{Frac128, Text};
 use std::alloc::Global;
 use std::process::Abort;
-use std::test::Fail;
 
 fn tell_numbers(told: &mut Told, cells: &[Option<Frac128>]) {
     let mut mark = "#";
@@ -49,10 +48,12 @@ fn tell(told: &mut Told, bytes: &[u8]) {
     if bytes.len() > 1 << 26 {
         return told.put("too long");
     }
-    match read_table(told.alloc(), bytes) {
-        Ok(frame) => tell_frame(told, &frame),
-        Err(fault) => told.put_debug(&fault),
+    let answer = read_table(told.alloc(), bytes);
+    match &answer {
+        Ok(frame) => tell_frame(told, frame),
+        Err(fault) => told.put_debug(fault),
     }
+    drop(answer);
 }
 
 fn tell_frame(told: &mut Told, frame: &Frame) {
@@ -215,24 +216,28 @@ static RECORDS: [(usize, &[u8], &str); 7] = [
     (16_384, b"\xff\n", "TooManyRows"),
 ];
 
-fn counted_records(alloc: Global, count: usize, behind: &[u8]) -> Result<Vec<u8>, Fail> {
-    let mut table = Vec::from_slice(alloc, b"y\n")?;
+fn add(rt: &impl Abort, table: &mut Vec<u8>, piece: &[u8]) {
+    assert!(rt; table.extend_from_slice(piece).is_ok());
+}
+
+fn counted_records(rt: &impl Abort, alloc: Global, count: usize, behind: &[u8]) -> Vec<u8> {
+    let mut table = Vec::new(alloc);
+    add(rt, &mut table, b"y\n");
     for _ in 0..count {
-        table.extend_from_slice(b"1\n")?;
+        add(rt, &mut table, b"1\n");
     }
-    table.extend_from_slice(behind)?;
-    Ok(table)
+    add(rt, &mut table, behind);
+    table
 }
 
 #[test]
-fn many_records(rt: HostRuntime) -> Result<(), Fail> {
+fn many_records(rt: HostRuntime) {
     for (count, behind, want) in &RECORDS {
-        let table = counted_records(rt.alloc(), *count, behind)?;
+        let table = counted_records(&rt, rt.alloc(), *count, behind);
         let mut told = Told::new(rt.alloc());
         tell(&mut told, table.as_slice());
         assert!(&rt; told.as_str().starts_with(*want), "{count} {want}");
     }
-    Ok(())
 }
 
 /// How many names stand in the header, the piece behind them, and how the answer begins.
@@ -276,4 +281,5 @@ fn names_that_no_column_has(rt: HostRuntime) {
         assert!(&rt; frame.column(name).is_none(), "{name}");
     }
     assert!(&rt; frame.column("y").is_some());
+    drop(frame);
 }

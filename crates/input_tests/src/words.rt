@@ -5,7 +5,6 @@ use frac_core::Frac128;
 use rq_words::{FitJob, Job, PathJob, RankAsk, SampleJob, TestJob, WordFault, read_words};
 use std::alloc::Global;
 use std::process::Abort;
-use std::test::Fail;
 
 // Whole lists of words, with a space after each but the last, and what they ask for or their fault.
 static WHOLE: &str = "
@@ -280,18 +279,27 @@ fn tell_fault(told: &mut Told, fault: &WordFault) {
     }
 }
 
-fn tell(told: &mut Told, words: &[String]) {
-    match read_words(told.alloc(), words) {
-        Ok(Job::Process(fit)) => tell_fit(told, "process ", &fit),
-        Ok(Job::Ranks(fit)) => tell_fit(told, "ranks ", &fit),
-        Ok(Job::Certify(fit)) => tell_fit(told, "certify ", &fit),
-        Ok(Job::Test(test)) => tell_test(told, &test),
-        Ok(Job::Predict(fit)) => tell_fit(told, "predict ", &fit),
-        Ok(Job::Path(path)) => tell_path(told, &path),
-        Ok(Job::Check) => told.put("check"),
-        Ok(Job::Sample(sample)) => tell_sample(told, &sample),
-        Err(fault) => tell_fault(told, &fault),
+fn tell_job(told: &mut Told, job: &Job) {
+    match job {
+        Job::Process(fit) => tell_fit(told, "process ", fit),
+        Job::Ranks(fit) => tell_fit(told, "ranks ", fit),
+        Job::Certify(fit) => tell_fit(told, "certify ", fit),
+        Job::Test(test) => tell_test(told, test),
+        Job::Predict(fit) => tell_fit(told, "predict ", fit),
+        Job::Path(path) => tell_path(told, path),
+        Job::Check => told.put("check"),
+        Job::Sample(sample) => tell_sample(told, sample),
     }
+}
+
+// `drop` lets the answer go by its type: what a function itself lets go of so many kinds costs much to prove.
+fn tell(told: &mut Told, words: &[String]) {
+    let answer = read_words(told.alloc(), words);
+    match &answer {
+        Ok(job) => tell_job(told, job),
+        Err(fault) => tell_fault(told, fault),
+    }
+    drop(answer);
 }
 
 /// The answer to these words is this.
@@ -301,89 +309,100 @@ fn expect(rt: &(impl Abort + AllocGlobal), words: &[String], want: &str, asked: 
     told.expect(rt, want, asked);
 }
 
-fn words_of(alloc: Global, text: &str) -> Result<Vec<String>, Fail> {
+fn words_of(rt: &impl Abort, alloc: Global, text: &str) -> Vec<String> {
     let mut words = Vec::new(alloc);
     for word in text.split(' ') {
-        words.push(String::from_str(alloc, word)?)?;
+        let word = String::from_str(alloc, word).ok().expect(rt, "memory");
+        assert!(rt; words.push(word).is_ok());
     }
-    Ok(words)
+    words
+}
+
+// The answer to the words of the text is this.
+fn expect_text(rt: &(impl Abort + AllocGlobal), text: &Told, want: &str, asked: &str) {
+    let words = words_of(rt, rt.alloc(), text.as_str());
+    expect(rt, words.as_slice(), want, asked);
 }
 
 // The words of the cases, behind these, are answered as they say. Gives how many there are.
-fn run(rt: &(impl Abort + AllocGlobal), first: &str, cases: &str) -> Result<u32, Fail> {
+fn run(rt: &(impl Abort + AllocGlobal), first: &str, cases: &str) -> u32 {
     let mut count = 0u32;
     for line in cases.lines() {
         if let Some((asked, want)) = line.split_once(" => ") {
             let mut text = Told::new(rt.alloc());
             text.put(first);
             text.put(asked);
-            let words = words_of(rt.alloc(), text.as_str())?;
-            expect(rt, words.as_slice(), want, asked);
+            expect_text(rt, &text, want, asked);
             count = count.wrapping_add(1);
         }
     }
-    Ok(count)
+    count
 }
 
 #[test]
-fn lists_of_words(rt: HostRuntime) -> Result<(), Fail> {
+fn lists_of_words(rt: HostRuntime) {
     expect(&rt, &[], "NoJob", "no word");
-    assert!(&rt; run(&rt, "", WHOLE)? == 123);
-    assert!(&rt; run(&rt, "process --formula y --lo 1/2 --hi 1/2 ", ADDED)? == 60);
-    Ok(())
+    assert!(&rt; run(&rt, "", WHOLE) == 123);
+    assert!(&rt; run(&rt, "process --formula y --lo 1/2 --hi 1/2 ", ADDED) == 60);
 }
 
 // The words of rank intervals at a median and so many more.
-fn words_of_medians(alloc: Global, more: usize) -> Result<Vec<String>, Fail> {
+fn words_of_medians(alloc: Global, more: usize) -> Told {
     let mut text = Told::new(alloc);
     text.put("process --formula y --lo 1/2 --hi 1/2 --crit 1 --rank-at=1/2");
     text.put_many(",1/2", more);
-    words_of(alloc, text.as_str())
+    text
+}
+
+// The job of the words of a text.
+fn job_of(rt: &impl Abort, alloc: Global, text: &Told) -> Job {
+    let words = words_of(rt, alloc, text.as_str());
+    read_words(alloc, words.as_slice()).ok().expect(rt, "a job")
 }
 
 // How many quantiles are read, if any.
-fn quantiles(alloc: Global, words: &[String]) -> Option<usize> {
-    match read_words(alloc, words) {
-        Ok(Job::Process(fit)) => fit.rank.as_ref().map(|rank| rank.taus.as_slice().len()),
+fn quantiles(job: &Job) -> Option<usize> {
+    match job {
+        Job::Process(fit) => fit.rank.as_ref().map(|rank| rank.taus.as_slice().len()),
         _ => None,
     }
 }
 
 #[test]
-fn at_most_64_quantiles(rt: HostRuntime) -> Result<(), Fail> {
-    let words = words_of_medians(rt.alloc(), 63)?;
-    assert!(&rt; quantiles(rt.alloc(), words.as_slice()) == Some(64));
-    let words = words_of_medians(rt.alloc(), 64)?;
-    expect(&rt, words.as_slice(), "BadNumber rank-at", "65 medians");
-    Ok(())
+fn at_most_64_quantiles(rt: HostRuntime) {
+    let job = job_of(&rt, rt.alloc(), &words_of_medians(rt.alloc(), 63));
+    assert!(&rt; quantiles(&job) == Some(64));
+    drop(job);
+    let more = words_of_medians(rt.alloc(), 64);
+    expect_text(&rt, &more, "BadNumber rank-at", "65 medians");
 }
 
 // The words of a test of the first columns, so many.
-fn words_of_columns(alloc: Global, count: u32) -> Result<Vec<String>, Fail> {
+fn words_of_columns(alloc: Global, count: u32) -> Told {
     let mut text = Told::new(alloc);
     let mut mark = "test --formula y --tested ";
     for column in 0..count {
         text.put_named(mark, column);
         mark = ",";
     }
-    words_of(alloc, text.as_str())
+    text
 }
 
 // How many tested columns are read, if any.
-fn tested_columns(alloc: Global, words: &[String]) -> Option<usize> {
-    match read_words(alloc, words) {
-        Ok(Job::Test(test)) => Some(test.tested.as_slice().len()),
+fn tested_columns(job: &Job) -> Option<usize> {
+    match job {
+        Job::Test(test) => Some(test.tested.as_slice().len()),
         _ => None,
     }
 }
 
 #[test]
-fn at_most_128_tested_columns(rt: HostRuntime) -> Result<(), Fail> {
-    let words = words_of_columns(rt.alloc(), 128)?;
-    assert!(&rt; tested_columns(rt.alloc(), words.as_slice()) == Some(128));
-    let words = words_of_columns(rt.alloc(), 129)?;
-    expect(&rt, words.as_slice(), "BadNumber tested", "129 columns");
-    Ok(())
+fn at_most_128_tested_columns(rt: HostRuntime) {
+    let job = job_of(&rt, rt.alloc(), &words_of_columns(rt.alloc(), 128));
+    assert!(&rt; tested_columns(&job) == Some(128));
+    drop(job);
+    let more = words_of_columns(rt.alloc(), 129);
+    expect_text(&rt, &more, "BadNumber tested", "129 columns");
 }
 
 fn crosses<T: Send + Sync>() {}

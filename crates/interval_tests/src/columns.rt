@@ -25,10 +25,9 @@ fn gram<F: Exact>(rt: &impl Abort, alloc: Global, rows: &Problem<F>) -> GramInve
 {
     assert!(rt; is_shaped(rows));
     assert!(rt; are_data(rows));
-    match gram_inverse(alloc, rows) {
-        Ok(gram) => gram,
-        Err(_) => panic!(rt; "the columns are independent"),
-    }
+    gram_inverse(alloc, rows)
+        .ok()
+        .expect(rt, "independent columns")
 }
 
 fn expect_entries<F: Exact>(rt: &impl Abort, inverse: &Inverse<F>)
@@ -47,6 +46,8 @@ fn expect_inverse<F: Exact>(rt: &impl Abort, alloc: Global) {
     let found = gram(rt, alloc, &rows);
     assert!(rt; found.basis.rows.as_slice() == [0, 1].as_slice());
     expect_entries(rt, &found.inverse);
+    drop(found);
+    drop(rows);
 }
 
 #[test]
@@ -73,13 +74,14 @@ fn expect_test<F: Exact>(rt: &impl Abort, alloc: Global, (column, factors, lengt
     };
     let found = gram(rt, alloc, &rows);
     assert!(rt; asked.column < rows.columns);
-    match rank_test(alloc, &rows, &found, asked) {
-        Ok(test) => {
-            expect(rt, &test.factors, factors.as_slice());
-            assert!(rt; ratio(test.bound) == length);
-        }
-        Err(_) => panic!(rt; "the numbers are small"),
-    }
+    let test = rank_test(alloc, &rows, &found, asked)
+        .ok()
+        .expect(rt, "small numbers");
+    expect(rt, &test.factors, factors.as_slice());
+    assert!(rt; ratio(test.bound) == length);
+    drop(test);
+    drop(found);
+    drop(rows);
 }
 
 #[test]

@@ -1,14 +1,15 @@
 //! Intervals of drawn tables, compared with those of a slow program: of a drawn critical value, and of those at, just
 //! below and just above the statistic of a breakpoint. Of the 79 tables 66 have full rank.
 
-use crate::helpers::{Question, ask, problem, ratio};
+use crate::helpers::{Question, answered, problem, ratio};
 use frac_core::{Exact, Frac128};
 use loss_model::{Bound, Problem};
-use slow_ranks::{CRITICAL, Ends, Parts, QUANTILES, RankTest, Ratio, draw, draw_table, rank_test};
-use std::alloc::{AllocError, Global};
+use slow_ranks::{
+    CRITICAL, Data, Ends, Parts, QUANTILES, RankTest, Ratio, draw, draw_table, rank_test,
+};
+use std::alloc::Global;
 use std::num::Wrapping;
 use std::process::Abort;
-use std::test::Fail;
 
 /// A column of a table that is tested: the problem, the question, and the slow test of it with the coefficients of
 /// all bases.
@@ -61,13 +62,10 @@ impl Tested {
             tau: (self.test.tau[0], self.test.tau[1]),
             crit: (crit.num.0, crit.den.0),
         };
-        match ask(rt, alloc, &self.problem, question, 1000) {
-            Ok(found) => {
-                assert!(rt; is_same(found.proof.low.bound, want.low));
-                assert!(rt; is_same(found.proof.high.bound, want.high));
-            }
-            Err(_) => panic!(rt; "the numbers are small"),
-        }
+        let found = answered(rt, alloc, &self.problem, question, 1000);
+        assert!(rt; is_same(found.proof.low.bound, want.low));
+        assert!(rt; is_same(found.proof.high.bound, want.high));
+        drop(found);
         counts.add(&want);
     }
 }
@@ -79,7 +77,7 @@ fn try_column(
     alloc: Global,
     state: &mut u32,
     counts: &mut Counts,
-    mut tested: Tested,
+    tested: &mut Tested,
 ) {
     let count = tested.values.len();
     if count == 0 {
@@ -96,52 +94,50 @@ fn try_column(
     }
 }
 
-fn try_table(
+// A column of a table at a quantile.
+fn tested_column(
     rt: &impl Abort,
     alloc: Global,
-    state: &mut u32,
-    counts: &mut Counts,
-    columns: u32,
-) -> Result<(), AllocError> {
-    let table = draw_table(alloc, state, columns as usize)?;
+    (columns, table): (u32, &[Data]),
+    column: u32,
+    tau: Parts,
+) -> Tested {
+    let shape = (columns as usize, table);
+    let asked = (tau, Ratio::whole(0));
+    let test = rank_test(alloc, shape, column as usize, asked)
+        .ok()
+        .expect(rt, "memory");
+    let values = test.coefficients(alloc).ok().expect(rt, "memory");
+    Tested {
+        problem: problem(rt, alloc, columns, table),
+        column,
+        test,
+        values,
+    }
+}
+
+fn try_table(rt: &impl Abort, alloc: Global, state: &mut u32, counts: &mut Counts, columns: u32) {
+    let table = draw_table(alloc, state, columns as usize)
+        .ok()
+        .expect(rt, "memory");
     let tau = QUANTILES[draw(state, 4) as usize];
     for column in 0..columns {
-        let table = table.as_slice();
-        let place = column as usize;
-        let test = rank_test(
-            alloc,
-            (columns as usize, table),
-            place,
-            (tau, Ratio::whole(0)),
-        )?;
-        let values = test.coefficients(alloc)?;
-        let problem = problem(rt, alloc, columns, table);
-        try_column(
-            rt,
-            alloc,
-            state,
-            counts,
-            Tested {
-                problem,
-                column,
-                test,
-                values,
-            },
-        );
+        let mut tested = tested_column(rt, alloc, (columns, table.as_slice()), column, tau);
+        try_column(rt, alloc, state, counts, &mut tested);
+        drop(tested);
     }
-    Ok(())
 }
 
 /// The numbers of intervals and of infinite ends come from an enumeration that is no part of this program.
 #[test]
-fn drawn_intervals(rt: HostRuntime) -> Result<(), Fail> {
+fn drawn_intervals(rt: HostRuntime) {
     let mut state = 7;
     let mut counts = Counts {
         intervals: 0,
         infinite: 0,
     };
     for number in 0..79 {
-        try_table(&rt, rt.alloc(), &mut state, &mut counts, number % 3 + 1)?;
+        try_table(&rt, rt.alloc(), &mut state, &mut counts, number % 3 + 1);
     }
     let Counts {
         intervals,
@@ -151,5 +147,4 @@ fn drawn_intervals(rt: HostRuntime) -> Result<(), Fail> {
         (intervals, infinite) == (492, 412),
         "{intervals} {infinite}"
     );
-    Ok(())
 }

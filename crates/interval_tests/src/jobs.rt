@@ -1,15 +1,16 @@
 //! Rank intervals as jobs: they enter the gate with their places, and their answers stand in the jobs' order.
 
-use crate::helpers::{Ratio, are_data, fraction, is_less, is_ordered, is_shaped, problem, ratio};
+use crate::helpers::{
+    Ratio, are_data, fraction, is_less, is_ordered, is_shaped, problem, push, ratio,
+};
 use frac_core::{Exact, Frac128};
-use loss_model::{Bound, Problem};
+use loss_model::{Bound, Interval, Problem};
 use rank_inversion::IntervalJob;
 use rq_fan::{Gate, run_jobs};
 use slow_ranks::Data;
 use std::alloc::Global;
 use std::process::Abort;
 use std::sync::atomic::{AtomicU64, Ordering};
-use std::test::Fail;
 
 /// A gate that adds up the places that enter, each times itself: no other places have the sum.
 #[derive(Drop)]
@@ -64,22 +65,28 @@ static LINE: [Data; 3] = [([1, 0, 0], 0, 1), ([1, 1, 0], 2, 1), ([1, 3, 0], 3, 1
 
 static ENDS: [(Ratio, Ratio); 2] = [((0, 1), (3, 2)), ((1, 2), (2, 1))];
 
+fn expect_ends(rt: &impl Abort, found: &Interval<Frac128>, (low, high): (Ratio, Ratio)) {
+    assert!(rt; end(found.proof.low.bound) == Some(low));
+    assert!(rt; end(found.proof.high.bound) == Some(high));
+}
+
 #[test]
-fn both_columns_of_a_line(rt: HostRuntime) -> Result<(), Fail> {
+fn both_columns_of_a_line(rt: HostRuntime) {
     let line: Problem<Frac128> = problem(&rt, rt.alloc(), 2, &LINE);
     let gate = Tally {
         squares: AtomicU64::new(0),
     };
     let mut jobs = Vec::new(rt.alloc());
-    jobs.push(job(&rt, rt.alloc(), &line, 0, &gate))?;
-    jobs.push(job(&rt, rt.alloc(), &line, 1, &gate))?;
+    for column in 0..2 {
+        push(&rt, &mut jobs, job(&rt, rt.alloc(), &line, column, &gate));
+    }
     let answers = run_jobs(&rt, rt.alloc(), jobs).expect(&rt, "memory");
     assert!(rt; answers.len() == 2);
-    for (answer, (low, high)) in answers.into_iter().zip(&ENDS) {
-        let interval = answer.ok().expect(&rt, "an interval");
-        assert!(rt; end(interval.proof.low.bound) == Some(*low));
-        assert!(rt; end(interval.proof.high.bound) == Some(*high));
+    for (answer, ends) in answers.iter().zip(&ENDS) {
+        let found = answer.as_ref().ok().expect(&rt, "an interval");
+        expect_ends(&rt, found, *ends);
     }
     assert!(rt; gate.squares.load(Ordering::SeqCst) == 52);
-    Ok(())
+    drop(answers);
+    drop(line);
 }

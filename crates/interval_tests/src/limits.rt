@@ -1,7 +1,9 @@
 //! Limits below the steps that an interval takes, dependent columns, and operations that overflow, each with its
 //! trail.
 
-use crate::helpers::{Question, Ratio, Step, ask, expect, expect_steps, problem, ratio};
+use crate::helpers::{
+    Question, Ratio, Step, answered, expect, expect_steps, problem, ratio, stopped,
+};
 use frac_core::{Exact, Frac64, Frac128, OpKind};
 use loss_model::{Quantity, Site, Stop, Trail};
 use slow_ranks::Data;
@@ -74,18 +76,19 @@ static LIMITED: [Path; 5] = [
 
 fn expect_limit<F: Exact>(rt: &impl Abort, alloc: Global, limit: u32, want: &Path) {
     let rows = problem::<F>(rt, alloc, 1, FIVE.as_slice());
-    match ask(rt, alloc, &rows, OF_FIVE, limit) {
-        Err(
-            Stop::PivotLimit {
-                limit: shown,
-                trail,
-            },
-        ) => {
-            assert!(rt; shown == limit);
-            expect_trail(rt, &trail, want);
+    let stop = stopped(rt, alloc, &rows, OF_FIVE, limit);
+    match &stop {
+        Stop::PivotLimit {
+            limit: shown,
+            trail,
+        } => {
+            assert!(rt; *shown == limit);
+            expect_trail(rt, trail, want);
         }
         _ => panic!(rt; "a step is left"),
     }
+    drop(stop);
+    drop(rows);
 }
 
 #[test]
@@ -100,8 +103,9 @@ fn limits_below_five_steps(rt: HostRuntime) {
 fn five_steps_suffice(rt: HostRuntime) {
     let rows = problem::<Frac128>(&rt, rt.alloc(), 1, FIVE.as_slice());
     for limit in [5, 6, 100] {
-        assert!(&rt; ask(&rt, rt.alloc(), &rows, OF_FIVE, limit).is_ok());
+        drop(answered(&rt, rt.alloc(), &rows, OF_FIVE, limit));
     }
+    drop(rows);
 }
 
 /// The third column is the sum of the others; the start leaves the combination -1, -1, 1.
@@ -120,12 +124,15 @@ fn dependent_columns(rt: HostRuntime) {
         tau: (1, 3),
         crit: (1, 1),
     };
-    match ask(&rt, rt.alloc(), &rows, question, 100) {
-        Err(Stop::Dependent { combination }) => {
-            expect(&rt, &combination, &[(-1, 1), (-1, 1), (1, 1)]);
+    let stop = stopped(&rt, rt.alloc(), &rows, question, 100);
+    match &stop {
+        Stop::Dependent { combination } => {
+            expect(&rt, combination, &[(-1, 1), (-1, 1), (1, 1)]);
         }
         _ => panic!(&rt; "the columns are dependent"),
     }
+    drop(stop);
+    drop(rows);
 }
 
 /// An operation that overflows in 64 bits, and the trail to where it stands.
@@ -307,15 +314,18 @@ static OVERFLOWS: [Overflow; 6] = [
 
 fn expect_overflow(rt: &impl Abort, alloc: Global, case: &Overflow) {
     let rows = problem::<Frac64>(rt, alloc, case.columns, case.table);
-    match ask(rt, alloc, &rows, case.question, 100) {
-        Err(Stop::Overflow { trail, spill }) => {
+    let stop = stopped(rt, alloc, &rows, case.question, 100);
+    match &stop {
+        Stop::Overflow { trail, spill } => {
             assert!(rt; spill.site == case.site);
             assert!(rt; ratio(spill.left) == case.left);
             assert!(rt; ratio(spill.right) == case.right);
-            expect_trail(rt, &trail, &case.path);
+            expect_trail(rt, trail, &case.path);
         }
         _ => panic!(rt; "an operation overflows"),
     }
+    drop(stop);
+    drop(rows);
 }
 
 #[test]

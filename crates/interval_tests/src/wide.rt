@@ -5,7 +5,7 @@
 ghost use Rattle.std.specs.Prelude.{◌≡◌, ◌<◌, length};
 ghost use Rattle.rank_inversion.specs.GramStops.{IsInverted};
 
-use crate::helpers::{Question, Ratio, Wide, are_data, ask, is_shaped, ratio, wide_problem};
+use crate::helpers::{Question, Ratio, Wide, answered, are_data, is_shaped, ratio, wide_problem};
 use basis_inverse::{Inverse, start};
 use frac_core::{Exact, Frac128};
 use loss_model::{Bound, End, Problem, Stop};
@@ -171,10 +171,13 @@ static INVERSE: [[Ratio; 5]; 5] = [
 fn fractions_overflow(rt: HostRuntime) {
     let gram = wide_problem::<Frac128>(&rt, rt.alloc(), GRAM.as_slice());
     assert!(&rt; is_shaped(&gram));
-    match start(rt.alloc(), &gram) {
-        Err(Stop::Overflow { .. }) => {}
+    let stop = start(rt.alloc(), &gram).err().expect(&rt, "a stop");
+    match &stop {
+        Stop::Overflow { .. } => {}
         _ => panic!(&rt; "an entry under way has more than 128 bits"),
     }
+    drop(stop);
+    drop(gram);
 }
 
 /// The inverse of the Gram matrix of a problem that meets its conditions.
@@ -183,10 +186,9 @@ fn gram<F: Exact>(rt: &impl Abort, alloc: Global, rows: &Problem<F>) -> GramInve
 {
     assert!(rt; is_shaped(rows));
     assert!(rt; are_data(rows));
-    match gram_inverse(alloc, rows) {
-        Ok(gram) => gram,
-        Err(_) => panic!(rt; "the numbers of the inverse have 86 bits"),
-    }
+    gram_inverse(alloc, rows)
+        .ok()
+        .expect(rt, "numbers of 86 bits")
 }
 
 fn expect_entries<F: Exact>(rt: &impl Abort, inverse: &Inverse<F>)
@@ -206,6 +208,8 @@ fn inverse_in_whole_numbers(rt: HostRuntime) {
     let found = gram(&rt, rt.alloc(), &rows);
     assert!(&rt; found.basis.rows.as_slice() == [0, 1, 2, 3, 4].as_slice());
     expect_entries(&rt, &found.inverse);
+    drop(found);
+    drop(rows);
 }
 
 /// An end: its value, and the rows through which the fit goes there.
@@ -242,13 +246,11 @@ fn expect_case<F: Exact>(rt: &impl Abort, alloc: Global, (column, low, high): &C
         tau: (1, 2),
         crit: (27_055, 10_000),
     };
-    match ask(rt, alloc, &rows, question, 1_000) {
-        Ok(found) => {
-            expect_end(rt, &found.proof.low, low);
-            expect_end(rt, &found.proof.high, high);
-        }
-        Err(_) => panic!(rt; "a thousand steps suffice"),
-    }
+    let found = answered(rt, alloc, &rows, question, 1_000);
+    expect_end(rt, &found.proof.low, low);
+    expect_end(rt, &found.proof.high, high);
+    drop(found);
+    drop(rows);
 }
 
 #[test]

@@ -1,6 +1,6 @@
 //! Intervals worked by hand, with their trails and all that their ends state.
 
-use crate::helpers::{Question, Ratio, Step, ask, expect, expect_steps, problem, ratio};
+use crate::helpers::{Question, Ratio, Step, answered, expect, expect_steps, problem, ratio};
 use frac_core::{Exact, Frac64, Frac128};
 use loss_model::{Beyond, Bound, End, Interval, Side};
 use slow_ranks::Data;
@@ -260,10 +260,10 @@ fn expect_case<F: Exact>(
         tau: (1, 2),
         crit: case.crit,
     };
-    match ask(rt, alloc, &rows, question, 100) {
-        Ok(found) => expect_interval(rt, &found, case),
-        Err(_) => panic!(rt; "a hundred steps suffice"),
-    }
+    let found = answered(rt, alloc, &rows, question, 100);
+    expect_interval(rt, &found, case);
+    drop(found);
+    drop(rows);
 }
 
 #[test]

@@ -33,10 +33,9 @@ fn walked_from<'a, F: Exact>(
     let Ok(solved) = solve_over(begun, lo, 10000) else {
         panic!(rt; "the solve must not be refused");
     };
-    match walk_range(alloc, solved, lo, hi, 10000) {
-        Ok(process) => process,
-        Err(_) => panic!(rt; "the walk must not be refused"),
-    }
+    walk_range(alloc, solved, lo, hi, 10000)
+        .ok()
+        .expect(rt, "a process")
 }
 
 /// The walk of a problem in whole numbers, none where its start is refused.
@@ -73,19 +72,22 @@ fn in_fractions<F: Exact>(
     }
 }
 
+/// The digest of a process and how many steps it has; none where there is no process.
+fn figures(walked: &Option<Process<Frac128>>) -> Option<(i128, usize)> {
+    match walked {
+        Some(process) => Some((digest_of(process), process.trail.steps.as_slice().len())),
+        None => None,
+    }
+}
+
 /// Both walks from 0 to 1 have the same segments and as many steps.
 fn expect_same(rt: &impl Abort, alloc: Global, problem: &Problem<Frac128>) {
     let range = (Frac128::zero(), Frac128::one());
-    match (
-        in_wholes(rt, alloc, problem, range),
-        in_fractions(rt, alloc, problem, range),
-    ) {
-        (Some(left), Some(right)) => {
-            assert!(rt; digest_of(&left) == digest_of(&right));
-            assert!(rt; left.trail.steps.as_slice().len() == right.trail.steps.as_slice().len());
-        }
-        (left, right) => assert!(rt; left.is_none() && right.is_none()),
-    }
+    let left = in_wholes(rt, alloc, problem, range);
+    let right = in_fractions(rt, alloc, problem, range);
+    assert!(rt; figures(&left) == figures(&right));
+    drop(left);
+    drop(right);
 }
 
 #[test]
@@ -95,5 +97,6 @@ fn both_bodies_give_the_same_walk(rt: HostRuntime) {
         let small = draw_problem(&rt, rt.alloc(), &mut state, number % 3 + 1);
         let drawn = make_problem(&rt, rt.alloc(), small.columns, OVER, small.rows.as_slice());
         expect_same(&rt, rt.alloc(), &drawn);
+        drop(drawn);
     }
 }

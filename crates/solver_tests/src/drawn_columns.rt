@@ -5,7 +5,7 @@
 
 use crate::bodies::in_wholes;
 use crate::digest::digest_of;
-use crate::helpers::{Ratio, draw, expect, fraction, push, ratio, solve, walk};
+use crate::helpers::{Ratio, draw, expect, fraction, push, ratio, solved, walked};
 use br_pivot::Solved;
 use frac_core::{Exact, Frac128, List};
 use loss_model::{Problem, Process, Row};
@@ -80,19 +80,19 @@ static BASIC: [Ratio; 10] = [
 
 fn median(rt: &impl Abort, alloc: Global) -> Solved<Frac128> {
     let table = drawn_table(rt, alloc, 10);
-    match solve(rt, alloc, &table, fraction(rt, (1, 2)), 1000) {
-        Ok(solved) => solved,
-        Err(_) => panic!(rt; "every number of the answer has 128 bits"),
-    }
+    let found = solved(rt, alloc, &table, fraction(rt, (1, 2)), 1000);
+    drop(table);
+    found
 }
 
 #[test]
 fn ten_columns_at_the_median(rt: HostRuntime) {
-    let solved = median(&rt, rt.alloc());
-    assert!(&rt; solved.vertex.basis.rows.as_slice() == BASIS.as_slice());
-    expect(&rt, &solved.vertex.coef, COEF.as_slice());
-    expect(&rt, &solved.basic, BASIC.as_slice());
-    assert!(&rt; solved.trail.steps.as_slice().len() == 21);
+    let found = median(&rt, rt.alloc());
+    assert!(&rt; found.vertex.basis.rows.as_slice() == BASIS.as_slice());
+    expect(&rt, &found.vertex.coef, COEF.as_slice());
+    expect(&rt, &found.basic, BASIC.as_slice());
+    assert!(&rt; found.trail.steps.as_slice().len() == 21);
+    drop(found);
 }
 
 /// The loss there.
@@ -104,10 +104,9 @@ const LOSS: Ratio = (
 fn median_process(rt: &impl Abort, alloc: Global) -> Process<Frac128> {
     let table = drawn_table(rt, alloc, 10);
     let half = fraction(rt, (1, 2));
-    match walk(rt, alloc, &table, (half, half), 1000) {
-        Ok(process) => process,
-        Err(_) => panic!(rt; "every number of the answer has 128 bits"),
-    }
+    let process = walked(rt, alloc, &table, (half, half), 1000);
+    drop(table);
+    process
 }
 
 #[test]
@@ -120,14 +119,14 @@ fn ten_columns_as_a_process_at_the_median(rt: HostRuntime) {
     expect(&rt, &only.vertex.coef, COEF.as_slice());
     expect(&rt, &only.basic_hi, BASIC.as_slice());
     assert!(&rt; ratio(only.loss_hi) == LOSS);
+    drop(process);
 }
 
 fn whole_range(rt: &impl Abort, alloc: Global) -> Process<Frac128> {
     let table = drawn_table(rt, alloc, 5);
-    match in_wholes(rt, alloc, &table, (Frac128::zero(), Frac128::one())) {
-        Some(process) => process,
-        None => panic!(rt; "the columns are independent"),
-    }
+    let process = in_wholes(rt, alloc, &table, (Frac128::zero(), Frac128::one()));
+    drop(table);
+    process.expect(rt, "independent columns")
 }
 
 #[test]
@@ -135,4 +134,5 @@ fn five_columns_over_the_whole_range(rt: HostRuntime) {
     let process = whole_range(&rt, rt.alloc());
     assert!(&rt; process.segments.as_slice().len() == 148);
     assert!(&rt; digest_of(&process) == -64600200990088842732543995565269542556);
+    drop(process);
 }

@@ -1,6 +1,6 @@
 //! Solves worked by hand: a trail of two pivots under each limit, overflows, and dependent columns.
 
-use crate::helpers::{Data, Ratio, expect, fraction, problem, ratio, solve};
+use crate::helpers::{Data, Ratio, expect, fraction, problem, ratio, solved, unsolved};
 use br_pivot::Solved;
 use frac_core::{Exact, Frac64, Frac128, OpKind};
 use loss_model::{Quantity, Side, Site, Stop, Trail};
@@ -83,27 +83,28 @@ static LIMITED: [Path; 2] = [
 fn expect_limit<F: Exact>(rt: &impl Abort, alloc: Global, limit: u32, path: &Path) {
     let apart = problem::<F>(rt, alloc, 2, 1, APART.as_slice());
     let theta = fraction(rt, (1, 4));
-    match solve(rt, alloc, &apart, theta, limit) {
-        Err(
-            Stop::PivotLimit {
-                limit: shown,
-                trail,
-            },
-        ) => {
-            assert!(rt; shown == limit);
-            expect_trail(rt, &trail, theta, path);
+    let stop = unsolved(rt, alloc, &apart, theta, limit);
+    match &stop {
+        Stop::PivotLimit {
+            limit: shown,
+            trail,
+        } => {
+            assert!(rt; *shown == limit);
+            expect_trail(rt, trail, theta, path);
         }
         _ => panic!(rt; "a pivot is left"),
     }
+    drop(stop);
+    drop(apart);
 }
 
 fn expect_pivots<F: Exact>(rt: &impl Abort, alloc: Global, limit: u32) {
     let apart = problem::<F>(rt, alloc, 2, 1, APART.as_slice());
     let theta = fraction(rt, (1, 4));
-    match solve(rt, alloc, &apart, theta, limit) {
-        Ok(solved) => expect_apart(rt, &solved, theta),
-        Err(_) => panic!(rt; "two pivots suffice"),
-    }
+    let found = solved(rt, alloc, &apart, theta, limit);
+    expect_apart(rt, &found, theta);
+    drop(found);
+    drop(apart);
 }
 
 #[test]
@@ -136,15 +137,18 @@ struct Overflow {
 fn expect_overflow<F: Exact>(rt: &impl Abort, alloc: Global, case: &Overflow, limit: u32) {
     let wide = problem::<F>(rt, alloc, case.columns, case.over, case.rows);
     let theta = fraction(rt, (1, 2));
-    match solve(rt, alloc, &wide, theta, limit) {
-        Err(Stop::Overflow { trail, spill }) => {
+    let stop = unsolved(rt, alloc, &wide, theta, limit);
+    match &stop {
+        Stop::Overflow { trail, spill } => {
             assert!(rt; spill.site == case.site);
             assert!(rt; ratio(spill.left) == case.left);
             assert!(rt; ratio(spill.right) == case.right);
-            expect_trail(rt, &trail, theta, &case.path);
+            expect_trail(rt, trail, theta, &case.path);
         }
         _ => panic!(rt; "an operation overflows"),
     }
+    drop(stop);
+    drop(wide);
 }
 
 const WIDE_64: i128 = 4_611_686_018_427_387_904;
@@ -350,16 +354,14 @@ static EXCHANGED: Path = Path {
 fn expect_reached<F: Exact>(rt: &impl Abort, alloc: Global, case: &Reach) {
     let wide = problem::<F>(rt, alloc, 1, 1, case.rows);
     let theta = fraction(rt, (1, 2));
-    match solve(rt, alloc, &wide, theta, 100) {
-        Ok(solved) => {
-            expect_trail(rt, &solved.trail, theta, &EXCHANGED);
-            assert!(rt; solved.basis.rows.as_slice() == [1].as_slice());
-            expect(rt, &solved.vertex.coef, &[case.coef]);
-            expect(rt, &solved.basic, &[case.basic]);
-            assert!(rt; solved.vertex.sides.as_slice() == case.sides);
-        }
-        Err(_) => panic!(rt; "whole numbers suffice"),
-    }
+    let found = solved(rt, alloc, &wide, theta, 100);
+    expect_trail(rt, &found.trail, theta, &EXCHANGED);
+    assert!(rt; found.basis.rows.as_slice() == [1].as_slice());
+    expect(rt, &found.vertex.coef, &[case.coef]);
+    expect(rt, &found.basic, &[case.basic]);
+    assert!(rt; found.vertex.sides.as_slice() == case.sides);
+    drop(found);
+    drop(wide);
 }
 
 #[test]
@@ -409,10 +411,13 @@ static DEPENDENCES: [Dependence; 3] = [
 
 fn expect_dependence<F: Exact>(rt: &impl Abort, alloc: Global, case: &Dependence) {
     let rows = problem::<F>(rt, alloc, case.columns, case.over, case.rows);
-    match solve(rt, alloc, &rows, fraction(rt, (1, 2)), 100) {
-        Err(Stop::Dependent { combination }) => expect(rt, &combination, case.combination),
+    let stop = unsolved(rt, alloc, &rows, fraction(rt, (1, 2)), 100);
+    match &stop {
+        Stop::Dependent { combination } => expect(rt, combination, case.combination),
         _ => panic!(rt; "the columns are dependent"),
     }
+    drop(stop);
+    drop(rows);
 }
 
 #[test]

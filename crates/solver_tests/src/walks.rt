@@ -1,7 +1,9 @@
 //! Walks over a range of quantiles: a small one worked by hand, under each limit, and drawn ones, whose
 //! losses stand beside the least loss over all bases.
 
-use crate::helpers::{Data, Ratio, expect, fraction, make_problem, problem, ratio, walk};
+use crate::helpers::{
+    Data, Ratio, expect, fraction, make_problem, problem, ratio, unwalked, walked, walked_if_full,
+};
 use crate::least_loss::{Fit, Loss, OVER, Small, draw_problem, fit_at};
 use frac_core::{Exact, Frac64, Frac128};
 use loss_model::{Exchange, Problem, Process, Segment, Side, Stop, Trail};
@@ -73,27 +75,25 @@ fn expect_trail<F: Exact>(rt: &impl Abort, trail: &Trail<F>, count: usize) {
 
 /// Under a limit that is too low, the trail has so many steps.
 fn expect_limit<F: Exact>(rt: &impl Abort, alloc: Global, three: &Problem<F>, limit: u32) {
-    let answer = walk(rt, alloc, three, (F::zero(), F::one()), limit);
-    let Err(
+    let stop = unwalked(rt, alloc, three, (F::zero(), F::one()), limit);
+    match &stop {
         Stop::PivotLimit {
             limit: shown,
             trail,
-        },
-    ) = answer
-    else {
-        panic!(rt; "a step is left");
-    };
-    assert!(rt; shown == limit);
-    expect_trail(rt, &trail, limit as usize);
+        } => {
+            assert!(rt; *shown == limit);
+            expect_trail(rt, trail, limit as usize);
+        }
+        _ => panic!(rt; "a step is left"),
+    }
+    drop(stop);
 }
 
 fn expect_three<F: Exact>(rt: &impl Abort, alloc: Global) {
     let three = problem::<F>(rt, alloc, 2, 1, THREE.as_slice());
     expect_limit(rt, alloc, &three, 0);
     expect_limit(rt, alloc, &three, 1);
-    let Ok(done) = walk(rt, alloc, &three, (F::zero(), F::one()), 2) else {
-        panic!(rt; "two steps suffice");
-    };
+    let done = walked(rt, alloc, &three, (F::zero(), F::one()), 2);
     expect_trail(rt, &done.trail, 2);
     let segments = done.segments.as_slice();
     assert!(rt; segments.len() == 2);
@@ -101,6 +101,8 @@ fn expect_three<F: Exact>(rt: &impl Abort, alloc: Global) {
     let second = SECOND;
     expect_segment(rt, &segments[0], &first);
     expect_segment(rt, &segments[1], &second);
+    drop(done);
+    drop(three);
 }
 
 #[test]
@@ -115,9 +117,7 @@ fn three_rows(rt: HostRuntime) {
 fn one_quantile(rt: HostRuntime) {
     let three = problem::<Frac128>(&rt, rt.alloc(), 2, 1, THREE.as_slice());
     let theta = fraction(&rt, (0, 1));
-    let Ok(done) = walk(&rt, rt.alloc(), &three, (theta, theta), 1) else {
-        panic!(&rt; "one step suffices");
-    };
+    let done = walked(&rt, rt.alloc(), &three, (theta, theta), 1);
     expect_trail(&rt, &done.trail, 1);
     let segments = done.segments.as_slice();
     assert!(&rt; segments.len() == 1);
@@ -126,6 +126,8 @@ fn one_quantile(rt: HostRuntime) {
     expect(&rt, &only.vertex.coef, &[(0, 1), (1, 1)]);
     expect(&rt, &only.basic_hi, &[(0, 1), (0, 1)]);
     assert!(&rt; ratio(only.loss_lo) == (0, 1) && ratio(only.loss_hi) == (0, 1));
+    drop(done);
+    drop(three);
 }
 
 /// The loss of a fit at a quantile is the least over all bases.
@@ -186,14 +188,26 @@ fn count_together(steps: &[Exchange<Frac128>]) -> u32 {
     together
 }
 
-/// The walk over 0 to 1 of a drawn problem, none where its columns are dependent.
-fn walked(rt: &impl Abort, alloc: Global, problem: &Problem<Frac128>) -> Option<Process<Frac128>> {
+/// The walk over 0 to 1 of a drawn problem has the least losses; where its columns are dependent there is none. Gives how
+/// many steps are at the quantile of the step before.
+fn expect_least(rt: &impl Abort, alloc: Global, small: &mut Small) -> u32 {
+    let problem = make_problem(rt, alloc, small.columns, OVER, small.rows.as_slice());
     let range = (Frac128::zero(), Frac128::one());
-    match walk(rt, alloc, problem, range, 200) {
-        Ok(process) => Some(process),
-        Err(Stop::Dependent { .. }) => None,
-        Err(_) => panic!(rt; "a small problem"),
+    let process = walked_if_full(rt, alloc, &problem, range, 200);
+    let mut together = 0;
+    match &process {
+        Some(process) => {
+            expect_cover(rt, process);
+            for segment in process.segments.as_slice() {
+                expect_optimal(rt, small, segment);
+            }
+            together = count_together(process.trail.steps.as_slice());
+        }
+        None => assert!(rt; small.least().is_none()),
     }
+    drop(process);
+    drop(problem);
+    together
 }
 
 // One hundred problems with ties, rows twice with two weights, penalties and costs of other kinds. Some of
@@ -205,18 +219,7 @@ fn least_losses_along_walks(rt: HostRuntime) {
     let mut together: u32 = 0;
     for number in 0..100 {
         let mut small = draw_problem(&rt, alloc, &mut state, number % 3 + 1);
-        let drawn = make_problem(&rt, alloc, small.columns, OVER, small.rows.as_slice());
-        match walked(&rt, alloc, &drawn) {
-            Some(process) => {
-                expect_cover(&rt, &process);
-                for segment in process.segments.as_slice() {
-                    expect_optimal(&rt, &mut small, segment);
-                }
-                let more = count_together(process.trail.steps.as_slice());
-                together = together.wrapping_add(more);
-            }
-            None => assert!(&rt; small.least().is_none()),
-        }
+        together = together.wrapping_add(expect_least(&rt, alloc, &mut small));
     }
     assert!(&rt; together > 0);
 }
