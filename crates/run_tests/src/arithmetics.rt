@@ -1,15 +1,10 @@
 //! Runs with arithmetics and offsets in formulas. What is wanted was worked out apart from the program: coefficients, dual
 //! values and losses by comparing all bases, and pivots by the pivot rule as the manual tells it.
 
-use crate::helpers::{assert_printed, assert_refused, ran_on};
-use std::alloc::Global;
-use std::process::Abort;
-use std::test::Fail;
-use std::thread::Threads;
+use crate::helpers::expect_all;
 
-// Cases with an empty line between them: the words, the table, in which `;` stands for the ends of lines, and the report.
-static FITS: &str = "\
-process|--formula|y ~ x + I(x^2)|--lo|1/2|--hi|1/2
+static FITS: &str = r"
+> process|--formula|y ~ x + I(x^2)|--lo|1/2|--hi|1/2
 y,x;0,0;1,1;4,2
 quantreg 1
 records 3 dropped 0
@@ -28,8 +23,7 @@ basic 1 1/2 1/2
 basic 2 1/2 1/2
 basic 3 1/2 1/2
 end
-
-process|--formula|y ~ offset(x)|--lo|1/2|--hi|1/2
+> process|--formula|y ~ offset(x)|--lo|1/2|--hi|1/2
 y,x;1,1;3,1;2,1
 quantreg 1
 records 3 dropped 0
@@ -42,8 +36,7 @@ loss 1 1
 scores 01*
 basic 3 1/2 1/2
 end
-
-process|--formula|y ~ x + I(x^2) + offset(0.5*z)|--lo|1/4|--hi|3/4|--weights|w
+> process|--formula|y ~ x + I(x^2) + offset(0.5*z)|--lo|1/4|--hi|3/4|--weights|w
 y,x,z,w;1,-2,1,1;9,9,1,0;3,0,2,2;-1,1,NA,1;5,1,-1,3;0,2,4,1;2,3,0,2
 quantreg 1
 records 5 dropped 2
@@ -71,8 +64,7 @@ basic 1 12/17 1/3
 basic 3 1 17/36
 basic 5 9/17 1/4
 end
-
-process|--formula|y ~ 0 + I(x - z) + x:I(z^2) + offset(x) + offset(-z)|--lo|0|--hi|1
+> process|--formula|y ~ 0 + I(x - z) + x:I(z^2) + offset(x) + offset(-z)|--lo|0|--hi|1
 y,x,z;0,2,2;-1,-1,-1;5,0,1;5,1,3
 quantreg 1
 records 4 dropped 0
@@ -95,8 +87,7 @@ scores *0*0
 basic 1 2/3 0
 basic 3 1 0
 end
-
-process|--formula|y ~ qss(x, 1/2) + offset(1 - z)|--lo|1/2|--hi|1/2
+> process|--formula|y ~ qss(x, 1/2) + offset(1 - z)|--lo|1/2|--hi|1/2
 y,x,z;1,0,0;2,1,NA;4,2,1;1,3,-1;2,2,0
 quantreg 1
 records 4 dropped 1
@@ -115,13 +106,12 @@ basic 1 1/4 1/4
 basic 3 0 0
 basic 4 3/4 3/4
 end
-
-process|--formula|y ~ I(`a\\b`^2)|--lo|1/2|--hi|1/2
-y,a\\b;1,1;3,2;2,-1
+> process|--formula|y ~ I(`a\b`^2)|--lo|1/2|--hi|1/2
+y,a\b;1,1;3,2;2,-1
 quantreg 1
 records 3 dropped 0
 column 1 (Intercept)
-column 2 I(`a\\x5cb`^2)
+column 2 I(`a\x5cb`^2)
 data 3 penalty 0
 pivots 0
 segment 1 1/2 1/2
@@ -134,9 +124,14 @@ basic 2 1/2 1/2
 end
 ";
 
+#[test]
+fn fits_of_arithmetics_and_offsets(rt: HostRuntime) {
+    expect_all(&rt, rt.alloc(), FITS, 6);
+}
+
 // The same of the other jobs.
-static JOBS: &str = "\
-ranks|--formula|y ~ I(x^2) + offset(2*x)|--weights|w
+static JOBS: &str = r"
+> ranks|--formula|y ~ I(x^2) + offset(2*x)|--weights|w
 y,x,w;2,0,1;-1,1,2;4,2,1;0,3,1;5,-1,3
 quantreg ranks 1
 records 5 dropped 0
@@ -149,8 +144,7 @@ wilcoxon 3 1/108
 wilcoxon 4 -1/54
 wilcoxon 5 5/18
 end
-
-test|--formula|y ~ x + I(x^2)|--tested|3
+> test|--formula|y ~ x + I(x^2)|--tested|3
 y,x;0,-2;3,-1;1,0;2,1;5,2;-4,3
 quantreg test 1
 records 6 dropped 0
@@ -162,8 +156,7 @@ pivots 6
 score 3 -37/15
 statistic 1369/700
 end
-
-predict|--formula|y ~ I(x^2) + offset(z) + offset(x - 1)|--lo|1/4|--hi|3/4
+> predict|--formula|y ~ I(x^2) + offset(z) + offset(x - 1)|--lo|1/4|--hi|3/4
 y,x,z;0,0,1;4,1,2;NA,3,1;3,2,0;1,-1,1;NA,2,NA;NA,-3,5
 quantreg predict 1
 records 4 dropped 3
@@ -187,8 +180,7 @@ step 1/4 11/20 3
 step 11/20 3/5 3
 step 3/5 3/4 11/2
 end
-
-path|--formula|y ~ x + I(x^2) + offset(z)|--tau|1/2|--lo|1/4|--hi|4
+> path|--formula|y ~ x + I(x^2) + offset(z)|--tau|1/2|--lo|1/4|--hi|4
 y,x,z;-2,1,1;5,0,-2;3,-1,2;3,0,2
 quantreg path 1
 records 4 dropped 0
@@ -227,112 +219,69 @@ dual 6 0 0
 end
 ";
 
-// A table by its lines.
-fn table_of(alloc: Global, lines: &str) -> Result<String, Fail> {
-    let mut table = String::new(alloc);
-    for line in lines.split(';') {
-        table.push_str(line)?;
-        table.push_str("\n")?;
-    }
-    Ok(table)
-}
-
-fn expect_report<R: Abort + Threads + Sync>(rt: &R, alloc: Global, case: &str) -> Result<(), Fail> {
-    let (words, rest) = case.split_once('\n').ok_or("no table")?;
-    let (lines, report) = rest.split_once('\n').ok_or("no report")?;
-    let table = table_of(alloc, lines)?;
-    let text = format!(in alloc; "{}\n", report.trim_end())?;
-    let left = ran_on(rt, alloc, words, table.as_bytes())?;
-    assert_printed(rt, &left, &text, words);
-    Ok(())
-}
-
-// Each case is reported so. Gives how many there are.
-fn expect_reports<R: Abort + Threads + Sync>(
-    rt: &R,
-    alloc: Global,
-    cases: &str,
-) -> Result<u32, Fail> {
-    let mut count = 0u32;
-    for case in cases.split("\n\n") {
-        expect_report(rt, alloc, case)?;
-        count = count.wrapping_add(1);
-    }
-    Ok(count)
-}
-
 #[test]
-fn fits_of_arithmetics_and_offsets(rt: HostRuntime) -> Result<(), Fail> {
-    let tried = expect_reports(&rt, rt.alloc(), FITS)?;
-    assert!(rt; tried == 6);
-    Ok(())
-}
-
-#[test]
-fn other_jobs_of_arithmetics_and_offsets(rt: HostRuntime) -> Result<(), Fail> {
-    let tried = expect_reports(&rt, rt.alloc(), JOBS)?;
-    assert!(rt; tried == 4);
-    Ok(())
+fn other_jobs_of_arithmetics_and_offsets(rt: HostRuntime) {
+    expect_all(&rt, rt.alloc(), JOBS, 4);
 }
 
 // The responses of a certificate are less by the offset, and its entries are the values of the arithmetic.
-static CERTIFICATE: &str =
-    r#"{"columns":2,"hi":"1","intervals":[],"kind":"quantreg-certificate","lo":"0","rows":[{"down0":"1","down1":"-1","up0":"0","up1":"1","x":["1","0"],"y":"-2"},{"down0":"1","down1":"-1","up0":"0","up1":"1","x":["1","1"],"y":"1"},{"down0":"1","down1":"-1","up0":"0","up1":"1","x":["1","4"],"y":"7"}],"segments":[{"basic_hi":["-3/7","-1/7"],"basic_lo":["0","0"],"coef":["-2","9/4"],"hi":"4/7","lo":"0","loss_hi":"3/7","loss_lo":"0","sides":"*+*"},{"basic_hi":["0","0"],"basic_lo":["4/7","-1/7"],"coef":["-1","2"],"hi":"1","lo":"4/7","loss_hi":"0","loss_lo":"3/7","sides":"-**"}],"version":1}"#;
+static CERTIFICATE: &str = r#"
+> certify|--formula|y ~ I(x^2) + offset(2*z)|--lo|0|--hi|1
+y,x,z;0,0,1;3,1,1;3,2,-2
+{"columns":2,"hi":"1","intervals":[],"kind":"quantreg-certificate","lo":"0","rows":[{"down0":"1","down1":"-1","up0":"0","up1":"1","x":["1","0"],"y":"-2"},{"down0":"1","down1":"-1","up0":"0","up1":"1","x":["1","1"],"y":"1"},{"down0":"1","down1":"-1","up0":"0","up1":"1","x":["1","4"],"y":"7"}],"segments":[{"basic_hi":["-3/7","-1/7"],"basic_lo":["0","0"],"coef":["-2","9/4"],"hi":"4/7","lo":"0","loss_hi":"3/7","loss_lo":"0","sides":"*+*"},{"basic_hi":["0","0"],"basic_lo":["4/7","-1/7"],"coef":["-1","2"],"hi":"1","lo":"4/7","loss_hi":"0","loss_lo":"3/7","sides":"-**"}],"version":1}
+"#;
 
 #[test]
-fn certificates_of_arithmetics_and_offsets(rt: HostRuntime) -> Result<(), Fail> {
-    let words = "certify|--formula|y ~ I(x^2) + offset(2*z)|--lo|0|--hi|1";
-    let table = table_of(rt.alloc(), "y,x,z;0,0,1;3,1,1;3,2,-2")?;
-    let text = format!(in rt.alloc(); "{CERTIFICATE}\n")?;
-    let written = ran_on(&rt, rt.alloc(), words, table.as_bytes())?;
-    assert_printed(&rt, &written, &text, words);
-    let left = ran_on(&rt, rt.alloc(), "check", &written.printed)?;
-    let report = "quantreg check 1\ncolumns 2\nrows 3\nsegments 2\nintervals 0\naccepted\nend\n";
-    assert_printed(&rt, &left, report, words);
-    Ok(())
+fn certificates_of_arithmetics_and_offsets(rt: HostRuntime) {
+    expect_all(&rt, rt.alloc(), CERTIFICATE, 1);
 }
 
-// Lines of the words, behind `?` the table, and the exit status with the line that is told.
-static REFUSED: &str = "\
-process|--formula|y ~ I(f + 1)|--lo|1/2|--hi|1/2 ? y,f;1,a;2,b => 1 quantreg: design: ArithNotNumeric name=f
-process|--formula|y ~ I(2*x)|--lo|1/2|--hi|1/2 ? y,x;1,1e38 => 1 quantreg: design: Overflow quantity=arith-value at=1,1 term=1 op=mul left=2 right=100000000000000000000000000000000000000
-process|--formula|y ~ - offset(x)|--lo|1/2|--hi|1/2 ? y,x;1,1 => 1 quantreg: formula: Syntax offset=6
-process|--formula|y ~ offset(x)|--lo|1/2|--hi|1/2 ? y,x;1,1;-1e38,1e38 => 1 quantreg: design: Overflow quantity=offset-response at=2 term=1 op=sub left=-100000000000000000000000000000000000000 right=100000000000000000000000000000000000000
-process|--formula|y ~ I(x) + offset(x^2 - w)|--lo|1/2|--hi|1/2 ? y,x;1,1 => 1 quantreg: formula: UnknownName offset=24
-process|--formula|y ~ I(x^9)|--lo|1/2|--hi|1/2 ? y,x;1,1 => 1 quantreg: formula: PowerRange offset=8
-process|--formula|y ~ I(2e38*x)|--lo|1/2|--hi|1/2 ? y,x;1,1 => 1 quantreg: formula: NumberTooWide offset=6
-process|--formula|y ~ I(x)|--lo|1/2|--hi|1/2 ? y,x;1,1;2,1e99 => 1 quantreg: design: NumberTooWide record=2 column=x
-process|--formula|y ~ 0 + offset(x)|--lo|1/2|--hi|1/2 ? y,x;1,1 => 1 quantreg: design: NoColumns
-ranks|--formula|y ~ qss(x, 1) + offset(f) ? y,x,f;1,1,a => 1 quantreg: rank: RankWithPenalty
-test|--formula|y ~ x + I(x^2)|--tested|3 ? y,x;0,0;1,1;3,1 => 1 quantreg: solver: Dependent combination=0,-1,1
-predict|--formula|y ~ I(2*x)|--lo|1/2|--hi|1/2 ? y,x;1,1;2,2;,1e38 => 1 quantreg: design: Overflow quantity=arith-value at=3,1 term=1 op=mul left=2 right=100000000000000000000000000000000000000
-predict|--formula|y ~ offset(x)|--lo|1/2|--hi|1/2 ? y,x;3,1;,170141183460469231731687303715884105727 => 7 quantreg: solver: Overflow place=predict:2 quantity=prediction at=2,1 term=2 op=add left=2 right=170141183460469231731687303715884105727
-path|--formula|y ~ qss(x, 1) + offset(f)|--tau|1/2|--lo|1|--hi|2 ? y,x,f;1,1,a => 1 quantreg: job: SmoothNotTaken
+static REFUSED: &str = r"
+> process|--formula|y ~ I(f + 1)|--lo|1/2|--hi|1/2
+y,f;1,a;2,b
+1 quantreg: design: ArithNotNumeric name=f
+> process|--formula|y ~ I(2*x)|--lo|1/2|--hi|1/2
+y,x;1,1e38
+1 quantreg: design: Overflow quantity=arith-value at=1,1 term=1 op=mul left=2 right=100000000000000000000000000000000000000
+> process|--formula|y ~ - offset(x)|--lo|1/2|--hi|1/2
+y,x;1,1
+1 quantreg: formula: Syntax offset=6
+> process|--formula|y ~ offset(x)|--lo|1/2|--hi|1/2
+y,x;1,1;-1e38,1e38
+1 quantreg: design: Overflow quantity=offset-response at=2 term=1 op=sub left=-100000000000000000000000000000000000000 right=100000000000000000000000000000000000000
+> process|--formula|y ~ I(x) + offset(x^2 - w)|--lo|1/2|--hi|1/2
+y,x;1,1
+1 quantreg: formula: UnknownName offset=24
+> process|--formula|y ~ I(x^9)|--lo|1/2|--hi|1/2
+y,x;1,1
+1 quantreg: formula: PowerRange offset=8
+> process|--formula|y ~ I(2e38*x)|--lo|1/2|--hi|1/2
+y,x;1,1
+1 quantreg: formula: NumberTooWide offset=6
+> process|--formula|y ~ I(x)|--lo|1/2|--hi|1/2
+y,x;1,1;2,1e99
+1 quantreg: design: NumberTooWide record=2 column=x
+> process|--formula|y ~ 0 + offset(x)|--lo|1/2|--hi|1/2
+y,x;1,1
+1 quantreg: design: NoColumns
+> ranks|--formula|y ~ qss(x, 1) + offset(f)
+y,x,f;1,1,a
+1 quantreg: rank: RankWithPenalty
+> test|--formula|y ~ x + I(x^2)|--tested|3
+y,x;0,0;1,1;3,1
+1 quantreg: solver: Dependent combination=0,-1,1
+> predict|--formula|y ~ I(2*x)|--lo|1/2|--hi|1/2
+y,x;1,1;2,2;,1e38
+1 quantreg: design: Overflow quantity=arith-value at=3,1 term=1 op=mul left=2 right=100000000000000000000000000000000000000
+> predict|--formula|y ~ offset(x)|--lo|1/2|--hi|1/2
+y,x;3,1;,170141183460469231731687303715884105727
+7 quantreg: solver: Overflow place=predict:2 quantity=prediction at=2,1 term=2 op=add left=2 right=170141183460469231731687303715884105727
+> path|--formula|y ~ qss(x, 1) + offset(f)|--tau|1/2|--lo|1|--hi|2
+y,x,f;1,1,a
+1 quantreg: job: SmoothNotTaken
 ";
 
-fn expect_refused<R: Abort + Threads + Sync>(
-    rt: &R,
-    alloc: Global,
-    case: &str,
-) -> Result<(), Fail> {
-    let (asked, answer) = case.split_once(" => ").ok_or("no answer")?;
-    let (words, lines) = asked.split_once(" ? ").ok_or("no table")?;
-    let (status, told) = answer.split_once(' ').ok_or("no status")?;
-    let status = status.parse::<u8>().ok().ok_or("no number")?;
-    let table = table_of(alloc, lines)?;
-    let line = format!(in alloc; "{told}\n")?;
-    let left = ran_on(rt, alloc, words, table.as_bytes())?;
-    assert_refused(rt, &left, status, &line, words);
-    Ok(())
-}
-
 #[test]
-fn arithmetics_and_offsets_that_are_refused(rt: HostRuntime) -> Result<(), Fail> {
-    let mut tried = 0u32;
-    for case in REFUSED.lines() {
-        expect_refused(&rt, rt.alloc(), case)?;
-        tried = tried.wrapping_add(1);
-    }
-    assert!(rt; tried == 14);
-    Ok(())
+fn arithmetics_and_offsets_that_are_refused(rt: HostRuntime) {
+    expect_all(&rt, rt.alloc(), REFUSED, 14);
 }

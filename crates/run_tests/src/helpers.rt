@@ -1,4 +1,4 @@
-//! Whole runs: words and a table go in, and what is left on the outputs comes out.
+//! Whole runs: words and a table go in, and what is left on the outputs is held to what is wanted.
 
 use port_io::{MemSink, Source, SureSource};
 use rq_cli::run;
@@ -6,7 +6,6 @@ use rq_fan::{Gate, Open};
 use std::alloc::Global;
 use std::process::Abort;
 use std::str::from_utf8;
-use std::test::Fail;
 use std::thread::Threads;
 
 /// A table of one column.
@@ -16,30 +15,20 @@ pub(crate) static TABLE: &str = "y\n1\n2\n3\n";
 pub(crate) static REPORT: &str =
     "quantreg 1\nrecords 3 dropped 0\ncolumn 1 (Intercept)\ndata 3 penalty 0\npivots 1\nsegment 1 1/2 1/2\ncoef 1 2\nloss 1 1\nscores 0*1\nbasic 2 1/2 1/2\nend\n";
 
-// The words of a run, written with bars between them; no text, no words.
-fn words_of(alloc: Global, line: &str) -> Result<Vec<String>, Fail> {
-    let mut words = Vec::new(alloc);
-    if !line.is_empty() {
-        for word in line.split('|') {
-            words.push(String::from_str(alloc, word)?)?;
-        }
-    }
-    Ok(words)
-}
-
-/// How the outputs behave: the room of standard output, its writes that fail, and those of standard
-/// error. A write takes 5 bytes.
+/// How the outputs behave: the room of standard output, its write that fails, and that of standard error, where
+/// none fails at 0. A write takes 5 bytes.
+#[derive(Drop)]
 pub(crate) struct Outputs {
     pub room: usize,
-    pub writes: &'static [u32],
-    pub tellings: &'static [u32],
+    pub write: u32,
+    pub telling: u32,
 }
 
 /// Outputs that take all.
 pub(crate) static SOUND: Outputs = Outputs {
     room: 32_768,
-    writes: &[],
-    tellings: &[],
+    write: 0,
+    telling: 0,
 };
 
 /// What a run leaves: its exit status and what stands on the outputs.
@@ -50,24 +39,38 @@ pub(crate) struct Left {
     pub told: Vec<u8>,
 }
 
-// A sink that takes 5 bytes a write.
-fn sink(alloc: Global, room: usize, fails: &[u32]) -> Result<MemSink, Fail> {
-    let fails = fails.to_vec(alloc)?;
-    Ok(MemSink::new(alloc, room, 5, fails)?)
+// The words of a run, written with bars between them; no text, no words.
+fn words_of(alloc: Global, line: &str) -> Option<Vec<String>> {
+    let mut words = Vec::new(alloc);
+    if !line.is_empty() {
+        for word in line.split('|') {
+            words.push(String::from_str(alloc, word).ok()?).ok()?;
+        }
+    }
+    Some(words)
 }
 
-/// A run of the words over a source, with these sinks.
-pub(crate) fn ran_into<R: Threads + Sync, S: Source>(
-    rt: &R,
+/// The same items.
+pub(crate) fn copied<T: Copy + Drop>(rt: &impl Abort, alloc: Global, items: &[T]) -> Vec<T> {
+    Vec::from_slice(alloc, items).ok().expect(rt, "memory")
+}
+
+fn first_and_pieces(alloc: Global, first: &str, (piece, count): (&str, usize)) -> Option<String> {
+    let mut text = String::from_str(alloc, first).ok()?;
+    for _ in 0..count {
+        text.push_str(piece).ok()?;
+    }
+    Some(text)
+}
+
+/// A text, and so many pieces behind it.
+pub(crate) fn repeated(
+    rt: &impl Abort,
     alloc: Global,
-    line: &str,
-    source: &mut S,
-    mut out: MemSink,
-    mut err: MemSink,
-) -> Result<Left, Fail> {
-    let words = words_of(alloc, line)?;
-    let status = status_of(rt, alloc, &words, source, &mut out, &mut err, &Open);
-    left_on(alloc, status, &out, &err)
+    first: &str,
+    pieces: (&str, usize),
+) -> String {
+    first_and_pieces(alloc, first, pieces).expect(rt, "memory")
 }
 
 // The run and its status. It has no clause: a test compares what is left, and needs nothing of what is
@@ -84,54 +87,59 @@ fn status_of<R: Threads + Sync, S: Source, G: Gate>(
     run(rt, alloc, words, source, out, err, gate).code()
 }
 
-fn left_on(alloc: Global, status: u8, out: &MemSink, err: &MemSink) -> Result<Left, Fail> {
-    let printed = out.written().to_vec(alloc)?;
-    let told = err.written().to_vec(alloc)?;
-    Ok(Left {
+/// A run of the words over a source, with these sinks, whose jobs pass this gate.
+pub(crate) fn ran_past<R: Abort + Threads + Sync, S: Source, G: Gate>(
+    rt: &R,
+    alloc: Global,
+    line: &str,
+    source: &mut S,
+    (mut out, mut err): (MemSink, MemSink),
+    gate: &G,
+) -> Left {
+    let words = words_of(alloc, line).expect(rt, "memory");
+    let status = status_of(rt, alloc, &words, source, &mut out, &mut err, gate);
+    Left {
         status,
-        printed,
-        told,
-    })
+        printed: copied(rt, alloc, out.written()),
+        told: copied(rt, alloc, err.written()),
+    }
+}
+
+/// A sink of so much room that takes so many bytes a write, and whose write of this number fails.
+pub(crate) fn sink(
+    rt: &impl Abort,
+    alloc: Global,
+    (room, piece): (usize, usize),
+    write: u32,
+) -> MemSink {
+    let fails = copied(rt, alloc, &[write]);
+    MemSink::new(alloc, room, piece, fails)
+        .ok()
+        .expect(rt, "memory")
 }
 
 /// A run of the words over a source.
-pub(crate) fn ran<R: Threads + Sync, S: Source>(
+pub(crate) fn ran<R: Abort + Threads + Sync, S: Source>(
     rt: &R,
     alloc: Global,
     line: &str,
     source: &mut S,
     outputs: &Outputs,
-) -> Result<Left, Fail> {
-    let out = sink(alloc, outputs.room, outputs.writes)?;
-    let err = sink(alloc, 4096, outputs.tellings)?;
-    ran_into(rt, alloc, line, source, out, err)
+) -> Left {
+    let out = sink(rt, alloc, (outputs.room, 5), outputs.write);
+    let err = sink(rt, alloc, (4096, 5), outputs.telling);
+    ran_past(rt, alloc, line, source, (out, err), &Open)
 }
 
 /// A run of the words on a table, where nothing fails.
-pub(crate) fn ran_on<R: Threads + Sync>(
+pub(crate) fn ran_on<R: Abort + Threads + Sync>(
     rt: &R,
     alloc: Global,
     line: &str,
     table: &[u8],
-) -> Result<Left, Fail> {
-    let mut source = SureSource::new(table.to_vec(alloc)?);
+) -> Left {
+    let mut source = SureSource::new(copied(rt, alloc, table));
     ran(rt, alloc, line, &mut source, &SOUND)
-}
-
-/// A run of the words on a table, where nothing fails, whose jobs pass this gate.
-pub(crate) fn ran_past<R: Threads + Sync, G: Gate>(
-    rt: &R,
-    alloc: Global,
-    line: &str,
-    table: &[u8],
-    gate: &G,
-) -> Result<Left, Fail> {
-    let words = words_of(alloc, line)?;
-    let mut source = SureSource::new(table.to_vec(alloc)?);
-    let mut out = sink(alloc, 4096, &[])?;
-    let mut err = sink(alloc, 4096, &[])?;
-    let status = status_of(rt, alloc, &words, &mut source, &mut out, &mut err, gate);
-    left_on(alloc, status, &out, &err)
 }
 
 /// The run printed this report and nothing else.
@@ -145,10 +153,89 @@ pub(crate) fn assert_printed(rt: &impl Abort, left: &Left, report: &str, case: &
     );
 }
 
+// The run printed a report that ends so, and nothing else.
+fn assert_ends(rt: &impl Abort, left: &Left, end: &str, case: &str) {
+    assert!(rt; left.status == 0, "{case}");
+    assert!(rt; left.told.is_empty(), "{case}");
+    let printed = from_utf8(left.printed.as_slice());
+    assert!(rt;
+        left.printed.as_slice().ends_with(end.as_bytes()),
+        "{case}: {printed:?}"
+    );
+}
+
 /// The run printed nothing, and told this line.
 pub(crate) fn assert_refused(rt: &impl Abort, left: &Left, status: u8, told: &str, case: &str) {
     assert!(rt; left.status == status, "{case}");
     assert!(rt; left.printed.is_empty(), "{case}");
     let line = from_utf8(left.told.as_slice());
     assert!(rt; left.told.as_slice() == told.as_bytes(), "{case}: {line:?}");
+}
+
+/// The first line of a case, which is its words, the second one, which is its table, and the others, which are what is
+/// wanted, up to a remark on the next case.
+pub(crate) fn parts(case: &str) -> Option<(&str, &str, &str)> {
+    let (words, rest) = case.split_once('\n')?;
+    let (lines, rest) = rest.split_once('\n')?;
+    let (wanted, _) = rest.split_once("\n#").unwrap_or((rest, ""));
+    Some((words.trim_start(), lines, wanted))
+}
+
+/// A table by its lines, between which `;` stands; no text, no lines.
+pub(crate) fn table_of(alloc: Global, lines: &str) -> Option<String> {
+    let mut table = String::new(alloc);
+    if !lines.is_empty() {
+        for line in lines.split(';') {
+            table.push_str(line).ok()?;
+            table.push_str("\n").ok()?;
+        }
+    }
+    Some(table)
+}
+
+// The exit status and the line of a refusal, if that is what is wanted.
+fn refusal(wanted: &str) -> Option<(u8, &str)> {
+    let (status, told) = wanted.split_once(' ')?;
+    Some((status.parse::<u8>().ok()?, told))
+}
+
+fn line_of(alloc: Global, text: &str) -> Option<String> {
+    format!(in alloc; "{text}\n").ok()
+}
+
+/// The run left what is wanted: a printed text, or the end of one behind a line `..`, or the exit status and the line
+/// that is told.
+pub(crate) fn assert_left(rt: &impl Abort, alloc: Global, left: &Left, wanted: &str, case: &str) {
+    let wanted = line_of(alloc, wanted).expect(rt, "memory");
+    if let Some(end) = wanted.strip_prefix("..\n") {
+        assert_ends(rt, left, end, case);
+    } else if let Some((status, told)) = refusal(&wanted) {
+        assert_refused(rt, left, status, told, case);
+    } else {
+        assert_printed(rt, left, &wanted, case);
+    }
+}
+
+fn expect<R: Abort + Threads + Sync>(rt: &R, alloc: Global, case: &str) {
+    let (words, lines, wanted) = parts(case).expect(rt, "three lines");
+    let table = table_of(alloc, lines).expect(rt, "memory");
+    let left = ran_on(rt, alloc, words, table.as_bytes());
+    assert_left(rt, alloc, &left, wanted, words);
+}
+
+/// Runs each case of a text, and there are so many. A case is a line `> WORDS`, a line with the table, in which `;`
+/// stands for the ends of lines, and what is left: the printed text, or the end of one behind a line `..`, or the exit
+/// status and the line that is told. A line that begins with `#` is a remark on the next case.
+pub(crate) fn expect_all<R: Abort + Threads + Sync>(
+    rt: &R,
+    alloc: Global,
+    cases: &str,
+    count: u32,
+) {
+    let mut tried = 0u32;
+    for case in cases.trim_end().split("\n>").skip(1) {
+        expect(rt, alloc, case);
+        tried = tried.wrapping_add(1);
+    }
+    assert!(rt; tried == count, "{tried} cases");
 }

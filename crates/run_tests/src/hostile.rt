@@ -1,11 +1,13 @@
 //! A table that is cut after each of its bytes, and one whose reading or printing fails at each call.
 //! The answers were worked out by hand from the rules.
 
-use crate::helpers::{Left, Outputs, assert_printed, assert_refused, ran, ran_into, ran_on};
-use port_io::{MemSink, MemSource, SureSource};
+use crate::helpers::{
+    Left, SOUND, assert_printed, assert_refused, copied, ran, ran_on, ran_past, sink,
+};
+use port_io::{MemSource, SureSource};
+use rq_fan::Open;
 use std::alloc::Global;
 use std::process::Abort;
-use std::test::Fail;
 use std::thread::Threads;
 
 // Three points on two lines, 16 bytes.
@@ -54,66 +56,50 @@ fn cut_report(left: usize) -> &'static str {
 }
 
 #[test]
-fn a_cut_table_is_read_as_far_as_it_goes(rt: HostRuntime) -> Result<(), Fail> {
+fn a_cut_table_is_read_as_far_as_it_goes(rt: HostRuntime) {
     for (bytes, told) in CUTS.iter().enumerate() {
-        let left = ran_on(&rt, rt.alloc(), WHOLE, &LINE.as_bytes()[..bytes])?;
+        let left = ran_on(&rt, rt.alloc(), WHOLE, &LINE.as_bytes()[..bytes]);
         if told.is_empty() {
             assert_printed(&rt, &left, cut_report(bytes), told);
         } else {
             assert_refused(&rt, &left, 1, told, told);
         }
     }
-    Ok(())
 }
 
-static SOUND: Outputs = Outputs {
-    room: 4096,
-    writes: &[],
-    tellings: &[],
-};
-
 // The run of the whole table over a source that takes 3 bytes a read, and whose read of this number fails.
-fn ran_with_a_fault<R: Threads + Sync>(rt: &R, alloc: Global, read: u32) -> Result<Left, Fail> {
-    let bytes = LINE.as_bytes().to_vec(alloc)?;
-    let mut fails = Vec::new(alloc);
-    fails.push(read)?;
-    let mut source = MemSource::new(bytes, 3, fails);
+fn ran_with_a_fault<R: Abort + Threads + Sync>(rt: &R, alloc: Global, read: u32) -> Left {
+    let bytes = copied(rt, alloc, LINE.as_bytes());
+    let mut source = MemSource::new(bytes, 3, copied(rt, alloc, &[read]));
     ran(rt, alloc, WHOLE, &mut source, &SOUND)
 }
 
 #[test]
-fn each_read_may_fail(rt: HostRuntime) -> Result<(), Fail> {
+fn each_read_may_fail(rt: HostRuntime) {
     for read in 1..8 {
-        let left = ran_with_a_fault(&rt, rt.alloc(), read)?;
+        let left = ran_with_a_fault(&rt, rt.alloc(), read);
         assert_refused(&rt, &left, 3, "quantreg: source: SourceFault\n", "read");
     }
-    let left = ran_with_a_fault(&rt, rt.alloc(), 8)?;
+    let left = ran_with_a_fault(&rt, rt.alloc(), 8);
     assert_printed(&rt, &left, WHOLE_REPORT, "no eighth read");
-    Ok(())
 }
 
 static SINK_FAULT: &str = "quantreg: sink: SinkFault\n";
 
 // The run of the whole table into a sink that takes 16 bytes a write, and whose write of this number fails.
-fn printed_with_a_fault<R: Threads + Sync>(
-    rt: &R,
-    alloc: Global,
-    write: u32,
-) -> Result<Left, Fail> {
-    let mut source = SureSource::new(LINE.as_bytes().to_vec(alloc)?);
-    let mut fails = Vec::new(alloc);
-    fails.push(write)?;
-    let out = MemSink::new(alloc, 4096, 16, fails)?;
-    let err = MemSink::new(alloc, 4096, 16, Vec::new(alloc))?;
-    ran_into(rt, alloc, WHOLE, &mut source, out, err)
+fn printed_with_a_fault<R: Abort + Threads + Sync>(rt: &R, alloc: Global, write: u32) -> Left {
+    let mut source = SureSource::new(copied(rt, alloc, LINE.as_bytes()));
+    let out = sink(rt, alloc, (4096, 16), write);
+    let err = sink(rt, alloc, (4096, 16), 0);
+    ran_past(rt, alloc, WHOLE, &mut source, (out, err), &Open)
 }
 
 #[test]
-fn each_write_may_fail(rt: HostRuntime) -> Result<(), Fail> {
+fn each_write_may_fail(rt: HostRuntime) {
     let mut writes = 0u32;
     for (index, _) in WHOLE_REPORT.as_bytes().chunks(16).enumerate() {
         writes = writes.wrapping_add(1);
-        let left = printed_with_a_fault(&rt, rt.alloc(), writes)?;
+        let left = printed_with_a_fault(&rt, rt.alloc(), writes);
         assert!(rt; left.status == 4, "{writes}");
         assert!(rt; left.told.as_slice() == SINK_FAULT.as_bytes(), "{writes}");
         assert!(rt; left.printed.len() == index.wrapping_mul(16), "{writes}");
@@ -122,7 +108,6 @@ fn each_write_may_fail(rt: HostRuntime) -> Result<(), Fail> {
             "{writes}"
         );
     }
-    let left = printed_with_a_fault(&rt, rt.alloc(), writes.wrapping_add(1))?;
+    let left = printed_with_a_fault(&rt, rt.alloc(), writes.wrapping_add(1));
     assert_printed(&rt, &left, WHOLE_REPORT, "no write is left");
-    Ok(())
 }
