@@ -1,6 +1,6 @@
 -- A list of items in parts of 64: together they have the tests of the list, and the first answer but those that all tests are
 -- true is what these come to.
-use Rattle.std.specs.Prelude.{◌≡◌, ℕ, zero, suc, ◌+◌, ◌-◌, ◌*◌, ◌≤◌, List, [], ◌∷◌, ◌++◌, length, slice_get, flat_map, Result, Ok, Err, ⊤}
+use Rattle.std.specs.Prelude.{◌≡◌, ℕ, zero, suc, ◌+◌, ◌-◌, ◌*◌, ◌≤◌, List, [], ◌∷◌, ◌++◌, length, flat_map, Result, Ok, Err, ⊤}
 use Rattle.std.specs.Int.{div_ceil}
 use Rattle.std.specs.List.{AllZip}
 use Rattle.std.specs.Option.{option_map_or}
@@ -31,19 +31,19 @@ upto_none f (suc n) none = ap (λ l. l ++ f n) (upto_none f n none) ∙ none n
 module _ {A : Type 0} (xs : List A) (f : ℕ → A → List Test) where
   -- one part more, behind those that have all tests before it
   pub part_more : {P : Type 0} (tests : P → List Test) (place : ℕ) (parts more : List P) (part : P) → flat_map tests parts ≡ upto (64 * place) (item_tests xs f) → more ≡ parts ++ part ∷ []
-      → tests part ≡ upto 64 (λ i. item_tests xs f (64 * place + i)) → flat_map tests more ≡ upto (64 * (place + 1)) (item_tests xs f)
-  part_more tests place parts more part so_far added next =
+      → (at : P) → part ≡ at → tests at ≡ upto 64 (λ i. item_tests xs f (64 * place + i)) → flat_map tests more ≡ upto (64 * (place + 1)) (item_tests xs f)
+  part_more tests place parts more part so_far added at here next =
       let on : 64 * place + 64 ≡ 64 * (place + 1) = omega arith in
-      ap (flat_map tests) added ∙ flat_map-append tests parts (part ∷ []) ∙ ap (λ l. flat_map tests parts ++ l) (append-nil (tests part) ∙ next)
+      ap (flat_map tests) added ∙ flat_map-append tests parts (part ∷ []) ∙ ap (λ l. flat_map tests parts ++ l) (append-nil (tests part) ∙ ap tests here ∙ next)
       ∙ ap (λ l. l ++ upto 64 (λ i. item_tests xs f (64 * place + i))) so_far
       ∙ sym (upto_parts (item_tests xs f) (64 * place) 64) ∙ ap (λ k. upto k (item_tests xs f)) on
 
   -- so many parts that no item is left
-  pub all_parts : (n : ℕ) → length xs ≤ n → upto n (item_tests xs f) ≡ each xs f
-  all_parts n enough =
+  pub all_parts : {P : Type 0} (tests : P → List Test) (n : ℕ) (parts : List P) → flat_map tests parts ≡ upto n (item_tests xs f) → length xs ≤ n → flat_map tests parts ≡ each xs f
+  all_parts tests n parts so_far enough =
       let on : n ≡ length xs + (n - length xs) = omega (arith, enough) in
       let past : (i : ℕ) → length xs ≤ length xs + i = λ i. omega arith in
-      ap (λ k. upto k (item_tests xs f)) on
+      so_far ∙ ap (λ k. upto k (item_tests xs f)) on
       ∙ upto_parts (item_tests xs f) (length xs) (n - length xs)
       ∙ ap (λ l. each xs f ++ l) (upto_none (λ i. item_tests xs f (length xs + i)) (n - length xs)
       (λ i. ap (λ x. option_map_or (f (length xs + i + 1)) x []) (slice_get_past xs (length xs + i) (past i))))
