@@ -1,14 +1,17 @@
-//! The rank intervals of a run are under way together.
+//! The rank intervals of a run are under way together, and so are the parts of a condition on a certificate.
 
-use crate::helpers::{assert_printed, ran_past};
+use crate::helpers::{Outputs, assert_printed, ran, ran_past};
+use port_io::SureSource;
 use rq_fan::Gate;
+use std::alloc::Global;
 use std::sync::atomic::{AtomicBool, Ordering};
 use std::test::Fail;
+use std::thread::Threads;
 
 /// How often a job looks for the other before it gives up.
 const MOST_LOOKS: u32 = 100_000_000;
 
-/// A gate at which the jobs at the places 0 and 1 look for each other.
+/// A gate at which the first jobs at the places 0 and 1 look for each other.
 #[derive(Drop)]
 struct Meeting {
     first: AtomicBool,
@@ -16,24 +19,41 @@ struct Meeting {
     met: [AtomicBool; 2],
 }
 
-/// Tells that a job is under way, and whether it saw that the other one is.
-fn meets(mine: &AtomicBool, other: &AtomicBool) -> bool {
-    mine.store(true, Ordering::SeqCst);
-    for _ in 0..MOST_LOOKS {
-        if other.load(Ordering::SeqCst) {
-            return true;
+impl Meeting {
+    fn new() -> Meeting {
+        Meeting {
+            first: AtomicBool::new(false),
+            second: AtomicBool::new(false),
+            met: [AtomicBool::new(false), AtomicBool::new(false)],
         }
     }
-    false
+
+    /// Both saw each other.
+    fn took_place(&self) -> bool {
+        self.met[0].load(Ordering::SeqCst) && self.met[1].load(Ordering::SeqCst)
+    }
+}
+
+/// Tells that the first job of a place is under way, and notes whether it sees that the other one is.
+fn meet(mine: &AtomicBool, other: &AtomicBool, met: &AtomicBool) {
+    if mine.swap(true, Ordering::SeqCst) {
+        return;
+    }
+    for _ in 0..MOST_LOOKS {
+        if other.load(Ordering::SeqCst) {
+            met.store(true, Ordering::SeqCst);
+            return;
+        }
+    }
 }
 
 impl Gate for Meeting {
     fn enter(&self, place: u32) {
         if place == 0 {
-            self.met[0].store(meets(&self.first, &self.second), Ordering::SeqCst);
+            meet(&self.first, &self.second, &self.met[0]);
         }
         if place == 1 {
-            self.met[1].store(meets(&self.second, &self.first), Ordering::SeqCst);
+            meet(&self.second, &self.first, &self.met[1]);
         }
     }
 }
@@ -45,15 +65,46 @@ static REPORT: &str =
 
 #[test]
 fn engine_gate(rt: HostRuntime) -> Result<(), Fail> {
-    let gate = Meeting {
-        first: AtomicBool::new(false),
-        second: AtomicBool::new(false),
-        met: [AtomicBool::new(false), AtomicBool::new(false)],
-    };
+    let gate = Meeting::new();
     let words = "process|--formula|y ~ x|--lo|1/2|--hi|1/2|--crit|6/7|--rank-at|1/2";
     let left = ran_past(&rt, rt.alloc(), words, LINE.as_bytes(), &gate)?;
     assert_printed(&rt, &left, REPORT, words);
-    assert!(rt; gate.met[0].load(Ordering::SeqCst));
-    assert!(rt; gate.met[1].load(Ordering::SeqCst));
+    assert!(rt; gate.took_place());
+    Ok(())
+}
+
+/// Room for a certificate of 128 segments.
+static WIDE: Outputs = Outputs {
+    room: 131_072,
+    writes: &[],
+    tellings: &[],
+};
+
+// The table of 128 records, 1 to 128.
+fn table(alloc: Global) -> Result<String, Fail> {
+    let mut table = String::from_str(alloc, "y\n")?;
+    for record in 1..129u32 {
+        table.push_str(&format!(in alloc; "{record}\n")?)?;
+    }
+    Ok(table)
+}
+
+// Its certificate, which has 128 segments.
+fn certificate<R: Threads + Sync>(rt: &R, alloc: Global) -> Result<Vec<u8>, Fail> {
+    let mut source = SureSource::new(table(alloc)?.as_bytes().to_vec(alloc)?);
+    let words = "certify|--formula|y ~ 1|--lo|0|--hi|1";
+    Ok(ran(rt, alloc, words, &mut source, &WIDE)?.printed)
+}
+
+static CHECKED: &str =
+    "quantreg check 1\ncolumns 1\nrows 128\nsegments 128\nintervals 0\naccepted\nend\n";
+
+#[test]
+fn check_gate(rt: HostRuntime) -> Result<(), Fail> {
+    let gate = Meeting::new();
+    let text = certificate(&rt, rt.alloc())?;
+    let left = ran_past(&rt, rt.alloc(), "check", &text, &gate)?;
+    assert_printed(&rt, &left, CHECKED, "check");
+    assert!(rt; gate.took_place());
     Ok(())
 }
