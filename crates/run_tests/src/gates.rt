@@ -1,6 +1,6 @@
 //! The rank intervals of a run are under way together, and so are the parts of a condition on a certificate.
 
-use crate::helpers::{Outputs, assert_printed, ran, ran_past};
+use crate::helpers::{Left, Outputs, assert_printed, ran, ran_past};
 use port_io::SureSource;
 use rq_fan::Gate;
 use std::alloc::Global;
@@ -89,11 +89,12 @@ fn table(alloc: Global) -> Result<String, Fail> {
     Ok(table)
 }
 
-// Its certificate, which has 128 segments.
-fn certificate<R: Threads + Sync>(rt: &R, alloc: Global) -> Result<Vec<u8>, Fail> {
-    let mut source = SureSource::new(table(alloc)?.as_bytes().to_vec(alloc)?);
+// The run that writes its certificate, which has 128 segments.
+fn certified<R: Threads + Sync>(rt: &R, alloc: Global) -> Result<Left, Fail> {
+    let table = table(alloc)?;
+    let mut source = SureSource::new(table.as_bytes().to_vec(alloc)?);
     let words = "certify|--formula|y ~ 1|--lo|0|--hi|1";
-    Ok(ran(rt, alloc, words, &mut source, &WIDE)?.printed)
+    ran(rt, alloc, words, &mut source, &WIDE)
 }
 
 static CHECKED: &str =
@@ -102,8 +103,8 @@ static CHECKED: &str =
 #[test]
 fn check_gate(rt: HostRuntime) -> Result<(), Fail> {
     let gate = Meeting::new();
-    let text = certificate(&rt, rt.alloc())?;
-    let left = ran_past(&rt, rt.alloc(), "check", &text, &gate)?;
+    let written = certified(&rt, rt.alloc())?;
+    let left = ran_past(&rt, rt.alloc(), "check", &written.printed, &gate)?;
     assert_printed(&rt, &left, CHECKED, "check");
     assert!(rt; gate.took_place());
     Ok(())
