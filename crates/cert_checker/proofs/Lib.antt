@@ -1,5 +1,6 @@
 mod Spilled
 pub mod Decided
+mod Parts
 mod Chains
 mod Steps
 mod Agrees
@@ -11,5 +12,6 @@ mod Rays
 mod Extracts
 pub mod Worths
 pub mod Shown
+mod Later
 mod Ranks
 mod All

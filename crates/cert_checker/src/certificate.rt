@@ -3,18 +3,22 @@
 ghost use Rattle.std.specs.Prelude.{IfOk, IfErr};
 ghost use Rattle.cert_text.specs.Limits.{IsWithinLimits};
 ghost use Rattle.cert_checker.specs.Certificates.{first_tests, later_tests, tests, IsVerdict, IsStop};
-ghost use Rattle.cert_checker.specs.Verdicts.{Decides};
+ghost use Rattle.cert_checker.specs.Verdicts.{Decides, DecidesUnlessHalted};
 
 use crate::form::{RowForm, SegmentCount, SegmentForm};
 use crate::formula::{Count, Number};
 use crate::interval_form::{IntervalForm, Intervals};
 use crate::intervals::IntervalConditions;
+use crate::jobs::SegmentJobs;
 use crate::place::Place;
 use crate::relation::Relation;
 use crate::segments::{Balances, Bounds, CostRows, Ends, Joints, Losses, Rows, Segments};
 use crate::tests::{Comparison, One, Tests, Then};
-use crate::verdict::{CheckStop, Failure, Verdict};
+use crate::verdict::{CheckStop, Failure, Halt, Verdict};
 use cert_text::Cert;
+use rq_fan::Gate;
+use std::alloc::Global;
+use std::thread::Threads;
 
 // The first three conditions.
 #[tactic(auto, unfolding(crate::specs::Certificates::first_tests))]
@@ -94,68 +98,51 @@ fn decide_first(cert: &Cert) -> Result<(), Failure>
 
 // The conditions on dual values, losses and intervals.
 #[tactic(auto, unfolding(crate::specs::Certificates::later_tests))]
-fn decide_later(cert: &Cert) -> Result<(), Failure>
+fn decide_later<R: Threads + Sync, G: Gate>(
+    rt: &R,
+    alloc: Global,
+    cert: &Cert,
+    gate: &G,
+) -> Result<(), Halt>
     requires { IsWithinLimits cert.now }
-    ensures { Decides (later_tests cert.now) result }
+    ensures { DecidesUnlessHalted (later_tests cert.now) result }
 {
     let problem = &cert.problem;
     let list = &cert.segments;
-    let low = Segments {
-        list,
-        of: Bounds {
-            problem,
-            high: false,
-        },
+    let jobs = SegmentJobs { alloc, list, gate };
+    let low = Bounds {
+        problem,
+        high: false,
     };
-    let high = Segments {
-        list,
-        of: Bounds {
-            problem,
-            high: true,
-        },
+    let high = Bounds {
+        problem,
+        high: true,
     };
-    let balances = Segments {
-        list,
-        of: Balances { problem },
-    };
-    let losses = Segments {
-        list,
-        of: Losses { problem },
-    };
-    let joints = Segments {
-        list,
-        of: Joints { problem, list },
-    };
+    jobs.decide(rt, low)?;
+    jobs.decide(rt, high)?;
+    jobs.decide(rt, Balances { problem })?;
+    jobs.decide(rt, Losses { problem })?;
+    jobs.decide(rt, Joints { problem, list })?;
     let intervals = Intervals {
         list: &cert.intervals,
         of: IntervalConditions { problem },
     };
-    Then {
-        first: low,
-        rest: Then {
-            first: high,
-            rest: Then {
-                first: balances,
-                rest: Then {
-                    first: losses,
-                    rest: Then {
-                        first: joints,
-                        rest: intervals,
-                    },
-                },
-            },
-        },
-    }
-    .decide()
+    intervals.decide()?;
+    Ok(())
 }
 
 // All of them.
-fn decide_all(cert: &Cert) -> Result<(), Failure>
+fn decide_all<R: Threads + Sync, G: Gate>(
+    rt: &R,
+    alloc: Global,
+    cert: &Cert,
+    gate: &G,
+) -> Result<(), Halt>
     requires { IsWithinLimits cert.now }
-    ensures { Decides (tests cert.now) result }
+    ensures { DecidesUnlessHalted (tests cert.now) result }
 {
     decide_first(cert)?;
-    decide_later(cert)
+    decide_later(rt, alloc, cert, gate)
 }
 
 /// Tests the nine conditions on a certificate that is within the limits of `read_cert`, in their order: that
@@ -165,21 +152,31 @@ fn decide_all(cert: &Cert) -> Result<(), Failure>
 /// coefficients and what the dual values come to, that every row has one dual value where two segments meet,
 /// and that each rank interval has a projection and ends with dual values on either side of its bound.
 ///
+/// Each condition on dual values and losses is tested by jobs at once, one for 64 consecutive segments, and the first
+/// answer counts in the order of the segments. A job enters the gate with its place among those of its condition
+/// before it works.
+///
 /// `Accepted` says that all of them hold, and that so, whoever wrote the certificate, the segments cover the
 /// range, with dual values of equal cost at both ends of each, so that the coefficients of a segment
 /// minimise the loss at every quantile between (Koenker 2005, chapter 6), and that each interval shows
 /// which values of its coefficient the rank test keeps (section 3.5): its ends, none beyond, and between
 /// them all whose dual values are optimal. `Rejected` has the first test that is false, with its two sides.
-/// `Overflow` names an operation of a test that overflows, where all tests before it are true. No memory is
-/// taken, so `OutOfMemory` never comes.
-pub fn check(cert: &Cert) -> Result<Verdict, CheckStop>
+/// `Overflow` names an operation of a test that overflows, where all tests before it are true. `OutOfMemory` may come
+/// wherever jobs are made.
+pub fn check<R: Threads + Sync, G: Gate>(
+    rt: &R,
+    alloc: Global,
+    cert: &Cert,
+    gate: &G,
+) -> Result<Verdict, CheckStop>
     requires { IsWithinLimits cert.now }
     ensures verdict { IfOk result (IsVerdict cert.now) }
     ensures stop { IfErr result (IsStop cert.now) }
 {
-    match decide_all(cert) {
+    match decide_all(rt, alloc, cert, gate) {
         Ok(()) => Ok(Verdict::Accepted),
-        Err(Failure::Rejected(rejection)) => Ok(Verdict::Rejected(rejection)),
-        Err(Failure::Overflow(spill)) => Err(CheckStop::Overflow(spill)),
+        Err(Halt::Failed(Failure::Rejected(rejection))) => Ok(Verdict::Rejected(rejection)),
+        Err(Halt::Failed(Failure::Overflow(spill))) => Err(CheckStop::Overflow(spill)),
+        Err(Halt::OutOfMemory) => Err(CheckStop::OutOfMemory),
     }
 }

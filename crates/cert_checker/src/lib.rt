@@ -3,9 +3,9 @@
 //! The one contract: `check` tests the conditions on a certificate in their order, as
 //! `specs/Certificates.antt` lists them. Where all hold, the segments cover the range with coefficients that
 //! minimise, and the rank intervals show which values their test keeps; else it gives the first test that
-//! is false, with its two sides, or an operation of a test that overflows. It stands on the certificates of
-//! `cert_text`, the definitions of `loss_model` and the laws of `rank_law`, and on no crate of the solver,
-//! and takes no memory.
+//! is false, with its two sides, or an operation of a test that overflows. The conditions on dual values and losses are
+//! tested by jobs at once, and only these take memory. It stands on the certificates of `cert_text`, the definitions
+//! of `loss_model`, the laws of `rank_law` and the jobs of `rq_fan`, and on no crate of the solver.
 #![tactic(auto)]
 
 mod certificate;
@@ -14,6 +14,7 @@ mod formula;
 mod interval_form;
 mod interval_parts;
 mod intervals;
+mod jobs;
 mod leaves;
 mod place;
 mod projection;

@@ -83,34 +83,34 @@ static TIE: &str =
 
 #[test]
 fn the_line_is_accepted(rt: HostRuntime) -> Result<(), Fail> {
-    assert!(rt; is_accepted(rt.alloc(), LINE.as_bytes()));
+    assert!(rt; is_accepted(&rt, LINE.as_bytes()));
     Ok(())
 }
 
 #[test]
 fn an_optimum_made_by_hand_is_accepted(rt: HostRuntime) -> Result<(), Fail> {
-    assert!(rt; is_accepted(rt.alloc(), HAND.as_bytes()));
+    assert!(rt; is_accepted(&rt, HAND.as_bytes()));
     Ok(())
 }
 
 #[test]
 fn a_loss_above_the_dual_objective_is_rejected(rt: HostRuntime) -> Result<(), Fail> {
     let sides = ((3, 1), (2, 1));
-    assert!(rt; is_rejected(rt.alloc(), OFF.as_bytes(), (7, 1, 2), sides));
+    assert!(rt; is_rejected(&rt, OFF.as_bytes(), (7, 1, 2), sides));
     Ok(())
 }
 
 #[test]
 fn dual_values_that_jump_are_rejected(rt: HostRuntime) -> Result<(), Fail> {
     let sides = ((-1, 2), (1, 2));
-    assert!(rt; is_rejected(rt.alloc(), TIE.as_bytes(), (8, 1, 1), sides));
+    assert!(rt; is_rejected(&rt, TIE.as_bytes(), (8, 1, 1), sides));
     Ok(())
 }
 
 #[test]
 fn each_change_is_rejected_by_its_first_false_test(rt: HostRuntime) -> Result<(), Fail> {
     for change in &CHANGES {
-        let right = is_as_wanted(rt.alloc(), LINE, change)?;
+        let right = is_as_wanted(&rt, LINE, change)?;
         assert!(rt; right, "at {}: {}", change.0, change.2);
     }
     Ok(())
@@ -121,7 +121,7 @@ fn a_dual_value_above_its_bound_is_rejected(rt: HostRuntime) -> Result<(), Fail>
     let old = r#""basic_lo":["3/5""#;
     let text = changed(rt.alloc(), LINE, old, r#""basic_lo":["4/5""#)?;
     let sides = ((4, 5), (3, 5));
-    assert!(rt; is_rejected(rt.alloc(), text.as_bytes(), (4, 2, 2), sides));
+    assert!(rt; is_rejected(&rt, text.as_bytes(), (4, 2, 2), sides));
     Ok(())
 }
 
@@ -130,7 +130,7 @@ fn a_coefficient_of_another_loss_is_rejected(rt: HostRuntime) -> Result<(), Fail
     let old = r#""coef":["0","1"]"#;
     let text = changed(rt.alloc(), LINE, old, r#""coef":["0","2"]"#)?;
     let sides = ((0, 1), (3, 1));
-    assert!(rt; is_rejected(rt.alloc(), text.as_bytes(), (7, 1, 1), sides));
+    assert!(rt; is_rejected(&rt, text.as_bytes(), (7, 1, 1), sides));
     Ok(())
 }
 
@@ -146,7 +146,7 @@ fn an_operation_that_overflows_bears_its_number(rt: HostRuntime) -> Result<(), F
         left: (-2, 5),
         right: (i128::MAX, 1),
     };
-    assert!(rt; overflows(rt.alloc(), first.as_bytes(), &product));
+    assert!(rt; overflows(&rt, first.as_bytes(), &product));
     let greatest = r#""x":["170141183460469231731687303715884105727","1"]"#;
     let second = changed(rt.alloc(), LINE, r#""x":["1","1"]"#, greatest)?;
     let product = Operation {
@@ -154,6 +154,6 @@ fn an_operation_that_overflows_bears_its_number(rt: HostRuntime) -> Result<(), F
         left: (3, 5),
         ..product
     };
-    assert!(rt; overflows(rt.alloc(), second.as_bytes(), &product));
+    assert!(rt; overflows(&rt, second.as_bytes(), &product));
     Ok(())
 }

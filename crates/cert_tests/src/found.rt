@@ -3,8 +3,10 @@
 use cert_checker::{CheckStop, Rejection, Verdict, check};
 use cert_text::{Cert, CertFault, read_cert};
 use frac_core::{Exact, Frac128, OpKind};
+use rq_fan::Open;
 use std::alloc::Global;
 use std::test::Fail;
+use std::thread::Threads;
 
 /// Where the change stands in the text, how many bytes go there, and what is written instead; and of the
 /// rejection its condition, index and inner number, and both sides.
@@ -23,7 +25,10 @@ fn read(alloc: Global, text: &[u8]) -> Result<Cert, CertFault> {
 }
 
 // What is found of it, where it is within the limits.
-fn checked(cert: &Cert) -> Option<Result<Verdict, CheckStop>> {
+fn checked<R: AllocGlobal + Threads + Sync>(
+    rt: &R,
+    cert: &Cert,
+) -> Option<Result<Verdict, CheckStop>> {
     if cert.problem.columns > 128 {
         return None;
     }
@@ -36,28 +41,28 @@ fn checked(cert: &Cert) -> Option<Result<Verdict, CheckStop>> {
     if cert.intervals.as_slice().len() > 8192 {
         return None;
     }
-    Some(check(cert))
+    Some(check(rt, rt.alloc(), cert, &Open))
 }
 
 // The rejection of a text, if it has one.
-fn rejection(alloc: Global, text: &[u8]) -> Option<Rejection> {
-    let cert = match read(alloc, text) {
+fn rejection<R: AllocGlobal + Threads + Sync>(rt: &R, text: &[u8]) -> Option<Rejection> {
+    let cert = match read(rt.alloc(), text) {
         Ok(cert) => cert,
         Err(_) => return None,
     };
-    match checked(&cert) {
+    match checked(rt, &cert) {
         Some(Ok(Verdict::Rejected(rejection))) => Some(rejection),
         _ => None,
     }
 }
 
 /// Whether a text is accepted.
-pub(crate) fn is_accepted(alloc: Global, text: &[u8]) -> bool {
-    let cert = match read(alloc, text) {
+pub(crate) fn is_accepted<R: AllocGlobal + Threads + Sync>(rt: &R, text: &[u8]) -> bool {
+    let cert = match read(rt.alloc(), text) {
         Ok(cert) => cert,
         Err(_) => return false,
     };
-    match checked(&cert) {
+    match checked(rt, &cert) {
         Some(Ok(Verdict::Accepted)) => true,
         _ => false,
     }
@@ -95,22 +100,26 @@ fn is_wanted(found: &Rejection, change: &Change) -> bool {
 }
 
 /// Whether a text with a change is rejected as the change wants.
-pub(crate) fn is_as_wanted(alloc: Global, base: &str, change: &Change) -> Result<bool, Fail> {
-    let text = spoilt(alloc, base, change)?;
-    match rejection(alloc, text.as_slice()) {
+pub(crate) fn is_as_wanted<R: AllocGlobal + Threads + Sync>(
+    rt: &R,
+    base: &str,
+    change: &Change,
+) -> Result<bool, Fail> {
+    let text = spoilt(rt.alloc(), base, change)?;
+    match rejection(rt, text.as_slice()) {
         Some(found) => Ok(is_wanted(&found, change)),
         None => Ok(false),
     }
 }
 
 /// Whether a text is rejected at a place, with these sides.
-pub(crate) fn is_rejected(
-    alloc: Global,
+pub(crate) fn is_rejected<R: AllocGlobal + Threads + Sync>(
+    rt: &R,
     text: &[u8],
     place: (u8, u32, u32),
     sides: ((i128, i128), (i128, i128)),
 ) -> bool {
-    match rejection(alloc, text) {
+    match rejection(rt, text) {
         Some(found) => is_wanted(&found, &(0, 0, "", place, sides.0, sides.1)),
         None => false,
     }
@@ -126,12 +135,16 @@ pub(crate) struct Operation {
 }
 
 /// Whether a product is named as the operation that overflows.
-pub(crate) fn overflows(alloc: Global, text: &[u8], product: &Operation) -> bool {
-    let cert = match read(alloc, text) {
+pub(crate) fn overflows<R: AllocGlobal + Threads + Sync>(
+    rt: &R,
+    text: &[u8],
+    product: &Operation,
+) -> bool {
+    let cert = match read(rt.alloc(), text) {
         Ok(cert) => cert,
         Err(_) => return false,
     };
-    let spill = match checked(&cert) {
+    let spill = match checked(rt, &cert) {
         Some(Err(CheckStop::Overflow(spill))) => spill,
         _ => return false,
     };

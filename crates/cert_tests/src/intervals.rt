@@ -65,15 +65,15 @@ static TWICE: &str =
 
 #[test]
 fn intervals_made_by_hand_are_accepted(rt: HostRuntime) -> Result<(), Fail> {
-    assert!(rt; is_accepted(rt.alloc(), RANKED.as_bytes()));
-    assert!(rt; is_accepted(rt.alloc(), FIVE.as_bytes()));
+    assert!(rt; is_accepted(&rt, RANKED.as_bytes()));
+    assert!(rt; is_accepted(&rt, FIVE.as_bytes()));
     Ok(())
 }
 
 #[test]
 fn each_change_of_finite_ends_is_rejected(rt: HostRuntime) -> Result<(), Fail> {
     for change in &RANKED_CHANGES {
-        let right = is_as_wanted(rt.alloc(), RANKED, change)?;
+        let right = is_as_wanted(&rt, RANKED, change)?;
         assert!(rt; right, "at {}: {}", change.0, change.2);
     }
     Ok(())
@@ -82,7 +82,7 @@ fn each_change_of_finite_ends_is_rejected(rt: HostRuntime) -> Result<(), Fail> {
 #[test]
 fn each_change_of_infinite_ends_is_rejected(rt: HostRuntime) -> Result<(), Fail> {
     for change in &FIVE_CHANGES {
-        let right = is_as_wanted(rt.alloc(), FIVE, change)?;
+        let right = is_as_wanted(&rt, FIVE, change)?;
         assert!(rt; right, "at {}: {}", change.0, change.2);
     }
     Ok(())
@@ -91,7 +91,7 @@ fn each_change_of_infinite_ends_is_rejected(rt: HostRuntime) -> Result<(), Fail>
 #[test]
 fn a_column_that_the_others_make_has_no_interval(rt: HostRuntime) -> Result<(), Fail> {
     let sides = ((0, 1), (0, 1));
-    assert!(rt; is_rejected(rt.alloc(), TWICE.as_bytes(), (9, 1, 5), sides));
+    assert!(rt; is_rejected(&rt, TWICE.as_bytes(), (9, 1, 5), sides));
     Ok(())
 }
 
@@ -107,6 +107,6 @@ fn the_bound_of_an_interval_overflows_at_its_last_product(rt: HostRuntime) -> Re
         left: (i128::MAX, 4),
         right: (5, 1),
     };
-    assert!(rt; overflows(rt.alloc(), text.as_bytes(), &product));
+    assert!(rt; overflows(&rt, text.as_bytes(), &product));
     Ok(())
 }

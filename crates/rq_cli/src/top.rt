@@ -39,7 +39,8 @@ use std::thread::Threads;
 /// where one grew there is no other outcome. `OutOfMemory` may come in place of what would follow,
 /// and never after a write to `out`.
 ///
-/// The rank intervals are jobs at once. Each enters the gate, with its place among them, before it works.
+/// The rank intervals are jobs at once, and so are the parts of a condition that `check` tests on the segments. Each enters
+/// the gate, with its place among them, before it works.
 pub fn run<R: Threads + Sync, S: Source, K: Sink, E: Sink, G: Gate>(
     rt: &R,
     alloc: Global,

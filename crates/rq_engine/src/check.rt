@@ -7,7 +7,9 @@ use cert_text::{Cert, CertFault, read_cert};
 use frac_core::{Frac128, List};
 use loss_model::Trail;
 use report_text::{Halt, Place, Refusal};
+use rq_fan::Gate;
 use std::alloc::Global;
+use std::thread::Threads;
 
 // The trail where nothing was solved, which takes no memory.
 fn no_trail(alloc: Global) -> Trail<Frac128>
@@ -38,8 +40,13 @@ fn check_halt(alloc: Global, stop: CheckStop) -> Halt
 /// The certificate that the bytes are, if all its conditions are true.
 ///
 /// `Refused` is the first fault of the bytes as a certificate. `Rejected` has the first test that is false,
-/// and `Overflow` an operation of a test before which all are true.
-pub(crate) fn check_bytes(alloc: Global, bytes: &[u8]) -> Result<Cert, Halt>
+/// and `Overflow` an operation of a test before which all are true. The jobs of `check` pass the gate.
+pub(crate) fn check_bytes<R: Threads + Sync, G: Gate>(
+    rt: &R,
+    alloc: Global,
+    bytes: &[u8],
+    gate: &G,
+) -> Result<Cert, Halt>
     ensures checked { IfOk result (IsCheckedOf bytes.now) }
     ensures cause { IfErr result (HasCheckCause bytes.now) }
 {
@@ -48,7 +55,7 @@ pub(crate) fn check_bytes(alloc: Global, bytes: &[u8]) -> Result<Cert, Halt>
         Err(CertFault::OutOfMemory) => return Err(Halt::OutOfMemory),
         Err(fault) => return Err(Halt::Refused(Refusal::Certificate(fault))),
     };
-    let verdict = match check(&cert) {
+    let verdict = match check(rt, alloc, &cert, gate) {
         Ok(verdict) => verdict,
         Err(stop) => return Err(check_halt(alloc, stop)),
     };

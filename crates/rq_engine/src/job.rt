@@ -32,7 +32,8 @@ use std::thread::Threads;
 /// that interval, of a Wilcoxon score, of a rank test or of a prediction overflows. A stop of an interval is that of the first that
 /// stops, quantile by quantile as given and column by column within. `OutOfMemory` may come at any step.
 ///
-/// The rank intervals are jobs at once, and each enters the gate with its place in that order before it works.
+/// The rank intervals are jobs at once, and each enters the gate with its place in that order before it works. So are the
+/// parts of a condition that `check` tests on the segments, condition by condition.
 pub fn answer<R: Threads + Sync, G: Gate>(
     rt: &R,
     alloc: Global,
@@ -66,7 +67,7 @@ pub fn answer<R: Threads + Sync, G: Gate>(
             }
         }
         Job::Check => {
-            match check_bytes(alloc, bytes) {
+            match check_bytes(rt, alloc, bytes, gate) {
                 Ok(cert) => Ok(Report::Checked(cert)),
                 Err(halt) => Err(halt),
             }
