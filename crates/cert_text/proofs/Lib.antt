@@ -2,6 +2,8 @@ mod Lists
 mod Utf8Texts
 mod Feed
 mod Lines
+mod OneByOne
+mod InRationals
 mod Plain
 mod Shapes
 mod Back
