@@ -4,6 +4,7 @@ mod Feed
 mod Lines
 mod OneByOne
 mod InRationals
+mod Chained
 mod Plain
 mod Shapes
 mod Back

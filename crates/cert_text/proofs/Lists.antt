@@ -18,7 +18,7 @@ same : {A : Type 0} (r : Reading (List A)) → r ≡ on_read r (λ more. Ok more
 same (Ok xs) = refl
 same (Err e) = refl
 
-last_pushed : {A : Type 0} (o : Option A) (xs : List A) (a : A) → last_or o (xs ++ a ∷ []) ≡ Some a
+pub last_pushed : {A : Type 0} (o : Option A) (xs : List A) (a : A) → last_or o (xs ++ a ∷ []) ≡ Some a
 last_pushed o [] a = refl
 last_pushed o (x ∷ xs) a = last_pushed (Some x) xs a
 

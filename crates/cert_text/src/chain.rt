@@ -48,7 +48,7 @@ fn keep_values(before: &[Place<Frac128>], now: &[Place<Frac128>]) -> bool
     ensures { result ≡ keep_values (map exact_place before.now) (map exact_place now.now) }
 {
     for row in 0..before.len() {
-        if row == now.len() {
+        if row >= now.len() {
             return true;
         }
         if !keeps_value(before[row], now[row]) {
@@ -81,7 +81,7 @@ fn follows_any(
     before: Option<&Segment<Frac128>>,
     segment: &Segment<Frac128>,
 ) -> Result<bool, AllocError>
-    ensures { IfOk result (λ b. b ≡ follows_any (option_map exact_segment (option_copied before)) (exact_segment segment.now)) }
+    ensures { IfOk result (λ b. b ≡ follows_any (option_map exact_segment (option_copied before.entry)) (exact_segment segment.now)) }
 {
     match before {
         Some(before) => follows(alloc, before, segment),
@@ -103,10 +103,11 @@ pub(crate) fn is_chained(alloc: Global, cert: &Cert) -> Result<bool, AllocError>
     let rows = cert.problem.rows.as_slice().len();
     let segments = cert.segments.as_slice();
     for i in 0..segments.len() {
-        if !is_filled(rows, &segments[i]) {
+        let segment = &segments[i];
+        if !is_filled(rows, segment) {
             return Ok(false);
         }
-        if !follows_any(alloc, last(&segments[..i]), &segments[i])? {
+        if !follows_any(alloc, last(&segments[..i]), segment)? {
             return Ok(false);
         }
     }
@@ -120,9 +121,9 @@ fn linked_segment(
     before: Option<&Segment<Frac128>>,
     value: &Value,
 ) -> Result<Segment<Frac128>, CertFault>
-    ensures ok { IfOk result (λ s. linked_segment rows (option_map exact_segment (option_copied before)) (view value.now) ≡ Ok (exact_segment s)) }
+    ensures ok { IfOk result (λ s. linked_segment rows (option_map exact_segment (option_copied before.entry)) (view value.now) ≡ Ok (exact_segment s)) }
     ensures kept { IfOk result IsKeptSegment }
-    ensures err { IfErr result (λ e. e ≢ CertFault.OutOfMemory → linked_segment rows (option_map exact_segment (option_copied before)) (view value.now) ≡ Err e) }
+    ensures err { IfErr result (λ e. e ≢ CertFault.OutOfMemory → linked_segment rows (option_map exact_segment (option_copied before.entry)) (view value.now) ≡ Err e) }
 {
     match before {
         Some(before) => later_segment(alloc, before, value),
@@ -190,7 +191,7 @@ fn linked_to_json(
     before: Option<&Segment<Frac128>>,
     segment: &Segment<Frac128>,
 ) -> Result<Value, AllocError>
-    ensures { IfOk result (λ v. view v ≡ linked_tree (option_copied before) segment.now) }
+    ensures { IfOk result (λ v. view v ≡ linked_tree (option_copied before.entry) segment.now) }
 {
     match before {
         Some(before) => later_to_json(alloc, before, segment),
