@@ -7,5 +7,7 @@ mod InRationals
 mod Chained
 mod Plain
 mod Shapes
+mod PartsBack
+mod ChainBack
 mod Back
 mod Same
