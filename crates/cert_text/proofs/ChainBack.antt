@@ -69,7 +69,7 @@ module _ {F : Type 0} where
   same_values i (Basic ∷ ss) [] h = absurd (cc h)
   same_values i (Basic ∷ ss) (x ∷ xs) h = ap (λ l. x ∷ l) (same_values (i + 1) ss xs (omega (arith, h)))
 
-  few_places : (ss : List Side) (xs : List F) → length (places ss xs) ≤ length ss
+  pub few_places : (ss : List Side) (xs : List F) → length (places ss xs) ≤ length ss
   few_places [] xs = omega arith
   few_places (Up ∷ ss) xs = omega (arith, few_places ss xs)
   few_places (Down ∷ ss) xs = omega (arith, few_places ss xs)
@@ -147,10 +147,10 @@ moves_below k i (p ∷ ps) (q ∷ qs) l = kept_below (is_same_side p q) (moves_b
 
 module _ (rows : ℕ) where
   -- what a filled segment has
-  abbrev IsFilled : Segment Frac128 → Type 0
+  abbrev pub IsFilled : Segment Frac128 → Type 0
   IsFilled s = is_filled rows s.vertex.sides (map exact s.basic_lo) (map exact s.basic_hi) ≡ true
 
-  one_each : (s : Segment Frac128) → IsFilled s → length s.vertex.sides ≡ rows
+  pub one_each : (s : Segment Frac128) → IsFilled s → length s.vertex.sides ≡ rows
   one_each s h = eqb-true _ _ (and_parts _ _ h).0
 
   low_many : (s : Segment Frac128) → IsFilled s → length (basic_rows s.vertex.sides) ≡ length (map exact s.basic_lo)
@@ -217,7 +217,7 @@ module _ (rows : ℕ) where
         })
 
   -- the segment before is filled, if there is one
-  abbrev IsReady : Option (Segment Frac128) → Type 0
+  abbrev pub IsReady : Option (Segment Frac128) → Type 0
   IsReady None = Unit {0}
   IsReady (Some a) = IsFilled a
 
