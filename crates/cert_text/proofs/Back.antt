@@ -1,5 +1,5 @@
 -- The tree of a certificate is read as that certificate.
-use Rattle.std.proofs.Common.{◌≡◌, ℕ, ◌+◌, ◌-◌, ◌<◌, ◌≤◌, ◌^◌, All, List, [], ◌∷◌, Some, None, Ok, Err, ◌==◌, codes, length, map, nat_lt, option_and_then, option_map, true, false, if◌then◌else◌, refl, sym, ap, ◌∙◌, arith}
+use Rattle.std.proofs.Common.{◌≡◌, ℕ, ◌+◌, ◌-◌, ◌<◌, ◌≤◌, ◌*◌, ◌^◌, Bool, All, List, [], ◌∷◌, Some, None, Ok, Err, ◌==◌, codes, length, map, nat_lt, option_and_then, option_map, true, false, if◌then◌else◌, refl, sym, ap, ap₂, subst, ◌∙◌, arith}
 use Rattle.std.proofs.lemmas.List.{length-map}
 use Rattle.std.proofs.lemmas.Bool.{lt-ltb, le-ltb}
 use Rattle.std.specs.Ordering.{nat_cmp, match_ordering, ordering_reverse}
@@ -30,102 +30,19 @@ use Rattle.cert_text.specs.Kept.{IsListed, IsKeptSegment, IsKeptEnd, IsKeptInter
 use Rattle.cert_text.specs.Certificates.{fractions, row_members, row, side_of, sides_of, sides, vertex_of, segment_members, segment, end_kind, finite_members, infinite_members, end_members, end_of, interval_members, projected_members, interval, kind, anything, top_members, is_too_large, within_limits, version_of, cert_of_data}
 use Rattle.cert_text.specs.Limits.{IsWithinLimits}
 use Rattle.cert_text.specs.Trees.{fraction_tree, list_tree, fractions_tree, sign_of, sides_tree, row_tree, segment_tree, value_member, beyond_members, end_tree, interval_tree, cert_tree}
-use Rattle.cert_text.specs.declared.fault.CertFault.TheVariants.{Shape, TooLarge, Version}
+use Rattle.cert_text.specs.declared.fault.CertFault.TheVariants.{TooLarge}
 use Rattle.cert_text.specs.declared.cert.Cert.{Cert}
 use Rattle.cert_text.specs.Laws.{TreeReadsBack}
 use Rattle.cert_text.proofs.Lists.{first_holds, rest_hold}
+use Rattle.cert_text.specs.Certificates.{if_filled, segments, layout_of, or_version}
+use Rattle.cert_text.specs.Chains.{is_chained}
+use Rattle.cert_text.specs.Trees.{segments_tree, layout, version}
+use Rattle.cert_text.specs.declared.layout.Layout.{Layout}
+use Rattle.cert_text.specs.declared.layout.Layout.TheVariants.{Full, Chained}
+use Rattle.cert_text.proofs.PartsBack.{step, list_back, fraction_back, fractions_back, sides_back, vertex_back, count_back, row_back, segment_back}
+use Rattle.cert_text.proofs.ChainBack.{chain_back}
 
--- ---- keys and items
-
-own_reverse : (o : Ordering) → o ≡ ordering_reverse o → o ≡ Equal
-own_reverse Less h = absurd (cc h)
-own_reverse Equal h = refl
-own_reverse Greater h = absurd (cc h)
-
-same_key : (k : List ℕ) → slice_cmp nat_cmp k k ≡ Equal
-same_key k = own_reverse (slice_cmp nat_cmp k k) (nat_list_cmp_total.antisymm k k)
-
-next_back : (k : List ℕ) (d : Data) (ms : Members) → next k (member k d ms) ≡ Ok (d, ms)
-unfolding next
-next_back k d ms = ap (λ o. match_ordering o (Err (Shape (key_step k))) (Ok (d, ms)) (Err (Shape (key_step k)))) (same_key k)
-
-step : {A B : Type 0} (k : List ℕ) (read : Reader A) (d : Data) (ms : Members) (a : A) (f : A × Members → Reading B)
-    → read d ≡ Ok a → on_read (field k read (member k d ms)) f ≡ f (a, ms)
-unfolding field
-step k read d ms a f h =
-    ap (λ z. on_read (on_read z (λ p. on_read (under (key_step k) (read p.0)) (λ a. Ok (a, p.1)))) f) (next_back k d ms)
-    ∙ ap (λ z. on_read (on_read (under (key_step k) z) (λ a. Ok (a, ms))) f) h
-
-items_back : {T A : Type 0} (P : T → Type 0) (tree : T → Data) (show : T → A) (read : Reader A) → ((t : T) → P t → read (tree t) ≡ Ok (show t))
-    → (i : ℕ) (xs : List T) → All P xs → items_from read i (items_of (map tree xs)) ≡ Ok (map show xs)
-unfolding items_from
-items_back P tree show read h i [] all = refl
-items_back P tree show read h i (x ∷ xs) all =
-    ap (λ z. on_read (under (item_step i) z) (λ a. on_read (items_from read (i + 1) (items_of (map tree xs))) (λ more. Ok (a ∷ more)))) (h x (first_holds P x xs all))
-    ∙ ap (λ z. on_read z (λ more. Ok (show x ∷ more))) (items_back P tree show read h (i + 1) xs (rest_hold P x xs all))
-
-list_back : {T A : Type 0} (P : T → Type 0) (tree : T → Data) (show : T → A) (read : Reader A) → ((t : T) → P t → read (tree t) ≡ Ok (show t))
-    → (xs : List T) → All P xs → list read (list_tree tree xs) ≡ Ok (map show xs)
-unfolding list
-list_back P tree show read h xs all = items_back P tree show read h 0 xs all
-
--- ---- parts
-
-fraction_back : (x : Frac128) → fraction (fraction_tree x) ≡ Ok (exact x)
-unfolding fraction
-fraction_back x = ap or_number (reads_back (2 ^ 127 - 1) (record { num = x.num; den = x.den }) (omega arith) x.within)
-
-fractions_back : (xs : List Frac128) → fractions (fractions_tree xs) ≡ Ok (map exact xs)
-fractions_back xs = list_back (λ _. Unit {0}) fraction_tree exact fraction (λ x _. fraction_back x) xs (λ k d lt. tt)
-
-sign_back : (s : Side) → side_of (sign_of s) ≡ Some s
-sign_back Up = refl
-sign_back Down = refl
-sign_back Basic = refl
-
-signs_back : (ss : List Side) → sides_of (map sign_of ss) ≡ Some ss
-signs_back [] = refl
-signs_back (s ∷ ss) =
-    ap (λ o. option_and_then (λ side. option_map (λ more. side ∷ more) (sides_of (map sign_of ss))) o) (sign_back s)
-    ∙ ap (option_map (λ more. s ∷ more)) (signs_back ss)
-
-sides_back : (ss : List Side) → sides (sides_tree ss) ≡ Ok ss
-unfolding sides
-sides_back ss = ap or_shape (signs_back ss)
-
-vertex_back : (v : Vertex Frac128) → IsListed v → vertex_of v.sides (map exact v.coef) ≡ exact_vertex v
-vertex_back v listed = λ i. record { basis = record { rows = sym listed i }; sides = v.sides; coef = map exact v.coef }
-
-row_back : (r : Row Frac128) → row (row_tree r) ≡ Ok (exact_row r)
-unfolding row row_members row_tree no_more_keys
-row_back r =
-    step (codes "down0") fraction _ _ (exact r.down0) _ (fraction_back r.down0)
-    ∙ step (codes "down1") fraction _ _ (exact r.down1) _ (fraction_back r.down1)
-    ∙ step (codes "up0") fraction _ _ (exact r.up0) _ (fraction_back r.up0)
-    ∙ step (codes "up1") fraction _ _ (exact r.up1) _ (fraction_back r.up1)
-    ∙ step (codes "x") fractions _ _ (map exact r.x) _ (fractions_back r.x)
-    ∙ step (codes "y") fraction _ _ (exact r.y) _ (fraction_back r.y)
-
-segment_back : (s : Segment Frac128) → IsKeptSegment s → segment (segment_tree s) ≡ Ok (exact_segment s)
-unfolding segment segment_members segment_tree no_more_keys
-segment_back s kept =
-    step (codes "basic_hi") fractions _ _ (map exact s.basic_hi) _ (fractions_back s.basic_hi)
-    ∙ step (codes "basic_lo") fractions _ _ (map exact s.basic_lo) _ (fractions_back s.basic_lo)
-    ∙ step (codes "coef") fractions _ _ (map exact s.vertex.coef) _ (fractions_back s.vertex.coef)
-    ∙ step (codes "hi") fraction _ _ (exact s.hi) _ (fraction_back s.hi)
-    ∙ step (codes "lo") fraction _ _ (exact s.lo) _ (fraction_back s.lo)
-    ∙ step (codes "loss_hi") fraction _ _ (exact s.loss_hi) _ (fraction_back s.loss_hi)
-    ∙ step (codes "loss_lo") fraction _ _ (exact s.loss_lo) _ (fraction_back s.loss_lo)
-    ∙ step (codes "sides") sides _ _ s.vertex.sides _ (sides_back s.vertex.sides)
-    ∙ ap (λ v. Ok (record {
-      lo = exact s.lo;
-      hi = exact s.hi;
-      vertex = v;
-      basic_lo = map exact s.basic_lo;
-      basic_hi = map exact s.basic_hi;
-      loss_lo = exact s.loss_lo;
-      loss_hi = exact s.loss_hi;
-    })) (vertex_back s.vertex kept)
+-- ---- intervals
 
 finite_back : end_kind (string (codes "finite")) ≡ Ok true
 unfolding end_kind
@@ -159,10 +76,6 @@ ends_back v inside Infinite (Ray xs) listed h =
 end_back : (e : End Frac128) → IsKeptEnd e → end_of (end_tree e) ≡ Ok (exact_end e)
 end_back e kept = ends_back e.vertex e.inside e.bound e.beyond kept.0 kept.1
 
-count_back : (n : ℕ) → n < 2 ^ 32 → count (number (unsigned n)) ≡ Ok n
-unfolding count
-count_back n l = ap (λ b. or_shape (if b then Some n else None)) (lt-ltb n (2 ^ 32) l)
-
 interval_back : (t : IntervalProof Frac128) → IsKeptInterval t → interval (interval_tree t) ≡ Ok (exact_interval t)
 unfolding interval interval_members projected_members interval_tree no_more_keys
 interval_back t kept =
@@ -179,11 +92,24 @@ kind_back : kind (string (codes "quantreg-certificate")) ≡ Ok tt
 unfolding kind
 kind_back = refl
 
-version_back : (c : Cert) → version_of (cert_tree c) ≡ Ok 1
+version_back : (c : Cert) → version_of (cert_tree c) ≡ Ok (version (layout c))
 unfolding version_of cert_tree
 version_back c = refl
 
-top_back : (c : Cert) → IsWithinLimits c → on_read (or_shape (as_object (cert_tree c))) top_members ≡ Ok (content c)
+layout_back : (l : Layout) → layout_of (version l) ≡ Some l
+layout_back Full = refl
+layout_back Chained = refl
+
+-- the segments, as the certificate is chained or not
+chosen_back : (c : Cert) → IsWithinLimits c → (b : Bool) → is_chained (content c) ≡ b
+    → let l = if b then Chained else Full in segments l (length (map exact_row c.problem.rows)) (segments_tree l c.segments) ≡ Ok (map exact_segment c.segments)
+chosen_back c within true chained =
+    let few : length (map exact_row c.problem.rows) ≤ 2 ^ 32 = omega (arith, within.rows, length-map c.problem.rows exact_row) in
+    chain_back (length (map exact_row c.problem.rows)) c.segments few c.listed chained
+chosen_back c within false chained =
+    list_back IsKeptSegment segment_tree exact_segment (segment None) (λ s kept. segment_back None s kept refl) c.segments c.listed
+
+top_back : (c : Cert) → IsWithinLimits c → on_read (or_shape (as_object (cert_tree c))) (top_members (layout c)) ≡ Ok (content c)
 unfolding cert_tree top_members no_more_keys
 top_back c within =
     step (codes "columns") count _ _ c.problem.columns _ (count_back c.problem.columns (omega (arith, within.columns)))
@@ -194,27 +120,33 @@ top_back c within =
     ∙ step (codes "lo") fraction _ _ (exact c.lo) _ (fraction_back c.lo)
     ∙ step (codes "rows") (list row) _ _ (map exact_row c.problem.rows) _
     (list_back (λ _. Unit {0}) row_tree exact_row row (λ r _. row_back r) c.problem.rows (λ k d lt. tt))
-    ∙ step (codes "segments") (list segment) _ _ (map exact_segment c.segments) _
-    (list_back IsKeptSegment segment_tree exact_segment segment segment_back c.segments c.listed)
+    ∙ step (codes "segments") (segments (layout c) (length (map exact_row c.problem.rows))) _ _ (map exact_segment c.segments) _
+    (chosen_back c within (is_chained (content c)) refl)
     ∙ step (codes "version") anything _ _ tt _ refl
 
 not_too_large : (c : Cert) → IsWithinLimits c → is_too_large (content c) ≡ false
 not_too_large c within =
+    let same_rows = length-map c.problem.rows exact_row in
+    let same_segments = length-map c.segments exact_segment in
     let columns : nat_lt 128 c.problem.columns ≡ false = le-ltb 128 c.problem.columns within.columns in
-    let rows : nat_lt 16384 (length (map exact_row c.problem.rows)) ≡ false = le-ltb 16384 _ (omega (arith, within.rows, length-map c.problem.rows exact_row)) in
-    let segments : nat_lt (2 ^ 20) (length (map exact_segment c.segments)) ≡ false = le-ltb (2 ^ 20) _ (omega (arith, within.segments, length-map c.segments exact_segment)) in
+    let rows : nat_lt 16384 (length (map exact_row c.problem.rows)) ≡ false = le-ltb 16384 _ (omega (arith, within.rows, same_rows)) in
+    let segments : nat_lt (2 ^ 20) (length (map exact_segment c.segments)) ≡ false = le-ltb (2 ^ 20) _ (omega (arith, within.segments, same_segments)) in
     let intervals : nat_lt 8192 (length (map exact_interval c.intervals)) ≡ false = le-ltb 8192 _ (omega (arith, within.intervals, length-map c.intervals exact_interval)) in
-    rw (columns, rows, segments, intervals) refl
+    let sides : nat_lt (2 ^ 30) (length (map exact_row c.problem.rows) * length (map exact_segment c.segments)) ≡ false =
+      le-ltb (2 ^ 30) _ (subst (λ n. n ≤ 2 ^ 30) (sym (ap₂ (λ m n. m * n) same_rows same_segments)) within.sides) in
+    rw (columns, rows, segments, intervals, sides) refl
 
-joined : (m : Reading Members) (n : Reading ℕ) (t : Members → Reading Content) (r : Content) → on_read m t ≡ Ok r → n ≡ Ok 1 → is_too_large r ≡ false
-    → on_read m (λ ms. on_read n (λ n. if n == 1 then on_read (t ms) within_limits else Err Version)) ≡ Ok r
-joined (Ok ms) n t r h e small =
-    ap (λ z. on_read z (λ n. if n == 1 then on_read (t ms) within_limits else Err Version)) e
+joined : (m : Reading Members) (n : Reading ℕ) (t : Layout → Members → Reading Content) (l : Layout) (r : Content)
+    → on_read m (t l) ≡ Ok r → n ≡ Ok (version l) → is_too_large r ≡ false
+    → on_read m (λ ms. on_read n (λ n. on_read (or_version (layout_of n)) (λ l. on_read (t l ms) within_limits))) ≡ Ok r
+joined (Ok ms) n t l r h e small =
+    ap (λ z. on_read z (λ n. on_read (or_version (layout_of n)) (λ l. on_read (t l ms) within_limits))) e
+    ∙ ap (λ o. on_read (or_version o) (λ l. on_read (t l ms) within_limits)) (layout_back l)
     ∙ ap (λ z. on_read z within_limits) h
     ∙ ap (λ b. if b then Err TooLarge else Ok r) small
-joined (Err f) n t r h e small = absurd (cc h)
+joined (Err f) n t l r h e small = absurd (cc h)
 
 pub back : TreeReadsBack
 unfolding cert_of_data
 back c within =
-    joined (or_shape (as_object (cert_tree c))) (version_of (cert_tree c)) top_members (content c) (top_back c within) (version_back c) (not_too_large c within)
+    joined (or_shape (as_object (cert_tree c))) (version_of (cert_tree c)) top_members (layout c) (content c) (top_back c within) (version_back c) (not_too_large c within)

@@ -2,7 +2,12 @@ mod Lists
 mod Utf8Texts
 mod Feed
 mod Lines
+mod OneByOne
+mod InRationals
+mod Chained
 mod Plain
 mod Shapes
+mod PartsBack
+mod ChainBack
 mod Back
 mod Same

@@ -1,5 +1,7 @@
 -- The tree of a certificate has numbers that are read back, and nests little.
-use Rattle.std.proofs.Common.{◌≡◌, ℕ, ◌+◌, ◌<◌, ◌≤◌, ◌^◌, All, List, [], ◌∷◌, codes, map, arith}
+use Rattle.std.proofs.Common.{◌≡◌, ℕ, ◌+◌, ◌<◌, ◌≤◌, ◌^◌, All, Bool, true, false, List, [], ◌∷◌, Option, Some, None, codes, length, map, option_map, if◌then◌else◌, refl, arith}
+use Rattle.std.proofs.lemmas.Bool.{and_parts}
+use Rattle.std.proofs.lemmas.List.{length-map}
 use Rattle.frac_core.specs.declared.frac128.Frac128.{Frac128}
 use Rattle.json.specs.Tree.{HasNumbers, ItemsHaveNumbers, MembersHaveNumbers}
 use Rattle.json.proofs.Printed.Decimals.{IsNumber-decimal}
@@ -11,11 +13,20 @@ use Rattle.loss_model.specs.declared.interval.Beyond.{Beyond}
 use Rattle.loss_model.specs.declared.interval.Beyond.TheVariants.{Outside, Ray}
 use Rattle.loss_model.specs.declared.interval.End.{End}
 use Rattle.loss_model.specs.declared.interval.IntervalProof.{IntervalProof}
-use Rattle.serde_json.specs.Data.{Data, Members, member, depth, items_depth, members_depth}
+use Rattle.serde_json.specs.Data.{Data, number, unsigned, Members, member, depth, items_depth, members_depth}
 use Rattle.serde_json.specs.View.{items_of}
 use Rattle.serde_json.specs.Written.{outline, items_outline, members_outline}
-use Rattle.cert_text.specs.Trees.{fraction_tree, fractions_tree, sides_tree, row_tree, segment_tree, value_member, beyond_members, end_tree, interval_tree, cert_tree}
+use Rattle.cert_text.specs.Trees.{fraction_tree, fractions_tree, sides_tree, row_tree, segment_tree, move_tree, later_tree, linked_tree, linked_trees, segments_tree, layout, version, value_member, beyond_members, end_tree, interval_tree, cert_tree}
 use Rattle.cert_text.specs.declared.cert.Cert.{Cert}
+use Rattle.cert_text.specs.Chains.{high_places, low_places, moves_between, are_chained, is_chained}
+use Rattle.cert_text.specs.declared.place.Place.{Place}
+use Rattle.cert_text.specs.declared.place.Place.TheVariants.{Above, Below, On}
+use Rattle.cert_text.specs.declared.moves.Move.{Move}
+use Rattle.cert_text.specs.declared.layout.Layout.{Layout}
+use Rattle.cert_text.specs.declared.layout.Layout.TheVariants.{Full, Chained}
+use Rattle.cert_text.specs.Contents.{exact_row, exact_segment, content}
+use Rattle.cert_text.specs.Limits.{IsWithinLimits}
+use Rattle.cert_text.proofs.ChainBack.{few_places, moves_below, IsReady, one_each}
 use Rattle.cert_text.proofs.Lists.{first_holds, rest_hold}
 
 -- ---- numbers
@@ -39,6 +50,55 @@ segment_numbers : (s : Segment Frac128) → HasNumbers (outline (segment_tree s)
 unfolding segment_tree
 segment_numbers s = (fractions_numbers s.basic_hi, (fractions_numbers s.basic_lo, (fractions_numbers s.vertex.coef, (tt, (tt, (tt, (tt, (tt, tt))))))))
 
+place_numbers : (row : ℕ) (p : Place Frac128) → row < 2 ^ 32 → HasNumbers (outline (move_tree (record { row = row; place = p })))
+unfolding move_tree
+place_numbers row Above l = (IsNumber-decimal row (omega (arith, l)), (tt, tt))
+place_numbers row Below l = (IsNumber-decimal row (omega (arith, l)), (tt, tt))
+place_numbers row (On x) l = (IsNumber-decimal row (omega (arith, l)), (tt, (tt, tt)))
+
+later_numbers : (a b : Segment Frac128) → length a.vertex.sides ≤ 2 ^ 32 → HasNumbers (outline (later_tree a b))
+unfolding later_tree
+later_numbers a b few = (
+  fractions_numbers b.basic_hi,
+  (
+    fractions_numbers b.vertex.coef,
+    (
+      tt,
+      (
+        tt,
+        (
+          items_numbers (λ m. m.row < 2 ^ 32) move_tree (λ m l. place_numbers m.row m.place l) (moves_between a b)
+          (moves_below (2 ^ 32) 0 (high_places a) (low_places b) (omega (arith, few, few_places a.vertex.sides a.basic_hi))),
+          tt,
+        ),
+      ),
+    ),
+  ),
+)
+
+module _ (rows : ℕ) (few : rows ≤ 2 ^ 32) where
+  linked_numbers : (before : Option (Segment Frac128)) (s : Segment Frac128) → IsReady rows before → HasNumbers (outline (linked_tree before s))
+  linked_numbers None s ready = segment_numbers s
+  linked_numbers (Some a) s ready = later_numbers a s (omega (arith, few, one_each rows a ready))
+
+  links_numbers : (before : Option (Segment Frac128)) (ss : List (Segment Frac128)) → IsReady rows before
+      → are_chained rows (option_map exact_segment before) (map exact_segment ss) ≡ true → ItemsHaveNumbers (items_outline (items_of (linked_trees before ss)))
+  links_numbers before [] ready chained = tt
+  links_numbers before (s ∷ ss) ready chained =
+      let first = and_parts _ _ chained in
+      (linked_numbers before s ready, links_numbers (Some s) ss first.0 (and_parts _ _ first.1).1)
+
+-- the segments, as the certificate is chained or not
+chosen_numbers : (c : Cert) → IsWithinLimits c → (b : Bool) → is_chained (content c) ≡ b
+    → let l = if b then Chained else Full in HasNumbers (outline (segments_tree l c.segments))
+chosen_numbers c within true chained =
+    links_numbers (length (map exact_row c.problem.rows)) (omega (arith, within.rows, length-map c.problem.rows exact_row)) None c.segments tt chained
+chosen_numbers c within false chained = all_have segment_tree segment_numbers c.segments
+
+version_numbers : (l : Layout) → HasNumbers (outline (number (unsigned (version l))))
+version_numbers Full = IsNumber-decimal 1 (omega arith)
+version_numbers Chained = IsNumber-decimal 2 (omega arith)
+
 value_numbers : (b : Bound Frac128) → MembersHaveNumbers (members_outline (value_member b))
 value_numbers (Finite x) = (tt, tt)
 value_numbers Infinite = tt
@@ -55,10 +115,10 @@ interval_numbers : (t : IntervalProof Frac128) → t.column < 2 ^ 32 → HasNumb
 unfolding interval_tree
 interval_numbers t l = (IsNumber-decimal t.column (omega (arith, l)), (tt, (end_numbers t.high, (end_numbers t.low, (fractions_numbers t.projection, (tt, tt))))))
 
-pub cert_numbers : (c : Cert) → c.problem.columns < 2 ^ 64 → HasNumbers (outline (cert_tree c))
+pub cert_numbers : (c : Cert) → IsWithinLimits c → HasNumbers (outline (cert_tree c))
 unfolding cert_tree
-cert_numbers c l = (
-  IsNumber-decimal c.problem.columns l,
+cert_numbers c within = (
+  IsNumber-decimal c.problem.columns (omega (arith, within.columns)),
   (
     tt,
     (
@@ -70,8 +130,8 @@ cert_numbers c l = (
           (
             all_have row_tree row_numbers c.problem.rows,
             (
-              all_have segment_tree segment_numbers c.segments,
-              (IsNumber-decimal 1 (omega arith), tt),
+              chosen_numbers c within (is_chained (content c)) refl,
+              (version_numbers (layout c), tt),
             ),
           ),
         ),
@@ -97,6 +157,29 @@ segment_shallow : (s : Segment Frac128) → depth (segment_tree s) ≤ 2
 unfolding segment_tree
 segment_shallow s = omega (arith, fractions_shallow s.basic_hi, fractions_shallow s.basic_lo, fractions_shallow s.vertex.coef)
 
+place_shallow : (row : ℕ) (p : Place Frac128) → depth (move_tree (record { row = row; place = p })) ≤ 1
+unfolding move_tree
+place_shallow row Above = omega arith
+place_shallow row Below = omega arith
+place_shallow row (On x) = omega arith
+
+later_shallow : (a b : Segment Frac128) → depth (later_tree a b) ≤ 3
+unfolding later_tree
+later_shallow a b =
+    omega (arith, fractions_shallow b.basic_hi, fractions_shallow b.vertex.coef, items_shallow move_tree 1 (λ m. place_shallow m.row m.place) (moves_between a b))
+
+linked_shallow : (before : Option (Segment Frac128)) (s : Segment Frac128) → depth (linked_tree before s) ≤ 3
+linked_shallow None s = omega (arith, segment_shallow s)
+linked_shallow (Some a) s = later_shallow a s
+
+links_shallow : (before : Option (Segment Frac128)) (ss : List (Segment Frac128)) → items_depth (items_of (linked_trees before ss)) ≤ 3
+links_shallow before [] = omega arith
+links_shallow before (s ∷ ss) = omega (arith, linked_shallow before s, links_shallow (Some s) ss)
+
+segments_shallow : (l : Layout) (ss : List (Segment Frac128)) → depth (segments_tree l ss) ≤ 4
+segments_shallow Full ss = omega (arith, items_shallow segment_tree 2 segment_shallow ss)
+segments_shallow Chained ss = omega (arith, links_shallow None ss)
+
 value_shallow : (b : Bound Frac128) → members_depth (value_member b) ≤ 1
 value_shallow (Finite x) = omega arith
 value_shallow Infinite = omega arith
@@ -119,4 +202,4 @@ interval_shallow t = omega (arith, end_shallow t.high, end_shallow t.low, fracti
 pub cert_shallow : (c : Cert) → depth (cert_tree c) ≤ 127
 unfolding cert_tree
 cert_shallow c =
-    omega (arith, items_shallow interval_tree 3 interval_shallow c.intervals, items_shallow row_tree 2 row_shallow c.problem.rows, items_shallow segment_tree 2 segment_shallow c.segments)
+    omega (arith, items_shallow interval_tree 3 interval_shallow c.intervals, items_shallow row_tree 2 row_shallow c.problem.rows, segments_shallow (layout c) c.segments)

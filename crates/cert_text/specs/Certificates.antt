@@ -1,5 +1,5 @@
 -- Stated. The certificate that bytes are, or their first fault.
-use Rattle.std.specs.Prelude.{ℕ, List, [], ◌∷◌, ◌==◌, ◌||◌, ◌^◌, Bool, true, false, Option, Some, None, Ok, Err, codes, length, nat_lt, option_and_then, option_map, ⊤, if◌then◌else◌}
+use Rattle.std.specs.Prelude.{ℕ, List, [], ◌∷◌, ◌==◌, ◌||◌, ◌*◌, ◌^◌, Bool, true, false, Option, Some, None, Ok, Err, codes, length, map, nat_lt, option_and_then, option_map, ⊤, if◌then◌else◌}
 use Rattle.std.specs.Str.{is_utf8, bytes_eq}
 use Rattle.exact_algebra.specs.Rational.{ℚ}
 use Rattle.frac_core.specs.Limits.{most_rows, most_columns}
@@ -17,9 +17,15 @@ use Rattle.serde_json.specs.Find.{as_number, as_u64, as_str, as_object, get}
 use Rattle.serde_json.specs.Read.{read}
 use Rattle.cert_text.specs.Contents.{Content}
 use Rattle.cert_text.specs.Kept.{basic_rows}
-use Rattle.cert_text.specs.Limits.{most_segments, most_intervals}
+use Rattle.cert_text.specs.Chains.{is_filled, high_places, side_at, values_at, moved}
+use Rattle.cert_text.specs.Limits.{most_segments, most_intervals, most_sides}
 use Rattle.cert_text.specs.Paths.{key_step}
-use Rattle.cert_text.specs.Reading.{Reading, Reader, on_read, under, or_shape, fraction, count, list, field, no_more_keys, object_of}
+use Rattle.cert_text.specs.Reading.{Reading, Reader, on_read, under, or_shape, fraction, count, list, linked_list, field, fitting, no_more_keys, object_of}
+use Rattle.cert_text.specs.declared.place.Place.{Place}
+use Rattle.cert_text.specs.declared.place.Place.TheVariants.{Above, Below, On}
+use Rattle.cert_text.specs.declared.moves.Move.{Move}
+use Rattle.cert_text.specs.declared.layout.Layout.{Layout}
+use Rattle.cert_text.specs.declared.layout.Layout.TheVariants.{Full, Chained}
 use Rattle.cert_text.specs.declared.fault.CertFault.TheVariants.{NotJson, Version, TooLarge}
 
 abbrev pub fractions : Reader (List ℚ)
@@ -63,9 +69,14 @@ vertex_of signs coef = record { basis = record { rows = basic_rows signs }; side
 
 -- ---- segments
 
--- the keys of a segment
-unfoldable pub segment_members : Members → Reading (Segment ℚ)
-segment_members ms =
+-- where the number of rows is told, there must be one side per row, and as many dual values as stars
+abbrev pub if_filled : Option ℕ → List Side → List ℚ → List ℚ → Option ⊤
+if_filled None signs lo hi = Some tt
+if_filled (Some rows) signs lo hi = if is_filled rows signs lo hi then Some tt else None
+
+-- the keys of a segment in full
+unfoldable pub segment_members : Option ℕ → Members → Reading (Segment ℚ)
+segment_members rows ms =
     on_read (field (codes "basic_hi") fractions ms) (λ basic_hi.
     on_read (field (codes "basic_lo") fractions basic_hi.1) (λ basic_lo.
     on_read (field (codes "coef") fractions basic_lo.1) (λ coef.
@@ -74,6 +85,7 @@ segment_members ms =
     on_read (field (codes "loss_hi") fraction lo.1) (λ loss_hi.
     on_read (field (codes "loss_lo") fraction loss_hi.1) (λ loss_lo.
     on_read (field (codes "sides") sides loss_lo.1) (λ signs.
+    on_read (fitting (codes "sides") (if_filled rows signs.0 basic_lo.0 basic_hi.0)) (λ _.
     on_read (no_more_keys signs.1) (λ _.
     Ok (record {
       lo = lo.0;
@@ -83,10 +95,74 @@ segment_members ms =
       basic_hi = basic_hi.0;
       loss_lo = loss_lo.0;
       loss_hi = loss_hi.0;
-    }))))))))))
+    })))))))))))
 
-unfoldable pub segment : Reader (Segment ℚ)
-segment = object_of segment_members
+unfoldable pub segment : Option ℕ → Reader (Segment ℚ)
+segment rows = object_of (segment_members rows)
+
+-- ---- segments that say what changes
+
+abbrev pub side_by_name : List ℕ → Option Side
+side_by_name s = if bytes_eq s (codes "+") then Some Up else (if bytes_eq s (codes "-") then Some Down else (if bytes_eq s (codes "*") then Some Basic else None))
+
+-- one sign
+unfoldable pub side : Reader Side
+side d = or_shape (option_and_then side_by_name (as_str d))
+
+-- the keys of a move behind its side: a value exactly where the row is on the fit then
+unfoldable pub place_members : Side → Members → Reading (Place ℚ)
+place_members Up ms = on_read (no_more_keys ms) (λ _. Ok Above)
+place_members Down ms = on_read (no_more_keys ms) (λ _. Ok Below)
+place_members Basic ms = on_read (field (codes "value") fraction ms) (λ value. on_read (no_more_keys value.1) (λ _. Ok (On value.0)))
+
+-- the keys of a move
+unfoldable pub move_members : Members → Reading (Move ℚ)
+move_members ms =
+    on_read (field (codes "row") count ms) (λ row.
+    on_read (field (codes "side") side row.1) (λ signed.
+    on_read (place_members signed.0 signed.1) (λ place.
+    Ok (record { row = row.0; place = place }))))
+
+unfoldable pub one_move : Reader (Move ℚ)
+one_move = object_of move_members
+
+-- the rows on the fit must be as many as the dual values
+abbrev pub if_as_many : List ℕ → List ℚ → Option ⊤
+if_as_many rows values = if length rows == length values then Some tt else None
+
+-- the keys of a segment behind another one
+unfoldable pub later_members : Segment ℚ → Members → Reading (Segment ℚ)
+later_members before ms =
+    on_read (field (codes "basic_hi") fractions ms) (λ basic_hi.
+    on_read (field (codes "coef") fractions basic_hi.1) (λ coef.
+    on_read (field (codes "hi") fraction coef.1) (λ hi.
+    on_read (field (codes "loss_hi") fraction hi.1) (λ loss_hi.
+    on_read (field (codes "moves") (list one_move) loss_hi.1) (λ moves.
+    on_read (fitting (codes "moves") (moved 0 (high_places before) moves.0)) (λ low.
+    on_read (fitting (codes "moves") (if_as_many (basic_rows (map side_at low)) basic_hi.0)) (λ _.
+    on_read (no_more_keys moves.1) (λ _.
+    Ok (record {
+      lo = before.hi;
+      hi = hi.0;
+      vertex = vertex_of (map side_at low) coef.0;
+      basic_lo = values_at low;
+      basic_hi = basic_hi.0;
+      loss_lo = before.loss_hi;
+      loss_hi = loss_hi.0;
+    })))))))))
+
+unfoldable pub later_segment : Segment ℚ → Reader (Segment ℚ)
+later_segment before = object_of (later_members before)
+
+-- a segment of a chain: the first in full, and a later one by what changes from the one before it
+abbrev pub linked_segment : ℕ → Option (Segment ℚ) → Reader (Segment ℚ)
+linked_segment rows None = segment (Some rows)
+linked_segment rows (Some before) = later_segment before
+
+-- the segments of a problem with so many rows
+abbrev pub segments : Layout → ℕ → Reader (List (Segment ℚ))
+segments Full rows = list (segment None)
+segments Chained rows = linked_list (linked_segment rows)
 
 -- ---- intervals
 
@@ -159,15 +235,15 @@ abbrev pub anything : Reader ⊤
 anything d = Ok tt
 
 -- the keys of the top
-unfoldable pub top_members : Members → Reading Content
-top_members ms =
+unfoldable pub top_members : Layout → Members → Reading Content
+top_members layout ms =
     on_read (field (codes "columns") count ms) (λ columns.
     on_read (field (codes "hi") fraction columns.1) (λ hi.
     on_read (field (codes "intervals") (list interval) hi.1) (λ intervals.
     on_read (field (codes "kind") kind intervals.1) (λ kind.
     on_read (field (codes "lo") fraction kind.1) (λ lo.
     on_read (field (codes "rows") (list row) lo.1) (λ rows.
-    on_read (field (codes "segments") (list segment) rows.1) (λ segments.
+    on_read (field (codes "segments") (segments layout (length rows.0)) rows.1) (λ segments.
     on_read (field (codes "version") anything segments.1) (λ version.
     on_read (no_more_keys version.1) (λ _.
     Ok (record {
@@ -181,9 +257,10 @@ top_members ms =
 abbrev pub is_too_large : Content → Bool
 is_too_large c =
     nat_lt most_columns c.problem.columns || (nat_lt most_rows (length c.problem.rows)
-    || (nat_lt most_segments (length c.segments) || nat_lt most_intervals (length c.intervals)))
+    || (nat_lt most_segments (length c.segments)
+    || (nat_lt most_intervals (length c.intervals) || nat_lt most_sides (length c.problem.rows * length c.segments))))
 
--- at most 128 columns, 16,384 rows, 2^20 segments and 8,192 intervals
+-- at most 128 columns, 16,384 rows, 2^20 segments, 8,192 intervals and 2^30 rows times segments
 abbrev pub within_limits : Content → Reading Content
 within_limits c = if is_too_large c then Err TooLarge else Ok c
 
@@ -191,12 +268,21 @@ within_limits c = if is_too_large c then Err TooLarge else Ok c
 unfoldable pub version_of : Data → Reading ℕ
 version_of d = under (key_step (codes "version")) (or_shape (option_and_then as_u64 (option_and_then as_number (get (codes "version") d))))
 
+-- the layout that a version has
+abbrev pub layout_of : ℕ → Option Layout
+layout_of n = if n == 1 then Some Full else (if n == 2 then Some Chained else None)
+
+abbrev pub or_version : {A : Type 0} → Option A → Reading A
+or_version (Some a) = Ok a
+or_version None = Err Version
+
 -- first the top and its version, then every key, and then the limits
 unfoldable pub cert_of_data : Data → Reading Content
 cert_of_data d =
     on_read (or_shape (as_object d)) (λ ms.
     on_read (version_of d) (λ n.
-    if n == 1 then on_read (top_members ms) within_limits else Err Version))
+    on_read (or_version (layout_of n)) (λ layout.
+    on_read (top_members layout ms) within_limits)))
 
 -- the JSON that bytes are
 unfoldable pub json_of : List ℕ → Option Data

@@ -14,6 +14,9 @@ use Rattle.loss_model.specs.declared.interval.Beyond.TheVariants.{Outside, Ray}
 use Rattle.loss_model.specs.declared.interval.End.{End}
 use Rattle.loss_model.specs.declared.interval.IntervalProof.{IntervalProof}
 use Rattle.cert_text.specs.declared.cert.Cert.{Cert}
+use Rattle.cert_text.specs.declared.place.Place.{Place}
+use Rattle.cert_text.specs.declared.place.Place.TheVariants.{Above, Below, On}
+use Rattle.cert_text.specs.declared.moves.Move.{Move}
 
 -- the value of a fraction
 abbrev pub exact : Frac128 → ℚ
@@ -45,6 +48,14 @@ exact_segment s = record {
   loss_lo = exact s.loss_lo;
   loss_hi = exact s.loss_hi;
 }
+
+abbrev pub exact_place : Place Frac128 → Place ℚ
+exact_place Above = Above
+exact_place Below = Below
+exact_place (On x) = On (exact x)
+
+abbrev pub exact_move : Move Frac128 → Move ℚ
+exact_move m = record { row = m.row; place = exact_place m.place }
 
 abbrev pub exact_bound : Bound Frac128 → Bound ℚ
 exact_bound (Finite x) = Finite (exact x)

@@ -2,6 +2,7 @@ pub mod Paths
 pub mod Reading
 pub mod Kept
 pub mod Contents
+pub mod Chains
 pub mod Certificates
 pub mod Trees
 pub mod Limits

@@ -1,5 +1,5 @@
 -- Stated. The limits of a certificate that is read.
-use Rattle.std.specs.Prelude.{ℕ, ◌≤◌, ◌^◌, length}
+use Rattle.std.specs.Prelude.{ℕ, ◌≤◌, ◌*◌, ◌^◌, length}
 use Rattle.frac_core.specs.Limits.{most_rows, most_columns}
 use Rattle.cert_text.specs.declared.cert.Cert.{Cert}
 
@@ -11,9 +11,14 @@ most_segments = 2 ^ 20
 abbrev pub most_intervals : ℕ
 most_intervals = 8192
 
--- at most 128 columns, 16,384 rows, 2^20 segments and 8,192 intervals
+-- the most sides of a certificate: rows times segments
+abbrev pub most_sides : ℕ
+most_sides = 2 ^ 30
+
+-- at most 128 columns, 16,384 rows, 2^20 segments, 8,192 intervals and 2^30 rows times segments
 pub record IsWithinLimits (c : Cert) : Type 0 where
   pub columns : c.problem.columns ≤ most_columns
   pub rows : length c.problem.rows ≤ most_rows
   pub segments : length c.segments ≤ most_segments
   pub intervals : length c.intervals ≤ most_intervals
+  pub sides : length c.problem.rows * length c.segments ≤ most_sides

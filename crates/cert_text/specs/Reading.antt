@@ -59,14 +59,19 @@ below_32 n = if nat_lt n (2 ^ 32) then Some n else None
 unfoldable pub count : Reader ℕ
 count d = or_shape (option_and_then below_32 (option_and_then as_u64 (as_number d)))
 
--- the items of a list, from place i on
-unfoldable pub items_from : {A : Type 0} → Reader A → ℕ → Items → Reading (List A)
-items_from read i no_items = Ok []
-items_from read i (item d ds) = on_read (under (item_step i) (read d)) (λ a. on_read (items_from read (i + 1) ds) (λ more. Ok (a ∷ more)))
+-- the items of a list, from place i on, each of which is read beside the one before it
+unfoldable pub items_from : {A : Type 0} → (Option A → Reader A) → Option A → ℕ → Items → Reading (List A)
+items_from read before i no_items = Ok []
+items_from read before i (item d ds) =
+    on_read (under (item_step i) (read before d)) (λ a. on_read (items_from read (Some a) (i + 1) ds) (λ more. Ok (a ∷ more)))
 
--- a list, item by item
-unfoldable pub list : {A : Type 0} → Reader A → Reader (List A)
-list read d = on_read (or_shape (as_array d)) (items_from read 0)
+-- a list, item by item, each of which is read beside the one before it
+unfoldable pub linked_list : {A : Type 0} → (Option A → Reader A) → Reader (List A)
+linked_list read d = on_read (or_shape (as_array d)) (items_from read None 0)
+
+-- a list whose items are all read alike
+abbrev pub list : {A : Type 0} → Reader A → Reader (List A)
+list read = linked_list (λ before. read)
 
 -- the value of the next key, which must be this one, and the members behind it: what stands before it is unknown, and it
 -- is missing where none or a later one stands there
@@ -78,6 +83,10 @@ next key (member k d ms) =
 -- the same, read
 unfoldable pub field : {A : Type 0} → List ℕ → Reader A → Members → Reading (A × Members)
 field key read ms = on_read (next key ms) (λ p. on_read (under (key_step key) (read p.0)) (λ a. Ok (a, p.1)))
+
+-- what is there, or the fault of a key whose value doesn't go with what was read before
+abbrev pub fitting : {A : Type 0} → List ℕ → Option A → Reading A
+fitting key o = under (key_step key) (or_shape o)
 
 -- no key is left
 unfoldable pub no_more_keys : Members → Reading ⊤

@@ -1,5 +1,5 @@
 -- Stated. The text of a certificate: compact JSON and a line feed.
-use Rattle.std.specs.Prelude.{ℕ, List, [], ◌∷◌, ◌++◌, codes, map}
+use Rattle.std.specs.Prelude.{ℕ, List, [], ◌∷◌, ◌++◌, Option, Some, None, codes, map, if◌then◌else◌}
 use Rattle.exact_algebra.specs.Fraction.{Fraction}
 use Rattle.frac_core.specs.NumberText.{number_text_of}
 use Rattle.frac_core.specs.declared.frac128.Frac128.{Frac128}
@@ -16,7 +16,14 @@ use Rattle.loss_model.specs.declared.interval.IntervalProof.{IntervalProof}
 use Rattle.serde_json.specs.Data.{Data, number, unsigned, string, array, object, Members, no_members, member}
 use Rattle.serde_json.specs.View.{items_of}
 use Rattle.serde_json.specs.Written.{compact_text}
+use Rattle.cert_text.specs.Chains.{moves_between, is_chained}
+use Rattle.cert_text.specs.Contents.{content}
 use Rattle.cert_text.specs.declared.cert.Cert.{Cert}
+use Rattle.cert_text.specs.declared.place.Place.{Place}
+use Rattle.cert_text.specs.declared.place.Place.TheVariants.{Above, Below, On}
+use Rattle.cert_text.specs.declared.moves.Move.{Move}
+use Rattle.cert_text.specs.declared.layout.Layout.{Layout}
+use Rattle.cert_text.specs.declared.layout.Layout.TheVariants.{Full, Chained}
 
 -- a fraction is its canonical number text
 abbrev pub fraction_tree : Frac128 → Data
@@ -59,6 +66,38 @@ segment_tree s = object
     (member (codes "sides") (sides_tree s.vertex.sides)
     no_members))))))))
 
+-- the side of a place, and its value on the fit
+abbrev pub place_members : Place Frac128 → Members
+place_members Above = member (codes "side") (string (codes "+")) no_members
+place_members Below = member (codes "side") (string (codes "-")) no_members
+place_members (On x) = member (codes "side") (string (codes "*")) (member (codes "value") (fraction_tree x) no_members)
+
+unfoldable pub move_tree : Move Frac128 → Data
+move_tree m = object (member (codes "row") (number (unsigned m.row)) (place_members m.place))
+
+-- a segment behind another one: its high end, its coefficients, and the rows that move
+unfoldable pub later_tree : Segment Frac128 → Segment Frac128 → Data
+later_tree before s = object
+    (member (codes "basic_hi") (fractions_tree s.basic_hi)
+    (member (codes "coef") (fractions_tree s.vertex.coef)
+    (member (codes "hi") (fraction_tree s.hi)
+    (member (codes "loss_hi") (fraction_tree s.loss_hi)
+    (member (codes "moves") (list_tree move_tree (moves_between before s))
+    no_members)))))
+
+-- a segment of a chain: the first in full, and a later one by what changes
+abbrev pub linked_tree : Option (Segment Frac128) → Segment Frac128 → Data
+linked_tree None s = segment_tree s
+linked_tree (Some before) s = later_tree before s
+
+abbrev pub linked_trees : Option (Segment Frac128) → List (Segment Frac128) → List Data
+linked_trees before [] = []
+linked_trees before (s ∷ ss) = linked_tree before s ∷ linked_trees (Some s) ss
+
+abbrev pub segments_tree : Layout → List (Segment Frac128) → Data
+segments_tree Full ss = list_tree segment_tree ss
+segments_tree Chained ss = array (items_of (linked_trees None ss))
+
 -- the value of a finite end
 abbrev pub value_member : Bound Frac128 → Members
 value_member (Finite x) = member (codes "value") (fraction_tree x) no_members
@@ -87,6 +126,14 @@ interval_tree t = object
     (member (codes "tau") (fraction_tree t.tau)
     no_members))))))
 
+-- the layout of the text: chained where the certificate is
+abbrev pub layout : Cert → Layout
+layout c = if is_chained (content c) then Chained else Full
+
+abbrev pub version : Layout → ℕ
+version Full = 1
+version Chained = 2
+
 unfoldable pub cert_tree : Cert → Data
 cert_tree c = object
     (member (codes "columns") (number (unsigned c.problem.columns))
@@ -95,8 +142,8 @@ cert_tree c = object
     (member (codes "kind") (string (codes "quantreg-certificate"))
     (member (codes "lo") (fraction_tree c.lo)
     (member (codes "rows") (list_tree row_tree c.problem.rows)
-    (member (codes "segments") (list_tree segment_tree c.segments)
-    (member (codes "version") (number (unsigned 1))
+    (member (codes "segments") (segments_tree (layout c) c.segments)
+    (member (codes "version") (number (unsigned (version (layout c))))
     no_members))))))))
 
 -- the text

@@ -12,13 +12,15 @@ pub enum CertFault {
     OutOfMemory,
     /// The bytes are no JSON.
     NotJson,
-    /// A key is missing or unknown, or a value is of another kind than a certificate has there.
+    /// A key is missing or unknown, or a value is of another kind than a certificate has there, or sides or moves
+    /// don't go with the rest of a chain.
     Shape { path: Text },
     /// A string is no number text, or is one that is too wide.
     Number { path: Text },
-    /// The version isn't 1.
+    /// The version is neither 1 nor 2.
     Version,
-    /// There are more than 128 columns, 16,384 rows, 2^20 segments or 8,192 intervals.
+    /// There are more than 128 columns, 16,384 rows, 2^20 segments or 8,192 intervals, or rows times segments
+    /// exceed 2^30.
     TooLarge,
 }
 

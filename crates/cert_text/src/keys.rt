@@ -28,9 +28,9 @@ pub(crate) fn members<'a>(
     }
 }
 
-// The value of the next key, which must be this one.
+/// The value of the next key, which must be this one.
 #[tactic(auto, unfolding(crate::specs::Reading::next))]
-fn next<'a>(
+pub(crate) fn next<'a>(
     alloc: Global,
     key: &str,
     rest: &mut Iter<'a, String, Value>,

@@ -7,13 +7,18 @@
 #![tactic(auto)]
 
 mod cert;
+mod chain;
 mod fault;
 mod interval;
 mod keys;
+mod later;
 mod laws;
+mod layout;
+mod moves;
 mod numbers;
 mod parts;
 mod path;
+mod place;
 mod read;
 mod row;
 mod segment;

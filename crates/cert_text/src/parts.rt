@@ -1,9 +1,9 @@
 //! Parts of a certificate as JSON values, both ways.
 
-ghost use Rattle.std.specs.Prelude.{◌≡◌, ◌≢◌, Ok, Err, ⊤, All, map, IfOk, IfErr, OnOk};
+ghost use Rattle.std.specs.Prelude.{◌≡◌, ◌≢◌, Ok, Err, None, ⊤, All, map, IfOk, IfErr, OnOk};
 ghost use Rattle.serde_json.specs.Data.{Data, string, put as with_member};
 ghost use Rattle.serde_json.specs.View.{view, items_view, members_view};
-ghost use Rattle.cert_text.specs.Reading.{Reading, items_from, list};
+ghost use Rattle.cert_text.specs.Reading.{Reading, items_from, linked_list, list};
 ghost use Rattle.cert_text.specs.Trees.{list_tree};
 
 use crate::fault::CertFault;
@@ -67,9 +67,9 @@ pub(crate) fn put<T: ToJson>(
 }
 
 fn items<T: FromJson>(alloc: Global, values: &[Value]) -> Result<Vec<T>, CertFault>
-    ensures ok { IfOk result (λ xs. items_from T.reader 0 (items_view values.now) ≡ Ok (map T.content xs.items)) }
+    ensures ok { IfOk result (λ xs. items_from (λ before. T.reader) None 0 (items_view values.now) ≡ Ok (map T.content xs.items)) }
     ensures kept { IfOk result (λ xs. All T.IsKept xs.items) }
-    ensures err { IfErr result (λ e. e ≢ CertFault.OutOfMemory → items_from T.reader 0 (items_view values.now) ≡ Err e) }
+    ensures err { IfErr result (λ e. e ≢ CertFault.OutOfMemory → items_from (λ before. T.reader) None 0 (items_view values.now) ≡ Err e) }
 {
     let mut found = Vec::with_capacity(alloc, values.len())?;
     for i in 0..values.len() {
@@ -90,7 +90,7 @@ impl<T: FromJson> FromJson for List<T> {
 
     ghost IsKept = { λ xs. All T.IsKept xs };
 
-    #[tactic(auto, unfolding(crate::specs::Reading::list))]
+    #[tactic(auto, unfolding(crate::specs::Reading::linked_list))]
     fn from_json(alloc: Global, value: &Value) -> Result<List<T>, CertFault> {
         let Some(values) = value.as_array() else {
             return Err(wrong_kind(alloc));

@@ -1,16 +1,20 @@
 //! From bytes to the certificate that they are.
 
-ghost use Rattle.std.specs.Prelude.{◌≡◌, ◌≢◌, Ok, Err, Some, None, All, ⊤, codes, option_and_then, IfOk, IfErr};
+ghost use Rattle.std.specs.Prelude.{◌≡◌, ◌≢◌, Ok, Err, Some, None, All, ⊤, codes, map, option_and_then, IfOk, IfErr};
 ghost use Rattle.serde_json.specs.Find.{get, as_number, as_u64};
 ghost use Rattle.serde_json.specs.View.{view, members_view};
-ghost use Rattle.cert_text.specs.Certificates.{kind, anything, top_members, within_limits, version_of, cert_of_data, json_of, cert_of};
-ghost use Rattle.cert_text.specs.Contents.{Content, content};
+ghost use Rattle.cert_text.specs.Certificates.{kind, anything, segments, top_members, within_limits, version_of, layout_of, or_version, cert_of_data, json_of, cert_of};
+ghost use Rattle.cert_text.specs.Contents.{Content, exact_segment, content};
+ghost use Rattle.cert_text.specs.Kept.{IsKeptSegment};
+ghost use Rattle.cert_text.specs.Reading.{field};
 ghost use Rattle.cert_text.specs.Limits.{IsWithinLimits};
 ghost use Rattle.cert_text.specs.declared.fault.CertFault.TheVariants.{NotJson};
 
 use crate::cert::Cert;
+use crate::chain::segments;
 use crate::fault::CertFault;
-use crate::keys::{field, members, no_more_keys};
+use crate::keys::{field, members, next, no_more_keys};
+use crate::layout::Layout;
 use crate::parts::FromJson;
 use crate::path::{under_key, wrong_kind};
 use frac_core::{Frac128, List, MOST_COLUMNS, MOST_ROWS};
@@ -59,18 +63,41 @@ impl FromJson for AnyValue {
     }
 }
 
+#[tactic(auto, unfolding(crate::specs::Reading::field))]
+fn segments_field(
+    alloc: Global,
+    layout: Layout,
+    rows: usize,
+    rest: &mut Iter<'_, String, Value>,
+) -> Result<List<Segment<Frac128>>, CertFault>
+    ensures ok { IfOk result (λ xs. field (codes "segments") (segments layout rows) (members_view rest.old)
+        ≡ Ok (map exact_segment xs, members_view rest.new)) }
+    ensures kept { IfOk result (λ xs. All IsKeptSegment xs) }
+    ensures err { IfErr result (λ e. e ≢ CertFault.OutOfMemory → field (codes "segments") (segments layout rows) (members_view rest.old) ≡ Err e) }
+{
+    let value = next(alloc, "segments", rest)?;
+    match segments(alloc, layout, rows, value) {
+        Ok(found) => Ok(found),
+        Err(fault) => Err(under_key(alloc, "segments", fault)),
+    }
+}
+
 #[tactic(auto, unfolding(crate::specs::Certificates::top_members))]
-fn top_of(alloc: Global, rest: &mut Iter<'_, String, Value>) -> Result<Cert, CertFault>
-    ensures ok { IfOk result (λ cert. top_members (members_view rest.old) ≡ Ok (content cert)) }
-    ensures err { IfErr result (λ e. e ≢ CertFault.OutOfMemory → top_members (members_view rest.old) ≡ Err e) }
+fn top_of(
+    alloc: Global,
+    layout: Layout,
+    rest: &mut Iter<'_, String, Value>,
+) -> Result<Cert, CertFault>
+    ensures ok { IfOk result (λ cert. top_members layout (members_view rest.old) ≡ Ok (content cert)) }
+    ensures err { IfErr result (λ e. e ≢ CertFault.OutOfMemory → top_members layout (members_view rest.old) ≡ Err e) }
 {
     let columns = field(alloc, "columns", rest)?;
     let hi = field(alloc, "hi", rest)?;
     let intervals = field(alloc, "intervals", rest)?;
     let _kind: Kind = field(alloc, "kind", rest)?;
     let lo = field(alloc, "lo", rest)?;
-    let rows = field(alloc, "rows", rest)?;
-    let segments = field(alloc, "segments", rest)?;
+    let rows: List<Row<Frac128>> = field(alloc, "rows", rest)?;
+    let segments = segments_field(alloc, layout, rows.as_slice().len(), rest)?;
     let _version: AnyValue = field(alloc, "version", rest)?;
     no_more_keys(alloc, rest)?;
     Ok(Cert {
@@ -85,6 +112,9 @@ fn top_of(alloc: Global, rest: &mut Iter<'_, String, Value>) -> Result<Cert, Cer
 const MOST_SEGMENTS: usize = 1 << 20;
 
 const MOST_INTERVALS: usize = 8_192;
+
+// Rows times segments.
+const MOST_SIDES: usize = 1 << 30;
 
 // The certificate, unless it is beyond a limit.
 fn within(cert: Cert) -> Result<Cert, CertFault>
@@ -103,6 +133,9 @@ fn within(cert: Cert) -> Result<Cert, CertFault>
     if cert.intervals.as_slice().len() > MOST_INTERVALS {
         return Err(CertFault::TooLarge);
     }
+    if cert.problem.rows.as_slice().len() * cert.segments.as_slice().len() > MOST_SIDES {
+        return Err(CertFault::TooLarge);
+    }
     Ok(cert)
 }
 
@@ -117,6 +150,17 @@ fn version_of(alloc: Global, value: &Value) -> Result<u64, CertFault>
     }
 }
 
+fn layout_of(version: u64) -> Result<Layout, CertFault>
+    ensures ok { IfOk result (λ layout. or_version (layout_of version) ≡ Ok layout) }
+    ensures err { IfErr result (λ e. or_version (layout_of version) ≡ Err e) }
+{
+    match version {
+        1 => Ok(Layout::Full),
+        2 => Ok(Layout::Chained),
+        _ => Err(CertFault::Version),
+    }
+}
+
 #[tactic(auto, unfolding(crate::specs::Certificates::cert_of_data))]
 fn cert_of_value(alloc: Global, value: &Value) -> Result<Cert, CertFault>
     ensures ok { IfOk result (λ cert. cert_of_data (view value.now) ≡ Ok (content cert)) }
@@ -124,10 +168,8 @@ fn cert_of_value(alloc: Global, value: &Value) -> Result<Cert, CertFault>
 {
     let found = members(alloc, value)?;
     let version = version_of(alloc, value)?;
-    if version != 1 {
-        return Err(CertFault::Version);
-    }
-    let cert = top_of(alloc, &mut found.iter())?;
+    let layout = layout_of(version)?;
+    let cert = top_of(alloc, layout, &mut found.iter())?;
     within(cert)
 }
 
@@ -155,11 +197,15 @@ fn parse(alloc: Global, bytes: &[u8]) -> Result<Value, CertFault>
 /// The faults are looked for in this order. `NotJson` comes exactly where the bytes are no JSON in UTF-8, by
 /// `serde_json`, which takes at most 127 levels of nesting and the last value of a key that stands twice.
 /// `Shape` comes with an empty path where the top is no object, and with the path `/version` where it has no
-/// unsigned number there; `Version` where that isn't 1. Then every object is gone through key by key, in the
-/// order of their bytes, and every list item by item, and what a key has comes before the next key: `Shape`
-/// comes at the first key that is missing or unknown or whose value is of another kind, and `Number` at the
-/// first string that is no number text of `frac_core`, or too wide. At last `TooLarge` comes where there are
-/// more than 128 columns, 16,384 rows, 2^20 segments or 8,192 intervals.
+/// unsigned number there; `Version` where that is neither 1 nor 2. Then every object is gone through key by
+/// key, in the order of their bytes, and every list item by item, and what a key has comes before the next key:
+/// `Shape` comes at the first key that is missing or unknown or whose value is of another kind, and `Number` at
+/// the first string that is no number text of `frac_core`, or too wide. In version 2 `Shape` comes too at the
+/// `sides` of the first segment, where they aren't one per row or their stars aren't as many as the dual values
+/// of either end; and at the `moves` of a later one, where a move names a row that isn't there, a row that isn't
+/// above that of the move before it, or the side that the row has already, or where the stars afterwards aren't
+/// as many as the dual values of the high end. At last `TooLarge` comes where there are more than 128 columns,
+/// 16,384 rows, 2^20 segments or 8,192 intervals, or where rows times segments exceed 2^30.
 #[tactic(auto, unfolding(crate::specs::Certificates::cert_of))]
 pub fn read_cert(alloc: Global, bytes: &[u8]) -> Result<Cert, CertFault>
     ensures ok { IfOk result (λ cert. cert_of bytes.now ≡ Ok (content cert)) }

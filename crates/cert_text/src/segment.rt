@@ -1,17 +1,19 @@
 //! Segments of a process.
 
-ghost use Rattle.std.specs.Prelude.{◌≡◌, ◌≢◌, Ok, Err, IfOk, IfErr};
+ghost use Rattle.std.specs.Prelude.{◌≡◌, ◌≢◌, Ok, Err, Some, None, map, if◌then◌else◌, IfOk, IfErr};
 ghost use Rattle.exact_algebra.specs.Rational.{ℚ};
 ghost use Rattle.loss_model.specs.declared.process.Segment.{Segment as segment_type};
 ghost use Rattle.serde_json.specs.View.{view, members_view};
-ghost use Rattle.cert_text.specs.Contents.{exact_segment};
+ghost use Rattle.cert_text.specs.Chains.{is_filled};
+ghost use Rattle.cert_text.specs.Contents.{exact, exact_segment};
 ghost use Rattle.cert_text.specs.Kept.{IsKeptSegment};
-ghost use Rattle.cert_text.specs.Certificates.{segment_members, segment};
+ghost use Rattle.cert_text.specs.Certificates.{if_filled, segment_members, segment};
 ghost use Rattle.cert_text.specs.Trees.{segment_tree};
 
 use crate::fault::CertFault;
 use crate::keys::{field, members, no_more_keys};
 use crate::parts::{FromJson, ToJson, put};
+use crate::path::{under_key, wrong_kind};
 use crate::vertex::{Signs, vertex};
 use frac_core::Frac128;
 use loss_model::Segment;
@@ -22,11 +24,12 @@ use std::collections::btree_map::Iter;
 #[tactic(auto, unfolding(crate::specs::Certificates::segment_members))]
 fn segment_of(
     alloc: Global,
+    rows: Option<usize>,
     rest: &mut Iter<'_, String, Value>,
 ) -> Result<Segment<Frac128>, CertFault>
-    ensures ok { IfOk result (λ segment. segment_members (members_view rest.old) ≡ Ok (exact_segment segment)) }
+    ensures ok { IfOk result (λ segment. segment_members rows (members_view rest.old) ≡ Ok (exact_segment segment)) }
     ensures kept { IfOk result IsKeptSegment }
-    ensures err { IfErr result (λ e. e ≢ CertFault.OutOfMemory → segment_members (members_view rest.old) ≡ Err e) }
+    ensures err { IfErr result (λ e. e ≢ CertFault.OutOfMemory → segment_members rows (members_view rest.old) ≡ Err e) }
 {
     let basic_hi = field(alloc, "basic_hi", rest)?;
     let basic_lo = field(alloc, "basic_lo", rest)?;
@@ -36,8 +39,7 @@ fn segment_of(
     let loss_hi = field(alloc, "loss_hi", rest)?;
     let loss_lo = field(alloc, "loss_lo", rest)?;
     let sides = field(alloc, "sides", rest)?;
-    no_more_keys(alloc, rest)?;
-    Ok(Segment {
+    let segment = Segment {
         lo,
         hi,
         vertex: vertex(alloc, sides, coef)?,
@@ -45,7 +47,53 @@ fn segment_of(
         basic_hi,
         loss_lo,
         loss_hi,
-    })
+    };
+    if !is_filled_if_told(rows, &segment) {
+        return Err(under_key(alloc, "sides", wrong_kind(alloc)));
+    }
+    no_more_keys(alloc, rest)?;
+    Ok(segment)
+}
+
+/// One side per row, and as many dual values at either end as rows that are basic.
+pub(crate) fn is_filled(rows: usize, segment: &Segment<Frac128>) -> bool
+    requires { IsKeptSegment segment.now }
+    ensures { result ≡ is_filled rows segment.now.vertex.sides segment.now.basic_lo segment.now.basic_hi }
+{
+    let stars = segment.vertex.basis.rows.as_slice().len();
+    if segment.vertex.sides.as_slice().len() != rows {
+        return false;
+    }
+    if segment.basic_lo.as_slice().len() != stars {
+        return false;
+    }
+    segment.basic_hi.as_slice().len() == stars
+}
+
+// The same where the number of rows is told.
+fn is_filled_if_told(rows: Option<usize>, segment: &Segment<Frac128>) -> bool
+    requires { IsKeptSegment segment.now }
+    ensures { if_filled rows segment.now.vertex.sides (map exact segment.now.basic_lo) (map exact segment.now.basic_hi) ≡ (if result then Some tt else None) }
+{
+    match rows {
+        Some(rows) => is_filled(rows, segment),
+        None => true,
+    }
+}
+
+/// A segment in full; where the number of rows is told, it must be filled.
+#[tactic(auto, unfolding(crate::specs::Certificates::segment))]
+pub(crate) fn full_segment(
+    alloc: Global,
+    rows: Option<usize>,
+    value: &Value,
+) -> Result<Segment<Frac128>, CertFault>
+    ensures ok { IfOk result (λ s. segment rows (view value.now) ≡ Ok (exact_segment s)) }
+    ensures kept { IfOk result IsKeptSegment }
+    ensures err { IfErr result (λ e. e ≢ CertFault.OutOfMemory → segment rows (view value.now) ≡ Err e) }
+{
+    let found = members(alloc, value)?;
+    segment_of(alloc, rows, &mut found.iter())
 }
 
 impl FromJson for Segment<Frac128> {
@@ -53,14 +101,12 @@ impl FromJson for Segment<Frac128> {
 
     ghost content = { exact_segment };
 
-    ghost reader = { segment };
+    ghost reader = { segment None };
 
     ghost IsKept = { IsKeptSegment };
 
-    #[tactic(auto, unfolding(crate::specs::Certificates::segment))]
     fn from_json(alloc: Global, value: &Value) -> Result<Segment<Frac128>, CertFault> {
-        let found = members(alloc, value)?;
-        segment_of(alloc, &mut found.iter())
+        full_segment(alloc, None, value)
     }
 }
 

@@ -1,7 +1,6 @@
 //! From a certificate to its text.
 
 ghost use Rattle.std.specs.Prelude.{◌≡◌, ◌≤◌, ◌^◌, ◌++◌, ◌∷◌, [], false, All, Ok, Some, length, IfOk};
-ghost use Rattle.frac_core.specs.Limits.{most_columns};
 ghost use Rattle.json.specs.Tree.{HasNumbers};
 ghost use Rattle.serde_json.specs.Data.{depth};
 ghost use Rattle.serde_json.specs.Read.{max_depth};
@@ -10,20 +9,45 @@ ghost use Rattle.serde_json.specs.Written.{has_float, outline, compact_text};
 ghost use Rattle.cert_text.specs.Certificates.{json_of, cert_of};
 ghost use Rattle.cert_text.specs.Contents.{content};
 ghost use Rattle.cert_text.specs.Limits.{IsWithinLimits};
-ghost use Rattle.cert_text.specs.Trees.{cert_tree, cert_text};
+ghost use Rattle.cert_text.specs.Trees.{layout, version, cert_tree, cert_text};
 
 use crate::cert::Cert;
+use crate::chain::{LaidOut, is_chained};
+use crate::layout::Layout;
 use crate::parts::{Name, put};
 use frac_core::OutOfMemory;
 use serde_json::{Map, Value};
 use std::alloc::{AllocError, Global};
 
-const VERSION: u32 = 1;
+// The layout of the text: chained where the certificate is.
+fn layout(alloc: Global, cert: &Cert) -> Result<Layout, AllocError>
+    ensures { IfOk result (λ chosen. chosen ≡ layout cert.now) }
+{
+    if is_chained(alloc, cert)? {
+        Ok(Layout::Chained)
+    } else {
+        Ok(Layout::Full)
+    }
+}
+
+fn version(layout: Layout) -> u32
+    ensures { result ≡ version layout }
+{
+    match layout {
+        Layout::Full => 1,
+        Layout::Chained => 2,
+    }
+}
 
 #[tactic(auto, unfolding(crate::specs::Trees::cert_tree))]
 fn to_json(alloc: Global, cert: &Cert) -> Result<Value, AllocError>
     ensures { IfOk result (λ v. view v ≡ cert_tree cert.now) }
 {
+    let layout = layout(alloc, cert)?;
+    let laid_out = LaidOut {
+        layout,
+        segments: &cert.segments,
+    };
     let mut object = Map::new(alloc);
     put(alloc, &mut object, "columns", &cert.problem.columns)?;
     put(alloc, &mut object, "hi", &cert.hi)?;
@@ -31,8 +55,8 @@ fn to_json(alloc: Global, cert: &Cert) -> Result<Value, AllocError>
     put(alloc, &mut object, "kind", &Name("quantreg-certificate"))?;
     put(alloc, &mut object, "lo", &cert.lo)?;
     put(alloc, &mut object, "rows", &cert.problem.rows)?;
-    put(alloc, &mut object, "segments", &cert.segments)?;
-    put(alloc, &mut object, "version", &VERSION)?;
+    put(alloc, &mut object, "segments", &laid_out)?;
+    put(alloc, &mut object, "version", &version(layout))?;
     Ok(Value::Object(object))
 }
 
@@ -50,7 +74,7 @@ fn line_of(alloc: Global, value: &Value) -> Result<Vec<u8>, AllocError>
 
 #[tactic(auto, using(crate::proofs::Plain::cert_plain))]
 fn bytes_of(alloc: Global, cert: &Cert) -> Result<Vec<u8>, AllocError>
-    ensures back { cert.now.problem.columns ≤ most_columns → IfOk result (λ bytes. json_of bytes.items ≡ Some (cert_tree cert.now)) }
+    ensures back { IsWithinLimits cert.now → IfOk result (λ bytes. json_of bytes.items ≡ Some (cert_tree cert.now)) }
     ensures text { IfOk result (λ bytes. bytes.items ≡ cert_text cert.now) }
 {
     let value = to_json(alloc, cert)?;
@@ -61,7 +85,7 @@ fn bytes_of(alloc: Global, cert: &Cert) -> Result<Vec<u8>, AllocError>
 }
 
 /// The text of a certificate: one JSON object on a line, with its keys in the order of their bytes and its
-/// fractions as canonical number text. Where the certificate is within the limits of `read_cert`, the text
+/// fractions as canonical number text. It is of version 2 where the certificate is chained, else of version 1. Where the certificate is within the limits of `read_cert`, the text
 /// is read as that certificate. It refuses only for memory.
 pub fn write_cert(alloc: Global, cert: &Cert) -> Result<Vec<u8>, OutOfMemory>
     ensures text { IfOk result (λ bytes. bytes.items ≡ cert_text cert.now) }

@@ -1,0 +1,145 @@
+-- The trees of numbers, lists, rows and segments are read as these.
+use Rattle.std.proofs.Common.{◌≡◌, ℕ, ◌+◌, ◌-◌, ◌<◌, ◌≤◌, ◌^◌, All, List, [], ◌∷◌, Option, Some, None, Ok, Err, ◌==◌, codes, length, map, nat_lt, option_and_then, option_map, true, false, if◌then◌else◌, refl, sym, ap, ◌∙◌, arith}
+use Rattle.std.proofs.lemmas.List.{length-map}
+use Rattle.std.proofs.lemmas.Bool.{lt-ltb, le-ltb}
+use Rattle.std.specs.Ordering.{nat_cmp, match_ordering, ordering_reverse}
+use Rattle.std.specs.declared.cmp.Ordering.{Ordering}
+use Rattle.std.specs.declared.cmp.Ordering.TheVariants.{Less, Equal, Greater}
+use Rattle.std.specs.Cmp.Lexicographic.{slice_cmp, nat_list_cmp_total}
+use Rattle.exact_algebra.specs.Rational.{ℚ}
+use Rattle.frac_core.specs.declared.frac128.Frac128.{Frac128}
+use Rattle.frac_core.proofs.NumberLaws.{reads_back}
+use Rattle.loss_model.specs.declared.problem.Row.{Row}
+use Rattle.loss_model.specs.declared.vertex.Side.{Side}
+use Rattle.loss_model.specs.declared.vertex.Side.TheVariants.{Up, Down, Basic}
+use Rattle.loss_model.specs.declared.vertex.Vertex.{Vertex}
+use Rattle.loss_model.specs.declared.process.Segment.{Segment}
+use Rattle.loss_model.specs.declared.interval.Bound.{Bound}
+use Rattle.loss_model.specs.declared.interval.Bound.TheVariants.{Finite, Infinite}
+use Rattle.loss_model.specs.declared.interval.Beyond.{Beyond}
+use Rattle.loss_model.specs.declared.interval.Beyond.TheVariants.{Outside, Ray}
+use Rattle.loss_model.specs.declared.interval.End.{End}
+use Rattle.loss_model.specs.declared.interval.IntervalProof.{IntervalProof}
+use Rattle.serde_json.specs.Data.{Data, Members, no_members, member, number, unsigned, string}
+use Rattle.serde_json.specs.Find.{as_object}
+use Rattle.serde_json.specs.View.{items_of}
+use Rattle.cert_text.specs.Paths.{key_step, item_step}
+use Rattle.cert_text.specs.Reading.{Reading, Reader, on_read, under, or_shape, or_number, fraction, below_32, count, items_from, linked_list, list, next, field, fitting, no_more_keys, object_of}
+use Rattle.cert_text.specs.Certificates.{if_filled}
+use Rattle.cert_text.specs.Contents.{Content, exact, exact_row, exact_vertex, exact_segment, exact_end, exact_interval, content}
+use Rattle.cert_text.specs.Kept.{IsListed, IsKeptSegment, IsKeptEnd, IsKeptInterval, is_finite, is_outside}
+use Rattle.cert_text.specs.Certificates.{fractions, row_members, row, side_of, sides_of, sides, vertex_of, segment_members, segment, end_kind, finite_members, infinite_members, end_members, end_of, interval_members, projected_members, interval, kind, anything, top_members, is_too_large, within_limits, version_of, cert_of_data}
+use Rattle.cert_text.specs.Limits.{IsWithinLimits}
+use Rattle.cert_text.specs.Trees.{fraction_tree, list_tree, fractions_tree, sign_of, sides_tree, row_tree, segment_tree, value_member, beyond_members, end_tree, interval_tree, cert_tree}
+use Rattle.cert_text.specs.declared.fault.CertFault.TheVariants.{Shape, TooLarge, Version}
+use Rattle.cert_text.specs.declared.cert.Cert.{Cert}
+use Rattle.cert_text.specs.Laws.{TreeReadsBack}
+use Rattle.cert_text.proofs.Lists.{first_holds, rest_hold}
+
+-- ---- keys and items
+
+own_reverse : (o : Ordering) → o ≡ ordering_reverse o → o ≡ Equal
+own_reverse Less h = absurd (cc h)
+own_reverse Equal h = refl
+own_reverse Greater h = absurd (cc h)
+
+same_key : (k : List ℕ) → slice_cmp nat_cmp k k ≡ Equal
+same_key k = own_reverse (slice_cmp nat_cmp k k) (nat_list_cmp_total.antisymm k k)
+
+next_back : (k : List ℕ) (d : Data) (ms : Members) → next k (member k d ms) ≡ Ok (d, ms)
+unfolding next
+next_back k d ms = ap (λ o. match_ordering o (Err (Shape (key_step k))) (Ok (d, ms)) (Err (Shape (key_step k)))) (same_key k)
+
+pub step : {A B : Type 0} (k : List ℕ) (read : Reader A) (d : Data) (ms : Members) (a : A) (f : A × Members → Reading B)
+    → read d ≡ Ok a → on_read (field k read (member k d ms)) f ≡ f (a, ms)
+unfolding field
+step k read d ms a f h =
+    ap (λ z. on_read (on_read z (λ p. on_read (under (key_step k) (read p.0)) (λ a. Ok (a, p.1)))) f) (next_back k d ms)
+    ∙ ap (λ z. on_read (on_read (under (key_step k) z) (λ a. Ok (a, ms))) f) h
+
+items_back : {T A : Type 0} (P : T → Type 0) (tree : T → Data) (show : T → A) (read : Reader A) → ((t : T) → P t → read (tree t) ≡ Ok (show t))
+    → (before : Option A) (i : ℕ) (xs : List T) → All P xs → items_from (λ o. read) before i (items_of (map tree xs)) ≡ Ok (map show xs)
+unfolding items_from
+items_back P tree show read h before i [] all = refl
+items_back P tree show read h before i (x ∷ xs) all =
+    ap (λ z. on_read (under (item_step i) z) (λ a. on_read (items_from (λ o. read) (Some a) (i + 1) (items_of (map tree xs))) (λ more. Ok (a ∷ more)))) (h x (first_holds P x xs all))
+    ∙ ap (λ z. on_read z (λ more. Ok (show x ∷ more))) (items_back P tree show read h (Some (show x)) (i + 1) xs (rest_hold P x xs all))
+
+pub list_back : {T A : Type 0} (P : T → Type 0) (tree : T → Data) (show : T → A) (read : Reader A) → ((t : T) → P t → read (tree t) ≡ Ok (show t))
+    → (xs : List T) → All P xs → list read (list_tree tree xs) ≡ Ok (map show xs)
+unfolding linked_list
+list_back P tree show read h xs all = items_back P tree show read h None 0 xs all
+
+-- ---- parts
+
+pub fraction_back : (x : Frac128) → fraction (fraction_tree x) ≡ Ok (exact x)
+unfolding fraction
+fraction_back x = ap or_number (reads_back (2 ^ 127 - 1) (record { num = x.num; den = x.den }) (omega arith) x.within)
+
+pub fractions_back : (xs : List Frac128) → fractions (fractions_tree xs) ≡ Ok (map exact xs)
+fractions_back xs = list_back (λ _. Unit {0}) fraction_tree exact fraction (λ x _. fraction_back x) xs (λ k d lt. tt)
+
+sign_back : (s : Side) → side_of (sign_of s) ≡ Some s
+sign_back Up = refl
+sign_back Down = refl
+sign_back Basic = refl
+
+signs_back : (ss : List Side) → sides_of (map sign_of ss) ≡ Some ss
+signs_back [] = refl
+signs_back (s ∷ ss) =
+    ap (λ o. option_and_then (λ side. option_map (λ more. side ∷ more) (sides_of (map sign_of ss))) o) (sign_back s)
+    ∙ ap (option_map (λ more. s ∷ more)) (signs_back ss)
+
+pub sides_back : (ss : List Side) → sides (sides_tree ss) ≡ Ok ss
+unfolding sides
+sides_back ss = ap or_shape (signs_back ss)
+
+pub vertex_back : (v : Vertex Frac128) → IsListed v → vertex_of v.sides (map exact v.coef) ≡ exact_vertex v
+vertex_back v listed = λ i. record { basis = record { rows = sym listed i }; sides = v.sides; coef = map exact v.coef }
+
+pub count_back : (n : ℕ) → n < 2 ^ 32 → count (number (unsigned n)) ≡ Ok n
+unfolding count
+count_back n l = ap (λ b. or_shape (if b then Some n else None)) (lt-ltb n (2 ^ 32) l)
+
+-- ---- rows and segments
+
+pub row_back : (r : Row Frac128) → row (row_tree r) ≡ Ok (exact_row r)
+unfolding row row_members row_tree no_more_keys
+row_back r =
+    step (codes "down0") fraction _ _ (exact r.down0) _ (fraction_back r.down0)
+    ∙ step (codes "down1") fraction _ _ (exact r.down1) _ (fraction_back r.down1)
+    ∙ step (codes "up0") fraction _ _ (exact r.up0) _ (fraction_back r.up0)
+    ∙ step (codes "up1") fraction _ _ (exact r.up1) _ (fraction_back r.up1)
+    ∙ step (codes "x") fractions _ _ (map exact r.x) _ (fractions_back r.x)
+    ∙ step (codes "y") fraction _ _ (exact r.y) _ (fraction_back r.y)
+
+pub segment_back : (rows : Option ℕ) (s : Segment Frac128) → IsKeptSegment s → if_filled rows s.vertex.sides (map exact s.basic_lo) (map exact s.basic_hi) ≡ Some tt
+    → segment rows (segment_tree s) ≡ Ok (exact_segment s)
+unfolding segment segment_members segment_tree no_more_keys
+segment_back rows s kept filled =
+    step (codes "basic_hi") fractions _ _ (map exact s.basic_hi) _ (fractions_back s.basic_hi)
+    ∙ step (codes "basic_lo") fractions _ _ (map exact s.basic_lo) _ (fractions_back s.basic_lo)
+    ∙ step (codes "coef") fractions _ _ (map exact s.vertex.coef) _ (fractions_back s.vertex.coef)
+    ∙ step (codes "hi") fraction _ _ (exact s.hi) _ (fraction_back s.hi)
+    ∙ step (codes "lo") fraction _ _ (exact s.lo) _ (fraction_back s.lo)
+    ∙ step (codes "loss_hi") fraction _ _ (exact s.loss_hi) _ (fraction_back s.loss_hi)
+    ∙ step (codes "loss_lo") fraction _ _ (exact s.loss_lo) _ (fraction_back s.loss_lo)
+    ∙ step (codes "sides") sides _ _ s.vertex.sides _ (sides_back s.vertex.sides)
+    ∙ ap (λ o. on_read (fitting (codes "sides") o) (λ _. Ok (record {
+      lo = exact s.lo;
+      hi = exact s.hi;
+      vertex = vertex_of s.vertex.sides (map exact s.vertex.coef);
+      basic_lo = map exact s.basic_lo;
+      basic_hi = map exact s.basic_hi;
+      loss_lo = exact s.loss_lo;
+      loss_hi = exact s.loss_hi;
+    }))) filled
+    ∙ ap (λ v. Ok (record {
+      lo = exact s.lo;
+      hi = exact s.hi;
+      vertex = v;
+      basic_lo = map exact s.basic_lo;
+      basic_hi = map exact s.basic_hi;
+      loss_lo = exact s.loss_lo;
+      loss_hi = exact s.loss_hi;
+    })) (vertex_back s.vertex kept)

@@ -1,0 +1,228 @@
+//! Chains of segments: whether segments are one, and how one is read and written.
+
+ghost use Rattle.std.specs.Prelude.{◌≡◌, ◌≢◌, Ok, Err, Some, None, All, length, map, option_map, option_copied, IfOk, IfErr};
+ghost use Rattle.std.specs.List.{last_or};
+ghost use Rattle.serde_json.specs.View.{view, items_view};
+ghost use Rattle.cert_text.specs.Chains.{is_equal, keeps_value, keep_values, follows, follows_any, are_chained, is_chained};
+ghost use Rattle.cert_text.specs.Contents.{exact, exact_place, exact_segment, content};
+ghost use Rattle.cert_text.specs.Kept.{IsKeptSegment};
+ghost use Rattle.cert_text.specs.Certificates.{linked_segment, segments};
+ghost use Rattle.cert_text.specs.Reading.{items_from, linked_list, list};
+ghost use Rattle.cert_text.specs.Trees.{linked_tree, linked_trees, segments_tree};
+
+use crate::cert::Cert;
+use crate::fault::CertFault;
+use crate::later::{high_places, later_segment, later_to_json, low_places};
+use crate::layout::Layout;
+use crate::parts::{FromJson, ToJson};
+use crate::path::{under_item, wrong_kind};
+use crate::place::Place;
+use crate::segment::{full_segment, is_filled};
+use frac_core::{Exact, Frac128, List};
+use loss_model::Segment;
+use serde_json::Value;
+use std::alloc::{AllocError, Global};
+use std::cmp::Ordering;
+
+fn is_equal(x: Frac128, y: Frac128) -> bool
+    ensures { result ≡ is_equal (exact x) (exact y) }
+{
+    match x.compare(y) {
+        Ordering::Less => false,
+        Ordering::Equal => true,
+        Ordering::Greater => false,
+    }
+}
+
+// A row that stays on the fit keeps its dual value.
+fn keeps_value(before: Place<Frac128>, now: Place<Frac128>) -> bool
+    ensures { result ≡ keeps_value (exact_place before) (exact_place now) }
+{
+    match (before, now) {
+        (Place::On(x), Place::On(y)) => is_equal(x, y),
+        _ => true,
+    }
+}
+
+fn keep_values(before: &[Place<Frac128>], now: &[Place<Frac128>]) -> bool
+    ensures { result ≡ keep_values (map exact_place before.now) (map exact_place now.now) }
+{
+    for row in 0..before.len() {
+        if row >= now.len() {
+            return true;
+        }
+        if !keeps_value(before[row], now[row]) {
+            return false;
+        }
+    }
+    true
+}
+
+fn follows(
+    alloc: Global,
+    before: &Segment<Frac128>,
+    segment: &Segment<Frac128>,
+) -> Result<bool, AllocError>
+    ensures { IfOk result (λ b. b ≡ follows (exact_segment before.now) (exact_segment segment.now)) }
+{
+    if !is_equal(before.hi, segment.lo) {
+        return Ok(false);
+    }
+    if !is_equal(before.loss_hi, segment.loss_lo) {
+        return Ok(false);
+    }
+    let earlier = high_places(alloc, before)?;
+    let later = low_places(alloc, segment)?;
+    Ok(keep_values(earlier.as_slice(), later.as_slice()))
+}
+
+fn follows_any(
+    alloc: Global,
+    before: Option<&Segment<Frac128>>,
+    segment: &Segment<Frac128>,
+) -> Result<bool, AllocError>
+    ensures { IfOk result (λ b. b ≡ follows_any (option_map exact_segment (option_copied before.entry)) (exact_segment segment.now)) }
+{
+    match before {
+        Some(before) => follows(alloc, before, segment),
+        None => Ok(true),
+    }
+}
+
+// The last segment.
+fn last<'a>(segments: &'a [Segment<Frac128>]) -> Option<&'a Segment<Frac128>>
+    ensures { option_copied result ≡ last_or None segments.now }
+{
+    segments.last()
+}
+
+/// Whether the text may say of each later segment only what changes.
+pub(crate) fn is_chained(alloc: Global, cert: &Cert) -> Result<bool, AllocError>
+    ensures { IfOk result (λ b. b ≡ is_chained (content cert.now)) }
+{
+    let rows = cert.problem.rows.as_slice().len();
+    let segments = cert.segments.as_slice();
+    for i in 0..segments.len() {
+        let segment = &segments[i];
+        if !is_filled(rows, segment) {
+            return Ok(false);
+        }
+        if !follows_any(alloc, last(&segments[..i]), segment)? {
+            return Ok(false);
+        }
+    }
+    Ok(true)
+}
+
+// The segment behind another one, or the first in full.
+fn linked_segment(
+    alloc: Global,
+    rows: usize,
+    before: Option<&Segment<Frac128>>,
+    value: &Value,
+) -> Result<Segment<Frac128>, CertFault>
+    ensures ok { IfOk result (λ s. linked_segment rows (option_map exact_segment (option_copied before.entry)) (view value.now) ≡ Ok (exact_segment s)) }
+    ensures kept { IfOk result IsKeptSegment }
+    ensures err { IfErr result (λ e. e ≢ CertFault.OutOfMemory → linked_segment rows (option_map exact_segment (option_copied before.entry)) (view value.now) ≡ Err e) }
+{
+    match before {
+        Some(before) => later_segment(alloc, before, value),
+        None => full_segment(alloc, Some(rows), value),
+    }
+}
+
+fn linked_items(
+    alloc: Global,
+    rows: usize,
+    values: &[Value],
+) -> Result<Vec<Segment<Frac128>>, CertFault>
+    ensures ok { IfOk result (λ xs. items_from (linked_segment rows) None 0 (items_view values.now) ≡ Ok (map exact_segment xs.items)) }
+    ensures kept { IfOk result (λ xs. All IsKeptSegment xs.items) }
+    ensures err { IfErr result (λ e. e ≢ CertFault.OutOfMemory → items_from (linked_segment rows) None 0 (items_view values.now) ≡ Err e) }
+{
+    let mut found = Vec::with_capacity(alloc, values.len())?;
+    for i in 0..values.len() {
+        match linked_segment(alloc, rows, last(found.as_slice()), &values[i]) {
+            Ok(segment) => found.push(segment)?,
+            Err(fault) => return Err(under_item(alloc, i, fault)),
+        }
+    }
+    Ok(found)
+}
+
+#[tactic(auto, unfolding(crate::specs::Reading::linked_list))]
+fn linked_list(
+    alloc: Global,
+    rows: usize,
+    value: &Value,
+) -> Result<List<Segment<Frac128>>, CertFault>
+    ensures ok { IfOk result (λ xs. linked_list (linked_segment rows) (view value.now) ≡ Ok (map exact_segment xs)) }
+    ensures kept { IfOk result (λ xs. All IsKeptSegment xs) }
+    ensures err { IfErr result (λ e. e ≢ CertFault.OutOfMemory → linked_list (linked_segment rows) (view value.now) ≡ Err e) }
+{
+    let Some(values) = value.as_array() else {
+        return Err(wrong_kind(alloc));
+    };
+    match linked_items(alloc, rows, values.as_slice()) {
+        Ok(found) => Ok(List::from(found)),
+        Err(fault) => Err(fault),
+    }
+}
+
+/// The segments of a problem with so many rows.
+pub(crate) fn segments(
+    alloc: Global,
+    layout: Layout,
+    rows: usize,
+    value: &Value,
+) -> Result<List<Segment<Frac128>>, CertFault>
+    ensures ok { IfOk result (λ xs. segments layout rows (view value.now) ≡ Ok (map exact_segment xs)) }
+    ensures kept { IfOk result (λ xs. All IsKeptSegment xs) }
+    ensures err { IfErr result (λ e. e ≢ CertFault.OutOfMemory → segments layout rows (view value.now) ≡ Err e) }
+{
+    match layout {
+        Layout::Full => List::from_json(alloc, value),
+        Layout::Chained => linked_list(alloc, rows, value),
+    }
+}
+
+fn linked_to_json(
+    alloc: Global,
+    before: Option<&Segment<Frac128>>,
+    segment: &Segment<Frac128>,
+) -> Result<Value, AllocError>
+    ensures { IfOk result (λ v. view v ≡ linked_tree (option_copied before.entry) segment.now) }
+{
+    match before {
+        Some(before) => later_to_json(alloc, before, segment),
+        None => segment.to_json(alloc),
+    }
+}
+
+fn chain_to_json(alloc: Global, segments: &[Segment<Frac128>]) -> Result<Vec<Value>, AllocError>
+    ensures { IfOk result (λ vs. map view vs.items ≡ linked_trees None segments.now) }
+{
+    let mut found = Vec::with_capacity(alloc, segments.len())?;
+    for i in 0..segments.len() {
+        found.push(linked_to_json(alloc, last(&segments[..i]), &segments[i])?)?;
+    }
+    Ok(found)
+}
+
+/// Segments in the layout in which they are written.
+#[derive(Clone, Copy)]
+pub(crate) struct LaidOut<'a> {
+    pub layout: Layout,
+    pub segments: &'a List<Segment<Frac128>>,
+}
+
+impl ToJson for LaidOut<'_> {
+    ghost tree = { λ s. segments_tree s.layout s.segments.now };
+
+    fn to_json(&self, alloc: Global) -> Result<Value, AllocError> {
+        match self.layout {
+            Layout::Full => self.segments.to_json(alloc),
+            Layout::Chained => Ok(Value::Array(chain_to_json(alloc, self.segments.as_slice())?)),
+        }
+    }
+}
