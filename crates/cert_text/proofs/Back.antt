@@ -1,40 +1,27 @@
 -- The tree of a certificate is read as that certificate.
-use Rattle.std.proofs.Common.{◌≡◌, ℕ, ◌+◌, ◌-◌, ◌<◌, ◌≤◌, ◌*◌, ◌^◌, Bool, All, List, [], ◌∷◌, Some, None, Ok, Err, ◌==◌, codes, length, map, nat_lt, option_and_then, option_map, true, false, if◌then◌else◌, refl, sym, ap, ap₂, subst, ◌∙◌, arith}
+use Rattle.std.proofs.Common.{◌≡◌, ℕ, ◌≤◌, ◌*◌, ◌^◌, Bool, List, Some, None, Ok, Err, codes, length, map, nat_lt, true, false, if◌then◌else◌, refl, sym, ap, ap₂, subst, ◌∙◌, arith}
 use Rattle.std.proofs.lemmas.List.{length-map}
-use Rattle.std.proofs.lemmas.Bool.{lt-ltb, le-ltb}
-use Rattle.std.specs.Ordering.{nat_cmp, match_ordering, ordering_reverse}
-use Rattle.std.specs.declared.cmp.Ordering.{Ordering}
-use Rattle.std.specs.declared.cmp.Ordering.TheVariants.{Less, Equal, Greater}
-use Rattle.std.specs.Cmp.Lexicographic.{slice_cmp, nat_list_cmp_total}
-use Rattle.exact_algebra.specs.Rational.{ℚ}
+use Rattle.std.proofs.lemmas.Bool.{le-ltb}
 use Rattle.frac_core.specs.declared.frac128.Frac128.{Frac128}
-use Rattle.frac_core.proofs.NumberLaws.{reads_back}
-use Rattle.loss_model.specs.declared.problem.Row.{Row}
-use Rattle.loss_model.specs.declared.vertex.Side.{Side}
-use Rattle.loss_model.specs.declared.vertex.Side.TheVariants.{Up, Down, Basic}
 use Rattle.loss_model.specs.declared.vertex.Vertex.{Vertex}
-use Rattle.loss_model.specs.declared.process.Segment.{Segment}
 use Rattle.loss_model.specs.declared.interval.Bound.{Bound}
 use Rattle.loss_model.specs.declared.interval.Bound.TheVariants.{Finite, Infinite}
 use Rattle.loss_model.specs.declared.interval.Beyond.{Beyond}
 use Rattle.loss_model.specs.declared.interval.Beyond.TheVariants.{Outside, Ray}
 use Rattle.loss_model.specs.declared.interval.End.{End}
 use Rattle.loss_model.specs.declared.interval.IntervalProof.{IntervalProof}
-use Rattle.serde_json.specs.Data.{Data, Members, no_members, member, number, unsigned, string}
+use Rattle.serde_json.specs.Data.{Members, string}
 use Rattle.serde_json.specs.Find.{as_object}
-use Rattle.serde_json.specs.View.{items_of}
-use Rattle.cert_text.specs.Paths.{key_step, item_step}
-use Rattle.cert_text.specs.Reading.{Reading, Reader, on_read, under, or_shape, or_number, fraction, below_32, count, items_from, list, next, field, no_more_keys, object_of}
-use Rattle.cert_text.specs.Contents.{Content, exact, exact_row, exact_vertex, exact_segment, exact_end, exact_interval, content}
+use Rattle.cert_text.specs.Reading.{Reading, on_read, or_shape, fraction, count, list, no_more_keys}
+use Rattle.cert_text.specs.Contents.{Content, exact, exact_row, exact_segment, exact_end, exact_interval, content}
 use Rattle.cert_text.specs.Kept.{IsListed, IsKeptSegment, IsKeptEnd, IsKeptInterval, is_finite, is_outside}
-use Rattle.cert_text.specs.Certificates.{fractions, row_members, row, side_of, sides_of, sides, vertex_of, segment_members, segment, end_kind, finite_members, infinite_members, end_members, end_of, interval_members, projected_members, interval, kind, anything, top_members, is_too_large, within_limits, version_of, cert_of_data}
+use Rattle.cert_text.specs.Certificates.{fractions, row, sides, segment, end_kind, finite_members, infinite_members, end_members, end_of, interval_members, projected_members, interval, kind, anything, top_members, is_too_large, within_limits, version_of, cert_of_data}
 use Rattle.cert_text.specs.Limits.{IsWithinLimits}
-use Rattle.cert_text.specs.Trees.{fraction_tree, list_tree, fractions_tree, sign_of, sides_tree, row_tree, segment_tree, value_member, beyond_members, end_tree, interval_tree, cert_tree}
+use Rattle.cert_text.specs.Trees.{row_tree, segment_tree, end_tree, interval_tree, cert_tree}
 use Rattle.cert_text.specs.declared.fault.CertFault.TheVariants.{TooLarge}
 use Rattle.cert_text.specs.declared.cert.Cert.{Cert}
 use Rattle.cert_text.specs.Laws.{TreeReadsBack}
-use Rattle.cert_text.proofs.Lists.{first_holds, rest_hold}
-use Rattle.cert_text.specs.Certificates.{if_filled, segments, layout_of, or_version}
+use Rattle.cert_text.specs.Certificates.{segments, layout_of, or_version}
 use Rattle.cert_text.specs.Chains.{is_chained}
 use Rattle.cert_text.specs.Trees.{segments_tree, layout, version}
 use Rattle.cert_text.specs.declared.layout.Layout.{Layout}
@@ -133,7 +120,7 @@ not_too_large c within =
     let segments : nat_lt (2 ^ 20) (length (map exact_segment c.segments)) ≡ false = le-ltb (2 ^ 20) _ (omega (arith, within.segments, same_segments)) in
     let intervals : nat_lt 8192 (length (map exact_interval c.intervals)) ≡ false = le-ltb 8192 _ (omega (arith, within.intervals, length-map c.intervals exact_interval)) in
     let sides : nat_lt (2 ^ 30) (length (map exact_row c.problem.rows) * length (map exact_segment c.segments)) ≡ false =
-      le-ltb (2 ^ 30) _ (subst (λ n. n ≤ 2 ^ 30) (sym (ap₂ (λ m n. m * n) same_rows same_segments)) within.sides) in
+    le-ltb (2 ^ 30) _ (subst (λ n. n ≤ 2 ^ 30) (sym (ap₂ (λ m n. m * n) same_rows same_segments)) within.sides) in
     rw (columns, rows, segments, intervals, sides) refl
 
 joined : (m : Reading Members) (n : Reading ℕ) (t : Layout → Members → Reading Content) (l : Layout) (r : Content)

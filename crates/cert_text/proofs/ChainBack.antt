@@ -1,9 +1,9 @@
 -- The trees of a chain are read as its segments.
-use Rattle.std.proofs.Common.{◌≡◌, ℕ, suc, ◌+◌, ◌<◌, ◌≤◌, ◌^◌, ◌==◌, ◌&&◌, not, All, Bool, true, false, List, [], ◌∷◌, ◌++◌, Option, Some, None, Ok, codes, length, map, option_map, nat_le, slice_get, slice_set, if◌then◌else◌, refl, sym, ap, ap₂, subst, ◌∙◌, append_assoc, arith}
+use Rattle.std.proofs.Common.{◌≡◌, ℕ, suc, ◌+◌, ◌<◌, ◌≤◌, ◌^◌, ◌&&◌, not, All, Bool, true, false, List, [], ◌∷◌, ◌++◌, Option, Some, None, Ok, codes, length, map, option_map, nat_le, slice_get, slice_set, if◌then◌else◌, refl, sym, ap, ap₂, ◌∙◌, append_assoc, arith}
 use Rattle.std.specs.Ordering.{match_ordering}
 use Rattle.std.proofs.Math.Seq.{set-append_seam}
 use Rattle.std.proofs.lemmas.Bool.{and_parts, and_from, le-leb, eqb-true, eq-eqb}
-use Rattle.std.proofs.lemmas.List.{length-map, length_push}
+use Rattle.std.proofs.lemmas.List.{length_push}
 use Rattle.std.proofs.lemmas.List.Elements.{All-cons, All-nil}
 use Rattle.exact_algebra.specs.Rational.{ℚ}
 use Rattle.exact_algebra.proofs.OrderLaws.{by_cmp}
@@ -14,11 +14,11 @@ use Rattle.loss_model.specs.declared.process.Segment.{Segment}
 use Rattle.serde_json.specs.Data.{string}
 use Rattle.serde_json.specs.View.{items_of}
 use Rattle.cert_text.specs.Paths.{item_step}
-use Rattle.cert_text.specs.Reading.{Reading, on_read, under, fraction, count, items_from, linked_list, list, fitting, no_more_keys}
+use Rattle.cert_text.specs.Reading.{on_read, under, fraction, count, items_from, linked_list, list, fitting, no_more_keys}
 use Rattle.cert_text.specs.Chains.{places, high_places, low_places, side_at, values_at, is_same_side, is_elsewhere, moves_from, moves_between, moved, is_equal, is_filled, keeps_value, keep_values, follows, follows_any, are_chained}
 use Rattle.cert_text.specs.Contents.{exact, exact_place, exact_move, exact_segment}
 use Rattle.cert_text.specs.Kept.{basic_from, basic_rows, IsKeptSegment}
-use Rattle.cert_text.specs.Certificates.{fractions, vertex_of, side, place_members, move_members, one_move, if_as_many, later_members, later_segment, linked_segment, segments, if_filled}
+use Rattle.cert_text.specs.Certificates.{fractions, vertex_of, side, place_members, move_members, one_move, if_as_many, later_members, later_segment, linked_segment, segments}
 use Rattle.cert_text.specs.Trees.{move_tree, later_tree, linked_tree, linked_trees, segments_tree}
 use Rattle.cert_text.specs.declared.place.Place.{Place}
 use Rattle.cert_text.specs.declared.place.Place.TheVariants.{Above, Below, On}
@@ -97,7 +97,7 @@ module _ (pre ps qs : List (Place ℚ)) (p q : Place ℚ) (least : ℕ)
   one_move_again false e small kept =
       let rest = moves_from (length pre + 1) ps qs in
       let may : (nat_le least (length pre) && is_elsewhere (slice_get (pre ++ p ∷ ps) (length pre)) q) ≡ true =
-        and_from _ _ (le-leb least (length pre) small) (ap (λ o. is_elsewhere o q) (place_there pre p ps) ∙ ap not e) in
+      and_from _ _ (le-leb least (length pre) small) (ap (λ o. is_elsewhere o q) (place_there pre p ps) ∙ ap not e) in
       ap (λ b. if b then moved (length pre + 1) (slice_set (pre ++ p ∷ ps) (length pre) q) rest else None) may
       ∙ ap (λ l. moved (length pre + 1) l rest) (set-append_seam pre p ps q)
       ∙ further_on (length pre + 1) (omega arith)

@@ -17,7 +17,6 @@ use Rattle.cert_text.specs.declared.cert.Cert.{Cert}
 use Rattle.cert_text.specs.Chains.{moves_between}
 use Rattle.cert_text.specs.declared.place.Place.{Place}
 use Rattle.cert_text.specs.declared.place.Place.TheVariants.{Above, Below, On}
-use Rattle.cert_text.specs.declared.moves.Move.{Move}
 use Rattle.cert_text.specs.declared.layout.Layout.{Layout}
 use Rattle.cert_text.specs.declared.layout.Layout.TheVariants.{Full, Chained}
 

@@ -1,9 +1,8 @@
 -- Certificates that say the same are the same.
-use Rattle.std.proofs.Common.{◌≡◌, ℕ, ◌^◌, ◌-◌, ◌∷◌, [], All, List, map, refl, ap, ap₂}
+use Rattle.std.proofs.Common.{◌≡◌, ◌^◌, ◌-◌, ◌∷◌, [], All, List, map, refl, ap, ap₂}
 use Rattle.std.proofs.Props.{props}
 use mathlib.Core.Path.{PathP}
 use mathlib.Core.HLevel.{is_prop→PathP}
-use Rattle.exact_algebra.specs.Rational.{ℚ}
 use Rattle.frac_core.specs.declared.frac128.Frac128.{Frac128}
 use Rattle.frac_core.specs.Lowest.{same_fraction, IsWithin-along}
 use Rattle.loss_model.specs.declared.problem.Row.{Row}
@@ -15,10 +14,9 @@ use Rattle.loss_model.specs.declared.interval.Beyond.{Beyond}
 use Rattle.loss_model.specs.declared.interval.Beyond.TheVariants.{Outside, Ray}
 use Rattle.loss_model.specs.declared.interval.End.{End}
 use Rattle.loss_model.specs.declared.interval.IntervalProof.{IntervalProof}
-use Rattle.cert_text.specs.Contents.{exact, exact_row, exact_vertex, exact_segment, exact_bound, exact_beyond, exact_end, exact_interval, content}
+use Rattle.cert_text.specs.Contents.{exact, exact_row, exact_vertex, exact_segment, exact_bound, exact_beyond, exact_end, exact_interval}
 use Rattle.cert_text.specs.Kept.{IsKeptSegment, IsKeptInterval}
 use Rattle.cert_text.specs.Laws.{SameContent}
-use Rattle.cert_text.specs.declared.cert.Cert.{Cert}
 
 same_lists : {A B : Type 0} (show : A → B) → ((x y : A) → show x ≡ show y → x ≡ y) → (xs ys : List A) → map show xs ≡ map show ys → xs ≡ ys
 same_lists show one [] [] h = refl

@@ -1,5 +1,5 @@
 -- The tree of a certificate has numbers that are read back, and nests little.
-use Rattle.std.proofs.Common.{◌≡◌, ℕ, ◌+◌, ◌<◌, ◌≤◌, ◌^◌, All, Bool, true, false, List, [], ◌∷◌, Option, Some, None, codes, length, map, option_map, if◌then◌else◌, refl, arith}
+use Rattle.std.proofs.Common.{◌≡◌, ℕ, ◌<◌, ◌≤◌, ◌^◌, All, Bool, true, false, List, [], ◌∷◌, Option, Some, None, codes, length, map, option_map, if◌then◌else◌, refl, arith}
 use Rattle.std.proofs.lemmas.Bool.{and_parts}
 use Rattle.std.proofs.lemmas.List.{length-map}
 use Rattle.frac_core.specs.declared.frac128.Frac128.{Frac128}
@@ -21,7 +21,6 @@ use Rattle.cert_text.specs.declared.cert.Cert.{Cert}
 use Rattle.cert_text.specs.Chains.{high_places, low_places, moves_between, are_chained, is_chained}
 use Rattle.cert_text.specs.declared.place.Place.{Place}
 use Rattle.cert_text.specs.declared.place.Place.TheVariants.{Above, Below, On}
-use Rattle.cert_text.specs.declared.moves.Move.{Move}
 use Rattle.cert_text.specs.declared.layout.Layout.{Layout}
 use Rattle.cert_text.specs.declared.layout.Layout.TheVariants.{Full, Chained}
 use Rattle.cert_text.specs.Contents.{exact_row, exact_segment, content}
@@ -68,7 +67,7 @@ later_numbers a b few = (
         tt,
         (
           items_numbers (λ m. m.row < 2 ^ 32) move_tree (λ m l. place_numbers m.row m.place l) (moves_between a b)
-          (moves_below (2 ^ 32) 0 (high_places a) (low_places b) (omega (arith, few, few_places a.vertex.sides a.basic_hi))),
+              (moves_below (2 ^ 32) 0 (high_places a) (low_places b) (omega (arith, few, few_places a.vertex.sides a.basic_hi))),
           tt,
         ),
       ),

@@ -1,5 +1,5 @@
 -- Stated. The certificate that bytes are, or their first fault.
-use Rattle.std.specs.Prelude.{ℕ, List, [], ◌∷◌, ◌==◌, ◌||◌, ◌*◌, ◌^◌, Bool, true, false, Option, Some, None, Ok, Err, codes, length, map, nat_lt, option_and_then, option_map, ⊤, if◌then◌else◌}
+use Rattle.std.specs.Prelude.{ℕ, List, [], ◌∷◌, ◌==◌, ◌||◌, ◌*◌, Bool, true, false, Option, Some, None, Ok, Err, codes, length, map, nat_lt, option_and_then, option_map, ⊤, if◌then◌else◌}
 use Rattle.std.specs.Str.{is_utf8, bytes_eq}
 use Rattle.exact_algebra.specs.Rational.{ℚ}
 use Rattle.frac_core.specs.Limits.{most_rows, most_columns}

@@ -1,4 +1,4 @@
-use Rattle.std.proofs.Common.{◌≡◌, ap, ◌∙◌}
+use Rattle.std.proofs.Common.{ap, ◌∙◌}
 use Rattle.cert_text.specs.Trees.{linked_tree}
 use Rattle.cert_text.proofs.Chained.{trees_next}
 use Rattle.cert_text.proofs.chain.chain_to_json.Goals as goal

@@ -1,6 +1,4 @@
-use Rattle.std.proofs.Common.{◌≡◌, ap₂, map, sym, ◌∙◌}
-use Rattle.cert_text.specs.Chains.{keep_values}
-use Rattle.cert_text.specs.Contents.{exact_place}
+use Rattle.std.proofs.Common.{◌∙◌}
 use Rattle.cert_text.proofs.Chained.{follows_by}
 use Rattle.cert_text.proofs.chain.follows.Goals as goal
 

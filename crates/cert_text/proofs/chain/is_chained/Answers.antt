@@ -1,4 +1,4 @@
-use Rattle.std.proofs.Common.{◌≡◌, ◌+◌, length, map, option_map, drop, true, sym, ap, ◌∙◌}
+use Rattle.std.proofs.Common.{◌+◌, length, map, option_map, drop, true, sym, ap, ◌∙◌}
 use Rattle.cert_text.specs.Chains.{follows_any, are_chained}
 use Rattle.cert_text.specs.Contents.{exact_segment}
 use Rattle.cert_text.proofs.Chained.{chained_next, after_next}

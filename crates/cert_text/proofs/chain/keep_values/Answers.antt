@@ -1,4 +1,4 @@
-use Rattle.std.proofs.Common.{◌≡◌, true, false, sym, ◌∙◌, arith}
+use Rattle.std.proofs.Common.{true, false, sym, arith}
 use Rattle.cert_text.proofs.Chained.{all_kept, kept_next}
 use Rattle.cert_text.proofs.chain.keep_values.Goals as goal
 

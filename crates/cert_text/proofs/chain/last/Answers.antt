@@ -1,4 +1,4 @@
-use Rattle.std.proofs.Common.{◌≡◌, ◌∙◌}
+use Rattle.std.proofs.Common.{◌∙◌}
 use Rattle.cert_text.proofs.Lists.{last_of}
 use Rattle.cert_text.proofs.chain.last.Goals as goal
 

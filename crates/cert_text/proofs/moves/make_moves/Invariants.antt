@@ -1,4 +1,4 @@
-use Rattle.std.proofs.Common.{◌≡◌, drop, length}
+use Rattle.std.proofs.Common.{◌≡◌, drop}
 use Rattle.cert_text.specs.Chains.{moved}
 use Rattle.cert_text.proofs.moves.make_moves.Given as goal
 

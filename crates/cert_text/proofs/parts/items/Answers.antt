@@ -1,4 +1,4 @@
-use Rattle.std.proofs.Common.{◌≡◌, ◌≤◌, ◌∷◌, [], ◌++◌, All, length, sym, subst, arith}
+use Rattle.std.proofs.Common.{◌≤◌, All, length, sym, subst, arith}
 use Rattle.std.proofs.lemmas.List.Elements.{All-push}
 use Rattle.cert_text.proofs.Lists.{value_read, value_fails, values_read}
 use Rattle.cert_text.proofs.parts.items.Goals as goal

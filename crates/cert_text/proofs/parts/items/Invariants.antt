@@ -1,4 +1,4 @@
-use Rattle.std.proofs.Common.{◌≡◌, map, drop, All}
+use Rattle.std.proofs.Common.{map, drop, All}
 use Rattle.serde_json.specs.View.{items_view}
 use Rattle.cert_text.proofs.Lists.{IsReadUpTo}
 use Rattle.cert_text.proofs.parts.items.Given as goal

@@ -1,4 +1,4 @@
-use Rattle.std.proofs.Common.{◌≡◌, ◌++◌, ◌∷◌, [], take}
+use Rattle.std.proofs.Common.{◌≡◌, ◌∷◌, take}
 use Rattle.std.specs.List.{flat_map}
 use Rattle.cert_text.specs.Paths.{escaped_byte}
 use Rattle.cert_text.proofs.path.step_to_key.Given as goal

@@ -1,4 +1,4 @@
-use Rattle.std.proofs.Common.{◌≡◌, refl, sym, ap, ◌∙◌}
+use Rattle.std.proofs.Common.{refl, sym, ap, ◌∙◌}
 use Rattle.serde_json.specs.Read.{read}
 use Rattle.cert_text.proofs.Utf8Texts.{not_utf8, utf8_json}
 use Rattle.cert_text.proofs.read.parse.Goals as goal

@@ -1,4 +1,4 @@
-use Rattle.std.proofs.Common.{◌≡◌, ◌≤◌, Some, sym, ap, subst, ◌∙◌, arith, false}
+use Rattle.std.proofs.Common.{◌≤◌, Some, sym, ap, subst, ◌∙◌}
 use Rattle.json.specs.Tree.{HasNumbers}
 use Rattle.serde_json.specs.Data.{Data, depth}
 use Rattle.serde_json.specs.Written.{has_float, outline}
