@@ -30,6 +30,6 @@ pub record IsWritten (cert : Cert) : Type 0 where
   pub few : sides_of cert ≤ most_sides
   pub back : IsWithinLimits cert → cert_of (cert_text cert) ≡ Ok (content cert)
 
--- its text has this length, which is more, or its sides are more
+-- it is too long: its text has this length, which is more, or its sides are more
 abbrev pub IsTooLong : Cert → ℕ → Type 0
 IsTooLong cert n = (n ≡ length (cert_text cert)) × ((most_bytes < n) ⊎ (most_sides < sides_of cert))
