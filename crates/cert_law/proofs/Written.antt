@@ -1,5 +1,5 @@
 -- The certificate of a right fit is sound, within the limits, and passes.
-use Rattle.std.proofs.Common.{◌≡◌, ◌≤◌, ◌*◌, ◌^◌, ℕ, List, [], ◌∷◌, All, Option, Some, None, length, map, option_map, slice_index, arith, refl, sym, ap, subst, ◌∙◌}
+use Rattle.std.proofs.Common.{◌≡◌, ◌≤◌, ◌*◌, ◌^◌, ℕ, List, [], ◌∷◌, All, Option, Some, None, get_or, length, map, option_map, slice_index, arith, refl, sym, ap, subst, ◌∙◌}
 use Rattle.std.specs.List.{range_with_len}
 use Rattle.std.proofs.lemmas.List.{length-append, length-map}
 use Rattle.std.proofs.lemmas.List.FromFn.{length-range_with_len}
@@ -16,7 +16,7 @@ use Rattle.loss_model.specs.declared.interval.Interval.{Interval}
 use Rattle.loss_model.specs.declared.problem.Problem.{Problem}
 use Rattle.loss_model.specs.declared.process.Segment.{Segment}
 use Rattle.loss_model.specs.declared.vertex.Vertex.{Vertex}
-use Rattle.loss_model.specs.Problem.{sample}
+use Rattle.loss_model.specs.Problem.{sample, IsWellShaped}
 use Rattle.pivot_rule.specs.declared.direction.Direction.{Direction}
 use Rattle.pivot_rule.specs.Duals.{HasCosts}
 use Rattle.pivot_rule.specs.Trails.{AtBasis}
@@ -43,13 +43,14 @@ use Rattle.rq_engine.specs.Intervals.{AreRightIntervals, IsRightInterval, asked_
 use Rattle.rq_engine.proofs.Costs.{high_costs, low_costs}
 use Rattle.rq_input.proofs.Lists.{zip_length}
 use Rattle.rq_engine.specs.Answers.{IsCertified, IsRight}
+use Rattle.rq_engine.specs.Certificates.{IsWritten}
 use Rattle.rq_engine.specs.Jobs.{IsJobOf}
 use Rattle.rq_engine.proofs.Asked.{asked_job}
 use Rattle.cert_law.specs.Laws.{Passes}
 use Rattle.cert_law.specs.Sound.{AreCosts, AreSound, IsSound, IsSoundEnding, IsSoundInterval, IsSoundSegment}
 use Rattle.cert_law.proofs.All.{all_true}
 use Rattle.cert_law.proofs.Checking.{one_report, undecided}
-use Rattle.cert_law.proofs.Lengths.{cert_long}
+use Rattle.cert_law.proofs.Lengths.{HasEntries, cert_long}
 
 -- ---- segments
 
@@ -59,6 +60,13 @@ sound_segment p s h = record {
   at_lo = record { size = h.at_lo.basic; dual = h.at_lo.dual; lost = h.at_lo.lost };
   at_hi = record { size = h.at_hi.basic; dual = h.at_hi.dual; lost = h.at_hi.lost };
 }
+
+-- a segment has a dual value and a coefficient, since the problem has a column
+sound_entries : (p : Problem Frac128) → IsWellShaped p → (s : Segment Frac128) → IsSoundSegment p s → HasEntries s
+sound_entries p shaped s h = (omega (arith, shaped.some, h.at_hi.size, h.vertex.size), omega (arith, shaped.some, h.vertex.coef))
+
+have_entries : (c : Cert) → IsSound c → All HasEntries c.segments
+have_entries c h = λ k d l. sound_entries c.problem h.segments.shaped (get_or c.segments k d) (h.segments.each k d l)
 
 -- the costs of an input's rows, of which the problem is one
 costs_of : (input : Input) (p : Problem Frac128) (theta : ℚ) → p ≡ input.problem → HasCosts (sample value input.problem) theta → AreCosts p theta
@@ -151,21 +159,22 @@ module _ (words : List (List ℕ)) (job : FitJob) (asked : IsJobOf words (jobs.C
               (sound_intervals certified.fit.problem job.limit (asked_by job.rank certified.fit.problem.columns) certified.fit.intervals right.intervals));
         }
 
-    is_within : length (cert_text cert) ≤ 2 ^ 26 → IsWithinLimits cert
-    is_within short =
+    is_within : IsWritten cert → IsWithinLimits cert
+    is_within small =
         let is = certified.is in
         let many : length cert.intervals ≡ length certified.fit.intervals = ap length is.intervals ∙ length-map certified.fit.intervals (λ (r : Interval Frac128). r.proof) in
         let zipped = zip_length (IsRightInterval value certified.fit.problem job.limit) (asked_by job.rank certified.fit.problem.columns) certified.fit.intervals right.intervals in
         record {
           columns = subst (λ (p : Problem Frac128). p.columns ≤ 128) (sym is.problem) right.shaped.columns;
           rows = subst (λ (p : Problem Frac128). length p.rows ≤ 16384) (sym is.problem) right.shaped.rows;
-          segments = omega (arith, short, cert_long cert);
+          segments = omega (arith, small.short, cert_long cert (have_entries cert is_sound));
           intervals = omega (arith, many, zipped, few_asked certified.fit.problem.columns right.shaped.columns job.rank refl);
+          sides = small.few;
         }
 
 pub written : SameContent → (words : List (List ℕ)) (job : FitJob) (bytes : List ℕ) (cert : Cert) → IsJobOf words (jobs.Certify job) → IsRight (jobs.Certify job) bytes (reports.Certificate cert) → Passes cert
 written same words job bytes cert asked right =
-    let within = is_within words job asked right.0.0 cert right.0.2 right.1.short in
+    let within = is_within words job asked right.0.0 cert right.0.2 right.1 in
     let back = right.1.back within in
     let sound = all_true cert (is_sound words job asked right.0.0 cert right.0.2) in
     record { within = within; back = back; sound = sound; report = one_report same (cert_text cert) cert back sound; halt = undecided same (cert_text cert) cert back sound }

@@ -117,7 +117,8 @@ pub enum Refusal {
     Program(ProgramFault),
     /// The columns are dependent: this combination of them, which isn't all 0, is 0 in every row.
     Dependent { combination: List<Frac128> },
-    /// The text of the certificate has so many bytes, which is more than 2^26.
+    /// The text of the certificate has so many bytes, which is more than 2^26, or its rows times its segments
+    /// exceed 2^30.
     CertTooLong { length: u64 },
     /// It is no certificate.
     Certificate(CertFault),

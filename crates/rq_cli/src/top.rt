@@ -27,7 +27,8 @@ use std::thread::Threads;
 /// names, of their design, of what its smooths add, or of the problem; for `predict` also where there is nothing
 /// to predict or too much, or of a predicted record's row; for `check` of the bytes as a
 /// certificate; as `CertTooLong` where the text of a certificate to be written is longer than 2^26
-/// bytes; and as `Dependent` only where the columns of the problem are dependent. `PivotLimit` comes only
+/// bytes, or its rows times its segments exceed 2^30; and as `Dependent` only where the columns of the problem are
+/// dependent. `PivotLimit` comes only
 /// where the lawful trail of its place, of the problem or of a rank interval, has as many pivots as the
 /// words' limit says and one more is left, and `Overflow` only where an operation of its place
 /// overflows: of the fit, of a rank interval, of a prediction or of the checker. A stop of an interval is that of the

@@ -148,7 +148,7 @@ problem_certified job input (PivotLimit place limit trail) h = h
 problem_certified job input (Overflow place trail spill) h = h
 problem_certified job input (Rejected rejection) h = h
 
--- so is a text that is too long
+-- so is a certificate that is too long
 pub length_certified : (job : FitJob) (input : Input) (cert : Cert) → IsCertified job input cert → (halt : Halt) → IsLengthHalt cert halt → HasCertifiedCause job input halt
 length_certified job input cert is (Refused (refusals.CertTooLong n)) h = (cert, is, h)
 length_certified job input cert is (Refused (refusals.Certificate fault)) h = absurd h

@@ -114,13 +114,13 @@ abbrev pub HasRanksCause : FitJob → List ℕ → Halt → Type 0
 HasRanksCause job bytes (Overflow places.Process trail spill) = HasFitCause job true bytes (Overflow places.Process trail spill) ⊎ LacksScores job bytes trail spill
 HasRanksCause job bytes halt = HasFitCause job true bytes halt
 
--- the certificate of the bytes has a text of this length, which is too long
+-- the certificate of the bytes is too long, and its text has this length
 pub record HasLongCertificate (job : FitJob) (bytes : List ℕ) (n : ℕ) : Type 0 where
   pub cert : Cert
   pub right : IsCertifiedOfBytes job bytes cert
   pub long : IsTooLong cert n
 
--- why bytes have no certificate: they have no fit, or its text is too long
+-- why bytes have no certificate: they have no fit, or its certificate is too long
 abbrev pub HasCertifyCause : FitJob → List ℕ → Halt → Type 0
 HasCertifyCause job bytes (Refused (CertTooLong n)) = HasLongCertificate job bytes n
 HasCertifyCause job bytes halt = HasFitCause job (is_some job.rank) bytes halt

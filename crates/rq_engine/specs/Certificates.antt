@@ -1,8 +1,8 @@
 -- Stated. What the certificate of a fit states.
-use Rattle.std.specs.Prelude.{◌≡◌, ℕ, ◌≤◌, ◌<◌, ◌^◌, Ok, length, map}
+use Rattle.std.specs.Prelude.{◌≡◌, ℕ, ◌*◌, ◌≤◌, ◌<◌, ◌^◌, ◌⊎◌, Ok, length, map}
 use Rattle.cert_text.specs.Certificates.{cert_of}
 use Rattle.cert_text.specs.Contents.{content}
-use Rattle.cert_text.specs.Limits.{IsWithinLimits}
+use Rattle.cert_text.specs.Limits.{IsWithinLimits, most_sides}
 use Rattle.cert_text.specs.Trees.{cert_text}
 use Rattle.cert_text.specs.declared.cert.Cert.{Cert}
 use Rattle.rq_words.specs.declared.job.FitJob.{FitJob}
@@ -20,11 +20,16 @@ pub record IsCertificateOf (job : FitJob) (fit : Fit) (cert : Cert) : Type 0 whe
 abbrev pub most_bytes : ℕ
 most_bytes = 2 ^ 26
 
--- its text is so long at most, and is read as the certificate where that is within the limits of what is read
+-- how many sides it has: rows times segments
+abbrev pub sides_of : Cert → ℕ
+sides_of cert = length cert.problem.rows * length cert.segments
+
+-- its text and its sides are no more, and the text is read as the certificate where that is within the limits of what is read
 pub record IsWritten (cert : Cert) : Type 0 where
   pub short : length (cert_text cert) ≤ most_bytes
+  pub few : sides_of cert ≤ most_sides
   pub back : IsWithinLimits cert → cert_of (cert_text cert) ≡ Ok (content cert)
 
--- its text is longer, and has this length
+-- it is too long: its text has this length, which is more, or its sides are more
 abbrev pub IsTooLong : Cert → ℕ → Type 0
-IsTooLong cert n = (n ≡ length (cert_text cert)) × (most_bytes < n)
+IsTooLong cert n = (n ≡ length (cert_text cert)) × ((most_bytes < n) ⊎ (most_sides < sides_of cert))

@@ -10,13 +10,13 @@ use Rattle.rq_fit.specs.Stops.{HasProblemCause}
 use Rattle.rq_engine.specs.Answers.{IsCertified}
 use Rattle.rq_engine.specs.Certificates.{IsTooLong}
 
--- the text of the certificate wasn't found to be short: memory ended, or it is too long
+-- the certificate wasn't found to be short: memory ended, or it is too long
 abbrev pub IsLengthHalt : Cert → Halt → Type 0
 IsLengthHalt cert OutOfMemory = ⊤
 IsLengthHalt cert (Refused (CertTooLong n)) = IsTooLong cert n
 IsLengthHalt cert halt = ⊥
 
--- the problem of the input has no fit, or the text of its certificate is too long
+-- the problem of the input has no fit, or its certificate is too long
 abbrev pub HasCertifiedCause : FitJob → Input → Halt → Type 0
 HasCertifiedCause job input (Refused (CertTooLong n)) = (cert : Cert) × IsCertified job input cert × IsTooLong cert n
 HasCertifiedCause job input halt = HasProblemCause job (length input.design.rows) input.problem halt

@@ -1,10 +1,11 @@
 //! The job `certify`: the fit of the job `process`, as a certificate.
-ghost use Rattle.std.specs.Prelude.{◌≡◌, ◌<◌, ◌≤◌, ◌^◌, All, is_some, length, map, true, IfOk, IfErr, OnOk};
+ghost use Rattle.std.specs.Prelude.{◌≡◌, ◌<◌, ◌≤◌, ◌^◌, All, is_some, length, map, nat_lt, true, IfOk, IfErr, OnOk};
 ghost use Rattle.cert_text.specs.Kept.{IsKeptInterval, IsKeptSegment};
+ghost use Rattle.cert_text.specs.Limits.{most_sides};
 ghost use Rattle.rq_input.specs.Rows.{HasRows};
 ghost use Rattle.rq_fit.specs.Asks.{IsFitAsk};
 ghost use Rattle.rq_engine.specs.Answers.{HasCertifyCause, IsCertified, IsCertifiedOfBytes};
-ghost use Rattle.rq_engine.specs.Certificates.{IsCertificateOf, IsWritten};
+ghost use Rattle.rq_engine.specs.Certificates.{IsCertificateOf, IsWritten, sides_of};
 ghost use Rattle.rq_engine.specs.Certifying.{HasCertifiedCause, IsLengthHalt};
 
 use cert_text::{Cert, write_cert};
@@ -20,6 +21,9 @@ use std::thread::Threads;
 
 /// The most bytes of a certificate's text.
 const MOST_BYTES: u64 = 1 << 26;
+
+/// The most sides of a certificate: rows times segments.
+const MOST_SIDES: usize = 1 << 30;
 
 // What shows the intervals, without their trails.
 fn proofs<F: Exact>(
@@ -57,7 +61,16 @@ fn cert_of_fit(alloc: Global, job: &FitJob, fit: Fit) -> Result<Cert, OutOfMemor
     })
 }
 
-// Whether the text of a certificate is short enough.
+// Whether a certificate has more sides than are read back.
+fn has_many_sides(cert: &Cert) -> bool
+    ensures { result ≡ nat_lt most_sides (sides_of cert.now) }
+{
+    let rows = cert.problem.rows.as_slice().len();
+    let segments = cert.segments.as_slice().len();
+    rows.saturating_mul(segments) > MOST_SIDES
+}
+
+// Whether the text of a certificate is short enough, and its sides few enough.
 fn test_length(alloc: Global, cert: &Cert) -> Result<(), Halt>
     ensures written { OnOk result (IsWritten cert.now) }
     ensures long { IfErr result (IsLengthHalt cert.now) }
@@ -67,6 +80,9 @@ fn test_length(alloc: Global, cert: &Cert) -> Result<(), Halt>
         Err(_) => return Err(Halt::OutOfMemory),
     };
     if length > MOST_BYTES {
+        return Err(Halt::Refused(Refusal::CertTooLong { length }));
+    }
+    if has_many_sides(cert) {
         return Err(Halt::Refused(Refusal::CertTooLong { length }));
     }
     Ok(())
@@ -104,7 +120,7 @@ fn certify_input<R: Threads + Sync, G: Gate>(
 }
 
 /// The certificate of the fit over the range of a job, from the bytes of its input, if its text isn't
-/// longer than 2^26 bytes.
+/// longer than 2^26 bytes and its rows times its segments don't exceed 2^30.
 pub(crate) fn certify_bytes<R: Threads + Sync, G: Gate>(
     rt: &R,
     alloc: Global,

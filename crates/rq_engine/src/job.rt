@@ -23,9 +23,9 @@ use std::thread::Threads;
 /// `Refused` is the first fault: of the bytes as a table, of the formula over the table's names, of
 /// the design, of what its smooths add, or of the problem; or `Dependent`, only where the columns of
 /// the problem are dependent; or `CertTooLong`, exactly where the text of the certificate is longer than
-/// 2^26 bytes; or, for `check`, the first fault of the bytes as a certificate, after which `Rejected` and
-/// an `Overflow` of the checker are those of `check`; or, for `test`, the first tested column
-/// that is missing, or that all are tested; or, for `predict`, that there is nothing or too much to predict, or the first
+/// 2^26 bytes or its rows times its segments exceed 2^30; or, for `check`, the first fault of the bytes as a
+/// certificate, after which `Rejected` and an `Overflow` of the checker are those of `check`; or, for `test`, the
+/// first tested column that is missing, or that all are tested; or, for `predict`, that there is nothing or too much to predict, or the first
 /// fault of a predicted record's row. `PivotLimit` comes only where the lawful trail of the problem, or of a
 /// rank interval that its place names, has as many pivots as the job's limit says and one more is left,
 /// and `Overflow` only where an operation of the solve at the low end, of the walk, of a rankscore, of

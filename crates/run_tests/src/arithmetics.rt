@@ -228,7 +228,7 @@ fn other_jobs_of_arithmetics_and_offsets(rt: HostRuntime) {
 static CERTIFICATE: &str = r#"
 > certify|--formula|y ~ I(x^2) + offset(2*z)|--lo|0|--hi|1
 y,x,z;0,0,1;3,1,1;3,2,-2
-{"columns":2,"hi":"1","intervals":[],"kind":"quantreg-certificate","lo":"0","rows":[{"down0":"1","down1":"-1","up0":"0","up1":"1","x":["1","0"],"y":"-2"},{"down0":"1","down1":"-1","up0":"0","up1":"1","x":["1","1"],"y":"1"},{"down0":"1","down1":"-1","up0":"0","up1":"1","x":["1","4"],"y":"7"}],"segments":[{"basic_hi":["-3/7","-1/7"],"basic_lo":["0","0"],"coef":["-2","9/4"],"hi":"4/7","lo":"0","loss_hi":"3/7","loss_lo":"0","sides":"*+*"},{"basic_hi":["0","0"],"basic_lo":["4/7","-1/7"],"coef":["-1","2"],"hi":"1","lo":"4/7","loss_hi":"0","loss_lo":"3/7","sides":"-**"}],"version":1}
+{"columns":2,"hi":"1","intervals":[],"kind":"quantreg-certificate","lo":"0","rows":[{"down0":"1","down1":"-1","up0":"0","up1":"1","x":["1","0"],"y":"-2"},{"down0":"1","down1":"-1","up0":"0","up1":"1","x":["1","1"],"y":"1"},{"down0":"1","down1":"-1","up0":"0","up1":"1","x":["1","4"],"y":"7"}],"segments":[{"basic_hi":["-3/7","-1/7"],"basic_lo":["0","0"],"coef":["-2","9/4"],"hi":"4/7","lo":"0","loss_hi":"3/7","loss_lo":"0","sides":"*+*"},{"basic_hi":["0","0"],"coef":["-1","2"],"hi":"1","loss_hi":"0","moves":[{"row":0,"side":"-"},{"row":1,"side":"*","value":"4/7"}]}],"version":2}
 "#;
 
 #[test]

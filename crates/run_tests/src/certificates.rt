@@ -1,32 +1,75 @@
 //! Certificates: what `certify` writes, and what `check` finds in it where it is whole and where it is spoilt.
 
-use crate::helpers::{assert_left, assert_printed, assert_refused, parts, ran_on, table_of};
+use crate::helpers::{
+    assert_left, assert_printed, assert_refused, counted, parts, ran_at, ran_on, table_of,
+};
+use rq_fan::Open;
 use std::alloc::Global;
 use std::process::Abort;
 use std::thread::Threads;
 
-// The certificate of a line through three points.
-static LINE: &str =
-    r#"{"columns":2,"hi":"1","intervals":[],"kind":"quantreg-certificate","lo":"0","rows":[{"down0":"1","down1":"-1","up0":"0","up1":"1","x":["1","0"],"y":"0"},{"down0":"1","down1":"-1","up0":"0","up1":"1","x":["1","1"],"y":"2"},{"down0":"1","down1":"-1","up0":"0","up1":"1","x":["1","3"],"y":"3"}],"segments":[{"basic_hi":["-2/5","-1/5"],"basic_lo":["0","0"],"coef":["0","1"],"hi":"3/5","lo":"0","loss_hi":"3/5","loss_lo":"0","sides":"*+*"},{"basic_hi":["0","0"],"basic_lo":["3/5","-1/5"],"coef":["3/2","1/2"],"hi":"1","lo":"3/5","loss_hi":"0","loss_lo":"3/5","sides":"-**"}],"version":1}"#;
+// The certificate of a line through three points, up to the end of its first segment.
+static HEAD: &str =
+    r#"{"columns":2,"hi":"1","intervals":[],"kind":"quantreg-certificate","lo":"0","rows":[{"down0":"1","down1":"-1","up0":"0","up1":"1","x":["1","0"],"y":"0"},{"down0":"1","down1":"-1","up0":"0","up1":"1","x":["1","1"],"y":"2"},{"down0":"1","down1":"-1","up0":"0","up1":"1","x":["1","3"],"y":"3"}],"segments":[{"basic_hi":["-2/5","-1/5"],"basic_lo":["0","0"],"coef":["0","1"],"hi":"3/5","lo":"0","loss_hi":"3/5","loss_lo":"0","sides":"*+*"}"#;
+
+// The rest of it as it is written, in version 2.
+static CHAINED: &str =
+    r#",{"basic_hi":["0","0"],"coef":["3/2","1/2"],"hi":"1","loss_hi":"0","moves":[{"row":0,"side":"-"},{"row":1,"side":"*","value":"3/5"}]}],"version":2}"#;
+
+// The rest of it in version 1, which is read too.
+static FULL: &str =
+    r#",{"basic_hi":["0","0"],"basic_lo":["3/5","-1/5"],"coef":["3/2","1/2"],"hi":"1","lo":"3/5","loss_hi":"0","loss_lo":"3/5","sides":"-**"}],"version":1}"#;
 
 // The words that make it, and its table.
 const CERTIFY: &str = "certify|--formula|y ~ x|--lo|0|--hi|1";
 
 static POINTS: &str = "y,x\n0,0\n2,1\n3,3\n";
 
+// The certificate with such a rest.
+fn certificate(alloc: Global, rest: &str) -> Option<String> {
+    format!(in alloc; "{HEAD}{rest}\n").ok()
+}
+
 #[test]
 fn the_certificate_of_a_line_is_this_text(rt: HostRuntime) {
     let left = ran_on(&rt, rt.alloc(), CERTIFY, POINTS.as_bytes());
-    let text = left.printed.as_slice().strip_suffix(b"\n");
-    assert!(rt; text == Some(LINE.as_bytes()), "{text:?}");
+    let text = certificate(rt.alloc(), CHAINED).expect(&rt, "memory");
+    assert_printed(&rt, &left, &text, CERTIFY);
+}
+
+static CHECKED: &str =
+    "quantreg check 1\ncolumns 2\nrows 3\nsegments 2\nintervals 0\naccepted\nend\n";
+
+fn expect_checked<R: Abort + Threads + Sync>(rt: &R, alloc: Global, rest: &str) {
+    let text = certificate(alloc, rest).expect(rt, "memory");
+    let left = ran_on(rt, alloc, "check", text.as_bytes());
+    assert_printed(rt, &left, CHECKED, rest);
+}
+
+#[test]
+fn either_version_is_accepted(rt: HostRuntime) {
+    expect_checked(&rt, rt.alloc(), CHAINED);
+    expect_checked(&rt, rt.alloc(), FULL);
 }
 
 #[test]
 fn half_a_certificate_is_none(rt: HostRuntime) {
-    let (half, _) = LINE.as_bytes().split_at(LINE.len() / 2);
-    let left = ran_on(&rt, rt.alloc(), "check", half);
+    let left = ran_on(&rt, rt.alloc(), "check", HEAD.as_bytes());
     let told = "quantreg: certificate: NotJson\n";
     assert_refused(&rt, &left, 1, told, "half a certificate");
+}
+
+// A chain of many segments.
+#[test]
+fn the_certificate_of_500_records_is_accepted(rt: HostRuntime) {
+    let table = counted(&rt, rt.alloc(), 500);
+    let words = "certify|--formula|y ~ 1|--lo|0|--hi|1";
+    let written = ran_at(&rt, rt.alloc(), words, table.as_bytes(), &Open);
+    assert!(rt; written.printed.as_slice().ends_with(b"],\"version\":2}\n"));
+    let left = ran_at(&rt, rt.alloc(), "check", &written.printed, &Open);
+    let report =
+        "quantreg check 1\ncolumns 1\nrows 500\nsegments 500\nintervals 0\naccepted\nend\n";
+    assert_printed(&rt, &left, report, words);
 }
 
 // Words that make a certificate, the table, and how much it holds.
@@ -90,7 +133,7 @@ fn written_certificates_are_accepted(rt: HostRuntime) {
     assert!(rt; tried == 5);
 }
 
-// What stands in the certificate of the line, or nothing for all of it, what stands there instead, and the exit status
+// What stands in the certificate of version 1, or nothing for all of it, what stands there instead, and the exit status
 // with the line that is told.
 static SPOILT: &str = r#"
 >
@@ -119,8 +162,12 @@ static SPOILT: &str = r#"
 "sides":"*+"
 8 quantreg: check: Rejected condition=1 index=1 inner=2 left=2 right=3
 > "version":1
-"version":2
+"version":3
 1 quantreg: certificate: Version
+# A later segment of version 2 has no such key.
+> "version":1
+"version":2
+1 quantreg: certificate: Shape path=/segments/1/basic_lo
 > quantreg-certificate
 quantreg
 1 quantreg: certificate: Shape path=/kind
@@ -151,29 +198,90 @@ quantreg
 7 quantreg: solver: Overflow place=check quantity=check-sum at=7,1,3 term=14 op=mul left=3/5 right=170141183460469231731687303715884105726
 "#;
 
+// The same for the certificate as it is written.
+static SPOILT_CHAIN: &str = r#"
+> "value":"3/5"
+"value":"4/5"
+8 quantreg: check: Rejected condition=4 index=2 inner=2 left=4/5 right=3/5
+# What a later segment doesn't tell is what the one before it ends with: a dual value, and its low end.
+> "basic_hi":["-2/5","-1/5"]
+"basic_hi":["-2/5","-4/5"]
+8 quantreg: check: Rejected condition=4 index=2 inner=3 left=-4/5 right=-2/5
+> "hi":"3/5"
+"hi":"4/5"
+8 quantreg: check: Rejected condition=5 index=1 inner=1 left=-2/5 right=-1/5
+> "sides":"*+*"
+"sides":"*+"
+1 quantreg: certificate: Shape path=/segments/0/sides
+> "sides":"*+*"
+"sides":"*++"
+1 quantreg: certificate: Shape path=/segments/0/sides
+# A row that isn't there, one that isn't above the one before it, a side that a row has already, and a star too many.
+> "row":1
+"row":5
+1 quantreg: certificate: Shape path=/segments/1/moves
+> "row":0
+"row":1
+1 quantreg: certificate: Shape path=/segments/1/moves
+> "side":"-"
+"side":"*","value":"0"
+1 quantreg: certificate: Shape path=/segments/1/moves
+> {"row":0,"side":"-"},
+
+1 quantreg: certificate: Shape path=/segments/1/moves
+# A value stands exactly behind a star.
+> "side":"-"
+"side":"-","value":"0"
+1 quantreg: certificate: Shape path=/segments/1/moves/0/value
+> "side":"-"
+"side":"*"
+1 quantreg: certificate: Shape path=/segments/1/moves/0/value
+> "value":"3/5"
+"value":"three"
+1 quantreg: certificate: Number path=/segments/1/moves/1/value
+> "version":2
+"version":1
+1 quantreg: certificate: Shape path=/segments/1/basic_lo
+"#;
+
 // The certificate of the line, in which the first such text, or all of it, is another.
-fn spoilt(alloc: Global, from: &str, to: &str) -> Option<String> {
-    let (before, after) = LINE.split_once(from)?;
+fn spoilt(alloc: Global, rest: &str, from: &str, to: &str) -> Option<String> {
+    let whole = certificate(alloc, rest)?;
+    let (before, after) = whole.split_once(from)?;
     if from.is_empty() {
         String::from_str(alloc, to).ok()
     } else {
-        format!(in alloc; "{before}{to}{after}\n").ok()
+        format!(in alloc; "{before}{to}{after}").ok()
     }
 }
 
-fn expect_told<R: Abort + Threads + Sync>(rt: &R, alloc: Global, case: &str) {
+fn expect_told<R: Abort + Threads + Sync>(rt: &R, alloc: Global, rest: &str, case: &str) {
     let (from, to, wanted) = parts(case).expect(rt, "three lines");
-    let text = spoilt(alloc, from, to).expect(rt, "memory");
+    let text = spoilt(alloc, rest, from, to).expect(rt, "memory");
     let left = ran_on(rt, alloc, "check", text.as_bytes());
     assert_left(rt, alloc, &left, wanted, to);
 }
 
-#[test]
-fn spoilt_certificates_are_told(rt: HostRuntime) {
+fn expect_each<R: Abort + Threads + Sync>(
+    rt: &R,
+    alloc: Global,
+    rest: &str,
+    (cases, count): (&str, u32),
+) {
     let mut tried = 0u32;
-    for case in SPOILT.trim_end().split("\n>").skip(1) {
-        expect_told(&rt, rt.alloc(), case);
+    for case in cases.trim_end().split("\n>").skip(1) {
+        expect_told(rt, alloc, rest, case);
         tried = tried.wrapping_add(1);
     }
-    assert!(rt; tried == 18);
+    assert!(rt; tried == count, "{tried} cases");
+}
+
+#[test]
+fn spoilt_certificates_are_told(rt: HostRuntime) {
+    expect_each(&rt, rt.alloc(), FULL, (SPOILT, 19));
+}
+
+#[test]
+fn spoilt_chains_are_told(rt: HostRuntime) {
+    expect_each(&rt, rt.alloc(), CHAINED, (SPOILT_CHAIN, 13));
 }

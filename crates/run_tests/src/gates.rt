@@ -1,12 +1,8 @@
 //! The rank intervals of a run are under way together, and so are the parts of a condition on a certificate.
 
-use crate::helpers::{Left, assert_printed, copied, ran_past, sink};
-use port_io::SureSource;
+use crate::helpers::{assert_printed, counted, ran_at};
 use rq_fan::{Gate, Open};
-use std::alloc::Global;
-use std::process::Abort;
 use std::sync::atomic::{AtomicBool, Ordering};
-use std::thread::Threads;
 
 /// How often a job looks for the other before it gives up.
 const MOST_LOOKS: u32 = 100_000_000;
@@ -63,20 +59,6 @@ static LINE: &str = "y,x\n0,0\n2,1\n3,3\n";
 static REPORT: &str =
     "quantreg 1\nrecords 3 dropped 0\ncolumn 1 (Intercept)\ncolumn 2 x\ndata 3 penalty 0\npivots 1\nsegment 1 1/2 1/2\ncoef 1 0\ncoef 2 1\nloss 1/2 1/2\nscores *1*\nbasic 1 1/6 1/6\nbasic 3 1/3 1/3\ninterval 1 1/2 0 3/2\ninterval 2 1/2 1/2 2\nend\n";
 
-// A run of the words on bytes, whose jobs pass this gate, with room for a certificate of 128 segments.
-fn ran_at<R: Abort + Threads + Sync, G: Gate>(
-    rt: &R,
-    alloc: Global,
-    line: &str,
-    bytes: &[u8],
-    gate: &G,
-) -> Left {
-    let mut source = SureSource::new(copied(rt, alloc, bytes));
-    let out = sink(rt, alloc, (131_072, 4096), 0);
-    let err = sink(rt, alloc, (4096, 4096), 0);
-    ran_past(rt, alloc, line, &mut source, (out, err), gate)
-}
-
 #[test]
 fn engine_gate(rt: HostRuntime) {
     let gate = Meeting::new();
@@ -86,21 +68,12 @@ fn engine_gate(rt: HostRuntime) {
     assert!(rt; gate.took_place());
 }
 
-// The table of the records 1 to 128.
-fn table(alloc: Global) -> Option<String> {
-    let mut table = String::from_str(alloc, "y\n").ok()?;
-    for record in 1..129u32 {
-        table.push_str(&format!(in alloc; "{record}\n").ok()?).ok()?;
-    }
-    Some(table)
-}
-
 static CHECKED: &str =
     "quantreg check 1\ncolumns 1\nrows 128\nsegments 128\nintervals 0\naccepted\nend\n";
 
 #[test]
 fn check_gate(rt: HostRuntime) {
-    let table = table(rt.alloc()).expect(&rt, "memory");
+    let table = counted(&rt, rt.alloc(), 128);
     let words = "certify|--formula|y ~ 1|--lo|0|--hi|1";
     let written = ran_at(&rt, rt.alloc(), words, table.as_bytes(), &Open);
     let gate = Meeting::new();

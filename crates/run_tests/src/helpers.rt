@@ -142,6 +142,34 @@ pub(crate) fn ran_on<R: Abort + Threads + Sync>(
     ran(rt, alloc, line, &mut source, &SOUND)
 }
 
+/// A run of the words on bytes, whose jobs pass this gate, with room for a certificate of 500 segments.
+pub(crate) fn ran_at<R: Abort + Threads + Sync, G: Gate>(
+    rt: &R,
+    alloc: Global,
+    line: &str,
+    bytes: &[u8],
+    gate: &G,
+) -> Left {
+    let mut source = SureSource::new(copied(rt, alloc, bytes));
+    let out = sink(rt, alloc, (262_144, 4096), 0);
+    let err = sink(rt, alloc, (4096, 4096), 0);
+    ran_past(rt, alloc, line, &mut source, (out, err), gate)
+}
+
+fn counted_records(alloc: Global, most: u32) -> Option<String> {
+    let mut table = String::from_str(alloc, "y\n").ok()?;
+    for record in 0..most {
+        let number = record + 1;
+        table.push_str(&format!(in alloc; "{number}\n").ok()?).ok()?;
+    }
+    Some(table)
+}
+
+/// The table of one column with the records 1, 2 and so on.
+pub(crate) fn counted(rt: &impl Abort, alloc: Global, most: u32) -> String {
+    counted_records(alloc, most).expect(rt, "memory")
+}
+
 /// The run printed this report and nothing else.
 pub(crate) fn assert_printed(rt: &impl Abort, left: &Left, report: &str, case: &str) {
     assert!(rt; left.status == 0, "{case}");
