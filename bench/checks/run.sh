@@ -5,14 +5,15 @@ set -eu
 here=$(cd "$(dirname "$0")" && pwd)
 work=${1:-$(mktemp -d)}
 mkdir -p "$work/crates/check_bench/src"
-for crate in exact_algebra exact_matrices frac_core loss_model rank_law cert_text cert_checker; do
+for crate in exact_algebra exact_matrices frac_core rq_fan loss_model rank_law cert_text cert_checker; do
     rm -rf "$work/crates/$crate"
     cp -r "$here/../../crates/$crate" "$work/crates/$crate"
 done
+cp "$here/../../HANDLES" "$work/HANDLES"
 cp "$here/check_bench.txt" "$work/crates/check_bench/src/main.rt"
 {
-    grep -E '^(exact_algebra|exact_matrices|frac_core|loss_model|rank_law|cert_text|cert_checker):' "$here/../../crates.txt"
-    echo 'check_bench: frac_core loss_model rank_law cert_text cert_checker anyhow'
+    grep -E '^(exact_algebra|exact_matrices|frac_core|rq_fan|loss_model|rank_law|cert_text|cert_checker):' "$here/../../crates.txt"
+    echo 'check_bench: frac_core rq_fan loss_model rank_law cert_text cert_checker anyhow'
 } >"$work/crates.txt"
 python3 "$here/make_certificate.py" 16384 10 100 >"$work/crates/check_bench/certificate.json"
 cd "$work/crates/check_bench"
