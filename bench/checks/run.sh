@@ -9,6 +9,7 @@ for crate in exact_algebra exact_matrices frac_core rq_fan loss_model rank_law c
     rm -rf "$work/crates/$crate"
     cp -r "$here/../../crates/$crate" "$work/crates/$crate"
 done
+cp "$here/../../HANDLES" "$work/HANDLES"
 cp "$here/check_bench.txt" "$work/crates/check_bench/src/main.rt"
 {
     grep -E '^(exact_algebra|exact_matrices|frac_core|rq_fan|loss_model|rank_law|cert_text|cert_checker):' "$here/../../crates.txt"

@@ -4,7 +4,7 @@ use Rattle.rq_engine.proofs.Checks.{read_within, stop_cause}
 use Rattle.rq_engine.proofs.check.check_bytes.Goals as goal
 
 pub check-requires : goal.check-requires
-check-requires g c = read_within c.args.bytes.now c.in-Ok.cert c.in-Ok.ensures.ok
+check-requires g c = (c.type_bounds.sync-R, (c.type_bounds.sync-G, read_within c.args.bytes.now c.in-Ok.cert c.in-Ok.ensures.ok))
 
 pub returns-in-Err-check-clause-cause : goal.returns-in-Err-check-clause-cause
 returns-in-Err-check-clause-cause g c =
