@@ -36,6 +36,9 @@ fn checked(cert: &Cert) -> Option<Result<Verdict, CheckStop>> {
     if cert.intervals.as_slice().len() > 8192 {
         return None;
     }
+    if cert.problem.rows.as_slice().len() * cert.segments.as_slice().len() > 1 << 30 {
+        return None;
+    }
     Some(check(cert))
 }
 

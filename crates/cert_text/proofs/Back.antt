@@ -120,7 +120,7 @@ not_too_large c within =
     let segments : nat_lt (2 ^ 20) (length (map exact_segment c.segments)) ≡ false = le-ltb (2 ^ 20) _ (omega (arith, within.segments, same_segments)) in
     let intervals : nat_lt 8192 (length (map exact_interval c.intervals)) ≡ false = le-ltb 8192 _ (omega (arith, within.intervals, length-map c.intervals exact_interval)) in
     let sides : nat_lt (2 ^ 30) (length (map exact_row c.problem.rows) * length (map exact_segment c.segments)) ≡ false =
-      le-ltb (2 ^ 30) _ (subst (λ n. n ≤ 2 ^ 30) (sym (ap₂ (λ m n. m * n) same_rows same_segments)) within.sides) in
+    le-ltb (2 ^ 30) _ (subst (λ n. n ≤ 2 ^ 30) (sym (ap₂ (λ m n. m * n) same_rows same_segments)) within.sides) in
     rw (columns, rows, segments, intervals, sides) refl
 
 joined : (m : Reading Members) (n : Reading ℕ) (t : Layout → Members → Reading Content) (l : Layout) (r : Content)

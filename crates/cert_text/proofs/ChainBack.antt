@@ -97,7 +97,7 @@ module _ (pre ps qs : List (Place ℚ)) (p q : Place ℚ) (least : ℕ)
   one_move_again false e small kept =
       let rest = moves_from (length pre + 1) ps qs in
       let may : (nat_le least (length pre) && is_elsewhere (slice_get (pre ++ p ∷ ps) (length pre)) q) ≡ true =
-        and_from _ _ (le-leb least (length pre) small) (ap (λ o. is_elsewhere o q) (place_there pre p ps) ∙ ap not e) in
+      and_from _ _ (le-leb least (length pre) small) (ap (λ o. is_elsewhere o q) (place_there pre p ps) ∙ ap not e) in
       ap (λ b. if b then moved (length pre + 1) (slice_set (pre ++ p ∷ ps) (length pre) q) rest else None) may
       ∙ ap (λ l. moved (length pre + 1) l rest) (set-append_seam pre p ps q)
       ∙ further_on (length pre + 1) (omega arith)

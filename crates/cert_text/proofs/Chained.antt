@@ -60,7 +60,7 @@ chained_content c rows ss hr hs = ap₂ (λ n l. are_chained n None (map exact_s
 
 module _ (rows : ℕ) (ss : List (Segment Frac128)) (i : ℕ) (s : Segment Frac128) (lt : i < length ss) (here : s ≡ get_or ss i s)
     (before : are_chained rows None (map exact_segment ss)
-        ≡ are_chained rows (option_map exact_segment (last_or None (take i ss))) (map exact_segment (drop i ss))) where
+    ≡ are_chained rows (option_map exact_segment (last_or None (take i ss))) (map exact_segment (drop i ss))) where
   pub chained_next : (filled joined : Bool) → is_filled rows s.vertex.sides s.basic_lo s.basic_hi ≡ filled
       → follows_any (option_map exact_segment (last_or None (take i ss))) (exact_segment s) ≡ joined
       → are_chained rows None (map exact_segment ss) ≡ (filled && (joined && are_chained rows (Some (exact_segment s)) (map exact_segment (drop (i + 1) ss))))

@@ -61,7 +61,7 @@ moved_exact i ps (m ∷ ms) =
     let may = nat_le i m.row && is_elsewhere (slice_get ps m.row) m.place in
     let after = slice_set ps m.row m.place in
     ap₂ (λ (e : Bool) (l : List _). if nat_le i m.row && e then moved (m.row + 1) l (map exact_move ms) else None)
-        (ap (λ o. is_elsewhere o (exact_place m.place)) (slice_get-map exact_place ps m.row) ∙ elsewhere_exact (slice_get ps m.row) m.place) (sym (map-set exact_place ps m.row m.place))
+    (ap (λ o. is_elsewhere o (exact_place m.place)) (slice_get-map exact_place ps m.row) ∙ elsewhere_exact (slice_get ps m.row) m.place) (sym (map-set exact_place ps m.row m.place))
     ∙ ap (λ (o : Option _). if may then o else None) (moved_exact (m.row + 1) after ms)
     ∙ when_exact (map exact_place) may (moved (m.row + 1) after ms)
 

@@ -67,7 +67,7 @@ later_numbers a b few = (
         tt,
         (
           items_numbers (λ m. m.row < 2 ^ 32) move_tree (λ m l. place_numbers m.row m.place l) (moves_between a b)
-          (moves_below (2 ^ 32) 0 (high_places a) (low_places b) (omega (arith, few, few_places a.vertex.sides a.basic_hi))),
+              (moves_below (2 ^ 32) 0 (high_places a) (low_places b) (omega (arith, few, few_places a.vertex.sides a.basic_hi))),
           tt,
         ),
       ),

@@ -69,10 +69,7 @@ pub(crate) fn places(
 }
 
 /// The sides of the rows.
-pub(crate) fn sides(
-    alloc: Global,
-    places: &List<Place<Frac128>>,
-) -> Result<List<Side>, AllocError>
+pub(crate) fn sides(alloc: Global, places: &List<Place<Frac128>>) -> Result<List<Side>, AllocError>
     ensures { IfOk result (λ sides. sides ≡ map side_at (map exact_place places.now)) }
 {
     let places = places.as_slice();
