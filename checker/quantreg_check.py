@@ -31,6 +31,8 @@ FINITE, INFINITE = {**END, "outside": ["number"], "value": "number"}, {**END, "r
 ROW = {"down0": "number", "down1": "number", "up0": "number", "up1": "number", "x": ["number"], "y": "number"}
 SEGMENT = dict.fromkeys(("basic_hi", "basic_lo", "coef"), ["number"]) | dict.fromkeys(("hi", "lo", "loss_hi", "loss_lo"), "number")
 SEGMENT |= {"sides": "signs"}
+LATER = {"basic_hi": ["number"], "coef": ["number"], "hi": "number", "loss_hi": "number", "moves": ["a move"]}
+MOVE = {"row": "count", "side": "a side"}
 INTERVAL = {"column": "count", "crit": "number", "high": "an end", "low": "an end", "projection": ["number"], "tau": "number"}
 CERTIFICATE = {"columns": "count", "hi": "number", "intervals": [INTERVAL], "kind": "certificate", "lo": "number"}
 CERTIFICATE |= {"rows": [ROW], "segments": [SEGMENT], "version": "version"}
@@ -39,7 +41,8 @@ PLAIN = {
     "signs": lambda value: isinstance(value, str) and not value.strip("+-*"),
     "end": lambda value: value in ("finite", "infinite"),
     "certificate": lambda value: value == "quantreg-certificate",
-    "version": lambda value: type(value) is int and value == 1,
+    "a side": lambda value: value in ("+", "-", "*"),
+    "version": lambda value: type(value) is int and value in (1, 2),
 }
 
 
@@ -55,8 +58,12 @@ def read(value, kind, path=""):
     """A value of JSON as a certificate has it, with its numbers as fractions."""
     if isinstance(kind, list) and isinstance(value, list):
         return [read(item, kind[0], f"{path}/{at}") for at, item in enumerate(value)]
+    if kind == "a chain" and isinstance(value, list):
+        return [read(item, LATER if at else SEGMENT, f"{path}/{at}") for at, item in enumerate(value)]
     if kind == "an end" and isinstance(value, dict):
         kind = FINITE if value.get("kind") == "finite" else INFINITE
+    if kind == "a move" and isinstance(value, dict):
+        kind = MOVE | {"value": "number"} if value.get("side") == "*" else MOVE
     if isinstance(kind, dict) and isinstance(value, dict):
         for key in sorted(kind.keys() ^ value.keys()):
             raise ValueError(f"{path}/{key} is {'missing' if key in kind else 'unknown'}")
@@ -66,6 +73,40 @@ def read(value, kind, path=""):
     if isinstance(kind, str) and kind in PLAIN and PLAIN[kind](value):
         return value
     raise ValueError(f"{path or '/'} is no {kind if isinstance(kind, str) else 'list or object as it should be'}")
+
+
+def moved(before, later):
+    """A later segment of version 2 in full: it begins as the one before it ends, but for the rows that move."""
+    values, least = iter(before["basic_hi"]), 0
+    places = [(side, next(values) if side == "*" else None) for side in before["sides"]]
+    for move in later["moves"]:
+        row, side = move["row"], move["side"]
+        if not least <= row < len(places) or side == places[row][0]:
+            return None
+        places[row], least = (side, move.get("value")), row + 1
+    low = {"lo": before["hi"], "loss_lo": before["loss_hi"], "basic_lo": [value for side, value in places if side == "*"]}
+    found = {**later, **low, "sides": "".join(side for side, _ in places)}
+    return {key: found[key] for key in SEGMENT}
+
+
+def in_full(chain, rows):
+    """The segments of version 2, each in full."""
+    full = []
+    for at, it in enumerate(chain):
+        it = moved(full[-1], it) if at else it
+        if not it or len(it["sides"]) != rows or not it["sides"].count("*") == len(it["basic_lo"]) == len(it["basic_hi"]):
+            raise ValueError(f"/segments/{at}/{'moves' if at else 'sides'} is not what goes with the rest")
+        full.append(it)
+    return full
+
+
+def certificate(value):
+    """The certificate of a value of JSON, of version 1 or 2, with each segment in full."""
+    version = value.get("version") if isinstance(value, dict) else None
+    if type(version) is int and version == 2:
+        cert = read(value, CERTIFICATE | {"segments": "a chain"})
+        return cert | {"segments": in_full(cert["segments"], len(cert["rows"]))}
+    return read(value, CERTIFICATE)
 
 
 def costs(row, theta):
@@ -229,7 +270,7 @@ def first_false(cert):
 def main(words):
     try:
         with open(words[0] if words else 0, "rb") as file:
-            cert = read(json.loads(file.read().decode("utf-8"), parse_constant=fraction), CERTIFICATE)
+            cert = certificate(json.loads(file.read().decode("utf-8"), parse_constant=fraction))
     except (OSError, ValueError, RecursionError) as error:
         print(f"no certificate: {error}")
         return 1

@@ -17,8 +17,11 @@ static TEXTS: &str = r#"
 {"version":1e0} => Shape /version
 {"version":-1} => Shape /version
 {"version":18446744073709551616} => Shape /version
-{"version":1,"version":2} => Version
-{"version":2,"version":1} => Shape /columns
+{"version":3} => Version
+{"version":1,"version":3} => Version
+{"version":3,"version":1} => Shape /columns
+{"version":2} => Shape /columns
+{"version":2.0} => Shape /version
 {"version":1} => Shape /columns
 {"version":1,} => NotJson
 {"":0,"version":1} => Shape /
@@ -95,7 +98,7 @@ fn short_texts_have_their_first_fault(rt: HostRuntime) -> Result<(), Fail> {
             count = count.wrapping_add(1);
         }
     }
-    assert!(&rt; count == 53);
+    assert!(&rt; count == 56);
     for (text, wanted) in &ODD {
         expect(&rt, text, wanted)?;
     }

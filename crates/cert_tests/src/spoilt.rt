@@ -1,7 +1,7 @@
 //! Every fault of a certificate in which one place is written anew, key by key, and which comes first. Each answer
 //! was worked from the rules.
 
-use crate::helpers::{INTERVAL, LINE, changed, outcome};
+use crate::helpers::{CHAIN, INTERVAL, LINE, changed, outcome};
 use std::process::Abort;
 use std::test::Fail;
 
@@ -62,7 +62,9 @@ static LINE_CASES: &str = r#"
 "intervals":[] => "intervals":{} => Shape /intervals
 "intervals":[] => "intervals":[{}] => Shape /intervals/0/column
 "version":1 => "version":1,"w":0 => Shape /w
-"version":1 => "version":2 => Version
+"version":1 => "version":3 => Version
+"version":1 => "version":2 => Shape /segments/1/basic_lo
+"segments":[{ => "segments":[],"segments_of":[{ => Shape /segments_of
 "columns":2 => "columns":129 => TooLarge
 "columns":2 => "columns":128 => read
 "columns":2 => "columns":0 => read
@@ -105,6 +107,68 @@ static LINE_CASES: &str = r#"
 "sides":"*+*" => "sides":"*\u002b*" => read
 "sides":"*+*" => "sides":"*+*","sides":null => Shape /segments/0/sides
 "sides":"*+*" => "sides":"*+*","t":0 => Shape /segments/0/t
+"#;
+
+// The same of the certificate of version 2.
+static CHAIN_CASES: &str = r#"
+"version":2 => "version":1 => Shape /segments/1/basic_lo
+"version":2 => "version":2,"w":0 => Shape /w
+"sides":"*+*" => "sides":"*+" => Shape /segments/0/sides
+"sides":"*+*" => "sides":"*+*+" => Shape /segments/0/sides
+"sides":"*+*" => "sides":"" => Shape /segments/0/sides
+"sides":"*+*" => "sides":"*++" => Shape /segments/0/sides
+"sides":"*+*" => "sides":"***" => Shape /segments/0/sides
+"sides":"*+*" => "sides":"*x*" => Shape /segments/0/sides
+"sides":"*+*" => "sides":"*+","t":0 => Shape /segments/0/sides
+"sides":"*+*" => "sides":"*+*","t":0 => Shape /segments/0/t
+"basic_lo":["0","0"] => "basic_lo":["0"] => Shape /segments/0/sides
+"basic_hi":["-2/5","-1/5"] => "basic_hi":["-2/5","-1/5","0"] => Shape /segments/0/sides
+"basic_hi":["-2/5","-1/5"] => "basic_hi":[] => Shape /segments/0/sides
+"row":1 => "row":5 => Shape /segments/1/moves
+"row":1 => "row":3 => Shape /segments/1/moves
+"row":1 => "row":4294967295 => Shape /segments/1/moves
+"row":1 => "row":4294967296 => Shape /segments/1/moves/1/row
+"row":1 => "row":-1 => Shape /segments/1/moves/1/row
+"row":1 => "row":"1" => Shape /segments/1/moves/1/row
+"row":1 => "row":0 => Shape /segments/1/moves
+"row":0 => "row":1 => Shape /segments/1/moves
+"row":0 => "row":2 => Shape /segments/1/moves
+"row":1 => "row":2 => Shape /segments/1/moves
+{"row":0,"side":"-"} => {"row":0,"side":"+"} => read
+{"row":0,"side":"-"} => {"row":0,"side":"*","value":"0"} => Shape /segments/1/moves
+{"row":0,"side":"-"} => {"row":0,"side":"*"} => Shape /segments/1/moves/0/value
+{"row":0,"side":"-"} => {"row":0,"side":"-","value":"0"} => Shape /segments/1/moves/0/value
+{"row":0,"side":"-"} => {"row":0,"side":"-","v":"0"} => Shape /segments/1/moves/0/v
+{"row":0,"side":"-"} => {"row":0,"side":""} => Shape /segments/1/moves/0/side
+{"row":0,"side":"-"} => {"row":0,"side":"--"} => Shape /segments/1/moves/0/side
+{"row":0,"side":"-"} => {"row":0,"side":"Down"} => Shape /segments/1/moves/0/side
+{"row":0,"side":"-"} => {"row":0,"side":45} => Shape /segments/1/moves/0/side
+{"row":0,"side":"-"} => {"row":0} => Shape /segments/1/moves/0/side
+{"row":0,"side":"-"} => {"side":"-"} => Shape /segments/1/moves/0/row
+{"row":0,"side":"-"} => [] => Shape /segments/1/moves/0
+{"row":0,"side":"-"}, =>  => Shape /segments/1/moves
+{"row":1,"side":"*","value":"3/5"} => {"row":1,"side":"-"} => Shape /segments/1/moves
+{"row":1,"side":"*","value":"3/5"} => {"row":1,"side":"+"} => Shape /segments/1/moves
+"value":"3/5" => "value":"4/5" => read
+"value":"3/5" => "value":"4/0" => Number /segments/1/moves/1/value
+"value":"3/5" => "value":null => Shape /segments/1/moves/1/value
+"value":"3/5" => "value":"3/5","w":0 => Shape /segments/1/moves/1/w
+"moves":[ => "moves":[],"n":[ => Shape /segments/1/n
+"moves":[ => "moves":{},"n":[ => Shape /segments/1/moves
+"moves":[{"row":0,"side":"-"},{"row":1,"side":"*","value":"3/5"}] => "moves":[] => read
+"moves":[{"row":0,"side":"-"},{"row":1,"side":"*","value":"3/5"}] => "n":[] => Shape /segments/1/moves
+"moves":[{"row":0,"side":"-"},{"row":1,"side":"*","value":"3/5"}] => "moves":[],"sides":"-**" => Shape /segments/1/sides
+"moves":[{"row":0,"side":"-"},{"row":1,"side":"*","value":"3/5"}] => "moves":[{"row":0,"side":"-"}],"n":0 => Shape /segments/1/moves
+"basic_hi":["0","0"] => "basic_hi":["0"] => Shape /segments/1/moves
+"basic_hi":["0","0"] => "basic_hi":["0","0","0"] => Shape /segments/1/moves
+"basic_hi":["0","0"] => "basic_hi":"0" => Shape /segments/1/basic_hi
+"basic_hi":["0","0"] => "basic_hi":["0","0"],"basic_lo":["3/5","-1/5"] => Shape /segments/1/basic_lo
+"hi":"1","loss_hi" => "hi":"1","lo":"3/5","loss_hi" => Shape /segments/1/lo
+"hi":"1","loss_hi":"0" => "hi":"1","loss_hi":"0","loss_lo":"3/5" => Shape /segments/1/loss_lo
+"coef":["3/2","1/2"], =>  => Shape /segments/1/coef
+"segments":[{ => "segments":[{}],"segments_of":[{ => Shape /segments/0/basic_hi
+"segments":[{ => "segments":[],"segments_of":[{ => Shape /segments_of
+"columns":2 => "columns":129 => TooLarge
 "#;
 
 // The same with letters beyond ASCII.
@@ -167,7 +231,8 @@ static INTERVAL_CASES: &str = r#"
 
 #[test]
 fn a_changed_certificate_has_its_first_fault(rt: HostRuntime) -> Result<(), Fail> {
-    assert!(&rt; run(&rt, LINE, LINE_CASES)? == 72);
+    assert!(&rt; run(&rt, LINE, LINE_CASES)? == 74);
+    assert!(&rt; run(&rt, CHAIN, CHAIN_CASES)? == 58);
     assert!(&rt; run(&rt, INTERVAL, INTERVAL_CASES)? == 37);
     for (old, new, wanted) in &ODD {
         expect(&rt, LINE, (old, new), wanted)?;

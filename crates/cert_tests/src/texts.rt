@@ -1,6 +1,6 @@
 //! What is written of what was read.
 
-use crate::helpers::{INTERVAL, LINE, changed};
+use crate::helpers::{CHAIN, INTERVAL, LINE, changed};
 use cert_text::{Cert, CertFault, read_cert, write_cert};
 use frac_core::{Exact, Frac128};
 use loss_model::Side;
@@ -23,11 +23,65 @@ fn written(alloc: Global, text: &str) -> Vec<u8> {
 }
 
 #[test]
-fn a_text_is_written_as_it_was_read(rt: HostRuntime) -> Result<(), Fail> {
-    for text in [LINE, INTERVAL] {
+fn a_chain_is_written_as_it_was_read(rt: HostRuntime) -> Result<(), Fail> {
+    for text in [LINE, CHAIN] {
         let bytes = written(rt.alloc(), text);
-        assert!(rt; bytes.as_slice() == text.as_bytes(), "{text}");
+        assert!(rt; bytes.as_slice() == CHAIN.as_bytes(), "{text}");
     }
+    Ok(())
+}
+
+// No segments are a chain.
+#[test]
+fn an_interval_is_written_as_it_was_read(rt: HostRuntime) -> Result<(), Fail> {
+    let text = changed(rt.alloc(), INTERVAL, r#""version":1"#, r#""version":2"#)?;
+    for read in [INTERVAL, text.as_str()] {
+        let bytes = written(rt.alloc(), read);
+        assert!(rt; bytes.as_slice() == text.as_str().as_bytes(), "{read}");
+    }
+    Ok(())
+}
+
+// Each case: what stands in the certificate of the line, and what stands there instead, so that it is no chain.
+static BROKEN: &str = r#"
+"lo":"3/5" => "lo":"2/5"
+"loss_lo":"3/5" => "loss_lo":"2/5"
+"basic_lo":["3/5","-1/5"] => "basic_lo":["3/5","1/5"]
+"basic_lo":["3/5","-1/5"] => "basic_lo":["3/5"]
+"basic_hi":["0","0"] => "basic_hi":["0","0","0"]
+"basic_hi":["-2/5","-1/5"] => "basic_hi":[]
+"sides":"-**" => "sides":"-*-"
+"sides":"-**" => "sides":"-**+"
+"sides":"*+*" => "sides":"*+"
+"#;
+
+#[test]
+fn what_is_no_chain_is_written_in_full(rt: HostRuntime) -> Result<(), Fail> {
+    let mut count = 0u32;
+    for line in BROKEN.lines() {
+        if let Some((old, new)) = line.split_once(" => ") {
+            let text = changed(rt.alloc(), LINE, old, new)?;
+            let bytes = written(rt.alloc(), text.as_str());
+            assert!(&rt; bytes.as_slice() == text.as_str().as_bytes(), "{new}");
+            count = count.wrapping_add(1);
+        }
+    }
+    assert!(rt; count == 9);
+    Ok(())
+}
+
+// The value of a row that wasn't basic before is any.
+#[test]
+fn a_row_may_move_to_any_value(rt: HostRuntime) -> Result<(), Fail> {
+    let full = changed(
+        rt.alloc(),
+        LINE,
+        r#""basic_lo":["3/5","#,
+        r#""basic_lo":["7/5","#,
+    )?;
+    let chain = changed(rt.alloc(), CHAIN, r#""value":"3/5""#, r#""value":"7/5""#)?;
+    let bytes = written(rt.alloc(), full.as_str());
+    assert!(rt; bytes.as_slice() == chain.as_str().as_bytes());
     Ok(())
 }
 
@@ -35,7 +89,7 @@ fn a_text_is_written_as_it_was_read(rt: HostRuntime) -> Result<(), Fail> {
 fn fractions_are_written_in_canonical_form(rt: HostRuntime) -> Result<(), Fail> {
     let text = changed(rt.alloc(), LINE, r#""hi":"3/5""#, r#""hi" : "+6.0e-1""#)?;
     let bytes = written(rt.alloc(), text.as_str());
-    assert!(rt; bytes.as_slice() == LINE.as_bytes());
+    assert!(rt; bytes.as_slice() == CHAIN.as_bytes());
     Ok(())
 }
 

@@ -65,12 +65,14 @@ abbrev pub is_elsewhere : {F : Type 0} → Option (Place F) → Place F → Bool
 is_elsewhere None q = false
 is_elsewhere (Some p) q = not (is_same_side p q)
 
--- the places after the moves, each of which must name a row that is there, from row i on, and give it another side; the
--- next one must name a row above it
+-- a move may come next if it names a row that is there, from row i on, and gives it another side
+abbrev pub may_move : {F : Type 0} → ℕ → List (Place F) → Move F → Bool
+may_move i ps m = nat_le i m.row && is_elsewhere (slice_get ps m.row) m.place
+
+-- the places after the moves, each of which must name a row above the one before it
 abbrev pub moved : {F : Type 0} → ℕ → List (Place F) → List (Move F) → Option (List (Place F))
 moved i ps [] = Some ps
-moved i ps (m ∷ ms) =
-    if nat_le i m.row && is_elsewhere (slice_get ps m.row) m.place then moved (m.row + 1) (slice_set ps m.row m.place) ms else None
+moved i ps (m ∷ ms) = if may_move i ps m then moved (m.row + 1) (slice_set ps m.row m.place) ms else None
 
 -- ---- chained certificates
 

@@ -150,6 +150,10 @@ fn linked_items(
     Ok(found)
 }
 
+// Past this many sides, twice as many as a certificate may have, no memory is looked for: a short text can
+// ask for many.
+const MOST_SIDES_MADE: usize = 1 << 31;
+
 #[tactic(auto, unfolding(crate::specs::Reading::linked_list))]
 fn linked_list(
     alloc: Global,
@@ -163,6 +167,9 @@ fn linked_list(
     let Some(values) = value.as_array() else {
         return Err(wrong_kind(alloc));
     };
+    if rows.saturating_mul(values.len()) > MOST_SIDES_MADE {
+        return Err(CertFault::OutOfMemory);
+    }
     match linked_items(alloc, rows, values.as_slice()) {
         Ok(found) => Ok(List::from(found)),
         Err(fault) => Err(fault),

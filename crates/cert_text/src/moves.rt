@@ -5,7 +5,7 @@ ghost use Rattle.exact_algebra.specs.Rational.{ℚ};
 ghost use Rattle.loss_model.specs.declared.vertex.Side.{Side as side_type};
 ghost use Rattle.serde_json.specs.Data.{string, no_members, member};
 ghost use Rattle.serde_json.specs.View.{view, members_view};
-ghost use Rattle.cert_text.specs.Chains.{moves_from, moved};
+ghost use Rattle.cert_text.specs.Chains.{moves_from, may_move, moved};
 ghost use Rattle.cert_text.specs.Contents.{exact_place, exact_move};
 ghost use Rattle.cert_text.specs.Certificates.{side_by_name, side, place_members as read_place, move_members, one_move};
 ghost use Rattle.cert_text.specs.Trees.{place_members, move_tree};
@@ -170,23 +170,32 @@ pub(crate) fn moves_between(
     Ok(found)
 }
 
+// Whether a move may come next: it names a row that is there, from the least one on, and gives it another
+// side.
+fn may_move(places: &[Place<Frac128>], least: usize, step: Move<Frac128>) -> bool
+    ensures { result ≡ may_move least places.now step }
+{
+    let row = step.row as usize;
+    if row < least {
+        return false;
+    }
+    match places.get(row) {
+        Some(place) => !place.has_side_of(step.place),
+        None => false,
+    }
+}
+
 /// Makes the moves one by one. It is false where a move names a row that isn't above the row of the move
 /// before it, a row that isn't there, or the side that the row has already.
 pub(crate) fn make_moves(places: &mut Vec<Place<Frac128>>, moves: &[Move<Frac128>]) -> bool
-    ensures { moved 0 places.old.items (moves.now) ≡ (if result then Some places.new.items else None) }
+    ensures { moved 0 places.old.items moves.now ≡ (if result then Some places.new.items else None) }
 {
     let mut least = 0;
     for step in moves {
+        if !may_move(places.as_slice(), least, *step) {
+            return false;
+        }
         let row = step.row as usize;
-        if row < least {
-            return false;
-        }
-        if row >= places.len() {
-            return false;
-        }
-        if places[row].has_side_of(step.place) {
-            return false;
-        }
         places[row] = step.place;
         least = row + 1;
     }
