@@ -41,6 +41,9 @@ fn checked<R: AllocGlobal + Threads + Sync>(
     if cert.intervals.as_slice().len() > 8192 {
         return None;
     }
+    if cert.problem.rows.as_slice().len() * cert.segments.as_slice().len() > 1 << 30 {
+        return None;
+    }
     Some(check(rt, rt.alloc(), cert, &Open))
 }
 
