@@ -1,12 +1,12 @@
 -- A certificate that was read is within the limits; why it has no verdict.
-use Rattle.std.proofs.Common.{◌≡◌, ◌==◌, ◌||◌, ℕ, Bool, true, false, List, Ok, Err, length, nat_lt, if◌then◌else◌, arith, refl, subst}
+use Rattle.std.proofs.Common.{◌≡◌, ◌≤◌, ◌*◌, ◌||◌, ℕ, Bool, true, false, List, Ok, Err, length, nat_lt, if◌then◌else◌, arith, refl, ap₂, subst}
 use Rattle.std.proofs.lemmas.Bool.{ltb-false}
 use Rattle.std.proofs.lemmas.List.{length-map}
 use Rattle.serde_json.specs.Find.{as_object}
 use Rattle.frac_core.specs.Limits.{most_columns, most_rows}
-use Rattle.cert_text.specs.Certificates.{cert_of, cert_of_data, is_too_large, json_of, or_not_json, top_members, version_of, within_limits}
+use Rattle.cert_text.specs.Certificates.{cert_of, cert_of_data, is_too_large, json_of, layout_of, or_not_json, or_version, top_members, version_of, within_limits}
 use Rattle.cert_text.specs.Contents.{Content, content, exact_interval, exact_row, exact_segment}
-use Rattle.cert_text.specs.Limits.{IsWithinLimits, most_intervals, most_segments}
+use Rattle.cert_text.specs.Limits.{IsWithinLimits, most_intervals, most_segments, most_sides}
 use Rattle.cert_text.specs.Reading.{Reading, on_read, or_shape}
 use Rattle.cert_text.specs.declared.cert.Cert.{Cert}
 use Rattle.cert_text.specs.declared.fault.CertFault.{CertFault}
@@ -14,17 +14,12 @@ use Rattle.cert_checker.specs.Certificates.{IsStop}
 use Rattle.cert_checker.specs.declared.verdict.CheckStop.{CheckStop}
 use Rattle.cert_checker.specs.declared.verdict.CheckStop.TheVariants as stops
 use Rattle.rq_engine.specs.Checks.{HasCheckCause, IsCertOf, check_halt}
-use Rattle.cert_text.specs.declared.fault.CertFault.TheVariants.{Version, TooLarge}
+use Rattle.cert_text.specs.declared.fault.CertFault.TheVariants.{TooLarge}
 
 -- what was read was read step by step
 read_ok : {A B : Type 0} (r : Reading A) (f : A → Reading B) (x : B) → on_read r f ≡ Ok x → (a : A) × (f a ≡ Ok x)
 read_ok (Ok a) f x h = (a, h)
 read_ok (Err e) f x h = absurd (cc h)
-
--- what stands behind a test that is true
-behind : {A : Type 0} (b : Bool) (r : Reading A) (fault : CertFault) (x : A) → (if b then r else Err fault) ≡ Ok x → r ≡ Ok x
-behind true r fault x h = h
-behind false r fault x h = absurd (cc h)
 
 small : (b : Bool) (fault : CertFault) (c x : Content) → (if b then Err fault else Ok c) ≡ Ok x → (b ≡ false) × (c ≡ x)
 small true fault c x h = absurd (cc h)
@@ -36,7 +31,8 @@ not_large bytes c h =
     let parsed = read_ok (or_not_json (json_of bytes)) cert_of_data c h in
     let top = read_ok (or_shape (as_object parsed.0)) _ c parsed.1 in
     let version = read_ok (version_of parsed.0) _ c top.1 in
-    let all = read_ok (top_members top.0) within_limits c (behind (version.0 == 1) (on_read (top_members top.0) within_limits) Version c version.1) in
+    let layout = read_ok (or_version (layout_of version.0)) _ c version.1 in
+    let all = read_ok (top_members layout.0 top.0) within_limits c layout.1 in
     let found = small (is_too_large all.0) TooLarge all.0 c all.1 in
     subst (λ (c : Content). is_too_large c ≡ false) found.1 found.0
 
@@ -49,12 +45,16 @@ read_within bytes cert h =
     let c = content cert in
     let columns = either (nat_lt most_columns c.problem.columns) _ (not_large bytes c h) in
     let rows = either (nat_lt most_rows (length c.problem.rows)) _ columns.1 in
-    let segments = either (nat_lt most_segments (length c.segments)) (nat_lt most_intervals (length c.intervals)) rows.1 in
+    let segments = either (nat_lt most_segments (length c.segments)) _ rows.1 in
+    let intervals = either (nat_lt most_intervals (length c.intervals)) _ segments.1 in
+    let same_rows = length-map cert.problem.rows exact_row in
+    let same_segments = length-map cert.segments exact_segment in
     record {
       columns = ltb-false most_columns c.problem.columns columns.0;
-      rows = omega (arith, ltb-false most_rows (length c.problem.rows) rows.0, length-map cert.problem.rows exact_row);
-      segments = omega (arith, ltb-false most_segments (length c.segments) segments.0, length-map cert.segments exact_segment);
-      intervals = omega (arith, ltb-false most_intervals (length c.intervals) segments.1, length-map cert.intervals exact_interval);
+      rows = omega (arith, ltb-false most_rows (length c.problem.rows) rows.0, same_rows);
+      segments = omega (arith, ltb-false most_segments (length c.segments) segments.0, same_segments);
+      intervals = omega (arith, ltb-false most_intervals (length c.intervals) intervals.0, length-map cert.intervals exact_interval);
+      sides = subst (λ n. n ≤ most_sides) (ap₂ (λ m n. m * n) same_rows same_segments) (ltb-false most_sides (length c.problem.rows * length c.segments) intervals.1);
     }
 
 -- why there is no verdict
