@@ -69,7 +69,7 @@ vertex_of signs coef = record { basis = record { rows = basic_rows signs }; side
 
 -- ---- segments
 
--- where the number of rows is told, there must be one side per row, and as many dual values as stars
+-- where the number of rows is told, there must be one side per row, and as many dual values at either end as stars
 abbrev pub if_filled : Option ℕ → List Side → List ℚ → List ℚ → Option ⊤
 if_filled None signs lo hi = Some tt
 if_filled (Some rows) signs lo hi = if is_filled rows signs lo hi then Some tt else None
@@ -97,11 +97,13 @@ segment_members rows ms =
       loss_hi = loss_hi.0;
     })))))))))))
 
+-- a segment in full
 unfoldable pub segment : Option ℕ → Reader (Segment ℚ)
 segment rows = object_of (segment_members rows)
 
 -- ---- segments that say what changes
 
+-- a side by a text of one sign
 abbrev pub side_by_name : List ℕ → Option Side
 side_by_name s = if bytes_eq s (codes "+") then Some Up else (if bytes_eq s (codes "-") then Some Down else (if bytes_eq s (codes "*") then Some Basic else None))
 
@@ -123,6 +125,7 @@ move_members ms =
     on_read (place_members signed.0 signed.1) (λ place.
     Ok (record { row = row.0; place = place }))))
 
+-- a row that moves, and where to
 unfoldable pub one_move : Reader (Move ℚ)
 one_move = object_of move_members
 
@@ -151,6 +154,7 @@ later_members before ms =
       loss_hi = loss_hi.0;
     })))))))))
 
+-- a segment behind another one, by what changes
 unfoldable pub later_segment : Segment ℚ → Reader (Segment ℚ)
 later_segment before = object_of (later_members before)
 
@@ -272,6 +276,7 @@ version_of d = under (key_step (codes "version")) (or_shape (option_and_then as_
 abbrev pub layout_of : ℕ → Option Layout
 layout_of n = if n == 1 then Some Full else (if n == 2 then Some Chained else None)
 
+-- what is there, or the fault of another version
 abbrev pub or_version : {A : Type 0} → Option A → Reading A
 or_version (Some a) = Ok a
 or_version None = Err Version

@@ -30,6 +30,7 @@ low_places s = places s.vertex.sides s.basic_lo
 abbrev pub high_places : {F : Type 0} → Segment F → List (Place F)
 high_places s = places s.vertex.sides s.basic_hi
 
+-- the side of a row that lies there
 abbrev pub side_at : {F : Type 0} → Place F → Side
 side_at Above = Up
 side_at Below = Down
@@ -42,6 +43,7 @@ values_at (Above ∷ ps) = values_at ps
 values_at (Below ∷ ps) = values_at ps
 values_at (On x ∷ ps) = x ∷ values_at ps
 
+-- both lie on the same side
 abbrev pub is_same_side : {F : Type 0} → Place F → Place F → Bool
 is_same_side Above Above = true
 is_same_side Below Below = true
@@ -76,6 +78,7 @@ moved i ps (m ∷ ms) = if may_move i ps m then moved (m.row + 1) (slice_set ps 
 
 -- ---- chained certificates
 
+-- the same number
 abbrev pub is_equal : ℚ → ℚ → Bool
 is_equal x y = match_ordering (cmp_ℚ x y) false true false
 
@@ -88,6 +91,7 @@ abbrev pub keeps_value : Place ℚ → Place ℚ → Bool
 keeps_value (On x) (On y) = is_equal x y
 keeps_value p q = true
 
+-- the same of each row
 abbrev pub keep_values : List (Place ℚ) → List (Place ℚ) → Bool
 keep_values [] qs = true
 keep_values (p ∷ ps) [] = true
@@ -97,18 +101,20 @@ keep_values (p ∷ ps) (q ∷ qs) = keeps_value p q && keep_values ps qs
 abbrev pub follows : Segment ℚ → Segment ℚ → Bool
 follows a b = is_equal a.hi b.lo && (is_equal a.loss_hi b.loss_lo && keep_values (high_places a) (low_places b))
 
+-- the first segment follows none
 abbrev pub follows_any : Option (Segment ℚ) → Segment ℚ → Bool
 follows_any None s = true
 follows_any (Some before) s = follows before s
 
--- each segment is filled, and follows the one before it
+-- each segment is filled, with so many rows, and follows the one before it
 abbrev pub are_chained : ℕ → Option (Segment ℚ) → List (Segment ℚ) → Bool
 are_chained rows before [] = true
 are_chained rows before (s ∷ ss) = is_filled rows s.vertex.sides s.basic_lo s.basic_hi && (follows_any before s && are_chained rows (Some s) ss)
 
--- a certificate whose text may say of each later segment only what changes
+-- a certificate whose text says of each later segment only what changes
 abbrev pub is_chained : Content → Bool
 is_chained c = are_chained (length c.problem.rows) None c.segments
 
+-- the same, as a fact
 abbrev pub IsChained : Content → Type 0
 IsChained c = is_chained c ≡ true

@@ -71,6 +71,7 @@ place_members Above = member (codes "side") (string (codes "+")) no_members
 place_members Below = member (codes "side") (string (codes "-")) no_members
 place_members (On x) = member (codes "side") (string (codes "*")) (member (codes "value") (fraction_tree x) no_members)
 
+-- a row that moves, and where to
 unfoldable pub move_tree : Move Frac128 → Data
 move_tree m = object (member (codes "row") (number (unsigned m.row)) (place_members m.place))
 
@@ -89,10 +90,12 @@ abbrev pub linked_tree : Option (Segment Frac128) → Segment Frac128 → Data
 linked_tree None s = segment_tree s
 linked_tree (Some before) s = later_tree before s
 
+-- the segments behind one, or all of them, each beside the one before it
 abbrev pub linked_trees : Option (Segment Frac128) → List (Segment Frac128) → List Data
 linked_trees before [] = []
 linked_trees before (s ∷ ss) = linked_tree before s ∷ linked_trees (Some s) ss
 
+-- the segments in the layout of the text
 abbrev pub segments_tree : Layout → List (Segment Frac128) → Data
 segments_tree Full ss = list_tree segment_tree ss
 segments_tree Chained ss = array (items_of (linked_trees None ss))
@@ -129,6 +132,7 @@ interval_tree t = object
 abbrev pub layout : Cert → Layout
 layout c = if is_chained (content c) then Chained else Full
 
+-- the version that tells the layout
 abbrev pub version : Layout → ℕ
 version Full = 1
 version Chained = 2
