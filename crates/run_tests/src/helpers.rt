@@ -112,6 +112,7 @@ pub(crate) fn sink(
     (room, piece): (usize, usize),
     write: u32,
 ) -> MemSink {
+    assert!(rt; piece > 0);
     let fails = copied(rt, alloc, &[write]);
     MemSink::new(alloc, room, piece, fails)
         .ok()
