@@ -31,7 +31,7 @@ printf 'y,x\n0,0\n2,1\n3,3\n,4\n' > "$room/beyond"
 printf 'y\n1\n2\n3\n4\n5\n' > "$room/five"
 line=(--formula "y ~ x" --lo 0 --hi 1)
 "$program" certify "${line[@]}" < "$room/line" > "$room/whole" || exit
-sed 's/"basic_lo":\["3\/5"/"basic_lo":["4\/5"/' "$room/whole" > "$room/dual"
+sed 's/"value":"3\/5"/"value":"4\/5"/' "$room/whole" > "$room/dual"
 sed 's/"coef":\["0","1"\]/"coef":["0","2"]/' "$room/whole" > "$room/coef"
 head -c 300 "$room/whole" > "$room/cut"
 
