@@ -13,9 +13,7 @@ ghost use Rattle.basic_solution.specs.Bases.{IsBalancingsSpill};
 use basis_inverse::Inverse;
 use basis_model::Part;
 use frac_core::{Exact, List};
-use loss_model::{
-    Quantity, Short, Sign, Site, Spill, minus_at, plus_at, plus_product, sum_of_products,
-};
+use loss_model::{Quantity, Short, Sign, Site, Spill, minus_at, plus_at, plus_product};
 use std::alloc::Global;
 
 /// The value of the row at a position that balances totals of the columns: the negated totals times
@@ -35,13 +33,9 @@ fn balancing_value<F: Exact>(
         IfErr result (IsBalancingSpill F.value F.range n a (value_at F.value totals.now) part position) }
 {
     let site = Site::new(Quantity::BasicDual, position, part.number(), 0);
-    sum_of_products(
-        site,
-        F::zero(),
-        Sign::Minus,
-        totals,
-        inverse.column(position),
-    )
+    inverse
+        .column(position)
+        .sum_of_products(site, F::zero(), Sign::Minus, totals)
 }
 
 /// Those values by position. For the totals of one part over the rows outside a basis they are that
