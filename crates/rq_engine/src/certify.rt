@@ -79,10 +79,7 @@ fn test_length(alloc: Global, cert: &Cert) -> Result<(), Halt>
         Ok(text) => text.len() as u64,
         Err(_) => return Err(Halt::OutOfMemory),
     };
-    if length > MOST_BYTES {
-        return Err(Halt::Refused(Refusal::CertTooLong { length }));
-    }
-    if has_many_sides(cert) {
+    if length > MOST_BYTES || has_many_sides(cert) {
         return Err(Halt::Refused(Refusal::CertTooLong { length }));
     }
     Ok(())
