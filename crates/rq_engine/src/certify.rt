@@ -39,7 +39,7 @@ fn proofs<F: Exact>(
     Ok(proofs)
 }
 
-// The certificate of a fit. It refuses only for memory.
+// The certificate of a fit.
 fn cert_of_fit(alloc: Global, job: &FitJob, fit: Fit) -> Result<Cert, OutOfMemory>
     requires listed { All IsKeptSegment fit.process.segments }
     requires ended { All (λ interval. IsKeptInterval interval.proof) fit.intervals }
