@@ -1,3 +1,4 @@
+//! What comes of a run, and its exit status.
 ghost use Rattle.std.specs.Prelude.{◌≡◌};
 ghost use Rattle.rq_cli.specs.Codes.{code_of};
 

@@ -18,27 +18,25 @@ use std::alloc::Global;
 use std::thread::Threads;
 
 /// All that the program does: reads the source where the words ask for a job that has one, and writes the
-/// report to `out` or the line of a fault to `err`.
+/// report to `out` or the line of a fault to `err`. The whole text is made before the first byte of it is written.
 ///
-/// The whole text is made before the first byte of it is written. `Usage` comes exactly where the
-/// words are refused by that fault. It leaves the source untouched, and so does the job `sample`, which
-/// makes its own table. `Refused` comes exactly where more than
-/// 2^26 bytes come, or where this is the first fault: of the bytes as a table, of the formula over its
-/// names, of their design, of what its smooths add, or of the problem; for `predict` also where there is nothing
-/// to predict or too much, or of a predicted record's row; for `check` of the bytes as a
-/// certificate; as `CertTooLong` where the text of a certificate to be written is longer than 2^26
-/// bytes, or its rows times its segments exceed 2^30; and as `Dependent` only where the columns of the problem are
-/// dependent. `PivotLimit` comes only
-/// where the lawful trail of its place, of the problem or of a rank interval, has as many pivots as the
-/// words' limit says and one more is left, and `Overflow` only where an operation of its place
-/// overflows: of the fit, of a rank interval, of a prediction or of the checker. A stop of an interval is that of the
-/// first one that stops. `Rejected` comes exactly where a condition of
-/// a certificate is false: it is the first, all tests before it being true.
-/// `SourceFault` comes only where the words ask for a job that reads the source and its count of faults
-/// rose in this call; where it grew there is no other outcome, unless the line of
-/// `SourceFault` couldn't be told. `SinkFault` comes only where the count of `out` or of `err` rose;
-/// where one grew there is no other outcome. `OutOfMemory` may come in place of what would follow,
-/// and never after a write to `out`.
+/// - `Usage` comes exactly where the words are refused by that fault. It leaves the source untouched, and so does the job
+///   `sample`, which makes its own table.
+/// - `Refused` comes exactly where more than 2^26 bytes come, or where this is the first fault: of the bytes as a table, of
+///   the formula over its names, of their design, of what its smooths add, or of the problem; for `test` also of its
+///   tested columns; for `predict` also where there is nothing to predict or too much, or of a predicted record's row; for
+///   `check` of the bytes as a certificate; as `CertTooLong` where the text of a certificate to be written is longer than
+///   2^26 bytes, or its rows times its segments exceed 2^30; and as `Dependent` only where the columns of the problem are
+///   dependent.
+/// - `Rejected` comes exactly where a condition of a certificate is false: it is the first, all tests before it being true.
+/// - `PivotLimit` comes only where the lawful trail of its place, of the problem or of a rank interval, has as many pivots
+///   as the words' limit says and one more is left, and `Overflow` only where an operation of its place overflows: of the
+///   fit, of a rank interval, of a rank test, of the costs of a path, of a prediction or of the checker. A stop of an
+///   interval is that of the first one that stops.
+/// - `SourceFault` comes only where the words ask for a job that reads the source and its count of faults rose in this
+///   call; where it grew there is no other outcome, unless the line of `SourceFault` couldn't be told.
+/// - `SinkFault` comes only where the count of `out` or of `err` rose; where one grew there is no other outcome.
+/// - `OutOfMemory` may come in place of what would follow, and never after a write to `out`.
 ///
 /// The rank intervals are jobs at once, and so are the parts of a condition that `check` tests on the segments. Each enters
 /// the gate, with its place among them, before it works.
@@ -94,7 +92,7 @@ fn work<R: Threads + Sync, S: Source, G: Gate>(
     }
 }
 
-// The report of a job for the bytes, with its text. It stands alone for the check's sake: what it lets go at each exit is large.
+// The report of a job for the bytes, with its text. It stands alone for the check's sake: what it lets go is large.
 fn written<R: Threads + Sync, G: Gate>(
     rt: &R,
     alloc: Global,
@@ -202,6 +200,7 @@ fn tell<E: Sink>(alloc: Global, trouble: Trouble, err: &mut E) -> Outcome
     }
 }
 
+// Writes the line of a fault, which is the outcome unless the sink fails.
 fn write_line<E: Sink>(err: &mut E, line: &[u8], fault: Outcome) -> Outcome
     requires { line.now ≡ outcome_line fault }
     ensures { WasTold fault result (stream (E.written err.old) (E.faults err.old)) (stream (E.written err.new) (E.faults err.new)) }

@@ -21,7 +21,7 @@ pub(crate) enum Trouble {
 }
 
 impl Trouble {
-    /// Its line on standard error. It refuses only for memory.
+    /// Its line on standard error.
     pub(crate) fn line(&self, alloc: Global) -> Result<Vec<u8>, OutOfMemory>
         ensures { IfOk result (λ line. line.items ≡ outcome_line (outcome_of self.now)) }
     {

@@ -47,7 +47,7 @@ use Rattle.rq_engine.specs.Jobs.{sample_fit, sample_table}
 abbrev pub IsFitOfBytes : FitJob → Bool → List ℕ → Fit → Type 0
 IsFitOfBytes job ranked bytes fit = (input : Input) × IsInput job ranked bytes input × IsFitOf job input fit
 
--- they are right for the input that the bytes are, which has no smooths
+-- the Wilcoxon scores are right for the input that the bytes are, which has no smooths
 abbrev pub AreRanksOfBytes : FitJob → List ℕ → RanksFit → Type 0
 AreRanksOfBytes job bytes ranks = (input : Input) × IsInput job true bytes input × AreRanksOf job input ranks
 
@@ -58,7 +58,7 @@ pub record IsCertified (job : FitJob) (input : Input) (cert : Cert) : Type 0 whe
   pub right : IsFitOf job input fit
   pub is : IsCertificateOf job fit cert
 
--- it states that of the input that the bytes are
+-- the certificate states the right fit of the input that the bytes are
 abbrev pub IsCertifiedOfBytes : FitJob → List ℕ → Cert → Type 0
 IsCertifiedOfBytes job bytes cert = (input : Input) × IsInput job (is_some job.rank) bytes input × IsCertified job input cert
 

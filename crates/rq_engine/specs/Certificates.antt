@@ -8,7 +8,7 @@ use Rattle.cert_text.specs.declared.cert.Cert.{Cert}
 use Rattle.rq_words.specs.declared.job.FitJob.{FitJob}
 use Rattle.report_text.specs.declared.report.Fit.{Fit}
 
--- the problem, the segments and the intervals of the fit, and the range of the job
+-- the certificate has the problem, the segments and the intervals of the fit, and the range of the job
 pub record IsCertificateOf (job : FitJob) (fit : Fit) (cert : Cert) : Type 0 where
   pub problem : cert.problem ≡ fit.problem
   pub lo : cert.lo ≡ job.lo
@@ -24,12 +24,13 @@ most_bytes = 2 ^ 26
 abbrev pub sides_of : Cert → ℕ
 sides_of cert = length cert.problem.rows * length cert.segments
 
--- its text and its sides are no more, and the text is read as the certificate where that is within the limits of what is read
+-- its text and its sides are no more than that, and where the certificate is within the limits of what is read, its text is
+-- read as the certificate
 pub record IsWritten (cert : Cert) : Type 0 where
   pub short : length (cert_text cert) ≤ most_bytes
   pub few : sides_of cert ≤ most_sides
   pub back : IsWithinLimits cert → cert_of (cert_text cert) ≡ Ok (content cert)
 
--- it is too long: its text has this length, which is more, or its sides are more
+-- its text has this length, and that or the number of its sides is more than the most
 abbrev pub IsTooLong : Cert → ℕ → Type 0
 IsTooLong cert n = (n ≡ length (cert_text cert)) × ((most_bytes < n) ⊎ (most_sides < sides_of cert))

@@ -39,7 +39,7 @@ fn proofs<F: Exact>(
     Ok(proofs)
 }
 
-// The certificate of a fit. It refuses only for memory.
+// The certificate of a fit.
 fn cert_of_fit(alloc: Global, job: &FitJob, fit: Fit) -> Result<Cert, OutOfMemory>
     requires listed { All IsKeptSegment fit.process.segments }
     requires ended { All (λ interval. IsKeptInterval interval.proof) fit.intervals }
@@ -79,10 +79,7 @@ fn test_length(alloc: Global, cert: &Cert) -> Result<(), Halt>
         Ok(text) => text.len() as u64,
         Err(_) => return Err(Halt::OutOfMemory),
     };
-    if length > MOST_BYTES {
-        return Err(Halt::Refused(Refusal::CertTooLong { length }));
-    }
-    if has_many_sides(cert) {
+    if length > MOST_BYTES || has_many_sides(cert) {
         return Err(Halt::Refused(Refusal::CertTooLong { length }));
     }
     Ok(())

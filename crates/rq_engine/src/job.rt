@@ -20,19 +20,22 @@ use std::thread::Threads;
 
 /// The report of a job from the bytes of its input; the job `sample` makes its own table and looks at none.
 ///
-/// `Refused` is the first fault: of the bytes as a table, of the formula over the table's names, of
-/// the design, of what its smooths add, or of the problem; or `Dependent`, only where the columns of
-/// the problem are dependent; or `CertTooLong`, exactly where the text of the certificate is longer than
-/// 2^26 bytes or its rows times its segments exceed 2^30; or, for `check`, the first fault of the bytes as a
-/// certificate, after which `Rejected` and an `Overflow` of the checker are those of `check`; or, for `test`, the
-/// first tested column that is missing, or that all are tested; or, for `predict`, that there is nothing or too much to predict, or the first
-/// fault of a predicted record's row. `PivotLimit` comes only where the lawful trail of the problem, or of a
-/// rank interval that its place names, has as many pivots as the job's limit says and one more is left,
-/// and `Overflow` only where an operation of the solve at the low end, of the walk, of a rankscore, of
-/// that interval, of a Wilcoxon score, of a rank test or of a prediction overflows. A stop of an interval is that of the first that
-/// stops, quantile by quantile as given and column by column within. `OutOfMemory` may come at any step.
+/// - `Refused` is the first fault: of the bytes as a table, of the formula over the table's names, of the design, of
+///   what its smooths add, or of the problem; for `test` also the first tested column that is missing, or that all are
+///   tested; for `predict` also that there is nothing or too much to predict, or the first fault of a predicted record's
+///   row; and for `check` the first fault of the bytes as a certificate. `Dependent` comes only where the columns of the
+///   problem are dependent, and `CertTooLong` exactly where the text of the certificate is longer than 2^26 bytes or its
+///   rows times its segments exceed 2^30.
+/// - `Rejected` is the verdict of `check` on a certificate.
+/// - `PivotLimit` comes only where the lawful trail of the problem, or of a rank interval that its place names, has as
+///   many pivots as the job's limit says and one more is left.
+/// - `Overflow` comes only where an operation overflows: of the solve at the low end, of the walk, of a rankscore, of the
+///   rank interval that its place names, of a Wilcoxon score, of a rank test, of the costs of a path, of a prediction or of
+///   the checker.
+/// - `OutOfMemory` may come at any step.
 ///
-/// The rank intervals are jobs at once, and each enters the gate with its place in that order before it works. So are the
+/// A stop of an interval is that of the first that stops, quantile by quantile as given and column by column within. The
+/// rank intervals are jobs at once, and each enters the gate with its place in that order before it works. So are the
 /// parts of a condition that `check` tests on the segments, condition by condition.
 pub fn answer<R: Threads + Sync, G: Gate>(
     rt: &R,

@@ -61,8 +61,8 @@ pub record IsWellFormed (words : List (List ℕ)) (source : Stream) (bytes : Lis
   pub predicted : (fit : FitJob) (refusal : Refusal) → IsJobOf words (jobs.Predict fit) → ¬ HasPredictionCause fit bytes (halts.Refused refusal)
   pub rank : (fit : FitJob) (ranked : Bool) (input : Input) (asked : AskFit words fit ranked) → IsInput fit ranked (table_bytes asked.job bytes) input → HasFullRank (sample value input.problem)
 
--- it has the right report, or reaches its limit, or an operation overflows, or its certificate is too long; want of
--- memory is the free answer
+-- the run prints the right report, or reaches its limit, or an operation overflows, or the certificate is too long; want
+-- of memory is the free answer
 abbrev pub IsAnswer : List (List ℕ) → (source source' : Stream) → List ℕ → Outcome → Type 0
 IsAnswer words source source' bytes (Done report) = (job : Job) × IsJobOf words job × IsRight job bytes report
 IsAnswer words source source' bytes (PivotLimit place limit trail) = IsLimitedAt words source source' place limit trail
@@ -71,7 +71,7 @@ IsAnswer words source source' bytes (Refused (CertTooLong n)) = IsHalted words s
 IsAnswer words source source' bytes OutOfMemory = ⊤
 IsAnswer words source source' bytes _ = ⊥
 
--- so is every run while nothing fails
+-- while nothing fails, every run for words and a source that are well formed is answered so
 abbrev pub Completeness : Type 0
 Completeness =
     (words : List (List ℕ)) (source source' out out' err err' : Stream) (bytes : List ℕ) (outcome : Outcome)
@@ -90,7 +90,7 @@ pub record IsGenerated (words : List (List ℕ)) : Type 0 where
   pub some : (job : SampleJob) → IsJobOf words (jobs.Sample job) → 1 ≤ job.rows
   pub rank : (job : SampleJob) (input : Input) → IsJobOf words (jobs.Sample job) → IsInput (sample_fit job) false (sample_table job) input → HasFullRank (sample value input.problem)
 
--- so is every run for a generated table; its bytes have no fault, and it has no certificate
+-- while nothing fails, every run for a generated table is answered so: its bytes have no fault, and no certificate is too long
 abbrev pub SampleIsAnswered : Type 0
 SampleIsAnswered =
     (words : List (List ℕ)) (source source' out out' err err' : Stream) (outcome : Outcome)
@@ -107,7 +107,7 @@ pub record IsNested (words : List (List ℕ)) (source : Stream) (bytes : List �
   pub sound : (job : TestJob) (refusal : Refusal) → IsJobOf words (jobs.Test job) → ¬ HasTestedCause job bytes (halts.Refused refusal)
   pub rank : (job : TestJob) (input : Input) → IsJobOf words (jobs.Test job) → IsTested job bytes input → HasFullRank (sample value input.problem)
 
--- so is every run for a rank test
+-- while nothing fails, every run for such a rank test is answered so, and no certificate is too long
 abbrev pub TestIsAnswered : Type 0
 TestIsAnswered =
     (words : List (List ℕ)) (source source' out out' err err' : Stream) (bytes : List ℕ) (outcome : Outcome)
@@ -128,7 +128,7 @@ pub record IsPathed (words : List (List ℕ)) (source : Stream) (bytes : List �
   pub sound : (job : PathJob) (refusal : Refusal) → IsJobOf words (jobs.Path job) → ¬ HasPlainCause job.fit bytes (halts.Refused refusal)
   pub few : (job : PathJob) (plain : PlainInput) → IsJobOf words (jobs.Path job) → IsPlain job.fit bytes plain → path_rows plain ≤ most_rows
 
--- so is every run for a path
+-- while nothing fails, every run for such a path is answered so, and no certificate is too long
 abbrev pub PathIsAnswered : Type 0
 PathIsAnswered =
     (words : List (List ℕ)) (source source' out out' err err' : Stream) (bytes : List ℕ) (outcome : Outcome)
@@ -146,8 +146,8 @@ IsUnposed (Refused (CertTooLong n)) = ⊥
 IsUnposed _ = ⊤
 
 -- where the words ask for a fit, and the bytes of its table have a fault as a table, by the formula, as a design, in what
--- smooths add or as a problem, it is neither: so such a refusal comes exactly where there is such a fault, save for memory
--- and for streams that fail
+-- smooths add or as a problem, a run has no report and no stop of a fit: so such a refusal comes exactly where there is
+-- such a fault, save for memory and for streams that fail
 abbrev pub FaultIsAnswered : Type 0
 FaultIsAnswered =
     (words : List (List ℕ)) (source source' out out' err err' : Stream) (bytes : List ℕ) (outcome : Outcome) (first : FitJob) (kind : Bool) (asked : AskFit words first kind)
@@ -155,7 +155,7 @@ FaultIsAnswered =
     → ((fit : FitJob) (ranked : Bool) (ask : AskFit words fit ranked) → (refusal : Refusal) × HasInputCause fit ranked (table_bytes ask.job bytes) (halts.Refused refusal))
     → IsRun words source source' out out' err err' outcome → IsUnposed outcome
 
--- so it is where the words ask for predictions, and the bytes have a fault as those
+-- nor has it where the words ask for predictions, and the bytes have a fault as those
 abbrev pub PredictionFaultIsAnswered : Type 0
 PredictionFaultIsAnswered =
     (words : List (List ℕ)) (source source' out out' err err' : Stream) (bytes : List ℕ) (outcome : Outcome) (first : FitJob)
@@ -163,7 +163,7 @@ PredictionFaultIsAnswered =
     → ((fit : FitJob) → IsJobOf words (jobs.Predict fit) → (refusal : Refusal) × HasPredictionCause fit bytes (halts.Refused refusal))
     → IsRun words source source' out out' err err' outcome → IsUnposed outcome
 
--- so it is where the words ask for a rank test, and the bytes have a fault as an input of one: a missing column, say
+-- nor has it where the words ask for a rank test, and the bytes have a fault as an input of one: a missing column, say
 abbrev pub TestFaultIsAnswered : Type 0
 TestFaultIsAnswered =
     (words : List (List ℕ)) (source source' out out' err err' : Stream) (bytes : List ℕ) (outcome : Outcome) (first : TestJob)
@@ -177,7 +177,7 @@ HasPathFault job bytes =
     ((refusal : Refusal) × HasPlainCause job.fit bytes (halts.Refused refusal))
     ⊎ ((plain : PlainInput) → IsPlain job.fit bytes plain → most_rows < path_rows plain)
 
--- so it is where the words ask for a path, and the bytes have such a fault
+-- nor has it where the words ask for a path, and the bytes have such a fault
 abbrev pub PathFaultIsAnswered : Type 0
 PathFaultIsAnswered =
     (words : List (List ℕ)) (source source' out out' err err' : Stream) (bytes : List ℕ) (outcome : Outcome) (first : PathJob)
@@ -194,14 +194,14 @@ pub record IsPassing (words : List (List ℕ)) (source : Stream) (bytes : List �
   pub is : IsCertOf bytes cert
   pub sound : AreTrue (tests cert)
 
--- it is accepted, or an operation of a test overflows; want of memory is the free answer
+-- the certificate is accepted, or an operation of a test overflows; want of memory is the free answer
 abbrev pub IsAccepted : List (List ℕ) → (source source' : Stream) → Cert → Outcome → Type 0
 IsAccepted words source source' cert (Done report) = report ≡ reports.Checked cert
 IsAccepted words source source' cert (Overflow place trail spill) = IsHalted words source source' (halts.Overflow place trail spill)
 IsAccepted words source source' cert OutOfMemory = ⊤
 IsAccepted words source source' cert _ = ⊥
 
--- so is every certificate whose conditions are true, while nothing fails
+-- while nothing fails, every check of a certificate whose conditions are true ends so
 abbrev pub CheckIsAnswered : Type 0
 CheckIsAnswered =
     (words : List (List ℕ)) (source source' out out' err err' : Stream) (bytes : List ℕ) (cert : Cert) (outcome : Outcome)
@@ -218,7 +218,7 @@ abbrev pub IsNoReport : Outcome → Type 0
 IsNoReport (Done report) = ⊥
 IsNoReport _ = ⊤
 
--- where one does, and the words ask for a fit, there is no report
+-- where the words ask for a fit, and some trail of its problem reaches the limit, there is no report
 abbrev pub LimitIsAnswered : Type 0
 LimitIsAnswered =
     (words : List (List ℕ)) (source source' out out' err err' : Stream) (outcome : Outcome) (first : FitJob) (kind : Bool)
@@ -226,7 +226,7 @@ LimitIsAnswered =
     → ((fit : FitJob) (input : Input) → WasInput words source source' fit input → IsLimitedProblem fit input.problem)
     → IsNoReport outcome
 
--- nor is there where they ask for a rank test, and one of the problem without the tested columns does
+-- nor is there where the words ask for a rank test, and some trail of the problem without the tested columns reaches it
 abbrev pub TestLimitIsAnswered : Type 0
 TestLimitIsAnswered =
     (words : List (List ℕ)) (source source' out out' err err' : Stream) (outcome : Outcome) (first : TestJob)
@@ -234,7 +234,7 @@ TestLimitIsAnswered =
     → ((fit : FitJob) (problem : Problem Frac128) → WasRestricted words source source' fit problem → IsLimitedProblem fit problem)
     → IsNoReport outcome
 
--- nor is there where the words ask for a path
+-- nor is there where the words ask for a path, and some trail of its problem reaches it
 abbrev pub PathLimitIsAnswered : Type 0
 PathLimitIsAnswered =
     (words : List (List ℕ)) (source source' out out' err err' : Stream) (outcome : Outcome) (first : PathJob)
@@ -254,7 +254,7 @@ parts_of places.Gram = 0
 parts_of places.Test = 0
 parts_of places.Path = 0
 
--- where no fewer pivots are allowed than that, the limit doesn't stop the process or the interval
+-- where the limit is at least so many times these bases, it stops neither the process nor the interval
 abbrev pub AmpleLimitIsNeverReached : Type 0
 AmpleLimitIsNeverReached =
     (words : List (List ℕ)) (source source' out out' err err' : Stream) (place : Place) (limit : ℕ) (trail : Trail Frac128)
@@ -267,7 +267,7 @@ IsUnfitted (Done report) = ⊥
 IsUnfitted (PivotLimit place limit trail) = ⊥
 IsUnfitted _ = ⊤
 
--- where the words ask for a fit, and the columns of its problem are dependent, it is neither
+-- where the words ask for a fit, and the columns of its problem are dependent, there is neither
 abbrev pub DependenceIsAnswered : Type 0
 DependenceIsAnswered =
     (words : List (List ℕ)) (source source' out out' err err' : Stream) (outcome : Outcome) (first : FitJob) (kind : Bool)
@@ -275,7 +275,7 @@ DependenceIsAnswered =
     → ((fit : FitJob) (input : Input) → WasInput words source source' fit input → ¬ HasFullRank (sample value input.problem))
     → IsUnfitted outcome
 
--- nor is it where they ask for a rank test, and the columns of the whole problem are dependent
+-- nor is there where the words ask for a rank test, and the columns of the whole problem are dependent
 abbrev pub TestDependenceIsAnswered : Type 0
 TestDependenceIsAnswered =
     (words : List (List ℕ)) (source source' out out' err err' : Stream) (outcome : Outcome) (first : TestJob)

@@ -49,7 +49,7 @@ abbrev pub table_bytes : Job → List ℕ → List ℕ
 table_bytes (jobs.Sample job) bytes = sample_table job
 table_bytes job bytes = bytes
 
--- the words ask for it
+-- the words ask for a job that is this fit
 pub record AskFit (words : List (List ℕ)) (fit : FitJob) (ranked : Bool) : Type 0 where
   pub job : Job
   pub asked : IsJobOf words job
@@ -69,7 +69,7 @@ pub record WasTested (words : List (List ℕ)) (before now : Stream) (job : Test
   pub read : WereRead words before now (jobs.Test job) bytes
   pub is : IsTested job bytes input
 
--- they ask for it with this fit, and this is the problem without the tested columns
+-- the words ask for a rank test with this fit, and this is the problem without the tested columns
 pub record WasRestricted (words : List (List ℕ)) (before now : Stream) (fit : FitJob) (problem : Problem Frac128) : Type 0 where
   pub job : TestJob
   pub same : job.fit ≡ fit
@@ -92,22 +92,22 @@ abbrev pub WasPosed : List (List ℕ) → (before now : Stream) → FitJob → P
 WasPosed words before now fit problem =
     ((input : Input) × WasInput words before now fit input × (input.problem ≡ problem)) ⊎ (WasRestricted words before now fit problem ⊎ WasPath words before now fit problem)
 
--- its lawful trail has as many pivots as the limit of the words says, with one more left; and the limit is less than
--- twice the bases after the first
+-- the lawful trail of the problem has as many pivots as the limit of the words says, with one more left; and the limit is
+-- less than twice the bases after the first
 pub record ReachesItsLimit (fit : FitJob) (problem : Problem Frac128) (limit : ℕ) (trail : Trail Frac128) : Type 0 where
   pub shown : limit ≡ fit.limit
   pub reached : ReachesProcessLimit value (sample value problem) (rational (value fit.lo)) (rational (value fit.hi)) limit trail
   pub below : limit < 2 * further_bases (sample value problem)
 
--- so has that of the interval of a column at a quantile; and the limit is less than three times the bases after the
--- first
+-- the lawful trail of the interval of a column at a quantile has so many, with one more left; and the limit is less than
+-- three times the bases after the first
 pub record ReachesItsIntervalLimit (fit : FitJob) (problem : Problem Frac128) (column : ℕ) (tau : Frac128) (limit : ℕ) (trail : Trail Frac128) : Type 0 where
   pub shown : limit ≡ fit.limit
   pub bound : ℚ
   pub reached : ReachesIntervalLimit value (sample value problem) (rational (value tau)) column bound limit trail
   pub below : limit < 3 * further_bases (sample value problem)
 
--- that of the place
+-- the process or the interval that the place names reaches the limit
 abbrev pub ReachesLimitAt : Place → FitJob → Problem Frac128 → ℕ → Trail Frac128 → Type 0
 ReachesLimitAt places.Process fit problem limit trail = ReachesItsLimit fit problem limit trail
 ReachesLimitAt (places.Interval column tau) fit problem limit trail = ReachesItsIntervalLimit fit problem column tau limit trail
@@ -118,7 +118,7 @@ abbrev pub IsLimitedAt : List (List ℕ) → (before now : Stream) → Place →
 IsLimitedAt words before now place limit trail =
     (fit : FitJob) × (problem : Problem Frac128) × WasPosed words before now fit problem × ReachesLimitAt place fit problem limit trail
 
--- PivotLimit comes only with such a trail
+-- PivotLimit comes only where a posed problem reaches its limit
 abbrev pub LimitIsNeeded : Type 0
 LimitIsNeeded =
     (words : List (List ℕ)) (source source' out out' err err' : Stream) (place : Place) (limit : ℕ) (trail : Trail Frac128)

@@ -1,7 +1,8 @@
 //! Certificates: what `certify` writes, and what `check` finds in it where it is whole and where it is spoilt.
 
 use crate::helpers::{
-    assert_left, assert_printed, assert_refused, counted, parts, ran_at, ran_on, table_of,
+    Cases, assert_left, assert_printed, assert_refused, counted, expect_each, parts, ran_at,
+    ran_on, table_of,
 };
 use rq_fan::Open;
 use std::alloc::Global;
@@ -113,24 +114,24 @@ fn accepted(alloc: Global, size: &str) -> Option<String> {
     format!(in alloc; "quantreg check 1\n{size}\naccepted\nend\n").ok()
 }
 
-// What the words write is accepted, and holds so much.
-fn expect_accepted<R: Abort + Threads + Sync>(rt: &R, alloc: Global, case: &str) {
-    let (words, lines, size) = parts(case).expect(rt, "three lines");
-    let table = table_of(alloc, lines).expect(rt, "memory");
-    let report = accepted(alloc, size).expect(rt, "memory");
-    let written = ran_on(rt, alloc, words, table.as_bytes());
-    let left = ran_on(rt, alloc, "check", &written.printed);
-    assert_printed(rt, &left, &report, words);
+// Words whose certificate is accepted, and holds so much.
+#[derive(Clone, Copy)]
+struct Written;
+
+impl Cases for Written {
+    fn expect<R: Abort + Threads + Sync>(&self, rt: &R, alloc: Global, case: &str) {
+        let (words, lines, size) = parts(case).expect(rt, "three lines");
+        let table = table_of(alloc, lines).expect(rt, "memory");
+        let report = accepted(alloc, size).expect(rt, "memory");
+        let written = ran_on(rt, alloc, words, table.as_bytes());
+        let left = ran_on(rt, alloc, "check", &written.printed);
+        assert_printed(rt, &left, &report, words);
+    }
 }
 
 #[test]
 fn written_certificates_are_accepted(rt: HostRuntime) {
-    let mut tried = 0u32;
-    for case in WRITTEN.trim_end().split("\n>").skip(1) {
-        expect_accepted(&rt, rt.alloc(), case);
-        tried = tried.wrapping_add(1);
-    }
-    assert!(rt; tried == 5);
+    expect_each(&rt, rt.alloc(), &Written, (WRITTEN, 5));
 }
 
 // What stands in the certificate of version 1, or nothing for all of it, what stands there instead, and the exit status
@@ -255,33 +256,29 @@ fn spoilt(alloc: Global, rest: &str, from: &str, to: &str) -> Option<String> {
     }
 }
 
-fn expect_told<R: Abort + Threads + Sync>(rt: &R, alloc: Global, rest: &str, case: &str) {
-    let (from, to, wanted) = parts(case).expect(rt, "three lines");
-    let text = spoilt(alloc, rest, from, to).expect(rt, "memory");
-    let left = ran_on(rt, alloc, "check", text.as_bytes());
-    assert_left(rt, alloc, &left, wanted, to);
+// What is told of the certificate with this rest, where it is spoilt.
+#[derive(Clone, Copy)]
+struct Spoilt {
+    rest: &'static str,
 }
 
-fn expect_each<R: Abort + Threads + Sync>(
-    rt: &R,
-    alloc: Global,
-    rest: &str,
-    (cases, count): (&str, u32),
-) {
-    let mut tried = 0u32;
-    for case in cases.trim_end().split("\n>").skip(1) {
-        expect_told(rt, alloc, rest, case);
-        tried = tried.wrapping_add(1);
+impl Cases for Spoilt {
+    fn expect<R: Abort + Threads + Sync>(&self, rt: &R, alloc: Global, case: &str) {
+        let (from, to, wanted) = parts(case).expect(rt, "three lines");
+        let text = spoilt(alloc, self.rest, from, to).expect(rt, "memory");
+        let left = ran_on(rt, alloc, "check", text.as_bytes());
+        assert_left(rt, alloc, &left, wanted, to);
     }
-    assert!(rt; tried == count, "{tried} cases");
 }
 
 #[test]
 fn spoilt_certificates_are_told(rt: HostRuntime) {
-    expect_each(&rt, rt.alloc(), FULL, (SPOILT, 19));
+    let full = Spoilt { rest: FULL };
+    expect_each(&rt, rt.alloc(), &full, (SPOILT, 19));
 }
 
 #[test]
 fn spoilt_chains_are_told(rt: HostRuntime) {
-    expect_each(&rt, rt.alloc(), CHAINED, (SPOILT_CHAIN, 13));
+    let chained = Spoilt { rest: CHAINED };
+    expect_each(&rt, rt.alloc(), &chained, (SPOILT_CHAIN, 13));
 }

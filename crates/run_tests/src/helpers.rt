@@ -245,26 +245,48 @@ pub(crate) fn assert_left(rt: &impl Abort, alloc: Global, left: &Left, wanted: &
     }
 }
 
-fn expect<R: Abort + Threads + Sync>(rt: &R, alloc: Global, case: &str) {
-    let (words, lines, wanted) = parts(case).expect(rt, "three lines");
-    let table = table_of(alloc, lines).expect(rt, "memory");
-    let left = ran_on(rt, alloc, words, table.as_bytes());
-    assert_left(rt, alloc, &left, wanted, words);
+/// What is done with each case of a text.
+pub(crate) trait Cases {
+    /// Runs a case, and holds what is left to what is wanted.
+    fn expect<R: Abort + Threads + Sync>(&self, rt: &R, alloc: Global, case: &str);
 }
 
-/// Runs each case of a text, and there are so many. A case is a line `> WORDS`, a line with the table, in which `;`
-/// stands for the ends of lines, and what is left: the printed text, or the end of one behind a line `..`, or the exit
-/// status and the line that is told. A line that begins with `#` is a remark on the next case.
+/// Tries each case of a text, and there are so many. A case begins with a line `> ..`, and a line in it that begins
+/// with `#` is a remark on the next one.
+pub(crate) fn expect_each<R: Abort + Threads + Sync, C: Cases>(
+    rt: &R,
+    alloc: Global,
+    kind: &C,
+    (cases, count): (&str, u32),
+) {
+    let mut tried = 0u32;
+    for case in cases.trim_end().split("\n>").skip(1) {
+        kind.expect(rt, alloc, case);
+        tried = tried.wrapping_add(1);
+    }
+    assert!(rt; tried == count, "{tried} cases");
+}
+
+/// Cases of runs: a line `> WORDS`, a line with the table, in which `;` stands for the ends of lines, and what is left:
+/// the printed text, or the end of one behind a line `..`, or the exit status and the line that is told.
+#[derive(Clone, Copy)]
+struct Runs;
+
+impl Cases for Runs {
+    fn expect<R: Abort + Threads + Sync>(&self, rt: &R, alloc: Global, case: &str) {
+        let (words, lines, wanted) = parts(case).expect(rt, "three lines");
+        let table = table_of(alloc, lines).expect(rt, "memory");
+        let left = ran_on(rt, alloc, words, table.as_bytes());
+        assert_left(rt, alloc, &left, wanted, words);
+    }
+}
+
+/// Tries each of so many cases of runs.
 pub(crate) fn expect_all<R: Abort + Threads + Sync>(
     rt: &R,
     alloc: Global,
     cases: &str,
     count: u32,
 ) {
-    let mut tried = 0u32;
-    for case in cases.trim_end().split("\n>").skip(1) {
-        expect(rt, alloc, case);
-        tried = tried.wrapping_add(1);
-    }
-    assert!(rt; tried == count, "{tried} cases");
+    expect_each(rt, alloc, &Runs, (cases, count));
 }

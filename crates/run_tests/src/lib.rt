@@ -6,7 +6,7 @@ mod arithmetics;
 #[cfg(test)]
 mod certificates;
 #[cfg(test)]
-mod formulas;
+mod factors;
 #[cfg(test)]
 mod gates;
 #[cfg(test)]
@@ -14,11 +14,15 @@ mod helpers;
 #[cfg(test)]
 mod hostile;
 #[cfg(test)]
+mod interactions;
+#[cfg(test)]
 mod intervals;
 #[cfg(test)]
 mod medians;
 #[cfg(test)]
 mod nested;
+#[cfg(test)]
+mod numbers;
 #[cfg(test)]
 mod paths;
 #[cfg(test)]
@@ -27,6 +31,8 @@ mod predictions;
 mod ranges;
 #[cfg(test)]
 mod ranks;
+#[cfg(test)]
+mod records;
 #[cfg(test)]
 mod rows;
 #[cfg(test)]
