@@ -3,14 +3,15 @@
 //! The one contract for the layers above: `WholeBasis::solution` gives the coefficients, the residuals and the sides, and the
 //! two parts of the basic dual values, as they are defined in ℚ for the problem in whole numbers, or refuses;
 //! `solution_after` does so from what stood at another basis, of which it takes what rows weigh that keep their sides. Each
-//! number is a sum of products that one bound makes safe, in halves of 64 bits where that allows, or is multiplied out in 256 bits. It stands on `whole_rows`
-//! for the problem, and on `whole_inverse` for the inverse of the basis.
+//! number is a sum of products that one bound makes safe, in 64 bits or in halves of 64 bits where that allows, or is multiplied out in
+//! 256 bits. It stands on `whole_rows` for the problem, and on `whole_inverse` for the inverse of the basis.
 #![tactic(auto)]
 
 mod basis;
 mod bounds;
 mod duals;
 mod halves;
+mod narrow;
 mod position;
 mod primal;
 mod products;

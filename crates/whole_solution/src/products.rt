@@ -7,6 +7,7 @@ ghost use Rattle.whole_inverse.specs.Shares.{share_at, whole_at};
 ghost use Rattle.whole_rows.specs.Wholes.{of_whole};
 
 use crate::halves::{column_halves, halved_products, room_of};
+use crate::narrow::narrow_products;
 use crate::room::room_for;
 use frac_core::List;
 use std::alloc::Global;
@@ -77,8 +78,8 @@ fn wide_products(
     }
 }
 
-/// The numerators of the products of all rows, whose entries are within the limit, and a column of numerators.
-pub fn row_products(
+/// The same, by halves where these have room.
+fn halved_or_wide_products(
     alloc: Global,
     rows: &[WholeRow],
     column: &[i128],
@@ -91,6 +92,24 @@ pub fn row_products(
 {
     match products_by_halves(alloc, rows, column, limit) {
         Err(Obstacle::TooWide) => wide_products(alloc, rows, column, limit),
+        answer => answer,
+    }
+}
+
+/// The numerators of the products of all rows, whose entries are within the limit, and a column of numerators.
+pub fn row_products(
+    alloc: Global,
+    rows: &[WholeRow],
+    column: &[i128],
+    limit: u64,
+) -> Result<List<i128>, Obstacle>
+    requires wide { All (λ r. length r.x ≡ length column.now) rows.now }
+    requires small { All (λ r. All (λ e. unsigned_abs e ≤ limit) r.x) rows.now }
+    ensures size { IfOk result (λ made. length made ≡ length rows.now) }
+    ensures each { IfOk result (λ made. (d : ℤ) (i : ℕ) → i < length rows.now → share_at d made i ≡ sum_ℚ (length column.now) (λ k. of_whole rows.now (λ r. whole_at r.x k) i *ℚ share_at d column.now k)) }
+{
+    match narrow_products(alloc, rows, column, limit) {
+        Err(Obstacle::TooWide) => halved_or_wide_products(alloc, rows, column, limit),
         answer => answer,
     }
 }
