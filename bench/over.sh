@@ -37,10 +37,13 @@ for crate in $named; do
 done
 
 cd "$folder"
-"$kit/bin/rattle" build --crate-name program src/main.rt --extern "std=$kit/rlibs/std.rlib" "$@" -L "dependency=$kit/rlibs" \
-    --antt-project "$kit/rattle/logic/antt-project.json" --logic-built "$kit/logic_built" --incremental incremental --jobs 1 \
-    --links program= --toolchain "$kit/toolchain" -o program.o >log 2>&1 || {
+{
+    "$kit/bin/rattle" build --crate-name program src/main.rt --extern "std=$kit/rlibs/std.rlib" "$@" -L "dependency=$kit/rlibs" \
+        --antt-project "$kit/rattle/logic/antt-project.json" --logic-built "$kit/logic_built" --incremental incremental --jobs 1 \
+        --links program= --toolchain "$kit/toolchain" -o program.o &&
+        "$kit/bin/rattle-link" --target x86_64-unknown-linux-gnu --toolchain "$kit/toolchain" -o program program.o \
+            "$kit/c/libos_c.a" "$kit/c/liblibc_c.a"
+} >log 2>&1 || {
     cat log >&2
-    exit 1
+    fail "the program was not built"
 }
-"$kit/bin/rattle-link" --target x86_64-unknown-linux-gnu --toolchain "$kit/toolchain" -o program program.o "$kit/c/libos_c.a" "$kit/c/liblibc_c.a"
