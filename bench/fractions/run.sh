@@ -7,17 +7,12 @@ root=$(cd "$here/../.." && pwd)
 temp=$(mktemp -d)
 trap 'rm -rf "$temp"' EXIT
 
-# the proved program, over copies of the two crates
-mkdir -p "$temp/crates/bench_fractions/src"
-for crate in exact_algebra frac_core; do
-    grep "^$crate:" "$root/crates.txt" >> "$temp/crates.txt"
-    mkdir "$temp/crates/$crate"
-    (cd "$root/crates/$crate" && tar cf - --exclude=./out .) | (cd "$temp/crates/$crate" && tar xf -)
-done
-echo 'bench_fractions: frac_core' >> "$temp/crates.txt"
-cp "$here/main.rt.txt" "$temp/crates/bench_fractions/src/main.rt"
-cp "$here/work.rt.txt" "$temp/crates/bench_fractions/src/work.rt"
-(cd "$temp/crates/bench_fractions" && rt run > "$temp/proved" 2> "$temp/log") || { tail "$temp/log"; exit 1; }
+# the proved program
+mkdir -p "$temp/bench/src"
+cp "$here/main.rt.txt" "$temp/bench/src/main.rt"
+cp "$here/work.rt.txt" "$temp/bench/src/work.rt"
+"$here/../over.sh" "$temp/bench" frac_core
+"$temp/bench/program" > "$temp/proved"
 
 # the same code without its clauses
 mkdir "$temp/rust"

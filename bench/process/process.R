@@ -1,5 +1,5 @@
-# The best of three times of rq.fit.br over all quantiles on each of the generated tables of process_bench.txt, in milliseconds of a
-# processor: the first call of a session compiles R's own code too.
+# The times of rq.fit.br on the generated tables of process_bench.txt, over all quantiles and at the median alone: the least of five, in
+# milliseconds of a processor. The first call of a session compiles R's own code too.
 library(quantreg)
 
 # The first `count` cells of the generated table of number 1: (z div 65536) mod 1000 for each next z, which is
@@ -15,14 +15,30 @@ cells <- function(count) {
     made
 }
 
-for (shape in list(c(100, 5), c(1000, 5), c(2000, 5), c(5000, 4), c(100, 10), c(2000, 10))) {
+# The least of five means of so many fits, in milliseconds.
+time_fit <- function(count, fit) {
+    spent <- vapply(1:5, function(turn) {
+        taken <- system.time(for (k in seq_len(count)) fit())
+        taken[["user.self"]] + taken[["sys.self"]]
+    }, 0)
+    1000 * min(spent) / count
+}
+
+make_table <- function(shape) {
     table <- matrix(cells(shape[1] * shape[2]), nrow = shape[1], byrow = TRUE)
     x <- cbind(1, table[, -1])
     # rq.fit.br names its process by the names of the columns.
     colnames(x) <- paste0("x", seq_len(ncol(x)) - 1)
-    spent <- vapply(1:3, function(turn) {
-        taken <- system.time(fit <<- rq.fit.br(x, table[, 1], tau = -1))
-        taken[["user.self"]] + taken[["sys.self"]]
-    }, 0)
-    cat(sprintf("R: %d x %d: %.0f ms, %d breakpoints\n", shape[1], shape[2], 1000 * min(spent), ncol(fit$sol)))
+    list(x = x, y = table[, 1])
+}
+
+for (shape in list(c(100, 5), c(1000, 5), c(2000, 5), c(5000, 4), c(100, 10), c(2000, 10))) {
+    made <- make_table(shape)
+    least <- time_fit(1, function() fit <<- rq.fit.br(made$x, made$y, tau = -1))
+    cat(sprintf("R: %d x %d: %.0f ms, %d breakpoints\n", shape[1], shape[2], least, ncol(fit$sol)))
+}
+for (shape in list(c(1000, 5, 20), c(2000, 10, 20), c(16384, 5, 2), c(16384, 10, 2))) {
+    made <- make_table(shape)
+    least <- time_fit(shape[3], function() rq.fit.br(made$x, made$y, tau = 0.5))
+    cat(sprintf("R: %d x %d at the median: %.2f ms\n", shape[1], shape[2], least))
 }
