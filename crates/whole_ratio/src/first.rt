@@ -1,5 +1,5 @@
 //! The first of the rows that move.
-ghost use Rattle.std.specs.Prelude.{◌≡◌, ℕ, ◌+◌, ◌<◌, length, true, IfOk, IsTrue};
+ghost use Rattle.std.specs.Prelude.{◌≡◌, ℕ, ◌+◌, ◌<◌, ◌≤◌, length, true, IfOk, IsTrue};
 ghost use Rattle.walk_rule.specs.Walks.{IsFirstMover};
 ghost use Rattle.whole_ratio.specs.Lines.{IsLine, IsMover, IsMoverAt, IsFirstBelow, IsEarlierMover, model, at_of, inverse_at, is_moving, comes_before};
 
@@ -90,25 +90,58 @@ impl<'a> Line<'a> {
         }
     }
 
+    /// The first row from `start` on that may come before the first of the movers so far; the number of rows where none
+    /// does. That mover stays the same on the way, so that its parts stand in registers.
+    fn next_rival(&self, best: Option<Mover>, start: u32) -> u32
+        requires line { IsLine self.now }
+        requires start { start ≤ length self.now.basis.now.rows.now }
+        requires best { IsFirstBelow self.now start best }
+        ensures from { start ≤ result }
+        ensures within { result ≤ length self.now.basis.now.rows.now }
+        ensures best { IsFirstBelow self.now result best }
+    {
+        let end = self.sides.len() as u32;
+        for row in start..end {
+            if !self.stays_first(&best, row) {
+                return row;
+            }
+        }
+        end
+    }
+
+    /// The row of the first of all movers.
+    fn row_of(&self, best: Option<Mover>) -> u32
+        requires line { IsLine self.now }
+        requires some { (i : ℕ) × (i < length self.now.basis.now.rows.now) × (is_moving self.now i ≡ true) }
+        requires best { IsFirstBelow self.now (length self.now.basis.now.rows.now) best }
+        ensures { IsFirstMover (model self.now) (at_of self.now) (inverse_at self.now) self.now.position self.now.direction result }
+    {
+        match best {
+            Some(mover) => mover.row,
+            None => unreachable!(),
+        }
+    }
+
     /// The row that enters: the first of the rows that move.
     pub fn first_mover<F: Exact>(&self, alloc: Global) -> Result<u32, Obstacle>
         requires line { IsLine self.now }
         requires some { (i : ℕ) × (i < length self.now.basis.now.rows.now) × (is_moving self.now i ≡ true) }
         ensures { IfOk result (IsFirstMover (model self.now) (at_of self.now) (inverse_at self.now) self.now.position self.now.direction) }
     {
+        let end = self.sides.len() as u32;
         let mut best = None;
-        for row in 0..self.sides.len() as u32 {
-            if self.stays_first(&best, row) {
-                continue;
+        let mut row = 0;
+        for step in 0..end {
+            let rival = self.next_rival(best, row);
+            if rival >= end {
+                return Ok(self.row_of(best));
             }
-            match self.one_more::<F>(alloc, best, row) {
+            match self.one_more::<F>(alloc, best, rival) {
                 Ok(next) => best = next,
                 Err(obstacle) => return Err(obstacle),
             }
+            row = rival + 1;
         }
-        match best {
-            Some(mover) => Ok(mover.row),
-            None => unreachable!(),
-        }
+        Ok(self.row_of(best))
     }
 }

@@ -9,7 +9,7 @@ use Rattle.whole_inverse.proofs.Lists.{share_pushed, length_pushed}
 use Rattle.whole_inverse.proofs.ShareSums.{share-total}
 use Rattle.whole_rows.specs.Wholes.{of_whole}
 use Rattle.whole_solution.proofs.Reading.{product_of_row}
-use Rattle.whole_solution.proofs.narrow.products_of_narrow.Goals as goal
+use Rattle.whole_solution.proofs.narrow.products_of_width.Goals as goal
 
 pub loop-i-preserved : goal.loop-i-preserved
 loop-i-preserved c =

@@ -3,7 +3,7 @@ use Rattle.exact_algebra.specs.Rational.{◌*ℚ◌}
 use Rattle.exact_algebra.specs.RationalSums.{sum_ℚ}
 use Rattle.whole_inverse.specs.Shares.{share_at, whole_at}
 use Rattle.whole_rows.specs.Wholes.{of_whole}
-use Rattle.whole_solution.proofs.narrow.products_of_narrow.Given as goal
+use Rattle.whole_solution.proofs.narrow.products_of_width.Given as goal
 
 abbrev pub invariant-loop-i : goal.invariant-loop-i
 invariant-loop-i l = record {
