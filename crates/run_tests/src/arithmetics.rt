@@ -1,7 +1,7 @@
 //! Runs with arithmetics and offsets in formulas. What is wanted was worked out apart from the program: coefficients, dual
 //! values and losses by comparing all bases, and pivots by the pivot rule as the manual tells it.
 
-use crate::helpers::expect_all;
+use crate::cases::expect_all;
 
 static FITS: &str = r"
 > process|--formula|y ~ x + I(x^2)|--lo|1/2|--hi|1/2

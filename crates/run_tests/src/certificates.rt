@@ -1,9 +1,7 @@
 //! Certificates: what `certify` writes, and what `check` finds in it where it is whole and where it is spoilt.
 
-use crate::helpers::{
-    Cases, assert_left, assert_printed, assert_refused, counted, expect_each, parts, ran_at,
-    ran_on, table_of,
-};
+use crate::cases::{Kind, expect_each, parts, table_of};
+use crate::helpers::{assert_left, assert_printed, assert_refused, counted, ran_at, ran_on};
 use rq_fan::Open;
 use std::alloc::Global;
 use std::process::Abort;
@@ -14,11 +12,11 @@ static HEAD: &str =
     r#"{"columns":2,"hi":"1","intervals":[],"kind":"quantreg-certificate","lo":"0","rows":[{"down0":"1","down1":"-1","up0":"0","up1":"1","x":["1","0"],"y":"0"},{"down0":"1","down1":"-1","up0":"0","up1":"1","x":["1","1"],"y":"2"},{"down0":"1","down1":"-1","up0":"0","up1":"1","x":["1","3"],"y":"3"}],"segments":[{"basic_hi":["-2/5","-1/5"],"basic_lo":["0","0"],"coef":["0","1"],"hi":"3/5","lo":"0","loss_hi":"3/5","loss_lo":"0","sides":"*+*"}"#;
 
 // The rest of it as it is written, in version 2.
-static CHAINED: &str =
+pub(crate) static CHAINED: &str =
     r#",{"basic_hi":["0","0"],"coef":["3/2","1/2"],"hi":"1","loss_hi":"0","moves":[{"row":0,"side":"-"},{"row":1,"side":"*","value":"3/5"}]}],"version":2}"#;
 
 // The rest of it in version 1, which is read too.
-static FULL: &str =
+pub(crate) static FULL: &str =
     r#",{"basic_hi":["0","0"],"basic_lo":["3/5","-1/5"],"coef":["3/2","1/2"],"hi":"1","lo":"3/5","loss_hi":"0","loss_lo":"3/5","sides":"-**"}],"version":1}"#;
 
 // The words that make it, and its table.
@@ -114,24 +112,19 @@ fn accepted(alloc: Global, size: &str) -> Option<String> {
     format!(in alloc; "quantreg check 1\n{size}\naccepted\nend\n").ok()
 }
 
-// Words whose certificate is accepted, and holds so much.
-#[derive(Clone, Copy)]
-struct Written;
-
-impl Cases for Written {
-    fn expect<R: Abort + Threads + Sync>(&self, rt: &R, alloc: Global, case: &str) {
-        let (words, lines, size) = parts(case).expect(rt, "three lines");
-        let table = table_of(alloc, lines).expect(rt, "memory");
-        let report = accepted(alloc, size).expect(rt, "memory");
-        let written = ran_on(rt, alloc, words, table.as_bytes());
-        let left = ran_on(rt, alloc, "check", &written.printed);
-        assert_printed(rt, &left, &report, words);
-    }
+/// What the words write is accepted, and holds so much.
+pub(crate) fn expect_accepted<R: Abort + Threads + Sync>(rt: &R, alloc: Global, case: &str) {
+    let (words, lines, size) = parts(case).expect(rt, "three lines");
+    let table = table_of(alloc, lines).expect(rt, "memory");
+    let report = accepted(alloc, size).expect(rt, "memory");
+    let written = ran_on(rt, alloc, words, table.as_bytes());
+    let left = ran_on(rt, alloc, "check", &written.printed);
+    assert_printed(rt, &left, &report, words);
 }
 
 #[test]
 fn written_certificates_are_accepted(rt: HostRuntime) {
-    expect_each(&rt, rt.alloc(), &Written, (WRITTEN, 5));
+    expect_each(&rt, rt.alloc(), Kind::Written, (WRITTEN, 5));
 }
 
 // What stands in the certificate of version 1, or nothing for all of it, what stands there instead, and the exit status
@@ -256,29 +249,25 @@ fn spoilt(alloc: Global, rest: &str, from: &str, to: &str) -> Option<String> {
     }
 }
 
-// What is told of the certificate with this rest, where it is spoilt.
-#[derive(Clone, Copy)]
-struct Spoilt {
-    rest: &'static str,
-}
-
-impl Cases for Spoilt {
-    fn expect<R: Abort + Threads + Sync>(&self, rt: &R, alloc: Global, case: &str) {
-        let (from, to, wanted) = parts(case).expect(rt, "three lines");
-        let text = spoilt(alloc, self.rest, from, to).expect(rt, "memory");
-        let left = ran_on(rt, alloc, "check", text.as_bytes());
-        assert_left(rt, alloc, &left, wanted, to);
-    }
+/// What is told of the certificate with this rest, where it is spoilt.
+pub(crate) fn expect_told<R: Abort + Threads + Sync>(
+    rt: &R,
+    alloc: Global,
+    rest: &str,
+    case: &str,
+) {
+    let (from, to, wanted) = parts(case).expect(rt, "three lines");
+    let text = spoilt(alloc, rest, from, to).expect(rt, "memory");
+    let left = ran_on(rt, alloc, "check", text.as_bytes());
+    assert_left(rt, alloc, &left, wanted, to);
 }
 
 #[test]
 fn spoilt_certificates_are_told(rt: HostRuntime) {
-    let full = Spoilt { rest: FULL };
-    expect_each(&rt, rt.alloc(), &full, (SPOILT, 19));
+    expect_each(&rt, rt.alloc(), Kind::Spoilt, (SPOILT, 19));
 }
 
 #[test]
 fn spoilt_chains_are_told(rt: HostRuntime) {
-    let chained = Spoilt { rest: CHAINED };
-    expect_each(&rt, rt.alloc(), &chained, (SPOILT_CHAIN, 13));
+    expect_each(&rt, rt.alloc(), Kind::SpoiltChain, (SPOILT_CHAIN, 13));
 }

@@ -74,7 +74,7 @@ pub(crate) fn repeated(
 }
 
 // The run and its status. It has no clause: a test compares what is left, and needs nothing of what is
-// proved.
+// proved. The outcome is let go by its type, which takes less to prove than to let go of its kinds here.
 fn status_of<R: Threads + Sync, S: Source, G: Gate>(
     rt: &R,
     alloc: Global,
@@ -84,7 +84,10 @@ fn status_of<R: Threads + Sync, S: Source, G: Gate>(
     err: &mut MemSink,
     gate: &G,
 ) -> u8 {
-    run(rt, alloc, words, source, out, err, gate).code()
+    let outcome = run(rt, alloc, words, source, out, err, gate);
+    let code = outcome.code();
+    drop(outcome);
+    code
 }
 
 /// A run of the words over a source, with these sinks, whose jobs pass this gate.
@@ -201,27 +204,6 @@ pub(crate) fn assert_refused(rt: &impl Abort, left: &Left, status: u8, told: &st
     assert!(rt; left.told.as_slice() == told.as_bytes(), "{case}: {line:?}");
 }
 
-/// The first line of a case, which is its words, the second one, which is its table, and the others, which are what is
-/// wanted, up to a remark on the next case.
-pub(crate) fn parts(case: &str) -> Option<(&str, &str, &str)> {
-    let (words, rest) = case.split_once('\n')?;
-    let (lines, rest) = rest.split_once('\n')?;
-    let (wanted, _) = rest.split_once("\n#").unwrap_or((rest, ""));
-    Some((words.trim_start(), lines, wanted))
-}
-
-/// A table by its lines, between which `;` stands; no text, no lines.
-pub(crate) fn table_of(alloc: Global, lines: &str) -> Option<String> {
-    let mut table = String::new(alloc);
-    if !lines.is_empty() {
-        for line in lines.split(';') {
-            table.push_str(line).ok()?;
-            table.push_str("\n").ok()?;
-        }
-    }
-    Some(table)
-}
-
 // The exit status and the line of a refusal, if that is what is wanted.
 fn refusal(wanted: &str) -> Option<(u8, &str)> {
     let (status, told) = wanted.split_once(' ')?;
@@ -243,50 +225,4 @@ pub(crate) fn assert_left(rt: &impl Abort, alloc: Global, left: &Left, wanted: &
     } else {
         assert_printed(rt, left, &wanted, case);
     }
-}
-
-/// What is done with each case of a text.
-pub(crate) trait Cases {
-    /// Runs a case, and holds what is left to what is wanted.
-    fn expect<R: Abort + Threads + Sync>(&self, rt: &R, alloc: Global, case: &str);
-}
-
-/// Tries each case of a text, and there are so many. A case begins with a line `> ..`, and a line in it that begins
-/// with `#` is a remark on the next one.
-pub(crate) fn expect_each<R: Abort + Threads + Sync, C: Cases>(
-    rt: &R,
-    alloc: Global,
-    kind: &C,
-    (cases, count): (&str, u32),
-) {
-    let mut tried = 0u32;
-    for case in cases.trim_end().split("\n>").skip(1) {
-        kind.expect(rt, alloc, case);
-        tried = tried.wrapping_add(1);
-    }
-    assert!(rt; tried == count, "{tried} cases");
-}
-
-/// Cases of runs: a line `> WORDS`, a line with the table, in which `;` stands for the ends of lines, and what is left:
-/// the printed text, or the end of one behind a line `..`, or the exit status and the line that is told.
-#[derive(Clone, Copy)]
-struct Runs;
-
-impl Cases for Runs {
-    fn expect<R: Abort + Threads + Sync>(&self, rt: &R, alloc: Global, case: &str) {
-        let (words, lines, wanted) = parts(case).expect(rt, "three lines");
-        let table = table_of(alloc, lines).expect(rt, "memory");
-        let left = ran_on(rt, alloc, words, table.as_bytes());
-        assert_left(rt, alloc, &left, wanted, words);
-    }
-}
-
-/// Tries each of so many cases of runs.
-pub(crate) fn expect_all<R: Abort + Threads + Sync>(
-    rt: &R,
-    alloc: Global,
-    cases: &str,
-    count: u32,
-) {
-    expect_each(rt, alloc, &Runs, (cases, count));
 }

@@ -2,7 +2,7 @@
 //! points were worked by hand from the definition of the test; all were worked again, apart from the
 //! program, over all vertices of the dual values of the restricted problem.
 
-use crate::helpers::expect_all;
+use crate::cases::expect_all;
 
 // Of five points the statistic is tau times how many lie above the value, minus 1 - tau times how many lie below; its
 // square is compared with crit * tau * (1 - tau) * 5.

@@ -4,6 +4,8 @@
 #[cfg(test)]
 mod arithmetics;
 #[cfg(test)]
+mod cases;
+#[cfg(test)]
 mod certificates;
 #[cfg(test)]
 mod factors;

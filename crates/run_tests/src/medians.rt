@@ -1,6 +1,6 @@
 //! Runs on one column at one quantile.
 
-use crate::helpers::expect_all;
+use crate::cases::expect_all;
 
 // Worked by hand. The greedy start is the first record. Of the responses, equal ones in the order of the later record
 // first, the one at place k is optimal where k - 1 <= n*tau <= k; one pivot leads to the nearest such place, if any is

@@ -1,7 +1,7 @@
 //! Runs of the job `test`. What is wanted was worked out apart from the program: Wilcoxon scores by the quantiles at which
 //! each basis is optimal, and statistics by solving the equations of the Gram matrix.
 
-use crate::helpers::expect_all;
+use crate::cases::expect_all;
 
 static SLOPE: &str = r"
 > test|--formula|y ~ x|--tested|2

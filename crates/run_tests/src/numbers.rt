@@ -2,7 +2,7 @@
 //! Coefficients and losses are those of the least check loss over all bases of the design; where more
 //! than one basis has it, the pivot rule decides, worked out row by row apart from the program.
 
-use crate::helpers::expect_all;
+use crate::cases::expect_all;
 
 // Decimals and ratios.
 static FRACTIONS: &str = r"

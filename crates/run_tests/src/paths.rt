@@ -1,7 +1,8 @@
 //! Runs of the job `path`. What is wanted was worked out apart from the program: coefficients, dual values and losses
 //! by comparing all bases at every lambda, and pivots by the pivot rule as the manual tells it.
 
-use crate::helpers::{assert_refused, expect_all, ran_on, repeated};
+use crate::cases::expect_all;
+use crate::helpers::{assert_refused, ran_on, repeated};
 
 // Worked by hand.
 static SMALL: &str = r"

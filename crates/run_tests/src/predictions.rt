@@ -1,7 +1,8 @@
 //! Runs of the job `predict`. What is wanted was worked out apart from the program: coefficients by comparing
 //! all bases at every quantile, and rearrangements by sorting.
 
-use crate::helpers::{assert_refused, expect_all, ran_on, repeated};
+use crate::cases::expect_all;
+use crate::helpers::{assert_refused, ran_on, repeated};
 
 // A line over 0 to 1. Two segments run through pairs of the points.
 static REPORTS: &str = r"

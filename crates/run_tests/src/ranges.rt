@@ -2,7 +2,7 @@
 //! stackloss by the pivot rule in fractions, apart from the program, and each of their segments was seen
 //! there to be optimal at both ends.
 
-use crate::helpers::expect_all;
+use crate::cases::expect_all;
 
 // Three different responses, three equal ones, which are fitted in turn from the last to the first, one alone, and
 // three that fall.

@@ -1,7 +1,7 @@
 //! Runs of the job `ranks`. What is wanted was worked out apart from the program: of an intercept alone
 //! as the centred rank over the number of records, and of other models by integrals over all bases.
 
-use crate::helpers::expect_all;
+use crate::cases::expect_all;
 
 // An intercept alone. The record of rank k among n is
 // fitted from (k - 1)/n to k/n, so that the integral of its rankscore is (k - 1/2)/n; with weights it

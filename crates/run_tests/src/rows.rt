@@ -1,6 +1,6 @@
 //! Worked examples: stackloss, a line through three points, and designs of one column.
 
-use crate::helpers::expect_all;
+use crate::cases::expect_all;
 
 // Stack loss of an ammonia plant (Brownlee 1965), as R's `write.csv` writes it, and its median regression on everything
 // else. The fit goes through the records 2, 8, 16 and 18; their dual values, 131, -385, 503 and 441 over 1380, lie within

@@ -1,6 +1,7 @@
 //! Generated tables: their summaries, the words that are refused, and a source that is left alone.
 
-use crate::helpers::{SOUND, TABLE, assert_printed, copied, expect_all, ran};
+use crate::cases::expect_all;
+use crate::helpers::{SOUND, TABLE, assert_printed, copied, ran};
 use port_io::MemSource;
 
 // The first is worked by hand; the segments, the pivots and the losses of the others were worked out beforehand in

@@ -1,7 +1,8 @@
 //! Runs with smooths. The reports were worked out apart from the program, by the pivot rule in fractions
 //! and the least loss over all bases; the small smooth and the faults also by hand.
 
-use crate::helpers::{assert_refused, expect_all, ran_on};
+use crate::cases::expect_all;
+use crate::helpers::{assert_refused, ran_on};
 use std::alloc::Global;
 
 static REPORTS: &str = r"

@@ -1,7 +1,7 @@
 //! Runs in which the solver stops: for dependent columns, for the limit of pivots, and for numbers that
 //! outgrow 128 bits. M is 2^127 - 1, the greatest numerator and denominator.
 
-use crate::helpers::expect_all;
+use crate::cases::expect_all;
 
 // Each combination of the columns is 0 in every row.
 static DEPENDENT: &str = r#"

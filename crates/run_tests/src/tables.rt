@@ -1,7 +1,8 @@
 //! Runs on tables: what is read, what is dropped, and what is refused for which fault. The answers
 //! were worked out by hand from the rules.
 
-use crate::helpers::{assert_printed, assert_refused, expect_all, ran_on, repeated};
+use crate::cases::expect_all;
+use crate::helpers::{assert_printed, assert_refused, ran_on, repeated};
 
 static REPORTS: &str = r#"
 # A record that misses its response is dropped, and one that misses another cell isn't.

@@ -1,7 +1,8 @@
 //! Runs with weights. The reports were worked out apart from the program: those of two records by hand,
 //! those of a line by the pivot rule in fractions and the least loss over all bases.
 
-use crate::helpers::{Left, expect_all, ran_on};
+use crate::cases::expect_all;
+use crate::helpers::{Left, ran_on};
 use std::alloc::Global;
 use std::process::Abort;
 use std::str::from_utf8;

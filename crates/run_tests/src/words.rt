@@ -1,6 +1,6 @@
 //! Words, formulas and quantiles: those that are refused, and those that ask for one job.
 
-use crate::helpers::expect_all;
+use crate::cases::expect_all;
 
 static FAULTS: &str = r"
 > process|--formula|y ~ x|--lo|1/2|--hi|1/2
