@@ -1,7 +1,4 @@
 //! The top call.
-//!
-//! Reports, troubles and outcomes are let go by their types, with `drop`: what a function lets go of so many kinds by
-//! itself takes long to prove.
 ghost use Rattle.std.specs.Prelude.{◌≡◌, ◌≢◌, ◌⊎◌, ◌↔◌, ℕ, List, ◌<◌, ◌≤◌, length, map, string_bytes, IfOk, IfErr, IsTrue, OnOk};
 ghost use Rattle.rq_engine.specs.Answers.{HasCause, IsRight};
 ghost use Rattle.rq_engine.specs.Jobs.{IsJobOf};
@@ -115,10 +112,7 @@ fn written<R: Threads + Sync, G: Gate>(
     };
     match report_bytes(alloc, &report) {
         Ok(text) => Ok((report, text)),
-        Err(_) => {
-            drop(report);
-            Err(Halt::OutOfMemory)
-        }
+        Err(_) => Err(Halt::OutOfMemory),
     }
 }
 
@@ -172,7 +166,8 @@ fn read_source<S: Source>(alloc: Global, job: &Job, source: &mut S) -> Result<Ve
     }
 }
 
-// Writes a report. After a failed write one line is still tried on `err`.
+// Writes a report. After a failed write one line is still tried on `err`, and the report is let go by its type: what a
+// function lets go of so many kinds by itself takes long to prove.
 fn print<K: Sink, E: Sink>(report: Report, text: &[u8], out: &mut K, err: &mut E) -> Outcome
     requires { text.now ≡ report_text report }
     ensures { WasPrinted report result
@@ -197,15 +192,11 @@ fn tell<E: Sink>(alloc: Global, trouble: Trouble, err: &mut E) -> Outcome
         WasTold (outcome_of trouble) result before now ⊎ ((trouble ≢ Trouble.Source) × WasTold Outcome.OutOfMemory result before now) }
 {
     if let Trouble::Source = trouble {
-        drop(trouble);
         return write_line(err, SOURCE_LINE, Outcome::SourceFault);
     }
     match trouble.line(alloc) {
         Ok(line) => write_line(err, &line, trouble.outcome()),
-        Err(_) => {
-            drop(trouble);
-            write_line(err, MEMORY_LINE, Outcome::OutOfMemory)
-        }
+        Err(_) => write_line(err, MEMORY_LINE, Outcome::OutOfMemory),
     }
 }
 
@@ -216,9 +207,6 @@ fn write_line<E: Sink>(err: &mut E, line: &[u8], fault: Outcome) -> Outcome
 {
     match write_all(err, line) {
         Ok(()) => fault,
-        Err(Failed) => {
-            drop(fault);
-            Outcome::SinkFault
-        }
+        Err(Failed) => Outcome::SinkFault,
     }
 }
