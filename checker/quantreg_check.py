@@ -6,12 +6,14 @@
 It needs no solver: nine conditions on the coefficients and dual values of a certificate show that the coefficients have the least loss
 at every quantile of its range, and that its rank intervals are right (Koenker 2005, chapters 3 and 6). They are tested in their order,
 each by index and then by inner number, and the first that is false is told with both sides. Rows, columns and segments are counted
-from 1. The status is 0 where the certificate is accepted, and 1 where it isn't or is none.
+from 1. The status is 0 where the certificate is accepted, and 1 where it isn't or is none. Sums over all rows are sums of whole numbers
+over a common denominator, for speed.
 """
 
 import json
 import sys
 from fractions import Fraction
+from math import lcm
 
 CONDITIONS = {
     1: "each list has the length that it should",
@@ -44,6 +46,7 @@ PLAIN = {
     "a side": lambda value: value in ("+", "-", "*"),
     "version": lambda value: type(value) is int and value in (1, 2),
 }
+SIGNS = {"=": {0}, "<": {-1}, "<=": {-1, 0}, ">": {1}, ">=": {1, 0}}  # of left minus right
 
 
 def fraction(text):
@@ -68,32 +71,31 @@ def read(value, kind, path=""):
         for key in sorted(kind.keys() ^ value.keys()):
             raise ValueError(f"{path}/{key} is {'missing' if key in kind else 'unknown'}")
         return {key: read(value[key], kind[key], f"{path}/{key}") for key in sorted(kind)}
-    if kind == "number" and fraction(value) is not None:
-        return fraction(value)
+    if kind == "number" and (number := fraction(value)) is not None:
+        return number
     if isinstance(kind, str) and kind in PLAIN and PLAIN[kind](value):
         return value
     raise ValueError(f"{path or '/'} is no {kind if isinstance(kind, str) else 'list or object as it should be'}")
 
 
-def moved(before, later):
-    """A later segment of version 2 in full: it begins as the one before it ends, but for the rows that move."""
-    values, least = iter(before["basic_hi"]), 0
-    places = [(side, next(values) if side == "*" else None) for side in before["sides"]]
+def moved(before, later, sides):
+    """A later segment of version 2 in full: it begins as the one before it ends, but for the rows that move, as the sides then do."""
+    values, least = dict(zip(stars(sides), before["basic_hi"])), 0
     for move in later["moves"]:
         row, side = move["row"], move["side"]
-        if not least <= row < len(places) or side == places[row][0]:
+        if not least <= row < len(sides) or side == sides[row]:
             return None
-        places[row], least = (side, move.get("value")), row + 1
-    low = {"lo": before["hi"], "loss_lo": before["loss_hi"], "basic_lo": [value for side, value in places if side == "*"]}
-    found = {**later, **low, "sides": "".join(side for side, _ in places)}
+        sides[row], values[row], least = side, move.get("value"), row + 1
+    low = {"lo": before["hi"], "loss_lo": before["loss_hi"], "basic_lo": [values[row] for row in stars(sides)]}
+    found = {**later, **low, "sides": "".join(sides)}
     return {key: found[key] for key in SEGMENT}
 
 
 def in_full(chain, rows):
     """The segments of version 2, each in full."""
-    full = []
+    full, sides = [], list(chain[0]["sides"]) if chain else []
     for at, it in enumerate(chain):
-        it = moved(full[-1], it) if at else it
+        it = moved(full[-1], it, sides) if at else it
         if not it or len(it["sides"]) != rows or not it["sides"].count("*") == len(it["basic_lo"]) == len(it["basic_hi"]):
             raise ValueError(f"/segments/{at}/{'moves' if at else 'sides'} is not what goes with the rest")
         full.append(it)
@@ -102,11 +104,15 @@ def in_full(chain, rows):
 
 def certificate(value):
     """The certificate of a value of JSON, of version 1 or 2, with each segment in full."""
-    version = value.get("version") if isinstance(value, dict) else None
-    if type(version) is int and version == 2:
+    if isinstance(value, dict) and type(value.get("version")) is int and value["version"] == 2:
         cert = read(value, CERTIFICATE | {"segments": "a chain"})
         return cert | {"segments": in_full(cert["segments"], len(cert["rows"]))}
     return read(value, CERTIFICATE)
+
+
+def stars(sides):
+    """The numbers of the basic rows, from 0."""
+    return [i for i, side in enumerate(sides) if side == "*"]
 
 
 def costs(row, theta):
@@ -114,30 +120,63 @@ def costs(row, theta):
     return row["up0"] + row["up1"] * theta, row["down0"] + row["down1"] * theta
 
 
-def dual_values(rows, sides, basic, theta):
-    """Each row's dual value: the upper cost, minus the lower cost, or what a basic row has."""
-    given, priced = iter(basic), (costs(row, theta) for row in rows)
-    return [next(given) if side == "*" else up if side == "+" else -down for side, (up, down) in zip(sides, priced)]
+def dual_value(row, side, basic, theta):
+    """A row's dual value: the upper cost, minus the lower cost, or of a basic row the next one that is given."""
+    up, down = costs(row, theta)
+    return next(basic) if side == "*" else up if side == "+" else -down
 
 
 def product(left, right):
-    return sum((a * b for a, b in zip(left, right)), Fraction(0))
+    return sum([a * b for a, b in zip(left, right)])
 
 
-def loss(rows, coef, theta):
-    total = Fraction(0)
-    for row in rows:
-        residual, (up, down) = row["y"] - product(row["x"], coef), costs(row, theta)
-        total += up * residual if residual >= 0 else down * -residual
-    return total
+def whole(numbers):
+    """The numbers times their least common denominator, and that."""
+    common = lcm(*(it.denominator for it in numbers))
+    return [it.numerator * (common // it.denominator) for it in numbers], common
+
+
+class Table:
+    """The rows in whole numbers: entries and responses times self.unit, costs times self.price. A cost is a constant and a slope, so what
+    the rows that aren't basic come to in a column is made once for both ends of a segment."""
+
+    def __init__(self, rows, columns):
+        entries, self.unit = whole([entry for row in rows for entry in (*row["x"], row["y"])])
+        *self.columns, self.response = (entries[k :: columns + 1] for k in range(columns + 1))
+        prices, self.price = whole([row[key] for row in rows for key in ("up0", "up1", "down0", "down1")])
+        fours = zip(prices[::4], prices[1::4], prices[2::4], prices[3::4])
+        self.duals = [{"+": (up0, up1), "-": (-down0, -down1), "*": (0, 0)} for up0, up1, down0, down1 in fours]
+
+    def parts(self, sides):
+        """The constants and the slopes of the dual values of rows on these sides, with 0 for a basic row."""
+        return [[dual[side][part] for side, dual in zip(sides, self.duals)] for part in (0, 1)]
+
+    def left(self, column, coef):
+        """What coefficients leave of a column in each row, and what all of that is to be divided by."""
+        coef, common = whole(coef)
+        left = [common * it for it in column]
+        for factor, entries in zip(coef, self.columns):
+            left = [it - factor * entry for it, entry in zip(left, entries)]
+        return left, common * self.unit
+
+    def sums(self, sides, *ends):
+        """For each end, of basic dual values and a quantile, the sums of dual value times entry by column, and times response."""
+        basic, parts = stars(sides), self.parts(sides)
+        columns = [[column[i] for i in basic] + [product(part, column) for part in parts] for column in (*self.columns, self.response)]
+        for values, theta in ends:
+            values, common = whole([*values, Fraction(1, self.price), theta / self.price])
+            yield [Fraction(product(values, column), common * self.unit) for column in columns]
+
+    def losses(self, coef, *thetas):
+        left, common = self.left(self.response, coef)
+        constant, slope = (product(part, left) for part in self.parts(["+" if it >= 0 else "-" for it in left]))
+        return [(constant + slope * theta) / (common * self.price) for theta in thetas]
 
 
 # The conditions as tests: condition, index and inner number, then a side, how it should stand to the other, and that one.
 def vertex_form(found, rows, columns, lists):
     """The lengths of a segment's or an end's lists: coefficients, sides, stars, and the others."""
-    yield len(found["coef"]), "=", columns
-    yield len(found["sides"]), "=", rows
-    yield found["sides"].count("*"), "=", columns
+    yield from ((len(found["coef"]), "=", columns), (len(found["sides"]), "=", rows), (found["sides"].count("*"), "=", columns))
     yield from ((len(found[name]), "=", columns) for name in lists)
 
 
@@ -145,15 +184,15 @@ def form(cert):
     rows, columns = len(cert["rows"]), cert["columns"]
     for i, row in enumerate(cert["rows"], 1):
         yield 1, i, 0, len(row["x"]), "=", columns
-    for j, segment in enumerate(cert["segments"], 1):
-        tests = vertex_form(segment, rows, columns, ["basic_lo", "basic_hi"])
+    for j, it in enumerate(cert["segments"], 1):
+        tests = vertex_form(it, rows, columns, ["basic_lo", "basic_hi"])
         yield from ((1, j, inner, *test) for inner, test in enumerate(tests, 1))
     for j, interval in enumerate(cert["intervals"], 1):
         yield 1, j, 6, interval["column"], "<", columns
         yield 1, j, 7, len(interval["projection"]), "=", columns
         for inner, end in ((8, interval["low"]), (9, interval["high"])):
-            tests = vertex_form(end, rows, columns, ["inside", "ray" if "ray" in end else "outside"])
-            yield from ((1, j, inner, *test) for test in tests)
+            others = ["inside", "ray" if "ray" in end else "outside"]
+            yield from ((1, j, inner, *test) for test in vertex_form(end, rows, columns, others))
 
 
 def range_and_cover(cert):
@@ -173,98 +212,96 @@ def range_and_cover(cert):
 
 def within(rows, sides, values, theta):
     """Whether basic dual values are within the costs, with the number of each row."""
-    for i, (row, side, value) in enumerate(zip(rows, sides, values), 1):
-        if side == "*":
-            up, down = costs(row, theta)
-            yield i, value, "<=", up
-            yield i, value, ">=", -down
+    for i, value in zip(stars(sides), values):
+        up, down = costs(rows[i], theta)
+        yield i + 1, value, "<=", up
+        yield i + 1, value, ">=", -down
 
 
 def optimal(cert):
     """Conditions 4 to 8."""
-    rows, columns, segments = cert["rows"], cert["columns"], list(enumerate(cert["segments"], 1))
-
-    def duals(j, end):
-        found = cert["segments"][j - 1]
-        return dual_values(rows, found["sides"], found["basic_" + end], found[end])
-
+    rows, columns, segments, sevenths = cert["rows"], cert["columns"], list(enumerate(cert["segments"], 1)), []
     for condition, end in ((4, "lo"), (5, "hi")):
-        for j, segment in segments:
-            yield from ((condition, j, *test) for test in within(rows, segment["sides"], duals(j, end), segment[end]))
-    for j, _ in segments:
-        for before, end in ((1, "lo"), (columns + 1, "hi")):
-            values = duals(j, end)
-            yield from ((6, j, before + k, product(values, [row["x"][k] for row in rows]), "=", 0) for k in range(columns))
-    for j, segment in segments:
-        for inner, end in ((1, "lo"), (3, "hi")):
-            yield 7, j, inner, segment["loss_" + end], "=", loss(rows, segment["coef"], segment[end])
-            yield 7, j, inner + 1, segment["loss_" + end], "=", product([row["y"] for row in rows], duals(j, end))
-    for j, _ in segments[:-1]:
-        for i, (left, right) in enumerate(zip(duals(j, "hi"), duals(j + 1, "lo")), 1):
-            yield 8, j, i, left, "=", right
+        for j, it in segments:
+            yield from ((condition, j, *test) for test in within(rows, it["sides"], it["basic_" + end], it[end]))
+    table = Table(rows, columns)
+    for j, it in segments:
+        sums = table.sums(it["sides"], (it["basic_lo"], it["lo"]), (it["basic_hi"], it["hi"]))
+        losses = table.losses(it["coef"], it["lo"], it["hi"])
+        for at, ((*totals, worth), loss, stated) in enumerate(zip(sums, losses, (it["loss_lo"], it["loss_hi"]))):
+            yield from ((6, j, inner, total, "=", 0) for inner, total in enumerate(totals, at * columns + 1))
+            sevenths += [(7, j, 2 * at + 1, stated, "=", loss), (7, j, 2 * at + 2, stated, "=", worth)]
+    yield from sevenths
+    for (j, left), (_, right) in zip(segments, segments[1:]):
+        lefts, rights, theta = iter(left["basic_hi"]), iter(right["basic_lo"]), left["hi"]
+        for i, (row, before, after) in enumerate(zip(rows, left["sides"], right["sides"]), 1):
+            if before != after or before == "*":  # else both are the same cost, at the same quantile
+                yield 8, j, i, dual_value(row, before, lefts, theta), "=", dual_value(row, after, rights, theta)
 
 
-def one_end(cert, interval, end, first, sign, bound):
+def one_end(cert, table, interval, end, first, sign, bound):
     """What must hold of an end: the low one with the numbers from 10 and the sign 1, the high one from 20 and -1."""
     rows, tested, tau, sides = cert["rows"], interval["column"], interval["tau"], end["sides"]
-    left, entries = [row["y"] - product(row["x"], end["coef"]) for row in rows], [row["x"][tested] for row in rows]
+    left, common = table.left(table.response, end["coef"])
+    left = [Fraction(it, common) for it in left]
     yield from ((first, r, "=", 0) for r, side in zip(left, sides) if side == "*")
     yield from ((first + 1, r, ">=" if side == "+" else "<=", 0) for r, side in zip(left, sides) if side != "*")
 
-    def balanced(values, inner):
-        others = (k for k in range(cert["columns"]) if k != tested)
-        yield from ((inner, product(values, [row["x"][k] for row in rows]), "=", 0) for k in others)
+    def statistic(values, bounds, balance):
+        """The sum in the tested column, once the values are within the bounds, and the sums in the others are 0."""
+        yield from ((bounds, *test[1:]) for test in within(rows, sides, values, tau))
+        *sums, _ = next(table.sums(sides, (values, tau)))
+        yield from ((balance, total, "=", 0) for k, total in enumerate(sums) if k != tested)
+        return sums[tested]
 
-    inside = dual_values(rows, sides, end["inside"], tau)
-    yield from ((first + 2, *test[1:]) for test in within(rows, sides, inside, tau))
-    yield from balanced(inside, first + 3)
-    yield first + 4, product(inside, entries) ** 2, "<=", bound
+    inside = yield from statistic(end["inside"], first + 2, first + 3)
+    yield first + 4, inside**2, "<=", bound
     if end["kind"] == "finite":
         yield first + 5, end["value"], "=", end["coef"][tested]
-        outside = dual_values(rows, sides, end["outside"], tau)
-        yield from ((first + 6, *test[1:]) for test in within(rows, sides, outside, tau))
-        yield from balanced(outside, first + 6)
-        yield first + 7, product(outside, entries), ">" if sign > 0 else "<", 0
-        yield first + 7, product(outside, entries) ** 2, ">", bound
+        outside = yield from statistic(end["outside"], first + 6, first + 6)
+        yield first + 7, outside, ">" if sign > 0 else "<", 0
+        yield first + 7, outside**2, ">", bound
     else:
         yield first + 6, end["ray"][tested], "=", -sign
-        for row, value in zip(rows, inside):
-            along, (up, down) = product(row["x"], end["ray"]), costs(row, tau)
-            if along != 0:
-                yield first + 7, value, "=", up if along < 0 else -down
+        values, (against, _) = iter(end["inside"]), table.left([0] * len(rows), end["ray"])
+        for row, side, step in zip(rows, sides, against):
+            value, (up, down) = dual_value(row, side, values, tau), costs(row, tau)
+            if step != 0:
+                yield first + 7, value, "=", up if step > 0 else -down
 
 
-def one_interval(cert, interval):
-    rows, tested, tau = cert["rows"], interval["column"], interval["tau"]
+def one_interval(cert, table, interval):
+    rows, tested, tau, projection = cert["rows"], interval["column"], interval["tau"], interval["projection"]
     for row in rows:
         yield from ((1, row["up0"], "=", 0), (1, row["up1"], ">", 0))
         yield from ((1, row["down0"], "=", row["up1"]), (1, row["down1"], "=", -row["up1"]))
     yield from ((2, Fraction(0), "<", tau), (2, tau, "<", 1), (2, interval["crit"], ">=", 0))
-    yield 3, interval["projection"][tested], "=", 0
-    z = [row["up1"] * (row["x"][tested] - product(row["x"], interval["projection"])) for row in rows]
-    for k in (k for k in range(cert["columns"]) if k != tested):
-        yield 4, product(z, [row["up1"] * row["x"][k] for row in rows]), "=", 0
-    yield 5, product(z, z), ">", 0
-    bound = interval["crit"] * tau * (1 - tau) * product(z, z)
-    yield from one_end(cert, interval, interval["low"], 10, 1, bound)
-    yield from one_end(cert, interval, interval["high"], 20, -1, bound)
+    yield 3, projection[tested], "=", 0
+    left, common = table.left(table.columns[tested], projection)
+    weights, common = [dual["+"][1] for dual in table.duals], common * table.price
+    z = [weight * it for weight, it in zip(weights, left)]
+    for column in table.columns[:tested] + table.columns[tested + 1 :]:
+        total = product(z, [weight * entry for weight, entry in zip(weights, column)])
+        yield 4, Fraction(total, common * table.price * table.unit), "=", 0
+    squares = Fraction(product(z, z), common**2)
+    yield 5, squares, ">", 0
+    bound = interval["crit"] * tau * (1 - tau) * squares
+    yield from one_end(cert, table, interval, interval["low"], 10, 1, bound)
+    yield from one_end(cert, table, interval, interval["high"], 20, -1, bound)
     if interval["low"]["kind"] == interval["high"]["kind"] == "finite":
         yield 28, interval["low"]["value"], "<=", interval["high"]["value"]
 
 
 def intervals(cert):
+    table = Table(cert["rows"], cert["columns"])
     for j, interval in enumerate(cert["intervals"], 1):
-        yield from ((9, j, *test) for test in one_interval(cert, interval))
+        yield from ((9, j, *test) for test in one_interval(cert, table, interval))
 
 
 def first_false(cert):
     """The first test that is false, or None. A later one is looked at only where those before it hold."""
-    for part in (form, range_and_cover, optimal, intervals):
-        for test in part(cert):
-            left, relation, right = test[3:]
-            if not {"=": left == right, "<": left < right, "<=": left <= right, ">": left > right, ">=": left >= right}[relation]:
-                return test
-    return None
+    tests = (test for part in (form, range_and_cover, optimal, intervals) for test in part(cert))
+    return next((test for test in tests if (test[3] > test[5]) - (test[3] < test[5]) not in SIGNS[test[4]]), None)
 
 
 def main(words):
@@ -274,8 +311,7 @@ def main(words):
     except (OSError, ValueError, RecursionError) as error:
         print(f"no certificate: {error}")
         return 1
-    false = first_false(cert)
-    if false:
+    if false := first_false(cert):
         condition, index, inner, left, relation, right = false
         print(f"rejected: condition={condition} index={index} inner={inner} left={left} right={right}")
         print(f"Condition {condition} says that {CONDITIONS[condition]}; here {left} {relation} {right} is false.")
