@@ -25,7 +25,7 @@ for crate in $below; do
     built=$libraries/$crate/out/rlib/$crate.rlib
     [ -f "$built/format" ] || fail "$crate has no library in $libraries: run rt ci first"
     changed=$(find "$libraries/$crate" -name out -prune -o -name '*.rt' -newermc "$built" -print -quit -o -name '*.antt' -newermc "$built" -print -quit)
-    [ -z "$changed" ] || fail "$changed is newer than the library of $crate: run rt ci first"
+    [ -z "$changed" ] || echo "over.sh: $changed is newer than the library of $crate, which is of an older source unless rt ci has passed since" >&2
     set -- "$@" -L "dependency=$libraries/$crate/out/rlib"
 done
 for crate in $named; do
