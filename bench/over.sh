@@ -23,7 +23,7 @@ named=$(printf '%s\n' "$@")
 set --
 for crate in $below; do
     built=$libraries/$crate/out/rlib/$crate.rlib
-    [ -f "$built/format" ] || fail "$crate has no library in $libraries: run rt ci first"
+    [ -f "$built/format" ] || fail "$crate has no library in $libraries: rt ci leaves one where it proves the crate, and none where an earlier proof is kept"
     changed=$(find "$libraries/$crate" -name out -prune -o -name '*.rt' -newermc "$built" -print -quit -o -name '*.antt' -newermc "$built" -print -quit)
     [ -z "$changed" ] || echo "over.sh: $changed is newer than the library of $crate, which is of an older source unless rt ci has passed since" >&2
     set -- "$@" -L "dependency=$libraries/$crate/out/rlib"
