@@ -11,7 +11,7 @@ use crate::narrow::narrow_products;
 use crate::room::room_for;
 use frac_core::List;
 use std::alloc::Global;
-use whole_inverse::{Obstacle, product_within};
+use whole_inverse::{Obstacle, product_of, product_within};
 use whole_rows::WholeRow;
 use wide_int::bound_of;
 
@@ -34,6 +34,27 @@ fn bounded_products(
         let number = product_within(row.x.as_slice(), column, limit);
         if made.push(number).is_err() {
             return Err(Obstacle::OutOfMemory);
+        }
+    }
+    Ok(made)
+}
+
+/// The same, where no bound says so: each product is tested.
+fn tested_products(
+    alloc: Global,
+    rows: &[WholeRow],
+    column: &[i128],
+) -> Result<List<i128>, Obstacle>
+    requires wide { All (λ r. length r.x ≡ length column.now) rows.now }
+    ensures size { IfOk result (λ made. length made ≡ length rows.now) }
+    ensures each { IfOk result (λ made. (d : ℤ) (i : ℕ) → i < length rows.now → share_at d made i ≡ sum_ℚ (length column.now) (λ k. of_whole rows.now (λ r. whole_at r.x k) i *ℚ share_at d column.now k)) }
+{
+    let mut made = room_for(alloc, rows.len())?;
+    for i in 0..rows.len() {
+        let row = &rows[i];
+        match product_of(row.x.as_slice(), column) {
+            Some(number) => made.add(number)?,
+            None => return Err(Obstacle::TooWide),
         }
     }
     Ok(made)
@@ -74,7 +95,7 @@ fn wide_products(
 {
     match bound_of(column, limit) {
         Some(_) => bounded_products(alloc, rows, column, limit),
-        None => Err(Obstacle::TooWide),
+        None => tested_products(alloc, rows, column),
     }
 }
 

@@ -4,7 +4,7 @@
 ghost use Rattle.std.specs.Prelude.{◌≡◌, ℕ, ℤ, ◌<◌, ◌+ℤ◌, ◌*ℤ◌, ◌≤ℤ◌, neg_ℤ, pos, All, List as list, length, IfOk, IfSome, IsTrue};
 ghost use Rattle.exact_algebra.specs.Rational.{◌+ℚ◌, ◌-ℚ◌, ◌*ℚ◌, whole};
 ghost use Rattle.exact_algebra.specs.RationalSums.{sum_ℚ};
-ghost use Rattle.wide_int.specs.Numbers.{total as sum};
+ghost use Rattle.wide_int.specs.Numbers.{number_of, total as sum};
 ghost use Rattle.loss_model.specs.declared.vertex.Side.TheVariants.{Basic};
 ghost use Rattle.whole_inverse.specs.Shares.{share, share_at, whole_at};
 ghost use Rattle.whole_rows.specs.Wholes.{sample_of_rows};
@@ -155,22 +155,22 @@ impl Totals {
 }
 
 /// A total times the determinant less a sum of products.
-fn rest(total: i128, determinant: i128, xs: &[i128], ys: &[i128]) -> Option<i128>
+fn rest(total: i128, determinant: i128, xs: &[i128], ys: &[i128]) -> Option<Wide>
     requires { length xs.now ≡ length ys.now }
-    ensures { IfSome result (λ n. n ≡ (total *ℤ determinant) +ℤ neg_ℤ (sum xs.now ys.now)) }
+    ensures { IfSome result (λ n. number_of n ≡ (total *ℤ determinant) +ℤ neg_ℤ (sum xs.now ys.now)) }
 {
     let sum = wide_sum(xs, ys)?;
     let number = Wide::product(total, determinant).plus(sum.negation())?;
-    number.narrow()
+    Some(number)
 }
 
 impl Totals {
     /// What the rows weigh in the residuals of these coefficients, whose numerators stand over the determinant, as does
-    /// its own.
-    pub fn residual(&self, coef: &[i128], determinant: i128) -> Result<i128, Obstacle>
+    /// its own. This one is not printed: at a quantile, with the other part, it often comes to fewer bits.
+    pub fn residual(&self, coef: &[i128], determinant: i128) -> Result<Wide, Obstacle>
         requires same { length coef.now ≡ length self.now.columns }
         requires some { pos 1 ≤ℤ determinant }
-        ensures { IfOk result (λ n. share n determinant ≡ whole self.now.response -ℚ sum_ℚ (length coef.now) (λ k. share_at determinant coef.now k *ℚ whole_at self.now.columns k)) }
+        ensures { IfOk result (λ n. share (number_of n) determinant ≡ whole self.now.response -ℚ sum_ℚ (length coef.now) (λ k. share_at determinant coef.now k *ℚ whole_at self.now.columns k)) }
     {
         match rest(self.response, determinant, coef, self.columns.as_slice()) {
             Some(number) => Ok(number),

@@ -1,7 +1,6 @@
 -- What is left of the total of the responses.
-use Rattle.std.proofs.Common.{rules, ◌≡◌, ◌+ℤ◌, ◌*ℤ◌, neg_ℤ, to_z, of_z}
-use mir.Syntax.{w128}
-use Rattle.wide_int.specs.Numbers.{total}
+use Rattle.std.proofs.Common.{rules, ◌≡◌, ◌+ℤ◌, ◌*ℤ◌, neg_ℤ}
+use Rattle.wide_int.specs.Numbers.{number_of, total}
 use Rattle.whole_solution.proofs.Numbers.{rest_share}
 use Rattle.whole_solution.proofs.ShareProducts.{share-total}
 use Rattle.whole_solution.proofs.totals.Totals.residual.Goals as goal
@@ -11,7 +10,6 @@ returns-in-Some c =
     let t = c.args.self.now in
     let coef = c.args.coef.now in
     let d = c.args.determinant in
-    let n = c.in-Some.number in
-    let plain : to_z w128 (of_z w128 n) ≡ n = search rules in
+    let n = number_of c.in-Some.number in
     let is : n ≡ (t.response *ℤ d) +ℤ neg_ℤ (total coef t.columns) = search rules in
-    rw (plain) (rest_share t.response d (total coef t.columns) n _ c.requires.some is (share-total coef t.columns d c.requires.same))
+    rest_share t.response d (total coef t.columns) n _ c.requires.some is (share-total coef t.columns d c.requires.same)
