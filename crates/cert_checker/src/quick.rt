@@ -1,7 +1,7 @@
 //! Tests of a segment by sums of whole numbers: `true` says that all tests of a condition on it are true, and `false` says
 //! nothing.
 
-ghost use Rattle.std.specs.Prelude.{◌≡◌, ℕ, IsTrue};
+ghost use Rattle.std.specs.Prelude.{ℕ, IsTrue};
 ghost use Rattle.loss_model.specs.Problem.{sample};
 ghost use Rattle.cert_checker.specs.Places.{value128};
 ghost use Rattle.cert_checker.specs.Conditions.{balances as balances_of, losses as losses_of, joint_tests};

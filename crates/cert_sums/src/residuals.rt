@@ -1,6 +1,5 @@
 //! Whether each residual lies on the side of its row.
 ghost use Rattle.std.specs.Prelude.{◌≡◌, ◌≤◌, ◌<◌, ◌+◌, ◌*◌, ◌^◌, ℕ, pos, unsigned_abs, All, IfSome, IsTrue, length};
-ghost use Rattle.exact_algebra.specs.Fraction.{rational};
 ghost use Rattle.exact_algebra.specs.Rational.{◌*ℚ◌, neg_ℚ, whole};
 ghost use Rattle.loss_model.specs.Problem.{sample, value_at};
 ghost use Rattle.loss_model.specs.Sample.{residual};
@@ -12,7 +11,7 @@ ghost use Rattle.cert_sums.specs.Residuals.{IsWholeOn, AreMultipliers, RowsFollo
 
 use crate::products::{has_room, row_product};
 use crate::scale::{common_scale, scaled};
-use crate::table::{Table, WholeRow};
+use crate::table::Table;
 use crate::vertices::side;
 use frac_core::{Exact, Frac128, List};
 use loss_model::{Problem, Side, Vertex};

@@ -1,5 +1,5 @@
 //! A problem in whole numbers: entries and responses times one number, and costs times another.
-ghost use Rattle.std.specs.Prelude.{◌≡◌, ◌≤◌, ◌+◌, ◌<◌, ◌≤ℤ◌, ℕ, pos, unsigned_abs, All, IfSome, length};
+ghost use Rattle.std.specs.Prelude.{◌≡◌, ◌≤◌, ◌+◌, ◌<◌, ℕ, pos, unsigned_abs, All, IfSome, length};
 ghost use Rattle.exact_algebra.specs.Fraction.{rational};
 ghost use Rattle.exact_algebra.specs.Rational.{◌*ℚ◌, whole};
 ghost use Rattle.loss_model.specs.Problem.{value_at};
