@@ -180,8 +180,8 @@ fn decide_all<R: Threads + Sync, G: Gate>(
 /// answer counts in the order of the segments. A job enters the gate with its place among those of its condition
 /// before it works.
 ///
-/// The conditions on sums, losses and joints are tested of each segment by sums of whole numbers first. Where these don't show
-/// that all its tests are true, or a number is too wide for them, the tests are made one by one.
+/// Of a segment the tests of balances, losses and joints are shown by sums of whole numbers first. Where one is false, or a
+/// number is too wide for these, the tests are made one by one, in fractions.
 ///
 /// `Accepted` says that all of them hold, and that so, whoever wrote the certificate, the segments cover the
 /// range, with dual values of equal cost at both ends of each, so that the coefficients of a segment
