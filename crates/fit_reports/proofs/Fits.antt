@@ -39,7 +39,9 @@ module _ (words : List (List ℕ)) (source source' : Stream) (P : Fit → Type 0
   by (jobs.Process job) came (reports.Process fit) read h = one (jobs.Process job) came read _ refl h.0 h.1 fit h.2
   by (jobs.Ranks job) came (reports.Ranks ranks) read h = one (jobs.Ranks job) came read _ refl h.0 h.1 ranks.fit h.2.fit
   by (jobs.Sample job) came (reports.Sample fit) read h = one (jobs.Sample job) came read _ refl h.0 h.1 fit h.2
-  by job came (reports.Certificate cert) read h = tt
+  by (jobs.Certify job) came (reports.Certificate cert) read h =
+      let c = h.0.2 in
+      (c.fit, c.is.problem, c.is.segments, one (jobs.Certify job) came read _ refl h.0.0 h.0.1 c.fit c.right)
   by job came (reports.Checked cert) read h = tt
   by job came (reports.Test fit) read h = tt
   by job came (reports.Predict fit) read h = tt

@@ -51,11 +51,13 @@ pub record HasSegments (words : List (List ℕ)) (source source' : Stream) (repo
 
 -- ---- fits
 
--- a fact of the fit in a report that has one with its scores: of a process, of Wilcoxon scores, and of a generated table
+-- a fact of the fit in a report that has one: of a process, of Wilcoxon scores, of a generated table, and of a certificate,
+-- which states the problem and the segments of one
 abbrev pub OnFit : Report → (Fit → Type 0) → Type 0
 OnFit (reports.Process fit) P = P fit
 OnFit (reports.Ranks ranks) P = P ranks.fit
 OnFit (reports.Sample fit) P = P fit
+OnFit (reports.Certificate cert) P = (fit : Fit) × (cert.problem ≡ fit.problem) × (cert.segments ≡ fit.process.segments) × P fit
 OnFit _ P = ⊤
 
 -- the fit that is asked for, whether its formula may have no smooths, and the bytes of its table
@@ -68,6 +70,7 @@ pub record AskedFit : Type 0 where
 abbrev pub asked_fit : Job → List ℕ → Option AskedFit
 asked_fit (jobs.Process job) came = Some (record { job = job; ranked = is_some job.rank; bytes = came })
 asked_fit (jobs.Ranks job) came = Some (record { job = job; ranked = true; bytes = came })
+asked_fit (jobs.Certify job) came = Some (record { job = job; ranked = is_some job.rank; bytes = came })
 asked_fit (jobs.Sample job) came = Some (record { job = sample_fit job; ranked = false; bytes = sample_table job })
 asked_fit job came = None
 

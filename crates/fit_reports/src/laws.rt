@@ -25,7 +25,8 @@ pub fn report_is_least<N: Numbers>()
 
 /// Where no score of a basic row is 0 or 1, no other vector of real numbers loses as little as the printed coefficients. None
 /// does strictly between both ends of a segment, also at a real quantile, where no row's scores are twice 0 or twice 1
-/// (Koenker 2005, section 2.2.2). It is so of a process, of the fit under Wilcoxon scores and of that of a generated table.
+/// (Koenker 2005, section 2.2.2). It is so of a process, and of the fit under Wilcoxon scores, of a generated table and in a
+/// certificate that is written.
 pub fn fit_is_only<N: Numbers>()
     ensures every { FitIsOnly N.ring }
     ensures real { FitIsOnly reals }
@@ -34,11 +35,11 @@ pub fn fit_is_only<N: Numbers>()
     unique_minimum();
 }
 
-/// The dual values of a printed segment tell all coefficients that minimise at its ends, in every report. Of a process, of the
-/// fit under Wilcoxon scores and of that of a generated table: where the formula has an intercept, the marks of a segment split
-/// the records by the quantile, and so does every fit that minimises; at the centroid of the records the fit never falls from
-/// one segment to a later one; and the losses are those of a concave function of the quantile (Koenker 2005, sections 2.2.2
-/// and 2.5).
+/// The dual values of a printed segment tell all coefficients that minimise at its ends, in every report. Of a process, and of
+/// the fit under Wilcoxon scores, of a generated table and in a certificate that is written: where the formula has an intercept,
+/// the marks of a segment split the records by the quantile, and so does every fit that minimises; at the centroid of the
+/// records the fit never falls from one segment to a later one; and the losses are those of a concave function of the quantile
+/// (Koenker 2005, sections 2.2.2 and 2.5).
 pub fn fit_is_read()
     ensures minima { ReportHasMinima }
     ensures read { FitIsRead }
