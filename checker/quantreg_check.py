@@ -2,12 +2,15 @@
 """Checks a certificate of quantreg by itself, in plain Python with fractions of any size.
 
     quantreg_check.py [FILE]          the certificate of a file, or of standard input
+    quantreg_check.py --table TABLE.csv [--formula FORMULA] [--weights NAME] [FILE]
+                                      and whether its rows are those of that table, by quantreg_table.py beside this file
 
 It needs no solver: nine conditions on the coefficients and dual values of a certificate show that the coefficients have the least loss
 at every quantile of its range, and that its rank intervals are right (Koenker 2005, chapters 3 and 6). They are tested in their order,
 each by index and then by inner number, and the first that is false is told with both sides. Rows, columns and segments are counted
-from 1. The status is 0 where the certificate is accepted, and 1 where it isn't or is none. Sums over all rows are sums of whole numbers
-over a common denominator, for speed.
+from 1. The status is 0 where the certificate is accepted, 1 where it isn't, or is none, or has not the rows of the table, 2 where the
+words are wrong, and 3 where it is accepted and nothing tells whether its rows are those of the table. Sums over all rows are sums of
+whole numbers over a common denominator, for speed.
 """
 
 import json
@@ -46,6 +49,7 @@ PLAIN = {
     "a side": lambda value: value in ("+", "-", "*"),
     "version": lambda value: type(value) is int and value in (1, 2),
 }
+MOST_DIGITS = 4300  # of a number; Python itself neither reads nor writes longer ones
 SIGNS = {"=": {0}, "<": {-1}, "<=": {-1, 0}, ">": {1}, ">=": {1, 0}}  # of left minus right
 
 
@@ -55,6 +59,10 @@ def fraction(text):
         return Fraction(text) if isinstance(text, str) and not set(text) - set("0123456789+-./eE") else None
     except (ValueError, ZeroDivisionError):
         return None
+
+
+def is_long(text):
+    return len(text) > MOST_DIGITS or len(text.lower().partition("e")[2].lstrip("+-0")) > 4
 
 
 def read(value, kind, path=""):
@@ -71,6 +79,8 @@ def read(value, kind, path=""):
         for key in sorted(kind.keys() ^ value.keys()):
             raise ValueError(f"{path}/{key} is {'missing' if key in kind else 'unknown'}")
         return {key: read(value[key], kind[key], f"{path}/{key}") for key in sorted(kind)}
+    if kind == "number" and isinstance(value, str) and is_long(value):
+        raise ValueError(f"{path} is a number of more than {MOST_DIGITS} digits, or with a power of ten of more than 4")
     if kind == "number" and (number := fraction(value)) is not None:
         return number
     if isinstance(kind, str) and kind in PLAIN and PLAIN[kind](value):
@@ -107,7 +117,17 @@ def certificate(value):
     if isinstance(value, dict) and type(value.get("version")) is int and value["version"] == 2:
         cert = read(value, CERTIFICATE | {"segments": "a chain"})
         return cert | {"segments": in_full(cert["segments"], len(cert["rows"]))}
+    if isinstance(value, dict) and type(value.get("version")) is int and value["version"] != 1:
+        raise ValueError(f"/version is {value['version']}, and this reads versions 1 and 2 alone")
     return read(value, CERTIFICATE)
+
+
+def shown(side):
+    """A side of a test as text, or how long it is where Python doesn't write it."""
+    try:
+        return str(side)
+    except ValueError:
+        return f"(a number of {max(map(int.bit_length, Fraction(side).as_integer_ratio()))} bits)"
 
 
 def stars(sides):
@@ -305,6 +325,11 @@ def first_false(cert):
 
 
 def main(words):
+    told = None
+    if any(word.startswith("--") for word in words):
+        import quantreg_table  # what a table takes stands beside this file, and is read where it is asked for
+
+        told, words = quantreg_table.asked(words)
     try:
         with open(words[0] if words else 0, "rb") as file:
             cert = certificate(json.loads(file.read().decode("utf-8"), parse_constant=fraction))
@@ -312,15 +337,17 @@ def main(words):
         print(f"no certificate: {error}")
         return 1
     if false := first_false(cert):
-        condition, index, inner, left, relation, right = false
+        condition, index, inner, relation, left, right = *false[:3], false[4], shown(false[3]), shown(false[5])
         print(f"rejected: condition={condition} index={index} inner={inner} left={left} right={right}")
         print(f"Condition {condition} says that {CONDITIONS[condition]}; here {left} {relation} {right} is false.")
         return 1
     sizes = ", ".join(f"{name} {len(cert[name])}" for name in ("rows", "segments", "intervals"))
-    print(f"accepted: columns {cert['columns']}, {sizes}, quantiles {cert['lo']} to {cert['hi']}")
+    print(f"accepted: columns {cert['columns']}, {sizes}, quantiles {shown(cert['lo'])} to {shown(cert['hi'])}")
     print(*(f"{condition}. {text}" for condition, text in CONDITIONS.items()), sep="\n")
     print("So no coefficients have a lesser loss at any quantile of the range.")
-    return 0
+    status, line = told(cert) if told else (0, "That the rows are those of a table is not looked at: --table TABLE.csv asks for it.")
+    print(line)
+    return status
 
 
 if __name__ == "__main__":
