@@ -345,7 +345,9 @@ def main(words):
     print(f"accepted: columns {cert['columns']}, {sizes}, quantiles {shown(cert['lo'])} to {shown(cert['hi'])}")
     print(*(f"{condition}. {text}" for condition, text in CONDITIONS.items()), sep="\n")
     print("So no coefficients have a lesser loss at any quantile of the range.")
-    status, line = told(cert) if told else (0, "That the rows are those of a table is not looked at: --table TABLE.csv asks for it.")
+    if not told:
+        return 0
+    status, line = told(cert)
     print(line)
     return status
 
