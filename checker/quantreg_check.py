@@ -61,6 +61,16 @@ def fraction(text):
         return None
 
 
+def once(pairs):
+    """An object of JSON, which may have each key once: of two the last would count, and a reader may see the first."""
+    found = {}
+    for key, value in pairs:
+        if key in found:
+            raise ValueError(f"an object has the key {key!r} twice")
+        found[key] = value
+    return found
+
+
 def is_long(text):
     return len(text) > MOST_DIGITS or len(text.lower().partition("e")[2].lstrip("+-0")) > 4
 
@@ -332,7 +342,7 @@ def main(words):
         told, words = quantreg_table.asked(words)
     try:
         with open(words[0] if words else 0, "rb") as file:
-            cert = certificate(json.loads(file.read().decode("utf-8"), parse_constant=fraction))
+            cert = certificate(json.loads(file.read().decode("utf-8"), parse_constant=fraction, object_pairs_hook=once))
     except (OSError, ValueError, RecursionError) as error:
         print(f"no certificate: {error}")
         return 1

@@ -1,6 +1,9 @@
 # What the package gives, beside values that are worked by hand or by R. With no program in QUANTREG only texts are read.
 library(quantreg.exact)
 
+missing <- tryCatch(find_quantreg("/nowhere/quantreg"), error = conditionMessage)
+stopifnot(identical(substring(missing, 1, 64), "no program /nowhere/quantreg: the Debian package quantreg brings"))
+
 line <- "quantreg 1
 records 3 dropped 0
 column 1 (Intercept)
