@@ -6,9 +6,11 @@
 #
 # What a missing tool leaves out is told by a line, and the status is 1 where something fails.
 cd "$(dirname "$0")/.." || exit 1
-program=$1
 room=$(mktemp -d) || exit 1
 trap 'rm -rf "$room"' EXIT
+# a copy, which stays as it is while this runs
+program=$room/program/quantreg
+mkdir "$room/program" && cp "$1" "$program" || exit 1
 export PYTHONDONTWRITEBYTECODE=1
 unset QUANTREG PYTHONPATH
 failed=0
