@@ -22,8 +22,9 @@ class Finding(unittest.TestCase):
         for file in (self.inside, self.other):
             file.write_text(f"#!/bin/sh\necho {file.name} $1\n")
             file.chmod(0o755)
-        self.enterContext(mock.patch.object(program, "INSIDE", self.inside))
-        self.enterContext(mock.patch.dict(os.environ, {"QUANTREG": "", "PATH": room.name}))
+        for patch in (mock.patch.object(program, "INSIDE", self.inside), mock.patch.dict(os.environ, {"QUANTREG": "", "PATH": room.name})):
+            patch.start()
+            self.addCleanup(patch.stop)
 
     def test_the_order(self):
         self.assertEqual(find_program(), str(self.inside))
