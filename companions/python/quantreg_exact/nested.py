@@ -1,16 +1,15 @@
 """The rank test of nested models from a process of the lesser one, worked out here with numbers of any size.
 
-The program's job `test` ends with status 7 where a number outgrows 128 bits, which is soon the case where the lesser model has more
-than an intercept. The statistic is a few sums over the Wilcoxon scores of that model's process and the solution of one linear
+The statistic is a few sums over the Wilcoxon scores of that model's process and the solution of one linear
 system, and the process itself has much shorter numbers.
 """
 
 from fractions import Fraction
 
-from .reports import TestReport
+from .reports import ProcessReport, TestReport
 
 
-def rank_test_of_process(process, full, tested):
+def rank_test_of_process(process: ProcessReport, full, tested) -> TestReport:
     """The report of the job `test`, worked out by Python's fractions instead of the proved program.
 
     `process` is a report of the job `process` over the quantiles 0 to 1 for the model without the columns `tested`, which are
@@ -28,7 +27,7 @@ def rank_test_of_process(process, full, tested):
     if any(sums[column] for column in others):
         raise ValueError("the Wilcoxon scores of the process are not orthogonal to the columns that are not tested")
     scores = {column: sums[column - 1] for column in tested}
-    solution = _solved(_gram(scaled), sums)
+    solution = solved(_gram(scaled), sums)
     statistic = 12 * sum(score * solution[column - 1] for column, score in scores.items())
     return TestReport(full.records, full.dropped, full.names, tested, process.pivots, scores, statistic)
 
@@ -62,13 +61,20 @@ def _product(left, right):
     return sum((a * b for a, b in zip(left, right)), Fraction(0))
 
 
+def squared_length(column, others) -> Fraction:
+    """The squared length of what is left of a column after least squares on others."""
+    along = [_product(column, other) for other in others]
+    taken = solved([[_product(one, other) for other in others] for one in others], along) if others else []
+    return _product(column, column) - _product(along, taken)
+
+
 def _gram(rows):
     """The products of two columns each."""
     columns = list(zip(*rows))
     return [[_product(one, other) for other in columns] for one in columns]
 
 
-def _solved(matrix, right):
+def solved(matrix, right):
     """The solution of a square system, column by column; ValueError where the matrix is singular."""
     rows = [[*row, value] for row, value in zip(matrix, right)]
     for at in range(len(rows)):

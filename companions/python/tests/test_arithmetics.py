@@ -11,9 +11,8 @@ from pathlib import Path
 
 import pandas
 
-from quantreg_exact import Fit, QuantregError, Step, fit, path, plot_fit, predictions, rank_test, rank_test_of_process, read_fault, read_report
+from quantreg_exact import Fit, Model, QuantregError, Step, fit, path, plot_fit, predictions, rank_test, rank_test_of_process, read_fault, read_report
 from quantreg_exact.arithmetics import Parts
-from quantreg_exact.designs import Table
 
 from test_nested import quantiles
 from test_program import needs_program
@@ -156,7 +155,7 @@ class Fits(unittest.TestCase):
 
     def test_a_rank_test_with_offsets(self):
         table = SHIFTED.to_csv(index=False).encode()
-        full = Fit(**vars(read_report(shifted(LINE))), formula=SHIFT, table=Table.of_bytes(table), contrasts="treatment", weights=None)
+        full = Fit(**vars(read_report(shifted(LINE))), model=Model(SHIFT, table))
         self.assertEqual(rank_test_of_process(quantiles([0, 2, 3]), full, [2]), read_report(shifted(TEST)))
         with self.assertRaisesRegex(ValueError, "record 2 of the basis"):
             rank_test_of_process(quantiles([0, 1, 3]), full, [2])
