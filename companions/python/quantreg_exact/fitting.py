@@ -2,6 +2,7 @@
 
 import random
 from dataclasses import replace
+from fractions import Fraction
 
 from . import any_size, notes
 from .critical import Critical, critical_value, given_critical
@@ -11,6 +12,8 @@ from .model import Model
 from .numbers import Number, as_fraction
 from .reports import PredictReport
 from .several import Fits
+
+DECILES = tuple(Fraction(tenth, 10) for tenth in range(1, 10))
 
 
 def fit(
@@ -31,7 +34,7 @@ def fit(
 
     `data` is a data frame, whose index is left out, or the path of a CSV file. A quantile is a number text, a fraction, or
     a float by its shortest decimal. `weights` names a column. Rank intervals come with a level, by `alpha`, or with a critical
-    value as it is, by `crit`; `rank_at` has one quantile or several for them, and need not be given where `lo` is alone.
+    value as it is, by `crit`; `rank_at` has one quantile or several for them, where it isn't given `lo` alone or the tenths of the range.
     Raises QuantregError with the program's fault line, and advice, where there is no report.
     """
     model = Model.of(formula, data, weights, contrasts, pivots, program)
@@ -40,8 +43,8 @@ def fit(
         if hi is not None or rank_at is not None:
             raise ValueError("a list of quantiles has its rank intervals at each of them, and no high end")
         return Fits(tuple(_fit(model, tau, tau, critical, [tau] if critical else None) for tau in lo))
-    if critical and rank_at is None and hi is None:
-        rank_at = lo
+    if critical and rank_at is None:
+        rank_at = lo if hi is None else [tau for tau in DECILES if as_fraction(lo) <= tau <= as_fraction(hi)]
     return _fit(model, lo, lo if hi is None else hi, critical, rank_at)
 
 
