@@ -296,8 +296,8 @@ class PathReport(Report, Stretches):
         return {row: segment.between(lam, ends) for row, ends in segment.dual.items()}
 
 
-@dataclass(frozen=True)
-class Certificate:
+@dataclass(frozen=True, repr=False)
+class Certificate(Report):
     """A certificate, what the job `certify` prints, with every number text read as a fraction.
 
     `rows`, `segments` and `intervals` are as the certificate has them: lists of objects by their keys. Nothing of them
@@ -311,6 +311,10 @@ class Certificate:
     rows: list
     segments: list
     intervals: list
+    notes: tuple = _notes()
+
+    def summed_up(self):
+        return f"{len(self.rows)} rows, {self.columns} columns, {len(self.segments)} segments, {len(self.intervals)} intervals"
 
     def to_frame(self):
         """The coefficients as floats: a row for each segment, indexed by its high end."""
