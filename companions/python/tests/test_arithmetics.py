@@ -3,11 +3,8 @@
 The fits are read from texts; by the program itself too where the variable QUANTREG names one.
 """
 
-import stat
-import tempfile
 import unittest
 from fractions import Fraction as F
-from pathlib import Path
 
 import pandas
 
@@ -15,7 +12,7 @@ from quantreg_exact import Fit, Model, QuantregError, Step, fit, path, plot_fit,
 from quantreg_exact.arithmetics import Parts
 
 from test_nested import quantiles
-from test_program import needs_program
+from helpers import answered, needs_program
 from test_reports import LINE, LINE_PATH, TEST
 
 # Three of these four records lie on the square of x, and the second lies 1 above. The dual values are -3/16, 1/2, -3/8 and 1/16,
@@ -48,16 +45,6 @@ SHIFT = "y ~ I(0.5*x) + offset(2*z)"
 def shifted(text):
     """A report of the line as one of the shifted records."""
     return text.replace("records 3 dropped 0", "records 3 dropped 1").replace("column 2 x", "column 2 I(1/2 * x)")
-
-
-def answered(text, call):
-    """What a call gives whose program answers with this text."""
-    with tempfile.TemporaryDirectory() as room:
-        program, answer = Path(room) / "program", Path(room) / "answer"
-        answer.write_text(text)
-        program.write_text(f"#!/bin/sh\ncat > {room}/table\ncat {answer}\n")
-        program.chmod(program.stat().st_mode | stat.S_IXUSR)
-        return call(program)
 
 
 class Texts(unittest.TestCase):

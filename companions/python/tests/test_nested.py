@@ -9,9 +9,10 @@ from fractions import Fraction as F
 import numpy
 import pandas
 
-from quantreg_exact import Fit, Model, QuantregError, fit, rank_test, rank_test_of_process, read_report
+from quantreg_exact import Fit, Model, QuantregError, TestReport, fit, rank_test, rank_test_of_process, read_report
 
-from test_program import LINE, STACKLOSS, needs_program
+from helpers import STACKLOSS, fields, needs_program
+from test_program import LINE
 from test_reports import LINE as LINE_REPORT
 from test_reports import MEDIAN, SMOOTH, TEST
 
@@ -129,9 +130,9 @@ class OfTexts(unittest.TestCase):
             rank_test_of_process(quantiles([2, 0, 3]), swapped, [1])
 
 
-def fields(report):
+def said(report):
     """What a report of a test says, without its notes and its model."""
-    return {key: value for key, value in vars(report).items() if key in vars(read_report(TEST)) and key != "notes"}
+    return fields(report, TestReport)
 
 
 def random_table(seed):
@@ -153,7 +154,7 @@ def statistic_of_floats(full, wilcoxon, tested):
 @needs_program
 class ByTheProgram(unittest.TestCase):
     def test_the_worked_runs(self):
-        self.assertEqual(fields(rank_test("y ~ x", LINE, 2)), fields(read_report(TEST)))
+        self.assertEqual(said(rank_test("y ~ x", LINE, 2)), said(read_report(TEST)))
         unseen = rank_test("y ~ x", pandas.DataFrame({"y": [1, 2, 3], "x": [1, 0, 1]}), [2])
         self.assertEqual((unseen.scores, unseen.statistic), ({2: 0}, 0))
         weighted = rank_test("y ~ x", LINE.assign(w=[1, 1, 2]), 2, weights="w")
@@ -185,7 +186,7 @@ class ByTheProgram(unittest.TestCase):
                 table = random_table(seed)
                 with self.subTest(large=large, tested=tested, seed=seed):
                     process, full = fit(small, table, 0, 1, **more), fit(large, table, "1/2", **more)
-                    self.assertEqual(fields(rank_test(large, table, tested, **more)), fields(rank_test_of_process(process, full, tested)))
+                    self.assertEqual(said(rank_test(large, table, tested, **more)), said(rank_test_of_process(process, full, tested)))
 
     def test_a_record_that_only_the_lesser_model_keeps_is_seen(self):
         table = random_table(1).assign(x=[None, *range(11)])
@@ -197,7 +198,7 @@ class ByTheProgram(unittest.TestCase):
         for tested, column in enumerate(full.names[1:], 2):
             small = fit(f"stack.loss ~ . - {column}", STACKLOSS, 0, 1)
             found = rank_test("stack.loss ~ .", STACKLOSS, column)
-            self.assertEqual(fields(found), fields(rank_test_of_process(small, full, [tested])))
+            self.assertEqual(said(found), said(rank_test_of_process(small, full, [tested])))
             self.assertAlmostEqual(float(found.statistic) / statistic_of_floats(full, small.wilcoxon(), tested), 1, 9)
 
     def test_longley_is_that_of_r(self):
