@@ -3,12 +3,15 @@
 The program's lines are fixed and count offsets, records and columns. Here the word, the cell or the column is named that is counted.
 """
 
+import csv
 import difflib
+import io
 from fractions import Fraction
 
 from .arithmetics import TOKEN, name_of
 from .designs import Table, response_name, used_columns
 from .faults import QuantregError
+from .numbers import listed
 
 # Each job's options: those that must stand, and those that may.
 _FITTED = ("weights", "contrasts", "pivots")
@@ -35,13 +38,6 @@ def close_to(word: str, known) -> str:
     """The question whether a known word was meant, where one is close."""
     found = difflib.get_close_matches(word, list(known), 1, 0.6)
     return f"; did you mean {found[0]!r}?" if found else ""
-
-
-def listed(words, most: int = 8) -> str:
-    """So many of the words, and how many more there are."""
-    words = list(map(str, words))
-    more = f" and {len(words) - most} more" if len(words) > most else ""
-    return ", ".join(words[:most]) + more
 
 
 def of_words(fault: QuantregError, words) -> str | None:
@@ -74,6 +70,8 @@ def of_model(fault: QuantregError, model, options: dict) -> str | None:
     maker = _BY_TABLE.get(fault.name)
     try:
         table = model.table
+    except UnicodeDecodeError:
+        return "the file is not UTF-8: read it by pandas.read_csv(.., encoding='latin-1') first, or whatever encoding it has"
     except (ValueError, IndexError):
         return _separators(model.source)
     if fault.group in ("formula", "table", "design"):
@@ -150,6 +148,14 @@ def no_numbers(table: Table, column: str, most: int = 3) -> str:
     return told + (f" and {len(found) - most} more have none" if len(found) > most else "")
 
 
+def _in_header(fault, model, table):
+    header = next(csv.reader(io.StringIO(model.source.decode("utf-8-sig"), newline="")))
+    column = fault.fields["column"]
+    if fault.name == "EmptyName":
+        return f"column {column} of the header has no name"
+    return f"the name {header[column - 1]!r} stands in columns {header.index(header[column - 1]) + 1} and {column} of the header"
+
+
 def _response(fault, model, table):
     name = response_name(model.formula)
     return f"the response {name} is no column of numbers: {no_numbers(table, name)}"
@@ -207,6 +213,8 @@ def _no_rows(fault, model, table):
 
 # What is said of a fault by the table, by the fault's name.
 _BY_TABLE = {
+    "DoubleName": _in_header,
+    "EmptyName": _in_header,
     "UnknownName": _unknown_name,
     "Syntax": _syntax,
     "ResponseNotNumeric": _response,

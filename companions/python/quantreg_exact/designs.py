@@ -103,12 +103,17 @@ def _variables(tokens, names):
     return plain, factors
 
 
-def used_columns(formula, names):
-    """The columns of a table that a formula names, `.` being all of them, in the order of the table."""
+def beside_the_design(formula):
+    """The columns of a table that a formula takes beside those of its design: the response, and those of the offsets."""
+    return {response_name(formula), *(name for it in Parts.of(formula).offsets for name in it.names)}
+
+
+def used_columns(formula, names, weights=None):
+    """The columns of a table that a formula and the weights name, `.` being all of them, in the order of the table."""
     parts = Parts.of(formula)
     plain, factors = _variables(parts.tokens, names)
-    computed = {name for it in (*parts.computed, *parts.offsets) for name in it.names}
-    used = plain | factors | computed | {response_name(formula)}
+    computed = {name for it in parts.computed for name in it.names}
+    used = plain | factors | computed | beside_the_design(formula) | {weights}
     return [name for name in names if name in used]
 
 

@@ -12,8 +12,8 @@ from .fitting import fit
 from .numbers import Number, as_fraction
 from .stretches import Segment
 
-# The cuts of a range are not at its simple fractions, where segments end most often.
-_FINENESS = 10_007
+# A range is cut at multiples of one such part of it, and so not at its simple fractions, where segments end most often.
+_FINENESS = 1_009
 
 
 def fit_all(
@@ -71,14 +71,21 @@ def fit_parts(
     """The fits of a range of quantiles, made as so many ranges side by side and joined: those of the single run but for `pivots`.
 
     `options` are those of `fit` but rank intervals. Where a cut falls on a breakpoint, so that it can't be told which fit goes on there,
-    the ranges on both sides are fitted again as one.
+    the ranges on both sides are fitted again as one; and so is the whole range, with a note, where a part ends with status 7, since
+    the numbers at a cut are longer than others.
     """
     lo, hi = as_fraction(lo), as_fraction(hi)
-    if not lo < hi or parts < 1:
-        raise ValueError("a range of quantiles from `lo` to a greater `hi`, in one part or more")
+    if not (lo < hi and 1 <= parts < _FINENESS):
+        raise ValueError(f"a range of quantiles from `lo` to a greater `hi`, in 1 to {_FINENESS - 1} parts")
     cuts = [lo + (hi - lo) * Fraction(at * _FINENESS // parts, _FINENESS) for at in range(parts)] + [hi]
     job = {"formula": formula, "data": data, **options}
-    found = fit_all([job | {"lo": low, "hi": high} for low, high in zip(cuts, cuts[1:])], executor, progress=progress)
+    jobs = [job | {"lo": low, "hi": high} for low, high in zip(cuts, cuts[1:])]
+    found = fit_all(jobs, executor, progress=progress, keep_faults=True)
+    for fault in (it for it in found if isinstance(it, QuantregError)):
+        if parts == 1 or not fault.is_overflow:
+            raise fault
+        single = fit(**job, lo=lo, hi=hi)
+        return replace(single, notes=(*single.notes, f"fitted as one range, since a part of it ended with {fault.line!r}"))
     whole = found[0]
     for part in found[1:]:
         last, first = whole.segments[-1], part.segments[0]

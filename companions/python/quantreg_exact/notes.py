@@ -5,10 +5,10 @@ import warnings
 from collections import Counter
 from pathlib import Path
 
-from .advice import listed, no_numbers
-from .designs import used_columns
+from .advice import no_numbers
+from .designs import beside_the_design, used_columns
 from .faults import QuantregWarning
-from .numbers import is_number_text, shown
+from .numbers import is_number_text, listed, shown
 
 
 def warn(notes) -> None:
@@ -21,10 +21,10 @@ def warn(notes) -> None:
 
 
 def of_table(model, names) -> list[str]:
-    """On the cells and the levels of the columns that stand in a design, whose columns have these names, and of its weights."""
-    table, notes = model.table, []
-    for column in used_columns(model.formula, table.cells):
-        if any(column in name for name in names):
+    """On the cells and the levels of the columns that a fit takes; `names` are those of its design's columns."""
+    table, notes, known = model.table, [], beside_the_design(model.formula) | {model.weights}
+    for column in used_columns(model.formula, table.cells, model.weights):
+        if column in known or any(column in name for name in names):
             notes += [it for it in (_mixed(table, column), _ratios(model, column), _levels(model, column)) if it]
     return notes
 
@@ -37,7 +37,7 @@ def _mixed(table, column):
     numbers = sum(table.has(record, [column]) for record in range(table.records)) - texts
     if not 0 < texts <= numbers:
         return None
-    return f"{column} is a factor, since {texts} of its {texts + numbers} cells are no numbers: {no_numbers(table, column)}"
+    return f"{column} is a factor, since it has texts in {texts} of {texts + numbers} cells: {no_numbers(table, column)}"
 
 
 def _ratios(model, column):
@@ -47,7 +47,7 @@ def _ratios(model, column):
     if column not in model.table.numeric or not ratios or column in model.types.fractions:
         return None
     value = model.table.number(next(at for at, cell in enumerate(cells) if "/" in cell), column)
-    return f"{len(ratios)} cells of {column} are read as fractions: {ratios[0]} is {shown(value)}"
+    return f"{column} has fractions in {len(ratios)} of {len(cells)} cells: {ratios[0]} is read as {shown(value)}"
 
 
 def _levels(model, column):
@@ -69,7 +69,8 @@ def of_uniqueness(fit) -> list[str]:
     low, high = fit.segments[0].lo, fit.segments[-1].hi
     if low == high:
         return at_quantile(fit, low)
-    open_ones = [f"{s.lo} to {s.hi}" for s in fit.segments if fit.is_unique((s.lo + s.hi) / 2) is not True]
+    bounds = fit.penalty_bounds()
+    open_ones = [f"{s.lo} to {s.hi}" for s in fit.segments if not fit.is_strict(s, (s.lo + s.hi) / 2, bounds)]
     if not open_ones:
         return []
     return [f"the fit may not be unique within {len(open_ones)} of {len(fit.segments)} segments: at the quantiles {listed(open_ones, 3)}"]

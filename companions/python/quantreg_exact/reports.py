@@ -10,8 +10,8 @@ from fractions import Fraction
 import pandas
 
 from .critical import chi_squared_tail
-from .numbers import as_fraction, shown
-from .stretches import Step, Stretches, rearrange, steps_frame
+from .numbers import Number, as_fraction, listed, shown
+from .stretches import Segment, Step, Stretches, rearrange, steps_frame
 
 
 class Report:
@@ -46,14 +46,14 @@ class ProcessReport(Report, Stretches):
     def summed_up(self):
         return f"{self.records} records, {self.range_text('quantile')}"
 
-    def scores_at(self, tau, side="lower"):
+    def scores_at(self, tau: Number, side: str = "lower") -> list[Fraction]:
         """The rankscores of the data rows at a quantile, by row."""
         segment, tau = self.segment_at(tau, side), as_fraction(tau)
         outside = {"0": Fraction(0), "1": Fraction(1)}
         marks = enumerate(segment.marks[: self.data], 1)
         return [segment.between(tau, segment.basic[row]) if mark == "*" else outside[mark] for row, mark in marks]
 
-    def is_unique(self, tau, penalty_bounds=()):
+    def is_unique(self, tau: Number, penalty_bounds=()) -> bool | None:
         """Whether no other coefficients have the same loss at a quantile.
 
         True where the dual values of the basis lie strictly within their bounds, False where two segments with
@@ -63,11 +63,12 @@ class ProcessReport(Report, Stretches):
         tau, segments = as_fraction(tau), self.segments_at(tau)
         if len({segment.coef for segment in segments}) > 1:
             return False
-        if any(self._is_strict(segment, tau, penalty_bounds) for segment in segments):
+        if any(self.is_strict(segment, tau, penalty_bounds) for segment in segments):
             return True
         return None
 
-    def _is_strict(self, segment, tau, penalty_bounds):
+    def is_strict(self, segment: Segment, tau: Fraction, penalty_bounds=()) -> bool:
+        """Whether the dual values of a segment's basis lie strictly within their bounds at a quantile of it."""
         values = {row: segment.between(tau, ends) for row, ends in segment.basic.items()}
         for row, value in values.items():
             if row <= self.data:
@@ -79,7 +80,7 @@ class ProcessReport(Report, Stretches):
                 return False
         return True
 
-    def steps(self, entries, offset=0):
+    def steps(self, entries, offset: Number = 0) -> list[Step]:
         """The prediction for one row of the design over the range: a step for each segment.
 
         `entries` has a number for each column, in their order or by their names; the intercept may be left out of the
@@ -88,11 +89,11 @@ class ProcessReport(Report, Stretches):
         row, offset = self._row(entries), as_fraction(offset)
         return [Step(s.lo, s.hi, sum((x * b for x, b in zip(row, s.coef)), offset)) for s in self.segments]
 
-    def rearranged(self, entries, offset=0):
+    def rearranged(self, entries, offset: Number = 0) -> list[Step]:
         """The prediction of `steps`, rearranged so that it never falls."""
         return rearrange(self.steps(entries, offset))
 
-    def predict_entries(self, entries, tau, side="lower", offset=0):
+    def predict_entries(self, entries, tau: Number, side: str = "lower", offset: Number = 0) -> Fraction:
         """The prediction for one row of the design at a quantile."""
         row = self._row(entries)
         return sum((x * b for x, b in zip(row, self.segment_at(tau, side).coef)), as_fraction(offset))
@@ -111,7 +112,7 @@ class ProcessReport(Report, Stretches):
             raise ValueError(f"{len(row)} entries for {len(self.names)} columns")
         return row
 
-    def wilcoxon(self):
+    def wilcoxon(self) -> list[Fraction]:
         """Each row's rankscore integrated over 0 to 1, minus 1/2, with numbers of any size.
 
         Raises ValueError where the range isn't 0 to 1 or there are smooths.
@@ -130,7 +131,7 @@ class ProcessReport(Report, Stretches):
                     totals[row - 1] += length * sum(segment.basic[row]) / 2
         return totals
 
-    def intervals_frame(self):
+    def intervals_frame(self) -> pandas.DataFrame:
         """The rank intervals as floats: a row for each, with the name of its column."""
         rows = [(self.names[i.column - 1], float(i.tau), float(i.low), float(i.high)) for i in self.intervals]
         return pandas.DataFrame(rows, columns=["column", "tau", "low", "high"])
@@ -150,7 +151,7 @@ class RanksReport(Report):
     def summed_up(self):
         return f"Wilcoxon scores of {self.records} records beside {', '.join(self.names)}"
 
-    def to_frame(self):
+    def to_frame(self) -> pandas.DataFrame:
         rows = pandas.RangeIndex(1, len(self.wilcoxon) + 1, name="row")
         return pandas.DataFrame({"wilcoxon": [float(value) for value in self.wilcoxon]}, index=rows)
 
@@ -168,7 +169,7 @@ class CheckReport(Report):
     def summed_up(self):
         return f"accepted: {self.rows} rows, {self.columns} columns, {self.segments} segments, {self.intervals} intervals"
 
-    def to_frame(self):
+    def to_frame(self) -> pandas.DataFrame:
         return pandas.DataFrame([{key: value for key, value in vars(self).items() if key != "notes"}])
 
 
@@ -187,7 +188,7 @@ class SampleReport(Report):
     def summed_up(self):
         return f"{self.records} records, {self.columns} columns, {self.segments} segments"
 
-    def to_frame(self):
+    def to_frame(self) -> pandas.DataFrame:
         low, high = map(float, self.loss)
         counts = {key: value for key, value in vars(self).items() if key not in ("loss", "notes")}
         return pandas.DataFrame([{**counts, "loss_lo": low, "loss_hi": high}])
@@ -228,10 +229,10 @@ class TestReport(Report):
         return tuple(self.names[column - 1] for column in self.tested)
 
     def summed_up(self):
-        chances = f"chi-squared with {self.degrees} degrees of freedom, p-value {shown(self.p_value)}"
-        return f"{', '.join(self.tested_names)}: statistic {shown(self.statistic)}, {chances}"
+        chance = f"p-value {shown(self.p_value)} by chi-squared({self.degrees})"
+        return f"{', '.join(self.tested_names)}: statistic {shown(self.statistic)}, {chance}"
 
-    def to_frame(self):
+    def to_frame(self) -> pandas.DataFrame:
         rows = [(self.names[column - 1], float(score)) for column, score in self.scores.items()]
         return pandas.DataFrame(rows, columns=["column", "score"])
 
@@ -257,9 +258,9 @@ class PredictReport(Report):
     notes: tuple = _notes()
 
     def summed_up(self):
-        return f"{len(self.predictions)} predictions by {self.records} records"
+        return f"predictions of records {listed(it.record for it in self.predictions)}, by {self.records} records"
 
-    def to_frame(self):
+    def to_frame(self) -> pandas.DataFrame:
         frames = {}
         for it in self.predictions:
             both = {"steps": steps_frame(it.steps), "rearranged": steps_frame(it.rearranged)}
@@ -290,7 +291,7 @@ class PathReport(Report, Stretches):
         """The sum of the absolute coefficients of a segment that are penalised, which lambda multiplies in the loss."""
         return sum(abs(value) for value in segment.coef[len(self.names) - self.penalty :])
 
-    def dual_at(self, lam, side="lower"):
+    def dual_at(self, lam: Number, side: str = "lower") -> dict[int, Fraction]:
         """The dual values of the basis at a lambda, by row."""
         segment, lam = self.segment_at(lam, side), as_fraction(lam)
         return {row: segment.between(lam, ends) for row, ends in segment.dual.items()}
@@ -316,7 +317,7 @@ class Certificate(Report):
     def summed_up(self):
         return f"{len(self.rows)} rows, {self.columns} columns, {len(self.segments)} segments, {len(self.intervals)} intervals"
 
-    def to_frame(self):
+    def to_frame(self) -> pandas.DataFrame:
         """The coefficients as floats: a row for each segment, indexed by its high end."""
         highs = pandas.Index([float(s["hi"]) for s in self.segments], name="hi")
         return pandas.DataFrame([[float(v) for v in s["coef"]] for s in self.segments], index=highs)

@@ -1,11 +1,13 @@
 """What reports are made of: stretches of quantiles or of lambda with one fit each, rank intervals, and steps of a prediction."""
 
+from bisect import bisect_left
+from collections.abc import Sequence
 from dataclasses import dataclass
 from fractions import Fraction
 
 import pandas
 
-from .numbers import as_fraction, shown
+from .numbers import Number, as_fraction, shown
 
 
 @dataclass(frozen=True)
@@ -21,7 +23,7 @@ class Stretch:
     coef: tuple
     loss: tuple
 
-    def between(self, place, ends):
+    def between(self, place: Fraction, ends) -> Fraction:
         """The mix of two values at the ends that belongs to a place of the stretch."""
         low, high = ends
         return low if self.lo == self.hi else low + (high - low) * (place - self.lo) / (self.hi - self.lo)
@@ -39,7 +41,7 @@ class Segment(Stretch):
     basic: dict
 
     @property
-    def basis(self):
+    def basis(self) -> tuple[int, ...]:
         """The rows of the basis, ascending."""
         return tuple(self.basic)
 
@@ -56,7 +58,7 @@ class PathSegment(Stretch):
     dual: dict
 
     @property
-    def basis(self):
+    def basis(self) -> tuple[int, ...]:
         """The rows of the basis, ascending."""
         return tuple(self.dual)
 
@@ -80,7 +82,7 @@ class Step:
     value: Fraction
 
 
-def rearrange(steps):
+def rearrange(steps: Sequence[Step]) -> list[Step]:
     """The steps in ascending order of their values, with their lengths (Chernozhukov, Fernandez-Val and Galichon 2010).
 
     Steps of equal value keep their order. They begin where the given ones begin and end where those end.
@@ -109,25 +111,25 @@ class Stretches:
     """
 
     @property
-    def breakpoints(self):
+    def breakpoints(self) -> list[Fraction]:
         """The places at which one segment ends and the next begins."""
         return [segment.hi for segment in self.segments[:-1]]
 
-    def segments_at(self, place):
+    def segments_at(self, place: Number) -> list[Stretch]:
         """The segments that hold a place: one, or the two that meet there. Raises ValueError outside the range."""
         place = as_fraction(place)
-        found = [segment for segment in self.segments if segment.lo <= place <= segment.hi]
-        if not found:
+        if not self.segments[0].lo <= place <= self.segments[-1].hi:
             raise ValueError(f"{place} is outside the range {self.segments[0].lo} to {self.segments[-1].hi}")
-        return found
+        at = bisect_left(self.segments, place, key=lambda segment: segment.hi)
+        return [segment for segment in self.segments[at : at + 2] if segment.lo <= place]
 
-    def segment_at(self, place, side="lower"):
+    def segment_at(self, place: Number, side: str = "lower") -> Stretch:
         """The segment that holds a place; where two meet, the lower or the upper one."""
         if side not in ("lower", "upper"):
             raise ValueError(f"side is lower or upper, not {side!r}")
         return self.segments_at(place)[0 if side == "lower" else -1]
 
-    def coef_at(self, place, side="lower"):
+    def coef_at(self, place: Number, side: str = "lower") -> dict[str, Fraction]:
         """The coefficients at a place by the names of the columns; where two segments meet, those of one side."""
         return dict(zip(self.names, self.segment_at(place, side).coef))
 
@@ -138,15 +140,15 @@ class Stretches:
             return f"{place} {low}: " + ", ".join(f"{name} {shown(value)}" for name, value in self.coef_at(low).items())
         return f"{place}s {low} to {high}, {len(self.segments):,} segments"
 
-    def loss_at(self, place):
+    def loss_at(self, place: Number) -> Fraction:
         """The loss of the fit at a place, penalties included."""
         segment = self.segment_at(place)
         return segment.between(as_fraction(place), segment.loss)
 
-    def to_frame(self):
+    def to_frame(self) -> pandas.DataFrame:
         """The coefficients as floats: a row for each segment, indexed by its ends, and a column for each name."""
         return _by_range(self.segments, list(self.names), lambda s: s.coef)
 
-    def loss_frame(self):
+    def loss_frame(self) -> pandas.DataFrame:
         """The losses at both ends of each segment, as floats."""
         return _by_range(self.segments, ["at_lo", "at_hi"], lambda s: s.loss)

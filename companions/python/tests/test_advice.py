@@ -81,6 +81,17 @@ class ByTheProgram(unittest.TestCase):
             file.write_text("y,x;z\n1\n")
             self.assertNotIn("semicolons", str(fault_of(fit, "y ~ 1", file, "1/2")))
 
+    def test_headers_and_encodings(self):
+        for source, name, wanted in [
+            (b"y,x,y\n1,2,3\n", "DoubleName", "the name 'y' stands in columns 1 and 3 of the header"),
+            (b"y,,x\n1,2,3\n", "EmptyName", "column 2 of the header has no name"),
+            ("y,größe\n1,2\n".encode("latin-1"), "NotUtf8", "the file is not UTF-8"),
+        ]:
+            with tempfile.TemporaryDirectory() as room:
+                file = Path(room) / "table.csv"
+                file.write_bytes(source)
+                self.told(name, wanted, fit, "y ~ 1", file, "1/2")
+
     def test_options(self):
         for call, words, options, name, wanted in [
             (fit, ("y ~ 1", TABLE, "3/2"), {}, "BadRange", "a quantile is from 0 to 1, and lo is not above hi: lo is 3/2, hi is 3/2"),

@@ -99,10 +99,10 @@ class Parts(unittest.TestCase):
                 self.assertEqual(joined.notes, single.notes)
 
     def test_a_cut_at_a_breakpoint_is_mended(self):
-        # Weights that add up to 10,007, of which the first record has 5,003: the cut into two parts is where the first segment ends.
-        table = pandas.DataFrame({"y": [1, 2, 3], "w": [5003, 5000, 4]})
+        # Weights that add up to 1,009, of which the first record has 504: the cut into two parts is where the first segment ends.
+        table = pandas.DataFrame({"y": [1, 2, 3], "w": [504, 500, 5]})
         single, joined = fit("y ~ 1", table, 0, 1, weights="w"), fit_parts("y ~ 1", table, 0, 1, parts=2, weights="w")
-        self.assertEqual(single.breakpoints[0], F(5003, 10_007))
+        self.assertEqual(single.breakpoints[0], F(504, 1009))
         self.assertEqual(replace(joined, pivots=single.pivots), single)
         self.assertGreater(joined.pivots, single.pivots)
 
@@ -113,17 +113,26 @@ class Parts(unittest.TestCase):
 class OfTexts(unittest.TestCase):
     def test_where_segments_do_not_go_on_the_range_is_fitted_again(self):
         # Each part's report has other marks at the cut than the one before: the program that is asked for all of it has the line.
-        low = LINE[: LINE.index("segment 2")].replace("segment 1 0 3/5", f"segment 1 0 {F(5003, 10007)}").replace("pivots 2", "pivots 1") + "end\n"
-        rest = LINE[LINE.index("segment 2") :].replace("segment 2 3/5", f"segment 1 {F(5003, 10007)}")
+        low = LINE[: LINE.index("segment 2")].replace("segment 1 0 3/5", f"segment 1 0 {F(504, 1009)}").replace("pivots 2", "pivots 1") + "end\n"
+        rest = LINE[LINE.index("segment 2") :].replace("segment 2 3/5", f"segment 1 {F(504, 1009)}")
         high = LINE[: LINE.index("segment 1")].replace("pivots 2", "pivots 5") + rest
-        choice = f'case "$*" in *--hi=5003/10007) printf %s \'{low}\' ;; *--lo=5003/10007*) printf %s \'{high}\' ;; *) printf %s \'{LINE}\' ;; esac\n'
+        choice = f'case "$*" in *--hi=504/1009) printf %s \'{low}\' ;; *--lo=504/1009*) printf %s \'{high}\' ;; *) printf %s \'{LINE}\' ;; esac\n'
         with script(f"cat > $room/table.$$\n{choice}") as program:
             joined = fit_parts("y ~ x", TABLE, 0, 1, parts=2, program=program)
         line = answered(LINE, lambda program: fit("y ~ x", TABLE, 0, 1, program=program))
         self.assertEqual((joined.segments, joined.pivots), (line.segments, 1 + 5 + 2))
 
+    def test_a_part_that_overflows_is_told(self):
+        line = "quantreg: solver: Overflow place=process quantity=loss at=0 term=1 op=mul left=2 right=3"
+        choice = f"case \"$*\" in *504/1009*) echo '{line}' >&2; exit 7 ;; *) printf %s '{LINE}' ;; esac\n"
+        with script(f"cat > $room/table.$$\n{choice}") as program:
+            found = fit_parts("y ~ x", TABLE, 0, 1, parts=2, program=program)
+            with self.assertRaises(QuantregError):
+                fit_parts("y ~ x", TABLE, 0, "504/1009", parts=1, program=program)
+        self.assertEqual((len(found.segments), found.notes), (2, (f"fitted as one range, since a part of it ended with {line!r}",)))
+
     def test_what_is_no_range_is_refused(self):
-        for lo, hi, parts in (("1/2", "1/2", 2), (1, 0, 2), (0, 1, 0)):
+        for lo, hi, parts in (("1/2", "1/2", 2), (1, 0, 2), (0, 1, 0), (0, 1, 2000)):
             with self.assertRaisesRegex(ValueError, "a range of quantiles"):
                 fit_parts("y ~ x", TABLE, lo, hi, parts=parts)
 

@@ -89,7 +89,7 @@ class OfTables(unittest.TestCase):
         for text in ("two", "-", "N/A", "2021-03-04"):
             table = pandas.DataFrame(numbers | {"x": ["3", "1", text, "1", "5", "1"]})
             with self.subTest(text=text):
-                self.assertEqual(self.texts_of(table), [f"x is a factor, since 1 of its 6 cells are no numbers: record 3 has {text!r}"])
+                self.assertEqual(self.texts_of(table), [f"x is a factor, since it has texts in 1 of 6 cells: record 3 has {text!r}"])
                 # A column that the formula leaves out is nobody's concern.
                 self.assertEqual(self.texts_of(table, "y ~ 1"), [])
         self.assertEqual(self.texts_of(pandas.DataFrame(numbers | {"x": list("abcab") + ["1"]})), [])
@@ -98,7 +98,13 @@ class OfTables(unittest.TestCase):
     def test_fractions_that_may_be_dates(self):
         responses = {"y": [1, 4, 2, 8]}
         table = pandas.DataFrame(responses | {"x": ["1/86", "2/86", "3", "5"]})
-        self.assertEqual(self.texts_of(table), ["2 cells of x are read as fractions: 1/86 is 0.011628"])
+        said = "x has fractions in 2 of 4 cells: 1/86 is read as 0.011628"
+        self.assertEqual(self.texts_of(table), [said])
+        # So they are as a response, in an offset and as weights, and not where a formula leaves them out.
+        self.assertEqual(self.texts_of(table, "x ~ 1"), [said])
+        self.assertEqual(self.texts_of(table, "y ~ offset(x)"), [said])
+        self.assertEqual(self.texts_of(table, "y ~ 1", lambda *words: fit(*words, weights="x")), [said])
+        self.assertEqual(self.texts_of(table, "y ~ . - x"), [])
         self.assertEqual(self.texts_of(pandas.DataFrame(responses | {"x": [F(1, 86), F(2, 86), 3, 5]})), [])
         self.assertEqual(self.texts_of(pandas.DataFrame(responses | {"x": ["186", "286", "3", "5"]})), [])
 

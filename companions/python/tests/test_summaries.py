@@ -19,9 +19,9 @@ class OfTexts(unittest.TestCase):
             (LINE, "<ProcessReport 3 records, quantiles 0 to 1, 2 segments>"),
             (MEDIAN, "<ProcessReport 3 records, quantile 1/2: (Intercept) 2>"),
             (RANKS, "<RanksReport Wilcoxon scores of 3 records beside (Intercept), x>"),
-            (PREDICT, "<PredictReport 1 predictions by 3 records>"),
+            (PREDICT, "<PredictReport predictions of records 4, by 3 records>"),
             (LINE_PATH, "<PathReport 3 records, lambdas 1/4 to 2, 3 segments>"),
-            (TEST, "<TestReport x: statistic 2.5714, chi-squared with 1 degrees of freedom, p-value 0.10881>"),
+            (TEST, "<TestReport x: statistic 2.5714, p-value 0.10881 by chi-squared(1)>"),
             (CHECK, "<CheckReport accepted: 3 rows, 2 columns, 2 segments, 0 intervals>"),
             (CERTIFICATE, "<Certificate 3 rows, 2 columns, 2 segments, 0 intervals>"),
         ]:
