@@ -21,7 +21,7 @@ QUARTILES = (Fraction(1, 4), Fraction(1, 2), Fraction(3, 4))
 class OfTable:
     """What is asked of a report together with its `model`.
 
-    A place is a quantile of a process, and a lambda of a path.
+    A place is a quantile of a process, and a lambda of a path; it may be left out where the fit is at one.
     """
 
     formula = property(lambda self: self.model.formula, doc="The formula.")
@@ -59,11 +59,11 @@ class OfTable:
 
     def _sums(self, table, place, side):
         """Entries times coefficients plus the offsets, for each row of `design`."""
-        coef = self.segment_at(place, side).coef
+        coef = self.segment_at(self.one_place(place), side).coef
         both = zip(design_rows(self, table), offset_values(self, table))
         return [None if row is None else offset + sum(x * b for x, b in zip(row, coef)) for row, offset in both]
 
-    def predict(self, newdata, place: Number, side: str = "lower") -> list:
+    def predict(self, newdata, place: Number | None = None, side: str = "lower") -> list:
         """The predictions for new data at a place: a fraction for each record, None where a cell is missing."""
         return self._sums(self._table_of(newdata), place, side)
 
@@ -71,11 +71,11 @@ class OfTable:
         """The response of each kept record, as it stands in the table."""
         return self.table.response(self)
 
-    def fitted(self, place: Number, side: str = "lower") -> list[Fraction]:
+    def fitted(self, place: Number | None = None, side: str = "lower") -> list[Fraction]:
         """The fitted value of each kept record at a place, its offsets included."""
         return self._sums(self.table, place, side)
 
-    def residuals(self, place: Number, side: str = "lower") -> list[Fraction]:
+    def residuals(self, place: Number | None = None, side: str = "lower") -> list[Fraction]:
         """The residual of each kept record at a place."""
         return [y - mean for y, mean in zip(self.response(), self.fitted(place, side))]
 
@@ -140,7 +140,7 @@ class Fit(OfTable, ProcessReport):
 
         `tau` may be left out where the fit is at one quantile. `tcrit` takes Student's distribution, which needs scipy.
         """
-        return self._summary(self._one(tau), alpha, tcrit)[["lower", "upper"]]
+        return self._summary(self.one_place(tau), alpha, tcrit)[["lower", "upper"]]
 
     def summary(self, alpha: float | None = 0.05, tau=None, tcrit: bool = False) -> pandas.DataFrame:
         """The coefficients with their rank intervals of the level 1 - alpha, as floats and as fractions, by the names of the columns.
@@ -154,27 +154,21 @@ class Fit(OfTable, ProcessReport):
         taus = list(tau) if isinstance(tau, (list, tuple)) else [tau]
         return joined({as_fraction(it): self._summary(as_fraction(it), alpha, tcrit) for it in taus})
 
-    def _one(self, tau):
-        if tau is None and self.segments[0].lo != self.segments[-1].hi:
-            raise ValueError("the fit is of a range: name a quantile by `tau=`")
-        return as_fraction(self.segments[0].lo if tau is None else tau)
-
     def _summary(self, tau, alpha, tcrit):
         """The summary at one quantile, with warnings."""
-        coef, said = self.coef_at(tau), notes.at_quantile(self, tau)
-        frame = pandas.DataFrame({"coefficient": _floats(coef)})
+        columns, attrs, said = {"coefficient": self.coef_at(tau)}, {}, notes.at_quantile(self, tau)
         if alpha is not None:
             critical = critical_value(alpha, self.records - len(self.names) if tcrit else None)
             tested = self.rank_intervals(tau, critical)
-            ends = {self.names[it.column - 1]: (it.low, it.high) for it in tested.intervals}
-            for at, end in enumerate(("lower", "upper")):
-                frame[end] = pandas.Series({name: float(both[at]) for name, both in ends.items()}, dtype=float)
-                frame[f"{end}_fraction"] = pandas.Series({name: both[at] for name, both in ends.items()}, dtype=object)
-            frame.attrs["critical"], said = str(critical), [*said, *tested.notes]
-        frame.insert(frame.shape[1] if alpha is None else 3, "fraction", pandas.Series(coef, dtype=object))
-        frame.attrs["notes"] = said
+            columns["lower"] = {self.names[it.column - 1]: it.low for it in tested.intervals}
+            columns["upper"] = {self.names[it.column - 1]: it.high for it in tested.intervals}
+            attrs, said = {"critical": str(critical)}, [*said, *tested.notes]
+        frame = pandas.DataFrame({key: _floats(values) for key, values in columns.items()}, index=list(self.names))
+        for key, values in columns.items():
+            frame["fraction" if key == "coefficient" else f"{key}_fraction"] = pandas.Series(values, dtype=object)
+        frame.attrs = attrs | {"notes": said}
         notes.warn(said)
-        return frame[[it for it in ("coefficient", "lower", "upper", "fraction", "lower_fraction", "upper_fraction") if it in frame]]
+        return frame
 
 
 def joined(frames: dict) -> pandas.DataFrame:

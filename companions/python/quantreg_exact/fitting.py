@@ -83,7 +83,7 @@ def ranks(formula: str, data, *, weights=None, contrasts=None, pivots=None, prog
     try:
         report = model.answer("ranks")
     except QuantregError as fault:
-        report = _rescued(fault, lambda: any_size.ranks_of(_whole(model, 0, 1), fault))
+        report = _rescued(fault, lambda cause: any_size.ranks_of(_whole(model, 0, 1), cause))
     found = RanksFit(**vars(report), model=model)
     return _noted(found, [*notes.of_table(model, found.names), *notes.of_ties(found)])
 
@@ -97,7 +97,7 @@ def _rescued(fault, make):
     if not fault.is_overflow:
         raise fault
     try:
-        return make()
+        return make(fault)
     except (QuantregError, ValueError) as error:
         raise fault from error
 
@@ -133,7 +133,7 @@ def _test(model, tested):
     try:
         return model.answer("test", tested=tested)
     except QuantregError as fault:
-        return _rescued(fault, lambda: any_size.test_of(_whole(model, "1/2", "1/2"), [int(it) for it in _listed(tested)], fault))
+        return _rescued(fault, lambda cause: any_size.test_of(_whole(model, "1/2", "1/2"), [int(it) for it in _listed(tested)], cause))
 
 
 def _listed(given) -> list:
@@ -170,7 +170,7 @@ def predictions(formula: str, data, lo, hi=None, *, weights=None, contrasts=None
     try:
         report = model.answer("predict", lo=lo, hi=hi)
     except QuantregError as fault:
-        report = _rescued(fault, lambda: any_size.predictions_of(_whole(model, lo, hi), fault))
+        report = _rescued(fault, lambda cause: any_size.predictions_of(_whole(model, lo, hi), cause))
     return _noted(report, notes.of_table(model, report.names))
 
 

@@ -133,6 +133,12 @@ class Stretches:
         """The coefficients at a place by the names of the columns; where two segments meet, those of one side."""
         return dict(zip(self.names, self.segment_at(place, side).coef))
 
+    def one_place(self, place: Number | None = None) -> Fraction:
+        """A place as it is given, or the only one of the range; ValueError where there are more."""
+        if place is None and self.segments[0].lo != self.segments[-1].hi:
+            raise ValueError("the fits are of a range: name a place of it")
+        return as_fraction(self.segments[0].lo if place is None else place)
+
     def range_text(self, place: str) -> str:
         """The range in words: the coefficients where it is one place, else how many segments it has."""
         low, high = self.segments[0].lo, self.segments[-1].hi

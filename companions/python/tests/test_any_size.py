@@ -77,21 +77,20 @@ class ByTheProgram(unittest.TestCase):
         line = OVERFLOW.format("interval:1:1/2", "statistic")
         pattern = "*rank-at=1/2*|'process --formula=y ~ 0 + x1 --weights=w --lo=1/2'*"
         table = TABLE.assign(x=range(10))
-        lesser = []
 
         def call(program):
-            lesser.append(fit("y ~ x", table, "1/2", crit=1, rank_at="1/2", program=program))
+            found = fit("y ~ x", table, "1/2", crit=1, rank_at="1/2", program=program)
+            return found, found.summary()
 
         with noted() as texts:
-            refusing(pattern, line, call)
-        (found,) = lesser
+            found, frame = refusing(pattern, line, call)
         self.assertEqual((found.intervals, found.coef_at("1/2")), ((), fit("y ~ x", table, "1/2").coef_at("1/2")))
         missing = [text for text in texts if "missing" in text]
-        self.assertEqual(len(missing), 2)
+        self.assertEqual(len(missing), 4)
         self.assertIn("the rank interval of x at the quantile 1/2 is missing: quantreg: solver: Overflow", missing[1])
-        with noted():
-            frame = found.summary(None)
-        self.assertEqual(list(frame.columns), ["coefficient", "fraction"])
+        self.assertTrue(frame[["lower", "upper"]].isna().all(axis=None))
+        self.assertEqual(frame.attrs["notes"][-2:], missing[2:])
+        self.assertEqual(frame["coefficient"].tolist(), list(map(float, found.coef_at("1/2").values())))
 
     def test_what_cannot_be_worked_out_ends_with_the_first_fault(self):
         line = OVERFLOW.format("process", "coefficient")

@@ -35,8 +35,10 @@ class OfTexts(unittest.TestCase):
         line = answered(LINE, lambda program: fit("y ~ x", TABLE, 0, 1, program=program))
         self.assertEqual(repr(line), "<Fit y ~ x: 3 records, quantiles 0 to 1, 2 segments>")
         self.assertEqual(line.params["x"].tolist(), [1.0, 0.5])
-        with self.assertRaisesRegex(ValueError, "name a quantile"):
-            line.conf_int()
+        self.assertEqual((median.residuals(), median.predict(TABLE)), ([-2, 0, 1], [2, 2, 2]))
+        for asked in (line.conf_int, line.residuals):
+            with self.assertRaisesRegex(ValueError, "of a range: name a place of it"):
+                asked()
 
     def test_a_summary_without_intervals_has_fractions_and_decimals(self):
         line = answered(LINE, lambda program: fit("y ~ x", TABLE, 0, 1, program=program))
