@@ -62,6 +62,12 @@ class ByTheProgram(unittest.TestCase):
                 with self.subTest(formula=formula, column=interval.column):
                     self.assertEqual(interval_of(bare, interval.column, F(tau), F(46, 17)), interval)
 
+    def test_a_tie_with_the_critical_value_is_within(self):
+        # At 6/7 the statistic of the line is at its bound on both sides: docs/MANUAL.md has these intervals.
+        line = fit("y ~ x", pandas.DataFrame({"y": [0, 2, 3], "x": [0, 1, 3]}), "1/2")
+        found = [interval_of(line, column, F(1, 2), F(6, 7)) for column in (1, 2)]
+        self.assertEqual([(it.low, it.high) for it in found], [(0, F(3, 2)), (F(1, 2), 2)])
+
     def test_intervals_that_overflow_at_one_quantile_are_worked_out_there(self):
         line = OVERFLOW.format("interval:2:1/2", "statistic")
         pattern = "*rank-at=*1/2*"
