@@ -11,8 +11,9 @@ from dataclasses import dataclass, replace
 from fractions import Fraction
 
 from .faults import QuantregError
+from .linear import solved
 from .model import Model
-from .nested import rank_test_of_process, solved, squared_length
+from .nested import rank_test_of_process, squared_length
 from .numbers import simplest_between
 from .reports import Prediction, PredictReport, ProcessReport, RanksReport, TestReport
 from .stretches import Interval, rearrange

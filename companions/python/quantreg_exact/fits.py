@@ -11,6 +11,7 @@ from .arithmetics import Parts, name_of
 from .critical import Critical, critical_value
 from .designs import Names, Table, design_rows, offset_values, response_name
 from .faults import QuantregError
+from .linear import solved
 from .model import Model, table_bytes
 from .numbers import Number, as_fraction, shown
 from .reports import PathReport, ProcessReport, RanksReport, TestReport
@@ -111,8 +112,46 @@ class Fit(OfTable, ProcessReport):
         return bounds
 
     def is_unique(self, tau: Number, penalty_bounds=None) -> bool | None:
-        """Whether no other coefficients have the same loss at a quantile: True, False, or None where the report doesn't tell."""
-        return super().is_unique(tau, self.penalty_bounds() if penalty_bounds is None else penalty_bounds)
+        """Whether no other coefficients have the same loss at a quantile: what the report tells, and what the table does.
+
+        It is False too where the rankscore of a basic row is 0 or 1, no other row is fitted exactly and there are no smooths,
+        by the program's law `unique_minimum`; `other_coef_at` has others then. The bounds of penalty rows are those of the formula.
+        """
+        told = super().is_unique(tau, self.penalty_bounds() if penalty_bounds is None else penalty_bounds)
+        return False if told is None and self.other_coef_at(tau) is not None else told
+
+    def other_coef_at(self, tau: Number) -> dict[str, Fraction] | None:
+        """Other coefficients with the same loss at a quantile, by the names of the columns, or None where none are told.
+
+        Where two segments meet, those of the upper one. Else, where the rankscore of a basic row is 0 or 1, no other row is
+        fitted exactly and there are no smooths, the fit moves along the rows of the basis but that one, to the first row
+        that it then meets.
+        """
+        tau, segments = as_fraction(tau), self.segments_at(tau)
+        if segments[0].coef != segments[-1].coef:
+            return dict(zip(self.names, segments[-1].coef))
+        for segment in segments:
+            coef = None if self.penalty else self._beside(segment, tau)
+            if coef is not None:
+                return dict(zip(self.names, coef))
+        return None
+
+    def _beside(self, segment, tau):
+        """Coefficients beside those of a segment with the same loss at a quantile, or None."""
+        scores = {row: segment.between(tau, ends) for row, ends in segment.basic.items()}
+        freed = next((row for row, score in scores.items() if score in (0, 1)), None)
+        if freed is None:
+            return None
+        design, both = self.design(), zip(self.response(), self.offsets())
+        residuals = [y - offset - sum(x * b for x, b in zip(row, segment.coef)) for row, (y, offset) in zip(design, both)]
+        if {row for row, residual in enumerate(residuals, 1) if residual == 0} != set(segment.basis):
+            return None
+        # The freed row comes to lie above the fit where its rankscore is 1, and below it where that is 0.
+        rise = Fraction(-1 if scores[freed] == 1 else 1)
+        move = solved([design[row - 1] for row in segment.basis], [rise * (row == freed) for row in segment.basis])
+        rises = [sum(x * d for x, d in zip(row, move)) for row in design]
+        step = min((residual / by for residual, by in zip(residuals, rises) if residual * by > 0), default=Fraction(1))
+        return tuple(b + step * d for b, d in zip(segment.coef, move))
 
     def wilcoxon(self) -> list[Fraction]:
         """The Wilcoxon score of each record. Warns where responses are tied."""

@@ -77,13 +77,17 @@ def of_uniqueness(fit) -> list[str]:
 
 
 def at_quantile(fit, tau) -> list[str]:
-    """That a fit isn't, or may not be, unique at a quantile."""
-    answer = fit.is_unique(tau)
+    """That a fit isn't, or may not be, unique at a quantile, and which other coefficients lose as little."""
+    try:
+        answer, other = fit.is_unique(tau), fit.other_coef_at(tau)
+    except ValueError as error:
+        return [f"whether the fit at the quantile {tau} is unique was not looked at: {error}"]
     if answer:
         return []
-    if answer is False:
-        return [f"the fit at the quantile {tau} is not unique: two segments with other coefficients meet there"]
-    return [f"the fit at the quantile {tau} may not be unique: a dual value of its basis is at its bound"]
+    if other is None:
+        return [f"the fit at the quantile {tau} may not be unique: a dual value of its basis is at its bound"]
+    told = listed(f"{name} {shown(value)}" for name, value in other.items())
+    return [f"the fit at the quantile {tau} is not unique: {told} has the same loss"]
 
 
 def of_ties(fit) -> list[str]:

@@ -48,10 +48,17 @@ class OfTexts(unittest.TestCase):
             self.assertNotIn("note", repr(found))
 
     def test_a_dual_value_at_its_bound(self):
+        # Two records of 2 are fitted, and the one in the basis has the rankscore 1.
         text = MEDIAN.replace("basic 2 1/2 1/2", "basic 2 1 1")
-        found, texts = self.made(text, "1/2", formula="y ~ 1")
+        found, texts = self.made(text, "1/2", formula="y ~ 1", table=LINE_TABLE.assign(y=[0, 2, 2]))
         self.assertEqual(texts, ["the fit at the quantile 1/2 may not be unique: a dual value of its basis is at its bound"])
         self.assertIn("may not be unique", repr(found))
+        # Where it alone is fitted, the fit is moved away from it to the next record: below it, since its rankscore is 1.
+        found, texts = self.made(text, "1/2", formula="y ~ 1")
+        self.assertEqual(texts, ["the fit at the quantile 1/2 is not unique: (Intercept) 0 has the same loss"])
+        # A design that can't be read back from the names is told, and no error.
+        _, texts = self.made(text, "1/2", formula="y ~ 1", table=LINE_TABLE[:2])
+        self.assertIn("was not looked at: the table has 2 records for this fit, and the report 3", texts[0])
 
     def test_a_segment_of_a_range_that_is_at_a_bound_throughout(self):
         _, texts = self.made(LINE.replace("basic 3 1 1/5", "basic 3 1 1"), 0, 1)
@@ -60,7 +67,7 @@ class OfTexts(unittest.TestCase):
     def test_two_segments_that_meet_are_told_by_the_summary(self):
         found, texts = self.made(LINE, 0, 1)
         self.assertEqual(texts, [])
-        for tau, wanted in (("3/5", ["the fit at the quantile 3/5 is not unique: two segments with other coefficients meet there"]), ("1/5", [])):
+        for tau, wanted in (("3/5", ["the fit at the quantile 3/5 is not unique: (Intercept) 1.5, x 0.5 has the same loss"]), ("1/5", [])):
             with noted() as texts:
                 frame = found.summary(None, tau)
             self.assertEqual((texts, frame.attrs["notes"]), (wanted, wanted))
@@ -76,7 +83,18 @@ class OfTexts(unittest.TestCase):
 
 @needs_program
 class OfTables(unittest.TestCase):
-    """Notes on the cells of a table, and on ties."""
+    """Notes on the cells of a table, on ties, and on medians that are many."""
+
+    def test_medians_that_are_many(self):
+        for responses, wanted in [
+            # Every number from 1 to 3 is a median.
+            ([1, 3], "the fit at the quantile 1/2 is not unique"),
+            ([1, 1, 3, 3], "the fit at the quantile 1/2 may not be unique"),
+            ([1, 2, 3], None),
+        ]:
+            with self.subTest(responses=responses), noted() as texts:
+                fit("y ~ 1", pandas.DataFrame({"y": responses}), "1/2")
+            self.assertEqual([text.split(":")[0] for text in texts], [wanted] if wanted else [])
 
     def texts_of(self, table, formula="y ~ x", call=fit, place=("1/2",)):
         with noted() as texts:
