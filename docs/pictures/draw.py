@@ -9,6 +9,7 @@ The report of the generated table takes the program some ten seconds.
 import io
 import subprocess
 import sys
+from fractions import Fraction
 from pathlib import Path
 
 import matplotlib
@@ -34,12 +35,12 @@ def generated(rows, columns):
 
 
 def main():
-    stackloss = fit("stack.loss ~ .", TOP / "examples/stackloss.csv", 0, 1)
+    stackloss = fit("stack.loss ~ .", TOP / "examples/stackloss.csv", 0, 1, alpha=0.1)
     units = {"(Intercept)": "tenths of % lost", "Air.Flow": "tenths of % lost per unit of air flow"}
     units |= {"Water.Temp": "tenths of % lost per °C", "Acid.Conc.": "tenths of % lost per unit of acid"}
-    save(plot_process(stackloss, units=units), "stackloss")
+    save(plot_process(stackloss, units=units, trim=0.15), "stackloss")
 
-    engel = fit("foodexp ~ income", TOP / "examples/engel.csv", 0, 1)
+    engel = fit("foodexp ~ income", TOP / "examples/engel.csv", 0, 1, alpha=0.1, rank_at=[Fraction(n, 20) for n in range(1, 20)])
     save(plot_fit(engel, units={"income": FRANCS, "foodexp": FRANCS}), "engel_fit")
     units = {"(Intercept)": FRANCS, "income": "francs for food per franc of income"}
     save(plot_process(engel, units=units, trim=0.01), "engel_process")

@@ -1,37 +1,41 @@
 """Exact quantile regression where pandas and matplotlib are at home.
 
 `fit` hands a data frame to the program quantreg and gives its report; `read_report` reads a report of any kind from text.
-Numbers are `fractions.Fraction` throughout, and each report has frames of floats. `plot_process` and `plot_fit` draw, and they alone
-need matplotlib.
+Numbers are `fractions.Fraction` throughout, and each report has frames of floats. `fit_all` runs many fits at once, `plot_process` and
+`plot_fit` draw.
 """
 
-from .faults import QuantregError, ReportError, read_fault
-from .fitting import Fit, PathFit, fit, path, predictions, rank_test, ranks
+from .critical import Critical, critical_value
+from .faults import QuantregError, QuantregWarning, ReportError, read_fault
+from .fits import Fit, PathFit, RanksFit, TestFit
+from .fitting import fit, path, predictions, rank_test, ranks
+from .many import fit_all, fit_parts
+from .model import Model
 from .nested import rank_test_of_process
 from .program import find_program, run
+from .reading import read_report
 from .reports import (
     Certificate,
     CheckReport,
-    Interval,
     PathReport,
-    PathSegment,
     Prediction,
     PredictReport,
     ProcessReport,
     RanksReport,
     SampleReport,
-    Segment,
-    Step,
     TestReport,
-    read_report,
-    rearrange,
 )
+from .several import Fits
+from .stretches import Interval, PathSegment, Segment, Step, rearrange
 
 __all__ = [
     "Certificate",
     "CheckReport",
+    "Critical",
     "Fit",
+    "Fits",
     "Interval",
+    "Model",
     "PathFit",
     "PathReport",
     "PathSegment",
@@ -39,14 +43,20 @@ __all__ = [
     "Prediction",
     "ProcessReport",
     "QuantregError",
+    "QuantregWarning",
+    "RanksFit",
     "RanksReport",
     "ReportError",
     "SampleReport",
     "Segment",
     "Step",
+    "TestFit",
     "TestReport",
+    "critical_value",
     "find_program",
     "fit",
+    "fit_all",
+    "fit_parts",
     "path",
     "plot_fit",
     "plot_process",

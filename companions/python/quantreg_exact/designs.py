@@ -37,9 +37,19 @@ class Table:
         numeric = {name for name, column in cells.items() if all(_is_missing(it) or _is_numeric(it) for it in column)}
         return Table(cells, len(records), numeric)
 
+    def in_order(self, order):
+        """The bytes of a table with these records, counted from 0, one after the other."""
+        text = io.StringIO()
+        csv.writer(text).writerows([list(self.cells), *([column[record] for column in self.cells.values()] for record in order)])
+        return text.getvalue().encode("utf-8")
+
     def has(self, record, columns):
         """Whether no cell of the record is missing in these columns."""
         return not any(_is_missing(self.cells[name][record]) for name in columns)
+
+    def texts(self, name):
+        """The cells of a column that are no numbers, each with its record from 0; those that are missing are left out."""
+        return [(record, cell) for record, cell in enumerate(self.cells[name]) if not _is_missing(cell) and not _is_numeric(cell)]
 
     def number(self, record, name):
         cell = self.cells[name][record].strip(_BLANKS)
@@ -91,6 +101,20 @@ def _variables(tokens, names):
         elif name_of(token) is not None:
             plain.add(name_of(token))
     return plain, factors
+
+
+def beside_the_design(formula):
+    """The columns of a table that a formula takes beside those of its design: the response, and those of the offsets."""
+    return {response_name(formula), *(name for it in Parts.of(formula).offsets for name in it.names)}
+
+
+def used_columns(formula, names, weights=None):
+    """The columns of a table that a formula and the weights name, `.` being all of them, in the order of the table."""
+    parts = Parts.of(formula)
+    plain, factors = _variables(parts.tokens, names)
+    computed = {name for it in parts.computed for name in it.names}
+    used = plain | factors | computed | beside_the_design(formula) | {weights}
+    return [name for name in names if name in used]
 
 
 def _value(arithmetic, table, record):
@@ -220,6 +244,17 @@ class Names:
         for variable in {part.variable for parts in self.parts for part in parts if part.variable.is_factor}:
             levels[variable.label] = sorted({variable.level(self.table, record) for record in self.kept})
         return levels
+
+    def columns_of(self, name):
+        """The numbers of the columns of this name, or of the variable or product that it is: `f` has `fb` and `fc`, and `f:x` `fb:x`."""
+        if name in self.fit.names:
+            return [self.fit.names.index(name) + 1]
+        wanted = sorted(name.split(":"))
+        labels = [sorted(part.variable.label for part in parts) for parts in self.parts]
+        found = [number for number, label in enumerate(labels, 1) if label == wanted]
+        if not found:
+            raise ValueError(f"the design has no column and no variable {name!r}; its columns are {', '.join(self.fit.names)}")
+        return found
 
     def row(self, table, record):
         row = []

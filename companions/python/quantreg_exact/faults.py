@@ -17,7 +17,11 @@ _NAMES = {"column", "factor", "name", "path", "option"}
 _COUNTED_COLUMNS = {"DoubleName", "EmptyName", "NoSuchColumn"}
 
 
-def unescaped(name):
+class QuantregWarning(UserWarning):
+    """A result that isn't unique, that depends on the order of the records, or that may rest on a cell that was meant otherwise."""
+
+
+def unescaped(name: str) -> str:
     """A name as it was before printing, which writes a control byte or a backslash as `\\x` and two digits."""
     return _ESCAPED.sub(lambda found: chr(int(found.group(1), 16)), name)
 
@@ -34,17 +38,27 @@ class QuantregError(RuntimeError):
     """A run of quantreg that ended without a report.
 
     `status` is the exit status, `line` the fault line, and `group`, `name` and `fields` what it says; they are None, None
-    and empty where the run left no such line.
+    and empty where the run left no such line. `advice` says it by the words and names that were given, where it can.
     """
 
-    def __init__(self, status, text):
+    def __init__(self, status: int, text: str, advice: str | None = None):
         self.status = status
         self.line = text.strip("\n")
+        self.advice = advice
         fault = read_fault(self.line)
         self.group = fault.group if fault else None
         self.name = fault.name if fault else None
         self.fields = fault.fields if fault else {}
-        super().__init__(f"status {status}: {self.line or 'no line on standard error'}")
+        told = f"status {status}: {self.line or 'no line on standard error'}"
+        super().__init__(f"{told}\n{advice}" if advice else told)
+
+    def __reduce__(self):
+        return type(self), (self.status, self.line, self.advice)
+
+    @property
+    def is_overflow(self) -> bool:
+        """Whether a number outgrew the program's own."""
+        return self.status == 7
 
 
 @dataclass(frozen=True)
@@ -68,7 +82,7 @@ def _value(fault, key, text):
     return unescaped(text)
 
 
-def read_fault(line):
+def read_fault(line: str) -> Fault | None:
     """The fault of a line as quantreg writes it to standard error, or None where it is no such line."""
     parts = _LINE.fullmatch(line.rstrip("\n"))
     if not parts:

@@ -1,17 +1,16 @@
 """The rank test of nested models from a process of the lesser one, worked out here with numbers of any size.
 
-The program's job `test` ends with status 7 where the products of the weighted columns, or the inverse of their matrix, outgrow 128 bits:
-columns of long decimals do. The statistic is a few sums over the Wilcoxon scores of the lesser model's process and the solution of
-one linear system.
+The statistic is a few sums over the Wilcoxon scores of that model's process and the solution of one linear
+system, and the process itself has much shorter numbers.
 """
 
 from fractions import Fraction
 
 from .linear import solved
-from .reports import TestReport
+from .reports import ProcessReport, TestReport
 
 
-def rank_test_of_process(process, full, tested):
+def rank_test_of_process(process: ProcessReport, full, tested) -> TestReport:
     """The report of the job `test`, worked out by Python's fractions instead of the proved program.
 
     `process` is a report of the job `process` over the quantiles 0 to 1 for the model without the columns `tested`, which are
@@ -61,6 +60,13 @@ def _check_basis(process, design, response):
 
 def _product(left, right):
     return sum((a * b for a, b in zip(left, right)), Fraction(0))
+
+
+def squared_length(column, others) -> Fraction:
+    """The squared length of what is left of a column after least squares on others."""
+    along = [_product(column, other) for other in others]
+    taken = solved([[_product(one, other) for other in others] for one in others], along) if others else []
+    return _product(column, column) - _product(along, taken)
 
 
 def _gram(rows):

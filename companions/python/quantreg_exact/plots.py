@@ -1,18 +1,22 @@
 """Pictures of a process: its coefficients over the quantiles, and the lines of a fit with one regressor."""
 
 import math
+import textwrap
 from fractions import Fraction
 
 import matplotlib.pyplot as plt
 from matplotlib import colormaps
 
 from .designs import response_name
+from .fits import OfTable
 from .numbers import as_fraction
 
 LINE, BAND, RUG = "#1f4e79", "#9ecae1", "#c0504d"
 # Up to so many breakpoints each has its own tick; beyond, their number in each hundredth of the range is drawn.
 MOST_TICKS = 120
 BINS = 100
+# So many small letters stand in an inch.
+LETTERS = 15
 
 
 def _panels(count, width, height):
@@ -26,40 +30,54 @@ def _panels(count, width, height):
     return figure, list(axes.flat[:count])
 
 
-def _unit_of(name, units, response):
-    """What a coefficient is measured in: the given text, or the response, by a unit of the column but for the intercept."""
-    usual = response if name == "(Intercept)" else f"{response} per unit of {name}"
-    return (units or {}).get(name, usual)
+def _unit_of(report, name, units, response):
+    """What a coefficient is measured in: the given text, or the response, by a unit of the column where that is one of numbers."""
+    response = response or getattr(report, "response_name", "response")
+    per_unit = f"{response} per unit of {name}" if _is_numeric(report, name) else response
+    return (units or {}).get(name, per_unit)
+
+
+def _is_numeric(report, name):
+    """Whether a column is known to be one of numbers: not the intercept, and no level of a factor."""
+    if not isinstance(report, OfTable):
+        return False
+    parts = report.meaning.parts[report.names.index(name)]
+    return bool(parts) and not any(part.variable.is_factor for part in parts)
 
 
 def _named(units, name):
     return f"{name} ({units[name]})" if units and name in units else name
 
 
-def _central_range(values, lengths, share):
-    """The least and greatest value over the middle of the range, `share` of it left out at either end."""
-    place, inside = 0.0, []
-    for value, length in zip(values, lengths):
-        if place + length > share and place < 1 - share:
-            inside.append(value)
-        place += length
-    return min(inside), max(inside)
+def _central(edges, trim):
+    """The ends of the middle of the range, a share `trim` of it left out at either end."""
+    room = trim * (edges[-1] - edges[0])
+    return edges[0] + room, edges[-1] - room
 
 
-def _band(axis, intervals):
-    """The rank intervals of a column, as a band between their ends; an end that is infinite runs off the panel."""
+def _heights(values, edges, intervals, trim):
+    """The least and the greatest height over the middle of the range, of the steps and of the finite ends of bands, with some room."""
+    low, high = _central(edges, trim)
+    inside = [value for value, start, end in zip(values, edges, edges[1:]) if end > low and start < high]
+    inside += [float(end) for it in intervals for end in (it.low, it.high) if low <= it.tau <= high and not math.isinf(end)]
+    least, greatest = min(inside), max(inside)
+    room = 0.08 * (greatest - least) or 0.5
+    return least - 2 * room, greatest + room
+
+
+def _band(axis, intervals, span):
+    """The rank intervals of a column: a step for each, halfway to the next quantile. An end that is infinite runs off the panel."""
     low, high = axis.get_ylim()
-    finite = [end for it in intervals for end in (it.low, it.high) if not math.isinf(end)]
-    low, high = min([low, *map(float, finite)]), max([high, *map(float, finite)])
-    room = 0.05 * (high - low)
-    axis.set_ylim(low - room, high + room)
+    far = high - low
     taus = [float(it.tau) for it in intervals]
-    ends = [[min(max(float(end), low - 2 * room), high + 2 * room) for end in (it.low, it.high)] for it in intervals]
-    lows, highs = zip(*ends)
+    lows, highs = ([min(max(float(end), low - far), high + far) for end in ends] for ends in zip(*((it.low, it.high) for it in intervals)))
     if len(taus) == 1:
         axis.vlines(taus, lows, highs, color=BAND, linewidth=6, zorder=1, label="rank interval")
-    else:
-        axis.fill_between(taus, lows, highs, color=BAND, alpha=0.6, linewidth=0, zorder=1, label="rank intervals")
+        return
+    halves = [(one + other) / 2 for one, other in zip(taus, taus[1:])]
+    edges = [max(span[0], 2 * taus[0] - halves[0]), *halves, min(span[1], 2 * taus[-1] - halves[-1])]
+    axis.stairs(highs, edges, baseline=lows, fill=True, color=BAND, alpha=0.6, linewidth=0, zorder=1, label="rank intervals")
+    axis.set_ylim(low, high)
 
 
 def _changes(report):
@@ -85,48 +103,60 @@ def _draw_changes(axis, places, span):
     return f"{len(places):,} changes of the coefficients, shaded by how many fall into each hundredth"
 
 
-def plot_process(report, columns=None, *, units=None, response="response", trim=0, width=4.0, height=3.0):
+def plot_process(report, columns=None, *, units=None, response=None, level=None, trim=0, width=4.0, height=3.0):
     """Draws the coefficients of a `process` report over the quantiles, a panel for each column, as R's `plot.rqs` does.
 
-    Lines are steps, since the coefficients stay between two breakpoints. Rank intervals of the report are drawn as bands.
-    `columns` are names, all where it isn't given; `units` has the text of an axis by the names of columns; `trim` leaves out so much of
-    the range at either end where the height of the panels is chosen, for a fit's ends run far off. Returns the figure.
+    Lines are steps, since the coefficients stay between two breakpoints. Rank intervals of the report are drawn as bands, and their level
+    stands below: that of the fit, or the text `level` for a report without one. `columns` are names, all where it isn't given; `units` has the
+    text of an axis by the names of columns; `trim` leaves out so much of the range at either end where the height of the panels is
+    chosen, for a fit's ends run far off. Returns the figure.
     """
     names = list(columns) if columns is not None else list(report.names)
     for name in names:
         if name not in report.names:
             raise ValueError(f"the report has no column {name!r}")
     edges = [float(s.lo) for s in report.segments] + [float(report.segments[-1].hi)]
-    span = (edges[0], edges[-1])
-    if span[0] == span[1]:
+    if edges[0] == edges[-1]:
         raise ValueError("a report at one quantile has no process to draw")
-    lengths = [(b - a) / (span[1] - span[0]) for a, b in zip(edges, edges[1:])]
+    if not 0 <= trim < 0.5:
+        raise ValueError(f"trim is a share of the range below a half, not {trim}")
     figure, axes = _panels(len(names), width, height)
     places = _changes(report)
     for axis, name in zip(axes, names):
-        at = report.names.index(name)
-        values = [float(s.coef[at]) for s in report.segments]
-        thin = len(values) > MOST_TICKS
-        axis.stairs(values, edges, baseline=None, color=LINE, linewidth=0.7 if thin else 1.4, zorder=2)
-        low, high = _central_range(values, lengths, trim)
-        room = 0.08 * (high - low) or 0.5
-        axis.set_ylim(low - 2 * room, high + room)
-        intervals = sorted((it for it in report.intervals if it.column == at + 1), key=lambda it: it.tau)
-        if intervals:
-            _band(axis, intervals)
-        axis.axhline(0, color="0.6", linewidth=0.6, zorder=0)
-        said = _draw_changes(axis, places, span)
-        axis.set_xlim(*span)
+        said = _draw_column(axis, report, name, edges, places, trim)
         axis.set_title(name, fontsize=10)
-        axis.set_ylabel(_unit_of(name, units, response), fontsize=8)
-        axis.tick_params(labelsize=8)
-    for axis in axes:
+        axis.set_ylabel(_unit_of(report, name, units, response), fontsize=8)
         axis.set_xlabel("quantile", fontsize=8)
         axis.xaxis.set_tick_params(labelbottom=True)
-    at_taus = len({it.tau for it in report.intervals})
-    bands = f"; bands: rank intervals at {at_taus} quantiles" if at_taus else ""
-    figure.supxlabel(f"{len(report.segments):,} segments; {said}{bands}", fontsize=8, color="0.35")
+        axis.tick_params(labelsize=8)
+    below = f"{len(report.segments):,} segments; {said}{_bands_text(report, level)}"
+    figure.supxlabel(textwrap.fill(below, int(LETTERS * figure.get_figwidth())), fontsize=8, color="0.35")
     return figure
+
+
+def _draw_column(axis, report, name, edges, places, trim):
+    """Draws a column's steps, bands and changes, and says how the latter are drawn."""
+    at = report.names.index(name)
+    values = [float(s.coef[at]) for s in report.segments]
+    intervals = sorted((it for it in report.intervals if it.column == at + 1), key=lambda it: it.tau)
+    thin = len(values) > MOST_TICKS
+    axis.stairs(values, edges, baseline=None, color=LINE, linewidth=0.7 if thin else 1.4, zorder=2)
+    axis.set_ylim(_heights(values, edges, intervals, trim))
+    axis.axhline(0, color="0.6", linewidth=0.6, zorder=0)
+    if intervals:
+        _band(axis, intervals, (edges[0], edges[-1]))
+    axis.set_xlim(edges[0], edges[-1])
+    return _draw_changes(axis, places, (edges[0], edges[-1]))
+
+
+def _bands_text(report, level):
+    """What the bands are, with their level where it is known."""
+    if not report.intervals:
+        return ""
+    critical = getattr(report, "critical", None)
+    level = level or (critical and critical.level)
+    of_level = f" of the level {level}" if level else ""
+    return f"; bands: rank intervals{of_level} at {len({it.tau for it in report.intervals})} quantiles"
 
 
 def _line_taus(report, taus):

@@ -3,20 +3,16 @@
 The fits are read from texts; by the program itself too where the variable QUANTREG names one.
 """
 
-import stat
-import tempfile
 import unittest
 from fractions import Fraction as F
-from pathlib import Path
 
 import pandas
 
-from quantreg_exact import Fit, QuantregError, Step, fit, path, plot_fit, predictions, rank_test, rank_test_of_process, read_fault, read_report
+from quantreg_exact import Fit, Model, QuantregError, Step, fit, path, plot_fit, predictions, rank_test, rank_test_of_process, read_fault, read_report
 from quantreg_exact.arithmetics import Parts
-from quantreg_exact.designs import Table
 
+from helpers import answered, fields, needs_program
 from test_nested import quantiles
-from test_program import needs_program
 from test_reports import LINE, LINE_PATH, TEST
 
 # Three of these four records lie on the square of x, and the second lies 1 above. The dual values are -3/16, 1/2, -3/8 and 1/16,
@@ -49,16 +45,6 @@ SHIFT = "y ~ I(0.5*x) + offset(2*z)"
 def shifted(text):
     """A report of the line as one of the shifted records."""
     return text.replace("records 3 dropped 0", "records 3 dropped 1").replace("column 2 x", "column 2 I(1/2 * x)")
-
-
-def answered(text, call):
-    """What a call gives whose program answers with this text."""
-    with tempfile.TemporaryDirectory() as room:
-        program, answer = Path(room) / "program", Path(room) / "answer"
-        answer.write_text(text)
-        program.write_text(f"#!/bin/sh\ncat > {room}/table\ncat {answer}\n")
-        program.chmod(program.stat().st_mode | stat.S_IXUSR)
-        return call(program)
 
 
 class Texts(unittest.TestCase):
@@ -156,7 +142,7 @@ class Fits(unittest.TestCase):
 
     def test_a_rank_test_with_offsets(self):
         table = SHIFTED.to_csv(index=False).encode()
-        full = Fit(**vars(read_report(shifted(LINE))), formula=SHIFT, table=Table.of_bytes(table), contrasts="treatment", weights=None)
+        full = Fit(**vars(read_report(shifted(LINE))), model=Model(SHIFT, table))
         self.assertEqual(rank_test_of_process(quantiles([0, 2, 3]), full, [2]), read_report(shifted(TEST)))
         with self.assertRaisesRegex(ValueError, "record 2 of the basis"):
             rank_test_of_process(quantiles([0, 1, 3]), full, [2])
@@ -184,8 +170,8 @@ class ByTheProgram(unittest.TestCase):
             (path(SHIFT, SHIFTED, "1/2", "1/4", 2), shifted(LINE_PATH)),
             (rank_test(SHIFT, SHIFTED, 2), shifted(TEST)),
         ]:
-            wanted = vars(read_report(text))
-            self.assertEqual({key: vars(found)[key] for key in wanted}, wanted)
+            report = read_report(text)
+            self.assertEqual(fields(found, type(report)), fields(report, type(report)))
 
     def test_predictions_have_the_offsets(self):
         table = pandas.concat([SHIFTED, pandas.DataFrame({"y": [None], "x": [8], "z": ["3"]})])

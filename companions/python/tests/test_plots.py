@@ -3,6 +3,7 @@
 import io
 import os
 import unittest
+from dataclasses import replace
 from fractions import Fraction as F
 
 import matplotlib
@@ -37,6 +38,17 @@ def ink(figure):
     return (points.min(axis=2) < 0.95).mean()
 
 
+def below(figure):
+    """What stands below the panels, on one line."""
+    return " ".join(it.get_text() for it in figure.texts).replace("\n", " ")
+
+
+def band_of(axis):
+    """The steps of a panel's band."""
+    (band,) = [it for it in axis.patches if it.get_label() == "rank intervals"]
+    return band
+
+
 class Pictures(unittest.TestCase):
     def tearDown(self):
         plt.close("all")
@@ -59,10 +71,44 @@ class Pictures(unittest.TestCase):
         values, edges, _ = stairs.get_data()
         self.assertEqual((list(values), list(edges)), ([1.0, 0.5], [0.0, 0.6, 1.0]))
 
-    def test_a_band_runs_through_the_intervals(self):
+    def test_a_band_has_a_step_for_each_interval(self):
         (_, slope) = plot_process(made(50)).axes
-        labels = [it.get_label() for it in slope.collections]
-        self.assertIn("rank intervals", labels)
+        highs, edges, lows = band_of(slope).get_data()
+        self.assertEqual(list(map(float, highs)), [k / 8 for k in range(1, 10)])
+        self.assertEqual(list(map(float, lows[1:])), [k / 20 for k in range(2, 10)])
+        # Each goes halfway to the next quantile.
+        for edge, wanted in zip(edges, [0.05 + k / 10 for k in range(10)]):
+            self.assertAlmostEqual(edge, wanted)
+
+    def test_an_infinite_end_runs_off_the_panel_and_does_not_set_it(self):
+        (_, slope) = plot_process(made(50)).axes
+        low, high = slope.get_ylim()
+        self.assertLess(band_of(slope).get_data().baseline[0], low)
+        # From 0 of the first step to 9/8 of the last band.
+        self.assertTrue(-0.3 < low < 0 and 9 / 8 < high < 1.3, (low, high))
+
+    def test_what_is_trimmed_does_not_set_the_panel(self):
+        report = made(50)
+        wide = replace(report, intervals=(*report.intervals[:8], Interval(2, F(9, 10), F(0), F(1000))))
+        (_, whole), (_, middle) = plot_process(wide).axes, plot_process(wide, trim=0.15).axes
+        self.assertGreater(whole.get_ylim()[1], 1000)
+        # The bands within are at 1/5 to 4/5, where the highest end is 1.
+        self.assertTrue(1 < middle.get_ylim()[1] < 1.3, middle.get_ylim())
+        with self.assertRaises(ValueError):
+            plot_process(report, trim=0.5)
+
+    def test_the_level_stands_on_the_figure(self):
+        self.assertIn("bands: rank intervals at 9 quantiles", below(plot_process(made(50))))
+        told = below(plot_process(made(50), level="90 %"))
+        self.assertIn("bands: rank intervals of the level 90 % at 9 quantiles", told)
+        self.assertNotIn("bands", below(plot_process(read_report(LINE))))
+
+    @unittest.skipUnless(os.environ.get("QUANTREG"), "the variable QUANTREG names no program")
+    def test_a_fit_knows_its_level_and_its_units(self):
+        table = pandas.DataFrame({"y": [1, 4, 2, 8, 5, 7], "x": [2, 3, 1, 5, 4, 9], "f": list("abcabc")})
+        figure = plot_process(fit("y ~ x + f", table, 0, 1, alpha=0.1, rank_at=["1/4", "1/2"]))
+        self.assertEqual([axis.get_ylabel() for axis in figure.axes], ["y", "y per unit of x", "y", "y"])
+        self.assertIn("of the level 90 % at 2 quantiles", below(figure))
 
     def test_what_cannot_be_drawn_is_refused(self):
         for wrong in (lambda: plot_process(read_report(MEDIAN)), lambda: plot_process(read_report(LINE), ["z"])):
