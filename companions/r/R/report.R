@@ -1,10 +1,13 @@
 # Reports as lists. The package reads those of `process`, `ranks`, `predict`, `path` and `test`.
 
-#' The double nearest to a number text, up to two roundings: a whole number, a ratio, Inf or -Inf.
+#' The double nearest to a number text, up to two roundings: a whole number, a ratio of numbers of any size, Inf or -Inf.
 fraction_value <- function(text) {
     slash <- regexpr("/", text, fixed = TRUE)
-    top <- as.numeric(ifelse(slash > 0, substring(text, 1, slash - 1), text))
-    top / as.numeric(ifelse(slash > 0, substring(text, slash + 1), "1"))
+    top <- ifelse(slash > 0, substring(text, 1, slash - 1), text)
+    under <- ifelse(slash > 0, substring(text, slash + 1), "1")
+    # A double ends at 308 digits; of longer numbers as many last digits are left out above and below.
+    longer <- pmax(0, pmin(nchar(top), nchar(under)) - 250)
+    as.numeric(substring(top, 1, nchar(top) - longer)) / as.numeric(substring(under, 1, nchar(under) - longer))
 }
 
 # The words of the lines that begin with `word`, so many behind it, as a matrix of texts; the last is the rest of its line.
