@@ -1,18 +1,17 @@
 # Critical values of rank intervals, as fractions: each digit makes the numbers of an interval longer.
 
 # The fraction of the least denominator from `low` to `high`, above 0, as numerator and denominator, by continued fractions (Knuth 4.5.3).
-# `low` and `high` are doubles, or fractions of gmp.
-simplest_between <- function(low, high, ceiling_of = ceiling) {
-    whole <- ceiling_of(low)
-    if (whole <= high) return(list(whole, 1))
-    inner <- simplest_between(1 / (high - whole + 1), 1 / (low - whole + 1), ceiling_of)
-    list((whole - 1) * inner[[1]] + inner[[2]], inner[[1]])
+simplest_between <- function(low, high) {
+    whole <- ceiling(low)
+    if (whole <= high) return(c(whole, 1))
+    inner <- simplest_between(1 / (high - whole + 1), 1 / (low - whole + 1))
+    c((whole - 1) * inner[1] + inner[2], inner[1])
 }
 
 # The simplest fraction that agrees with a number above 0 to five digits: within a share of 1/100000.
 short_fraction <- function(value) {
     found <- simplest_between(value * (1 - 1e-5), value * (1 + 1e-5))
-    paste0(format(found[[1]], scientific = FALSE), if (found[[2]] != 1) paste0("/", format(found[[2]], scientific = FALSE)))
+    paste(format(found[found != c(0, 1)], scientific = FALSE, trim = TRUE), collapse = "/")
 }
 
 #' The critical value of rank intervals of the level 1 - alpha: a short fraction for the square of a two-sided critical value.

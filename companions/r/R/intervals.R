@@ -34,10 +34,18 @@ statistic_at <- function(lesser, value, sign, tau) {
     list(statistic = statistic, ends = if (sign > 0) ends else rev(ends))
 }
 
-# The least whole number that is no less than a fraction above 0.
-bigq_ceiling <- function(value) {
+# The greatest whole number that is no more than a fraction.
+floor_of <- function(value) {
     over <- gmp::denominator(value)
-    gmp::as.bigq((gmp::numerator(value) + over - 1) %/% over)
+    top <- gmp::numerator(value)
+    gmp::as.bigq((top - top %% over) / over)
+}
+
+# A value to try next: between one within the bound and one beyond it, or so far from the former where none beyond it is known.
+value_to_try <- function(inside, outside, sign, stride) {
+    width <- if (is.null(outside)) 2 * sign * stride else outside - inside
+    part <- 3 * width / 8
+    decimal_between(min(inside + part, inside + width - part), max(inside + part, inside + width - part))
 }
 
 # The last value on one side that is within the bound, as a text: values are tried until one within meets one beyond.
@@ -45,15 +53,8 @@ interval_end <- function(lesser, inside, sign, tau, bound) {
     outside <- NULL
     stride <- gmp::as.bigq(1)
     repeat {
-        if (is.null(outside)) {
-            value <- inside + sign * stride
-            stride <- 2 * stride
-        } else {
-            third <- (outside - inside) / 3
-            between <- list(inside + third, outside - third)[if (sign > 0) 1:2 else 2:1]
-            value <- short_between(between[[1]], between[[2]])
-        }
-        found <- statistic_at(lesser, value, sign, tau)
+        found <- statistic_at(lesser, value_to_try(inside, outside, sign, stride), sign, tau)
+        stride <- 2 * stride
         if (found$statistic^2 > bound) {
             near <- found$ends[[1]]
             outside <- if (is.null(near) || sign * (near - inside) < 0) inside else near
@@ -65,11 +66,12 @@ interval_end <- function(lesser, inside, sign, tau, bound) {
     }
 }
 
-short_between <- function(low, high) {
-    if (high < 0) return(-short_between(-high, -low))
-    if (low <= 0) return(gmp::as.bigq(0))
-    found <- simplest_between(low, high, bigq_ceiling)
-    gmp::as.bigq(found[[1]]) / found[[2]]
+# A decimal of few digits between two fractions: it makes the responses of a decimal table no longer.
+decimal_between <- function(low, high) {
+    unit <- gmp::as.bigq(1)
+    # Whole numbers are multiples of a power of ten as decimals are.
+    while (floor_of(high / unit) * unit < low) unit <- unit / 10
+    floor_of(high / unit) * unit
 }
 
 # The rank interval of a column, as texts: the values whose squared statistic is at most the bound (Koenker 2005, section 3.5).

@@ -98,6 +98,7 @@ plot.rq_exact <- function(x, columns = x$names, alpha = NULL, crit = NULL, band_
         found <- summary(x, alpha = if (is.null(alpha)) 0.1 else alpha, crit = crit, tau = if (x$is_process) band_at)
         bands <- bands_of(found, columns)
         title <- band_title(found, !is.null(crit))
+        for (note in setdiff(found$notes, uniqueness_notes(x))) warning(note, call. = FALSE)
     }
     x$numeric <- numeric_columns(x)
     draw_panels(x, columns, bands, x$is_process, tau, as.matrix(x$coefficients), title, trim, mfrow, ...)
@@ -122,7 +123,8 @@ plot_fit <- function(fit, tau = c(0.05, 0.1, 0.25, 0.5, 0.75, 0.9, 0.95), ...) {
     plot(design$x[, name], y, xlab = name, ylab = deparse1(fit$formula[[2]]), pch = 20, cex = 0.7, col = "grey55", ...)
     at <- if (fit$is_process) tau else fraction_value(fit$tau)
     beta <- as.matrix(fit$coefficients)[, if (fit$is_process) segments_at(fit, at) else seq_along(at), drop = FALSE]
-    colours <- hcl.colors(max(3, length(at)), "Blues 3")[seq_along(at)]
+    # The palest colours of the palette are left out.
+    colours <- hcl.colors(length(at) + 3, "Blues 3")[seq_along(at)]
     intercept <- if ("(Intercept)" %in% fit$names) beta["(Intercept)", ] else numeric(length(at))
     for (line in seq_along(at)) abline(intercept[line], beta[name, line], col = colours[line], lwd = 1.4)
     legend("topleft", legend = rev(paste("quantile", format(at))), col = rev(colours), lwd = 1.4, bty = "n", cex = 0.8)
