@@ -49,18 +49,16 @@ solved <- function(columns, right) {
 # A model without some columns of its design, with entries as they are.
 lesser_of <- function(model, rows, left_out) {
     others <- rows$columns[-left_out]
-    names <- paste0("x", seq_along(others))
+    names <- paste0("x", seq_along(others), recycle0 = TRUE)
     list(
-        rows = rows, tested = rows$columns[left_out], others = others,
-        formula = stats::as.formula(paste("y ~ 0 +", paste(names, collapse = " + "))),
-        table = as.data.frame(stats::setNames(lapply(others, as.character), names)),
-        weight = as.character(rows$weight), model = model
+        rows = rows, tested = rows$columns[left_out], others = others, formula = stats::as.formula(paste(c("y ~ 0", names), collapse = " + ")),
+        table = stats::setNames(lapply(others, as.character), names), weight = as.character(rows$weight), model = model
     )
 }
 
 # The process of a lesser model for a response.
 lesser_process <- function(lesser, response, lo, hi) {
-    table <- cbind(y = as.character(response), w = lesser$weight, lesser$table)
+    table <- as.data.frame(c(list(y = as.character(response), w = lesser$weight), lesser$table))
     asked <- list(
         formula = lesser$formula, data = table, codes = list(), weights = "w", contrasts = "treatment",
         pivots_limit = lesser$model$pivots_limit, program = lesser$model$program

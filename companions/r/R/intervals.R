@@ -112,7 +112,9 @@ exact_text <- function(text) {
     if (grepl("/", text, fixed = TRUE) || !grepl("[.eE]", text)) return(text)
     parts <- regmatches(text, regexec("^([+-]?[0-9]*)\\.?([0-9]*)(?:[eE]([+-]?[0-9]+))?$", text))[[1]]
     power <- (if (nzchar(parts[4])) as.integer(parts[4]) else 0L) - nchar(parts[3])
-    as.character(gmp::as.bigq(paste0(parts[2], parts[3])) * gmp::as.bigq(10)^power)
+    # gmp reads digits behind a 0 as octal.
+    digits <- sub("^([+-]?)0+([0-9])", "\\1\\2", paste0(parts[2], parts[3]))
+    as.character(gmp::as.bigq(digits) * gmp::as.bigq(10)^power)
 }
 
 # The rank intervals of all columns at a quantile: their ends as texts, a row for each, and notes.

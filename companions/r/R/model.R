@@ -98,7 +98,7 @@ report_of <- function(model, job, first = list(), last = list(), data = model$da
 # What `answer` gives, or where a number outgrows the program at one of these places, what `otherwise` gives for the fault.
 rescued <- function(places, answer, otherwise) {
     tryCatch(answer, quantreg_error = function(fault) {
-        if (fault$status != 7 || !any(startsWith(c(fault$fields$place, ""), places))) stop(fault)
+        if (fault$status != 7 || !any(startsWith(paste0("", fault$fields$place), places))) stop(fault)
         otherwise(fault)
     })
 }
