@@ -51,7 +51,21 @@ lambda <- 2
 check_loss <- function(residuals, tau) sum(residuals * (tau - (residuals < 0)))
 
 # Whether two numbers or lists of them agree to some digits of the greater size.
-near <- function(ours, theirs, share = 1e-6) all(abs(ours - theirs) <= share * pmax(1, abs(ours), abs(theirs)))
+near <- function(ours, theirs, share = 1e-6) length(ours) > 0 && all(abs(ours - theirs) <= share * pmax(1, abs(ours), abs(theirs)))
+
+is_within <- function(value, low, high) value == low | value == high | value >= low & value <= high
+
+# Whether R's own fit of the other columns refuses the values between our end of an interval and R's where ours is the narrower one, and doesn't
+# where ours is the wider. `inward` is 1 at a low end and -1 at a high one.
+is_confirmed <- function(it, column, crit, ours, theirs, inward) {
+    far <- 10 * max(1, abs(c(ours, theirs)[is.finite(c(ours, theirs))]))
+    middle <- mean(pmin(far, pmax(-far, c(ours, theirs))))
+    others <- it$x[, -column, drop = FALSE]
+    dual <- rq.fit.br(others, it$y - middle * it$x[, column], tau = 0.5)$dual
+    statistic <- sum((dual - 0.5) * it$x[, column])
+    length <- sum(qr.resid(qr(others), it$x[, column])^2)
+    (statistic^2 > fraction_value(crit) * length / 4) == (inward * (ours - theirs) > 0)
+}
 
 agreed <- function(same, cause) if (same) "same" else cause
 
@@ -73,17 +87,25 @@ jobs <- list(
         agreed(near(losses[1, ], losses[2, ], 1e-9), "other losses")
     },
     summary = function(it) {
-        ours <- summary(rq_exact(it$formula, it$data))$tables[[1]]
+        found <- summary(rq_exact(it$formula, it$data))
+        ours <- found$tables[[1]][, 2:3, drop = FALSE]
         if (anyNA(ours)) return("no interval")
-        theirs <- rq.fit.br(it$x, it$y, tau = 0.5, alpha = 0.1, ci = TRUE, interp = FALSE)$ci
         # R has the values on both sides of each end. Ours is one of them, or lies between.
-        within <- function(value, one, other) all(value == one | value == other | (value >= pmin(one, other) - 1e-6 * abs(value) & value <= pmax(one, other) + 1e-6 * abs(value)))
-        agreed(within(ours[, 2], theirs[1, ], theirs[2, ]) && within(ours[, 3], theirs[3, ], theirs[4, ]), it$cause)
+        sides <- rq.fit.br(it$x, it$y, tau = 0.5, alpha = 0.1, ci = TRUE, interp = FALSE)$coefficients[, -1, drop = FALSE]
+        sides[abs(sides) > 1e300] <- sign(sides[abs(sides) > 1e300]) * Inf
+        ends <- cbind(pmin(sides[, 1], sides[, 2]), pmax(sides[, 1], sides[, 2]), pmin(sides[, 3], sides[, 4]), pmax(sides[, 3], sides[, 4]))
+        room <- 1e-9 * abs(ours)
+        low <- is_within(ours[, 1], ends[, 1] - room[, 1], ends[, 2] + room[, 1])
+        high <- is_within(ours[, 2], ends[, 3] - room[, 2], ends[, 4] + room[, 2])
+        if (all(low & high)) return("same")
+        at_low <- vapply(which(!low), function(at) is_confirmed(it, at, found$crit, ours[at, 1], ends[at, 2], 1), NA)
+        at_high <- vapply(which(!high), function(at) is_confirmed(it, at, found$crit, ours[at, 2], ends[at, 3], -1), NA)
+        if (all(at_low, at_high)) "ours by R's own statistic" else "other interval"
     },
     anova = function(it) {
         ours <- anova(rq_exact(it$formula, it$data), rq_exact(it$smaller, it$data))[["F value"]]
         theirs <- anova(rq(it$formula, data = it$data), rq(it$smaller, data = it$data), test = "rank", score = "wilcoxon")$table$Tn
-        agreed(near(ours, theirs), it$cause)
+        agreed(near(ours, theirs, 1e-9), it$cause)
     },
     predict = function(it) {
         records <- utils::head(it$data, 5)
@@ -134,7 +156,7 @@ run_case <- function(case) {
 
 results <- t(vapply(cases, run_case, character(length(jobs))))
 rownames(results) <- vapply(cases, `[[`, "", 1)
-works <- results %in% c("same", "not unique", "tied responses", "ties: the same sums by column", "ours has the lesser loss")
+works <- results %in% c("same", "not unique", "tied responses", "ties: the same sums by column", "ours has the lesser loss", "ours by R's own statistic")
 text <- c(
     paste("| table |", paste(names(jobs), collapse = " | "), "|"), paste0("|", strrep("---|", length(jobs) + 1)),
     paste("|", rownames(results), "|", apply(results, 1, paste, collapse = " | "), "|")
