@@ -25,33 +25,51 @@ some_of <- function(texts, most = 3) {
     if (length(texts) > most) paste(shown, "and", length(texts) - most, "more") else shown
 }
 
-# Whether the dual values of a segment's basis lie strictly within their bounds in its middle, which shows that the fit is unique there.
-# `penalty` is the bound of those of penalty rows, NA where it isn't known.
+# Whether the dual values of a segment's basis lie strictly within their bounds in its middle: then no other coefficients have the same loss
+# there, by the law `fit_is_only` of the program (Koenker 2005, section 2.2.2). `penalty` is the bound of those of penalty rows, NA where it
+# isn't known.
 is_strict <- function(segment, rows = Inf, penalty = NA) {
     scores <- (fraction_value(segment$basic[, 1]) + fraction_value(segment$basic[, 2])) / 2
     of_penalty <- as.integer(rownames(segment$basic)) > rows
     isTRUE(all(scores[!of_penalty] > 0 & scores[!of_penalty] < 1) && all(is.na(penalty) | abs(scores[of_penalty]) < penalty))
 }
 
-#' Whether a fit is unique, for each of its quantiles or segments: TRUE where the dual values show it, and else NA.
+# The bound of the dual values of penalty rows: the number of the formula's one smooth, 0 without a smooth, and NA of several.
+penalty_of <- function(formula) {
+    text <- deparse1(formula)
+    found <- regmatches(text, gregexpr("qss\\([^()]*,[^()]*\\)", text))[[1]]
+    if (length(found) == 1) fraction_value(sub("^.*[,=] *(.*)\\)$", "\\1", found)) else if (length(found)) NA else 0
+}
+
+# The places of a fit's quantiles or segments at which the rows of the basis alone lie on it, seen from afar of rounding.
+has_no_other_row <- function(fit) {
+    residuals <- tryCatch(as.matrix(residuals(fit)), error = function(unclear) NULL)
+    if (is.null(residuals)) return(rep(FALSE, length(fit$segments)))
+    # Those of the basis are 0 as they stand.
+    colSums(abs(residuals) <= 1e-9 * max(1, abs(residuals))) == length(fit$names)
+}
+
+#' Whether a fit is unique, for each of its quantiles or within each of its segments: TRUE where the dual values show it, FALSE where one of them is at
+#' its bound and the rows of the basis alone lie on the fit, and else NA.
 #'
 #' Where two segments with other coefficients meet, at a breakpoint of a process, the fit isn't unique.
 is_unique <- function(fit) {
-    penalty <- regmatches(deparse1(fit$formula), regexpr("(?<=,) *(lambda *= *)?[0-9./eE+-]+(?=\\))", deparse1(fit$formula), perl = TRUE))
-    bound <- if (length(penalty) == 1) suppressWarnings(fraction_value(sub(".*= *", "", penalty))) else NA
-    strict <- vapply(fit$segments, is_strict, NA, rows = fit$records, penalty = bound)
-    ifelse(strict, TRUE, NA)
+    penalty <- penalty_of(fit$formula)
+    strict <- vapply(fit$segments, is_strict, NA, rows = fit$records, penalty = penalty)
+    known <- if (all(strict) || !identical(penalty, 0)) strict else strict | has_no_other_row(fit)
+    unname(ifelse(known, strict, NA))
 }
 
-# That a fit may not be unique, and where.
+# That a fit isn't unique, or may not be, and where.
 uniqueness_notes <- function(fit) {
-    open <- is.na(is_unique(fit))
-    if (!any(open)) return(NULL)
+    unique <- is_unique(fit)
     ends <- vapply(fit$segments, function(it) if (it$lo == it$hi) it$lo else paste(it$lo, "to", it$hi), "")
-    if (!fit$is_process) {
-        return(paste0("the fit may not be unique at tau = ", some_of(fit$tau[open], 8), ": a dual value is at its bound"))
+    told <- function(at, says) {
+        if (!any(at)) return(NULL)
+        where <- if (fit$is_process) paste("within", sum(at), "of", length(at), "segments:", some_of(ends[at])) else paste("at tau =", some_of(fit$tau[at], 8))
+        paste("the fit", says, "unique", where)
     }
-    paste0("the fit may not be unique within ", sum(open), " of ", length(open), " segments, where a dual value is at its bound: ", some_of(ends[open]))
+    c(told(!is.na(unique) & !unique, "is not"), told(is.na(unique), "may not be"))
 }
 
 # That responses are tied, on which Wilcoxon scores and their tests depend.

@@ -20,18 +20,25 @@ printed <- function(it) paste(capture.output(print(it)), collapse = " ")
 fault_of <- function(call) conditionMessage(tryCatch(call, error = identity))
 three <- data.frame(y = c(0, 2, 3), x = c(0, 1, 3))
 
-# A median of four records may be any number between two; of three it is one of them.
+# A quartile or a median of four records may be any number between two; of three it is one of them. Where two more records lie at the lower quartile
+# it is that alone, though a dual value may be at its bound.
 four <- rq_exact(y ~ 1, data.frame(y = 1:4), c(0.25, 0.3, 0.5))
 stopifnot(
-    identical(is_unique(four), c(NA, TRUE, NA)), identical(is_unique(rq_exact(y ~ 1, three)), TRUE),
-    grepl("may not be unique at tau = 0.25, 0.5", printed(four)), !grepl("unique", printed(rq_exact(y ~ 1, three))),
-    grepl("may not be unique at tau = 0.25, 0.5", printed(summary(four))), !grepl("unique", printed(summary(rq_exact(y ~ 1, three))))
+    identical(is_unique(four), c(FALSE, TRUE, FALSE)), identical(is_unique(rq_exact(y ~ 1, three)), TRUE),
+    grepl("is not unique at tau = 0.25, 0.5", printed(four)), !grepl("unique", printed(rq_exact(y ~ 1, three))),
+    grepl("is not unique at tau = 0.25, 0.5", printed(summary(four))), !grepl("unique", printed(summary(rq_exact(y ~ 1, three)))),
+    !isFALSE(is_unique(rq_exact(y ~ 1, data.frame(y = c(1, 1, 1, 2)), 0.25))), isTRUE(is_unique(rq_exact(y ~ qss(x, 1), data.frame(y = c(0, 2, 1, 4), x = 1:4), 0.3)))
 )
 # Of a process that is unique within each segment nothing is said.
 stopifnot(!grepl("unique", printed(rq_exact(y ~ x, three, tau = -1))))
-# Two records at each of 0 and 1: within a segment any line over both places that is drawn through two of them has a tie.
-tied <- rq_exact(y ~ x, data.frame(y = c(1, 1, 1, 2), x = c(0, 0, 1, 1)), tau = -1)
-stopifnot(identical(grepl("within", printed(tied)), anyNA(is_unique(tied))))
+# Where a dual value stays at its bound, it may be otherwise within a whole segment, and where no other record lies on the fit it is.
+bound <- rq_exact(y ~ x, three, tau = -1)
+bound$segments[[1]]$basic["1", ] <- "1"
+stopifnot(identical(is_unique(bound), c(FALSE, TRUE)), grepl("is not unique within 1 of 2 segments: 0 to 3/5", printed(bound)))
+bound$segments[[1]]$marks <- "***"
+bound$coefficients[, 1] <- c(0, 1)
+bound$data$y[2] <- 1
+stopifnot(identical(is_unique(bound), c(NA, TRUE)), grepl("may not be unique within 1 of 2 segments", printed(bound)))
 
 # Tied responses, on which Wilcoxon scores and rank tests depend; the range over some orders holds the statistic of the table's order.
 set.seed(7)
