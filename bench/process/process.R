@@ -42,3 +42,8 @@ for (shape in list(c(1000, 5, 20), c(2000, 10, 20), c(16384, 5, 2), c(16384, 10,
     least <- time_fit(shape[3], function() rq.fit.br(made$x, made$y, tau = 0.5))
     cat(sprintf("R: %d x %d at the median: %.2f ms\n", shape[1], shape[2], least))
 }
+# Engel's households: what the program takes for them is timed by bench/whole, from bytes to bytes.
+data(engel)
+x <- cbind(x0 = 1, x1 = engel$income)
+least <- time_fit(1, function() fit <<- rq.fit.br(x, engel$foodexp, tau = -1))
+cat(sprintf("R: engel, 235 x 2: %.1f ms, %d breakpoints\n", least, ncol(fit$sol)))

@@ -1,6 +1,6 @@
 #!/usr/bin/env bash
-# Times the program from bytes to bytes, at the median, over all quantiles, and with the Wilcoxon scores and a rank test, whose
-# numbers are of any size: on stackloss, and on generated tables.
+# Times the program from bytes to bytes, at the median and over all quantiles: on stackloss, on engel,
+# whose cells have 15 digits, and on generated tables.
 # Prints for each the best of three runs, in seconds that passed and in seconds of a processor, the most memory that one of them
 # held, the status, and the pivots and the segments, or the line of the fault. Where R stands with its package quantreg, the line over
 # all quantiles ends with the time of rq.fit.br on the same table, reading not counted.
@@ -77,6 +77,7 @@ measure_generated() {
 
 for range in "1/2 1/2" "0 1"; do
   measure "stackloss" "$range" "stack.loss ~ ." "$here/../../examples/stackloss.csv"
+  measure "engel" "$range" "foodexp ~ income" "$here/../../examples/engel.csv"
 done
 for size in "1000 4" "1000 5" "4000 4" "16384 4" "16384 9"; do
   read -r rows columns <<< "$size"

@@ -13,7 +13,7 @@ verdict <- function(difference, losses, strict) {
 #'
 #' A difference is the greatest one of a coefficient, over 1 or its size where that is more. The loss of rq is that of its
 #' coefficients in the design of R. Offsets, which rq passes over, are taken from the response of both. Needs the package quantreg.
-compare_rq <- function(formula, data, tau = 0.5, weights = NULL, program = NULL, method = "br") {
+compare_rq <- function(formula, data = NULL, tau = 0.5, weights = NULL, program = NULL, method = "br") {
     if (!requireNamespace("quantreg", quietly = TRUE)) stop("the package quantreg is needed", call. = FALSE)
     fit <- rq_exact(formula, data, tau, weights, program = program)
     if (fit$is_process) stop("a comparison is of single quantiles", call. = FALSE)

@@ -1,37 +1,5 @@
 # The design of a fit, by R's model.matrix, with the conventions of the program.
 
-is_missing <- function(cells) is.na(cells) | trimws(cells, whitespace = "[ \t]") %in% c("", "NA")
-
-is_number_text <- function(cells) {
-    grepl("^[+-]?([0-9]+/0*[1-9][0-9]*|([0-9]+\\.?[0-9]*|\\.[0-9]+)([eE][+-]?[0-9]+)?)$", trimws(cells, whitespace = "[ \t]"))
-}
-
-# A column as the program reads it: numbers as they are, anything else as a factor whose levels are sorted by bytes.
-as_read <- function(column, name) {
-    if (is.numeric(column)) {
-        if (any(is.infinite(column))) stop("the column ", name, " has an infinite number", call. = FALSE)
-        return(column)
-    }
-    cells <- as.character(column)
-    cells[is_missing(cells)] <- NA
-    if (!all(is.na(cells)) && all(is_number_text(cells[!is.na(cells)]))) {
-        stop(
-            "the cells of the factor ", name, " are numbers, and the program reads them as such: make it numeric and write factor(",
-            name, ") in the formula", call. = FALSE
-        )
-    }
-    factor(cells, levels = sort(unique(cells), method = "radix"))
-}
-
-# The columns of a data frame that a formula and the weights use, as the program reads them.
-used_columns <- function(formula, data, weights) {
-    names <- setdiff(all.vars(formula), ".")
-    if ("." %in% all.vars(formula)) names <- names(data)
-    names <- intersect(names(data), c(names, weights))
-    data[names] <- Map(as_read, data[names], names)
-    data
-}
-
 contrast_names <- c(treatment = "contr.treatment", sas = "contr.SAS", sum = "contr.sum", helmert = "contr.helmert")
 
 # Ends with an error where R and the program read the arithmetics of a formula otherwise.
@@ -71,7 +39,7 @@ is_written_number <- function(part) {
 # The names of columns with each number of an arithmetic by its value, for the program writes 0.5 as 1/2.
 by_value <- function(names) {
     number <- "(?<![A-Za-z0-9._])([0-9]+/[0-9]+|([0-9]+\\.?[0-9]*|\\.[0-9]+)([eE][+-]?[0-9]+)?)"
-    computed <- grepl("I(", names, fixed = TRUE)
+    computed <- grepl("I(", names, fixed = TRUE) | grepl("factor(", names, fixed = TRUE)
     found <- gregexpr(number, names[computed], perl = TRUE)
     regmatches(names[computed], found) <- lapply(regmatches(names[computed], found), function(it) format_values(fraction_value(it)))
     names
@@ -81,8 +49,8 @@ format_values <- function(values) vapply(values, format, "", digits = 15)
 
 # The columns of R's design in the order of the program's and by its names.
 as_named <- function(x, names) {
-    theirs <- by_value(colnames(x))
-    ours <- by_value(names)
+    theirs <- gsub("`", "", by_value(colnames(x)))
+    ours <- gsub("`", "", by_value(names))
     if (anyDuplicated(theirs) || !setequal(theirs, ours)) {
         stop("R codes the terms of this formula otherwise than the program: it has ",
             paste(setdiff(theirs, ours), collapse = ", "), " and not ",
@@ -93,22 +61,57 @@ as_named <- function(x, names) {
     x
 }
 
+# The model frame of the records that are kept, with attributes `kept` for all records and `weight` for these.
+kept_frame <- function(model) {
+    # A formula without smooths has the same language in R, where `.` is every other column.
+    frame <- model.frame(model$formula, model$data, na.action = na.pass, drop.unused.levels = FALSE)
+    weight <- if (is.null(model$weights)) rep(1, nrow(model$data)) else model$data[[model$weights]]
+    kept <- stats::complete.cases(frame) & !is.na(weight) & weight != 0
+    structure(droplevels(frame[kept, , drop = FALSE]), kept = kept, weight = weight[kept])
+}
+
+# What the offsets of a frame come to together.
+offset_of <- function(frame) {
+    offset <- model.offset(frame)
+    if (is.null(offset)) numeric(nrow(frame)) else offset
+}
+
+# The columns of the program's design over a frame, by R's model.matrix.
+entries_of <- function(fit, terms, frame) {
+    factors <- names(frame)[vapply(frame, is.factor, NA)]
+    coding <- stats::setNames(rep(list(contrast_names[[fit$contrasts]]), length(factors)), factors)
+    as_named(model.matrix(terms, frame, contrasts.arg = if (length(coding)) coding), fit$names)
+}
+
 # The rows that a fit keeps: the design, the response, what its offsets come to together, and the weights.
 #
 # Ends with an error where R codes a longer term of the formula otherwise than the program, or drops other records.
 design_of <- function(fit) {
-    data <- fit$data
-    # A formula without smooths has the same language in R, where `.` is every other column.
-    frame <- model.frame(fit$formula, data, na.action = na.pass, drop.unused.levels = FALSE)
-    weight <- if (is.null(fit$weights)) rep(1, nrow(data)) else data[[fit$weights]]
-    kept <- stats::complete.cases(frame) & !is.na(weight) & weight != 0
-    frame <- droplevels(frame[kept, , drop = FALSE])
-    factors <- names(frame)[vapply(frame, is.factor, NA)]
-    coding <- stats::setNames(rep(list(contrast_names[[fit$contrasts]]), length(factors)), factors)
-    x <- as_named(model.matrix(attr(frame, "terms"), frame, contrasts.arg = if (length(coding)) coding), fit$names)
-    if (sum(kept) != fit$records) stop("R keeps ", sum(kept), " records, the program ", fit$records, call. = FALSE)
-    offset <- model.offset(frame)
-    list(x = x, y = model.response(frame), offset = if (is.null(offset)) numeric(nrow(x)) else offset, weight = weight[kept])
+    frame <- kept_frame(fit)
+    if (nrow(frame) != fit$records) stop("R keeps ", nrow(frame), " records, the program ", fit$records, call. = FALSE)
+    x <- entries_of(fit, attr(frame, "terms"), frame)
+    list(x = x, y = model.response(frame), offset = offset_of(frame), weight = attr(frame, "weight"))
+}
+
+# New records with the columns that were worked out of others when the fit was made.
+with_computed <- function(fit, newdata) {
+    for (made in fit$computed) {
+        if (is.name(made$call)) newdata[made$names] <- as.data.frame(as.matrix(newdata[[as.character(made$call)]]))
+        else if (length(made$names) == 1) newdata[[made$names]] <- eval(made$call, newdata, environment(fit$formula))
+        else stop("predictions need the columns of ", deparse1(made$call), ": work them out first", call. = FALSE)
+    }
+    newdata
+}
+
+# The design of new records and their offsets; a record with a missing cell has missing entries.
+new_design <- function(fit, newdata) {
+    newdata <- with_computed(fit, as.data.frame(newdata))
+    old <- kept_frame(fit)
+    terms <- stats::delete.response(attr(old, "terms"))
+    factors <- intersect(names(fit$codes), names(newdata))
+    newdata[factors] <- lapply(newdata[factors], as.character)
+    frame <- model.frame(terms, newdata, na.action = na.pass, xlev = stats::.getXlevels(terms, old))
+    list(x = entries_of(fit, terms, frame), offset = offset_of(frame))
 }
 
 # The check loss of residuals at a quantile.

@@ -1,92 +1,50 @@
 # The fit, as users of R know it.
 
-fit_words <- function(job, formula, options) {
-    check_formula(formula)
-    options <- options[!vapply(options, is.null, NA)]
-    values <- vapply(options, function(it) paste(vapply(it, number_text, ""), collapse = ","), "")
-    c(job, paste0("--formula=", deparse1(formula)), paste0("--", names(options), "=", values, recycle0 = TRUE))
-}
-
-# The report of one range of quantiles.
-process_report <- function(fit, lo, hi, crit = NULL, rank_at = NULL) {
-    options <- list(
-        lo = lo, hi = hi, weights = fit$weights, contrasts = fit$contrasts, pivots = fit$pivots_limit,
-        crit = crit, "rank-at" = rank_at
-    )
-    read_report(run_quantreg(fit_words("process", fit$formula, options), fit$data, fit$program))
-}
-
 # Named texts or doubles of one value for each column, or a matrix with a column for each quantile.
 by_column <- function(values, names, labels) {
     values <- matrix(values, length(names), dimnames = list(names, labels))
     if (ncol(values) == 1) values[, 1] else values
 }
 
-#' The exact fit of a formula at one quantile or several, or over all of them where a quantile is outside 0 to 1.
-rq_exact <- function(formula, data, tau = 0.5, weights = NULL, contrasts = "treatment", pivots = NULL, program = NULL) {
-    contrasts <- match.arg(contrasts, names(contrast_names))
-    fit <- list(
-        call = match.call(), formula = stats::as.formula(formula), data = used_columns(formula, data, weights),
-        weights = weights, contrasts = contrasts, pivots_limit = pivots, program = program
-    )
-    tau <- vapply(tau, number_text, "")
-    values <- suppressWarnings(fraction_value(tau))
-    whole <- any(values < 0 | values > 1, na.rm = TRUE)
-    reports <- if (whole) list(process_report(fit, "0", "1")) else lapply(tau, function(at) process_report(fit, at, at))
-    fit <- c(fit, reports[[1]][c("records", "dropped", "names")], list(is_process = whole))
-    segments <- if (whole) reports[[1]]$segments else lapply(reports, function(report) report$segments[[1]])
-    fit$tau <- if (whole) vapply(segments, `[[`, "", "lo") else unname(tau)
-    fit$segments <- segments
-    labels <- if (whole) NULL else paste("tau=", unname(tau))
-    exact <- vapply(segments, `[[`, character(length(fit$names)), "coef")
-    fit$exact <- by_column(exact, fit$names, labels)
-    fit$coefficients <- by_column(fraction_value(c(exact)), fit$names, labels)
-    fit$exact_loss <- vapply(segments, function(it) it$loss[1], "")
-    fit$loss <- fraction_value(fit$exact_loss)
-    structure(fit, class = "rq_exact")
+# The quantiles that were asked for, as texts, and whether they are all of them, which -1 means as in rq.
+asked_quantiles <- function(tau) {
+    text <- vapply(tau, number_text, "")
+    values <- suppressWarnings(fraction_value(text))
+    if (length(values) == 1 && isTRUE(values[[1]] == -1)) return(list(all = TRUE, tau = "0"))
+    if (!length(text) || anyNA(values) || any(values < 0 | values > 1)) {
+        stop("a quantile is a number from 0 to 1, and -1 alone stands for all of them: tau is ", some_of(text, 8), call. = FALSE)
+    }
+    list(all = FALSE, tau = unname(text))
 }
 
-#' The Wilcoxon scores of a formula by the job ranks.
-ranks_exact <- function(formula, data, weights = NULL, contrasts = "treatment", pivots = NULL, program = NULL) {
-    words <- fit_words("ranks", formula, list(weights = weights, contrasts = contrasts, pivots = pivots))
-    report <- read_report(run_quantreg(words, used_columns(formula, data, weights), program))
-    list(ranks = fraction_value(report$wilcoxon), exact = report$wilcoxon)
+#' The exact fit of a formula at one quantile or several, or at all of them where tau is -1.
+rq_exact <- function(formula, data = NULL, tau = 0.5, weights = NULL, contrasts = "treatment", pivots = NULL, program = NULL) {
+    call <- match.call()
+    # rq has the quantiles in front of the data.
+    if (is.atomic(data) && !is.null(data)) {
+        tables <- if (is.data.frame(tau) || is.environment(tau)) tau
+        tau <- data
+        data <- tables
+    }
+    asked <- asked_quantiles(tau)
+    fit <- c(list(call = call), model_of(formula, data, weights, contrasts, pivots, program))
+    ends <- if (asked$all) list(c("0", "1")) else lapply(asked$tau, rep, 2)
+    reports <- lapply(ends, function(at) report_of(fit, "process", list(lo = at[1], hi = at[2])))
+    structure(c(fit, parts_of(reports, asked)), class = "rq_exact")
 }
 
-#' The predictions of the records whose response is missing, by the job predict: the steps over the quantiles from lo to hi of each,
-#' as they are and rearranged so that they never fall.
-predictions_exact <- function(formula, data, lo = 0, hi = 1, weights = NULL, contrasts = "treatment", pivots = NULL, program = NULL) {
-    words <- fit_words("predict", formula, list(lo = lo, hi = hi, weights = weights, contrasts = contrasts, pivots = pivots))
-    exact <- read_report(run_quantreg(words, used_columns(formula, data, weights), program))$predictions
-    numbers <- c("lo", "hi", "value")
-    steps <- exact
-    steps[numbers] <- lapply(exact[numbers], fraction_value)
-    list(steps = steps, exact = exact)
-}
-
-#' The fits at one quantile that minimise the check loss plus lambda times the sum of the absolute coefficients but the intercept's, for
-#' every lambda from lo to hi, by the job path. Lambda is above 0, and half of what rq's lasso calls so.
-path_exact <- function(formula, data, tau = 0.5, lo, hi = lo, weights = NULL, contrasts = "treatment", pivots = NULL, program = NULL) {
-    options <- list(tau = tau, lo = lo, hi = hi, weights = weights, contrasts = contrasts, pivots = pivots)
-    report <- read_report(run_quantreg(fit_words("path", formula, options), used_columns(formula, data, weights), program))
-    rows <- lapply(report$segments, function(it) c(it$lo, it$hi, it$loss, it$coef))
-    exact <- as.data.frame(do.call(rbind, rows))
-    names(exact) <- c("lo", "hi", "loss_lo", "loss_hi", report$names)
-    segments <- exact
-    segments[] <- lapply(exact, fraction_value)
-    list(segments = segments, exact = exact)
-}
-
-#' The rank test that the columns of the design whose numbers are `tested`, counted from 1 and rising, have coefficients 0, by the job
-#' test. The statistic over the number of tested columns is what anova(.., test = "rank", score = "wilcoxon") calls F value; p_value is how
-#' likely a chi-squared number with as many degrees of freedom is to be no less than the statistic.
-rank_test_exact <- function(formula, data, tested, weights = NULL, contrasts = "treatment", pivots = NULL, program = NULL) {
-    options <- list(tested = tested, weights = weights, contrasts = contrasts, pivots = pivots)
-    exact <- read_report(run_quantreg(fit_words("test", formula, options), used_columns(formula, data, weights), program))
-    scores <- structure(fraction_value(exact$scores), names = exact$names[exact$tested])
-    statistic <- fraction_value(exact$statistic)
-    tail <- stats::pchisq(statistic, length(scores), lower.tail = FALSE)
-    list(scores = scores, statistic = statistic, p_value = tail, columns = length(scores), exact = exact[c("scores", "statistic")])
+# What a fit has of its reports.
+parts_of <- function(reports, asked) {
+    segments <- if (asked$all) reports[[1]]$segments else lapply(reports, function(report) report$segments[[1]])
+    names <- reports[[1]]$names
+    labels <- if (asked$all) NULL else paste("tau=", asked$tau)
+    exact <- vapply(segments, `[[`, character(length(names)), "coef")
+    loss <- vapply(segments, function(it) it$loss[1], "")
+    c(reports[[1]][c("records", "dropped", "names")], list(
+        is_process = asked$all, tau = if (asked$all) vapply(segments, `[[`, "", "lo") else asked$tau, segments = segments,
+        exact = by_column(exact, names, labels), coefficients = by_column(fraction_value(c(exact)), names, labels),
+        exact_loss = loss, loss = fraction_value(loss)
+    ))
 }
 
 #' The coefficients, as doubles or, with exact = TRUE, as fractions in text.
@@ -96,11 +54,53 @@ residuals.rq_exact <- function(object, ...) checked_residuals(object)$residuals
 
 fitted.rq_exact <- function(object, ...) checked_residuals(object)$fitted
 
-# Whether the dual values of a segment's basis lie strictly within their bounds at its low end: then no other coefficients have the
-# same loss there, by the law `fit_is_only` of the program (Koenker 2005, section 2.2.2).
-is_strict <- function(segment) {
-    scores <- fraction_value(segment$basic[, 1])
-    all(scores > 0 & scores < 1)
+nobs.rq_exact <- function(object, ...) object$records
+
+formula.rq_exact <- function(x, ...) x$formula
+
+# The columns of a process's matrix of coefficients that hold at these quantiles.
+segments_at <- function(fit, tau) findInterval(tau, fraction_value(fit$tau))
+
+#' Predictions of new records at the quantiles of a fit, or, of a fit of all quantiles, at those asked for or as functions of the quantile.
+predict.rq_exact <- function(object, newdata, tau = NULL, stepfun = FALSE, rearranged = FALSE, ...) {
+    design <- if (missing(newdata)) design_of(object) else new_design(object, newdata)
+    values <- design$x %*% as.matrix(object$coefficients) + design$offset
+    if (!object$is_process) {
+        if (stepfun || rearranged || !is.null(tau)) stop("steps and other quantiles need a fit of all of them, with tau = -1", call. = FALSE)
+        return(if (ncol(values) == 1) values[, 1] else values)
+    }
+    breaks <- fraction_value(object$tau)
+    widths <- diff(c(breaks, 1))
+    steps <- lapply(seq_len(nrow(values)), function(row) {
+        order <- if (rearranged) order(values[row, ]) else seq_along(breaks)
+        stats::stepfun(cumsum(widths[order])[-length(breaks)], values[row, order])
+    })
+    if (stepfun) return(if (length(steps) == 1) steps[[1]] else steps)
+    if (is.null(tau)) return(values)
+    tau <- fraction_value(asked_quantiles(tau)$tau)
+    found <- matrix(vapply(steps, function(it) it(tau), tau), ncol = length(tau), byrow = TRUE, dimnames = list(rownames(values), paste("tau=", tau)))
+    if (length(tau) == 1) found[, 1] else found
+}
+
+#' The coefficients as a data frame: a row for each column and quantile, or segment.
+as.data.frame.rq_exact <- function(x, ...) {
+    ends <- vapply(x$segments, `[[`, "", "hi")
+    count <- length(x$names)
+    frame <- data.frame(
+        tau = rep(fraction_value(x$tau), each = count), term = rep(x$names, length(x$segments)),
+        estimate = c(x$coefficients), exact = unname(c(x$exact))
+    )
+    if (x$is_process) cbind(lo = frame$tau, hi = rep(fraction_value(ends), each = count), frame[-1]) else frame
+}
+
+#' The coefficients in the columns of broom, with rank intervals where conf.int asks for them.
+tidy.rq_exact <- function(x, conf.int = FALSE, conf.level = 0.95, ...) {
+    frame <- as.data.frame(x)
+    if (conf.int) {
+        ends <- do.call(rbind, summary(x, alpha = 1 - conf.level, tau = if (x$is_process) x$tau)$tables)
+        frame <- cbind(frame, conf.low = unname(ends[, 2]), conf.high = unname(ends[, 3]))
+    }
+    frame
 }
 
 print.rq_exact <- function(x, digits = max(3, getOption("digits") - 3), ...) {
@@ -119,43 +119,6 @@ print.rq_exact <- function(x, digits = max(3, getOption("digits") - 3), ...) {
         cat("\nLoss:", paste(x$exact_loss, collapse = "  "), "\n")
     }
     cat("Records:", x$records, " dropped:", x$dropped, "\n")
-    invisible(x)
-}
-
-#' The coefficients with their rank intervals of the level 1 - alpha.
-#'
-#' The critical value is the square of the t quantile with n - p degrees of freedom, as in summary.rq, or of the normal
-#' one where tcrit is FALSE. A version of the program without rank intervals is told by a warning.
-summary.rq_exact <- function(object, alpha = 0.1, tcrit = TRUE, ...) {
-    if (object$is_process) stop("a summary is of single quantiles", call. = FALSE)
-    tail <- 1 - alpha / 2
-    crit <- (if (tcrit) qt(tail, object$records - length(object$names)) else qnorm(tail))^2
-    tables <- lapply(seq_along(object$tau), function(at) {
-        beta <- as.matrix(object$coefficients)[, at]
-        ends <- interval_ends(object, object$tau[at], crit)
-        if (is.null(ends)) cbind(coefficients = beta) else cbind(coefficients = beta, ends)
-    })
-    structure(list(call = object$call, tau = object$tau, alpha = alpha, crit = crit, tables = tables), class = "summary.rq_exact")
-}
-
-# The rank intervals of all columns at a quantile, or NULL, with a warning, where the program makes none yet.
-interval_ends <- function(fit, tau, crit) {
-    report <- tryCatch(process_report(fit, tau, tau, crit, tau), quantreg_error = function(fault) {
-        if (fault$status != 9) stop(fault)
-        warning("no rank intervals: ", fault$line, call. = FALSE)
-        NULL
-    })
-    if (is.null(report)) return(NULL)
-    ends <- report$intervals[order(report$intervals$column), ]
-    cbind("lower bd" = fraction_value(ends$low), "upper bd" = fraction_value(ends$high))
-}
-
-print.summary.rq_exact <- function(x, digits = max(5, getOption("digits") - 2), ...) {
-    cat("Call: ")
-    print(x$call)
-    for (at in seq_along(x$tau)) {
-        cat("\ntau:", x$tau[at], "\n\nCoefficients:\n")
-        print(x$tables[[at]], digits = digits)
-    }
+    print_notes(uniqueness_notes(x))
     invisible(x)
 }

@@ -133,7 +133,7 @@ words <- readLines(paste0(program, ".words"))
 stopifnot(
     identical(readLines(paste0(program, ".table")), c("\"y\",\"x\"", "0,0", "2,1", "3,3")),
     identical(words[1:4], c("process", "--formula=y ~ x", "--lo=0.5", "--hi=0.5")), words[7] == "--rank-at=0.5",
-    all.equal(as.numeric(sub("--crit=", "", words[6])), qt(0.95, 1)^2),
+    abs(fraction_value(sub("--crit=", "", words[6])) / qt(0.95, 1)^2 - 1) < 1e-5,
     identical(unname(table$tables[[1]][, "upper bd"]), c(1.5, Inf)), identical(unname(table$tables[[1]][, 1]), c(0, 1))
 )
 program <- fake(strsplit(path, "\n")[[1]])
@@ -235,9 +235,7 @@ factors <- data.frame(y = c(1, 4, 2, 8, 5, 7), f = c("b", "a", "c", "b", "a", "c
 for (contrasts in c("treatment", "sas", "sum", "helmert")) {
     stopifnot(length(residuals(rq_exact(y ~ f, factors, contrasts = contrasts))) == 6)
 }
-for (wrong in list(data.frame(y = 1:2, f = factor(1:2)), data.frame(y = c(1, Inf), f = 1:2))) {
-    stopifnot(inherits(try(rq_exact(y ~ f, wrong), silent = TRUE), "try-error"))
-}
+stopifnot(inherits(try(rq_exact(y ~ f, data.frame(y = c(1, Inf), f = 1:2)), silent = TRUE), "try-error"))
 stopifnot(identical(ranks_exact(y ~ x, three)$exact, c("-1/5", "3/10", "-1/10")))
 fit <- rq_exact(y ~ x + I(x^2), four)
 stopifnot(identical(unname(coef(fit, exact = TRUE)), c("0", "0", "1")), all.equal(unname(residuals(fit)), c(0, 1, 0, 0)))

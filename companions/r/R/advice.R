@@ -1,0 +1,83 @@
+# What a fault line means for who made the call. The program counts bytes, records and columns; here the name that is counted is said.
+
+overflow_advice <- paste(
+    "A number outgrew the program's. Round columns of many digits, as round(x, 2), or write decimals as whole numbers of a smaller unit;",
+    "ask for a smaller range of quantiles; or give a shorter critical value, as crit = \"46/17\" for 0.1 and \"73/19\" for 0.05."
+)
+
+# The question whether a known word was meant, where one is close.
+close_to <- function(word, known) {
+    far <- utils::adist(word, known, ignore.case = TRUE)
+    if (!length(known) || min(far) > max(1, nchar(word) / 3)) return("")
+    paste0("; did you mean '", known[which.min(far)], "'?")
+}
+
+# The word of the formula at an offset, which counts bytes from 0.
+word_at <- function(formula, offset) {
+    rest <- rawToChar(utils::tail(charToRaw(enc2utf8(deparse1(formula))), -as.integer(offset)))
+    found <- regmatches(rest, regexpr("^(`[^`]*`|[\\w.]+|.)", rest, perl = TRUE))
+    gsub("`", "", c(found, "")[1])
+}
+
+# That cells were read with another separator than the file has, where the table has one column.
+separator_advice <- function(data) {
+    if (ncol(data) != 1 || !nrow(data) || !any(grepl(";|\t", c(names(data), as.character(utils::head(data[[1]])))))) return(NULL)
+    "The table has one column, with semicolons or tabs in it: read the file by read.csv2 or read.delim."
+}
+
+odd_cells <- function(column) {
+    cells <- unique(as.character(column[!is.na(column)]))
+    some_of(dQuote(cells[!is_number_text(cells)], FALSE))
+}
+
+unknown_name_advice <- function(fault, model) {
+    word <- word_at(model$formula, fault$fields$offset)
+    paste0("There is no column '", word, "'", close_to(word, names(model$data)))
+}
+
+syntax_advice <- function(fault, model) {
+    paste0("'", word_at(model$formula, fault$fields$offset), "' can't stand there: ", deparse1(model$formula),
+        "; a formula has + - : * ^ . ( ), factor(), I(), offset() and qss()")
+}
+
+factor_advice <- function(fault, model) {
+    counts <- lengths(model$codes)
+    if (!length(counts)) return("A design has 128 columns at most.")
+    most <- names(which.max(counts))
+    paste0("A design has 128 columns at most, and the factor ", most, " has ", max(counts), " levels",
+        if (mean(is_number_text(levels(model$data[[most]]))) >= 0.5) paste0(", many of which are numbers; no numbers are ", odd_cells(model$data[[most]])))
+}
+
+no_rows_advice <- function(fault, model) {
+    used <- used_names(model$formula, model$data, model$weights)
+    gaps <- vapply(model$data[used], function(column) sum(is.na(column)), 0L)
+    paste("No record has all cells. Missing are", paste0(gaps[gaps > 0], " of ", used[gaps > 0], collapse = ", "))
+}
+
+dependent_advice <- function(fault, model) {
+    values <- strsplit(fault$fields$combination, ",", fixed = TRUE)[[1]]
+    told <- paste(values[values != "0"], "times column", which(values != "0"))
+    paste0("The columns are dependent: ", paste(told, collapse = " plus "), " is 0 in every record. Leave out one of them.")
+}
+
+# What is said of a fault, by its name.
+advice_by_name <- list(
+    UnknownName = unknown_name_advice, Syntax = syntax_advice, TooManyColumns = factor_advice, NoRows = no_rows_advice,
+    Dependent = dependent_advice, Overflow = function(fault, model) overflow_advice,
+    UnknownWeights = function(fault, model) paste0("There is no column '", model$weights, "' for the weights", close_to(model$weights, names(model$data))),
+    ResponseNotNumeric = function(fault, model) paste("The response is no column of numbers; it has", odd_cells(model$data[[deparse1(model$formula[[2]])]])),
+    WeightNotNumeric = function(fault, model) paste("The weights are no column of numbers; it has", odd_cells(model$data[[model$weights]])),
+    ArithNotNumeric = function(fault, model) paste0(fault$fields$name, " is no column of numbers; it has ", odd_cells(model$data[[fault$fields$name]])),
+    PivotLimit = function(fault, model) "pivots = gives a greater limit, to 10,000,000.",
+    BadRange = function(fault, model) "A quantile is from 0 to 1, lo is not above hi, and a lambda is above 0.",
+    BadNumber = function(fault, model) paste("The option", fault$fields$option, "is no such number."),
+    NoSuchColumn = function(fault, model) "Columns are counted from 1, as in the names of a fit, and the last one is their number.",
+    NothingToPredict = function(fault, model) paste0("A record to predict has NA as its ", deparse1(model$formula[[2]]), " and all other cells that are used.")
+)
+
+# What to say of a fault over a model, or nothing.
+advice_of <- function(fault, model) {
+    maker <- advice_by_name[[fault$name]]
+    told <- tryCatch(if (!is.null(maker)) maker(fault, model), error = function(unclear) NULL)
+    c(if (fault$group %in% c("table", "formula", "design")) separator_advice(model$data), told)[1]
+}
