@@ -32,7 +32,10 @@ done
 
 if ! coqc -q -Q . Quantreg Fit.v > said 2>&1; then
   cat said
-  echo "refused: $(tr '\n' ' ' < said | sed -n 's/.* with "\(Refused (\)\{0,1\}\([A-Za-z0-9 ]*\).*/\2/p')"
+  line=$(sed -n 's/^File "[^"]*", line \([0-9]*\),.*/\1/p' said | tail -n 1)
+  theorem=$(sed -n "1,${line:-1}s/^Theorem \([a-z_0-9]*\).*/\1/p" Fit.v | tail -n 1)
+  reason=$(tr -s '[:space:]' ' ' < said | sed -n 's/.* with "\(Refused (\)\{0,1\}\([A-Za-z0-9 ]*\).*/\2/p')
+  echo "refused: $theorem: $reason"
   exit 1
 fi
 cat said

@@ -144,8 +144,9 @@ def theorems(cert):
     yield HEAD.format(**lines, **ends, ranks=ranks, columns=cert["columns"], sides=sides, evaluate=EVALUATE.format("Accepted"))
     for at, it in enumerate(cert["intervals"], 1):
         yield interval(cert, at, it)
-    names = ", ".join(["fit_is_optimal", *(f"interval_{at}" for at in range(1, len(cert["intervals"]) + 1))])
-    yield f"Definition theorems := ({names}).\nPrint Assumptions theorems."
+    names = ["fit_is_optimal", *(f"interval_{at}" for at in range(1, len(cert["intervals"]) + 1))]
+    yield from (f"Check {name}." for name in names)
+    yield f"Definition theorems := ({', '.join(names)}).\nPrint Assumptions theorems."
 
 
 def size(cert):

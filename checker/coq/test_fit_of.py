@@ -5,6 +5,7 @@ Where QUANTREG names the program, its certificates are tried too: whole, and wit
 
 import json
 import os
+import re
 import shutil
 import subprocess
 import sys
@@ -19,7 +20,8 @@ sys.path.insert(0, str(HERE.parent))
 from quantreg_check import certificate as read_certificate  # noqa: E402
 from test_quantreg_check import CHAIN, FIVE, LINE, RANKED, certificate, changed, data_row, in_fractions, segment  # noqa: E402
 
-AXIOMS = {"sig_forall_dec", "sig_not_dec", "functional_extensionality_dep", "classic"}
+REALS = "ClassicalDedekindReals"
+AXIOMS = {f"{REALS}.sig_forall_dec", f"{REALS}.sig_not_dec", "FunctionalExtensionality.functional_extensionality_dep", "Classical_Prop.classic"}
 TABLE = """y,x,z,f,w
 1,0,1,a,1
 3,2,0,b,2
@@ -66,8 +68,8 @@ class Theorems(unittest.TestCase):
     def accepted(self, cert):
         status, said = self.said(cert)
         self.assertEqual(status, 0, said)
-        axioms = {word.split(".")[-1] for word in said.partition("Axioms:")[2].split() if word.split(".")[0] in ("ClassicalDedekindReals", "FunctionalExtensionality", "Classical_Prop")}
-        self.assertTrue(axioms and axioms <= AXIOMS, said)
+        axioms = set(re.findall(r"(\w+\.\w+) :", said.partition("Axioms:")[2]))
+        self.assertTrue(axioms and axioms <= AXIOMS, axioms)
 
     def refused(self, cert, why):
         status, said = self.said(cert)
@@ -161,8 +163,8 @@ class Theorems(unittest.TestCase):
         cert = certify("stack.loss ~ .", (EXAMPLES / "stackloss.csv").read_text(), "--crit", "2.7055", "--rank-at", "1/2")
         file = Path(self.folder.name, "stackloss.json")
         for found, status, line in (
-            (cert, 0, "interval_4 : forall v : R, not_refused rows (value (1 / 2)) (value (5411 / 2000)) 3 v <->"),
-            (changed(cert, "segments/3/loss_hi", "1"), 1, "refused: DualSumNotZeroOrLossWrong 4 true"),
+            (cert, 0, "interval_4 : forall v : R, not_refused rows (1 / 2) (5411 / 2000) 3 v <->"),
+            (changed(cert, "segments/3/loss_hi", "1"), 1, "refused: fit_is_optimal: DualSumNotZeroOrLossWrong 4 true"),
         ):
             file.write_text(json.dumps(found))
             ran = subprocess.run([HERE / "check.sh", file], capture_output=True, text=True)
