@@ -149,15 +149,16 @@ def theorems(cert):
     yield f"Definition theorems := ({', '.join(names)}).\nPrint Assumptions theorems."
 
 
-def size(cert):
-    """What there is to check, and about what that takes, by the runs in docs/SPEED.md."""
+def size(cert, letters):
+    """What there is to check, and about what that takes, by the runs in docs/SPEED.md: reading so many letters, then each entry of a row in
+    each segment, and in each rank interval."""
     rows, columns, segments, intervals = len(cert["rows"]), cert["columns"], len(cert["segments"]), len(cert["intervals"])
-    seconds = 2 + rows * (columns + 1) * (1e-4 + 3e-6 * segments + 2e-4 * intervals)
-    memory = 450 + rows * (columns + 1) * 5e-3
+    seconds = 1 + 2e-5 * letters + rows * (columns + 1) * (3e-6 * segments + 6e-5 * intervals)
     counts = f"rows {rows}, columns {columns}, segments {segments}, intervals {intervals}"
-    return f"{counts}: about {seconds:.0f} s of a processor and {memory:.0f} MB, behind 8 s for what is the same for all certificates"
+    return f"{counts}: about {seconds:.0f} s of a processor and {450 + 7e-4 * letters:.0f} MB, behind 8 s for what each certificate needs"
 
 
 if __name__ == "__main__":
     found = json.load(sys.stdin)
-    print(*([size(found)] if "--size" in sys.argv[1:] else theorems(found)), sep="\n")
+    text_of_fit = "\n".join(theorems(found))
+    print(size(found, len(text_of_fit)) if "--size" in sys.argv[1:] else text_of_fit)
