@@ -24,7 +24,6 @@ done
 folder=${folder:-${fit%.json}.coq}
 mkdir -p "$folder" || exit 2
 python3 "$here/fit_of.py" < "$fit" > "$folder/Fit.v" || exit 2
-python3 "$here/fit_of.py" --size < "$fit" || exit 2
 cp "$here"/{Statement,Soundness,Ranks}.v "$folder" && cd "$folder" || exit 2
 for file in Statement Soundness Ranks; do
   coqc -q -Q . Quantreg "$file.v" || exit 2

@@ -4,7 +4,7 @@
     fit_of.py < FIT.json > Fit.v
 
 It takes certificates of version 1 and 2. None of it is trusted: the rows, the segments and the theorems stand in Fit.v to be read, and
-Coq refuses what isn't so. With `--size` it prints what checking Fit.v will take instead.
+Coq refuses what isn't so. What checking Fit.v will take is told on standard error.
 """
 
 import json
@@ -161,4 +161,5 @@ def size(cert, letters):
 if __name__ == "__main__":
     found = json.load(sys.stdin)
     text_of_fit = "\n".join(theorems(found))
-    print(size(found, len(text_of_fit)) if "--size" in sys.argv[1:] else text_of_fit)
+    print(text_of_fit)
+    print(size(found, len(text_of_fit)), file=sys.stderr)

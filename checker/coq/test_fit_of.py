@@ -169,7 +169,7 @@ class Theorems(unittest.TestCase):
             file.write_text(json.dumps(found))
             ran = subprocess.run([HERE / "check.sh", file], capture_output=True, text=True)
             self.assertEqual(ran.returncode, status, ran.stdout + ran.stderr)
-            self.assertIn("rows 21, columns 4, segments 25, intervals 4:", ran.stdout)
+            self.assertIn("rows 21, columns 4, segments 25, intervals 4:", ran.stderr)
             self.assertIn(line, " ".join(ran.stdout.split()))
 
 
