@@ -14,15 +14,20 @@ INSIDE = Path(__file__).resolve().parent / "bin" / "quantreg"
 
 
 def find_program(program=None) -> str:
-    """The path of the program: the one named, else that of the variable QUANTREG, else `quantreg` on the path."""
-    named = program or os.environ.get("QUANTREG") or "quantreg"
+    """The path of the program: the one named, else that of the variable QUANTREG, else the one inside the wheel, else `quantreg` on the path."""
+    named = program or os.environ.get("QUANTREG") or (INSIDE if INSIDE.is_file() else "quantreg")
     found = shutil.which(os.fspath(named))
     if not found:
-        raise FileNotFoundError(
-            f"no program {named}: build it by `make demo` in the repository of quantreg, which leaves it at crates/quantreg/out/quantreg,"
-            " and name it by `program=` or the variable QUANTREG, or have it on the path by `make install`"
-        )
+        brings = "the Debian package quantreg brings it, and so does the wheel of quantreg_exact"
+        raise FileNotFoundError(f"no program {named}: {brings}; or name it by `program=` or the variable QUANTREG")
     return found
+
+
+def main() -> None:
+    """The command `quantreg` of a wheel: the program inside it takes over."""
+    if not INSIDE.is_file():
+        sys.exit("quantreg: this package of Python was not installed from a wheel, and has no program inside")
+    os.execv(INSIDE, ["quantreg", *sys.argv[1:]])
 
 
 def run(words, table: bytes, program=None) -> str:
