@@ -5,8 +5,8 @@ find_quantreg <- function(program = NULL) {
     named <- if (!is.null(program)) program else Sys.getenv("QUANTREG", "quantreg")
     found <- if (file.exists(named) && !dir.exists(named)) normalizePath(named) else unname(Sys.which(named))
     if (!nzchar(found)) {
-        stop("no program ", named, ": `make demo` in the sources of quantreg builds it and `make install` puts it on the path; ",
-            "name it by program= or the variable QUANTREG", call. = FALSE)
+        brings <- ": the Debian package quantreg brings it; or name it by program= or the variable QUANTREG"
+        stop("no program ", named, brings, call. = FALSE)
     }
     found
 }
