@@ -87,7 +87,7 @@ for (case in list(
     list(quote(rq_exact(y ~ x, data.frame(y = c(1e30, 1e-30, 3.3e-9, 7), x = c(1e25, 1e-22, 3.1, 1 / 3)))), "Round columns of many digits"),
     list(quote(rq_exact(y ~ x, three, tau = -1, pivots = 0)), "gives a greater limit"),
     list(quote(rank_test_exact(y ~ x, three, "z")), "the design has no column 'z'"),
-    list(quote(rq_exact(y ~ x, three, program = "/nowhere/quantreg")), "`make demo` in the sources of quantreg builds it"),
+    list(quote(rq_exact(y ~ x, three, program = "/nowhere/quantreg")), "the Debian package quantreg brings it"),
     list(quote(predictions_exact(y ~ x, three)), "A record to predict has NA as its y")
 )) {
     told <- fault_of(eval(case[[1]]))
