@@ -1,4 +1,4 @@
-//! Sums of many fractions, quotients, differences, and fractions from those of 128 bits.
+//! Sums of many fractions, products, differences, and fractions from those of 128 bits.
 
 use frac_core::{Exact, Frac128};
 use ratio::{Ratio, sum};
@@ -22,7 +22,7 @@ fn harmonic(alloc: Global, n: u32) -> Option<Vec<u8>> {
     Some(text)
 }
 
-// Turns, and what they lead to from 0: each is less 7/3 times what was there, less 5/11, over 13/17.
+// Turns, and what they lead to from 0: each takes -7/3 times what was there, less 5/11, times 17/13.
 static TURNS: [(u32, &[u8]); 3] = [
     (1, b"-85/143"),
     (2, b"6800/5577"),
@@ -32,40 +32,25 @@ static TURNS: [(u32, &[u8]); 3] = [
     ),
 ];
 
-// The numbers of the turns, of 128 bits.
-struct Turn {
-    factor: Frac128,
-    less: Frac128,
-    over: Frac128,
+// The value times a fraction of 128 bits.
+fn times(alloc: Global, value: &Ratio, n: i128, d: i128) -> Option<Ratio> {
+    let factor: Frac128 = Frac128::from_parts(n, d)?;
+    value.mul(alloc, &Ratio::widen(alloc, factor).ok()?).ok()
 }
 
-fn turn() -> Option<Turn> {
-    Some(Turn {
-        factor: Frac128::from_parts(-7, 3)?,
-        less: Frac128::from_parts(5, 11)?,
-        over: Frac128::from_parts(13, 17)?,
-    })
+// The value after a turn.
+fn turned(alloc: Global, value: &Ratio) -> Option<Ratio> {
+    let product = times(alloc, value, -7, 3)?;
+    let rest = product
+        .sub(alloc, &Ratio::fraction(alloc, 5, 11).ok()?)
+        .ok()?;
+    times(alloc, &rest, 17, 13)
 }
 
-// 1 over what is widened, where that isn't 0.
-fn inverse(alloc: Global, value: Frac128) -> Option<Ratio> {
-    if value == Frac128::zero() {
-        return None;
-    }
-    Ratio::widen(alloc, value).ok()?.inverse(alloc).ok()
-}
-
-fn turned(alloc: Global, count: u32) -> Option<Vec<u8>> {
-    let turn = turn()?;
+fn after_turns(alloc: Global, count: u32) -> Option<Vec<u8>> {
     let mut value = Ratio::zero(alloc).ok()?;
     for _ in 0..count {
-        let product = value
-            .mul(alloc, &Ratio::widen(alloc, turn.factor).ok()?)
-            .ok()?;
-        let rest = product
-            .sub(alloc, &Ratio::widen(alloc, turn.less).ok()?)
-            .ok()?;
-        value = rest.mul(alloc, &inverse(alloc, turn.over)?).ok()?;
+        value = turned(alloc, &value)?;
     }
     let mut text = Vec::new(alloc);
     value.write(alloc, &mut text).ok()?;
@@ -73,9 +58,9 @@ fn turned(alloc: Global, count: u32) -> Option<Vec<u8>> {
 }
 
 #[test]
-fn products_differences_and_quotients(rt: HostRuntime) {
+fn products_and_differences(rt: HostRuntime) {
     for (count, want) in &TURNS {
-        let text = turned(rt.alloc(), *count).expect(&rt, "memory");
+        let text = after_turns(rt.alloc(), *count).expect(&rt, "memory");
         assert!(rt; text.as_slice() == *want);
     }
 }
