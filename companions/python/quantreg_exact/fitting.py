@@ -186,7 +186,7 @@ def fit(
 
 
 def ranks(formula, data, *, weights=None, contrasts=None, pivots=None, program=None):
-    """The Wilcoxon scores of a formula by the job `ranks`. `Fit.wilcoxon` gives them for numbers of any size."""
+    """The Wilcoxon scores of a formula by the job `ranks`. `Fit.wilcoxon` works them out of a process."""
     options = {"formula": formula, "weights": weights, "contrasts": contrasts, "pivots": pivots}
     return read_report(run(_words("ranks", options), _table_bytes(data), program))
 
@@ -194,8 +194,9 @@ def ranks(formula, data, *, weights=None, contrasts=None, pivots=None, program=N
 def rank_test(formula, data, tested, *, weights=None, contrasts=None, pivots=None, program=None):
     """The rank test that the columns `tested` of a formula's design have coefficients 0, by the job `test`.
 
-    `tested` is the number of a column, counted from 1 as in a report's lines `column`, or a list of them that rises. Where a
-    number outgrows the program's 128 bits, `rank_test_of_process` works the statistic out of a process of the other columns.
+    `tested` is the number of a column, counted from 1 as in a report's lines `column`, or a list of them that rises. The statistic
+    may have thousands of digits: the report has its `decimal` and its `p_value` too. Where the products of the columns outgrow the
+    program's 128 bits, `rank_test_of_process` works it out of a process of the other columns.
     """
     options = {"formula": formula, "tested": tested, "weights": weights, "contrasts": contrasts, "pivots": pivots}
     return read_report(run(_words("test", options), _table_bytes(data), program))

@@ -1,8 +1,8 @@
 """The rank test of nested models from a process of the lesser one, worked out here with numbers of any size.
 
-The program's job `test` ends with status 7 where a number outgrows 128 bits, which is soon the case where the lesser model has more
-than an intercept. The statistic is a few sums over the Wilcoxon scores of that model's process and the solution of one linear
-system, and the process itself has much shorter numbers.
+The program's job `test` ends with status 7 where the products of the weighted columns, or the inverse of their matrix, outgrow 128 bits:
+columns of long decimals do. The statistic is a few sums over the Wilcoxon scores of the lesser model's process and the solution of
+one linear system.
 """
 
 from fractions import Fraction

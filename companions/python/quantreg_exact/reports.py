@@ -10,7 +10,7 @@ from fractions import Fraction
 import pandas
 
 from .faults import ReportError, unescaped
-from .numbers import as_fraction, read_end, read_number
+from .numbers import as_fraction, chi_squared_tail, decimal_text, read_end, read_number
 
 
 @dataclass(frozen=True)
@@ -303,7 +303,8 @@ class TestReport:
     """The rank test of nested models: what the job `test` prints.
 
     `scores` has the score of each column of `tested` by its number, and `pivots` counts those of the fit without these columns.
-    Where their coefficients are 0, `statistic` is about chi-squared with as many degrees of freedom as there are tested columns.
+    Where their coefficients are 0, `statistic` is about chi-squared with as many degrees of freedom as there are tested columns:
+    `p_value` is how likely it is then to be no less, as a float, and `decimal` the statistic to 12 places, rounded down.
     """
 
     __test__ = False  # no test case of pytest's
@@ -315,6 +316,14 @@ class TestReport:
     pivots: int
     scores: dict
     statistic: Fraction
+
+    @property
+    def decimal(self):
+        return decimal_text(self.statistic)
+
+    @property
+    def p_value(self):
+        return chi_squared_tail(float(self.statistic), len(self.tested))
 
     def to_frame(self):
         rows = [(self.names[column - 1], float(score)) for column, score in self.scores.items()]

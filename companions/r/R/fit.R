@@ -78,12 +78,15 @@ path_exact <- function(formula, data, tau = 0.5, lo, hi = lo, weights = NULL, co
 }
 
 #' The rank test that the columns of the design whose numbers are `tested`, counted from 1 and rising, have coefficients 0, by the job
-#' test. The statistic over the number of tested columns is what anova(.., test = "rank", score = "wilcoxon") calls F value.
+#' test. The statistic over the number of tested columns is what anova(.., test = "rank", score = "wilcoxon") calls F value; p_value is how
+#' likely a chi-squared number with as many degrees of freedom is to be no less than the statistic.
 rank_test_exact <- function(formula, data, tested, weights = NULL, contrasts = "treatment", pivots = NULL, program = NULL) {
     options <- list(tested = tested, weights = weights, contrasts = contrasts, pivots = pivots)
     exact <- read_report(run_quantreg(fit_words("test", formula, options), used_columns(formula, data, weights), program))
     scores <- structure(fraction_value(exact$scores), names = exact$names[exact$tested])
-    list(scores = scores, statistic = fraction_value(exact$statistic), columns = length(scores), exact = exact[c("scores", "statistic")])
+    statistic <- fraction_value(exact$statistic)
+    tail <- stats::pchisq(statistic, length(scores), lower.tail = FALSE)
+    list(scores = scores, statistic = statistic, p_value = tail, columns = length(scores), exact = exact[c("scores", "statistic")])
 }
 
 #' The coefficients, as doubles or, with exact = TRUE, as fractions in text.

@@ -1,10 +1,17 @@
 # Reports as lists. The package reads those of `process`, `ranks`, `predict`, `path` and `test`.
 
-#' The double nearest to a number text, up to two roundings: a whole number, a ratio, Inf or -Inf.
+#' The double nearest to a number text, up to three roundings: a whole number, a ratio, Inf or -Inf. Of a part that has more digits than a
+#' double can hold, the first 18 are taken and the others counted.
 fraction_value <- function(text) {
     slash <- regexpr("/", text, fixed = TRUE)
-    top <- as.numeric(ifelse(slash > 0, substring(text, 1, slash - 1), text))
-    top / as.numeric(ifelse(slash > 0, substring(text, slash + 1), "1"))
+    top <- ifelse(slash > 0, substring(text, 1, slash - 1), text)
+    bottom <- ifelse(slash > 0, substring(text, slash + 1), "1")
+    sign <- ifelse(startsWith(top, "-"), -1, 1)
+    size <- sub("^-", "", top)
+    long <- nchar(size) > 300 | nchar(bottom) > 300
+    first <- function(digits) as.numeric(ifelse(long, substring(digits, 1, 18), digits))
+    left <- function(digits) ifelse(long, pmax(nchar(digits) - 18, 0), 0)
+    sign * first(size) / first(bottom) * 10^(left(size) - left(bottom))
 }
 
 # The words of the lines that begin with `word`, so many behind it, as a matrix of texts; the last is the rest of its line.

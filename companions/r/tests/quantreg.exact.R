@@ -29,7 +29,8 @@ report <- read_report(line)
 stopifnot(
     identical(report$names, c("(Intercept)", "x")), report$pivots == 2, length(report$segments) == 2,
     identical(report$segments[[2]]$coef, c("3/2", "1/2")), identical(report$segments[[1]]$basic["3", "hi"], "1/5"),
-    identical(fraction_value(report$intervals$high), c(1.5, Inf)), identical(fraction_value("-1/4"), -0.25)
+    identical(fraction_value(report$intervals$high), c(1.5, Inf)), identical(fraction_value("-1/4"), -0.25),
+    abs(fraction_value(paste0("-1", strrep("0", 400), "/4", strrep("0", 399))) + 2.5) < 1e-15
 )
 ranks <- read_report("quantreg ranks 1\nrecords 2 dropped 0\ncolumn 1 a \\x09\\x5cb\npivots 1\nwilcoxon 1 -1/4\nwilcoxon 2 1/4\nend\n")
 stopifnot(identical(ranks$names, "a \t\\b"), identical(ranks$wilcoxon, c("-1/4", "1/4")))

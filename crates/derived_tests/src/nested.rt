@@ -5,11 +5,11 @@ ghost use Rattle.std.specs.List.Sorted.{IsStrictlyIncreasing};
 ghost use Rattle.nested_test.specs.Restricted.{AreTested};
 
 use crate::helpers::{
-    Data, Ratio, Spilt, are_data, expect, expect_spill, fractions, is_shaped, problem, ratio,
+    Data, Ratio, are_data, expect, expect_pair, expect_text, is_shaped, problem, ratio, widened,
 };
 use basis_inverse::start;
-use frac_core::{Exact, Frac64, Frac128, List, OpKind, OutOfMemory};
-use loss_model::{Problem, Quantity, Site, Spill};
+use frac_core::{Exact, Frac64, Frac128, OutOfMemory};
+use loss_model::Problem;
 use nested_test::{NestedStatistic, NestedStop, nested, restricted};
 use std::alloc::Global;
 use std::process::Abort;
@@ -119,8 +119,8 @@ fn ask<F: Exact>(
     alloc: Global,
     full: &Problem<F>,
     tested: &[u32],
-    wilcoxon: &[F],
-) -> Result<NestedStatistic<F>, NestedStop<F>> {
+    wilcoxon: &[ratio::Ratio],
+) -> Result<NestedStatistic, NestedStop<F>> {
     assert!(rt; is_shaped(full));
     assert!(rt; are_data(full));
     assert!(rt; are_tested(tested, full.columns));
@@ -133,11 +133,14 @@ fn ask<F: Exact>(
 
 fn expect_statistic<F: Exact>(rt: &impl Abort, alloc: Global, case: &Case) {
     let full = problem::<F>(rt, alloc, case.columns, case.rows);
-    let wilcoxon = fractions::<F>(rt, alloc, case.wilcoxon);
+    let wilcoxon = widened(rt, alloc, case.wilcoxon);
     match ask(rt, alloc, &full, case.tested, wilcoxon.as_slice()) {
         Ok(found) => {
-            expect(rt, found.scores.as_slice(), case.scores);
-            assert!(rt; ratio(found.statistic) == case.statistic);
+            assert!(rt; found.scores.as_slice().len() == case.scores.len());
+            for (score, want) in found.scores.as_slice().iter().zip(case.scores) {
+                expect_pair(rt, alloc, score, *want);
+            }
+            expect_pair(rt, alloc, &found.statistic, case.statistic);
         }
         Err(_) => panic!(rt; "the numbers are small"),
     }
@@ -151,58 +154,43 @@ fn statistics(rt: HostRuntime) {
     }
 }
 
-/// Numbers that are too wide: where the scores of the rows are so.
+/// Scores of rows of the first table whose products are past 128 bits: the score of x, which is b1 + 3 b2, and the statistic, which
+/// is 12 times its square times 3/14.
 struct Wide {
     wilcoxon: &'static [Ratio],
-    want: Spilt,
+    score: &'static [u8],
+    statistic: &'static [u8],
 }
-
-const M: i128 = Frac128::RANGE;
 
 static WIDE: [Wide; 2] = [
     Wide {
-        wilcoxon: &[(0, 1), (M, 1), (1, 1)],
-        want: Spilt {
-            site: Site {
-                quantity: Quantity::TestScore,
-                first: 1,
-                second: 0,
-                third: 0,
-                term: 3,
-                kind: OpKind::Add,
-            },
-            left: (M, 1),
-            right: (3, 1),
-        },
+        wilcoxon: &[(0, 1), (Frac128::RANGE, 1), (1, 1)],
+        score: b"170141183460469231731687303715884105730",
+        statistic: b"521064401567922879406069432539095585351965096204536322862240613903152738992200/7",
     },
     Wide {
         wilcoxon: &[(0, 1), (1 << 70, 1), (0, 1)],
-        want: Spilt {
-            site: Site {
-                quantity: Quantity::TestStatistic,
-                first: 0,
-                second: 0,
-                third: 0,
-                term: 2,
-                kind: OpKind::Mul,
-            },
-            left: (3 << 69, 7),
-            right: (1 << 70, 1),
-        },
+        score: b"1180591620717411303424",
+        statistic: b"25088338348346951034227683056729406694227968/7",
     },
 ];
 
 fn expect_wide(rt: &impl Abort, alloc: Global, case: &Wide) {
     let full = problem::<Frac128>(rt, alloc, 2, RISING);
-    let wilcoxon = fractions::<Frac128>(rt, alloc, case.wilcoxon);
+    let wilcoxon = widened(rt, alloc, case.wilcoxon);
     match ask(rt, alloc, &full, &[1], wilcoxon.as_slice()) {
-        Err(NestedStop::Statistic(spill)) => expect_spill(rt, spill, &case.want),
-        _ => panic!(rt; "the numbers are wide"),
+        Ok(found) => {
+            for score in found.scores.as_slice() {
+                expect_text(rt, alloc, score, case.score);
+            }
+            expect_text(rt, alloc, &found.statistic, case.statistic);
+        }
+        Err(_) => panic!(rt; "the Gram matrix is small"),
     }
 }
 
 #[test]
-fn statistics_that_are_too_wide(rt: HostRuntime) {
+fn statistics_past_128_bits(rt: HostRuntime) {
     for case in &WIDE {
         expect_wide(&rt, rt.alloc(), case);
     }

@@ -1,12 +1,13 @@
 //! Steps of predictions and their rearrangements: 40 that a script of its own worked by the measure of
-//! each value, and operations that overflow, worked by hand.
+//! each value, rearrangements whose ends are past 128 bits, and operations that overflow, worked by hand.
 
 ghost use Rattle.std.specs.Prelude.{◌≡◌, ◌+◌, ◌<◌, ◌≤◌, ◌^◌, All, IsTrue, length};
 
 use crate::helpers::{parted, push, text_of};
-use frac_core::{Exact, Frac128, List, read_number};
+use frac_core::{Exact, Frac128, List, OutOfMemory, read_number};
 use loss_model::{Basis, Process, Segment, Short, Spill, Trail, Vertex};
-use predict_steps::{Step, rearrange, steps};
+use predict_steps::{RearrangedStep, Step, rearrange, steps};
+use ratio::Ratio;
 use std::alloc::Global;
 use std::process::Abort;
 
@@ -87,7 +88,7 @@ fn has_entries(process: &Process<Frac128>, x: &[Frac128], offsets: &[Frac128]) -
             .all(|s| s.vertex.coef.as_slice().len() == x.len())
 }
 
-/// The steps of record 3.
+/// The steps of record 3, or what overflowed.
 type Stepped = Result<List<Step<Frac128>>, Short<Frac128>>;
 
 /// The low end of a range, and the steps over it.
@@ -110,10 +111,50 @@ fn predicted(rt: &impl Abort, alloc: Global, fit: &str) -> Prediction {
     Prediction { lo, steps }
 }
 
-fn rearranged(rt: &impl Abort, alloc: Global, steps: &[Step<Frac128>]) -> Stepped {
-    let count = steps.len();
-    assert!(rt; count >= 1 && count <= 100);
-    rearrange(alloc, steps, 3)
+fn rearranged(
+    rt: &impl Abort,
+    alloc: Global,
+    steps: &[Step<Frac128>],
+) -> Result<List<RearrangedStep<Frac128>>, OutOfMemory> {
+    assert!(rt; !steps.is_empty());
+    rearrange(alloc, steps)
+}
+
+// The text of a number of any size.
+fn wide_text(rt: &impl Abort, alloc: Global, value: &Ratio) -> Vec<u8> {
+    let mut text = Vec::new(alloc);
+    assert!(rt; value.write(alloc, &mut text).is_ok());
+    text
+}
+
+// What stands behind the number that begins a text, which is this one.
+fn behind<'a>(rt: &impl Abort, alloc: Global, value: &Ratio, text: &'a str) -> &'a str {
+    let (number, rest) = parted(rt, text, " ");
+    assert!(rt; wide_text(rt, alloc, value).as_slice() == number.as_bytes());
+    rest
+}
+
+// The steps of a rearrangement begin where the one before ends, and their high ends and values are those of the text.
+fn expect_rearranged(
+    rt: &impl Abort,
+    alloc: Global,
+    steps: &[RearrangedStep<Frac128>],
+    lo: &str,
+    text: &str,
+) {
+    let mut start = lo;
+    let mut wanted = text.split(';');
+    for step in steps {
+        let part = wanted.next().expect(rt, "as many steps").trim();
+        assert!(rt;
+            wide_text(rt, alloc, &step.lo).as_slice() == start.as_bytes(),
+            "{text}"
+        );
+        let value = behind(rt, alloc, &step.hi, part);
+        assert!(rt; step.value == number(rt, value), "{text}");
+        (start, _) = parted(rt, part, " ");
+    }
+    assert!(rt; wanted.next().is_none(), "{text}");
 }
 
 // The steps from a low end, whose text has the high end and the value of each.
@@ -147,8 +188,11 @@ fn expect_case(rt: &impl Abort, alloc: Global, fit: &str, wanted: &str) {
     let (stepped, in_order) = parted(rt, wanted, " => ");
     let Prediction { lo, steps } = predicted(rt, alloc, fit);
     let made = expect_steps(rt, alloc, steps, lo, stepped);
-    let made = rearranged(rt, alloc, made.as_slice());
-    expect_steps(rt, alloc, made, lo, in_order);
+    let ordered = rearranged(rt, alloc, made.as_slice())
+        .ok()
+        .expect(rt, "memory");
+    let low = text_of(rt, alloc, lo);
+    expect_rearranged(rt, alloc, ordered.as_slice(), low.as_str(), in_order);
 }
 
 // Lines of a fit, the steps of its prediction, and their rearrangement. In the first two a line runs through two of three
@@ -261,21 +305,23 @@ fn predictions_that_are_too_wide(rt: HostRuntime) {
     assert!(rt; count == 3, "{count}");
 }
 
-// Lines of steps from 0, with denominators whose product is too wide, and what overflows in their rearrangement: the
-// length of the second step; and the end of the second one in the order of the values, which was the first.
+// Lines of steps from 0, with denominators whose product is past 128 bits, and their rearrangement: the steps themselves; and the third
+// one, of the length 1/3000000000000000000001, before the first.
 static FAR: &str = "\
-1/3000000000000000000001 1; 1/1180591620717411303424 2 => StepLength 1 0 0 1 Sub 1/1180591620717411303424 1/3000000000000000000001
-1/1180591620717411303424 2; 1 3; 3000000000000000000002/3000000000000000000001 1 => StepPlace 3 1 0 1 Add 1/3000000000000000000001 1/1180591620717411303424
+1/3000000000000000000001 1; 1/1180591620717411303424 2 => 1/3000000000000000000001 1; 1/1180591620717411303424 2
+1/1180591620717411303424 2; 1 3; 3000000000000000000002/3000000000000000000001 1 => 1/3000000000000000000001 1; 4180591620717411303425/3541774862152233910273180591620717411303424 2; 3000000000000000000002/3000000000000000000001 3
 ";
 
 #[test]
-fn rearrangements_that_are_too_wide(rt: HostRuntime) {
+fn rearrangements_past_128_bits(rt: HostRuntime) {
     let mut count: u32 = 0;
     for line in FAR.lines() {
         let (text, wanted) = parted(&rt, line, " => ");
         let steps = steps_from(&rt, rt.alloc(), Frac128::zero(), text);
-        let found = rearranged(&rt, rt.alloc(), steps.as_slice());
-        expect_spill(&rt, rt.alloc(), found, wanted);
+        let ordered = rearranged(&rt, rt.alloc(), steps.as_slice())
+            .ok()
+            .expect(&rt, "memory");
+        expect_rearranged(&rt, rt.alloc(), ordered.as_slice(), "0", wanted);
         count = count.wrapping_add(1);
     }
     assert!(rt; count == 2, "{count}");

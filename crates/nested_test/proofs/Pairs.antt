@@ -1,26 +1,23 @@
 -- Pairs of tested columns, one more at a time.
-use Rattle.std.specs.Prelude.{◌≡◌, ℕ, ◌+◌, ◌*◌, ◌<◌, ◌≤◌, List, [], ◌∷◌, length, get_or, pos}
-use Rattle.std.proofs.Common.{arith, refl, sym, ap, ap₂, subst, ◌∙◌, inl, inr, add-one}
+use Rattle.std.specs.Prelude.{◌≡◌, ℕ, ◌+◌, ◌<◌, ◌≤◌, List, [], ◌∷◌, length, get_or, pos}
+use Rattle.std.proofs.Common.{arith, refl, sym, ap, ap₂, ◌∙◌, add-one}
 use Rattle.exact_algebra.specs.Fraction.{Fraction, rational}
 use Rattle.exact_algebra.specs.Solver.{number, ◌⊞◌, v0, v1, v2}
 use Rattle.exact_algebra.specs.Rational.{ℚ, ◌+ℚ◌, ◌*ℚ◌, whole}
 use Rattle.exact_algebra.proofs.RationalLaws.{ring_ℚ}
 use Rattle.exact_algebra.specs.RationalSums.{sum_ℚ}
 use Rattle.exact_algebra.proofs.RationalSumLaws.{sum_ℚ-same}
-use Rattle.loss_model.specs.declared.spill.Spill.{Spill}
-use Rattle.loss_model.specs.declared.spill.Quantity.TheVariants.{TestStatistic}
 use Rattle.loss_model.specs.Problem.{value_at}
-use Rattle.loss_model.specs.Spill.{IsAmong, IsOperation, Operation, addition, multiplication, site_of}
 use Rattle.loss_model.proofs.Products.{value_at-item}
-use Rattle.nested_test.specs.Operations.{pair, pairs_before, pairs, IsPairSpill, IsStatisticSpill}
+use Rattle.nested_test.specs.Pairs.{pair, pairs_before, pairs}
 
-module _ {F : Type 0} (value : F → Fraction) (at : ℕ → ℕ) (n : ℕ) (a : ℕ → ℕ → ℚ) (scores : List F) where
-  score_at : (j : ℕ) (x : F) → j < length scores → x ≡ get_or scores j x → rational (value (get_or scores j x)) ≡ value_at value scores j
-  score_at j x l is = sym (ap (λ x. rational (value x)) is) ∙ sym (value_at-item value scores j x l is)
+module _ (at : ℕ → ℕ) (n : ℕ) (a : ℕ → ℕ → ℚ) (scores : List Fraction) where
+  score_at : (j : ℕ) (x : Fraction) → j < length scores → x ≡ get_or scores j x → rational (get_or scores j x) ≡ value_at (λ x. x) scores j
+  score_at j x l is = sym (ap rational is) ∙ sym (value_at-item (λ x. x) scores j x l is)
 
   -- the term of a pair, from what is read
-  pub pair_read : (j m : ℕ) (x y : F) (entry weighted product : ℚ) → length scores ≡ n → j < n → m < n → x ≡ get_or scores j x → y ≡ get_or scores m y → entry ≡ a (at j) (at m)
-      → weighted ≡ rational (value (get_or scores j x)) *ℚ entry → product ≡ weighted *ℚ rational (value (get_or scores m y)) → product ≡ pair at n a (value_at value scores) j m
+  pub pair_read : (j m : ℕ) (x y : Fraction) (entry weighted product : ℚ) → length scores ≡ n → j < n → m < n → x ≡ get_or scores j x → y ≡ get_or scores m y → entry ≡ a (at j) (at m)
+      → weighted ≡ rational (get_or scores j x) *ℚ entry → product ≡ weighted *ℚ rational (get_or scores m y) → product ≡ pair at n a (value_at (λ x. x) scores) j m
   pair_read j m x y entry weighted product size lj lm at_j at_m e w p =
       p ∙ ap₂ (λ x y. x *ℚ y) (w ∙ ap₂ (λ x y. x *ℚ y) (score_at j x (omega (arith, size, lj)) at_j) e) (score_at m y (omega (arith, size, lm)) at_m)
 
@@ -59,22 +56,3 @@ module _ (at : ℕ → ℕ) (n : ℕ) (a : ℕ → ℕ → ℚ) (score : ℕ →
 
     pub same_pairs : pairs at n a score ≡ pairs at n a other
     same_pairs = same_rows n (omega arith)
-
-    module _ {F : Type 0} (value : F → Fraction) (range : ℕ) (s : Spill F) where
-      at_pair : (j m : ℕ) → j < n → m < n → IsPairSpill at n a score value range j m s → IsPairSpill at n a other value range j m s
-      at_pair j m lj lm h =
-          let by : ℚ → ℚ → ℚ → ℚ → Type 0 = λ x y before product.
-          IsAmong value range (site_of TestStatistic 0 0 0) (3 * (j * n + m) + 1) (operations x y before product) s
-          in
-          subst (λ product. by (other j) (other m) (pairs_before at n a other j m) product) (same_pair j m lj lm)
-          (subst (λ before. by (other j) (other m) before (pair at n a score j m)) (ap₂ (λ x y. x +ℚ y) (same_rows j (omega (arith, lj))) (same_row j m lj (omega (arith, lm))))
-          (subst (λ y. by (other j) y (pairs_before at n a score j m) (pair at n a score j m)) (same m lm)
-          (subst (λ x. by x (score m) (pairs_before at n a score j m) (pair at n a score j m)) (same j lj) h)))
-        where
-          operations : ℚ → ℚ → ℚ → ℚ → List Operation
-          operations x y before product =
-              multiplication x (a (at j) (at m)) ∷ multiplication (x *ℚ a (at j) (at m)) y ∷ addition before product ∷ []
-
-      pub same_spill : IsStatisticSpill at n a score value range s → IsStatisticSpill at n a other value range s
-      same_spill (inl h) = inl (h.0, h.1, (h.2.0, h.2.1, at_pair h.0 h.2.0 h.1 h.2.1 h.2.2))
-      same_spill (inr h) = inr (subst (λ z. IsOperation value range (site_of TestStatistic 1 0 1) (whole (pos 12)) z s) same_pairs h)

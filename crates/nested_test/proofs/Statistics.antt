@@ -21,7 +21,7 @@ use Rattle.rank_law.proofs.Lengths.{squares_not_negative}
 use Rattle.rank_law.proofs.Grams.{weighted, gram_row, gram_square}
 use Rattle.gram_matrix.specs.Grams.{scaled}
 use Rattle.nested_test.specs.Nested.{rest, AreNestedFactors, nested_statistic, IsNestedStatistic}
-use Rattle.nested_test.specs.Operations.{pairs}
+use Rattle.nested_test.specs.Pairs.{pairs}
 use Rattle.nested_test.specs.Laws.{StatisticIsSquare}
 
 -- a matrix that sends c to g has an inverse that sends g to c

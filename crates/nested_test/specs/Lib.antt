@@ -1,6 +1,5 @@
 pub mod Nested
-pub mod Operations
+pub mod Stops
 pub mod Restricted
-pub mod Inverses
-pub mod Scores
+pub mod Pairs
 pub mod Laws

@@ -14,13 +14,13 @@ use Rattle.gram_matrix.specs.Grams.{scaled}
 abbrev pub column_score : Sample → (ℕ → ℚ) → ℕ → ℚ
 column_score p b k = sum_ℚ p.rows (λ i. scaled p i k *ℚ b i)
 
--- the list has the scores of the first n tested columns
-pub record AreScoresBelow {F : Type 0} (value : F → Fraction) (n : ℕ) (p : Problem F) (tested : List ℕ) (b : ℕ → ℚ) (scores : List F) : Type 0 where
+-- the list has the scores of the first n tested columns, as fractions of any size
+pub record AreScoresBelow {F : Type 0} (value : F → Fraction) (n : ℕ) (p : Problem F) (tested : List ℕ) (b : ℕ → ℚ) (scores : List Fraction) : Type 0 where
   pub size : length scores ≡ n
-  pub each : (j : ℕ) → j < n → value_at value scores j ≡ column_score (sample value p) b (slice_index tested j)
+  pub each : (j : ℕ) → j < n → value_at (λ x. x) scores j ≡ column_score (sample value p) b (slice_index tested j)
 
 -- those of all of them
-abbrev pub AreScores : {F : Type 0} → (F → Fraction) → Problem F → List ℕ → (ℕ → ℚ) → List F → Type 0
+abbrev pub AreScores : {F : Type 0} → (F → Fraction) → Problem F → List ℕ → (ℕ → ℚ) → List Fraction → Type 0
 AreScores value p tested b scores = AreScoresBelow value (length tested) p tested b scores
 
 module _ (p : Sample) (at : ℕ → ℕ) (n : ℕ) where

@@ -2,9 +2,9 @@
 //! 1993)?
 //!
 //! The one contract: `restricted` gives a problem without the tested columns, as `specs/Restricted.antt` has it; and `nested`
-//! the scores of these columns and the statistic, as `specs/Nested.antt` defines them, or it names the operation that
-//! overflowed, as `specs/Operations.antt` has them. The crate stands on `gram_matrix` for the weighted columns and their Gram
-//! matrix, and on `basis_inverse` for the inverse of that.
+//! the scores of these columns and the statistic, as `specs/Nested.antt` defines them, as fractions of any size; or it names
+//! the operation of the Gram matrix or of its inverse that overflowed (`specs/Stops.antt`). The crate stands on `gram_matrix`
+//! for the Gram matrix of the weighted columns, on `basis_inverse` for the inverse of that, and on `ratio`.
 //! Its tests stand in the crate `derived_tests`.
 #![tactic(auto)]
 

@@ -1,15 +1,13 @@
 //! The scores of tested columns.
-ghost use Rattle.std.specs.Prelude.{◌≡◌, ◌<◌, All, length, IfOk, IfErr};
+ghost use Rattle.std.specs.Prelude.{◌≡◌, ◌<◌, All, length, IfOk};
 ghost use Rattle.exact_algebra.specs.Fraction.{rational};
+ghost use Rattle.gram_matrix.specs.Grams.{scaled};
 ghost use Rattle.loss_model.specs.Problem.{value_at, sample, IsWellShaped};
 ghost use Rattle.nested_test.specs.Nested.{column_score as column_score_of, AreScores};
-ghost use Rattle.nested_test.specs.Operations.{IsNestedStop};
-ghost use Rattle.nested_test.specs.Scores.{IsScoreStop};
 
-use crate::stop::{NestedStop, before_gram};
-use frac_core::{Exact, List};
-use gram_matrix::scaled_column;
-use loss_model::{Problem, Quantity, Sign, Site, sum_of_products};
+use frac_core::{Exact, List, OutOfMemory};
+use loss_model::Problem;
+use ratio::{Ratio, sum};
 use std::alloc::Global;
 
 /// The scores of all tested columns, in their order.
@@ -17,17 +15,17 @@ pub(crate) fn scores<F: Exact>(
     alloc: Global,
     full: &Problem<F>,
     tested: &[u32],
-    wilcoxon: &[F],
-) -> Result<List<F>, NestedStop<F>>
+    wilcoxon: &[Ratio],
+) -> Result<List<Ratio>, OutOfMemory>
     requires shaped { IsWellShaped full.now }
     requires tested { All (λ k. k < full.now.columns) tested.now }
     requires scored { length wilcoxon.now ≡ length full.now.rows }
-    ensures scores { IfOk result (AreScores F.value full.now tested.now (value_at F.value wilcoxon.now)) }
-    ensures stopped { IfErr result (IsNestedStop F.value F.range full.now tested.now (value_at F.value wilcoxon.now)) }
+    ensures { IfOk result (AreScores F.value full.now tested.now (value_at (λ x. x) wilcoxon.now)) }
 {
     let mut made = List::new(alloc);
     for column in tested {
-        made.add(column_score(alloc, full, *column, wilcoxon)?)?;
+        let score = column_score(alloc, full, *column, wilcoxon)?;
+        made.add(score)?;
     }
     Ok(made)
 }
@@ -37,19 +35,38 @@ fn column_score<F: Exact>(
     alloc: Global,
     full: &Problem<F>,
     column: u32,
-    wilcoxon: &[F],
-) -> Result<F, NestedStop<F>>
+    wilcoxon: &[Ratio],
+) -> Result<Ratio, OutOfMemory>
     requires shaped { IsWellShaped full.now }
     requires column { column < full.now.columns }
     requires scored { length wilcoxon.now ≡ length full.now.rows }
-    ensures exact { IfOk result (λ s. rational (F.value s) ≡ column_score_of (sample F.value full.now) (value_at F.value wilcoxon.now) column) }
-    ensures stopped { IfErr result (IsScoreStop F.value F.range full.now (value_at F.value wilcoxon.now) column) }
+    ensures { IfOk result (λ s. rational s ≡ column_score_of (sample F.value full.now) (value_at (λ x. x) wilcoxon.now) column) }
 {
-    let entries = match scaled_column(alloc, full, column) {
-        Ok(entries) => entries,
-        Err(short) => return Err(before_gram(alloc, full, short)),
-    };
-    let site = Site::new(Quantity::TestScore, column, 0, 0);
-    let score = sum_of_products(site, F::zero(), Sign::Plus, entries.as_slice(), wilcoxon)?;
+    let mut products = List::new(alloc);
+    for row in 0..wilcoxon.len() {
+        let entry = weighted_entry(alloc, full, row, column)?;
+        let product = entry.mul(alloc, &wilcoxon[row])?;
+        products.add(product)?;
+    }
+    let score = sum(alloc, products.as_slice())?;
     Ok(score)
+}
+
+// An entry times the weight of its row.
+fn weighted_entry<F: Exact>(
+    alloc: Global,
+    full: &Problem<F>,
+    row: usize,
+    column: u32,
+) -> Result<Ratio, OutOfMemory>
+    requires shaped { IsWellShaped full.now }
+    requires row { row < length full.now.rows }
+    requires column { column < full.now.columns }
+    ensures { IfOk result (λ e. rational e ≡ scaled (sample F.value full.now) row column) }
+{
+    let chosen = &full.rows.as_slice()[row];
+    let weight = Ratio::widen(alloc, chosen.up1)?;
+    let entry = Ratio::widen(alloc, chosen.x.as_slice()[column as usize])?;
+    let weighted = weight.mul(alloc, &entry)?;
+    Ok(weighted)
 }

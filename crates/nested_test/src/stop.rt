@@ -2,7 +2,7 @@
 ghost use Rattle.loss_model.specs.Quantities.{IsShortOf};
 ghost use Rattle.loss_model.specs.Problem.{sample};
 ghost use Rattle.gram_matrix.specs.Grams.{IsBeforeGram};
-ghost use Rattle.nested_test.specs.Inverses.{IsGramStop};
+ghost use Rattle.nested_test.specs.Stops.{IsNestedStop};
 
 use frac_core::{Exact, List, OutOfMemory};
 use loss_model::{Problem, Short, Spill, Trail};
@@ -16,8 +16,6 @@ pub enum NestedStop<F> {
     /// An operation of a weighted entry or of an entry of the Gram matrix overflows, with an empty trail; or one of the
     /// greedy start of its rows, with the start that was reached.
     Gram { trail: Trail<F>, spill: Spill<F> },
-    /// An operation of a score or of the statistic overflows.
-    Statistic(Spill<F>),
 }
 
 impl<F> From<OutOfMemory> for NestedStop<F> {
@@ -31,17 +29,6 @@ impl<F> From<OutOfMemory> for NestedStop<F> {
     }
 }
 
-impl<F> From<Spill<F>> for NestedStop<F> {
-    ghost use Rattle.std.specs.Prelude.{◌≡◌};
-    ghost use Rattle.nested_test.specs.declared.stop.NestedStop.TheVariants.{Statistic};
-
-    ghost from_gives = { λ spill stop. stop ≡ Statistic spill };
-
-    fn from(spill: Spill<F>) -> NestedStop<F> {
-        NestedStop::Statistic(spill)
-    }
-}
-
 /// The stop of what is refused before the Gram matrix stands, with a trail whose lists are empty.
 pub(crate) fn before_gram<F: Exact>(
     alloc: Global,
@@ -49,7 +36,7 @@ pub(crate) fn before_gram<F: Exact>(
     short: Short<F>,
 ) -> NestedStop<F>
     requires { IsShortOf (IsBeforeGram F.value F.range (sample F.value problem.now)) short }
-    ensures { IsGramStop F.value F.range problem.now result }
+    ensures { IsNestedStop F.value F.range problem.now result }
 {
     let _problem = problem;
     match short {

@@ -5,6 +5,7 @@ use Rattle.exact_algebra.specs.Rational.{ℚ, ◌+ℚ◌, ◌*ℚ◌}
 use Rattle.exact_algebra.specs.RationalSums.{sum_ℚ}
 use Rattle.loss_model.specs.declared.process.Segment.{Segment}
 use Rattle.loss_model.specs.Problem.{value_at}
+use Rattle.predict_steps.specs.declared.step.RearrangedStep.{RearrangedStep}
 use Rattle.predict_steps.specs.declared.step.Step.{Step}
 use Rattle.predict_steps.specs.Rearranged.{Piece}
 
@@ -15,6 +16,13 @@ module _ {F : Type 0} (value : F → Fraction) where
 
   abbrev pub pieces : List (Step F) → List Piece
   pieces steps = map piece steps
+
+  -- the same of a step of a rearrangement, whose ends are fractions of any size
+  abbrev pub rearranged_piece : RearrangedStep F → Piece
+  rearranged_piece s = record { lo = rational s.lo; hi = rational s.hi; value = rational (value s.value) }
+
+  abbrev pub rearranged_pieces : List (RearrangedStep F) → List Piece
+  rearranged_pieces steps = map rearranged_piece steps
 
   -- the sum of the entries times the coefficients, plus the offsets
   abbrev pub prediction : List F → List F → List F → ℚ

@@ -1,17 +1,15 @@
--- Stated. The operations of predictions, and of their rearrangement.
+-- Stated. The operations of predictions.
 use Rattle.std.specs.Prelude.{◌≡◌, ◌⊎◌, ℕ, ◌+◌, List, Some, length, slice_get, pos}
-use Rattle.std.specs.Option.{option_map_or}
 use Rattle.exact_algebra.specs.Fraction.{Fraction}
 use Rattle.exact_algebra.specs.Rational.{ℚ, ◌+ℚ◌, whole}
 use Rattle.exact_algebra.specs.RationalSums.{sum_ℚ}
-use Rattle.frac_core.specs.declared.exact.OpKind.TheVariants.{Add, Sub}
+use Rattle.frac_core.specs.declared.exact.OpKind.TheVariants.{Add}
 use Rattle.loss_model.specs.declared.process.Segment.{Segment}
-use Rattle.loss_model.specs.declared.spill.Quantity.TheVariants.{Prediction, StepLength, StepPlace}
+use Rattle.loss_model.specs.declared.spill.Quantity.TheVariants.{Prediction}
 use Rattle.loss_model.specs.declared.spill.Site.{Site}
 use Rattle.loss_model.specs.declared.spill.Spill.{Spill}
 use Rattle.loss_model.specs.Problem.{value_at}
 use Rattle.loss_model.specs.Spill.{AtSome, IsOperation, IsSpillOf, Products, site_of, total}
-use Rattle.predict_steps.specs.Rearranged.{Piece, length_of, IsRearrangement}
 
 module _ {F : Type 0} (value : F → Fraction) where
   -- entries times coefficients
@@ -37,25 +35,3 @@ module _ {F : Type 0} (value : F → Fraction) where
       pub segment : Segment F
       pub there : slice_get segments number ≡ Some segment
       pub operation : IsPredictionSpill (site_of Prediction rec number 0) x offsets segment.vertex.coef s
-
--- a number of piece j, or 0 beyond the last
-abbrev pub of_piece : List Piece → (Piece → ℚ) → ℕ → ℚ
-of_piece pieces number j = option_map_or number (slice_get pieces j) (whole (pos 0))
-
-module _ {F : Type 0} (value : F → Fraction) (range : ℕ) where
-  -- the length of one of the steps
-  abbrev pub IsLengthSpill : List Piece → Spill F → Type 0
-  IsLengthSpill pieces s =
-      AtSome (length pieces) (λ j.
-      IsOperation value range (record (site_of StepLength j 0 1) { kind = Sub }) (of_piece pieces (λ p. p.hi) j) (of_piece pieces (λ p. p.lo) j) s)
-
-  -- the high end of one of the steps of a rearrangement of this record's: its low end plus its length
-  abbrev pub IsPlaceSpill : ℕ → List Piece → Spill F → Type 0
-  IsPlaceSpill rec pieces s =
-      AtSome (length pieces) (λ j.
-      IsOperation value range (record (site_of StepPlace rec j 1) { kind = Add }) (of_piece pieces (λ p. p.lo) j) (of_piece pieces length_of j) s)
-
-  -- an operation of the rearrangement of steps
-  abbrev pub IsRearrangementSpill : ℚ → ℚ → ℕ → List Piece → Spill F → Type 0
-  IsRearrangementSpill from to rec pieces s =
-      IsLengthSpill pieces s ⊎ ((ys : List Piece) × IsRearrangement from to pieces ys × IsPlaceSpill rec ys s)

@@ -1,10 +1,10 @@
 //! Predictions as step functions of the quantile, and their rearrangement (Chernozhukov, Fernández-Val
 //! and Galichon 2010).
 //!
-//! The one contract: `steps` gives a record's prediction along each segment of a process, and
-//! `rearrange` the same steps in the order of their values, as `specs/Rearranged.antt` defines it;
-//! or either names the operation that overflowed. The laws say that steps have one rearrangement.
-//! It stands on `loss_model`, whose processes are predicted from.
+//! The one contract: `steps` gives a record's prediction along each segment of a process, or names
+//! the operation that overflowed; and `rearrange` the same steps in the order of their values, as
+//! `specs/Rearranged.antt` defines it, with ends of any size. The laws say that steps have one
+//! rearrangement. It stands on `loss_model`, whose processes are predicted from, and on `ratio`.
 //! Its tests stand in the crate `ground_tests`.
 #![tactic(auto)]
 
@@ -15,4 +15,4 @@ mod step;
 
 pub use prediction::steps;
 pub use rearrangement::rearrange;
-pub use step::Step;
+pub use step::{RearrangedStep, Step};

@@ -98,10 +98,11 @@ module _ {F : Type 0} (value : F → Fraction) (p : Problem F) (n : ℕ) (v : Ve
     pub weight_not_zero : ((i : ℕ) → i < n → (sample value p).up1 i ≢ whole (pos 0)) → rational (value r.up1) ≢ whole (pos 0)
     weight_not_zero weighted e = weighted row small (sym weight_read ∙ e)
 
+    pub read_is : ((rational (value x) *ℚ inverse (rational (value r.up1))) +ℚ whole (pos 1)) -ℚ rational (value theta) ≡ score value p v basic theta row
+    read_is = score_is value p v basic theta shape place row within at_read inside_read (rational (value x)) (rational (value r.up1)) dual_read weight_read
+
     pub score_read : (q : F) → rational (value q) ≡ ((rational (value x) *ℚ inverse (rational (value r.up1))) +ℚ whole (pos 1)) -ℚ rational (value theta) → rational (value q) ≡ row_score value p n v basic theta row
-    score_read q is =
-        is ∙ score_is value p v basic theta shape place row within at_read inside_read (rational (value x)) (rational (value r.up1)) dual_read weight_read
-        ∙ data_score value p n v basic theta row small
+    score_read q is = is ∙ read_is ∙ data_score value p n v basic theta row small
 
     pub spill_read : (range number end : ℕ) (s : Spill F) → IsScoreSpill value range (score_site row end number) (rational (value x)) (rational (value r.up1)) (rational (value theta)) s
         → IsEndSpill value range p n number end v basic (rational (value theta)) s

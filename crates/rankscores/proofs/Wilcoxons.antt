@@ -1,18 +1,15 @@
 -- Wilcoxon scores of many rows, one after another.
-use Rattle.std.proofs.Common.{◌≡◌, ◌⊎◌, ◌+◌, ◌<◌, ℕ, zero, suc, Bool, true, false, nat_lt, List, [], ◌∷◌, ◌++◌, Some, length, slice_get, inl, inr, pos, arith, refl, sym, ap, subst, ◌∙◌}
+use Rattle.std.proofs.Common.{◌≡◌, ◌+◌, ◌<◌, ℕ, zero, suc, Bool, true, false, nat_lt, List, [], ◌∷◌, ◌++◌, Some, length, slice_get, pos, arith, refl, sym, ap, subst, ◌∙◌}
 use Rattle.std.specs.Option.{option_map_or}
 use Rattle.std.proofs.lemmas.Bool.{ltb-false, ltb-true}
 use Rattle.std.proofs.lemmas.List.{length-append}
 use Rattle.exact_algebra.specs.Rational.{◌-ℚ◌, whole}
-use Rattle.exact_algebra.specs.RationalSums.{sum_ℚ}
 use Rattle.exact_algebra.specs.Fraction.{Fraction, rational}
 use Rattle.loss_model.specs.declared.problem.Problem.{Problem}
 use Rattle.loss_model.specs.declared.process.Segment.{Segment}
-use Rattle.loss_model.specs.declared.spill.Spill.{Spill}
 use Rattle.loss_model.specs.Problem.{sample, value_at}
 use Rattle.loss_model.specs.Segment.{Covers, segments_of}
-use Rattle.rankscores.specs.Spills.{IsIntegrationSpill, IsScoreSpillOf, IsWilcoxonSpill}
-use Rattle.rankscores.specs.Trapezoids.{score_area}
+use Rattle.rankscores.specs.Rows.{area_to}
 use Rattle.rankscores.specs.Wilcoxon.{half, AreWilcoxon, IsWilcoxon}
 use Rattle.rankscores.proofs.WilcoxonLaws.{is_sum, proper}
 
@@ -28,15 +25,15 @@ last_item (y ∷ xs) x = last_item xs x
 
 module _ {F : Type 0} (value : F → Fraction) (p : Problem F) (segments : List (Segment F)) where
   -- the scores of the first k rows
-  pub record AreFirst (k : ℕ) (scores : List F) : Type 0 where
+  pub record AreFirst (k : ℕ) (scores : List Fraction) : Type 0 where
     pub size : length scores ≡ k
-    pub each : (i : ℕ) → i < k → IsWilcoxon (sample value p) (segments_of value p segments) i (value_at value scores i)
+    pub each : (i : ℕ) → i < k → IsWilcoxon (sample value p) (segments_of value p segments) i (value_at (λ x. x) scores i)
 
   pub first_none : AreFirst 0 []
   first_none = record { size = refl; each = λ i l. absurd (omega (arith, l)) }
 
   pub first_more : Covers (length p.rows) (whole (pos 0)) (whole (pos 1)) (segments_of value p segments)
-      → (k : ℕ) (scores next : List F) (x : F) → AreFirst k scores → rational (value x) ≡ sum_ℚ (length segments) (score_area (sample value p) (segments_of value p segments) k) -ℚ half
+      → (k : ℕ) (scores next : List Fraction) (x : Fraction) → AreFirst k scores → rational x ≡ area_to value p segments k (length segments) -ℚ half
       → next ≡ scores ++ x ∷ [] → AreFirst (k + 1) next
   first_more covers k scores next x so_far is grown =
       subst (AreFirst (k + 1)) (sym grown) (record {
@@ -44,27 +41,20 @@ module _ {F : Type 0} (value : F → Fraction) (p : Problem F) (segments : List 
         each = λ i l. by i (nat_lt i k) refl l;
       })
     where
-      new : IsWilcoxon (sample value p) (segments_of value p segments) k (rational (value x))
-      new = (is_sum (sample value p) (segments_of value p segments) k (rational (value x)) (proper (length p.rows) (segments_of value p segments) covers)).1 is
+      new : IsWilcoxon (sample value p) (segments_of value p segments) k (rational x)
+      new = (is_sum (sample value p) (segments_of value p segments) k (rational x) (proper (length p.rows) (segments_of value p segments) covers)).1 is
 
-      by : (i : ℕ) (t : Bool) → nat_lt i k ≡ t → i < k + 1 → IsWilcoxon (sample value p) (segments_of value p segments) i (value_at value (scores ++ x ∷ []) i)
+      by : (i : ℕ) (t : Bool) → nat_lt i k ≡ t → i < k + 1 → IsWilcoxon (sample value p) (segments_of value p segments) i (value_at (λ x. x) (scores ++ x ∷ []) i)
       by i true e l =
           let before : i < k = ltb-true i k e in
-          subst (IsWilcoxon (sample value p) (segments_of value p segments) i) (ap (λ o. option_map_or (λ y. rational (value y)) o (whole (pos 0))) (sym (kept_item scores x i (omega (arith, before, so_far.size))))) (so_far.each i before)
+          subst (IsWilcoxon (sample value p) (segments_of value p segments) i) (ap (λ o. option_map_or (λ y. rational y) o (whole (pos 0))) (sym (kept_item scores x i (omega (arith, before, so_far.size))))) (so_far.each i before)
       by i false e l =
           let same : length scores ≡ i = omega (arith, ltb-false i k e, l, so_far.size) in
           let row : k ≡ i = omega (arith, ltb-false i k e, l) in
-          subst (λ n. IsWilcoxon (sample value p) (segments_of value p segments) n (value_at value (scores ++ x ∷ []) n)) row
-          (subst (λ n. IsWilcoxon (sample value p) (segments_of value p segments) k (value_at value (scores ++ x ∷ []) n)) so_far.size
-          (subst (IsWilcoxon (sample value p) (segments_of value p segments) k) (ap (λ o. option_map_or (λ y. rational (value y)) o (whole (pos 0))) (sym (last_item scores x))) new))
+          subst (λ n. IsWilcoxon (sample value p) (segments_of value p segments) n (value_at (λ x. x) (scores ++ x ∷ []) n)) row
+          (subst (λ n. IsWilcoxon (sample value p) (segments_of value p segments) k (value_at (λ x. x) (scores ++ x ∷ []) n)) so_far.size
+          (subst (IsWilcoxon (sample value p) (segments_of value p segments) k) (ap (λ o. option_map_or (λ y. rational y) o (whole (pos 0))) (sym (last_item scores x))) new))
 
-  pub first_all : (k : ℕ) (scores : List F) → k ≡ length p.rows → AreFirst k scores → AreWilcoxon value p segments scores
+  pub first_all : (k : ℕ) (scores : List Fraction) → k ≡ length p.rows → AreFirst k scores → AreWilcoxon value p segments scores
   first_all k scores end all =
-      record { size = all.size ∙ end; each = subst (λ n. (i : ℕ) → i < n → IsWilcoxon (sample value p) (segments_of value p segments) i (value_at value scores i)) end all.each }
-
--- an operation of the Wilcoxon score of a row is one of those of all rows
-pub row_spill : {F : Type 0} (value : F → Fraction) (range : ℕ) (p : Problem F) (segments : List (Segment F)) (i : ℕ) (spill : Spill F) → i < length p.rows
-    → IsScoreSpillOf value range p (length p.rows) segments spill ⊎ IsIntegrationSpill value range (sample value p) (segments_of value p segments) i spill
-    → IsWilcoxonSpill value range p segments spill
-row_spill value range p segments i spill within (inl scored) = inl scored
-row_spill value range p segments i spill within (inr integrated) = inr (i, within, integrated)
+      record { size = all.size ∙ end; each = subst (λ n. (i : ℕ) → i < n → IsWilcoxon (sample value p) (segments_of value p segments) i (value_at (λ x. x) scores i)) end all.each }

@@ -25,7 +25,7 @@ pub record IsWilcoxon (p : Sample) (s : Segments) (i : ℕ) (x : ℚ) : Type 0 w
   pub each : (j : ℕ) → j < s.count → IsIntegral (score_along p s i j) (s.lo j) (s.hi j) (integrals j)
   pub sum : x ≡ sum_ℚ s.count integrals -ℚ half
 
--- one for each row of the problem
-pub record AreWilcoxon {F : Type 0} (value : F → Fraction) (p : Problem F) (segments : List (Segment F)) (scores : List F) : Type 0 where
+-- one for each row of the problem, as fractions of any size
+pub record AreWilcoxon {F : Type 0} (value : F → Fraction) (p : Problem F) (segments : List (Segment F)) (scores : List Fraction) : Type 0 where
   pub size : length scores ≡ length p.rows
-  pub each : (i : ℕ) → i < length p.rows → IsWilcoxon (sample value p) (segments_of value p segments) i (value_at value scores i)
+  pub each : (i : ℕ) → i < length p.rows → IsWilcoxon (sample value p) (segments_of value p segments) i (value_at (λ x. x) scores i)

@@ -221,13 +221,6 @@ fn the_gram_matrix_of_a_test_is_told(rt: HostRuntime) {
 }
 
 #[test]
-fn the_statistic_of_a_test_is_told(rt: HostRuntime) {
-    let want =
-        "quantreg: solver: Overflow place=test quantity=gram at=5,2 term=9 op=add left=7/2 right=-3\n";
-    expect_place(&rt, rt.alloc(), Place::Test, want);
-}
-
-#[test]
 fn the_costs_of_a_path_are_told(rt: HostRuntime) {
     let want =
         "quantreg: solver: Overflow place=path quantity=gram at=5,2 term=9 op=add left=7/2 right=-3\n";

@@ -5,6 +5,7 @@ ghost use Rattle.report_text.specs.ReportText.{IsPrintable};
 
 use frac_core::{Exact, Frac128, List, Text};
 use loss_model::Trail;
+use ratio::Ratio;
 use report_text::{Report, report_bytes};
 use std::alloc::Global;
 use std::process::Abort;
@@ -27,6 +28,22 @@ pub(crate) fn list(rt: &impl Abort, alloc: Global, numbers: &[(i128, i128)]) -> 
     let mut made = List::new(alloc);
     for (n, d) in numbers {
         push(rt, &mut made, fraction(*n, *d));
+    }
+    made
+}
+
+/// The fraction of a pair, of any size.
+pub(crate) fn ratio(rt: &impl Abort, alloc: Global, (n, d): (i128, i128)) -> Ratio {
+    Ratio::widen(alloc, fraction(n, d))
+        .ok()
+        .expect(rt, "memory")
+}
+
+/// Those of pairs.
+pub(crate) fn ratios(rt: &impl Abort, alloc: Global, numbers: &[(i128, i128)]) -> List<Ratio> {
+    let mut made = List::new(alloc);
+    for pair in numbers {
+        push(rt, &mut made, ratio(rt, alloc, *pair));
     }
     made
 }

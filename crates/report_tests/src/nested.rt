@@ -1,6 +1,6 @@
 //! The report of a rank test, byte for byte.
 
-use crate::helpers::{expect_report, fraction, list, no_trail, push, texts};
+use crate::helpers::{expect_report, no_trail, push, ratio, ratios, texts};
 use frac_core::List;
 use loss_model::Process;
 use report_text::{Report, TestFit};
@@ -37,8 +37,8 @@ fn fit(rt: &impl Abort, alloc: Global) -> TestFit {
             segments: List::new(alloc),
             trail: no_trail(alloc),
         },
-        scores: list(rt, alloc, &[(-1, 2), (4, 1)]),
-        statistic: fraction(18, 7),
+        scores: ratios(rt, alloc, &[(-1, 2), (4, 1)]),
+        statistic: ratio(rt, alloc, (18, 7)),
     }
 }
 

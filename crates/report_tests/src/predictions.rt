@@ -1,9 +1,9 @@
 //! The report of predictions, byte for byte.
 
-use crate::helpers::{expect_report, fraction, no_trail, push, texts};
+use crate::helpers::{expect_report, fraction, no_trail, push, ratio, texts};
 use frac_core::{Exact, Frac128, List};
 use loss_model::{Exchange, Process, Trail};
-use predict_steps::Step;
+use predict_steps::{RearrangedStep, Step};
 use report_text::{PredictFit, Prediction, Report};
 use std::alloc::Global;
 use std::process::Abort;
@@ -44,6 +44,23 @@ fn steps(rt: &impl Abort, alloc: Global, corners: &[Corners]) -> List<Step<Frac1
     steps
 }
 
+fn rearranged(
+    rt: &impl Abort,
+    alloc: Global,
+    corners: &[Corners],
+) -> List<RearrangedStep<Frac128>> {
+    let mut steps = List::new(alloc);
+    for (lo, hi, value) in corners {
+        let step = RearrangedStep {
+            lo: ratio(rt, alloc, *lo),
+            hi: ratio(rt, alloc, *hi),
+            value: fraction(value.0, value.1),
+        };
+        push(rt, &mut steps, step);
+    }
+    steps
+}
+
 fn two_pivots(rt: &impl Abort, alloc: Global) -> Trail<Frac128> {
     let mut trail = no_trail(alloc);
     for row in 0..2 {
@@ -62,7 +79,7 @@ fn predictions(rt: &impl Abort, alloc: Global) -> List<Prediction> {
     let prediction = Prediction {
         rec: 4,
         steps: steps(rt, alloc, &STEPS),
-        rearranged: steps(rt, alloc, &REARRANGED),
+        rearranged: rearranged(rt, alloc, &REARRANGED),
     };
     push(rt, &mut predictions, prediction);
     predictions

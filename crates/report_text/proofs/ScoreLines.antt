@@ -3,19 +3,19 @@ use Rattle.std.proofs.Common.{◌≡◌, ℕ, ◌+◌, ◌<◌, List, ◌++◌, 
 use Rattle.std.specs.List.{flat_map, zip}
 use Rattle.std.proofs.Math.Seq.{take-length}
 use Rattle.std.proofs.lemmas.Slice.Zip.{get_or-zip, length-zip}
-use Rattle.frac_core.specs.declared.frac128.Frac128.{Frac128}
+use Rattle.exact_algebra.specs.Fraction.{Fraction}
 use Rattle.report_text.specs.ReportText.{score_line}
 use Rattle.report_text.proofs.Duals.{flat_more}
 
-module _ (tested : List ℕ) (scores : List Frac128) (same : length scores ≡ length tested) where
-  abbrev beside : ℕ → Frac128 → ℕ × Frac128
+module _ (tested : List ℕ) (scores : List Fraction) (same : length scores ≡ length tested) where
+  abbrev beside : ℕ → Fraction → ℕ × Fraction
   beside column score = (column, score)
 
   size : length (zip tested scores) ≡ length tested
   size = omega (arith, length-zip tested scores, same)
 
   -- the step of the loop
-  pub scores_more : (k d : ℕ) (score : Frac128) (start page new : List ℕ) → k < length tested → score ≡ get_or scores k score
+  pub scores_more : (k d : ℕ) (score : Fraction) (start page new : List ℕ) → k < length tested → score ≡ get_or scores k score
       → page ≡ start ++ flat_map score_line (take k (zip tested scores)) → new ≡ page ++ score_line (beside (get_or tested k d) score)
       → new ≡ start ++ flat_map score_line (take (k + 1) (zip tested scores))
   scores_more k d score start page new within at_scores so_far more =

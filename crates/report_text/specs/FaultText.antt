@@ -26,7 +26,7 @@ use Rattle.report_text.specs.ReportText.{numbered, value}
 use Rattle.report_text.specs.declared.quantity.PrintedIndices.{PrintedIndices}
 use Rattle.report_text.specs.declared.quantity.PrintedIndices.TheVariants.{One, Two, Three}
 use Rattle.report_text.specs.declared.report.Place.{Place}
-use Rattle.report_text.specs.declared.report.Place.TheVariants.{Process, Interval, Check, Full, Gram, Test, Predict, Path}
+use Rattle.report_text.specs.declared.report.Place.TheVariants.{Process, Interval, Check, Full, Gram, Predict, Path}
 use Rattle.report_text.specs.declared.report.Refusal.{Refusal}
 use Rattle.report_text.specs.declared.report.Refusal.TheVariants.{TooLong, Table, Formula, RankWithPenalty, Design, Penalty, Program, Dependent, CertTooLong, Certificate, NoSuchColumn, AllTested, SmoothNotTaken, NothingToPredict, TooManyPredictions}
 use Rattle.report_text.specs.declared.report.Halt.{Halt}
@@ -107,7 +107,6 @@ place_text (Interval column tau) = codes "interval:" ++ decimal (column + 1) ++ 
 place_text Check = codes "check"
 place_text Full = codes "full"
 place_text Gram = codes "gram"
-place_text Test = codes "test"
 place_text (Predict rec) = codes "predict:" ++ decimal rec
 place_text Path = codes "path"
 

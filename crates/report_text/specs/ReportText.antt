@@ -14,6 +14,8 @@ use Rattle.frac_core.specs.declared.frac128.Frac128.{Frac128}
 use Rattle.cert_text.specs.Trees.{cert_text}
 use Rattle.cert_text.specs.declared.cert.Cert.{Cert}
 use Rattle.rankscores.specs.declared.pair.ScorePair.{ScorePair}
+use Rattle.ratio.specs.Text.{ratio_text}
+use Rattle.predict_steps.specs.declared.step.RearrangedStep.{RearrangedStep}
 use Rattle.predict_steps.specs.declared.step.Step.{Step}
 use Rattle.report_text.specs.declared.report.Fit.{Fit}
 use Rattle.report_text.specs.declared.report.RanksFit.{RanksFit}
@@ -114,8 +116,8 @@ fit_text fit =
     ++ flat_map (interval_line value) fit.intervals ++ codes "end\n"
 
 -- the Wilcoxon score of row i
-unfoldable pub wilcoxon_line : ℕ → Frac128 → List ℕ
-wilcoxon_line i score = codes "wilcoxon " ++ decimal i ++ codes " " ++ number_text_of (value score) ++ codes "\n"
+unfoldable pub wilcoxon_line : ℕ → Fraction → List ℕ
+wilcoxon_line i score = codes "wilcoxon " ++ decimal i ++ codes " " ++ ratio_text score ++ codes "\n"
 
 -- what stands before the Wilcoxon scores
 unfoldable pub ranks_head : Fit → List ℕ
@@ -168,12 +170,12 @@ unfoldable pub tested_line : List ℕ → List ℕ
 tested_line tested = codes "tested " ++ numbered tested_item 0 tested ++ codes "\n"
 
 -- the score of a column, counted from 1
-unfoldable pub score_line : ℕ × Frac128 → List ℕ
-score_line (column, score) = codes "score " ++ decimal (column + 1) ++ codes " " ++ number_text_of (value score) ++ codes "\n"
+unfoldable pub score_line : ℕ × Fraction → List ℕ
+score_line (column, score) = codes "score " ++ decimal (column + 1) ++ codes " " ++ ratio_text score ++ codes "\n"
 
 -- the statistic
-unfoldable pub statistic_line : Frac128 → List ℕ
-statistic_line statistic = codes "statistic " ++ number_text_of (value statistic) ++ codes "\n"
+unfoldable pub statistic_line : Fraction → List ℕ
+statistic_line statistic = codes "statistic " ++ ratio_text statistic ++ codes "\n"
 
 -- which columns are tested, and how many pivots were made without them
 unfoldable pub test_size : TestFit → List ℕ
@@ -191,10 +193,15 @@ test_text fit = test_head fit ++ flat_map score_line (zip fit.tested fit.scores)
 unfoldable pub step_line : Step Frac128 → List ℕ
 step_line s = codes "step " ++ number_text_of (value s.lo) ++ codes " " ++ number_text_of (value s.hi) ++ codes " " ++ number_text_of (value s.value) ++ codes "\n"
 
+-- the same of a rearrangement, whose steps have ends of any size
+unfoldable pub rearranged_line : RearrangedStep Frac128 → List ℕ
+rearranged_line s = codes "step " ++ ratio_text s.lo ++ codes " " ++ ratio_text s.hi ++ codes " " ++ number_text_of (value s.value) ++ codes "\n"
+
 -- what is predicted of a record: its steps, and their rearrangement
 unfoldable pub prediction_text : Prediction → List ℕ
 prediction_text p =
-    count_line (codes "predict") p.rec ++ flat_map step_line p.steps ++ count_line (codes "rearranged") p.rec ++ flat_map step_line p.rearranged
+    count_line (codes "predict") p.rec ++ flat_map step_line p.steps ++ count_line (codes "rearranged") p.rec
+    ++ flat_map rearranged_line p.rearranged
 
 -- what stands before the predictions
 unfoldable pub predict_head : PredictFit → List ℕ

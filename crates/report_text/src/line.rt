@@ -100,7 +100,6 @@ impl Page {
             Place::Check => self.put(b"check"),
             Place::Full => self.put(b"full"),
             Place::Gram => self.put(b"gram"),
-            Place::Test => self.put(b"test"),
             Place::Predict { rec } => self.put_predicted(rec),
             Place::Path => self.put(b"path"),
         }

@@ -243,12 +243,12 @@ pub fn report_bytes(alloc: Global, report: &Report) -> Result<Vec<u8>, OutOfMemo
     let mut page = Page::new(alloc);
     match report {
         Report::Process(fit) => page.fit(fit)?,
-        Report::Ranks(ranks) => page.ranks(ranks)?,
+        Report::Ranks(ranks) => page.ranks(alloc, ranks)?,
         Report::Certificate(cert) => return write_cert(alloc, cert),
         Report::Checked(cert) => page.checked(cert)?,
         Report::Sample(fit) => page.sample(fit)?,
-        Report::Test(fit) => page.test(fit)?,
-        Report::Predict(fit) => page.predict(fit)?,
+        Report::Test(fit) => page.test(alloc, fit)?,
+        Report::Predict(fit) => page.predict(alloc, fit)?,
         Report::Path(fit) => page.path(fit)?,
     }
     Ok(page.into_bytes())

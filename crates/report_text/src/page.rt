@@ -1,9 +1,11 @@
 ghost use Rattle.std.specs.Prelude.{◌≡◌, ◌++◌, ◌<◌, [], ◌∷◌, OnOk, decimal};
 ghost use Rattle.frac_core.specs.NumberText.{number_text_of};
+ghost use Rattle.ratio.specs.Text.{ratio_text};
 ghost use Rattle.report_text.specs.Names.{name_bytes, name_byte, hexadecimal};
 
 use frac_core::{Exact, OutOfMemory, Text};
 use itoa::Buffer;
+use ratio::Ratio;
 use std::alloc::Global;
 use std::marker::Model;
 
@@ -67,6 +69,14 @@ impl Page {
     {
         self.put(b" ")?;
         self.put_number(value)
+    }
+
+    /// Adds a fraction of any size, in the same text.
+    pub fn put_ratio(&mut self, alloc: Global, value: &Ratio) -> Result<(), OutOfMemory>
+        ensures { OnOk result (self.new ≡ self.old ++ ratio_text value.now) }
+    {
+        value.write(alloc, &mut self.bytes)?;
+        Ok(())
     }
 
     /// Adds a name, in which a control byte or a backslash is written as `\x` and two digits.

@@ -1,12 +1,13 @@
 //! The lines of a report of predictions.
 ghost use Rattle.std.specs.Prelude.{◌≡◌, ◌++◌, OnOk};
 ghost use Rattle.std.specs.List.{flat_map};
-ghost use Rattle.report_text.specs.ReportText.{predict_head, predict_text, prediction_text, step_line};
+ghost use Rattle.report_text.specs.ReportText.{predict_head, predict_text, prediction_text, rearranged_line, step_line};
 
 use crate::page::Page;
 use crate::report::{PredictFit, Prediction};
 use frac_core::{Frac128, OutOfMemory};
-use predict_steps::Step;
+use predict_steps::{RearrangedStep, Step};
+use std::alloc::Global;
 
 impl Page {
     #[tactic(auto, unfolding(crate::specs::ReportText::step_line))]
@@ -29,23 +30,56 @@ impl Page {
         Ok(())
     }
 
+    #[tactic(auto, unfolding(crate::specs::ReportText::rearranged_line))]
+    fn rearranged_line(
+        &mut self,
+        alloc: Global,
+        step: &RearrangedStep<Frac128>,
+    ) -> Result<(), OutOfMemory>
+        ensures { OnOk result (self.new ≡ self.old ++ rearranged_line step.now) }
+    {
+        self.put(b"step ")?;
+        self.put_ratio(alloc, &step.lo)?;
+        self.put(b" ")?;
+        self.put_ratio(alloc, &step.hi)?;
+        self.put_next(step.value)?;
+        self.put(b"\n")
+    }
+
+    fn rearranged_lines(
+        &mut self,
+        alloc: Global,
+        steps: &[RearrangedStep<Frac128>],
+    ) -> Result<(), OutOfMemory>
+        ensures { OnOk result (self.new ≡ self.old ++ flat_map rearranged_line steps.now) }
+    {
+        for step in steps {
+            self.rearranged_line(alloc, step)?;
+        }
+        Ok(())
+    }
+
     // The steps of a record's prediction, and their rearrangement.
     #[tactic(auto, unfolding(crate::specs::ReportText::prediction_text))]
-    fn prediction(&mut self, prediction: &Prediction) -> Result<(), OutOfMemory>
+    fn prediction(&mut self, alloc: Global, prediction: &Prediction) -> Result<(), OutOfMemory>
         ensures { OnOk result (self.new ≡ self.old ++ prediction_text prediction.now) }
     {
         self.count_line(b"predict", prediction.rec as u64)?;
         self.step_lines(prediction.steps.as_slice())?;
         self.count_line(b"rearranged", prediction.rec as u64)?;
-        self.step_lines(prediction.rearranged.as_slice())?;
+        self.rearranged_lines(alloc, prediction.rearranged.as_slice())?;
         Ok(())
     }
 
-    fn prediction_lines(&mut self, predictions: &[Prediction]) -> Result<(), OutOfMemory>
+    fn prediction_lines(
+        &mut self,
+        alloc: Global,
+        predictions: &[Prediction],
+    ) -> Result<(), OutOfMemory>
         ensures { OnOk result (self.new ≡ self.old ++ flat_map prediction_text predictions.now) }
     {
         for prediction in predictions {
-            self.prediction(prediction)?;
+            self.prediction(alloc, prediction)?;
         }
         Ok(())
     }
@@ -63,11 +97,11 @@ impl Page {
 
     /// Adds the report of predictions.
     #[tactic(auto, unfolding(crate::specs::ReportText::predict_text))]
-    pub(crate) fn predict(&mut self, fit: &PredictFit) -> Result<(), OutOfMemory>
+    pub(crate) fn predict(&mut self, alloc: Global, fit: &PredictFit) -> Result<(), OutOfMemory>
         ensures { OnOk result (self.new ≡ self.old ++ predict_text fit.now) }
     {
         self.predict_head(fit)?;
-        self.prediction_lines(fit.predictions.as_slice())?;
+        self.prediction_lines(alloc, fit.predictions.as_slice())?;
         self.put(b"end\n")
     }
 }

@@ -6,8 +6,9 @@ use design_matrix::DesignFault;
 use formula_parser::FormulaFault;
 use frac_core::{Frac128, List, Text};
 use loss_model::{Interval, Problem, Process, Spill, Trail};
-use predict_steps::Step;
+use predict_steps::{RearrangedStep, Step};
 use rankscores::ScorePair;
+use ratio::Ratio;
 use rq_program::ProgramFault;
 use rq_words::WordFault;
 use tv_penalty::PenaltyFault;
@@ -31,7 +32,7 @@ pub struct Fit {
 #[derive(Drop)]
 pub struct RanksFit {
     pub fit: Fit,
-    pub wilcoxon: List<Frac128>,
+    pub wilcoxon: List<Ratio>,
 }
 
 /// A rank test of nested models: the tested columns, counted from 0 and ascending, the process over 0 to 1 without them,
@@ -43,8 +44,8 @@ pub struct TestFit {
     pub names: List<Text>,
     pub tested: List<u32>,
     pub process: Process<Frac128>,
-    pub scores: List<Frac128>,
-    pub statistic: Frac128,
+    pub scores: List<Ratio>,
+    pub statistic: Ratio,
 }
 
 /// A fitted process, and what it predicts of each record whose response is missing and whose other
@@ -76,7 +77,7 @@ pub struct PathFit {
 pub struct Prediction {
     pub rec: u32,
     pub steps: List<Step<Frac128>>,
-    pub rearranged: List<Step<Frac128>>,
+    pub rearranged: List<RearrangedStep<Frac128>>,
 }
 
 /// What a job found.
@@ -147,9 +148,7 @@ pub enum Place {
     Full,
     /// In the Gram matrix of a whole problem, or in its inverse.
     Gram,
-    /// In the score of a tested column, or in the statistic.
-    Test,
-    /// In the prediction of a record, counted from 1, or in its rearrangement.
+    /// In the prediction of a record, counted from 1.
     Predict { rec: u32 },
     /// In the costs of a path problem.
     Path,

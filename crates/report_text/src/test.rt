@@ -5,7 +5,9 @@ ghost use Rattle.report_text.specs.ReportText.{numbered, score_line, statistic_l
 
 use crate::page::Page;
 use crate::report::TestFit;
-use frac_core::{Frac128, OutOfMemory};
+use frac_core::OutOfMemory;
+use ratio::Ratio;
+use std::alloc::Global;
 
 impl Page {
     // A tested column, with a comma before all but the first.
@@ -37,31 +39,37 @@ impl Page {
     }
 
     #[tactic(auto, unfolding(crate::specs::ReportText::score_line))]
-    fn score_line(&mut self, column: u32, score: Frac128) -> Result<(), OutOfMemory>
-        ensures { OnOk result (self.new ≡ self.old ++ score_line (column, score)) }
+    fn score_line(&mut self, alloc: Global, column: u32, score: &Ratio) -> Result<(), OutOfMemory>
+        ensures { OnOk result (self.new ≡ self.old ++ score_line (column, score.now)) }
     {
         self.put(b"score ")?;
         self.put_count(column as u64 + 1)?;
-        self.put_next(score)?;
+        self.put(b" ")?;
+        self.put_ratio(alloc, score)?;
         self.put(b"\n")
     }
 
-    fn score_lines(&mut self, tested: &[u32], scores: &[Frac128]) -> Result<(), OutOfMemory>
+    fn score_lines(
+        &mut self,
+        alloc: Global,
+        tested: &[u32],
+        scores: &[Ratio],
+    ) -> Result<(), OutOfMemory>
         requires { length scores.now ≡ length tested.now }
         ensures { OnOk result (self.new ≡ self.old ++ flat_map score_line (zip tested.now scores.now)) }
     {
         for (place, column) in tested.iter().enumerate() {
-            self.score_line(*column, scores[place])?;
+            self.score_line(alloc, *column, &scores[place])?;
         }
         Ok(())
     }
 
     #[tactic(auto, unfolding(crate::specs::ReportText::statistic_line))]
-    fn statistic_line(&mut self, statistic: Frac128) -> Result<(), OutOfMemory>
-        ensures { OnOk result (self.new ≡ self.old ++ statistic_line statistic) }
+    fn statistic_line(&mut self, alloc: Global, statistic: &Ratio) -> Result<(), OutOfMemory>
+        ensures { OnOk result (self.new ≡ self.old ++ statistic_line statistic.now) }
     {
         self.put(b"statistic ")?;
-        self.put_number(statistic)?;
+        self.put_ratio(alloc, statistic)?;
         self.put(b"\n")
     }
 
@@ -87,13 +95,13 @@ impl Page {
 
     /// Adds the report of a rank test.
     #[tactic(auto, unfolding(crate::specs::ReportText::test_text))]
-    pub(crate) fn test(&mut self, fit: &TestFit) -> Result<(), OutOfMemory>
+    pub(crate) fn test(&mut self, alloc: Global, fit: &TestFit) -> Result<(), OutOfMemory>
         requires { length fit.now.scores ≡ length fit.now.tested }
         ensures { OnOk result (self.new ≡ self.old ++ test_text fit.now) }
     {
         self.test_head(fit)?;
-        self.score_lines(fit.tested.as_slice(), fit.scores.as_slice())?;
-        self.statistic_line(fit.statistic)?;
+        self.score_lines(alloc, fit.tested.as_slice(), fit.scores.as_slice())?;
+        self.statistic_line(alloc, &fit.statistic)?;
         self.put(b"end\n")
     }
 }

@@ -1,7 +1,6 @@
 -- Why an input, or its problem, gives no report is why its bytes give none.
 use Rattle.std.specs.Prelude.{IfErr}
-use Rattle.std.proofs.Common.{ℕ, Bool, true, List, Result, Ok, Err, length, inl, inr}
-use Rattle.report_text.specs.declared.report.Place.TheVariants as places
+use Rattle.std.proofs.Common.{ℕ, Bool, List, Result, Ok, Err, length}
 use Rattle.report_text.specs.declared.report.Refusal.TheVariants.{TooLong, Dependent}
 use Rattle.report_text.specs.declared.report.Refusal.TheVariants as refusals
 use Rattle.report_text.specs.declared.report.Halt.{Halt}
@@ -10,9 +9,8 @@ use Rattle.rq_words.specs.declared.job.FitJob.{FitJob}
 use Rattle.rq_input.specs.Inputs.{HasInputCause, IsInput}
 use Rattle.rq_input.specs.Rows.{HasRows}
 use Rattle.rq_input.specs.declared.input.Input.{Input}
-use Rattle.rq_fit.specs.Ranks.{HasScoringCause}
 use Rattle.rq_fit.specs.Stops.{HasProblemCause}
-use Rattle.rq_engine.specs.Answers.{HasFitCause, HasRanksCause}
+use Rattle.rq_engine.specs.Answers.{HasFitCause}
 
 -- a halt by another name
 pub halt_along : {A : Type 0} (r : Result A Halt) (P Q : Halt → Type 0) → IfErr r P → ((halt : Halt) → P halt → Q halt) → IfErr r Q
@@ -62,36 +60,3 @@ problem_cause job ranked bytes input is rows OutOfMemory h = tt
 problem_cause job ranked bytes input is rows (PivotLimit place limit trail) h = record { input = input; is = is; rows = rows; cause = h }
 problem_cause job ranked bytes input is rows (Overflow place trail spill) h = record { input = input; is = is; rows = rows; cause = h }
 problem_cause job ranked bytes input is rows (Rejected rejection) h = absurd h
-
--- why there is no fit is why there are no Wilcoxon scores
-ranks_cause : (job : FitJob) (bytes : List ℕ) (halt : Halt) → HasFitCause job true bytes halt → HasRanksCause job bytes halt
-ranks_cause job bytes (Refused refusal) h = h
-ranks_cause job bytes OutOfMemory h = h
-ranks_cause job bytes (PivotLimit place limit trail) h = h
-ranks_cause job bytes (Overflow places.Process trail spill) h = inl h
-ranks_cause job bytes (Overflow (places.Interval column tau) trail spill) h = h
-ranks_cause job bytes (Overflow places.Check trail spill) h = h
-ranks_cause job bytes (Overflow (places.Predict rec) trail spill) h = h
-ranks_cause job bytes (Overflow places.Full trail spill) h = h
-ranks_cause job bytes (Overflow places.Gram trail spill) h = h
-ranks_cause job bytes (Overflow places.Test trail spill) h = h
-ranks_cause job bytes (Overflow places.Path trail spill) h = h
-ranks_cause job bytes (Rejected rejection) h = h
-
-pub ranks_input_cause : (job : FitJob) (bytes : List ℕ) (halt : Halt) → HasInputCause job true bytes halt → HasRanksCause job bytes halt
-ranks_input_cause job bytes halt h = ranks_cause job bytes halt (input_cause job true bytes halt h)
-
-pub ranks_scoring_cause : (job : FitJob) (bytes : List ℕ) (input : Input) → IsInput job true bytes input → HasRows input → (halt : Halt) → HasScoringCause job input halt → HasRanksCause job bytes halt
-ranks_scoring_cause job bytes input is rows (Refused refusal) h = problem_cause job true bytes input is rows (Refused refusal) h
-ranks_scoring_cause job bytes input is rows OutOfMemory h = problem_cause job true bytes input is rows OutOfMemory h
-ranks_scoring_cause job bytes input is rows (PivotLimit place limit trail) h = problem_cause job true bytes input is rows (PivotLimit place limit trail) h
-ranks_scoring_cause job bytes input is rows (Overflow places.Process trail spill) (inl h) = inl (problem_cause job true bytes input is rows (Overflow places.Process trail spill) h)
-ranks_scoring_cause job bytes input is rows (Overflow places.Process trail spill) (inr h) = inr (record { input = input; is = is; rows = rows; operation = h })
-ranks_scoring_cause job bytes input is rows (Overflow (places.Interval column tau) trail spill) h = problem_cause job true bytes input is rows (Overflow (places.Interval column tau) trail spill) h
-ranks_scoring_cause job bytes input is rows (Overflow places.Check trail spill) h = problem_cause job true bytes input is rows (Overflow places.Check trail spill) h
-ranks_scoring_cause job bytes input is rows (Overflow (places.Predict rec) trail spill) h = problem_cause job true bytes input is rows (Overflow (places.Predict rec) trail spill) h
-ranks_scoring_cause job bytes input is rows (Overflow places.Full trail spill) h = problem_cause job true bytes input is rows (Overflow places.Full trail spill) h
-ranks_scoring_cause job bytes input is rows (Overflow places.Gram trail spill) h = problem_cause job true bytes input is rows (Overflow places.Gram trail spill) h
-ranks_scoring_cause job bytes input is rows (Overflow places.Test trail spill) h = problem_cause job true bytes input is rows (Overflow places.Test trail spill) h
-ranks_scoring_cause job bytes input is rows (Overflow places.Path trail spill) h = problem_cause job true bytes input is rows (Overflow places.Path trail spill) h
-ranks_scoring_cause job bytes input is rows (Rejected rejection) h = problem_cause job true bytes input is rows (Rejected rejection) h

@@ -1,9 +1,5 @@
 -- Stated. What the engine is asked and answers.
 use Rattle.std.specs.Prelude.{◌⊎◌, ℕ, Bool, true, false, List, is_some, length}
-use Rattle.exact_algebra.specs.Fraction.{rational}
-use Rattle.frac_core.specs.declared.frac128.Frac128.{Frac128}
-use Rattle.loss_model.specs.declared.process.Trail.{Trail}
-use Rattle.loss_model.specs.declared.spill.Spill.{Spill}
 use Rattle.cert_text.specs.declared.cert.Cert.{Cert}
 use Rattle.rq_input.specs.Inputs.{HasInputCause, IsInput}
 use Rattle.rq_input.specs.Plain.{HasPlainCause, IsPlain}
@@ -18,7 +14,6 @@ use Rattle.rq_words.specs.declared.job.Job.{Job}
 use Rattle.rq_words.specs.declared.job.PathJob.{PathJob}
 use Rattle.rq_words.specs.declared.job.TestJob.{TestJob}
 use Rattle.rq_words.specs.declared.job.Job.TheVariants as jobs
-use Rattle.report_text.specs.ReportText.{value}
 use Rattle.report_text.specs.declared.report.Fit.{Fit}
 use Rattle.report_text.specs.declared.report.PathFit.{PathFit}
 use Rattle.report_text.specs.declared.report.PredictFit.{PredictFit}
@@ -28,14 +23,13 @@ use Rattle.report_text.specs.declared.report.Report.{Report}
 use Rattle.report_text.specs.declared.report.Report.TheVariants as reports
 use Rattle.rq_program.specs.declared.fault.ProgramFault.TheVariants.{TooManyRows}
 use Rattle.report_text.specs.declared.report.Refusal.TheVariants.{Dependent, CertTooLong, Program}
-use Rattle.report_text.specs.declared.report.Place.TheVariants as places
 use Rattle.report_text.specs.declared.report.Halt.{Halt}
 use Rattle.report_text.specs.declared.report.Halt.TheVariants.{Refused, PivotLimit, Overflow}
 use Rattle.rq_fit.specs.Fit.{IsFitOf}
 use Rattle.rq_fit.specs.Paths.{HasPathCause, IsPathFitOf}
 use Rattle.rq_fit.specs.Predicted.{HasPredictedCause, IsPredictFitOf}
 use Rattle.rq_fit.specs.Ranks.{AreRanksOf}
-use Rattle.rq_fit.specs.Stops.{HasProblemCause, IsScoringSpill, most}
+use Rattle.rq_fit.specs.Stops.{HasProblemCause}
 use Rattle.rq_fit.specs.Tested.{HasTestCause, IsTestFitOf}
 use Rattle.rq_engine.specs.Certificates.{IsCertificateOf, IsTooLong, IsWritten}
 use Rattle.rq_engine.specs.Checks.{HasCheckCause, IsCheckedOf}
@@ -102,18 +96,6 @@ HasFitCause job ranked bytes (PivotLimit place limit trail) = LacksFit job ranke
 HasFitCause job ranked bytes (Overflow place trail spill) = LacksFit job ranked bytes (Overflow place trail spill)
 HasFitCause job ranked bytes halt = HasInputCause job ranked bytes halt
 
--- the problem of the bytes has no Wilcoxon scores, since this operation overflows
-pub record LacksScores (job : FitJob) (bytes : List ℕ) (trail : Trail Frac128) (spill : Spill Frac128) : Type 0 where
-  pub input : Input
-  pub is : IsInput job true bytes input
-  pub rows : HasRows input
-  pub operation : IsScoringSpill value most input.problem (rational (value job.lo)) (rational (value job.hi)) job.limit trail spill
-
--- why bytes have no Wilcoxon scores: they have no fit, or such an operation overflows
-abbrev pub HasRanksCause : FitJob → List ℕ → Halt → Type 0
-HasRanksCause job bytes (Overflow places.Process trail spill) = HasFitCause job true bytes (Overflow places.Process trail spill) ⊎ LacksScores job bytes trail spill
-HasRanksCause job bytes halt = HasFitCause job true bytes halt
-
 -- the certificate of the bytes is too long, and its text has this length
 pub record HasLongCertificate (job : FitJob) (bytes : List ℕ) (n : ℕ) : Type 0 where
   pub cert : Cert
@@ -170,7 +152,7 @@ HasPathFitCause job bytes halt = HasPlainCause job.fit bytes halt
 -- why there is no report for the job
 abbrev pub HasCause : Job → List ℕ → Halt → Type 0
 HasCause (jobs.Process job) bytes halt = HasFitCause job (is_some job.rank) bytes halt
-HasCause (jobs.Ranks job) bytes halt = HasRanksCause job bytes halt
+HasCause (jobs.Ranks job) bytes halt = HasFitCause job true bytes halt
 HasCause (jobs.Certify job) bytes halt = HasCertifyCause job bytes halt
 HasCause jobs.Check bytes halt = HasCheckCause bytes halt
 HasCause (jobs.Test job) bytes halt = HasTestFitCause job bytes halt

@@ -30,7 +30,7 @@ use std::thread::Threads;
 /// - `PivotLimit` comes only where the lawful trail of the problem, or of a rank interval that its place names, has as
 ///   many pivots as the job's limit says and one more is left.
 /// - `Overflow` comes only where an operation overflows: of the solve at the low end, of the walk, of a rankscore, of the
-///   rank interval that its place names, of a Wilcoxon score, of a rank test, of the costs of a path, of a prediction or of
+///   rank interval that its place names, of the Gram matrix of a rank test, of the costs of a path, of a prediction or of
 ///   the checker.
 /// - `OutOfMemory` may come at any step.
 ///

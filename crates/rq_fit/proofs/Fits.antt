@@ -258,7 +258,6 @@ interval_cause job n p q scores results short scored (PivotLimit places.Check li
 interval_cause job n p q scores results short scored (PivotLimit (places.Predict rec) limit trail) h = absurd h
 interval_cause job n p q scores results short scored (PivotLimit places.Full limit trail) h = absurd h
 interval_cause job n p q scores results short scored (PivotLimit places.Gram limit trail) h = absurd h
-interval_cause job n p q scores results short scored (PivotLimit places.Test limit trail) h = absurd h
 interval_cause job n p q scores results short scored (PivotLimit places.Path limit trail) h = absurd h
 interval_cause job n p q scores results short scored (Overflow places.Process trail spill) h = absurd h
 interval_cause job n p q scores results short scored (Overflow (places.Interval column tau) trail spill) h =
@@ -267,7 +266,6 @@ interval_cause job n p q scores results short scored (Overflow places.Check trai
 interval_cause job n p q scores results short scored (Overflow (places.Predict rec) trail spill) h = absurd h
 interval_cause job n p q scores results short scored (Overflow places.Full trail spill) h = absurd h
 interval_cause job n p q scores results short scored (Overflow places.Gram trail spill) h = absurd h
-interval_cause job n p q scores results short scored (Overflow places.Test trail spill) h = absurd h
 interval_cause job n p q scores results short scored (Overflow places.Path trail spill) h = absurd h
 interval_cause job n p q scores results short scored (Rejected rejection) h = absurd h
 

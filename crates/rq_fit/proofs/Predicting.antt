@@ -1,5 +1,5 @@
 -- Predictions along a process, and why a row has none.
-use Rattle.std.proofs.Common.{◌≡◌, ◌<◌, ◌≤◌, ℕ, List, length, get_or, inr, refl, sym, subst}
+use Rattle.std.proofs.Common.{◌≡◌, ◌<◌, ◌≤◌, ℕ, List, length, get_or, refl, sym, subst}
 use Rattle.std.specs.List.{AllZip}
 use Rattle.exact_algebra.specs.Fraction.{rational}
 use Rattle.exact_algebra.specs.Rational.{ℚ}
@@ -20,7 +20,6 @@ use Rattle.predict_steps.specs.declared.step.Step.{Step}
 use Rattle.predict_steps.specs.Laws.{StepsCover}
 use Rattle.predict_steps.specs.Predictions.{pieces, AreSteps}
 use Rattle.predict_steps.specs.Rearranged.{AreJoined}
-use Rattle.predict_steps.specs.Spills.{IsRearrangementSpill}
 use Rattle.design_matrix.specs.declared.design.PredictRow.{PredictRow}
 use Rattle.rq_words.specs.declared.job.FitJob.{FitJob}
 use Rattle.report_text.specs.ReportText.{value}
@@ -40,17 +39,11 @@ module _ (segments : List (Segment Frac128)) (row : PredictRow) where
       → AreJoined lo hi (pieces value steps)
   joined p cover rows lo hi covers steps are = subst (AreJoined lo hi) (sym are) (cover rows lo hi row.x row.offsets covers)
 
-  -- an operation of their rearrangement is one of the row
-  pub rearranged_short : (lo hi : ℚ) (steps : List (Step Frac128)) → AreSteps value row.x row.offsets segments steps → (short : Short Frac128) → IsShortOf (IsRearrangementSpill value most lo hi row.rec (pieces value steps)) short
-      → IsShortOf (IsRowSpill lo hi segments row) short
-  rearranged_short lo hi steps are shorts.OutOfMemory h = tt
-  rearranged_short lo hi steps are (shorts.Overflow spill) h = inr (steps, are, h)
-
   -- the row at k has no prediction
-  pub lacking_at : (lo hi : ℚ) (rows : List PredictRow) (k : ℕ) → k < length rows → row ≡ get_or rows k row → (short : Short Frac128) → IsShortOf (IsRowSpill lo hi segments row) short
-      → IsShortOf (IsUnpredictedRow lo hi segments rows row.rec) short
-  lacking_at lo hi rows k within here shorts.OutOfMemory h = tt
-  lacking_at lo hi rows k within here (shorts.Overflow spill) h = record { row = row; there = (k, within, sym here); named = refl; operation = h }
+  pub lacking_at : (rows : List PredictRow) (k : ℕ) → k < length rows → row ≡ get_or rows k row → (short : Short Frac128) → IsShortOf (IsRowSpill segments row) short
+      → IsShortOf (IsUnpredictedRow segments rows row.rec) short
+  lacking_at rows k within here shorts.OutOfMemory h = tt
+  lacking_at rows k within here (shorts.Overflow spill) h = record { row = row; there = (k, within, sym here); named = refl; operation = h }
 
 -- why the problem of the rows has no process is why they have no predictions
 pub predict_stop : (job : FitJob) (asked : PredictionInput) (stop : Stop Frac128) → IsProcessStop value most asked.input.problem (rational (value job.lo)) (rational (value job.hi)) job.limit stop → HasPredictedCause job asked (stop_halt places.Process stop)
@@ -61,7 +54,7 @@ predict_stop job asked (stops.Dependent combination) h = h
 
 -- so is a row that has none, after the process
 pub predict_short : (job : FitJob) (asked : PredictionInput) (q : Process Frac128) → HasResults value asked.input.problem (rational (value job.lo)) (rational (value job.hi)) q → length q.trail.steps ≤ job.limit → (rec : ℕ) (short : Short Frac128)
-    → IsShortOf (IsUnpredictedRow (rational (value job.lo)) (rational (value job.hi)) q.segments asked.rows rec) short → HasPredictedCause job asked (short_halt (places.Predict rec) short q.trail)
+    → IsShortOf (IsUnpredictedRow q.segments asked.rows rec) short → HasPredictedCause job asked (short_halt (places.Predict rec) short q.trail)
 predict_short job asked q results short rec shorts.OutOfMemory h = tt
 predict_short job asked q results short rec (shorts.Overflow spill) h =
     record { segments = q.segments; results = results; short = short; row = h.row; there = h.there; named = h.named; operation = h.operation }

@@ -1,5 +1,5 @@
--- The fit of an input without penalty rows over 0 to 1, its Wilcoxon scores, and why there are none.
-use Rattle.std.proofs.Common.{◌≡◌, ◌<◌, ◌≤◌, ◌^◌, ℕ, All, length, pos, inl, inr, arith, sym, subst}
+-- The fit of an input without penalty rows over 0 to 1, whose rows can be scored.
+use Rattle.std.proofs.Common.{◌≡◌, ◌<◌, ◌≤◌, ℕ, All, length, pos, arith, sym, subst}
 use Rattle.std.proofs.lemmas.Int.{ints}
 use Rattle.exact_algebra.specs.Fraction.{rational}
 use Rattle.exact_algebra.specs.Rational.{ℚ, whole, ◌≤ℚ◌}
@@ -7,28 +7,18 @@ use Rattle.exact_algebra.proofs.RationalLaws.{≤ℚ_refl}
 use Rattle.exact_algebra.proofs.WholeNumbers.{whole-le}
 use Rattle.frac_core.specs.declared.frac128.Frac128.{Frac128}
 use Rattle.loss_model.specs.declared.problem.Problem.{Problem}
-use Rattle.loss_model.specs.declared.spill.Short.{Short}
-use Rattle.loss_model.specs.declared.spill.Short.TheVariants as shorts
 use Rattle.loss_model.specs.Dual.{IsDataRow}
 use Rattle.loss_model.specs.Problem.{sample}
-use Rattle.loss_model.specs.Quantities.{IsShortOf}
 use Rattle.loss_model.specs.Segment.{Covers, segments_of}
 use Rattle.rankscores.specs.Scores.{IsScorable}
-use Rattle.rankscores.specs.Spills.{IsWilcoxonSpill}
 use Rattle.rq_words.specs.declared.job.FitJob.{FitJob}
 use Rattle.report_text.specs.ReportText.{value}
 use Rattle.report_text.specs.declared.report.Fit.{Fit}
-use Rattle.report_text.specs.declared.report.Halt.{Halt}
-use Rattle.report_text.specs.declared.report.Place.TheVariants as places
-use Rattle.report_text.specs.declared.report.Halt.TheVariants.{Refused, OutOfMemory, PivotLimit, Overflow, Rejected}
 use Rattle.rq_input.specs.Rows.{HasRows}
 use Rattle.rq_input.specs.declared.input.Input.{Input}
 use Rattle.rq_fit.specs.Asks.{IsFitAsk, IsUnitAsk}
 use Rattle.rq_fit.specs.Fit.{IsFitOf, IsRightFit}
-use Rattle.rq_fit.specs.Halts.{short_halt}
-use Rattle.rq_fit.specs.Ranks.{HasScoringCause}
-use Rattle.rq_fit.specs.Stops.{HasProblemCause, IsScoringSpill, most}
-use Rattle.rq_fit.proofs.Fits.{few_segments, process_scorable}
+use Rattle.rq_fit.proofs.Fits.{process_scorable}
 
 -- ---- a job over 0 to 1
 
@@ -66,28 +56,3 @@ module _ (job : FitJob) (input : Input) (rows : HasRows input) (none : length in
 
   pub scorable_fit : All (IsScorable fit.problem) fit.process.segments
   scorable_fit = process_scorable value fit.problem lo hi fit.process is.right.process.results
-
-  pub few_fit : job.limit < 2 ^ 32 → length fit.process.segments ≤ 2 ^ 32
-  few_fit small = omega (arith, small, is.right.process.short, few_segments value fit.problem lo hi fit.process is.right.process.results)
-
-  pub scoring_short : (short : Short Frac128) → IsShortOf (IsWilcoxonSpill value most fit.problem fit.process.segments) short → HasScoringCause job input (short_halt places.Process short fit.process.trail)
-  scoring_short shorts.OutOfMemory h = tt
-  scoring_short (shorts.Overflow spill) h =
-      inr (subst (λ (p : Problem Frac128). IsScoringSpill value most p lo hi job.limit fit.process.trail spill) is.under.problem_is
-      (record { segments = fit.process.segments; results = is.right.process.results; short = is.right.process.short; operation = h }))
-
--- ---- why there are no scores
-
-pub scoring_fit : (job : FitJob) (input : Input) (halt : Halt) → HasProblemCause job (length input.design.rows) input.problem halt → HasScoringCause job input halt
-scoring_fit job input (Refused refusal) h = h
-scoring_fit job input OutOfMemory h = h
-scoring_fit job input (PivotLimit place limit trail) h = h
-scoring_fit job input (Overflow places.Process trail spill) h = inl h
-scoring_fit job input (Overflow (places.Interval column tau) trail spill) h = h
-scoring_fit job input (Overflow places.Check trail spill) h = h
-scoring_fit job input (Overflow (places.Predict rec) trail spill) h = h
-scoring_fit job input (Overflow places.Full trail spill) h = h
-scoring_fit job input (Overflow places.Gram trail spill) h = h
-scoring_fit job input (Overflow places.Test trail spill) h = h
-scoring_fit job input (Overflow places.Path trail spill) h = h
-scoring_fit job input (Rejected rejection) h = h

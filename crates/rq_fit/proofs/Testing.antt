@@ -1,7 +1,7 @@
 -- The rank test of an input: the process without the tested columns, the scores by it, and why there is none.
-use Rattle.std.proofs.Common.{◌≡◌, ◌<◌, ◌≤◌, ◌^◌, ℕ, zero, suc, List, [], ◌∷◌, All, length, map, pos, inl, inr, arith, refl, sym, ap, subst, ◌∙◌}
+use Rattle.std.proofs.Common.{◌≡◌, ◌<◌, ◌≤◌, ℕ, zero, suc, List, [], ◌∷◌, All, length, map, pos, arith, refl, sym, ap, subst, ◌∙◌}
 use Rattle.std.proofs.lemmas.List.{length-map}
-use Rattle.exact_algebra.specs.Fraction.{rational}
+use Rattle.exact_algebra.specs.Fraction.{Fraction, rational}
 use Rattle.exact_algebra.specs.Rational.{ℚ, neg_ℚ, whole, ◌≤ℚ◌}
 use Rattle.std.specs.declared.cmp.Ordering.TheVariants.{Less}
 use Rattle.exact_algebra.specs.Order.{cmp_ℚ}
@@ -9,24 +9,20 @@ use Rattle.exact_algebra.proofs.RationalLaws.{≤ℚ_trans}
 use Rattle.frac_core.specs.declared.frac128.Frac128.{Frac128}
 use Rattle.loss_model.specs.declared.problem.Problem.{Problem}
 use Rattle.loss_model.specs.declared.process.Process.{Process}
-use Rattle.loss_model.specs.declared.spill.Short.{Short}
-use Rattle.loss_model.specs.declared.spill.Short.TheVariants as shorts
 use Rattle.loss_model.specs.declared.stop.Stop.{Stop}
 use Rattle.loss_model.specs.declared.stop.Stop.TheVariants as stops
 use Rattle.loss_model.specs.Dual.{IsDataRow}
 use Rattle.loss_model.specs.FullRank.{HasFullRank}
 use Rattle.loss_model.specs.declared.problem.Row.{Row}
-use Rattle.loss_model.specs.Problem.{IsWellShaped, of_row, sample, value_at}
-use Rattle.loss_model.specs.Quantities.{IsShortOf}
+use Rattle.loss_model.specs.Problem.{IsWellShaped, of_row, sample}
 use Rattle.loss_model.specs.Segment.{Covers, segments_of}
 use Rattle.loss_model.specs.StartStop.{IsStartStop}
 use Rattle.pivot_rule.specs.Duals.{HasCosts}
 use Rattle.tau_process.specs.Processes.{IsProcess}
 use Rattle.tau_process.specs.Stops.{IsProcessStop}
 use Rattle.rankscores.specs.Scores.{IsScorable}
-use Rattle.rankscores.specs.Spills.{IsWilcoxonSpill}
 use Rattle.nested_test.specs.Laws.{RestrictedHasDataRows, RestrictedHasFullRank}
-use Rattle.nested_test.specs.Operations.{IsNestedStop}
+use Rattle.nested_test.specs.Stops.{IsNestedStop}
 use Rattle.nested_test.specs.Restricted.{AreTested, restricted_problem, restricted_row}
 use Rattle.nested_test.specs.declared.stop.NestedStop.{NestedStop}
 use Rattle.nested_test.specs.declared.stop.NestedStop.TheVariants as tests
@@ -41,11 +37,11 @@ use Rattle.rq_input.specs.Rows.{HasRows}
 use Rattle.rq_input.specs.Tested.{AreColumns}
 use Rattle.rq_input.specs.declared.input.Input.{Input}
 use Rattle.rq_fit.specs.Asks.{IsFitAsk, IsUnitAsk}
-use Rattle.rq_fit.specs.Halts.{nested_halt, short_halt, stop_halt}
+use Rattle.rq_fit.specs.Halts.{nested_halt, stop_halt}
 use Rattle.rq_fit.specs.Stops.{most}
 use Rattle.rq_fit.specs.Tested.{AreScoredBy, HasScoredCause, HasTestCause}
 use Rattle.rq_fit.proofs.Costs.{IsCosted, data_costs}
-use Rattle.rq_fit.proofs.Fits.{few_segments, process_scorable}
+use Rattle.rq_fit.proofs.Fits.{process_scorable}
 use Rattle.rq_fit.proofs.Scoring.{unit_ask}
 
 pub are_tested : (columns : ℕ) (tested : List ℕ) → AreColumns columns tested → AreTested columns tested
@@ -114,20 +110,12 @@ module _ (job : FitJob) (ask : IsUnitAsk job) (q : Problem Frac128) (walked : Pr
   pub scorable : All (IsScorable q) walked.segments
   scorable = process_scorable value q (rational (value job.lo)) (rational (value job.hi)) walked made.results
 
-  pub few_walked : job.limit < 2 ^ 32 → length walked.segments ≤ 2 ^ 32
-  few_walked small = omega (arith, small, short, few_segments value q (rational (value job.lo)) (rational (value job.hi)) walked made.results)
-
-  -- why its rows have no Wilcoxon scores
-  pub scored_short : (why : Short Frac128) → IsShortOf (IsWilcoxonSpill value most q walked.segments) why → HasScoredCause job q (short_halt places.Process why walked.trail)
-  scored_short shorts.OutOfMemory h = tt
-  scored_short (shorts.Overflow spill) h = inr (record { segments = walked.segments; results = made.results; short = short; operation = h })
-
 -- why there is no process: its columns are independent
 pub scored_stop : (job : FitJob) (q : Problem Frac128) → HasFullRank (sample value q) → (stop : Stop Frac128) → IsProcessStop value most q (rational (value job.lo)) (rational (value job.hi)) job.limit stop
     → HasScoredCause job q (stop_halt places.Process stop)
 scored_stop job q rank stops.OutOfMemory h = tt
 scored_stop job q rank (stops.PivotLimit limit trail) h = h
-scored_stop job q rank (stops.Overflow trail spill) h = inl h
+scored_stop job q rank (stops.Overflow trail spill) h = h
 scored_stop job q rank (stops.Dependent combination) h = absurd (h.dependence.some (rank _ h.dependence.zero h.dependence.column h.dependence.within))
 
 -- so it is of the problem that was made without the tested columns
@@ -139,10 +127,7 @@ module _ (job : FitJob) (p : Problem Frac128) (tested : List ℕ) (q : Problem F
       subst (λ (q : Problem Frac128). HasScoredCause job q (stop_halt places.Process stop)) is
       (scored_stop job q (subst (λ (q : Problem Frac128). HasFullRank (sample value q)) (sym is) full) stop h)
 
-  pub short_there : (halt : Halt) → HasScoredCause job q halt → HasScoredCause job (restricted_problem tested p) halt
-  short_there halt h = subst (λ (q : Problem Frac128). HasScoredCause job q halt) is h
-
-  pub scored_there : (walked : Process Frac128) (wilcoxon : List Frac128) → AreScoredBy job q walked wilcoxon → AreScoredBy job (restricted_problem tested p) walked wilcoxon
+  pub scored_there : (walked : Process Frac128) (wilcoxon : List Fraction) → AreScoredBy job q walked wilcoxon → AreScoredBy job (restricted_problem tested p) walked wilcoxon
   scored_there walked wilcoxon by = subst (λ (q : Problem Frac128). AreScoredBy job q walked wilcoxon) is by
 
 -- ---- the input
@@ -164,16 +149,12 @@ module _ (job : TestJob) (input : Input) where
   scored_cause rank (PivotLimit place limit trail) h = (rank, h)
   scored_cause rank (Overflow places.Full trail spill) h = absurd h
   scored_cause rank (Overflow places.Gram trail spill) h = absurd h
-  scored_cause rank (Overflow places.Test trail spill) h = absurd h
   scored_cause rank halt h = h
 
-  -- there is no statistic by these scores
-  pub nested_cause : (q : Process Frac128) (wilcoxon : List Frac128) → AreScoredBy job.fit (restricted_problem job.tested input.problem) q wilcoxon → (stop : NestedStop Frac128)
-      → IsNestedStop value most input.problem job.tested (value_at value wilcoxon) stop → HasTestCause job input (nested_halt stop q.trail)
-  nested_cause q wilcoxon by tests.OutOfMemory h = tt
-  nested_cause q wilcoxon by (tests.Gram trail spill) h = h
-  nested_cause q wilcoxon by (tests.Statistic spill) h =
-      record { segments = q.segments; results = by.process.results; short = by.process.short; wilcoxon = wilcoxon; scored = by.scores; operation = h }
+  -- there is no statistic
+  pub nested_cause : (stop : NestedStop Frac128) → IsNestedStop value most input.problem stop → HasTestCause job input (nested_halt stop)
+  nested_cause tests.OutOfMemory h = tt
+  nested_cause (tests.Gram trail spill) h = h
 
-  pub wilcoxon_size : (q : Process Frac128) (wilcoxon : List Frac128) → AreScoredBy job.fit (restricted_problem job.tested input.problem) q wilcoxon → length wilcoxon ≡ length input.problem.rows
+  pub wilcoxon_size : (q : Process Frac128) (wilcoxon : List Fraction) → AreScoredBy job.fit (restricted_problem job.tested input.problem) q wilcoxon → length wilcoxon ≡ length input.problem.rows
   wilcoxon_size q wilcoxon by = by.scores.size ∙ length-map input.problem.rows (restricted_row job.tested)

@@ -12,7 +12,7 @@ use Rattle.lambda_path.specs.declared.fault.PathFault.TheVariants as faults
 use Rattle.rq_program.specs.declared.fault.ProgramFault.TheVariants.{TooManyRows}
 use Rattle.report_text.specs.declared.report.Refusal.TheVariants.{Dependent, Program}
 use Rattle.report_text.specs.declared.report.Place.{Place}
-use Rattle.report_text.specs.declared.report.Place.TheVariants.{Interval, Gram, Test, Path}
+use Rattle.report_text.specs.declared.report.Place.TheVariants.{Interval, Gram, Path}
 use Rattle.report_text.specs.declared.report.Halt.{Halt}
 use Rattle.report_text.specs.declared.report.Halt.TheVariants.{Refused, OutOfMemory, PivotLimit, Overflow}
 use Rattle.interval_jobs.specs.declared.asks.IntervalStop.{IntervalStop}
@@ -40,8 +40,7 @@ abbrev pub short_halt : Place → Short Frac128 → Trail Frac128 → Halt
 short_halt place shorts.OutOfMemory trail = OutOfMemory
 short_halt place (shorts.Overflow spill) trail = Overflow place trail spill
 
--- that of a test without a statistic, after the process
-abbrev pub nested_halt : NestedStop Frac128 → Trail Frac128 → Halt
-nested_halt tests.OutOfMemory whole = OutOfMemory
-nested_halt (tests.Gram trail spill) whole = Overflow Gram trail spill
-nested_halt (tests.Statistic spill) whole = Overflow Test whole spill
+-- that of a test without a statistic
+abbrev pub nested_halt : NestedStop Frac128 → Halt
+nested_halt tests.OutOfMemory = OutOfMemory
+nested_halt (tests.Gram trail spill) = Overflow Gram trail spill

@@ -1,5 +1,5 @@
 -- Stated. The right predictions of an input over a range of quantiles, and why there are none.
-use Rattle.std.specs.Prelude.{◌≡◌, ◌⊎◌, ℕ, ◌≤◌, List, Contains, length, ⊤}
+use Rattle.std.specs.Prelude.{◌≡◌, ℕ, ◌≤◌, List, Contains, length, ⊤}
 use Rattle.std.specs.List.{AllZip}
 use Rattle.exact_algebra.specs.Fraction.{rational}
 use Rattle.exact_algebra.specs.Rational.{ℚ}
@@ -12,10 +12,9 @@ use Rattle.loss_model.specs.StartStop.{IsDependent}
 use Rattle.walk_rule.specs.WalkTrails.{ReachesProcessLimit}
 use Rattle.tau_process.specs.Processes.{HasResults}
 use Rattle.tau_process.specs.Stops.{IsProcessSpill}
-use Rattle.predict_steps.specs.declared.step.Step.{Step}
-use Rattle.predict_steps.specs.Predictions.{pieces, AreSteps}
+use Rattle.predict_steps.specs.Predictions.{pieces, rearranged_pieces, AreSteps}
 use Rattle.predict_steps.specs.Rearranged.{IsRearrangement}
-use Rattle.predict_steps.specs.Spills.{IsRearrangementSpill, IsStepsSpill}
+use Rattle.predict_steps.specs.Spills.{IsStepsSpill}
 use Rattle.design_matrix.specs.declared.design.PredictRow.{PredictRow}
 use Rattle.rq_words.specs.declared.job.FitJob.{FitJob}
 use Rattle.report_text.specs.ReportText.{value}
@@ -33,7 +32,7 @@ use Rattle.rq_fit.specs.Stops.{most}
 pub record IsPredictionBy (lo hi : ℚ) (segments : List (Segment Frac128)) (row : PredictRow) (prediction : Prediction) : Type 0 where
   pub named : prediction.rec ≡ row.rec
   pub steps : AreSteps value row.x row.offsets segments prediction.steps
-  pub rearranged : IsRearrangement lo hi (pieces value prediction.steps) (pieces value prediction.rearranged)
+  pub rearranged : IsRearrangement lo hi (pieces value prediction.steps) (rearranged_pieces value prediction.rearranged)
 
 -- the right process of the problem of the input, and the predictions along it of the rows that are asked; what is told
 -- beside is the design's
@@ -47,11 +46,9 @@ pub record IsPredictFitOf (job : FitJob) (asked : PredictionInput) (fit : Predic
 
 -- ---- why there are none
 
--- an operation of the prediction of a row overflows, or one of its rearrangement
-abbrev pub IsRowSpill : ℚ → ℚ → List (Segment Frac128) → PredictRow → Spill Frac128 → Type 0
-IsRowSpill lo hi segments row spill =
-    IsStepsSpill value most row.rec row.x row.offsets segments spill
-    ⊎ ((steps : List (Step Frac128)) × AreSteps value row.x row.offsets segments steps × IsRearrangementSpill value most lo hi row.rec (pieces value steps) spill)
+-- an operation of the prediction of a row overflows
+abbrev pub IsRowSpill : List (Segment Frac128) → PredictRow → Spill Frac128 → Type 0
+IsRowSpill segments row spill = IsStepsSpill value most row.rec row.x row.offsets segments spill
 
 -- the process is at its end within the limit, and then such an operation of the row of this record overflows
 pub record LacksPrediction (job : FitJob) (asked : PredictionInput) (rec : ℕ) (trail : Trail Frac128) (spill : Spill Frac128) : Type 0 where
@@ -61,7 +58,7 @@ pub record LacksPrediction (job : FitJob) (asked : PredictionInput) (rec : ℕ) 
   pub row : PredictRow
   pub there : Contains asked.rows row
   pub named : rec ≡ row.rec
-  pub operation : IsRowSpill (rational (value job.lo)) (rational (value job.hi)) segments row spill
+  pub operation : IsRowSpill segments row spill
 
 -- why an input has no predictions: dependent columns, a limit that is reached, or an operation that overflows, in the
 -- process or in a prediction. Want of memory is free of a cause

@@ -1,6 +1,5 @@
--- Stated. The right fit of an input over 0 to 1 with the Wilcoxon scores of its rows, and why there is none.
-use Rattle.std.specs.Prelude.{◌⊎◌, length, pos}
-use Rattle.exact_algebra.specs.Fraction.{rational}
+-- Stated. The right fit of an input over 0 to 1 with the Wilcoxon scores of its rows.
+use Rattle.std.specs.Prelude.{length, pos}
 use Rattle.exact_algebra.specs.Rational.{whole}
 use Rattle.loss_model.specs.Segment.{Covers, segments_of}
 use Rattle.rankscores.specs.Wilcoxon.{AreWilcoxon}
@@ -8,11 +7,7 @@ use Rattle.rq_input.specs.declared.input.Input.{Input}
 use Rattle.rq_words.specs.declared.job.FitJob.{FitJob}
 use Rattle.report_text.specs.ReportText.{value}
 use Rattle.report_text.specs.declared.report.RanksFit.{RanksFit}
-use Rattle.report_text.specs.declared.report.Place.TheVariants.{Process}
-use Rattle.report_text.specs.declared.report.Halt.{Halt}
-use Rattle.report_text.specs.declared.report.Halt.TheVariants.{Overflow}
 use Rattle.rq_fit.specs.Fit.{IsFitOf}
-use Rattle.rq_fit.specs.Stops.{HasProblemCause, IsScoringSpill, most}
 
 -- the segments of a right fit cover 0 to 1, and these are the Wilcoxon scores of its rows (Gutenbrunner and Jurečková
 -- 1992)
@@ -20,10 +15,3 @@ pub record AreRanksOf (job : FitJob) (input : Input) (ranks : RanksFit) : Type 0
   pub fit : IsFitOf job input ranks.fit
   pub covers : Covers (length ranks.fit.problem.rows) (whole (pos 0)) (whole (pos 1)) (segments_of value ranks.fit.problem ranks.fit.process.segments)
   pub wilcoxon : AreWilcoxon value ranks.fit.problem ranks.fit.process.segments ranks.wilcoxon
-
--- why there are no scores: the problem of the input has no fit, or an operation of the scores overflows
-abbrev pub HasScoringCause : FitJob → Input → Halt → Type 0
-HasScoringCause job input (Overflow Process trail spill) =
-    HasProblemCause job (length input.design.rows) input.problem (Overflow Process trail spill)
-    ⊎ IsScoringSpill value most input.problem (rational (value job.lo)) (rational (value job.hi)) job.limit trail spill
-HasScoringCause job input halt = HasProblemCause job (length input.design.rows) input.problem halt

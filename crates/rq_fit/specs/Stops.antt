@@ -1,4 +1,4 @@
--- Stated. Why a problem has no fit, no rank intervals or no Wilcoxon scores.
+-- Stated. Why a problem has no fit or no rank intervals.
 use Rattle.std.specs.Prelude.{◌≡◌, ◌⊎◌, ℕ, ◌^◌, ◌-◌, ◌≤◌, List, [], length, slice_get, Some, ⊤}
 use Rattle.std.specs.List.{AllZip}
 use Rattle.exact_algebra.specs.Fraction.{Fraction, rational}
@@ -24,7 +24,7 @@ use Rattle.report_text.specs.declared.report.Halt.TheVariants.{Refused, OutOfMem
 use Rattle.report_text.specs.ReportText.{value}
 use Rattle.rankscores.specs.declared.pair.ScorePair.{ScorePair}
 use Rattle.rankscores.specs.Scores.{IsScored}
-use Rattle.rankscores.specs.Spills.{IsScoresSpill, IsWilcoxonSpill}
+use Rattle.rankscores.specs.Spills.{IsScoresSpill}
 use Rattle.rq_fit.specs.Intervals.{IsFirstStop, asked_by}
 
 -- the first n rows are data rows
@@ -47,14 +47,6 @@ module _ {F : Type 0} (value : F → Fraction) (range : ℕ) (p : Problem F) (n 
   abbrev pub IsFitSpill : ℚ → ℚ → ℕ → Trail F → Spill F → Type 0
   IsFitSpill lo hi limit trail spill =
       IsProcessSpill value range p lo hi limit trail spill ⊎ IsResultSpill lo hi limit trail spill
-
--- after the walk: the lawful trail is at its end within the limit, and an operation of the Wilcoxon scores over its
--- segments overflows
-pub record IsScoringSpill {F : Type 0} (value : F → Fraction) (range : ℕ) (p : Problem F) (lo hi : ℚ) (limit : ℕ) (trail : Trail F) (spill : Spill F) : Type 0 where
-  pub segments : List (Segment F)
-  pub results : HasResults value p lo hi (record { segments = segments; trail = trail })
-  pub short : length trail.steps ≤ limit
-  pub operation : IsWilcoxonSpill value range p segments spill
 
 -- where nothing was solved there is no trail
 abbrev pub no_trail : Trail Frac128

@@ -76,20 +76,15 @@ pub(crate) fn short_halt(place: Place, short: Short<Frac128>, trail: Trail<Frac1
     }
 }
 
-/// The halt of a test without a statistic, after the process, whose trail is whole.
-pub(crate) fn nested_halt(stop: NestedStop<Frac128>, whole: Trail<Frac128>) -> Halt
-    ensures { result ≡ nested_halt_of stop whole }
+/// The halt of a test without a statistic.
+pub(crate) fn nested_halt(stop: NestedStop<Frac128>) -> Halt
+    ensures { result ≡ nested_halt_of stop }
 {
     match stop {
         NestedStop::OutOfMemory => Halt::OutOfMemory,
         NestedStop::Gram { trail, spill } => Halt::Overflow {
             place: Place::Gram,
             trail,
-            spill,
-        },
-        NestedStop::Statistic(spill) => Halt::Overflow {
-            place: Place::Test,
-            trail: whole,
             spill,
         },
     }

@@ -44,8 +44,7 @@ fn prediction_of(
     requires asked { HasEntries problem.now.columns row.now }
     ensures predicted { (lo hi : ℚ) → Covers (length problem.now.rows) lo hi (segments_of value problem.now process.now.segments)
         → IfOk result (IsPredictionBy lo hi process.now.segments row.now) }
-    ensures spilled { (lo hi : ℚ) → Covers (length problem.now.rows) lo hi (segments_of value problem.now process.now.segments)
-        → IfErr result (IsShortOf (IsRowSpill lo hi process.now.segments row.now)) }
+    ensures spilled { IfErr result (IsShortOf (IsRowSpill process.now.segments row.now)) }
 {
     cover(problem, process);
     let rec = row.rec;
@@ -56,7 +55,7 @@ fn prediction_of(
         row.offsets.as_slice(),
         rec,
     )?;
-    let rearranged = rearrange(alloc, steps.as_slice(), rec)?;
+    let rearranged = rearrange(alloc, steps.as_slice())?;
     Ok(Prediction {
         rec,
         steps,
@@ -77,8 +76,7 @@ fn predictions_of(
     requires asked { All (HasEntries problem.now.columns) rows.now }
     ensures predicted { (lo hi : ℚ) → Covers (length problem.now.rows) lo hi (segments_of value problem.now process.now.segments)
         → IfOk result (AllZip (IsPredictionBy lo hi process.now.segments) rows.now) }
-    ensures lacking { (lo hi : ℚ) → Covers (length problem.now.rows) lo hi (segments_of value problem.now process.now.segments)
-        → IfErr result (IsUnpredicted lo hi process.now.segments rows.now) }
+    ensures lacking { IfErr result (IsUnpredicted process.now.segments rows.now) }
 {
     let mut predictions = List::new(alloc);
     for row in rows {

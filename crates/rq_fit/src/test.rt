@@ -12,7 +12,7 @@ ghost use Rattle.rq_input.specs.Tested.{AreColumns};
 ghost use Rattle.rq_fit.specs.Asks.{IsUnitAsk};
 ghost use Rattle.rq_fit.specs.Tested.{AreScoredBy, HasScoredCause, HasTestCause, IsTestFitOf};
 
-use crate::halt::{nested_halt, short_halt, stop_halt};
+use crate::halt::{nested_halt, stop_halt};
 use basis_inverse::start;
 use design_matrix::Design;
 use frac_core::{Frac128, List, OutOfMemory};
@@ -20,6 +20,7 @@ use loss_model::{Problem, Process};
 use nested_test::laws::restricted_is_askable;
 use nested_test::{NestedStatistic, nested, restricted};
 use rankscores::wilcoxon;
+use ratio::Ratio;
 use report_text::{Halt, Place, TestFit};
 use rq_input::Input;
 use rq_words::TestJob;
@@ -30,7 +31,7 @@ use tau_process::process;
 #[derive(Drop)]
 struct ScoredProcess {
     process: Process<Frac128>,
-    wilcoxon: List<Frac128>,
+    wilcoxon: List<Ratio>,
 }
 
 fn scored(alloc: Global, job: &TestJob, full: &Problem<Frac128>) -> Result<ScoredProcess, Halt>
@@ -54,7 +55,7 @@ fn scored(alloc: Global, job: &TestJob, full: &Problem<Frac128>) -> Result<Score
     };
     match wilcoxon(alloc, &problem, &process) {
         Ok(wilcoxon) => Ok(ScoredProcess { process, wilcoxon }),
-        Err(short) => Err(short_halt(Place::Process, short, process.trail)),
+        Err(OutOfMemory) => Err(Halt::OutOfMemory),
     }
 }
 
@@ -63,7 +64,7 @@ fn fit_of(
     design: Design,
     tested: List<u32>,
     process: Process<Frac128>,
-    found: NestedStatistic<Frac128>,
+    found: NestedStatistic,
 ) -> TestFit
     requires { length design.rows < 2 ^ 32 }
     ensures kept { result.kept ≡ length design.rows }
@@ -95,9 +96,8 @@ fn fit_of(
 /// statistic. The input has no penalty rows.
 ///
 /// `Dependent` and `Overflow` at `Full` are those of the start of the whole problem; `PivotLimit` and `Overflow` of the
-/// process are those of `process`, and then of a Wilcoxon score, with the whole trail. `Overflow` at `Gram` is one of the
-/// Gram matrix or of its inverse, with the trail of `nested`, and at `Test` one of a score or of the statistic, with the
-/// whole trail of the process. `OutOfMemory` may come at any step, and no other halt comes.
+/// process are those of `process`. `Overflow` at `Gram` is one of the Gram matrix or of its inverse, with the trail of
+/// `nested`. `OutOfMemory` may come at any step, and no other halt comes: scores and statistic are of any size.
 pub fn test_input(alloc: Global, job: &TestJob, input: Input) -> Result<TestFit, Halt>
     requires ask { IsUnitAsk job.now.fit }
     requires rows { HasRows input }
@@ -119,7 +119,7 @@ pub fn test_input(alloc: Global, job: &TestJob, input: Input) -> Result<TestFit,
     let tested = job.tested.as_slice();
     let found = match nested(alloc, full, tested, wilcoxon.as_slice()) {
         Ok(found) => found,
-        Err(stop) => return Err(nested_halt(stop, process.trail)),
+        Err(stop) => return Err(nested_halt(stop)),
     };
     match List::copy(alloc, tested) {
         Ok(tested) => Ok(fit_of(input.design, tested, process, found)),

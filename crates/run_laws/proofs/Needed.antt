@@ -49,7 +49,7 @@ use Rattle.rq_input.proofs.PlainInputs.{plain_rows}
 use Rattle.rq_input.proofs.TestedInputs.{ranked_rows}
 use Rattle.run_laws.proofs.AskedInputs.{asked_input}
 use Rattle.run_laws.proofs.AskedIntervals.{asked_there, inner_costs}
-use Rattle.run_laws.proofs.Spilled.{of_first, of_fit, of_row, of_scored, of_test, of_wilcoxon}
+use Rattle.run_laws.proofs.Spilled.{of_first, of_fit, of_row, of_scored}
 
 -- ---- a limit
 
@@ -84,7 +84,6 @@ reached fit ranked bytes places.Check limit trail ask h = absurd h.cause
 reached fit ranked bytes (places.Predict rec) limit trail ask h = absurd h.cause
 reached fit ranked bytes places.Full limit trail ask h = absurd h.cause
 reached fit ranked bytes places.Gram limit trail ask h = absurd h.cause
-reached fit ranked bytes places.Test limit trail ask h = absurd h.cause
 reached fit ranked bytes places.Path limit trail ask h = absurd h.cause
 
 predict_reached : (fit : FitJob) (bytes : List ℕ) (place : Place) (limit : ℕ) (trail : Trail Frac128) → IsFitAsk fit → (h : LacksPredictFit fit bytes (PivotLimit place limit trail)) → ReachesLimitAt place fit h.asked.input.problem limit trail
@@ -94,7 +93,6 @@ predict_reached fit bytes places.Check limit trail ask h = absurd h.cause
 predict_reached fit bytes (places.Predict rec) limit trail ask h = absurd h.cause
 predict_reached fit bytes places.Full limit trail ask h = absurd h.cause
 predict_reached fit bytes places.Gram limit trail ask h = absurd h.cause
-predict_reached fit bytes places.Test limit trail ask h = absurd h.cause
 predict_reached fit bytes places.Path limit trail ask h = absurd h.cause
 
 -- a job and its bytes, of which the input was read
@@ -126,7 +124,6 @@ module _ (lawful : PathHasCosts) (words : List (List ℕ)) (source source' : Str
   test_limited job bytes read places.Check limit trail h = absurd h.cause.1
   test_limited job bytes read places.Full limit trail h = absurd h.cause.1
   test_limited job bytes read places.Gram limit trail h = absurd h.cause.1
-  test_limited job bytes read places.Test limit trail h = absurd h.cause.1
   test_limited job bytes read (places.Predict rec) limit trail h = absurd h.cause.1
   test_limited job bytes read places.Path limit trail h = absurd h.cause.1
 
@@ -148,7 +145,6 @@ module _ (lawful : PathHasCosts) (words : List (List ℕ)) (source source' : Str
   path_limited job bytes read (places.Predict rec) limit trail h = absurd h.cause
   path_limited job bytes read places.Full limit trail h = absurd h.cause
   path_limited job bytes read places.Gram limit trail h = absurd h.cause
-  path_limited job bytes read places.Test limit trail h = absurd h.cause
   path_limited job bytes read places.Path limit trail h = absurd h.cause
 
   pub limit_needed : (place : Place) (limit : ℕ) (trail : Trail Frac128) → IsHalted words source source' (PivotLimit place limit trail) → IsLimitedAt words source source' place limit trail
@@ -225,8 +221,7 @@ module _ (lawful : PathHasCosts) (words : List (List ℕ)) (source source' : Str
 
       by : (job : Job) → engine.HasCause job h.bytes (Overflow places.Process trail spill) → DoesOverflow value most spill
       by (jobs.Process fit) cause = of fit (is_some fit.rank) h.bytes cause
-      by (jobs.Ranks fit) (inl cause) = of fit true h.bytes cause
-      by (jobs.Ranks fit) (inr cause) = of_wilcoxon value most spill cause.input.problem cause.operation.segments cause.operation.operation
+      by (jobs.Ranks fit) cause = of fit true h.bytes cause
       by (jobs.Certify fit) cause = of fit (is_some fit.rank) h.bytes cause
       by jobs.Check cause = absurd cause
       by (jobs.Predict fit) cause = of_process value most spill cause.asked.input.problem _ _ _ trail cause.cause
@@ -270,17 +265,6 @@ module _ (lawful : PathHasCosts) (words : List (List ℕ)) (source source' : Str
       by (jobs.Predict fit) cause = absurd cause.cause
       by (jobs.Path job) cause = absurd cause.cause
       by (jobs.Sample job) cause = absurd cause.cause
-  overflow_needed places.Test trail spill h = by h.job h.cause
-    where
-      by : (job : Job) → engine.HasCause job h.bytes (Overflow places.Test trail spill) → DoesOverflow value most spill
-      by (jobs.Process fit) cause = absurd cause.cause
-      by (jobs.Ranks fit) cause = absurd cause.cause
-      by (jobs.Certify fit) cause = absurd cause.cause
-      by jobs.Check cause = absurd cause
-      by (jobs.Test job) cause = of_test cause.input.problem job.tested _ spill cause.cause.operation
-      by (jobs.Predict fit) cause = absurd cause.cause
-      by (jobs.Path job) cause = absurd cause.cause
-      by (jobs.Sample job) cause = absurd cause.cause
   overflow_needed (places.Predict rec) trail spill h = by h.job h.cause
     where
       by : (job : Job) → engine.HasCause job h.bytes (Overflow (places.Predict rec) trail spill) → DoesOverflow value most spill
@@ -288,7 +272,7 @@ module _ (lawful : PathHasCosts) (words : List (List ℕ)) (source source' : Str
       by (jobs.Ranks fit) cause = absurd cause.cause
       by (jobs.Certify fit) cause = absurd cause.cause
       by jobs.Check cause = absurd cause
-      by (jobs.Predict fit) cause = of_row _ _ cause.cause.segments cause.cause.row spill cause.cause.operation
+      by (jobs.Predict fit) cause = of_row cause.cause.segments cause.cause.row spill cause.cause.operation
       by (jobs.Test job) cause = absurd cause.cause
       by (jobs.Path job) cause = absurd cause.cause
       by (jobs.Sample job) cause = absurd cause.cause

@@ -1,6 +1,6 @@
 -- Where bytes have a fault, there is no report and no stop of a fit.
 use Rattle.std.specs.Prelude.{◌≡◌, ℕ, Bool, true, false, is_some, List, Some}
-use Rattle.std.proofs.Common.{refl, subst, inl, inr}
+use Rattle.std.proofs.Common.{refl, subst}
 use Rattle.frac_core.specs.declared.frac128.Frac128.{Frac128}
 use Rattle.loss_model.specs.declared.process.Trail.{Trail}
 use Rattle.loss_model.specs.declared.spill.Spill.{Spill}
@@ -11,7 +11,6 @@ use Rattle.rq_words.specs.declared.job.Job.TheVariants as jobs
 use Rattle.rq_words.specs.declared.job.PathJob.{PathJob}
 use Rattle.rq_words.specs.declared.job.TestJob.{TestJob}
 use Rattle.report_text.specs.declared.report.Place.{Place}
-use Rattle.report_text.specs.declared.report.Place.TheVariants as places
 use Rattle.report_text.specs.declared.report.Refusal.{Refusal}
 use Rattle.report_text.specs.declared.report.Refusal.TheVariants as refusals
 use Rattle.report_text.specs.declared.report.Report.{Report}
@@ -112,15 +111,7 @@ module _ (law : InputsHaveNoFault) (words : List (List ℕ)) (source source' : S
     where
       by : (place : Place) (job : Job) → WereRead words source source' job h.bytes → engine.HasCause job h.bytes (halts.Overflow place trail spill) → ⊥
       by place (jobs.Process fit) read cause = no_stop (jobs.Process fit) fit (is_some fit.rank) (refl, refl) h.bytes read _ cause
-      by places.Process (jobs.Ranks fit) read (inl cause) = no_stop (jobs.Ranks fit) fit true (refl, refl) h.bytes read _ cause
-      by places.Process (jobs.Ranks fit) read (inr cause) = no_input fit true (ask_of (jobs.Ranks fit) fit true (refl, refl) h.bytes read) (jobs.Ranks fit) h.bytes read cause.input cause.is cause.rows.shaped
-      by (places.Interval column tau) (jobs.Ranks fit) read cause = no_stop (jobs.Ranks fit) fit true (refl, refl) h.bytes read _ cause
-      by places.Check (jobs.Ranks fit) read cause = no_stop (jobs.Ranks fit) fit true (refl, refl) h.bytes read _ cause
-      by places.Full (jobs.Ranks fit) read cause = no_stop (jobs.Ranks fit) fit true (refl, refl) h.bytes read _ cause
-      by places.Gram (jobs.Ranks fit) read cause = no_stop (jobs.Ranks fit) fit true (refl, refl) h.bytes read _ cause
-      by places.Test (jobs.Ranks fit) read cause = no_stop (jobs.Ranks fit) fit true (refl, refl) h.bytes read _ cause
-      by places.Path (jobs.Ranks fit) read cause = no_stop (jobs.Ranks fit) fit true (refl, refl) h.bytes read _ cause
-      by (places.Predict rec) (jobs.Ranks fit) read cause = no_stop (jobs.Ranks fit) fit true (refl, refl) h.bytes read _ cause
+      by place (jobs.Ranks fit) read cause = no_stop (jobs.Ranks fit) fit true (refl, refl) h.bytes read _ cause
       by place (jobs.Certify fit) read cause = no_stop (jobs.Certify fit) fit (is_some fit.rank) (refl, refl) h.bytes read _ cause
       by place jobs.Check read cause = unchecked h.bytes read
       by place (jobs.Predict fit) read cause = no_prediction fit h.bytes read _ cause

@@ -1,8 +1,7 @@
 -- Law. What a printed rank test says.
 use Rattle.std.specs.Prelude.{ℕ, List, length, pos, slice_index}
-use Rattle.exact_algebra.specs.Fraction.{rational}
+use Rattle.exact_algebra.specs.Fraction.{Fraction, rational}
 use Rattle.exact_algebra.specs.Rational.{whole, ◌≤ℚ◌}
-use Rattle.frac_core.specs.declared.frac128.Frac128.{Frac128}
 use Rattle.loss_model.specs.Problem.{sample, value_at}
 use Rattle.nested_test.specs.Nested.{column_score, AreScores, IsNestedStatistic}
 use Rattle.nested_test.specs.Restricted.{restricted_problem}
@@ -20,11 +19,11 @@ use Rattle.rq_cli.specs.declared.outcome.Outcome.TheVariants.{Done}
 -- its process is right for the problem without the tested columns, and by the Wilcoxon scores of that its scores are those
 -- of the tested columns and its statistic is that of the nested models, which is not negative
 pub record IsRightTest (job : TestJob) (input : Input) (fit : TestFit) : Type 0 where
-  pub wilcoxon : List Frac128
+  pub wilcoxon : List Fraction
   pub scored : AreScoredBy job.fit (restricted_problem job.tested input.problem) fit.process wilcoxon
-  pub scores : AreScores value input.problem job.tested (value_at value wilcoxon) fit.scores
-  pub statistic : IsNestedStatistic (sample value input.problem) (slice_index job.tested) (length job.tested) (column_score (sample value input.problem) (value_at value wilcoxon)) (rational (value fit.statistic))
-  pub sign : whole (pos 0) ≤ℚ rational (value fit.statistic)
+  pub scores : AreScores value input.problem job.tested (value_at (λ x. x) wilcoxon) fit.scores
+  pub statistic : IsNestedStatistic (sample value input.problem) (slice_index job.tested) (length job.tested) (column_score (sample value input.problem) (value_at (λ x. x) wilcoxon)) (rational fit.statistic)
+  pub sign : whole (pos 0) ≤ℚ rational fit.statistic
 
 -- a printed test is such a one of the input that the bytes are
 abbrev pub TestIsRight : Type 0

@@ -414,15 +414,38 @@ fn scores_of_other_models_are_integrals(rt: HostRuntime) {
     expect_all(&rt, rt.alloc(), SCORES, 21);
 }
 
-// The weights sum to W, which is 2^127 - 2. Record 1 is fitted from 0 to 1/W, with the scores 1 and 0, so that the area
-// below them is half of 1/W.
-static AREA: &str = r"
+// Scores past 128 bits, by the definition: the areas of the trapezoids below the rankscores of the run of `process`, added up
+// in Python's fractions, less 1/2. And the weights 1 and 2^127 - 3, whose sum is W: record 1 is fitted from 0 to 1/W, so that
+// its score is half of 1/W less 1/2, and the other one has the rest.
+static WIDE: &str = r"
+> ranks|--formula|y ~ .
+y,x1,x2,x3;547,89,256,47;131,684,735,460;223,423,348,904;678,533,333,836;957,414,335,989;198,85,935,297;895,723,219,864;845,587,940,950;90,846,14,791
+quantreg ranks 1
+records 9 dropped 0
+column 1 (Intercept)
+column 2 x1
+column 3 x2
+column 4 x3
+pivots 9
+wilcoxon 1 221724783171298655923549/780329752880038797663324
+wilcoxon 2 -36350288828192555441147099393407013732/348682108529233276902439636541088709845
+wilcoxon 3 -83798225/229722949
+wilcoxon 4 5934745232143659948384776479084973533/232511096326175221690829272137033245880
+wilcoxon 5 2449615611990801014098877165201/32784412424606531333704377974772
+wilcoxon 6 -16795875592397924644727/63383687366526899903985
+wilcoxon 7 156345869/459557288
+wilcoxon 8 35096291672249240412476381012224735259697173363/120179553127362085089478649964396321047840325270
+wilcoxon 9 -13122411962038587/46432869373943735
+end
 > ranks|--formula|y ~ 1|--weights|w
 y,w;1,1;2,170141183460469231731687303715884105725
-7 quantreg: solver: Overflow place=process quantity=wilcoxon at=1,1 term=4 op=div left=1/170141183460469231731687303715884105726 right=2
+..
+wilcoxon 1 -170141183460469231731687303715884105725/340282366920938463463374607431768211452
+wilcoxon 2 1/340282366920938463463374607431768211452
+end
 ";
 
 #[test]
-fn an_area_overflows(rt: HostRuntime) {
-    expect_all(&rt, rt.alloc(), AREA, 1);
+fn scores_are_of_any_size(rt: HostRuntime) {
+    expect_all(&rt, rt.alloc(), WIDE, 2);
 }

@@ -1,15 +1,19 @@
-use Rattle.std.proofs.lemmas.Result.{err_from_is_err_and}
-use Rattle.nested_test.proofs.Scored.{score_read, spill_read}
+use Rattle.std.proofs.Common.{◌≡◌, length, [], refl, ap, ◌∙◌, arith}
+use Rattle.loss_model.specs.Problem.{sample}
+use Rattle.ratio.specs.Sums.{total}
+use Rattle.ratio.proofs.Totals.{total-none}
+use Rattle.nested_test.proofs.Scored.{score_more, score_to}
 use Rattle.nested_test.proofs.scores.column_score.Goals as goal
 
-pub returns-clause-exact : goal.returns-clause-exact
-returns-clause-exact g c =
-    let h = c.in-Ok.ensures {u = tt} in
-    score_read g.F.Exact.value c.args.full.now c.args.column c.zero.result c.in-Ok.entries c.as_slice.result.now c.args.wilcoxon.now c.zero.ensures c.as_slice.ensures h.size h.each _ (c.in_ok-score.ensures {u = tt}).exact
+pub loop-row-init : goal.loop-row-init
+loop-row-init g c = ap total c.new-products.ensures ∙ total-none [] refl
 
-pub returns-in_err-score-clause-stopped : goal.returns-in_err-score-clause-stopped
-returns-in_err-score-clause-stopped g c =
-    let h = c.in-Ok.ensures {u = tt} in
-    let q = err_from_is_err_and c.from_residual.result c.from_residual.ensures.1 in
-    rw (q.1, q.2)
-    (spill_read g.F.Exact.value c.args.full.now c.args.column c.zero.result c.in-Ok.entries c.as_slice.result.now c.args.wilcoxon.now c.zero.ensures c.as_slice.ensures h.size h.each g.F.Exact.range c.new-site.result _ c.new-site.ensures (c.in_err-score.ensures {u = tt}).spilled)
+pub loop-row-preserved : goal.loop-row-preserved
+loop-row-preserved g c =
+    score_more (sample g.F.Exact.value c.args.full.now) c.args.wilcoxon.now c.args.column c.loop-row.products c.add.new.self c.loop-row.row c.in_ok-entry.entry c.index-wilcoxon-row.result c.in_ok-product.product
+    (omega arith) c.index-wilcoxon-row.is c.loop-row.invariant (c.in_ok-entry.ensures {u = tt}) (c.in_ok-product.ensures {u = tt}) (c.in_ok-add.ensures {u = tt}).added
+
+pub returns : goal.returns
+returns g c =
+    let end : c.loop-row.row ≡ length c.args.full.now.rows = omega (arith, c.requires.scored) in
+    c.in_ok-score.ensures ∙ ap total c.as_slice.ensures ∙ c.loop-row.invariant ∙ ap (score_to (sample g.F.Exact.value c.args.full.now) c.args.wilcoxon.now c.args.column) end

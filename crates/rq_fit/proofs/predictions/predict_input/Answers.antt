@@ -35,9 +35,6 @@ returns-in-Ok-predictions_of-clause-right c =
 
 pub returns-in-Err-predictions_of-clause-cause : goal.returns-in-Err-predictions_of-clause-cause
 returns-in-Err-predictions_of-clause-cause c =
-    let job = c.args.job.now in
-    let lo = rational (value job.lo) in
-    let hi = rational (value job.hi) in
     rw c.short_halt.ensures
-    (predict_short job c.args.asked c.in-Ok.walked c.in-Ok.ensures.process.results c.in-Ok.ensures.short c.in-Err-predictions_of.field-0.rec c.in-Err-predictions_of.field-0.short
-    (rw c.as_slice.ensures at (c.in-Err-predictions_of.ensures.lacking lo hi c.in-Ok.ensures.process.covers)))
+    (predict_short c.args.job.now c.args.asked c.in-Ok.walked c.in-Ok.ensures.process.results c.in-Ok.ensures.short c.in-Err-predictions_of.field-0.rec c.in-Err-predictions_of.field-0.short
+    (rw c.as_slice.ensures at c.in-Err-predictions_of.ensures.lacking))

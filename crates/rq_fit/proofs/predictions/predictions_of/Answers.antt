@@ -4,8 +4,8 @@ use Rattle.rq_fit.proofs.Predicting.{lacking_at}
 use Rattle.rq_fit.proofs.predictions.predictions_of.Goals as goal
 
 pub returns-in-Err-clause-lacking : goal.returns-in-Err-clause-lacking
-returns-in-Err-clause-lacking c lo hi covers =
-    lacking_at c.args.process.now.segments c.row-item.result lo hi c.args.rows.now c.loop-row.row-index c.loop-row-test.true c.row-item.is c.in-Err.short (c.in-Err.ensures.spilled lo hi covers)
+returns-in-Err-clause-lacking c =
+    lacking_at c.args.process.now.segments c.row-item.result c.args.rows.now c.loop-row.row-index c.loop-row-test.true c.row-item.is c.in-Err.short c.in-Err.ensures.spilled
 
 pub loop-row-preserved : goal.loop-row-preserved
 loop-row-preserved c lo hi covers =

@@ -1,18 +1,11 @@
-use Rattle.std.proofs.Common.{arith}
-use Rattle.rq_fit.proofs.Scoring.{all_data, covers_unit, few_fit, few_rows, scorable_fit, scoring_fit, scoring_short, unit_ask}
+use Rattle.rq_fit.proofs.Scoring.{all_data, covers_unit, few_rows, scorable_fit, unit_ask}
 use Rattle.rq_fit.proofs.ranks.ranks_input.Goals as goal
 
 pub fit_input-requires-clause-ask : goal.fit_input-requires-clause-ask
 fit_input-requires-clause-ask g c κs within = unit_ask c.args.job.now c.requires.ask
 
-pub returns-in-Err-clause-cause : goal.returns-in-Err-clause-cause
-returns-in-Err-clause-cause g c = scoring_fit c.args.job.now c.args.input c.in-Err.halt c.in-Err.ensures.cause
-
 pub wilcoxon-requires-clause-rows : goal.wilcoxon-requires-clause-rows
 wilcoxon-requires-clause-rows g c κs = few_rows c.args.job.now c.args.input c.requires.rows c.requires.unpenalised c.in-Ok.fit c.in-Ok.ensures.right
-
-pub wilcoxon-requires-clause-few : goal.wilcoxon-requires-clause-few
-wilcoxon-requires-clause-few g c κs = few_fit c.args.job.now c.args.input c.requires.rows c.requires.unpenalised c.in-Ok.fit c.in-Ok.ensures.right (omega arith)
 
 pub wilcoxon-requires-clause-data : goal.wilcoxon-requires-clause-data
 wilcoxon-requires-clause-data g c κs = all_data c.args.job.now c.args.input c.requires.rows c.requires.unpenalised c.in-Ok.fit c.in-Ok.ensures.right
@@ -25,9 +18,4 @@ wilcoxon-requires-clause-covers g c κs = covers_unit c.args.job.now c.requires.
 
 pub returns-in-Ok-wilcoxon-clause-right : goal.returns-in-Ok-wilcoxon-clause-right
 returns-in-Ok-wilcoxon-clause-right g c =
-    record { fit = c.in-Ok.ensures.right; covers = covers_unit c.args.job.now c.requires.ask c.in-Ok.fit c.in-Ok.ensures.right.right; wilcoxon = c.in-Ok-wilcoxon.ensures.scored }
-
-pub returns-in-Err-wilcoxon-clause-cause : goal.returns-in-Err-wilcoxon-clause-cause
-returns-in-Err-wilcoxon-clause-cause g c =
-    rw c.short_halt.ensures
-    (scoring_short c.args.job.now c.args.input c.requires.rows c.requires.unpenalised c.in-Ok.fit c.in-Ok.ensures.right c.in-Err-wilcoxon.short c.in-Err-wilcoxon.ensures.spilled)
+    record { fit = c.in-Ok.ensures.right; covers = covers_unit c.args.job.now c.requires.ask c.in-Ok.fit c.in-Ok.ensures.right.right; wilcoxon = c.in-Ok-wilcoxon.ensures }

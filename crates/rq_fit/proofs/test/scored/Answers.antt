@@ -1,9 +1,6 @@
-use Rattle.std.proofs.Common.{arith}
-use Rattle.report_text.specs.declared.report.Place.TheVariants as places
-use Rattle.rq_fit.specs.Halts.{short_halt}
 use Rattle.rq_fit.proofs.Fits.{right_process}
 use Rattle.rq_fit.proofs.Scoring.{unit_ask}
-use Rattle.rq_fit.proofs.Testing.{few_walked, process_covers, restricted_data, restricted_high, restricted_low, scorable, scored_short, scored_there, short_there, stop_there}
+use Rattle.rq_fit.proofs.Testing.{process_covers, restricted_data, restricted_high, restricted_low, scorable, scored_there, stop_there}
 use Rattle.rq_fit.proofs.test.scored.Goals as goal
 
 pub process-requires-clause-ordered : goal.process-requires-clause-ordered
@@ -22,10 +19,6 @@ returns-in-Err-process-clause-cause c =
     rw c.stop_halt.ensures
     (stop_there c.args.job.now.fit c.args.full.now c.args.job.now.tested c.in-Ok.problem (rw c.as_slice.ensures at c.in-Ok.ensures.restricted) c.restricted_is_askable.ensures.rank c.requires.shaped c.requires.tested c.requires.rank
     c.in-Err-process.stop c.in-Err-process.ensures.stopped)
-
-pub wilcoxon-requires-clause-few : goal.wilcoxon-requires-clause-few
-wilcoxon-requires-clause-few c κs =
-    few_walked c.args.job.now.fit c.requires.ask c.in-Ok.problem c.in-Ok-process.process c.in-Ok-process.ensures.process c.in-Ok-process.ensures.short (omega arith)
 
 pub wilcoxon-requires-clause-data : goal.wilcoxon-requires-clause-data
 wilcoxon-requires-clause-data c κs =
@@ -48,14 +41,5 @@ returns-in-Ok-wilcoxon-clause-right c =
     scored_there fit c.args.full.now c.args.job.now.tested q (rw c.as_slice.ensures at c.in-Ok.ensures.restricted) walked c.in-Ok-wilcoxon.wilcoxon (record {
       process = right_process fit q walked made c.in-Ok-process.ensures.short (λ some. c.in-Ok-process.ensures.limited some);
       covers = process_covers fit c.requires.ask q walked made c.in-Ok-process.ensures.short;
-      scores = c.in-Ok-wilcoxon.ensures.scored;
+      scores = c.in-Ok-wilcoxon.ensures;
     })
-
-pub returns-clause-cause : goal.returns-clause-cause
-returns-clause-cause c =
-    let fit = c.args.job.now.fit in
-    let q = c.in-Ok.problem in
-    let walked = c.in-Ok-process.process in
-    rw c.short_halt.ensures
-    (short_there fit c.args.full.now c.args.job.now.tested q (rw c.as_slice.ensures at c.in-Ok.ensures.restricted) (short_halt places.Process c.in-Err-wilcoxon.short walked.trail)
-    (scored_short fit c.requires.ask q walked c.in-Ok-process.ensures.process c.in-Ok-process.ensures.short c.in-Err-wilcoxon.short c.in-Err-wilcoxon.ensures.spilled))

@@ -1,7 +1,7 @@
 use Rattle.std.proofs.Common.{◌++◌, codes, ap, ◌∙◌}
 use Rattle.std.specs.List.{flat_map}
 use Rattle.report_text.proofs.Appends.{append_four}
-use Rattle.report_text.specs.ReportText.{count_line, prediction_text, step_line}
+use Rattle.report_text.specs.ReportText.{count_line, prediction_text, rearranged_line, step_line}
 use Rattle.report_text.proofs.page.Page.prediction.Goals as goal
 
 pub returns : goal.returns
@@ -11,4 +11,4 @@ returns c =
     c.in_ok-count_line.ensures
     (c.in_ok-step_lines.ensures ∙ ap (λ steps. c.count_line.new.self ++ flat_map step_line steps) c.as_slice.ensures)
     c.in_ok-count_line-2.ensures
-    (c.in_ok-step_lines-2.ensures ∙ ap (λ steps. c.count_line-2.new.self ++ flat_map step_line steps) c.as_slice-2.ensures)
+    (c.in_ok-rearranged_lines.ensures ∙ ap (λ steps. c.count_line-2.new.self ++ flat_map rearranged_line steps) c.as_slice-2.ensures)
