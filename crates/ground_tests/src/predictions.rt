@@ -142,17 +142,18 @@ fn expect_rearranged(
     lo: &str,
     text: &str,
 ) {
-    let mut start = lo;
+    let mut start = Vec::new(alloc);
+    assert!(rt; start.extend_from_slice(lo.as_bytes()).is_ok());
     let mut wanted = text.split(';');
     for step in steps {
         let part = wanted.next().expect(rt, "as many steps").trim();
         assert!(rt;
-            wide_text(rt, alloc, &step.lo).as_slice() == start.as_bytes(),
+            wide_text(rt, alloc, &step.lo).as_slice() == start.as_slice(),
             "{text}"
         );
         let value = behind(rt, alloc, &step.hi, part);
         assert!(rt; step.value == number(rt, value), "{text}");
-        (start, _) = parted(rt, part, " ");
+        start = wide_text(rt, alloc, &step.hi);
     }
     assert!(rt; wanted.next().is_none(), "{text}");
 }
