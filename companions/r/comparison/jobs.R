@@ -112,7 +112,7 @@ jobs <- list(
         fit <- rq_exact(it$formula, it$data, tau = c(0.25, 0.5))
         ours <- predict(fit, records)
         theirs <- predict(rq(it$formula, data = it$data, tau = c(0.25, 0.5)), records)
-        agreed(near(ours[!is.na(ours)], theirs[!is.na(ours)]), if (anyNA(is_unique(fit))) "not unique" else "other")
+        agreed(near(ours[!is.na(ours)], theirs[!is.na(ours)]), if (!all(is_unique(fit) %in% TRUE)) "not unique" else "other")
     },
     ranks = function(it) {
         ours <- ranks_exact(it$formula, it$data)$ranks
@@ -142,7 +142,7 @@ jobs <- list(
 # Why a table may have other answers than R's: ties in the response, or a fit that isn't unique.
 cause_of <- function(y, fit) {
     if (anyDuplicated(y)) return("tied responses")
-    if (anyNA(is_unique(fit))) "not unique" else "other"
+    if (!all(is_unique(fit) %in% TRUE)) "not unique" else "other"
 }
 
 failing <- function(fault) if (inherits(fault, "quantreg_error")) paste0("`", fault$line, "`") else paste("error:", conditionMessage(fault))
