@@ -142,17 +142,25 @@ fn expect_rearranged(
     lo: &str,
     text: &str,
 ) {
-    let mut start = lo;
-    let mut wanted = text.split(';');
-    for step in steps {
-        let part = wanted.next().expect(rt, "as many steps").trim();
+    if let Some(first) = steps.first() {
         assert!(rt;
-            wide_text(rt, alloc, &step.lo).as_slice() == start.as_bytes(),
+            wide_text(rt, alloc, &first.lo).as_slice() == lo.as_bytes(),
             "{text}"
         );
+    }
+    let mut wanted = text.split(';');
+    for i in 0..steps.len() {
+        let step = &steps[i];
+        let part = wanted.next().expect(rt, "as many steps").trim();
+        if i > 0 {
+            let before = wide_text(rt, alloc, &steps[i - 1].hi);
+            assert!(rt;
+                wide_text(rt, alloc, &step.lo).as_slice() == before.as_slice(),
+                "{text}"
+            );
+        }
         let value = behind(rt, alloc, &step.hi, part);
         assert!(rt; step.value == number(rt, value), "{text}");
-        (start, _) = parted(rt, part, " ");
     }
     assert!(rt; wanted.next().is_none(), "{text}");
 }
