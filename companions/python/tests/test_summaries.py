@@ -8,7 +8,7 @@ import pandas
 
 from quantreg_exact import Fits, QuantregError, fit, path, predictions, rank_test, ranks, read_report
 
-from helpers import ENGEL, STACKLOSS, answered, needs_program, noted
+from stand_ins import ENGEL, STACKLOSS, answered, needs_program, noted
 from test_reports import CERTIFICATE, CHECK, LINE, LINE_PATH, MEDIAN, PREDICT, RANKS, SAMPLE, TEST
 
 TABLE = pandas.DataFrame({"y": [0, 2, 3], "x": [0, 1, 3]})
