@@ -79,7 +79,6 @@ def _end(lesser, inside, sign, tau, bound):
     while inside != outside:
         if outside is None:
             value, stride = Fraction(math.floor(inside + sign * stride)), 2 * stride
-            value = value if sign * (value - inside) > 0 else inside + sign
         else:
             third = (outside - inside) / 3
             value = simplest_between(*sorted((inside + third, outside - third)))
@@ -127,16 +126,16 @@ class _Lesser:
         left = [y - value * x for y, x in zip(self.response, column)]
         marks, scores, basis = self._fitted(left, tau)
         statistic = sum(w * (score - 1 + tau) * x for w, score, x in zip(self.weights, scores, column))
-        # As the value moves by t, the residual of a row moves by t times this.
-        moves = self._moves(column, basis)
-        residuals = self._residuals(left, basis)
-        ends = [-math.inf, math.inf]
-        for mark, residual, move in zip(marks, residuals, moves):
-            if mark != "*" and move:
-                place = value - residual / move
-                side = (move > 0) == (mark == "1")
-                ends[not side] = max(ends[0], place) if side else min(ends[1], place)
-        return (statistic, *ends[::sign])
+        low, high = -math.inf, math.inf
+        for mark, residual, fall in zip(marks, self._residuals(left, basis), self._residuals(column, basis)):
+            # Where the value rises by 1, the residual of a row falls by so much: up to here the row stays on its side.
+            if mark != "*" and fall:
+                place = value + residual / fall
+                if (fall > 0) == (mark == "1"):
+                    high = min(high, place)
+                else:
+                    low = max(low, place)
+        return (statistic, low, high) if sign > 0 else (statistic, high, low)
 
     def _fitted(self, left, tau):
         """The marks and the rankscores of the rows, and the rows of the basis from 0, in the fit of the other columns."""
@@ -145,9 +144,6 @@ class _Lesser:
             return marks, [Fraction(mark) for mark in marks], []
         report = self.model(left).answer("process", lo=tau, hi=tau)
         return report.segments[0].marks, report.scores_at(tau), [row - 1 for row in report.segments[0].basis]
-
-    def _moves(self, column, basis):
-        return [-it for it in self._residuals(column, basis)]
 
     def _residuals(self, values, basis):
         """What is left of values, one for each row, by the coefficients that fit those of the basis."""

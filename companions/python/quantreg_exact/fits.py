@@ -13,7 +13,7 @@ from .designs import Names, Table, design_rows, offset_values, response_name
 from .faults import QuantregError
 from .linear import solved
 from .model import Model, table_bytes
-from .numbers import Number, as_fraction, shown
+from .numbers import Number, as_fraction, as_list, shown
 from .reports import PathReport, ProcessReport, RanksReport, TestReport
 
 QUARTILES = (Fraction(1, 4), Fraction(1, 2), Fraction(3, 4))
@@ -190,8 +190,7 @@ class Fit(OfTable, ProcessReport):
         if tau is None:
             low, high = self.segments[0].lo, self.segments[-1].hi
             tau = [low] if low == high else [it for it in QUARTILES if low <= it <= high]
-        taus = list(tau) if isinstance(tau, (list, tuple)) else [tau]
-        return joined({as_fraction(it): self._summary(as_fraction(it), alpha, tcrit) for it in taus})
+        return joined({it: self._summary(it, alpha, tcrit) for it in map(as_fraction, as_list(tau))})
 
     def _summary(self, tau, alpha, tcrit):
         """The summary at one quantile, with warnings."""

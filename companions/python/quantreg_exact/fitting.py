@@ -9,7 +9,7 @@ from .critical import Critical, critical_value, given_critical
 from .faults import QuantregError
 from .fits import Fit, PathFit, RanksFit, TestFit
 from .model import Model
-from .numbers import Number, as_fraction
+from .numbers import Number, as_fraction, as_list, is_list
 from .reports import PredictReport
 from .several import Fits
 
@@ -34,18 +34,23 @@ def fit(
 
     `data` is a data frame, whose index is left out, or the path of a CSV file. A quantile is a number text, a fraction, or
     a float by its shortest decimal. `weights` names a column. Rank intervals come with a level, by `alpha`, or with a critical
-    value as it is, by `crit`; `rank_at` has one quantile or several for them, where it isn't given `lo` alone or the tenths of the range.
+    value as it is, by `crit`; `rank_at` has one quantile or several for them, where it isn't given `lo` alone, or the tenths within the range.
     Raises QuantregError with the program's fault line, and advice, where there is no report.
     """
     model = Model.of(formula, data, weights, contrasts, pivots, program)
     critical = _critical(alpha, crit)
-    if isinstance(lo, (list, tuple)):
+    if is_list(lo):
         if hi is not None or rank_at is not None:
             raise ValueError("a list of quantiles has its rank intervals at each of them, and no high end")
         return Fits(tuple(_fit(model, tau, tau, critical, [tau] if critical else None) for tau in lo))
     if critical and rank_at is None:
-        rank_at = lo if hi is None else [tau for tau in DECILES if as_fraction(lo) <= tau <= as_fraction(hi)]
+        rank_at = lo if hi is None else _tenths(as_fraction(lo), as_fraction(hi))
     return _fit(model, lo, lo if hi is None else hi, critical, rank_at)
+
+
+def _tenths(low, high):
+    """The tenths within a range of quantiles, or its middle where there is none."""
+    return [tau for tau in DECILES if low <= tau <= high] or [(low + high) / 2]
 
 
 def _critical(alpha: float | None, crit: Number | None) -> Critical | None:
@@ -138,14 +143,12 @@ def _test(model, tested):
 
 def _listed(given) -> list:
     """A value of one or more, as options have them, as a list."""
-    if isinstance(given, str):
-        return given.split(",")
-    return list(given) if isinstance(given, (list, tuple)) else [given]
+    return given.split(",") if isinstance(given, str) else as_list(given)
 
 
 def _numbers_of(model, tested):
     """The numbers of the tested columns, where one is given by a name."""
-    given = [tested] if isinstance(tested, str) else _listed(tested)
+    given = as_list(tested)
     if not any(isinstance(it, str) and not it.replace(",", "").isdecimal() for it in given):
         return tested
     full = _whole(model, "1/2", "1/2")

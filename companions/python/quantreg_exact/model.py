@@ -11,7 +11,7 @@ import pandas
 from .advice import of_model
 from .designs import Table
 from .faults import QuantregError
-from .numbers import number_text
+from .numbers import as_list, number_text
 from .program import run
 from .reading import read_report
 
@@ -82,7 +82,5 @@ def _words(job, options):
     words = [job]
     for name, value in options.items():
         if value is not None:
-            values = value if isinstance(value, (list, tuple)) else [value]
-            texts = [it if isinstance(it, str) else number_text(it) for it in values]
-            words.append(f"--{name.replace('_', '-')}={','.join(texts)}")
+            words.append(f"--{name.replace('_', '-')}={','.join(map(number_text, as_list(value)))}")
     return words

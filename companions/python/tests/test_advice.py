@@ -10,7 +10,7 @@ import pandas
 from quantreg_exact import QuantregError, find_program, fit, path, predictions, rank_test, run
 from quantreg_exact.advice import JOBS
 
-from helpers import needs_program, refused
+from stand_ins import needs_program, refused
 
 TABLE = pandas.DataFrame({"y": [0, 2, 3, 5], "income": [0, 1, 3, 2], "f": list("abab"), "größe": [4, 2, 3, 9]})
 

@@ -8,7 +8,7 @@ import pandas
 from quantreg_exact import PredictReport, QuantregError, RanksReport, TestReport, fit, predictions, rank_test, ranks
 from quantreg_exact.any_size import interval_of
 
-from helpers import STACKLOSS, fields, needs_program, noted, refused, refusing
+from stand_ins import STACKLOSS, fields, needs_program, noted, refused, refusing
 
 # Ten records with ties, weights, a factor, two of which lack a response and one a regressor.
 COLUMNS = {"y": [3, -1, 4, 1, -5, 9, 4, 2, None, None], "x": [2, -6, 5, 3, 5, -8, 1, 0, 4, -2], "w": [1, 2, 1, 3, 1, 2, 1, 1, 1, None]}

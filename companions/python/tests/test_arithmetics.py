@@ -11,7 +11,7 @@ import pandas
 from quantreg_exact import Fit, Model, QuantregError, Step, fit, path, plot_fit, predictions, rank_test, rank_test_of_process, read_fault, read_report
 from quantreg_exact.arithmetics import Parts
 
-from helpers import answered, fields, needs_program
+from stand_ins import answered, fields, needs_program
 from test_nested import quantiles
 from test_reports import LINE, LINE_PATH, TEST
 

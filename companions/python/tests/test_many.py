@@ -13,7 +13,7 @@ import pandas
 
 from quantreg_exact import QuantregError, fit, fit_all, fit_parts, rank_test
 
-from helpers import ENGEL, STACKLOSS, answered, needs_program, script
+from stand_ins import ENGEL, STACKLOSS, answered, needs_program, script
 from test_reports import LINE, MEDIAN
 
 TABLE = pandas.DataFrame({"y": [0, 2, 3], "x": [0, 1, 3]})

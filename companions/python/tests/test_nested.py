@@ -11,7 +11,7 @@ import pandas
 
 from quantreg_exact import Fit, Model, QuantregError, TestReport, fit, rank_test, rank_test_of_process, read_report
 
-from helpers import STACKLOSS, fields, needs_program
+from stand_ins import STACKLOSS, fields, needs_program
 from test_program import LINE
 from test_reports import LINE as LINE_REPORT
 from test_reports import MEDIAN, SMOOTH, TEST

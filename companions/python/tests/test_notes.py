@@ -7,7 +7,7 @@ import pandas
 
 from quantreg_exact import fit, rank_test, ranks
 
-from helpers import answered, needs_program, noted
+from stand_ins import answered, needs_program, noted
 from test_reports import LINE, MEDIAN, SMOOTH
 
 LINE_TABLE = pandas.DataFrame({"y": [0, 2, 3], "x": [0, 1, 3]})

@@ -3,11 +3,12 @@
 import unittest
 from fractions import Fraction as F
 
+import numpy
 import pandas
 
 from quantreg_exact import Fits, QuantregError, fit, path, predictions, rank_test, ranks, read_report
 
-from helpers import ENGEL, STACKLOSS, answered, needs_program, noted
+from stand_ins import ENGEL, STACKLOSS, answered, needs_program, noted
 from test_reports import CERTIFICATE, CHECK, LINE, LINE_PATH, MEDIAN, PREDICT, RANKS, SAMPLE, TEST
 
 TABLE = pandas.DataFrame({"y": [0, 2, 3], "x": [0, 1, 3]})
@@ -83,6 +84,8 @@ class ByTheProgram(unittest.TestCase):
         for words, options, taus in [
             (("1/2",), {"alpha": 0.1}, ["1/2"]),
             ((0.25, 0.55), {"alpha": 0.1}, ["3/10", "2/5", "1/2"]),
+            (("41/100", "43/100"), {"alpha": 0.1}, ["21/50"]),
+            ((0, 1), {"crit": 1, "rank_at": numpy.array([0.25, 0.5])}, ["1/4", "1/2"]),
             ((0, 1), {"crit": "46/17", "rank_at": "1/4"}, ["1/4"]),
         ]:
             found = fit("y ~ x", pandas.DataFrame({"y": [1, 4, 2, 8, 5], "x": [2, 3, 1, 5, 4]}), *words, **options)
@@ -104,6 +107,9 @@ class ByTheProgram(unittest.TestCase):
         self.assertEqual((len(found), found.taus, list(found.params)), (2, [F(1, 4), F(1, 2)], ["1/4", "1/2"]))
         self.assertEqual(found[1].coef_at("1/2"), fit("stack.loss ~ .", STACKLOSS, 0.5).coef_at("1/2"))
         self.assertEqual([it.tau for it in found[0].intervals], [F(1, 4)] * 4)
+        for several in (numpy.array([0.25, 0.5]), pandas.Series(["1/4", "1/2"]), (F(1, 4), 0.5)):
+            self.assertEqual(fit("stack.loss ~ .", STACKLOSS, several, alpha=0.1), found)
+        self.assertEqual(fit("stack.loss ~ .", STACKLOSS, numpy.array([0.25]), alpha=0.1)[0], found[0])
         frame = found.summary(0.1)
         self.assertEqual(frame.loc[("1/2", "Air.Flow"), "lower"], 32 / 63)
         self.assertEqual(found.conf_int(0.1).shape, (8, 2))
