@@ -133,11 +133,9 @@ def certificate(value):
 
 
 def shown(side):
-    """A side of a test as text, or how long it is where Python doesn't write it."""
-    try:
-        return str(side)
-    except ValueError:
-        return f"(a number of {max(map(int.bit_length, Fraction(side).as_integer_ratio()))} bits)"
+    """A side of a test as text, or how long it is where that has more digits than Python writes unasked."""
+    longest = max(map(abs, Fraction(side).as_integer_ratio()))
+    return str(side) if longest < 10**MOST_DIGITS else f"(a number of {longest.bit_length()} bits)"
 
 
 def stars(sides):
