@@ -3,7 +3,7 @@
 
     QUANTREG=/path/to/quantreg PYTHONPATH=companions/python python3 docs/pictures/draw.py
 
-The report of the generated table takes the program some ten seconds.
+The report of the generated table takes the program a tenth of a second.
 """
 
 import io
