@@ -21,7 +21,7 @@ struct Shown {
 }
 
 // Of a segment and the next one; a loss is looked at where the dual values balance.
-fn shown(alloc: Global, cert: &Cert) -> Option<Shown> {
+fn shown_by(alloc: Global, cert: &Cert) -> Option<Shown> {
     let table = whole_table(alloc, &cert.problem)?;
     let whole = WholeProblem {
         problem: &cert.problem,
@@ -47,7 +47,7 @@ fn shown(alloc: Global, cert: &Cert) -> Option<Shown> {
 // Of the first segment of a text.
 fn shown_of(alloc: Global, text: &str) -> Option<Shown> {
     match read_cert(alloc, text.as_bytes()) {
-        Ok(cert) => shown(alloc, &cert),
+        Ok(cert) => shown_by(alloc, &cert),
         Err(_) => None,
     }
 }
