@@ -10,7 +10,7 @@ from fractions import Fraction
 import pandas
 
 from .critical import chi_squared_tail
-from .numbers import Number, as_fraction, listed, shown
+from .numbers import Number, as_fraction, decimal_text, listed, shown
 from .stretches import Segment, Step, Stretches, rearrange, steps_frame
 
 
@@ -219,6 +219,11 @@ class TestReport(Report):
     def degrees(self) -> int:
         """How many columns are tested: the degrees of freedom."""
         return len(self.tested)
+
+    @property
+    def decimal(self) -> str:
+        """The statistic to 12 places, rounded down."""
+        return decimal_text(self.statistic)
 
     @property
     def p_value(self) -> float:

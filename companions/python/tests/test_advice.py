@@ -141,7 +141,7 @@ class Others(unittest.TestCase):
         self.assertEqual((again.status, again.line, again.advice, str(again)), (7, self.LINE, "advice", str(fault)))
 
     def test_a_program_that_is_missing(self):
-        with self.assertRaisesRegex(FileNotFoundError, "no program /nowhere/quantreg: build it by `make demo`"):
+        with self.assertRaisesRegex(FileNotFoundError, "no program /nowhere/quantreg: the Debian package quantreg brings it"):
             find_program("/nowhere/quantreg")
 
 
