@@ -1,231 +1,268 @@
 #!/usr/bin/env python3
-"""Runs the program on inputs that are changed by chance, and fails on what no run may do, and on a verdict on a certificate other than that
-of checker/quantreg_check.py.
+"""Runs the program on inputs drawn by the grammars of its jobs and then changed a little, and fails on what no run may do.
 
-    bench/fuzz/fuzz.py PROGRAM COUNT [FIRST]
+    fuzz.py PROGRAM [--seed N] [--runs N] [--from N] [--workers N] [--all]
 
-Input number n, from FIRST on, is made from n alone, so each can be made again: with COUNT 1 the words, the status and both outputs
-are printed, and the input is left in the file that is named.
+That is a signal, ten seconds of a processor or a minute by the clock, a line of faults that the man page lacks or that goes with another status, output after a refusal, a
+report that isn't whole, another answer to the same input, a certificate of `certify` that `check` doesn't accept, and a verdict of
+`check` other than that of checker/quantreg_check.py. The numbers of runs begin at --from, 0 where it isn't given; each is made from
+the seed and its number alone, so that it can be made again, and --runs 1 prints it whole. At the end stand counts by job and by fault. With --all it
+fails too where a job has no report, or a fault that a small input can meet wasn't met.
 """
-import copy
+
+import argparse
 import json
-import os
 import random
+import re
+import resource
+import shlex
 import subprocess
 import sys
-import tempfile
-from concurrent.futures import ThreadPoolExecutor
+from collections import Counter
+from concurrent.futures import ProcessPoolExecutor
+from dataclasses import dataclass
+from functools import partial
+from pathlib import Path
 
-sys.path.insert(0, os.path.join(os.path.dirname(os.path.abspath(__file__)), "..", "..", "checker"))
+import certificates
+import changes
+import grammar
+from grammar import JOBS, Run
+
+TOP = Path(__file__).resolve().parent.parent.parent
+sys.path.insert(0, str(TOP / "checker"))
 import quantreg_check as checker
 
-MOST_SECONDS = 10
-STATUSES = range(9)
-
-# each with formulas that fit it
-TABLES = [
-    (b"y,x\n1,1\n2,2\n3,4\n", ["y ~ x", "y ~ 1", "y ~ .", "y ~ x - 1"]),
-    (b"y,x\n0,0\n2,1\n2,2\n", ["y ~ x", "y ~ 0 + x", "y ~ qss(x, 1/2)"]),
-    (b'y,"a b",f\n1/2,-3,u\n2.5,1e1,v\nNA,4,u\n-7,0,v\n0,1,w\n', ["y ~ `a b` + factor(f)", "y ~ f", "y ~ f - 1", "y ~ `a b`"]),
-    (b"y,x,w\n1,1,1\n3,2,2\n2,3,1/2\n5,5,0.25\n4,4,3\n", ["y ~ (x + w)^2", "y ~ x:w + 0", "y ~ qss(x, 1) + w", "y ~ x*w"]),
-    (b"y,f,g\n1,a,p\n2,b,q\n3,a,q\n5,b,p\n8,c,p\n13,c,q\n", ["y ~ f", "y ~ f + g", "y ~ g", "y ~ f*g"]),
-]
-PIECES = ["~", "+", "-", ":", "*", "^", "(", ")", "0", "1", "2", "y", "x", "w", "f", "g", ".", "`", "factor(", "qss(", ",", " ", "1/2", "1e9",
-          "^99999999999", "\u00e9", "\t"]
-NUMBERS = ["0", "1", "1/2", "0.25", "1e0", "3/4", "2", "-1", "1/0", "1e99999", "", "170141183460469231731687303715884105727", "0x1", "1/3",
-           "99999999/100000000"]
-BYTES = [b",", b"\n", b"\r\n", b'"', b'""', b"\xff", b"\x00", b"\xef\xbb\xbf", b"NA", b"-", b"/", b"e", b"1e99999999999", b"1/0", b" ", b"`", b"9" * 50]
-NAMES = ["y", "x", "w", "f", "g", "a b", "", "none"]
-COSTS = {"down0": "1", "down1": "-1", "up0": "0", "up1": "1"}
+MOST_SECONDS, MOST_WAITED = 10, 60
+MOST_SHOWN = 4000
+FIRST_LINES = {"process": b"quantreg 1\n"} | {job: f"quantreg {job} 1\n".encode() for job in JOBS if job not in ("process", "certify")}
+# The status of a group, or of a fault, where it isn't 1.
+STATUSES = {"usage": 2, "solver: PivotLimit": 6, "solver: Overflow": 7, "check": 8}
+# What no small input on good streams meets: inputs and certificates of many megabytes, want of memory, and what another fault forestalls.
+TOO_LARGE = {"input: TooLong", "certificate: CertTooLong", "program: TooManyColumns"}
+OF_STREAMS = {"source: SourceFault", "sink: SinkFault", "memory: OutOfMemory"}
+FIELDS = {"N": r"\d+", "V": r"-?\d+(?:/\d+)?", "V,V": r"-?\d+(?:/\d+)?(?:,-?\d+(?:/\d+)?)*", "NAME": ".*", "PATH": ".*", "..": r"\S+"}
 
 
-def certificate(responses, entries, segment, interval=None):
-    """A certificate at the quantile 1/2 of records with these responses and entries."""
-    ends = {"hi": "1/2", "lo": "1/2"}
-    rows = [{**COSTS, "x": x.split(), "y": y} for x, y in zip(entries, responses)]
-    top = {"columns": len(rows[0]["x"]), "intervals": [interval] if interval else [], "kind": "quantreg-certificate", "rows": rows}
-    return {**top, **ends, "segments": [{**segment, **ends}], "version": 1}
+class Wrong(Exception):
+    """What no run may do."""
 
 
-def solution(coef, basic, loss, sides):
-    return {"basic_hi": basic, "basic_lo": basic, "coef": coef, "loss_hi": loss, "loss_lo": loss, "sides": sides}
+@dataclass
+class Ended:
+    """How a run ended, and the fault that its line names."""
+
+    status: int
+    out: bytes
+    err: bytes
+    fault: str = ""
 
 
-def end(coef, inside, sides, **beyond):
-    return {"coef": coef, "inside": inside, "kind": "infinite" if "ray" in beyond else "finite", "sides": sides, **beyond}
+def fault_lines():
+    """Each fault of the man page, as `group: Name`, with the pattern of its line."""
+    page = (TOP / "docs" / "quantreg.1").read_text(encoding="utf-8")
+    patterns = {}
+    for group, name, fields in re.findall(r"^\.TP\n\.B quantreg: ([\w-]+): (\w+)(.*)$", page, re.MULTILINE):
+        wanted = [f"{key}={FIELDS[value]}" for key, _, value in (field.partition("=") for field in fields.split())]
+        patterns[f"{group}: {name}"] = re.compile(" ".join([f"quantreg: {group}: {name}", *wanted]))
+    return patterns
 
 
-# the median of one record; of five, with an interval that no end bounds; and a line, with that of its slope
-CERTIFICATES = [
-    certificate("1", ["1"], solution(["1"], ["0"], "0", "*")),
-    certificate("12345", ["1"] * 5, solution(["3"], ["0"], "3", "--*++"), {
-        "column": 0, "crit": "5", "projection": ["0"], "tau": "1/2", "high": end(["5"], ["-1/2"], "----*", ray=["1"]),
-        "low": end(["1"], ["1/2"], "*++++", ray=["-1"])}),
-    certificate("023", ["1 0", "1 1", "1 3"], solution(["0", "1"], ["-1/3", "-1/6"], "1/2", "*+*"), {
-        "column": 1, "crit": "6/7", "projection": ["4/3", "0"], "tau": "1/2",
-        "high": end(["0", "2"], ["0", "1/2"], "**-", outside=["1/2", "0"], value="2"),
-        "low": end(["3/2", "1/2"], ["1/2", "0"], "-**", outside=["0", "1/2"], value="1/2")}),
-]
-VALUES = [None, True, 0, 1, -1, 0.5, 2**32, [], {}, "finite", "infinite", "*", "+-", "ray"]
+FAULTS = fault_lines()
 
 
-def places(value):
-    """Each place of a value: the list or object that has it, and its index or key there."""
-    for key in list(value) if isinstance(value, dict) else range(len(value)):
-        yield value, key
-        if isinstance(value[key], (dict, list)):
-            yield from places(value[key])
+def fault_of(ended):
+    """The fault that the one line of a refusal names, which is one of the man page and goes with the status."""
+    line = ended.err.decode("utf-8", "replace")
+    if ended.out:
+        raise Wrong("output after a refusal")
+    if not line.endswith("\n") or line.count("\n") != 1:
+        raise Wrong("other than one fault line")
+    fault = "".join(re.findall(r"^quantreg: ([\w-]+: \w+)", line))
+    if fault not in FAULTS or not FAULTS[fault].fullmatch(line[:-1]):
+        raise Wrong("a fault line that the man page lacks")
+    if fault in OF_STREAMS:
+        raise Wrong("a fault of streams or memory, where both are there")
+    if ended.status != STATUSES.get(fault, STATUSES.get(fault.split(":")[0], 1)):
+        raise Wrong(f"the status {ended.status} with {fault}")
+    detail = re.search(r" (place=[a-z]+|condition=\d+)", line) if fault.startswith(("solver", "check")) else None
+    return fault + (detail.group() if detail else "")
 
 
-def changed_certificate(chance):
-    """The text of a certificate after a few changes of its keys and values."""
-    top = copy.deepcopy(chance.choice(CERTIFICATES))
-    for _ in range(max(0, chance.randrange(5) - 1)):
-        within, key = chance.choice(list(places(top)))
-        change = chance.randrange(6)
-        if change == 0:
-            del within[key]
-        elif change == 1 and isinstance(within, dict):
-            within[chance.choice([key + "x", "", "x", "kind", "a/b~"])] = within.pop(key)
-        elif change == 2 and isinstance(within, list):
-            within.insert(key, within[key])
-        elif change == 3:
-            within[key] = chance.choice(VALUES)
-        else:
-            within[key] = chance.choice(NUMBERS)
-    return json.dumps(top, sort_keys=True, separators=(",", ":")).encode() + b"\n"
-
-
-def changed_bytes(chance, text):
-    """The text after a few changes of bytes."""
-    for _ in range(max(0, chance.randrange(5) - 1)):
-        at = chance.randrange(len(text) + 1)
-        to = min(len(text), at + chance.randrange(1, 6))
-        change = chance.randrange(5)
-        if change == 0:
-            text = text[:at]
-        elif change == 1:
-            text = text[:at] + text[to:]
-        elif change == 2:
-            text = text[:at] + chance.choice(BYTES) + text[at:]
-        elif change == 3:
-            text = text[:at] + bytes([chance.randrange(256)]) + text[to:]
-        else:
-            text = text[:at] + text[at:to] * chance.randrange(1, 40) + text[to:]
-    return text
-
-
-def changed_formula(chance, formulas):
-    formula = chance.choice(formulas)
-    for _ in range(max(0, chance.randrange(6) - 3)):
-        at = chance.randrange(len(formula) + 1)
-        formula = formula[:at] + chance.choice(PIECES) + formula[at + chance.randrange(3):]
-    if chance.randrange(60) == 0:
-        formula = "y ~ " + "(" * chance.randrange(1, 3000) + "x"
-    return formula
-
-
-def options(chance, job, formulas):
-    """Options of a job, now and then one too few, too many or of another job."""
-    given = {}
-    if job in ("process", "certify", "ranks"):
-        given["--formula"] = changed_formula(chance, formulas)
-    if job == "sample":
-        given |= {"--number": str(chance.randrange(2**32)), "--rows": str(chance.randrange(30)), "--columns": str(chance.randrange(4))}
-    if job in ("process", "certify", "sample"):
-        given["--lo"], given["--hi"] = sorted(chance.choices(["0", "1/4", "1/2", "3/4", "9/10"], k=2)) if chance.randrange(6) else chance.choices(NUMBERS, k=2)
-    extra = [("--weights", NAMES), ("--contrasts", ["sas", "sum", "helmert", "treatment", "other"]), ("--pivots", ["0", "1", "50", *NUMBERS]),
-             ("--crit", NUMBERS), ("--rank-at", ["1/2", "1/4,3/4", "0,1", "1/2,", *NUMBERS])]
-    extra += [(name, NUMBERS) for name in ("--number", "--rows", "--columns")]
-    for name, values in extra:
-        if chance.randrange(12 if name == "--weights" and job != "check" else 40) == 0:
-            given[name] = chance.choice(values)
-    if given.keys() & {"--crit", "--rank-at"} and chance.randrange(4):
-        given |= {"--crit": chance.choice(["1", "2.7055", "0"]), "--rank-at": "1/2"}
-    if chance.randrange(40) == 0 and given:
-        del given[chance.choice(sorted(given))]
-    words = []
-    for name, value in given.items():
-        words += [f"{name}={value}"] if value.startswith("-") or chance.randrange(3) == 0 else [name, value]
-    if chance.randrange(60) == 0:
-        words.insert(chance.randrange(len(words) + 1), chance.choice(PIECES + NUMBERS + ["--lo", "--", "-", "process"]))
-    return words
-
-
-def made_input(number):
-    """The words and the bytes of an input, from its number alone."""
-    chance = random.Random(number)
-    job = chance.choice(["process"] * 10 + ["certify", "certify", "check", "check", "check", "check", "ranks", "ranks", "sample", "other", ""])
-    table, formulas = chance.choice(TABLES)
-    words = ([job] if job else []) + options(chance, job, formulas)
-    # no argument of a program holds a zero byte
-    words = [word.replace("\0", "0") for word in words]
-    if job != "check":
-        return words, changed_bytes(chance, table)
-    text = changed_certificate(chance)
-    return words, text if chance.randrange(2) else changed_bytes(chance, text)
-
-
-def other_verdict(source, status, err):
-    """Whether the plain checker finds otherwise of a certificate that the program has read."""
+def is_whole(job, out):
+    """A report has the first line of its job and the last line `end`; a certificate is one line of JSON."""
+    if job != "certify":
+        return job in FIRST_LINES and out.startswith(FIRST_LINES[job]) and out.endswith(b"\nend\n")
     try:
-        false = checker.first_false(checker.read(json.loads(source), checker.CERTIFICATE))
+        return out.count(b"\n") == 1 and out.endswith(b"}\n") and bool(checker.certificate(json.loads(out)))
     except ValueError:
-        return True
-    if not false:
-        return status != 0
-    condition, index, inner, left, _, right = false
-    return status != 8 or err.decode() != f"quantreg: check: Rejected condition={condition} index={index} inner={inner} left={left} right={right}\n"
+        return False
 
 
-def complaint(status, out, err):
-    """What a run did that none may do, or nothing."""
-    if status < 0:
-        return f"signal {-status}"
-    if status not in STATUSES:
-        return f"status {status}"
-    if status == 0:
-        return "a fault line beside a report" if err else None if out.endswith(b"\n") else "no report"
-    if out:
-        return "output after a refusal"
-    if not (err.startswith(b"quantreg: ") and err.endswith(b"\n") and err.count(b"\n") == 1):
-        return "other than one fault line"
-    return None
+def processor_seconds():
+    """What the programs that this worker has run took in all."""
+    used = resource.getrusage(resource.RUSAGE_CHILDREN)
+    return used.ru_utime + used.ru_stime
 
 
-def ran(program, number):
-    """The number, what the run did, and what is wrong with that."""
-    words, source = made_input(number)
+def run_once(program, run):
+    before = processor_seconds()
     try:
-        run = subprocess.run([program, *words], input=source, capture_output=True, timeout=MOST_SECONDS)
+        ran = subprocess.run([program, *run.words], input=run.source, capture_output=True, timeout=MOST_WAITED, check=False)
     except subprocess.TimeoutExpired:
-        return number, None, f"more than {MOST_SECONDS} s"
-    wrong = complaint(run.returncode, run.stdout, run.stderr)
-    if not wrong and words == ["check"] and run.returncode in (0, 8) and other_verdict(source, run.returncode, run.stderr):
-        wrong = "another verdict than the checker's"
-    return number, run, wrong
+        raise Wrong(f"more than {MOST_WAITED} s by the clock\n{shown(run)}") from None
+    if (seconds := processor_seconds() - before) > MOST_SECONDS:
+        raise Wrong(f"{seconds:.1f} s of a processor\n{shown(run)}")
+    return Ended(ran.returncode, ran.stdout, ran.stderr)
+
+
+def verdict_of_checker(source):
+    """The line of the plain checker's verdict, empty where it accepts; None where Python reads no number so long."""
+    try:
+        # of a key that stands twice the last counts, as for `check`
+        false = checker.first_false(checker.certificate(json.loads(source)))
+    except ValueError as error:
+        if "digits" in str(error):
+            return None
+        raise Wrong(f"a verdict on what is no certificate: {error}") from None
+    if not false:
+        return ""
+    condition, index, inner, left, _, right = false
+    return f"quantreg: check: Rejected condition={condition} index={index} inner={inner} left={left} right={right}\n"
+
+
+def judged(program, run, again=False):
+    """How a run ended, once nothing is wrong with it. What `certify` wrote goes to `check`."""
+    ended = run_once(program, run)
+    try:
+        if ended.status < 0:
+            raise Wrong(f"the signal {-ended.status}")
+        if ended.status:
+            ended.fault = fault_of(ended)
+        elif ended.err:
+            raise Wrong("a fault line beside a report")
+        elif not is_whole("".join(run.words[:1]), ended.out):
+            raise Wrong("a report that isn't whole")
+        if run.words == ["check"] and ended.status in (0, 8) and verdict_of_checker(run.source) not in (None, ended.err.decode()):
+            raise Wrong("another verdict than the plain checker's")
+        if again and (second := run_once(program, run)) != Ended(ended.status, ended.out, ended.err):
+            raise Wrong(f"another answer to the same input: {second}"[:MOST_SHOWN])
+    except Wrong as wrong:
+        raise Wrong(f"{wrong}\n{shown(run, ended)}") from None
+    if run.words[:1] == ["certify"] and ended.status == 0:
+        checked = judged(program, Run(["check"], ended.out))
+        if checked.status not in (0, 7):
+            raise Wrong(f"a certificate of certify that check doesn't accept\n{shown(run, checked)}")
+    return ended
+
+
+def shown(run, ended=None):
+    """A run, and how it ended where it did, in plain text."""
+    parts = [shlex.join(run.words), repr(run.source)]
+    if ended:
+        parts += [f"status {ended.status}", repr(ended.out), repr(ended.err)]
+    return "\n".join(f"    {part[:MOST_SHOWN]}" for part in parts)
+
+
+def certificate_run(chance, program):
+    """A certificate that the program writes, and then of either version and changed."""
+    for _ in range(4):
+        case = grammar.drawn(chance, "certify")
+        ended = judged(program, grammar.written(chance, case))
+        if ended.status == 0:
+            return Run(["check"], certificates.drawn(chance, ended.out))
+    return Run(["check"], b"{}\n")
+
+
+def made(chance, program, job):
+    """A run of a job, well-formed or changed."""
+    changed = changes.chosen(chance, job)
+    if job == "check":
+        run = certificate_run(chance, program)
+        changed = changed if chance.random() < 0.4 else []
+    else:
+        case = grammar.drawn(chance, job)
+        for change in changed:
+            if change.of_case:
+                change.make(chance, case)
+        run = grammar.written(chance, case)
+    for change in changed:
+        if not change.of_case:
+            change.make(chance, run)
+    run.words = [word.replace("\0", "0") for word in run.words]  # no argument of a program has a zero byte
+    return run
+
+
+def drawn_run(program, seed, number):
+    """The job and the run of a number."""
+    chance = random.Random(f"{seed}/{number}")
+    job = chance.choices(list(JOBS), list(JOBS.values()))[0]
+    return job, made(chance, program, job)
+
+
+def tried(program, seed, number):
+    """The job of a run, the fault that it met, and what is wrong."""
+    job = "check"  # before there is a run, only a certificate for this job can be wrong
+    try:
+        job, run = drawn_run(program, seed, number)
+        return job, judged(program, run, again=number % 4 == 0).fault, None
+    except Wrong as wrong:
+        return job, "wrong", f"run {number} of the seed {seed}: {wrong}"
+
+
+def print_counts(counts):
+    """Two tables: each job with its runs and reports, and each fault with how often it was met."""
+    jobs, reports = Counter(), Counter()
+    faults = Counter({fault: 0 for fault in FAULTS})
+    for (job, fault), count in counts.items():
+        jobs[job] += count
+        reports[job] += count if not fault else 0
+        if fault and fault != "wrong":
+            faults[fault] += count
+    print(f"\n{'job':10} {'runs':>8} {'status 0':>9}")
+    for job in JOBS:
+        print(f"{job:10} {jobs[job]:8} {reports[job]:9}")
+    print(f"\n{'fault':42} {'runs':>8}")
+    for fault in sorted(faults, key=lambda it: (list(FAULTS).index(it.split(" place=")[0].split(" condition=")[0]), it)):
+        if faults[fault] or not any(it.startswith(fault + " ") for it in faults):
+            print(f"{fault:42} {faults[fault]:8}")
+
+
+def unmet(counts):
+    """The jobs without a report, and the faults that a small input can meet and none did."""
+    met = {re.sub(" (place|condition)=.*", "", fault) for _, fault in counts}
+    yield from (f"the job {job} has no report" for job in JOBS if not counts[job, ""])
+    yield from (f"never met: {fault}" for fault in FAULTS if fault not in met | TOO_LARGE | OF_STREAMS)
+
+
+def arguments():
+    parser = argparse.ArgumentParser(description=__doc__, formatter_class=argparse.RawDescriptionHelpFormatter)
+    parser.add_argument("program", type=Path)
+    for name, number in (("--seed", 1), ("--runs", 2000), ("--from", 0), ("--workers", 4)):
+        parser.add_argument(name, type=int, default=number, dest=name.strip("-").replace("from", "first"))
+    parser.add_argument("--all", action="store_true")
+    return parser.parse_args()
 
 
 def main():
-    program, count = sys.argv[1], int(sys.argv[2])
-    first = int(sys.argv[3]) if len(sys.argv) > 3 else 0
-    if count == 1:
-        words, source = made_input(first)
-        with tempfile.NamedTemporaryFile(delete=False) as file:
-            file.write(source)
-        _, run, wrong = ran(program, first)
-        print(words, file.name, wrong or "as it may be", run, sep="\n")
-        return 1 if wrong else 0
-    statuses, faults = {}, 0
-    with ThreadPoolExecutor(os.cpu_count()) as pool:
-        for number, run, wrong in pool.map(lambda number: ran(program, number), range(first, first + count)):
-            status = run.returncode if run else "none"
-            statuses[status] = statuses.get(status, 0) + 1
+    given = arguments()
+    program = str(given.program.resolve())
+    counts, failed = Counter(), 0
+    with ProcessPoolExecutor(given.workers) as pool:
+        for job, fault, wrong in pool.map(partial(tried, program, given.seed), range(given.first, given.first + given.runs), chunksize=20):
+            counts[job, fault] += 1
+            failed += bool(wrong)
             if wrong:
-                faults += 1
-                print(f"input {number}: {wrong}")
-    print(f"{count} inputs, {faults} faults; by status:", ", ".join(f"{status}: {statuses[status]}" for status in sorted(statuses, key=str)))
-    return 1 if faults else 0
+                print(wrong, flush=True)
+    if given.runs == 1 and not failed:
+        _, run = drawn_run(program, given.seed, given.first)
+        print(shown(run, run_once(program, run)))
+    reports = sum(count for (_, fault), count in counts.items() if not fault)
+    print(f"fuzz: {given.runs} runs of the seed {given.seed}: {reports} with status 0, {failed} wrong")
+    print_counts(counts)
+    lacks = list(unmet(counts))
+    print(*lacks, sep="\n", end="\n" if lacks else "")
+    return 1 if failed or (given.all and lacks) else 0
 
 
 if __name__ == "__main__":
