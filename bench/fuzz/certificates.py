@@ -67,9 +67,14 @@ def places(value):
 
 
 def other_text(chance, place):
-    """Another number where a number stands, now and then none, and another side among sides."""
+    """Another number where a number stands, now and then none; another side among sides, or two that change places."""
     text = place.value
-    if place.key in ("sides", "side") and text:
+    if place.key == "sides" and len(text) > 1 and chance.random() < 0.4:
+        sides = list(text)
+        one, other = chance.sample(range(len(sides)), 2)
+        sides[one], sides[other] = sides[other], sides[one]
+        place.put("".join(sides))
+    elif place.key in ("sides", "side") and text:
         at = chance.randrange(len(text))
         place.put(text[:at] + chance.choice(["+", "-", "*", "", "++"]) + text[at + 1 :])
     elif chance.random() < 0.3 and text.lstrip("-").isdigit():

@@ -11,7 +11,9 @@ TOKENS = ["~", "+", "-", ":", "*", "^", "(", ")", "0", "1", "2", "y", "x", "z", 
           "1/2", "1e9", "99999999999", "é", "\t", "$", "..1"]
 NUMBERS = ["0", "1", "1/2", "0.25", "1e0", "3/2", "-1", "1/0", "1e99999", "", "170141183460469231731687303715884105728", "0x1", "1,2", "x", "+",
            "1/4,3/4", "99999999/100000000"]
-BYTES = [b",", b"\n", b"\r\n", b'"', b'""', b"\xff", b"\x00", b"\xef\xbb\xbf", b"NA", b"-", b"/", b"e", b"1e99999999999", b"1/0", b" ", b"`", b"9" * 50]
+BYTES = [b",", b"\n", b"\r\n", b'"', b'""', b"\xff", b"\x00", b"\xef\xbb\xbf", b"NA", b"-", b"/", b"e", b"1e99999999999", b"1/0", b" ", b"`",
+         b"9" * 50]
+SMOOTH = ["qss", "(", "x", ",", "1", ")"]
 CHANGES = []
 
 
@@ -26,11 +28,23 @@ class Change:
 
 
 def of_case(*jobs, weight=1):
-    return lambda function: CHANGES.append(Change(function, jobs or TABLE_JOBS, True, weight)) or function
+    """Notes a change of a case of these jobs, or of all that read a table."""
+
+    def noted(make):
+        CHANGES.append(Change(make, jobs or TABLE_JOBS, True, weight))
+        return make
+
+    return noted
 
 
 def of_run(*jobs, weight=1):
-    return lambda function: CHANGES.append(Change(function, jobs or tuple(JOBS), False, weight)) or function
+    """Notes a change of the words and bytes of these jobs, or of all."""
+
+    def noted(make):
+        CHANGES.append(Change(make, jobs or tuple(JOBS), False, weight))
+        return make
+
+    return noted
 
 
 def chosen(chance, job):
@@ -59,7 +73,8 @@ def another_job(chance, run):
 
 @of_run()
 def another_word(chance, run):
-    run.words.insert(chance.randrange(len(run.words) + 1), chance.choice(["--", "-", "--lo", "--lo=1/2", "--tau", "--help", "-h", "x", "", "--form=y ~ x"]))
+    others = ["--", "-", "--lo", "--lo=1/2", "--tau", "--help", "-h", "x", "", "--form=y ~ x"]
+    run.words.insert(chance.randrange(len(run.words) + 1), chance.choice(others))
 
 
 @of_run()
@@ -91,7 +106,8 @@ def falling_range(_, case):
 
 @of_case("process", "certify")
 def half_of_ranks(chance, case):
-    case.options.pop(chance.choice(["crit", "rank-at"]), None) or case.options.update({"crit": "1"})
+    case.options |= {"crit": "1", "rank-at": "1/2"}
+    del case.options[chance.choice(["crit", "rank-at"])]
 
 
 @of_case("process", "certify")
@@ -160,7 +176,7 @@ def added_item(chance, case):
 
 @of_case("ranks", "test", "predict", "path")
 def a_smooth(_, case):
-    case.tokens += ["+", "qss(x, 1)"]
+    case.tokens += ["+", *SMOOTH]
 
 
 @of_case()
@@ -203,7 +219,8 @@ def many_terms(_, case):
 @of_case(weight=2)
 def another_cell(chance, case):
     record = chance.choice(case.table.records)
-    record[chance.randrange(len(record))] = chance.choice(["", "NA", "n/a", "-", "1/0", "1e40", "-1", "0", "9" * 39, "1e-20", "1/170141183460469231731687303715884105727", "é"])
+    others = ["", "NA", "n/a", "-", "1/0", "1e40", "-1", "0", "9" * 39, "1e-20", "1/170141183460469231731687303715884105727", "é"]
+    record[chance.randrange(len(record))] = chance.choice(others)
 
 
 @of_run(*TABLE_JOBS)
@@ -251,13 +268,13 @@ def wide_column(chance, case):
 @of_case("process", "certify")
 def close_knots(chance, case):
     """Their distances have the product of the denominators as theirs, which is wider than 128 bits."""
-    case.tokens[2:] = ["qss", "(", "x", ",", "1", ")"]
+    case.tokens[2:] = SMOOTH
     case.table.fill("x", [f"1/{10**30 + chance.randrange(10**6)}" for _ in range(max(4, len(case.table.records)))])
 
 
 @of_case("process", "certify")
 def many_knots(_, case):
-    case.tokens[2:] = ["qss", "(", "x", ",", "1", ")"]
+    case.tokens[2:] = SMOOTH
     case.table.fill("x", [str(k) for k in range(300)])
 
 
@@ -268,7 +285,7 @@ def smooth_of_texts(chance, case):
 
 @of_case("process", "certify")
 def few_knots(chance, case):
-    case.tokens[2:] = ["qss", "(", "x", ",", "1", ")"]
+    case.tokens[2:] = SMOOTH
     case.table.fill("x", [chance.choice("01") for _ in range(max(2, len(case.table.records)))])
 
 

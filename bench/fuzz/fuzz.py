@@ -3,11 +3,11 @@
 
     fuzz.py PROGRAM [--seed N] [--runs N] [--from N] [--workers N] [--all]
 
-That is a signal, ten seconds of a processor or a minute by the clock, a line of faults that the man page lacks or that goes with another status, output after a refusal, a
-report that isn't whole, another answer to the same input, a certificate of `certify` that `check` doesn't accept, and a verdict of
-`check` other than that of checker/quantreg_check.py. The numbers of runs begin at --from, 0 where it isn't given; each is made from
-the seed and its number alone, so that it can be made again, and --runs 1 prints it whole. At the end stand counts by job and by fault. With --all it
-fails too where a job has no report, or a fault that a small input can meet wasn't met.
+That is a signal, ten seconds of a processor or a minute by the clock, a fault line that the man page lacks or that goes with another
+status, output after a refusal, a report that isn't whole, another answer to the same input, a certificate of `certify` that `check`
+doesn't accept save for an overflow, and a verdict of `check` other than that of checker/quantreg_check.py. The numbers of the runs begin
+at --from, or at 0; each run is made from the seed and its number alone, and --runs 1 prints it whole. At the end stand counts by job and
+by fault. With --all it fails too where a job has no report, or where a fault that a small input can meet wasn't met.
 """
 
 import argparse
@@ -38,7 +38,7 @@ MOST_SHOWN = 4000
 FIRST_LINES = {"process": b"quantreg 1\n"} | {job: f"quantreg {job} 1\n".encode() for job in JOBS if job not in ("process", "certify")}
 # The status of a group, or of a fault, where it isn't 1.
 STATUSES = {"usage": 2, "solver: PivotLimit": 6, "solver: Overflow": 7, "check": 8}
-# What no small input on good streams meets: inputs and certificates of many megabytes, want of memory, and what another fault forestalls.
+# What no small input meets, for its length or since another fault comes first; and what comes of streams and memory that are not there.
 TOO_LARGE = {"input: TooLong", "certificate: CertTooLong", "program: TooManyColumns"}
 OF_STREAMS = {"source: SourceFault", "sink: SinkFault", "memory: OutOfMemory"}
 FIELDS = {"N": r"\d+", "V": r"-?\d+(?:/\d+)?", "V,V": r"-?\d+(?:/\d+)?(?:,-?\d+(?:/\d+)?)*", "NAME": ".*", "PATH": ".*", "..": r"\S+"}
@@ -210,27 +210,29 @@ def tried(program, seed, number):
         return job, "wrong", f"run {number} of the seed {seed}: {wrong}"
 
 
+def without_detail(fault):
+    """A fault without the place or the condition behind it."""
+    return " ".join(fault.split()[:2])
+
+
 def print_counts(counts):
-    """Two tables: each job with its runs and reports, and each fault with how often it was met."""
-    jobs, reports = Counter(), Counter()
-    faults = Counter({fault: 0 for fault in FAULTS})
-    for (job, fault), count in counts.items():
-        jobs[job] += count
-        reports[job] += count if not fault else 0
-        if fault and fault != "wrong":
-            faults[fault] += count
+    """Two tables: each job with its runs and reports, and each fault in the order of the man page with how often it was met."""
     print(f"\n{'job':10} {'runs':>8} {'status 0':>9}")
     for job in JOBS:
-        print(f"{job:10} {jobs[job]:8} {reports[job]:9}")
+        runs = sum(count for (of, _), count in counts.items() if of == job)
+        print(f"{job:10} {runs:8} {counts[job, '']:9}")
+    faults = Counter()
+    for (_, fault), count in counts.items():
+        faults[fault] += count
     print(f"\n{'fault':42} {'runs':>8}")
-    for fault in sorted(faults, key=lambda it: (list(FAULTS).index(it.split(" place=")[0].split(" condition=")[0]), it)):
-        if faults[fault] or not any(it.startswith(fault + " ") for it in faults):
-            print(f"{fault:42} {faults[fault]:8}")
+    for fault in FAULTS:
+        for it in sorted(it for it in faults if without_detail(it) == fault) or [fault]:
+            print(f"{it:42} {faults[it]:8}")
 
 
 def unmet(counts):
     """The jobs without a report, and the faults that a small input can meet and none did."""
-    met = {re.sub(" (place|condition)=.*", "", fault) for _, fault in counts}
+    met = {without_detail(fault) for _, fault in counts}
     yield from (f"the job {job} has no report" for job in JOBS if not counts[job, ""])
     yield from (f"never met: {fault}" for fault in FAULTS if fault not in met | TOO_LARGE | OF_STREAMS)
 
@@ -254,9 +256,11 @@ def main():
             failed += bool(wrong)
             if wrong:
                 print(wrong, flush=True)
-    if given.runs == 1 and not failed:
-        _, run = drawn_run(program, given.seed, given.first)
-        print(shown(run, run_once(program, run)))
+    if given.runs == 1:
+        if not failed:
+            _, run = drawn_run(program, given.seed, given.first)
+            print(shown(run, run_once(program, run)))
+        return failed
     reports = sum(count for (_, fault), count in counts.items() if not fault)
     print(f"fuzz: {given.runs} runs of the seed {given.seed}: {reports} with status 0, {failed} wrong")
     print_counts(counts)
