@@ -209,7 +209,6 @@ def drawn(chance, job):
         tokens += ["+", "x"]
         options["tested"] = chance.choice(["2", "2", "2", "1", "3", "2,3", "1,3"])
     if job == "predict":
-        made.kinds["y"] = "number"
         for record in chance.sample(made.records, min(len(made.records), chance.randint(1, 3))):
             record[made.header.index("y")] = chance.choice(["", "NA"])
     if ranked:
