@@ -145,6 +145,20 @@ stopifnot(inherits(try(anova(rq_exact(dist ~ speed, cars), rq_exact(dist ~ 1, he
 named <- suppressWarnings(rank_test_exact(stack.loss ~ ., stackloss, "Acid.Conc."))
 stopifnot(named$columns == 1, identical(names(named$scores), "Acid.Conc."))
 
+# Many fits at once, in the order of the jobs, and all quantiles by parts: the single run's but for its pivots.
+jobs <- lapply(c(0.25, 0.5, 0.75), function(tau) list(formula = dist ~ speed, data = cars, tau = tau))
+stopifnot(identical(lapply(fit_all(jobs), coef, exact = TRUE), lapply(jobs, function(job) coef(do.call(rq_exact, job), exact = TRUE))))
+stopifnot(inherits(try(fit_all(c(jobs, list(list(formula = dist ~ nothing, data = cars)))), silent = TRUE), "try-error"))
+single <- rq_exact(stack.loss ~ ., stackloss, tau = -1)
+for (parts in c(1, 2, 3, 7)) {
+    found <- fit_parts(stack.loss ~ ., stackloss, parts)
+    stopifnot(identical(found$segments, single$segments), identical(found$exact, single$exact), identical(found$tau, single$tau))
+}
+# A cut at a breakpoint is seen by the marks, and parts that can't be joined are fitted as one.
+ends <- list(list(marks = "1*0*", hi = "1/2"), list(marks = "1**0", hi = "1"))
+left <- list(segments = ends[1], pivots = 1)
+stopifnot(is.null(quantreg.exact:::joined(left, list(segments = ends[2], pivots = 1))))
+
 # Each picture has something on it.
 if (capabilities("png")) {
     for (draw in list(
