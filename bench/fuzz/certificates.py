@@ -110,18 +110,25 @@ def other_item(chance, place):
             place.within[at], place.within[place.at] = place.within[place.at], place.within[at]
 
 
+def named(top, key):
+    """The first place of a key; the change before may have taken it away."""
+    return next((place for place in places(top) if place.key == key), None)
+
+
 def other_version(chance, top):
-    version = next(place for place in places(top) if place.key == "version")
-    version.put(chance.choice([1, 2, 3, 0, "1", -1, 1.0, 2**64]))
+    if (version := named(top, "version")) is not None:
+        version.put(chance.choice([1, 2, 3, 0, "1", -1, 1.0, 2**64]))
 
 
 def large(chance, top):
     """More columns than may be, or more rows."""
+    columns, rows = named(top, "columns"), named(top, "rows")
     if chance.random() < 0.9:
-        next(place for place in places(top) if place.key == "columns").put(chance.choice([129, 2**32 - 1]))
-    else:
-        rows = next(place for place in places(top) if place.key == "rows")
-        rows.put((rows.value or [Object()])[:1] * 16385)
+        if columns is not None:
+            columns.put(chance.choice([129, 2**32 - 1]))
+    elif rows is not None:
+        row = rows.value if isinstance(rows.value, list) and rows.value else [Object()]
+        rows.put(row[:1] * 16385)
 
 
 def changed(chance, top):
@@ -129,16 +136,17 @@ def changed(chance, top):
     kind = chance.choices(["text", "doubled", "key", "item", "value", "version", "large"], [9, 4, 3, 3, 2, 1.5, 1.5])[0]
     found = list(places(top))
     objects = [place for place in found if isinstance(place.within, Object)]
+    texts = [place for place in found if isinstance(place.value, str)]
     match kind:
-        case "text":
-            other_text(chance, chance.choice([place for place in found if isinstance(place.value, str)]))
-        case "doubled":
+        case "text" if texts:
+            other_text(chance, chance.choice(texts))
+        case "doubled" if objects:
             doubled_key(chance, chance.choice(objects))
-        case "key":
+        case "key" if objects:
             other_key(chance, chance.choice(objects))
         case "item" if len(found) > len(objects):
             other_item(chance, chance.choice([place for place in found if not isinstance(place.within, Object)]))
-        case "value":
+        case "value" if found:
             chance.choice(found).put(tree(chance.choice(VALUES)))
         case "version" if isinstance(top, Object):
             other_version(chance, top)
