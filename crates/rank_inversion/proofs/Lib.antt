@@ -10,4 +10,6 @@ mod WalkLaws
 mod NoStep
 pub mod Costs
 pub mod Causes
+mod Joined
+mod Started
 mod Inverted

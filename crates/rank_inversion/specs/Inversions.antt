@@ -18,6 +18,7 @@ use Rattle.rank_inversion.specs.declared.column_test.Asked.{Asked}
 use Rattle.rank_inversion.specs.declared.walking.Arrival.{Arrival}
 use Rattle.rank_inversion.specs.declared.walking.WalkHalt.{WalkHalt}
 use Rattle.rank_inversion.specs.Stops.{IsBound, IsWalkStop}
+use Rattle.rank_inversion.specs.Trails.{with_walks}
 use Rattle.rank_inversion.specs.Walks.{IsEnded, IsHalted}
 
 -- the problem, the column, the quantile and the critical value are such as an interval is asked for
@@ -35,8 +36,7 @@ course_of v way = record { way = way; column = v.asked.column; tau = v.asked.tau
 
 -- the trail of the solve, with the steps of both walks
 abbrev pub trail_with : {F : Type 0} → Inversion F → List (Exchange F) → List (Exchange F) → Trail F
-trail_with v rise fall =
-    record { start = v.solved.now.trail.start; steps = v.solved.now.trail.steps; rise = rise; fall = fall }
+trail_with v = with_walks v.solved.now.trail
 
 module _ {F : Type 0} (value : F → Fraction) where
   -- what is asked is such, the solve is one at the quantile and within the limit, and the bound is that by a

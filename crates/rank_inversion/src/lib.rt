@@ -18,11 +18,14 @@ mod job;
 mod look;
 mod projection;
 mod station;
+mod trails;
 mod walking;
+mod wholes;
 
 pub use br_pivot::{Solved, solve_at};
 pub use column_test::{Asked, RankTest, rank_test};
 pub use gram::{GramInverse, gram_inverse};
-pub use inversion::{interval, interval_from};
+pub use inversion::{interval, interval_after};
 pub use job::IntervalJob;
 pub use projection::{Projected, project};
+pub use wholes::{Started, start_in_wholes};
