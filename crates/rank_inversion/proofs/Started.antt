@@ -1,7 +1,8 @@
 -- The interval of both walks in whole numbers.
 use Rattle.std.specs.Prelude.{◌≡◌, ◌-◌, ◌+◌, ◌≤◌, ℕ, length}
-use Rattle.std.proofs.Common.{arith}
+use Rattle.std.proofs.Common.{arith, sym, subst}
 use Rattle.exact_algebra.specs.Fraction.{Fraction, rational}
+use Rattle.loss_model.specs.declared.interval.Interval.{Interval}
 use Rattle.loss_model.specs.declared.problem.Problem.{Problem}
 use Rattle.loss_model.specs.Problem.{sample}
 use Rattle.pivot_rule.specs.Trails.{IsOptimalBasis}
@@ -44,3 +45,14 @@ module _ {F : Type 0} (value : F → Fraction) (s : Started F) (asked : Asked F)
         let few : length w.rise.steps + length w.fall.steps ≤ limit - length s.reached.trail.steps = sides.short in
         interval_is value p asked askable s.reached.trail s.reached.tableau.rows w.factors w.rise.steps w.fall.steps w.rise.end w.fall.end h.reached.lawful optimal sides.projection sides.positive sides.size
         sides.rise.walked sides.fall.walked sides.rise.ended sides.fall.ended limit (omega (arith, made, few))
+
+-- what was begun for a problem is of that problem
+module _ {F : Type 0} (value : F → Fraction) (p : Problem F) (s : Started F) (asked : Asked F) (limit : ℕ) (h : IsStarted value p (rational (value asked.tau)) limit s) where
+  pub started_there : IsStarted value s.reached.tableau.problem (rational (value asked.tau)) limit s
+  started_there = subst (λ q. IsStarted value q (rational (value asked.tau)) limit s) (sym h.reached.problem) h
+
+  pub askable_there : IsAskable value p asked → IsAskable value s.reached.tableau.problem asked
+  askable_there askable = subst (λ q. IsAskable value q asked) (sym h.reached.problem) askable
+
+  pub interval_here : (r : Interval F) → IsRankInterval value s.reached.tableau.problem asked.column asked.tau asked.crit limit r → IsRankInterval value p asked.column asked.tau asked.crit limit r
+  interval_here r is = subst (λ q. IsRankInterval value q asked.column asked.tau asked.crit limit r) h.reached.problem is

@@ -275,8 +275,32 @@ fn by_parts<F: Exact>(
     }
 }
 
-/// The interval in whole numbers, if the quantile was solved in them.
-fn quick_interval<F: Exact>(
+/// The interval in whole numbers, or else by its parts.
+fn or_by_parts<F: Exact>(
+    alloc: Global,
+    problem: &Problem<F>,
+    quick: Option<Interval<F>>,
+    asked: Asked<F>,
+    limit: u32,
+) -> Result<Interval<F>, Stop<F>>
+    requires asked { IsAskable F.value problem.now asked }
+    requires quick { IfSome quick (IsRankInterval F.value problem.now asked.column asked.tau asked.crit limit) }
+    ensures exact { IfOk result (IsExactInterval F.value problem.now asked.column (rational (F.value asked.tau)) (rational (F.value asked.crit))) }
+    ensures interval { IfOk result (IsRankInterval F.value problem.now asked.column asked.tau asked.crit limit) }
+    ensures stopped { IfErr result (IsIntervalStop F.value F.range problem.now asked.column (rational (F.value asked.tau)) (rational (F.value asked.crit)) limit) }
+    ensures limited { IsLimited F.value problem.now asked.column (rational (F.value asked.tau)) (rational (F.value asked.crit)) limit → IsLimitAnswer result }
+{
+    if let Some(interval) = quick {
+        return Ok(interval);
+    }
+    match by_parts(alloc, problem, asked, limit) {
+        Ok(interval) => Ok(interval),
+        Err(stop) => Err(stop),
+    }
+}
+
+/// The interval of a column from the solve at its quantile, where that is in whole numbers.
+fn interval_by<F: Exact>(
     alloc: Global,
     problem: &Problem<F>,
     started: &Option<Started<'_, F>>,
@@ -294,9 +318,8 @@ fn quick_interval<F: Exact>(
     }
 }
 
-/// The rank interval of a column, where its quantile may have been solved in whole numbers: these are tried first,
-/// and where they are too wide all is done again in fractions. It is what `interval` is, of which the contract says the
-/// same.
+/// The rank interval of a column, where the solve at its quantile may have been made in whole numbers before: what
+/// `interval` answers, without that solve. Where whole numbers don't suffice, all is done in fractions.
 pub fn interval_after<F: Exact>(
     alloc: Global,
     problem: &Problem<F>,
@@ -311,13 +334,27 @@ pub fn interval_after<F: Exact>(
     ensures stopped { IfErr result (IsIntervalStop F.value F.range problem.now asked.column (rational (F.value asked.tau)) (rational (F.value asked.crit)) limit) }
     ensures limited { IsLimited F.value problem.now asked.column (rational (F.value asked.tau)) (rational (F.value asked.crit)) limit → IsLimitAnswer result }
 {
-    if let Some(interval) = quick_interval(alloc, problem, started, asked, limit) {
-        return Ok(interval);
-    }
-    match by_parts(alloc, problem, asked, limit) {
-        Ok(interval) => Ok(interval),
-        Err(stop) => Err(stop),
-    }
+    let quick = interval_by(alloc, problem, started, asked, limit);
+    or_by_parts(alloc, problem, quick, asked, limit)
+}
+
+/// The rank interval of a column in whole numbers alone. There is none where they don't suffice, where a limit is
+/// reached, where the columns are dependent, and where memory is wanting: `interval` tells which.
+pub fn interval_in_wholes<F: Exact>(
+    alloc: Global,
+    problem: &Problem<F>,
+    asked: Asked<F>,
+    limit: u32,
+) -> Option<Interval<F>>
+    requires { IsAskable F.value problem.now asked }
+    ensures { IfSome result (IsRankInterval F.value problem.now asked.column asked.tau asked.crit limit) }
+{
+    let setting = match setting_of(alloc, problem) {
+        Ok(setting) => setting,
+        Err(_) => return None,
+    };
+    let started = start_in_wholes(alloc, problem, &setting, asked.tau, limit);
+    interval_by(alloc, problem, &started, asked, limit)
 }
 
 /// The rank interval of a column at the quantile tau for a critical value: the tested values for which some
@@ -348,10 +385,6 @@ pub fn interval<F: Exact>(
     ensures limited { IsLimited F.value problem.now column (rational (F.value tau)) (rational (F.value crit)) limit → IsLimitAnswer result }
 {
     let asked = Asked { column, tau, crit };
-    let setting = match setting_of(alloc, problem) {
-        Ok(setting) => setting,
-        Err(_) => return interval_after(alloc, problem, &None, asked, limit),
-    };
-    let started = start_in_wholes(alloc, problem, &setting, tau, limit);
-    interval_after(alloc, problem, &started, asked, limit)
+    let quick = interval_in_wholes(alloc, problem, asked, limit);
+    or_by_parts(alloc, problem, quick, asked, limit)
 }

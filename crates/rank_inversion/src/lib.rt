@@ -25,7 +25,7 @@ mod wholes;
 pub use br_pivot::{Solved, solve_at};
 pub use column_test::{Asked, RankTest, rank_test};
 pub use gram::{GramInverse, gram_inverse};
-pub use inversion::{interval, interval_after};
+pub use inversion::{interval, interval_after, interval_in_wholes};
 pub use job::IntervalJob;
 pub use projection::{Projected, project};
 pub use wholes::{Started, start_in_wholes};

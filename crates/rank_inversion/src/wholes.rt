@@ -43,7 +43,7 @@ pub fn start_in_wholes<'a, F: Exact>(
 {
     let reached = reach_in_wholes(alloc, problem, setting, tau, limit)?;
     let rows = reached.tableau.setting().wholes.rows.as_slice();
-    match whole_gram(alloc, rows, problem.columns) {
+    match whole_gram(alloc, rows, reached.tableau.problem().columns) {
         Ok(gram) => Some(Started { reached, gram }),
         Err(_) => None,
     }

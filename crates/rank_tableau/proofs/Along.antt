@@ -49,7 +49,8 @@ when_is value rise x = refl
 when_is value fall x = refl
 
 module _ {F : Type 0} (value : F → Fraction) (c : Course F) where
-  pub along_begins : (r : Square) (w : Walk F) → IsKept value (here_of w) → w.steps ≡ [] → rational (value w.weight) ≡ whole (pos 0) → HasNoNegativeSlope (sample value (here_of w).problem) (slice_index (here_of w).rows) (place value (here_of w)).inverse (rational (value c.tau))
+  pub along_begins : (r : Square) (w : Walk F) → IsKept value (here_of w) → w.steps ≡ [] → rational (value w.weight) ≡ whole (pos 0)
+      → HasNoNegativeSlope (sample value (here_of w).problem) (slice_index (here_of w).rows) (place value (here_of w)).inverse (rational (value c.tau))
       → IsAlong value (here_of w).problem c (bound_by (here_of w) c.column r) (here_of w).rows r w
   along_begins r w kept none nothing stop =
       record {
@@ -57,8 +58,10 @@ module _ {F : Type 0} (value : F → Fraction) (c : Course F) where
         kept = kept;
         bound_is = refl;
         walking =
-            subst (λ t. IsWalking value (here_of w).problem (way_of c.way) c.column (rational (value c.tau)) (bound_by (here_of w) c.column r) (here_of w).rows w.steps t (here_of w).rows (place value (here_of w)).inverse) (sym (nothing_at (way_of c.way) (rational (value w.weight)) nothing))
-            (subst (λ steps. IsWalking value (here_of w).problem (way_of c.way) c.column (rational (value c.tau)) (bound_by (here_of w) c.column r) (here_of w).rows steps (whole (pos 0)) (here_of w).rows (place value (here_of w)).inverse) (sym none)
+            subst (λ t. IsWalking value (here_of w).problem (way_of c.way) c.column (rational (value c.tau)) (bound_by (here_of w) c.column r) (here_of w).rows w.steps t
+            (here_of w).rows (place value (here_of w)).inverse) (sym (nothing_at (way_of c.way) (rational (value w.weight)) nothing))
+            (subst (λ steps. IsWalking value (here_of w).problem (way_of c.way) c.column (rational (value c.tau)) (bound_by (here_of w) c.column r) (here_of w).rows steps
+            (whole (pos 0)) (here_of w).rows (place value (here_of w)).inverse) (sym none)
             (loop.begins value (here_of w).problem (way_of c.way) c.column (rational (value c.tau)) (bound_by (here_of w) c.column r) (here_of w).rows (place value (here_of w)).inverse kept.size
             (kept_is_place value (here_of w) kept).is_basis (kept_is_place value (here_of w) kept).ends stop));
       }
@@ -123,7 +126,8 @@ module _ {F : Type 0} (value : F → Fraction) (p : Problem F) (c : Course F) (b
         record {
           problem = same_problem;
           kept = a.kept;
-          bound_is = ap (λ (s : Setting). share (pos (value_of r.over)) (pos (value_of r.under)) *ℚ inverse ((factor_value s.wholes.cost *ℚ factor_at s.wholes.factors c.column) *ℚ (factor_value s.wholes.cost *ℚ factor_at s.wholes.factors c.column))) a.setting ∙ h.bound_is;
+          bound_is = ap (λ (s : Setting). share (pos (value_of r.over)) (pos (value_of r.under)) *ℚ inverse
+              ((factor_value s.wholes.cost *ℚ factor_at s.wholes.factors c.column) *ℚ (factor_value s.wholes.cost *ℚ factor_at s.wholes.factors c.column))) a.setting ∙ h.bound_is;
           walking =
               subst (λ steps. W steps (parameter_at value c after.weight) (here_of after).rows (place value (here_of after)).inverse) (sym a.steps)
               (subst (λ t. W (before.steps ++ x ∷ []) t (here_of after).rows (place value (here_of after)).inverse) (when_is value (way_of c.way) x.theta ∙ ap (parameter_at value c) (sym a.weight))

@@ -46,7 +46,8 @@ pub positive_factor : (f : Factor) → IsPositive f → ¬ (factor_value f ≤�
 positive_factor f h = share_above f.over f.under h.under (omega (arith, ints, h.over))
 
 -- a step by a next breakpoint that is within the bound
-step_on : (way : Way) (p : Sample) (tau : ℚ) (j : ℕ) (at : ℕ → ℕ) (a : ℕ → ℕ → ℚ) (bound from t : ℚ) (k r : ℕ) (d : Direction) → IsNextBreak (tested way p tau j) at a from t k d → (t *ℚ t) ≤ℚ bound → IsFirstMover p at a k d r
+step_on : (way : Way) (p : Sample) (tau : ℚ) (j : ℕ) (at : ℕ → ℕ) (a : ℕ → ℕ → ℚ) (bound from t : ℚ) (k r : ℕ) (d : Direction)
+    → IsNextBreak (tested way p tau j) at a from t k d → (t *ℚ t) ≤ℚ bound → IsFirstMover p at a k d r
     → IsWalkingStep (tested way p tau j) at a (is_within bound) from t k r
 step_on rise p tau j at a bound from t k r d next within first = record { direction = d; break = next; within = within.le; entering = first }
 step_on fall p tau j at a bound from t k r d next within first = record { direction = d; break = next; within = within.le; entering = first }

@@ -12,7 +12,8 @@ returns-in-Some-true g c =
     let h = c.requires in
     let test = rw (c.in-Some-true.is) at c.is_beyond.ensures in
     let beyond : is_gt (nat_cmp ((value_of r.under * b.theta.over) * b.theta.over) ((value_of r.over * b.theta.under) * b.theta.under)) ≡ true = sym test ∙ c.in-Some-true.field-0-test in
-    past_here g.F.Exact.value c.args.tableau.now h.kept c.args.course.now h.column c.args.station.now h.station c.args.from h.optimal c.args.factor h.factor h.positive b h.first h.divisor c.in_ok-theta.theta (c.in_ok-theta.ensures {u = tt}) r h.reach beyond
+    past_here g.F.Exact.value c.args.tableau.now h.kept c.args.course.now h.column c.args.station.now h.station c.args.from h.optimal c.args.factor
+    h.factor h.positive b h.first h.divisor c.in_ok-theta.theta (c.in_ok-theta.ensures {u = tt}) r h.reach beyond
 
 pub returns-in-Ok-Some : goal.returns-in-Ok-Some
 returns-in-Ok-Some g c =
@@ -21,7 +22,8 @@ returns-in-Ok-Some g c =
     let h = c.requires in
     let test = rw (c.in-Some-false.is) at c.is_beyond.ensures in
     let within : is_gt (nat_cmp ((value_of r.under * b.theta.over) * b.theta.over) ((value_of r.over * b.theta.under) * b.theta.under)) ≡ false = sym test ∙ c.in-Some-false.field-0-test in
-    step_here g.F.Exact.value c.args.tableau.now h.kept c.args.course.now h.column c.args.station.now h.station c.args.from h.optimal c.args.factor h.factor h.positive b h.first h.divisor c.in_ok-theta.theta (c.in_ok-theta.ensures {u = tt}) r h.reach within _ refl c.turned.ensures (rw (c.in-Ok-Some.field-0-is) at (c.in-Ok-Some.ensures {u = tt}))
+    step_here g.F.Exact.value c.args.tableau.now h.kept c.args.course.now h.column c.args.station.now h.station c.args.from h.optimal c.args.factor
+    h.factor h.positive b h.first h.divisor c.in_ok-theta.theta (c.in_ok-theta.ensures {u = tt}) r h.reach within _ refl c.turned.ensures (rw (c.in-Ok-Some.field-0-is) at (c.in-Ok-Some.ensures {u = tt}))
 
 pub returns-in-Ok-None : goal.returns-in-Ok-None
 returns-in-Ok-None g c =
@@ -30,4 +32,5 @@ returns-in-Ok-None g c =
     let h = c.requires in
     let test = rw (c.in-Some-false.is) at c.is_beyond.ensures in
     let within : is_gt (nat_cmp ((value_of r.under * b.theta.over) * b.theta.over) ((value_of r.over * b.theta.under) * b.theta.under)) ≡ false = sym test ∙ c.in-Some-false.field-0-test in
-    stuck_here g.F.Exact.value c.args.tableau.now h.kept c.args.course.now h.column c.args.station.now h.station c.args.from h.optimal c.args.factor h.factor h.positive b h.first h.divisor c.in_ok-theta.theta (c.in_ok-theta.ensures {u = tt}) r h.reach within (rw (c.in-Ok-None.field-0-is) at (c.in-Ok-None.ensures {u = tt}))
+    stuck_here g.F.Exact.value c.args.tableau.now h.kept c.args.course.now h.column c.args.station.now h.station c.args.from h.optimal c.args.factor
+    h.factor h.positive b h.first h.divisor c.in_ok-theta.theta (c.in_ok-theta.ensures {u = tt}) r h.reach within (rw (c.in-Ok-None.field-0-is) at (c.in-Ok-None.ensures {u = tt}))

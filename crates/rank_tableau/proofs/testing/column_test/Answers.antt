@@ -24,13 +24,16 @@ returns g c =
     = λ m lm. c.in_ok-factors.ensures.each m (subst (λ n. m < n) wide lm)
     ∙ ap (λ (fs : List Factor). unscaled_factors (factor_at fs) c.args.column (share_at found.denominator found.numerators) m) scales in
     record {
-      projection = projects_there (sample g.F.Exact.value k.problem) (wholes_of k) (factor_at w.factors) (factor_value w.response) (factor_value w.cost) c.args.column (share_at found.denominator found.numerators) (value_at g.F.Exact.value c.in_ok-factors.factors)
+      projection = projects_there (sample g.F.Exact.value k.problem) (wholes_of k) (factor_at w.factors) (factor_value w.response) (factor_value w.cost) c.args.column
+          (share_at found.denominator found.numerators) (value_at g.F.Exact.value c.in_ok-factors.factors)
           c.requires.column setting.scaled setting.factors cost there same;
-      positive = positive_there (sample g.F.Exact.value k.problem) (wholes_of k) (factor_at w.factors) (factor_value w.response) (factor_value w.cost) c.args.column (share_at found.denominator found.numerators) (value_at g.F.Exact.value c.in_ok-factors.factors)
+      positive = positive_there (sample g.F.Exact.value k.problem) (wholes_of k) (factor_at w.factors) (factor_value w.response) (factor_value w.cost) c.args.column
+          (share_at found.denominator found.numerators) (value_at g.F.Exact.value c.in_ok-factors.factors)
           c.requires.column setting.scaled setting.factors cost there same (c.in_ok-reach.ensures.positive (wholes_of k) c.requires.gram there);
       size = c.in_ok-factors.ensures.size ∙ sym wide;
       under = c.in_ok-reach.ensures.under;
-      bound = bound_there (sample g.F.Exact.value k.problem) (wholes_of k) (factor_at w.factors) (factor_value w.response) (factor_value w.cost) c.args.column (share_at found.denominator found.numerators) (value_at g.F.Exact.value c.in_ok-factors.factors)
+      bound = bound_there (sample g.F.Exact.value k.problem) (wholes_of k) (factor_at w.factors) (factor_value w.response) (factor_value w.cost) c.args.column
+          (share_at found.denominator found.numerators) (value_at g.F.Exact.value c.in_ok-factors.factors)
           c.requires.column setting.scaled setting.factors cost there same
           (rational (g.F.Exact.value c.args.tau)) (rational (g.F.Exact.value c.args.crit)) _ (c.in_ok-reach.ensures.bound (wholes_of k) c.requires.gram there);
     }

@@ -1,5 +1,5 @@
 use Rattle.rank_inversion.proofs.Inverted.{exact_is, none_limited, stop_limited}
-use Rattle.rank_inversion.proofs.inversion.interval_after.Goals as goal
+use Rattle.rank_inversion.proofs.inversion.or_by_parts.Goals as goal
 
 pub returns-in-Some-clause-exact : goal.returns-in-Some-clause-exact
 returns-in-Some-clause-exact g c =
