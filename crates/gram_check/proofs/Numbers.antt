@@ -29,7 +29,8 @@ sum_is own d n row numerators size some e none =
     (sym (share_none n d none) ∙ rest_share own d (total row numerators) n _ some e (share-total row numerators d size))
 
 -- an equation more
-pub one_more : (rows : List (List ℤ)) (column i : ℕ) (numerators : List ℤ) (d : ℤ) (row : List ℤ) → i < length rows → row ≡ get_or rows i row → length row ≡ length numerators → length rows ≡ length numerators → column < length numerators
+pub one_more : (rows : List (List ℤ)) (column i : ℕ) (numerators : List ℤ) (d : ℤ) (row : List ℤ)
+    → i < length rows → row ≡ get_or rows i row → length row ≡ length numerators → length rows ≡ length numerators → column < length numerators
     → ((k : ℕ) → k < i → k ≢ column → entry rows k column ≡ sum_ℚ (length rows) (λ l. entry rows k l *ℚ share_at d numerators l))
     → (i ≢ column → IsSumOf (get_or row column (pos 0)) row numerators d)
     → (k : ℕ) → k < i + 1 → k ≢ column → entry rows k column ≡ sum_ℚ (length rows) (λ l. entry rows k l *ℚ share_at d numerators l)
@@ -66,7 +67,8 @@ projects rows column numerators d size lc own equations p h =
     inside = subst (λ n. column < n) (sym (h.size ∙ size)) lc
 
 -- the squared length, by the row of the column
-pub length_is : (rows : List (List ℤ)) (column : ℕ) (numerators : List ℤ) (d n : ℤ) (row : List ℤ) → column < length rows → row ≡ get_or rows column row → length row ≡ length rows → length numerators ≡ length rows → pos 1 ≤ℤ d
+pub length_is : (rows : List (List ℤ)) (column : ℕ) (numerators : List ℤ) (d n : ℤ) (row : List ℤ)
+    → column < length rows → row ≡ get_or rows column row → length row ≡ length rows → length numerators ≡ length rows → pos 1 ≤ℤ d
     → n ≡ (get_or row column (pos 0) *ℤ d) +ℤ neg_ℤ (total row numerators)
     → (p : Sample) → HasGram p rows → IsProjection p column (share_at d numerators) → share n d ≡ squared_length p column (share_at d numerators)
 length_is rows column numerators d n row lc is wide size some e p h projection =

@@ -31,7 +31,8 @@ module _ (p q : Sample) (s : ℕ → ℚ) (ly lc : ℚ) (j : ℕ) (c : ℕ → �
       ap₂ (λ u z. u *ℚ z) (h.up1 i li) (ap₂ (λ x z. x -ℚ z) (h.x i j li lj) (fit i li))
       ∙ ring_ℚ (lc ∷ p.up1 i ∷ s j ∷ p.x i j ∷ fitted p (unscaled_factors s j c) i ∷ []) ((v0 ⊠ v1) ⊠ ((v2 ⊠ v3) ⊟ (v2 ⊠ v4))) ((v0 ⊠ v2) ⊠ (v1 ⊠ (v3 ⊟ v4))) refl
 
-  crossed : (k : ℕ) → k < p.columns → sum_ℚ q.rows (λ i. projected q j c i *ℚ (q.up1 i *ℚ q.x i k)) ≡ ((lc *ℚ s j) *ℚ (lc *ℚ s k)) *ℚ sum_ℚ p.rows (λ i. projected p j (unscaled_factors s j c) i *ℚ (p.up1 i *ℚ p.x i k))
+  crossed : (k : ℕ) → k < p.columns → sum_ℚ q.rows (λ i. projected q j c i *ℚ (q.up1 i *ℚ q.x i k)) ≡
+      ((lc *ℚ s j) *ℚ (lc *ℚ s k)) *ℚ sum_ℚ p.rows (λ i. projected p j (unscaled_factors s j c) i *ℚ (p.up1 i *ℚ p.x i k))
   crossed k lk =
       ap (λ n. sum_ℚ n (λ i. projected q j c i *ℚ (q.up1 i *ℚ q.x i k))) h.rows
       ∙ sum_ℚ-same p.rows (λ i. projected q j c i *ℚ (q.up1 i *ℚ q.x i k)) (λ i. ((lc *ℚ s j) *ℚ (lc *ℚ s k)) *ℚ (projected p j (unscaled_factors s j c) i *ℚ (p.up1 i *ℚ p.x i k)))

@@ -346,7 +346,12 @@ pub fn interval_in_wholes<F: Exact>(
     asked: Asked<F>,
     limit: u32,
 ) -> Option<Interval<F>>
-    requires { IsAskable F.value problem.now asked }
+    requires shaped { IsWellShaped problem.now }
+    requires column { asked.column < problem.now.columns }
+    requires tau_above { whole (pos 0) <ℚ rational (F.value asked.tau) }
+    requires tau_below { rational (F.value asked.tau) <ℚ whole (pos 1) }
+    requires crit { whole (pos 0) ≤ℚ rational (F.value asked.crit) }
+    requires data { (i : ℕ) → i < length problem.now.rows → IsDataRow (sample F.value problem.now) i }
     ensures { IfSome result (IsRankInterval F.value problem.now asked.column asked.tau asked.crit limit) }
 {
     let setting = match setting_of(alloc, problem) {
