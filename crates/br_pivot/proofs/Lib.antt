@@ -1,4 +1,4 @@
 pub mod Limits
 pub mod Found
 pub mod Halts
-pub mod Reached
+pub mod Standing

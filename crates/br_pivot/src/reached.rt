@@ -43,13 +43,11 @@ pub fn reach_in_wholes<'a, F: Exact>(
         Ok(solved) => solved,
         Err(_) => return None,
     };
-    match solved.tableau {
+    let Progress { tableau, trail } = solved;
+    match tableau {
         Tableau::Wholes(tableau) => {
             let _held = tableau.held();
-            Some(Reached {
-                tableau,
-                trail: solved.trail,
-            })
+            Some(Reached { tableau, trail })
         }
         Tableau::Fractions(_) => None,
     }

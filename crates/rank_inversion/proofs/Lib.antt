@@ -11,5 +11,5 @@ mod NoStep
 pub mod Costs
 pub mod Causes
 mod Joined
-mod Started
+mod WholeIntervals
 mod Inverted

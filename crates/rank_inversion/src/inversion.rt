@@ -313,7 +313,10 @@ fn interval_by<F: Exact>(
 {
     let _problem = problem;
     match started {
-        Some(started) => started.interval(alloc, asked, limit),
+        Some(started) => {
+            let interval = started.interval(alloc, asked, limit)?;
+            Some(interval)
+        }
         None => None,
     }
 }

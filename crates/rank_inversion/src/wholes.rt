@@ -16,7 +16,7 @@ use br_pivot::{Reached, reach_in_wholes};
 use frac_core::{Exact, List};
 use gram_check::whole_gram;
 use loss_model::{Interval, IntervalProof, Problem};
-use rank_tableau::{BothSides, Question, both_sides};
+use rank_tableau::{Arrival, BothSides, Question, both_sides};
 use std::alloc::Global;
 use whole_tableau::Setting;
 
@@ -76,12 +76,20 @@ impl<'a, F: Exact> Started<'a, F> {
         ensures { IfSome result (IsRankInterval F.value self.now.reached.tableau.problem asked.column asked.tau asked.crit limit) }
     {
         let sides = self.sides(alloc, asked, limit)?;
-        let trail = match with_walks(
-            alloc,
-            &self.reached.trail,
-            sides.rise.steps,
-            sides.fall.steps,
-        ) {
+        let BothSides {
+            factors,
+            rise,
+            fall,
+        } = sides;
+        let Arrival {
+            steps: up,
+            end: high,
+        } = rise;
+        let Arrival {
+            steps: down,
+            end: low,
+        } = fall;
+        let trail = match with_walks(alloc, &self.reached.trail, up, down) {
             Ok(trail) => trail,
             Err(_) => return None,
         };
@@ -90,9 +98,9 @@ impl<'a, F: Exact> Started<'a, F> {
                 column: asked.column,
                 tau: asked.tau,
                 crit: asked.crit,
-                low: sides.fall.end,
-                high: sides.rise.end,
-                projection: sides.factors,
+                low,
+                high,
+                projection: factors,
             },
             trail,
         })

@@ -1,4 +1,4 @@
-use Rattle.rank_inversion.proofs.Started.{whole_interval}
+use Rattle.rank_inversion.proofs.WholeIntervals.{whole_interval}
 use Rattle.rank_inversion.proofs.wholes.Started.interval.Goals as goal
 
 pub returns : goal.returns
