@@ -1,4 +1,3 @@
 pub mod Limits
 pub mod Found
 pub mod Halts
-pub mod Standing
