@@ -26,10 +26,10 @@ use Rattle.rank_walk.specs.RankWalks.{rise, fall, tested as walk}
 use Rattle.rank_walk.proofs.Intervals.{exact_interval}
 use Rattle.fraction_tableau.proofs.Inverses.{basis_of, ends_of}
 use Rattle.br_pivot.specs.Solves.{IsLimitAnswer}
-use Rattle.rank_inversion.specs.declared.course.Way.TheVariants.{Rise, Fall}
+use Rattle.rank_steps.specs.declared.way.Way.TheVariants.{Rise, Fall}
 use Rattle.rank_inversion.specs.declared.inversion.Inversion.{Inversion}
 use Rattle.rank_inversion.specs.declared.column_test.Asked.{Asked}
-use Rattle.rank_inversion.specs.declared.walking.Arrival.{Arrival}
+use Rattle.rank_tableau.specs.declared.walking.Arrival.{Arrival}
 use Rattle.rank_inversion.specs.declared.walking.WalkHalt.{WalkHalt}
 use Rattle.rank_inversion.specs.Intervals.{IsExactInterval, IsRankInterval}
 use Rattle.rank_inversion.specs.Inversions.{IsAskable, course_of, trail_with, IsReady, IsStopHere, IsRisen, IsFallen}

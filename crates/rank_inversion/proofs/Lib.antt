@@ -1,6 +1,6 @@
 mod Operations
 mod Projections
-mod Breaks
+mod EntrySigns
 mod Spills
 mod EndValues
 mod StationLaws

@@ -11,11 +11,11 @@ use Rattle.loss_model.specs.Problem.{sample, IsWellShaped}
 use Rattle.loss_model.specs.Strict.{◌<ℚ◌}
 use Rattle.br_pivot.specs.Solutions.{IsSolution}
 use Rattle.rank_inversion.specs.declared.course.Course.{Course}
-use Rattle.rank_inversion.specs.declared.course.Way.{Way}
-use Rattle.rank_inversion.specs.declared.course.Way.TheVariants.{Rise, Fall}
+use Rattle.rank_steps.specs.declared.way.Way.{Way}
+use Rattle.rank_steps.specs.declared.way.Way.TheVariants.{Rise, Fall}
 use Rattle.rank_inversion.specs.declared.inversion.Inversion.{Inversion}
 use Rattle.rank_inversion.specs.declared.column_test.Asked.{Asked}
-use Rattle.rank_inversion.specs.declared.walking.Arrival.{Arrival}
+use Rattle.rank_tableau.specs.declared.walking.Arrival.{Arrival}
 use Rattle.rank_inversion.specs.declared.walking.WalkHalt.{WalkHalt}
 use Rattle.rank_inversion.specs.Stops.{IsBound, IsWalkStop}
 use Rattle.rank_inversion.specs.Trails.{with_walks}

@@ -17,15 +17,17 @@ ghost use Rattle.rank_inversion.specs.Wholes.{IsStarted};
 ghost use Rattle.rank_inversion.specs.Inversions.{IsAskable, IsReady, course_of, trail_with, IsStopHere, IsRisen, IsFallen, IsRiseHalt, IsFallHalt};
 
 use crate::column_test::{Asked, RankTest, rank_test};
-use crate::course::{Course, Way};
+use crate::course::Course;
 use crate::gram::gram_inverse;
 use crate::trails::with_walks;
-use crate::walking::{Arrival, Walk, WalkHalt, walk_to_end};
+use crate::walking::{Walk, WalkHalt, walk_to_end};
 use crate::wholes::{Started, start_in_wholes};
 use br_pivot::{Solved, solve_at};
 use frac_core::{Exact, List, OutOfMemory};
 use fraction_tableau::FractionTableau;
 use loss_model::{Basis, Exchange, Interval, IntervalProof, Problem, Spill, Stop, Trail};
+use rank_steps::Way;
+use rank_tableau::Arrival;
 use std::alloc::Global;
 use whole_tableau::setting_of;
 

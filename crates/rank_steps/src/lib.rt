@@ -16,4 +16,4 @@ mod way;
 
 pub use crossings::{WholeCourse, first_crossing};
 pub use entering::entering_row;
-pub use way::Way;
+pub use way::{Way, direction_of};
