@@ -277,6 +277,29 @@ fn by_parts<F: Exact>(
     }
 }
 
+/// The rank interval of a column by its parts alone, whose walks go in fractions: what `interval` comes to where whole
+/// numbers don't suffice.
+pub fn interval_by_parts<F: Exact>(
+    alloc: Global,
+    problem: &Problem<F>,
+    asked: Asked<F>,
+    limit: u32,
+) -> Result<Interval<F>, Stop<F>>
+    requires shaped { IsWellShaped problem.now }
+    requires column { asked.column < problem.now.columns }
+    requires tau_above { whole (pos 0) <ℚ rational (F.value asked.tau) }
+    requires tau_below { rational (F.value asked.tau) <ℚ whole (pos 1) }
+    requires crit { whole (pos 0) ≤ℚ rational (F.value asked.crit) }
+    requires data { (i : ℕ) → i < length problem.now.rows → IsDataRow (sample F.value problem.now) i }
+    ensures interval { IfOk result (IsRankInterval F.value problem.now asked.column asked.tau asked.crit limit) }
+    ensures stopped { IfErr result (IsIntervalStop F.value F.range problem.now asked.column (rational (F.value asked.tau)) (rational (F.value asked.crit)) limit) }
+{
+    match by_parts(alloc, problem, asked, limit) {
+        Ok(interval) => Ok(interval),
+        Err(stop) => Err(stop),
+    }
+}
+
 /// The interval in whole numbers, or else by its parts.
 fn or_by_parts<F: Exact>(
     alloc: Global,
