@@ -1,23 +1,14 @@
--- The work for one quantile and for one column: what it needs, and why it stops.
-use Rattle.std.proofs.Common.{◌≡◌, ℕ, ◌<◌, ◌≤◌, pos, subst}
+-- What the work for one quantile and for one column needs.
+use Rattle.std.proofs.Common.{◌<◌, pos}
 use Rattle.exact_algebra.specs.Fraction.{Fraction, rational}
 use Rattle.exact_algebra.specs.Rational.{whole}
 use Rattle.exact_algebra.proofs.OrderLaws.{le_from_not}
-use Rattle.loss_model.specs.declared.interval.Interval.{Interval}
 use Rattle.loss_model.specs.declared.problem.Problem.{Problem}
-use Rattle.loss_model.specs.declared.stop.Stop.{Stop}
 use Rattle.loss_model.specs.Problem.{sample}
 use Rattle.pivot_rule.specs.Duals.{HasCosts}
-use Rattle.rank_inversion.specs.Solves.{IsSolveStop}
-use Rattle.rank_inversion.specs.GramStops.{IsGramStop, IsInverted}
-use Rattle.rank_inversion.specs.Intervals.{IsExactInterval, IsRankInterval}
 use Rattle.rank_inversion.specs.Inversions.{IsAskable}
-use Rattle.rank_inversion.specs.Stops.{IsIntervalStop, IsLimited, IsWalkStop}
 use Rattle.rank_inversion.specs.declared.column_test.Asked.{Asked}
-use Rattle.rank_inversion.specs.declared.gram.GramInverse.{GramInverse}
-use Rattle.rank_inversion.proofs.Causes.{bound_there, by_gram, by_solve, by_walks}
 use Rattle.rank_inversion.proofs.Costs.{data_costs}
-use Rattle.interval_jobs.specs.Intervals.{IsRightInterval}
 use Rattle.interval_jobs.specs.RankProblems.{IsInner, IsRankable}
 
 module _ {F : Type 0} (value : F → Fraction) (p : Problem F) where

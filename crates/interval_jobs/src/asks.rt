@@ -1,6 +1,8 @@
 //! What is asked of a problem, and the work for one quantile and for one column.
 ghost use Rattle.std.specs.Prelude.{◌≡◌, IfSome};
 ghost use Rattle.exact_algebra.specs.Fraction.{rational};
+ghost use Rattle.loss_model.specs.Problem.{IsWellShaped};
+ghost use Rattle.whole_tableau.specs.Kept.{IsSetting};
 ghost use Rattle.rank_inversion.specs.Wholes.{IsStarted};
 ghost use Rattle.interval_jobs.specs.Answers.{first_asked, IsIntervalAnswer, IsStartedAt};
 ghost use Rattle.interval_jobs.specs.RankProblems.{IsSolvable, IsWalkable};
@@ -9,7 +11,7 @@ use frac_core::Exact;
 use loss_model::{Interval, Problem, Stop};
 use rank_inversion::{Asked, Started, interval_after, start_in_wholes};
 use std::alloc::Global;
-use whole_tableau::Setting;
+use whole_tableau::{Setting, setting_of};
 
 /// What is asked of a problem: intervals for a critical value, at these quantiles, and the limit of the pivots of
 /// each.
@@ -42,6 +44,17 @@ pub(crate) struct RankProblem<'a, F: Exact> {
 pub(crate) struct StartedAt<'a, F: Exact> {
     pub tau: F,
     pub started: Option<Started<'a, F>>,
+}
+
+/// The problem in whole numbers, where it has them.
+pub(crate) fn whole_setting<F: Exact>(alloc: Global, problem: &Problem<F>) -> Option<Setting>
+    requires { IsWellShaped problem.now }
+    ensures { IfSome result (IsSetting F.value problem.now) }
+{
+    match setting_of(alloc, problem) {
+        Ok(setting) => Some(setting),
+        Err(_) => None,
+    }
 }
 
 impl<'a, F: Exact> RankProblem<'a, F> {

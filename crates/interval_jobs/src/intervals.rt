@@ -8,7 +8,7 @@ ghost use Rattle.interval_jobs.specs.Intervals.{AreRightIntervals, asked_at, ask
 ghost use Rattle.interval_jobs.specs.RankProblems.{IsInner, IsRankable, IsRankProblem, IsSolvable};
 ghost use Rattle.interval_jobs.specs.Until.{AreAnswered};
 
-use crate::asks::{IntervalStop, RankAsks, RankProblem, StartedAt};
+use crate::asks::{IntervalStop, RankAsks, RankProblem, StartedAt, whole_setting};
 use crate::jobs::{ColumnJob, StartJob};
 use crate::until::{UntilStop, until_stop};
 use frac_core::{Exact, Frac128, List, OutOfMemory};
@@ -17,7 +17,6 @@ use rank_inversion::Asked;
 use rq_fan::{Gate, run_jobs};
 use std::alloc::Global;
 use std::thread::Threads;
-use whole_tableau::setting_of;
 
 /// The columns at a quantile: the solve that each begins with, the gate, and the place of the first one's job.
 #[derive(Drop)]
@@ -206,13 +205,10 @@ pub fn all_intervals<R: Threads + Sync, G: Gate>(
     ensures right { IfOk result (AreRightIntervals value problem.now asks.now.limit (asked_over asks.now.crit problem.now.columns asks.now.taus.now)) }
     ensures stopped { IfErr result (λ s. IsFirstStop value range problem.now asks.now.limit (asked_over asks.now.crit problem.now.columns asks.now.taus.now) s.asked s.stop) }
 {
-    if asks.taus.is_empty() {
+    let Some(_first) = asks.taus.first() else {
         return Ok(List::new(alloc));
-    }
-    let setting = match setting_of(alloc, problem) {
-        Ok(setting) => Some(setting),
-        Err(_) => None,
     };
+    let setting = whole_setting(alloc, problem);
     let ranked = RankProblem {
         problem,
         setting: &setting,
