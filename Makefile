@@ -1,6 +1,7 @@
 # demo: builds the proved program and runs it on a table of examples/
 # check: the gate, as .ci/run runs it
 # try: the same job in seconds, with nothing proved
+# wrong: tries the wrong bodies that rest beside the crates, or those of CRATES, over the libraries that a gate has left
 # install: puts the proved program, its man page and its completion of bash below PREFIX
 
 PREFIX ?= /usr/local
@@ -8,7 +9,7 @@ JOB = process --formula "stack.loss ~ ." --lo 1/2 --hi 1/2
 TABLE = $(CURDIR)/examples/stackloss.csv
 PROGRAM = crates/quantreg/out/quantreg
 
-.PHONY: demo check try install toolchain
+.PHONY: demo check try wrong install toolchain
 
 demo: toolchain
 	cd crates/quantreg && rt run -- $(JOB) < $(TABLE)
@@ -19,6 +20,9 @@ check: toolchain
 try: toolchain
 	@echo "unproved: this run proves nothing"
 	cd crates/quantreg && rt try -- $(JOB) < $(TABLE)
+
+wrong: toolchain
+	.ci/wrong --try $(CRATES)
 
 install: demo
 	install -D -m 755 $(PROGRAM) $(DESTDIR)$(PREFIX)/bin/quantreg

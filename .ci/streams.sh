@@ -80,4 +80,54 @@ else
   echo "streams: no device /dev/full, so no failing output was tried" >&2
 fi
 
+# Streams that are closed, and pipes: a byte at a time, a writer that pauses, a reader that stops and goes on, and one that leaves. The
+# report over all quantiles of 300 records is longer than a pipe holds.
+awk 'BEGIN { print "y,x"; for (i = 1; i <= 300; i++) print i * 7919 % 1009 "," i * 104729 % 997 }' > "$room/long"
+range=(process --formula "y ~ x" --lo 0 --hi 1)
+"$program" "${range[@]}" < "$room/long" > "$room/long.out" 2> "$room/err"
+: > "$room/out"
+compare "a long report" 0 $? "" "$nothing"
+[ "$(wc -c < "$room/long.out")" -gt 65536 ] || wrong "a long report" "it fits a pipe"
+
+"$program" "${job[@]}" <&- > "$room/out" 2> "$room/err"
+compare "standard input that is closed" 3 $? $'quantreg: source: SourceFault\n' "$nothing"
+"$program" "${job[@]}" < "$table" >&- 2> "$room/err"
+status=$?
+: > "$room/out"
+compare "standard output that is closed" 4 $status $'quantreg: sink: SinkFault\n' "$nothing"
+"$program" < "$table" > "$room/out" 2>&-
+status=$?
+: > "$room/err"
+compare "standard error that is closed" 4 $status "" "$nothing"
+dd if="$table" bs=1 2> "$room/dd" | "$program" "${job[@]}" > "$room/out" 2> "$room/err"
+compare "a table byte by byte" 0 $? "" "$report"
+{ head -c 100 "$table"; sleep 0.2; tail -c +101 "$table"; } | "$program" "${job[@]}" > "$room/out" 2> "$room/err"
+compare "a table with a pause" 0 $? "" "$report"
+"$program" "${range[@]}" < "$room/long" 2> "$room/err" | { sleep 0.2; cat; } > "$room/out"
+compare "a reader that stops and goes on" 0 "${PIPESTATUS[0]}" "" "$room/long.out"
+"$program" "${range[@]}" < "$room/long" 2> "$room/err" | head -c 1 > "$room/first"
+status=${PIPESTATUS[0]}
+: > "$room/out"
+compare "a reader that leaves" 4 "$status" $'quantreg: sink: SinkFault\n' "$nothing"
+
+# The deepest formula and the deepest text that are read, with a stack of 256 KiB.
+deep=$(printf '%64s' '' | tr ' ' '(')x$(printf '%64s' '' | tr ' ' ')')
+"$program" process --formula "y ~ x" --lo 1/2 --hi 1/2 < "$room/two" > "$room/shallow" 2> "$room/err"
+(ulimit -s 256 && exec "$program" process --formula "y ~ $deep" --lo 1/2 --hi 1/2) < "$room/two" > "$room/out" 2> "$room/err"
+compare "64 parentheses on a small stack" 0 $? "" "$room/shallow"
+{ printf '%127s' '' | tr ' ' '['; printf '%127s' '' | tr ' ' ']'; } > "$room/deep.json"
+(ulimit -s 256 && exec "$program" check) < "$room/deep.json" > "$room/out" 2> "$room/err"
+compare "127 lists on a small stack" 1 $? $'quantreg: certificate: Shape path=\n' "$nothing"
+
+# No thread to be had: jobs run one after the other, and the report is the same.
+intervals=("${job[@]}" --crit 2.7055 --rank-at 1/4,1/2)
+"$program" "${intervals[@]}" < "$table" > "$room/threads" 2> "$room/err"
+if [ "$(id -u)" -eq 0 ] && command -v setpriv > "$room/nothing.out" && command -v prlimit > "$room/nothing.out"; then
+  chmod 755 "$room" && cp "$program" "$room/program" && chmod 755 "$room/program"
+  setpriv --reuid=65534 --regid=65534 --clear-groups prlimit --nproc=1 "$room/program" "${intervals[@]}" < "$table" > "$room/out" 2> "$room/err"
+  compare "no thread to be had" 0 $? "" "$room/threads"
+else
+  echo "streams: no setpriv and prlimit as root, so a run without threads was not tried" >&2
+fi
+
 exit "$failed"

@@ -9,6 +9,7 @@ from pathlib import Path
 import pandas
 
 from .designs import Names, Table, design_rows, offset_values
+from .linear import solved
 from .numbers import as_fraction, number_text
 from .program import run
 from .reports import PathReport, ProcessReport, read_report
@@ -71,6 +72,46 @@ class Fit(OfTable, ProcessReport):
     table: Table
     contrasts: str
     weights: str
+
+    def is_unique(self, tau, penalty_bounds=()):
+        """Whether no other coefficients have the same loss at a quantile: what the report tells, and what the table does.
+
+        It is False too where the rankscore of a basic row is 0 or 1, no other row is fitted exactly and there are no smooths,
+        by the program's law `unique_minimum`; `other_coef_at` has others then.
+        """
+        told = super().is_unique(tau, penalty_bounds)
+        return False if told is None and self.other_coef_at(tau) is not None else told
+
+    def other_coef_at(self, tau):
+        """Other coefficients with the same loss at a quantile, by the names of the columns, or None where none are told.
+
+        Where two segments meet, those of the upper one. Else, where the rankscore of a basic row is 0 or 1, no other row is
+        fitted exactly and there are no smooths, the fit moves along the rows of the basis but that one, to the first row
+        that it then meets.
+        """
+        tau, segments = as_fraction(tau), self.segments_at(tau)
+        if segments[0].coef != segments[-1].coef:
+            return dict(zip(self.names, segments[-1].coef))
+        for segment in segments:
+            coef = None if self.penalty else self._beside(segment, tau)
+            if coef is not None:
+                return dict(zip(self.names, coef))
+        return None
+
+    def _beside(self, segment, tau):
+        """Coefficients beside those of a segment with the same loss at a quantile, or None."""
+        scores = {row: segment.between(tau, ends) for row, ends in segment.basic.items()}
+        freed = next((row for row, score in scores.items() if score in (0, 1)), None)
+        design, both = self.design(), zip(self.response(), self.offsets())
+        residuals = [y - offset - sum(x * b for x, b in zip(row, segment.coef)) for row, (y, offset) in zip(design, both)]
+        if freed is None or {row for row, residual in enumerate(residuals, 1) if residual == 0} != set(segment.basis):
+            return None
+        # The freed row comes to lie above the fit where its rankscore is 1, and below it where that is 0.
+        rise = Fraction(-1 if scores[freed] == 1 else 1)
+        move = solved([design[row - 1] for row in segment.basis], [rise * (row == freed) for row in segment.basis])
+        rises = [sum(x * d for x, d in zip(row, move)) for row in design]
+        step = min((residual / by for residual, by in zip(residuals, rises) if residual * by > 0), default=Fraction(1))
+        return tuple(b + step * d for b, d in zip(segment.coef, move))
 
 
 @dataclass(frozen=True)

@@ -7,6 +7,7 @@ system, and the process itself has much shorter numbers.
 
 from fractions import Fraction
 
+from .linear import solved
 from .reports import TestReport
 
 
@@ -28,7 +29,7 @@ def rank_test_of_process(process, full, tested):
     if any(sums[column] for column in others):
         raise ValueError("the Wilcoxon scores of the process are not orthogonal to the columns that are not tested")
     scores = {column: sums[column - 1] for column in tested}
-    solution = _solved(_gram(scaled), sums)
+    solution = solved(_gram(scaled), sums)
     statistic = 12 * sum(score * solution[column - 1] for column, score in scores.items())
     return TestReport(full.records, full.dropped, full.names, tested, process.pivots, scores, statistic)
 
@@ -66,23 +67,3 @@ def _gram(rows):
     """The products of two columns each."""
     columns = list(zip(*rows))
     return [[_product(one, other) for other in columns] for one in columns]
-
-
-def _solved(matrix, right):
-    """The solution of a square system, column by column; ValueError where the matrix is singular."""
-    rows = [[*row, value] for row, value in zip(matrix, right)]
-    for at in range(len(rows)):
-        pivot = next((row for row in range(at, len(rows)) if rows[row][at]), None)
-        if pivot is None:
-            raise ValueError("the columns are dependent")
-        rows[at], rows[pivot] = rows[pivot], rows[at]
-        rows[at] = [value / rows[at][at] for value in rows[at]]
-        _eliminate(rows, at)
-    return [row[-1] for row in rows]
-
-
-def _eliminate(rows, at):
-    """Takes row `at` from each other one so often that column `at` is 0 there."""
-    for number, row in enumerate(rows):
-        if number != at and row[at]:
-            rows[number] = [value - row[at] * taken for value, taken in zip(row, rows[at])]

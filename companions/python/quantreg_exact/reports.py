@@ -173,9 +173,10 @@ class ProcessReport(Stretches):
     def is_unique(self, tau, penalty_bounds=()):
         """Whether no other coefficients have the same loss at a quantile.
 
-        True where the dual values of the basis lie strictly within their bounds, False where two segments with
-        different coefficients meet there, and None where the report doesn't tell. The bounds of a penalty row are its
-        lambda, which no report has: `penalty_bounds` has one for each penalty row.
+        True where the dual values of the basis lie strictly within their bounds: that there are no others then, of real numbers
+        either, is the program's law `fit_is_only` (Koenker 2005, section 2.2.2). False where two segments with different
+        coefficients meet there, and None where the report doesn't tell. The bounds of a penalty row are its lambda, which no
+        report has and of which that law says nothing: `penalty_bounds` has one for each penalty row.
         """
         tau, segments = as_fraction(tau), self.segments_at(tau)
         if len({segment.coef for segment in segments}) > 1:

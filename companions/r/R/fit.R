@@ -93,7 +93,8 @@ residuals.rq_exact <- function(object, ...) checked_residuals(object)$residuals
 
 fitted.rq_exact <- function(object, ...) checked_residuals(object)$fitted
 
-# Whether the dual values of a segment's basis lie strictly within their bounds at its low end.
+# Whether the dual values of a segment's basis lie strictly within their bounds at its low end: then no other coefficients have the
+# same loss there, by the law `fit_is_only` of the program (Koenker 2005, section 2.2.2).
 is_strict <- function(segment) {
     scores <- fraction_value(segment$basic[, 1])
     all(scores > 0 & scores < 1)

@@ -6,12 +6,12 @@ mod Steps
 mod Agrees
 mod Compared
 mod Priced
-mod Places
 mod Counts
 mod Rays
 mod Extracts
 pub mod Worths
 pub mod Shown
+mod Wholes
 mod Later
 mod Ranks
 mod All

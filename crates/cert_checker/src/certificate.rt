@@ -4,6 +4,7 @@ ghost use Rattle.std.specs.Prelude.{IfOk, IfErr};
 ghost use Rattle.cert_text.specs.Limits.{IsWithinLimits};
 ghost use Rattle.cert_checker.specs.Certificates.{first_tests, later_tests, tests, IsVerdict, IsStop};
 ghost use Rattle.cert_checker.specs.Verdicts.{Decides, DecidesUnlessHalted};
+ghost use Rattle.cert_checker.specs.Views.{IsTableOf};
 
 use crate::form::{RowForm, SegmentCount, SegmentForm};
 use crate::formula::{Count, Number};
@@ -11,10 +12,12 @@ use crate::interval_form::{IntervalForm, Intervals};
 use crate::intervals::IntervalConditions;
 use crate::jobs::SegmentJobs;
 use crate::place::Place;
+use crate::quick::Quick;
 use crate::relation::Relation;
 use crate::segments::{Balances, Bounds, CostRows, Ends, Joints, Losses, Rows, Segments};
 use crate::tests::{Comparison, One, Tests, Then};
 use crate::verdict::{CheckStop, Failure, Halt, Verdict};
+use cert_sums::{Table, whole_table};
 use cert_text::Cert;
 use rq_fan::Gate;
 use std::alloc::Global;
@@ -98,17 +101,24 @@ fn decide_first(cert: &Cert) -> Result<(), Failure>
 
 // The conditions on dual values, losses and intervals.
 #[tactic(auto, unfolding(crate::specs::Certificates::later_tests))]
-fn decide_later<R: Threads + Sync, G: Gate>(
+fn decide_quickly<R: Threads + Sync, G: Gate>(
     rt: &R,
     alloc: Global,
     cert: &Cert,
     gate: &G,
+    table: &Option<Table>,
 ) -> Result<(), Halt>
-    requires { IsWithinLimits cert.now }
+    requires limits { IsWithinLimits cert.now }
+    requires table { IsTableOf cert.now.problem table.now }
     ensures { DecidesUnlessHalted (later_tests cert.now) result }
 {
     let problem = &cert.problem;
     let list = &cert.segments;
+    let quick = Quick {
+        alloc,
+        problem,
+        table,
+    };
     let jobs = SegmentJobs { alloc, list, gate };
     let low = Bounds {
         problem,
@@ -120,15 +130,29 @@ fn decide_later<R: Threads + Sync, G: Gate>(
     };
     jobs.decide(rt, low)?;
     jobs.decide(rt, high)?;
-    jobs.decide(rt, Balances { problem })?;
-    jobs.decide(rt, Losses { problem })?;
-    jobs.decide(rt, Joints { problem, list })?;
+    jobs.decide(rt, Balances { quick })?;
+    jobs.decide(rt, Losses { quick })?;
+    jobs.decide(rt, Joints { quick, list })?;
     let intervals = Intervals {
         list: &cert.intervals,
         of: IntervalConditions { problem },
     };
     intervals.decide()?;
     Ok(())
+}
+
+// The same, over the problem in whole numbers where it is narrow enough for that.
+fn decide_later<R: Threads + Sync, G: Gate>(
+    rt: &R,
+    alloc: Global,
+    cert: &Cert,
+    gate: &G,
+) -> Result<(), Halt>
+    requires { IsWithinLimits cert.now }
+    ensures { DecidesUnlessHalted (later_tests cert.now) result }
+{
+    let table = whole_table(alloc, &cert.problem);
+    decide_quickly(rt, alloc, cert, gate, &table)
 }
 
 // All of them.
@@ -155,6 +179,9 @@ fn decide_all<R: Threads + Sync, G: Gate>(
 /// Each condition on dual values and losses is tested by jobs at once, one for 64 consecutive segments, and the first
 /// answer counts in the order of the segments. A job enters the gate with its place among those of its condition
 /// before it works.
+///
+/// Of a segment the tests of balances, losses and joints are shown by sums of whole numbers first. Where one is false, or a
+/// number is too wide for these, the tests are made one by one, in fractions.
 ///
 /// `Accepted` says that all of them hold, and that so, whoever wrote the certificate, the segments cover the
 /// range, with dual values of equal cost at both ends of each, so that the coefficients of a segment

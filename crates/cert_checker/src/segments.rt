@@ -8,22 +8,24 @@ ghost use Rattle.loss_model.specs.declared.process.Segment.{Segment as Piece};
 ghost use Rattle.loss_model.specs.Problem.{sample};
 ghost use Rattle.cert_checker.specs.Places.{value128};
 ghost use Rattle.cert_checker.specs.Formulas.{given};
-ghost use Rattle.cert_checker.specs.Tests.{Test, one, upto};
+ghost use Rattle.cert_checker.specs.Tests.{AreTrue, Test, one, upto};
 ghost use Rattle.cert_checker.specs.Conditions.{each, zero_formula, low_of, high_of, side_in, dual_at_row, balance, bound_parts, bound_test, bounds, balances as balance_tests_of, losses as losses_of, loss_tests, cost_tests, row_costs, lo_at, hi_at, first_end, order_of_ends, joint_end, joint_tests, joints};
+ghost use Rattle.cert_checker.specs.Given.{AllGiven};
 ghost use Rattle.cert_checker.specs.Verdicts.{Decides};
-ghost use Rattle.cert_checker.specs.Views.{IsSmall, end_of};
+ghost use Rattle.cert_checker.specs.Views.{IsSmall, IsTabled, end_of};
 ghost use Rattle.cert_checker.specs.declared.relation.Relation.TheVariants.{AtMost, Below, Equal};
 ghost use Rattle.loss_model.specs.declared.vertex.Side.TheVariants.{Basic};
 
 use crate::formula::{Count, Expression, Negation, Number};
 use crate::leaves::{
     BalanceTerms, DownCost, DualValue, EndView, LossTerms, ObjectiveTerms, RowSum, UpCost, rows,
-    side,
 };
 use crate::place::{Place, Progress};
+use crate::quick::Quick;
 use crate::relation::Relation;
 use crate::tests::{Both, Comparison, One, Parts, Tests, TestsOf, Then, decide_each};
 use crate::verdict::Failure;
+use cert_sums::side;
 use frac_core::{Exact, Frac128, List};
 use loss_model::{Problem, Segment, Side, Spill};
 
@@ -342,12 +344,12 @@ pub(crate) trait SegmentTests: Copy {
     /// The tests.
     ghost segment_tests: { Self → ℕ → Piece Fraction128 → list Test };
 
-    /// What is known of the problem.
-    ghost segment_given: { Self → Type 0 };
+    /// What is known of the problem and of a segment, with its index.
+    ghost segment_given: { Self → ℕ → Piece Fraction128 → Type 0 };
 
     /// Nothing where all are true.
     fn decide_segment(self, index: u32, segment: &Segment<Frac128>) -> Result<(), Failure>
-        requires { segment_given self }
+        requires { segment_given self index segment.now }
         ensures { Decides (segment_tests self index segment.now) result };
 }
 
@@ -361,7 +363,7 @@ pub(crate) struct Segments<'a, T> {
 impl<T: SegmentTests> TestsOf for Segments<'_, T> {
     ghost tests_of = { λ x j. option_map_or (T.segment_tests x.of (j + 1)) (slice_get x.list.now j) [] };
 
-    ghost given_of = { λ x j. (j < 2 ^ 20) × T.segment_given x.of };
+    ghost given_of = { λ x j. (j < 2 ^ 20) × AllGiven x.list.now (T.segment_given x.of) };
 
     fn decide_of(self, i: usize) -> Result<(), Failure> {
         match self.list.as_slice().get(i) {
@@ -374,7 +376,7 @@ impl<T: SegmentTests> TestsOf for Segments<'_, T> {
 impl<T: SegmentTests> Tests for Segments<'_, T> {
     ghost tests = { λ x. each x.list.now (T.segment_tests x.of) };
 
-    ghost few = { λ x. (length x.list.now ≤ 2 ^ 20) × T.segment_given x.of };
+    ghost few = { λ x. (length x.list.now ≤ 2 ^ 20) × AllGiven x.list.now (T.segment_given x.of) };
 
     fn decide(self) -> Result<(), Failure> {
         let count = self.list.as_slice().len();
@@ -427,7 +429,7 @@ pub(crate) struct Bounds<'a> {
 impl SegmentTests for Bounds<'_> {
     ghost segment_tests = { λ x j s. cond x.high (bounds 5 (sample value128 x.problem.now) j (high_of s)) (bounds 4 (sample value128 x.problem.now) j (low_of s)) };
 
-    ghost segment_given = { λ x. length x.problem.now.rows ≤ 16384 };
+    ghost segment_given = { λ x j s. length x.problem.now.rows ≤ 16384 };
 
     fn decide_segment(self, index: u32, segment: &Segment<Frac128>) -> Result<(), Failure> {
         if self.high {
@@ -468,29 +470,32 @@ impl SegmentTests for Bounds<'_> {
 /// Condition 6.
 #[derive(Clone, Copy)]
 pub(crate) struct Balances<'a> {
-    pub(crate) problem: &'a Problem<Frac128>,
+    pub(crate) quick: Quick<'a>,
 }
 
 impl SegmentTests for Balances<'_> {
-    ghost segment_tests = { λ x j s. balance_tests_of (sample value128 x.problem.now) j s };
+    ghost segment_tests = { λ x j s. balance_tests_of (sample value128 x.quick.problem.now) j s };
 
-    ghost segment_given = { λ x. IsSmall x.problem.now };
+    ghost segment_given = { λ x j s. IsSmall x.quick.problem.now × IsTabled x.quick };
 
     fn decide_segment(self, index: u32, segment: &Segment<Frac128>) -> Result<(), Failure> {
-        let columns = self.problem.columns;
+        if self.quick.duals_balance(segment) {
+            return Ok(());
+        }
+        let problem = self.quick.problem;
+        let columns = problem.columns;
         let low = EndView {
-            problem: self.problem,
+            problem,
             theta: segment.lo,
             vertex: &segment.vertex,
             basic: &segment.basic_lo,
         };
         let high = EndView {
-            problem: self.problem,
+            problem,
             theta: segment.hi,
             vertex: &segment.vertex,
             basic: &segment.basic_hi,
         };
-        let problem = self.problem;
         Then {
             first: Columns {
                 problem,
@@ -513,23 +518,26 @@ impl SegmentTests for Balances<'_> {
     }
 }
 
-/// Condition 7.
+/// Condition 7, where condition 6 is true.
 #[derive(Clone, Copy)]
 pub(crate) struct Losses<'a> {
-    pub(crate) problem: &'a Problem<Frac128>,
+    pub(crate) quick: Quick<'a>,
 }
 
 impl SegmentTests for Losses<'_> {
-    ghost segment_tests = { λ x j s. losses_of (sample value128 x.problem.now) j s };
+    ghost segment_tests = { λ x j s. losses_of (sample value128 x.quick.problem.now) j s };
 
-    ghost segment_given = { λ x. IsSmall x.problem.now };
+    ghost segment_given = { λ x j s. IsSmall x.quick.problem.now × IsTabled x.quick × AreTrue (balance_tests_of (sample value128 x.quick.problem.now) j s) };
 
     fn decide_segment(self, index: u32, segment: &Segment<Frac128>) -> Result<(), Failure> {
+        if self.quick.losses_hold(index, segment) {
+            return Ok(());
+        }
         let low = LossAt {
             index,
             inner: 1,
             end: EndView {
-                problem: self.problem,
+                problem: self.quick.problem,
                 theta: segment.lo,
                 vertex: &segment.vertex,
                 basic: &segment.basic_lo,
@@ -540,7 +548,7 @@ impl SegmentTests for Losses<'_> {
             index,
             inner: 3,
             end: EndView {
-                problem: self.problem,
+                problem: self.quick.problem,
                 theta: segment.hi,
                 vertex: &segment.vertex,
                 basic: &segment.basic_hi,
@@ -558,36 +566,52 @@ impl SegmentTests for Losses<'_> {
 /// Condition 8.
 #[derive(Clone, Copy)]
 pub(crate) struct Joints<'a> {
-    pub(crate) problem: &'a Problem<Frac128>,
+    pub(crate) quick: Quick<'a>,
     pub(crate) list: &'a List<Segment<Frac128>>,
 }
 
-impl SegmentTests for Joints<'_> {
-    ghost segment_tests = { λ x j s. joints (sample value128 x.problem.now) x.list.now j s };
+// The tests of a segment and the next one.
+fn decide_joint(
+    quick: Quick<'_>,
+    index: u32,
+    segment: &Segment<Frac128>,
+    next: &Segment<Frac128>,
+) -> Result<(), Failure>
+    requires few { length quick.problem.now.rows ≤ 16384 }
+    requires table { IsTabled quick }
+    ensures { Decides (joint_tests (sample value128 quick.entry.problem.now) index segment.now next.now) result }
+{
+    if quick.duals_meet(segment, next) {
+        return Ok(());
+    }
+    let problem = quick.problem;
+    let high = EndView {
+        problem,
+        theta: segment.hi,
+        vertex: &segment.vertex,
+        basic: &segment.basic_hi,
+    };
+    let low = EndView {
+        problem,
+        theta: next.lo,
+        vertex: &next.vertex,
+        basic: &next.basic_lo,
+    };
+    Rows {
+        problem,
+        of: JointRows { index, high, low },
+    }
+    .decide()
+}
 
-    ghost segment_given = { λ x. length x.problem.now.rows ≤ 16384 };
+impl SegmentTests for Joints<'_> {
+    ghost segment_tests = { λ x j s. joints (sample value128 x.quick.problem.now) x.list.now j s };
+
+    ghost segment_given = { λ x j s. (length x.quick.problem.now.rows ≤ 16384) × IsTabled x.quick };
 
     fn decide_segment(self, index: u32, segment: &Segment<Frac128>) -> Result<(), Failure> {
         match self.list.as_slice().get(index as usize) {
-            Some(next) => {
-                let high = EndView {
-                    problem: self.problem,
-                    theta: segment.hi,
-                    vertex: &segment.vertex,
-                    basic: &segment.basic_hi,
-                };
-                let low = EndView {
-                    problem: self.problem,
-                    theta: next.lo,
-                    vertex: &next.vertex,
-                    basic: &next.basic_lo,
-                };
-                Rows {
-                    problem: self.problem,
-                    of: JointRows { index, high, low },
-                }
-                .decide()
-            }
+            Some(next) => decide_joint(self.quick, index, segment, next),
             None => Ok(()),
         }
     }

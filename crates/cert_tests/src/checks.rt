@@ -81,6 +81,12 @@ static OFF: &str =
 static TIE: &str =
     r#"{"columns":1,"hi":"1","intervals":[],"kind":"quantreg-certificate","lo":"0","rows":[{"down0":"1","down1":"-1","up0":"0","up1":"1","x":["1"],"y":"0"},{"down0":"1","down1":"-1","up0":"0","up1":"1","x":["1"],"y":"0"}],"segments":[{"basic_hi":["-1/2"],"basic_lo":["0"],"coef":["0"],"hi":"1/2","lo":"0","loss_hi":"0","loss_lo":"0","sides":"*+"},{"basic_hi":["0"],"basic_lo":["1/2"],"coef":["0"],"hi":"1","lo":"1/2","loss_hi":"0","loss_lo":"0","sides":"*-"}],"version":1}"#;
 
+/// Two basic rows (a, 1) and (1, c) with a = 2^33 + 2 and c = 2^33 + 3, whose determinant ac - 1 has 67 bits, at a
+/// quantile over a number of 70 bits: the dual values of both are whole numbers over that, and the coefficients over the
+/// determinant, so that a cost times a residual is beyond 128 bits. A script with fractions of any size made it.
+static WIDE: &str =
+    r#"{"columns":2,"hi":"258254417010458886158/590295810358705651745","intervals":[],"kind":"quantreg-certificate","lo":"258254417010458886158/590295810358705651745","rows":[{"down0":"1","down1":"-1","up0":"0","up1":"1","x":["1","0"],"y":"1"},{"down0":"1","down1":"-1","up0":"0","up1":"1","x":["1","0"],"y":"-1"},{"down0":"1","down1":"-1","up0":"0","up1":"1","x":["8589934594","1"],"y":"1"},{"down0":"1","down1":"-1","up0":"0","up1":"1","x":["1","8589934595"],"y":"0"}],"segments":[{"basic_hi":["1717986919/118059162071741130349","-1/590295810358705651745"],"basic_lo":["1717986919/118059162071741130349","-1/590295810358705651745"],"coef":["8589934595/73786976337787879429","-1/73786976337787879429"],"hi":"258254417010458886158/590295810358705651745","lo":"258254417010458886158/590295810358705651745","loss_hi":"118059162073459117268/118059162071741130349","loss_lo":"118059162073459117268/118059162071741130349","sides":"+-**"}],"version":1}"#;
+
 #[test]
 fn the_line_is_accepted(rt: HostRuntime) -> Result<(), Fail> {
     assert!(rt; is_accepted(&rt, LINE.as_bytes()));
@@ -90,6 +96,12 @@ fn the_line_is_accepted(rt: HostRuntime) -> Result<(), Fail> {
 #[test]
 fn an_optimum_made_by_hand_is_accepted(rt: HostRuntime) -> Result<(), Fail> {
     assert!(rt; is_accepted(&rt, HAND.as_bytes()));
+    Ok(())
+}
+
+#[test]
+fn losses_whose_products_overflow_are_accepted(rt: HostRuntime) -> Result<(), Fail> {
+    assert!(rt; is_accepted(&rt, WIDE.as_bytes()));
     Ok(())
 }
 

@@ -1,5 +1,5 @@
-//! Tests of certificates as text (`cert_text`): what is written, and every fault of what is read; and of what the
-//! checker (`cert_checker`) finds in them.
+//! Tests of certificates as text (`cert_text`): what is written, and every fault of what is read; of what sums of whole
+//! numbers (`cert_sums`) show of them, and of what the checker (`cert_checker`) finds in them.
 #![tactic(auto)]
 
 #[cfg(test)]
@@ -16,5 +16,7 @@ mod intervals;
 mod limits;
 #[cfg(test)]
 mod spoilt;
+#[cfg(test)]
+mod sums;
 #[cfg(test)]
 mod texts;

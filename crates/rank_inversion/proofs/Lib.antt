@@ -9,7 +9,7 @@ mod LookLaws
 mod WalkLaws
 mod NoStep
 pub mod Costs
-pub mod Causes
+mod Causes
 mod Joined
 mod WholeIntervals
 mod Inverted

@@ -58,6 +58,18 @@ fn half_a_certificate_is_none(rt: HostRuntime) {
     assert_refused(&rt, &left, 1, told, "half a certificate");
 }
 
+// Its dual values and its coefficients have denominators of 70 and 67 bits, so that a cost times a residual is beyond 128
+// bits; sums of whole numbers are not. A script with fractions of any size made it.
+static WIDE: &str =
+    r#"{"columns":2,"hi":"258254417010458886158/590295810358705651745","intervals":[],"kind":"quantreg-certificate","lo":"258254417010458886158/590295810358705651745","rows":[{"down0":"1","down1":"-1","up0":"0","up1":"1","x":["1","0"],"y":"1"},{"down0":"1","down1":"-1","up0":"0","up1":"1","x":["1","0"],"y":"-1"},{"down0":"1","down1":"-1","up0":"0","up1":"1","x":["8589934594","1"],"y":"1"},{"down0":"1","down1":"-1","up0":"0","up1":"1","x":["1","8589934595"],"y":"0"}],"segments":[{"basic_hi":["1717986919/118059162071741130349","-1/590295810358705651745"],"basic_lo":["1717986919/118059162071741130349","-1/590295810358705651745"],"coef":["8589934595/73786976337787879429","-1/73786976337787879429"],"hi":"258254417010458886158/590295810358705651745","lo":"258254417010458886158/590295810358705651745","loss_hi":"118059162073459117268/118059162071741130349","loss_lo":"118059162073459117268/118059162071741130349","sides":"+-**"}],"version":1}"#;
+
+#[test]
+fn a_certificate_whose_losses_overflow_is_accepted(rt: HostRuntime) {
+    let left = ran_on(&rt, rt.alloc(), "check", WIDE.as_bytes());
+    let report = "quantreg check 1\ncolumns 2\nrows 4\nsegments 1\nintervals 0\naccepted\nend\n";
+    assert_printed(&rt, &left, report, WIDE);
+}
+
 // A chain of many segments.
 #[test]
 fn the_certificate_of_500_records_is_accepted(rt: HostRuntime) {

@@ -1,0 +1,13 @@
+use Rattle.std.proofs.Common.{◌≡◌, ℕ, ◌<◌, length, pos}
+use Rattle.exact_algebra.specs.Fraction.{rational}
+use Rattle.exact_algebra.specs.Rational.{◌*ℚ◌, whole}
+use Rattle.loss_model.specs.Problem.{sample}
+use Rattle.cert_sums.specs.Numbers.{value128, whole_at}
+use Rattle.cert_sums.specs.Duals.{dual_of}
+use Rattle.cert_sums.proofs.duals.duals_of.Given as goal
+
+abbrev pub invariant-loop-i : goal.invariant-loop-i
+invariant-loop-i l = record {
+  size : length l.values ≡ l.i;
+  each : (i : ℕ) → i < l.i → whole_at l.values i ≡ (whole (pos l.scale) *ℚ whole (pos l.table.cost_scale)) *ℚ dual_of (sample value128 l.problem) (rational (value128 l.end.theta)) l.end.vertex.now l.end.basic.now i;
+}

@@ -1,0 +1,114 @@
+//! Whether each residual lies on the side of its row.
+ghost use Rattle.std.specs.Prelude.{◌≡◌, ◌≤◌, ◌<◌, ◌+◌, ◌*◌, ◌^◌, ℕ, pos, unsigned_abs, All, IfSome, IsTrue, length};
+ghost use Rattle.exact_algebra.specs.Rational.{◌*ℚ◌, neg_ℚ, whole};
+ghost use Rattle.loss_model.specs.Problem.{sample, value_at};
+ghost use Rattle.loss_model.specs.Sample.{residual};
+ghost use Rattle.loss_model.specs.Vertex.{IsOn};
+ghost use Rattle.cert_sums.specs.Numbers.{value128, whole_at, sizes};
+ghost use Rattle.cert_sums.specs.Tables.{IsTable};
+ghost use Rattle.cert_sums.specs.Duals.{side_in};
+ghost use Rattle.cert_sums.specs.Residuals.{IsWholeOn, AreMultipliers, RowsFollow};
+
+use crate::products::{has_room, row_product};
+use crate::scale::{common_scale, scaled};
+use crate::table::Table;
+use crate::vertices::side;
+use frac_core::{Exact, Frac128, List};
+use loss_model::{Problem, Side, Vertex};
+use std::alloc::Global;
+
+/// What the cells of a row are multiplied by to give its residual times the scale: the negated coefficients times it,
+/// and behind them the scale itself.
+#[derive(Drop)]
+struct Multipliers {
+    scale: u128,
+    numbers: List<i128>,
+}
+
+// The numbers, for a scale.
+fn numbers_of(alloc: Global, coef: &[Frac128], scale: u128) -> Option<List<i128>>
+    ensures size { IfSome result (λ made. length made ≡ length coef.now + 1) }
+    ensures each { IfSome result (λ made. (k : ℕ) → k < length coef.now → whole_at made k ≡ whole (pos scale) *ℚ neg_ℚ (value_at value128 coef.now k)) }
+    ensures last { IfSome result (λ made. whole_at made (length coef.now) ≡ whole (pos scale)) }
+{
+    let mut made = List::new(alloc);
+    for k in 0..coef.len() {
+        let number = scaled(coef[k].neg(), scale)?;
+        if made.push(number).is_err() {
+            return None;
+        }
+    }
+    match i128::try_from(scale) {
+        Ok(last) => {
+            if made.push(last).is_err() {
+                return None;
+            }
+            Some(made)
+        }
+        Err(_) => None,
+    }
+}
+
+// Those of coefficients.
+fn multipliers_of(alloc: Global, coef: &[Frac128]) -> Option<Multipliers>
+    ensures { IfSome result (AreMultipliers coef.now) }
+{
+    let scale = common_scale(Frac128::one(), coef)?;
+    let numbers = numbers_of(alloc, coef, scale)?;
+    Some(Multipliers { scale, numbers })
+}
+
+// Whether a residual times a positive number lies on a side.
+#[inline]
+fn is_on(side: Side, number: i128) -> bool
+    ensures { IsTrue result → IsWholeOn side number }
+{
+    match side {
+        Side::Up => number >= 0,
+        Side::Down => number <= 0,
+        Side::Basic => number == 0,
+    }
+}
+
+/// Whether each residual lies on the side of its row.
+pub(crate) fn follow_sides(
+    alloc: Global,
+    problem: &Problem<Frac128>,
+    table: &Table,
+    vertex: &Vertex<Frac128>,
+) -> bool
+    requires { IsTable problem.now table.now }
+    ensures { IsTrue result → (i : ℕ) → i < length problem.now.rows → IsOn (side_in vertex.now i) (residual (sample value128 problem.now) (value_at value128 vertex.now.coef) i) }
+{
+    let coef = vertex.coef.as_slice();
+    if coef.len() != problem.columns as usize {
+        return false;
+    }
+    match multipliers_of(alloc, coef) {
+        Some(by) => {
+            let numbers = by.numbers.as_slice();
+            if !has_room(numbers, table.limit) {
+                return false;
+            }
+            rows_follow(table, numbers, vertex)
+        }
+        None => false,
+    }
+}
+
+// Whether the sums of the cells of each row times these numbers lie on the side of the row.
+fn rows_follow(table: &Table, numbers: &[i128], vertex: &Vertex<Frac128>) -> bool
+    requires same { All (λ w. length w.cells ≡ length numbers.now) table.now.rows }
+    requires small { All (λ w. All (λ e. unsigned_abs e ≤ table.now.limit) w.cells) table.now.rows }
+    requires bound { table.now.limit * sizes numbers.now < 2 ^ 127 }
+    ensures { IsTrue result → RowsFollow table.now.rows numbers.now vertex.now }
+{
+    let rows = table.rows.as_slice();
+    for i in 0..rows.len() {
+        let number = row_product(rows[i].cells.as_slice(), numbers, table.limit);
+        if !is_on(side(vertex, i), number) {
+            return false;
+        }
+    }
+    true
+}

@@ -1,0 +1,232 @@
+//! A problem in whole numbers: entries and responses times one number, and costs times another.
+ghost use Rattle.std.specs.Prelude.{◌≡◌, ◌≤◌, ◌+◌, ◌<◌, ℕ, pos, unsigned_abs, All, IfSome, length};
+ghost use Rattle.exact_algebra.specs.Fraction.{rational};
+ghost use Rattle.exact_algebra.specs.Rational.{◌*ℚ◌, whole};
+ghost use Rattle.loss_model.specs.Problem.{value_at};
+ghost use Rattle.cert_sums.specs.Numbers.{value128, whole_at};
+ghost use Rattle.cert_sums.specs.Tables.{ArePaired, IsLine, IsSmallLine, IsRowOf, IsSmallRow, IsTable};
+
+use crate::scale::{common_multiple, multiple, scaled};
+use frac_core::{Exact, Frac128, List};
+use loss_model::{Problem, Row};
+use std::alloc::Global;
+
+/// What a row's dual value is at the quantile 0, and by how much it rises to 1.
+#[derive(Clone, Copy)]
+pub struct Line {
+    pub start: i64,
+    pub slope: i64,
+}
+
+/// A row: its entries, behind them its response, and both bounds of its dual value, the up cost and the negated down
+/// cost.
+#[derive(Drop)]
+pub struct WholeRow {
+    pub cells: List<i64>,
+    pub up: Line,
+    pub low: Line,
+}
+
+/// The rows, what their cells and their bounds are multiplied by, and what none of these is beyond in size.
+#[derive(Drop)]
+pub struct Table {
+    pub columns: u32,
+    pub rows: List<WholeRow>,
+    pub scale: u128,
+    pub cost_scale: u128,
+    pub limit: u64,
+    pub cost_limit: u64,
+}
+
+// A fraction times a number, where it is whole and not beyond a limit.
+fn number(v: Frac128, scale: u128, limit: u64) -> Option<i64>
+    ensures value { IfSome result (λ r. whole r ≡ whole (pos scale) *ℚ rational (value128 v)) }
+    ensures small { IfSome result (λ r. unsigned_abs r ≤ limit) }
+{
+    let made = scaled(v, scale)?;
+    match i64::try_from(made) {
+        Ok(r) => {
+            if r.unsigned_abs() > limit {
+                return None;
+            }
+            Some(r)
+        }
+        Err(_) => None,
+    }
+}
+
+// The entries of a row and its response.
+fn cells_of(alloc: Global, row: &Row<Frac128>, scale: u128, limit: u64) -> Option<List<i64>>
+    ensures size { IfSome result (λ made. length made ≡ length row.now.x + 1) }
+    ensures entries { IfSome result (λ made. (k : ℕ) → k < length row.now.x → whole_at made k ≡ whole (pos scale) *ℚ value_at value128 row.now.x k) }
+    ensures response { IfSome result (λ made. whole_at made (length row.now.x) ≡ whole (pos scale) *ℚ rational (value128 row.now.y)) }
+    ensures small { IfSome result (λ made. All (λ e. unsigned_abs e ≤ limit) made) }
+{
+    let x = row.x.as_slice();
+    let mut made = List::new(alloc);
+    for k in 0..x.len() {
+        let entry = number(x[k], scale, limit)?;
+        if made.push(entry).is_err() {
+            return None;
+        }
+    }
+    let response = number(row.y, scale, limit)?;
+    if made.push(response).is_err() {
+        return None;
+    }
+    Some(made)
+}
+
+// Two fractions times a number.
+fn line_of(start: Frac128, slope: Frac128, scale: u128, limit: u64) -> Option<Line>
+    ensures value { IfSome result (IsLine scale (rational (value128 start)) (rational (value128 slope))) }
+    ensures small { IfSome result (IsSmallLine limit) }
+{
+    let start = number(start, scale, limit)?;
+    let slope = number(slope, scale, limit)?;
+    Some(Line { start, slope })
+}
+
+/// What numbers are multiplied by, and what they then are not beyond.
+#[derive(Clone, Copy)]
+struct Measure {
+    scale: u128,
+    limit: u64,
+}
+
+// A row, where it has an entry for each column.
+fn whole_row(
+    alloc: Global,
+    row: &Row<Frac128>,
+    columns: u32,
+    cells: Measure,
+    costs: Measure,
+) -> Option<WholeRow>
+    ensures value { IfSome result (IsRowOf cells.scale costs.scale columns row.now) }
+    ensures small { IfSome result (IsSmallRow cells.limit costs.limit) }
+{
+    if row.x.as_slice().len() != columns as usize {
+        return None;
+    }
+    let made = cells_of(alloc, row, cells.scale, cells.limit)?;
+    let up = line_of(row.up0, row.up1, costs.scale, costs.limit)?;
+    let low = line_of(row.down0.neg(), row.down1.neg(), costs.scale, costs.limit)?;
+    Some(WholeRow {
+        cells: made,
+        up,
+        low,
+    })
+}
+
+// All rows.
+fn whole_rows(
+    alloc: Global,
+    problem: &Problem<Frac128>,
+    cells: Measure,
+    costs: Measure,
+) -> Option<List<WholeRow>>
+    ensures size { IfSome result (λ made. length made ≡ length problem.now.rows) }
+    ensures paired { IfSome result (λ made. ArePaired (IsRowOf cells.scale costs.scale problem.now.columns) problem.now.rows made) }
+    ensures small { IfSome result (λ made. All (IsSmallRow cells.limit costs.limit) made) }
+{
+    let rows = problem.rows.as_slice();
+    let mut made = List::new(alloc);
+    for i in 0..rows.len() {
+        let row = whole_row(alloc, &rows[i], problem.columns, cells, costs)?;
+        if made.push(row).is_err() {
+            return None;
+        }
+    }
+    Some(made)
+}
+
+// The four parts of a row's costs.
+fn costs(row: &Row<Frac128>) -> [Frac128; 4] {
+    [row.up0, row.up1, row.down0, row.down1]
+}
+
+// A common denominator of all entries and responses. Nothing is promised of it.
+fn cell_scale(rows: &[Row<Frac128>]) -> Option<u128> {
+    let mut scale = 1;
+    for i in 0..rows.len() {
+        scale = common_multiple(scale, rows[i].x.as_slice())?;
+        scale = multiple(scale, rows[i].y)?;
+    }
+    Some(scale)
+}
+
+// A common denominator of all costs. Nothing is promised of it.
+fn cost_scale(rows: &[Row<Frac128>]) -> Option<u128> {
+    let mut scale = 1;
+    for i in 0..rows.len() {
+        scale = common_multiple(scale, &costs(&rows[i]))?;
+    }
+    Some(scale)
+}
+
+// The size of a fraction times a scale, or 0 where that hasn't 64 bits. Nothing is promised of it.
+fn size(v: Frac128, scale: u128) -> u64 {
+    match scaled(v, scale) {
+        Some(made) => u64::try_from(made.unsigned_abs()).unwrap_or(0),
+        None => 0,
+    }
+}
+
+// The greatest of a number and of such sizes. Nothing is promised of it.
+fn greatest(limit: u64, numbers: &[Frac128], scale: u128) -> u64 {
+    let mut found = limit;
+    for i in 0..numbers.len() {
+        found = found.max(size(numbers[i], scale));
+    }
+    found
+}
+
+// What no entry and no response is beyond. Nothing is promised of it.
+fn cell_limit(rows: &[Row<Frac128>], scale: u128) -> u64 {
+    let mut limit = 0;
+    for i in 0..rows.len() {
+        limit = greatest(limit, rows[i].x.as_slice(), scale).max(size(rows[i].y, scale));
+    }
+    limit
+}
+
+// What no cost is beyond. Nothing is promised of it.
+fn cost_limit(rows: &[Row<Frac128>], scale: u128) -> u64 {
+    let mut limit = 0;
+    for i in 0..rows.len() {
+        limit = greatest(limit, &costs(&rows[i]), scale);
+    }
+    limit
+}
+
+/// A problem in whole numbers, where all of them have 64 bits and each row has an entry for each column.
+pub fn whole_table(alloc: Global, problem: &Problem<Frac128>) -> Option<Table>
+    ensures { IfSome result (IsTable problem.now) }
+{
+    let rows = problem.rows.as_slice();
+    let scale = cell_scale(rows)?;
+    let cost_scale = cost_scale(rows)?;
+    if scale < 1 {
+        return None;
+    }
+    if cost_scale < 1 {
+        return None;
+    }
+    let cells = Measure {
+        scale,
+        limit: cell_limit(rows, scale),
+    };
+    let costs = Measure {
+        scale: cost_scale,
+        limit: cost_limit(rows, cost_scale),
+    };
+    let made = whole_rows(alloc, problem, cells, costs)?;
+    Some(Table {
+        columns: problem.columns,
+        rows: made,
+        scale,
+        cost_scale,
+        limit: cells.limit,
+        cost_limit: costs.limit,
+    })
+}

@@ -1,0 +1,7 @@
+mod Segments
+mod Least
+mod Steady
+mod Rows
+mod Fits
+mod Only
+mod Read
