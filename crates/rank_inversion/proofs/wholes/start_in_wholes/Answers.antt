@@ -5,7 +5,7 @@ use Rattle.rank_inversion.proofs.wholes.start_in_wholes.Goals as goal
 pub whole_gram-requires : goal.whole_gram-requires
 whole_gram-requires g c κs within =
     let kept = (c.in_ok-reached.ensures {u = tt}).kept in
-    rw (c.as_slice.ensures, c.setting.ensures, c.problem.ensures) kept.setting.wide
+    rw (c.as_slice-rows.ensures, c.setting.ensures, c.problem.ensures) kept.setting.wide
 
 pub returns-in-Ok : goal.returns-in-Ok
 returns-in-Ok g c =
@@ -14,5 +14,5 @@ returns-in-Ok g c =
     record {
       reached = h;
       square = subst (λ n. IsSquare n c.in-Ok.gram) (sym made.square.rows) made.square;
-      gram = rw (c.as_slice.ensures, c.setting.ensures, c.problem.ensures) at made.gram;
+      gram = rw (c.as_slice-rows.ensures, c.setting.ensures, c.problem.ensures) at made.gram;
     }
