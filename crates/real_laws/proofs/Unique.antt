@@ -4,7 +4,7 @@ use Rattle.std.proofs.Common.{arith, refl, sym, ap, ap₂, subst, ◌∙◌, inl
 use Rattle.std.proofs.lemmas.Bool.{cases_lt, eqb-true, eqb-false}
 use Rattle.exact_algebra.specs.Solver.{number, negated, ◌⊞◌, ◌⊟◌, ◌⊠◌, v0, v1, v2, v3, v4, v5, v6, v7, v8}
 use Rattle.exact_algebra.specs.Rational.{ℚ, ◌-ℚ◌, ◌*ℚ◌, neg_ℚ, inverse, whole, ◌≤ℚ◌}
-use Rattle.exact_algebra.proofs.RationalLaws.{ring_ℚ, ring_by_ℚ, *ℚ-inverse, ≤ℚ_refl}
+use Rattle.exact_algebra.proofs.RationalLaws.{ring_by_ℚ, *ℚ-inverse, ≤ℚ_refl}
 use Rattle.exact_algebra.proofs.Inverses.{zero_or_not}
 use Rattle.exact_algebra.proofs.OrderLaws.{≤ℚ-minus, le_from_not, inverse_not_negative}
 use Rattle.exact_matrices.specs.Terms.{delta}
