@@ -49,8 +49,8 @@ python_examples() {
 }
 
 r_examples() {
-  block companions/r/README.md r | grep -v compare_rq > "$room/example.R"
-  # compare_rq is of R's own quantreg, which isn't asked for here.
+  # compare_rq is of R's own quantreg, which isn't asked for here; nor is its data set engel, which stands among the examples.
+  block companions/r/README.md r | grep -v compare_rq | sed "s|^data(engel, .*|engel <- read.csv(\"$top/examples/engel.csv\")|" > "$room/example.R"
   block companions/r/README.md text | grep -v '^\[1\] "same"' > "$room/wanted"
   cd "$room" && Rscript example.R > shown || wrong "the example of the package of R stops"
   same wanted shown "the example of the package of R"
