@@ -205,13 +205,6 @@ fn the_start_of_a_test_is_told(rt: HostRuntime) {
 }
 
 #[test]
-fn the_gram_matrix_of_a_test_is_told(rt: HostRuntime) {
-    let want =
-        "quantreg: solver: Overflow place=gram quantity=gram at=5,2 term=9 op=add left=7/2 right=-3\n";
-    expect_place(&rt, rt.alloc(), Place::Gram, want);
-}
-
-#[test]
 fn the_costs_of_a_path_are_told(rt: HostRuntime) {
     let want =
         "quantreg: solver: Overflow place=path quantity=gram at=5,2 term=9 op=add left=7/2 right=-3\n";
