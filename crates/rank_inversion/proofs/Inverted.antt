@@ -3,7 +3,6 @@ use Rattle.std.specs.Prelude.{◌≡◌, ◌⊎◌, ◌+◌, ◌≤◌, ◌<◌,
 use Rattle.std.proofs.Common.{Result, Err, arith, refl, sym, ap, subst, ◌∙◌, inl, inr}
 use Rattle.exact_algebra.specs.Fraction.{Fraction, rational}
 use Rattle.exact_algebra.specs.Rational.{ℚ, whole, ◌≤ℚ◌}
-use Rattle.exact_algebra.proofs.OrderLaws.{le_from_not}
 use Rattle.loss_model.specs.declared.interval.Interval.{Interval}
 use Rattle.loss_model.specs.declared.problem.Problem.{Problem}
 use Rattle.loss_model.specs.declared.process.Exchange.{Exchange}
@@ -18,34 +17,27 @@ use Rattle.basis_inverse.specs.Square.{inverse_entry}
 use Rattle.pivot_rule.specs.Duals.{HasCosts, ◌<ℚ◌}
 use Rattle.pivot_rule.specs.Trails.{IsOptimalBasis}
 use Rattle.pivot_rule.proofs.Solved.{full_rank}
-use Rattle.walk_rule.specs.WalkTrails.{IsIntervalTrail, HasRisen, HasFallen, ReachesIntervalLimit}
+use Rattle.walk_rule.specs.WalkTrails.{AreWalkingSteps, IsIntervalTrail, HasRisen, ReachesIntervalLimit, is_within}
 use Rattle.walk_rule.proofs.Trails.{one_interval}
 use Rattle.rank_law.specs.Restricted.{IsProjection, squared_length, rank_bound}
 use Rattle.rank_law.proofs.Lengths.{one_length}
-use Rattle.rank_walk.specs.Intervals.{IsIntervalOf, IsAsked, IsWalked, bound_by}
-use Rattle.rank_walk.specs.RankWalks.{rise, fall}
-use Rattle.rank_inversion.proofs.Costs.{data_costs}
-use Rattle.rank_walk.proofs.Intervals.{exact_interval, passes}
+use Rattle.rank_walk.specs.Intervals.{IsAsked, IsWalked, bound_by, when_on}
+use Rattle.rank_walk.specs.RankWalks.{rise, fall, tested as walk}
+use Rattle.rank_walk.proofs.Intervals.{exact_interval}
 use Rattle.fraction_tableau.proofs.Inverses.{basis_of, ends_of}
 use Rattle.br_pivot.specs.Solves.{IsLimitAnswer}
-use Rattle.rank_inversion.specs.declared.course.Way.TheVariants.{Rise, Fall}
+use Rattle.rank_steps.specs.declared.way.Way.TheVariants.{Rise, Fall}
 use Rattle.rank_inversion.specs.declared.inversion.Inversion.{Inversion}
 use Rattle.rank_inversion.specs.declared.column_test.Asked.{Asked}
-use Rattle.rank_inversion.specs.declared.walking.Arrival.{Arrival}
+use Rattle.rank_tableau.specs.declared.walking.Arrival.{Arrival}
 use Rattle.rank_inversion.specs.declared.walking.WalkHalt.{WalkHalt}
 use Rattle.rank_inversion.specs.Intervals.{IsExactInterval, IsRankInterval}
 use Rattle.rank_inversion.specs.Inversions.{IsAskable, course_of, trail_with, IsReady, IsStopHere, IsRisen, IsFallen}
 use Rattle.rank_inversion.specs.Stops.{IsBound, IsLimited, IsIntervalStop, IsWalkSpillAfter, IsRankSpillAfter}
 use Rattle.rank_inversion.specs.Tests.{IsTested}
 use Rattle.rank_inversion.specs.Walks.{AreSteps, IsAtLimit, IsSpilled}
+use Rattle.rank_inversion.proofs.Joined.{at_most, asked_costs, lawful_walks, walked_is_risen, interval_is}
 use Rattle.rank_inversion.proofs.NoStep.{walk_is_ended}
-
-at_most : (x y : ℚ) → x <ℚ y → x ≤ℚ y
-at_most x y h = le_from_not x y h
-
-pub asked_costs : {F : Type 0} (value : F → Fraction) (p : Problem F) (asked : Asked F) → IsAskable value p asked → HasCosts (sample value p) (rational (value asked.tau))
-asked_costs value p asked h =
-    data_costs (sample value p) (rational (value asked.tau)) (at_most (whole (pos 0)) (rational (value asked.tau)) h.tau_above) (at_most (rational (value asked.tau)) (whole (pos 1)) h.tau_below) h.data_rows
 
 module _ {F : Type 0} (value : F → Fraction) (v : Inversion F) (ready : IsReady value v) where
   abbrev p : Problem F
@@ -81,21 +73,10 @@ module _ {F : Type 0} (value : F → Fraction) (v : Inversion F) (ready : IsRead
 
   lawful : (up down : List (Exchange F)) → AreSteps value p (course_of v Rise) solved up → AreSteps value p (course_of v Fall) solved down
       → (down ≡ []) ⊎ HasRisen value q tau j bound (trail_with v up down) solved → IsIntervalTrail value q tau j bound (trail_with v up down) solved
-  lawful up down rose fell order =
-      record {
-        first = ready.solution.lawful.first;
-        begins = ready.solution.lawful.begins;
-        greedy = ready.solution.lawful.greedy;
-        solved = ready.solution.lawful.lawful;
-        leads = ready.solution.lawful.leads;
-        optimal = optimal;
-        rose = rose;
-        fell = fell;
-        order = order;
-      }
+  lawful = lawful_walks value p v.asked ready.askable v.solved.now.trail solved ready.solution.lawful optimal bound
 
   risen : (up : Arrival F) (down : List (Exchange F)) → IsRisen value v up → HasRisen value q tau j bound (trail_with v up.steps down) solved
-  risen up down h = walk_is_ended value p j tau bound ready.askable.column rise solved up.steps up.end h.ended.ended
+  risen up down h = walked_is_risen value p v.asked ready.askable v.solved.now.trail solved bound up.steps down up.end h.ended.ended
 
   -- ---- stops
 
@@ -162,35 +143,8 @@ module _ {F : Type 0} (value : F → Fraction) (v : Inversion F) (ready : IsRead
   -- ---- the interval
 
   module _ (factors : List F) (tested : IsTested value p v.asked (record { asked = v.asked; factors = factors; bound = v.bound })) (up down : Arrival F) (h : IsRisen value v up) (k : IsFallen value v up.steps down) where
-    abbrev made : Interval F
-    made =
-        record {
-          proof = record { column = j; tau = v.asked.tau; crit = v.asked.crit; low = down.end; high = up.end; projection = factors };
-          trail = trail_with v up.steps down.steps;
-        }
-
-    same_bound : bound ≡ bound_by value p made
+    same_bound : bound ≡ rank_bound tau crit (squared_length q j (value_at value factors))
     same_bound = tested.bound
-
-    of : IsIntervalOf value p made
-    of =
-        record {
-          solved = solved;
-          projection = tested.projection;
-          lawful = subst (λ b. IsIntervalTrail value q tau j b (trail_with v up.steps down.steps) solved) same_bound (lawful up.steps down.steps h.ended.walked k.ended.walked (inr (risen up down.steps h)));
-          high = subst (λ b. IsWalked value p rise j tau b solved up.steps up.end) same_bound h.ended.ended;
-          low = subst (λ b. IsWalked value p fall j tau b solved down.steps down.end) same_bound k.ended.ended;
-        }
-
-    asked : IsAsked value p made
-    asked =
-        record {
-          column = ready.askable.column;
-          costs = asked_costs value p v.asked ready.askable;
-          tau_above = at_most (whole (pos 0)) tau ready.askable.tau_above;
-          tau_below = at_most tau (whole (pos 1)) ready.askable.tau_below;
-          crit = ready.askable.crit;
-        }
 
     pub joined_is : IsRankInterval value p j v.asked.tau v.asked.crit v.limit
         (record {
@@ -198,15 +152,12 @@ module _ {F : Type 0} (value : F → Fraction) (v : Inversion F) (ready : IsRead
           trail = trail_with v up.steps down.steps;
         })
     joined_is =
-        record {
-          column = refl;
-          tau = refl;
-          crit = refl;
-          lawful = of;
-          conditions = passes value p made ready.askable.data_rows ready.askable.tau_above ready.askable.tau_below tested.positive asked of;
-          size = tested.size;
-          short = let few : length down.steps ≤ k.left = k.ended.short in let count : length v.solved.now.trail.steps + (length up.steps + k.left) ≡ v.limit = k.count in omega (arith, few, count);
-        }
+        interval_is value p v.asked ready.askable v.solved.now.trail solved factors up.steps down.steps up.end down.end ready.solution.lawful optimal tested.projection tested.positive tested.size
+        (subst (λ b. AreWalkingSteps (when_on rise value) (walk rise q tau j) (is_within b) (whole (pos 0)) solved up.steps) same_bound h.ended.walked)
+        (subst (λ b. AreWalkingSteps (when_on fall value) (walk fall q tau j) (is_within b) (whole (pos 0)) solved down.steps) same_bound k.ended.walked)
+        (subst (λ b. IsWalked value p rise j tau b solved up.steps up.end) same_bound h.ended.ended)
+        (subst (λ b. IsWalked value p fall j tau b solved down.steps down.end) same_bound k.ended.ended) v.limit
+        (let few : length down.steps ≤ k.left = k.ended.short in let count : length v.solved.now.trail.steps + (length up.steps + k.left) ≡ v.limit = k.count in omega (arith, few, count))
 
 -- ---- what an interval says
 
