@@ -1,5 +1,5 @@
 -- The interval of both walks, and why it stops.
-use Rattle.std.specs.Prelude.{◌≡◌, ◌⊎◌, ◌+◌, ◌≤◌, ◌<◌, ℕ, List, [], length, slice_index, pos}
+use Rattle.std.specs.Prelude.{◌≡◌, ◌⊎◌, ◌+◌, ◌≤◌, ◌<◌, ℕ, List, [], length, slice_index, Some, pos}
 use Rattle.std.proofs.Common.{Result, Err, arith, refl, sym, ap, subst, ◌∙◌, inl, inr}
 use Rattle.exact_algebra.specs.Fraction.{Fraction, rational}
 use Rattle.exact_algebra.specs.Rational.{ℚ, whole, ◌≤ℚ◌}
@@ -148,11 +148,16 @@ module _ {F : Type 0} (value : F → Fraction) (v : Inversion F) (ready : IsRead
 
     pub joined_is : IsRankInterval value p j v.asked.tau v.asked.crit v.limit
         (record {
-          proof = record { column = j; tau = v.asked.tau; crit = v.asked.crit; low = down.end; high = up.end; projection = factors };
+          column = j;
+          tau = v.asked.tau;
+          crit = v.asked.crit;
+          low = down.end;
+          high = up.end;
+          projection = Some factors;
           trail = trail_with v up.steps down.steps;
         })
     joined_is =
-        interval_is value p v.asked ready.askable v.solved.now.trail solved factors up.steps down.steps up.end down.end ready.solution.lawful optimal tested.projection tested.positive tested.size
+        interval_is value p v.asked ready.askable v.solved.now.trail solved (Some factors) (value_at value factors) up.steps down.steps up.end down.end ready.solution.lawful optimal tested.projection tested.positive refl tested.size
         (subst (λ b. AreWalkingSteps (when_on rise value) (walk rise q tau j) (is_within b) (whole (pos 0)) solved up.steps) same_bound h.ended.walked)
         (subst (λ b. AreWalkingSteps (when_on fall value) (walk fall q tau j) (is_within b) (whole (pos 0)) solved down.steps) same_bound k.ended.walked)
         (subst (λ b. IsWalked value p rise j tau b solved up.steps up.end) same_bound h.ended.ended)
@@ -166,7 +171,7 @@ module _ {F : Type 0} (value : F → Fraction) (p : Problem F) (asked : Asked F)
   tau' = rational (value asked.tau)
 
   module _ (r : Interval F) (h : IsRankInterval value p asked.column asked.tau asked.crit limit r) where
-    same_tau : rational (value r.proof.tau) ≡ tau'
+    same_tau : rational (value r.tau) ≡ tau'
     same_tau = ap (λ x. rational (value x)) h.tau
 
     is_asked : IsAsked value p r
@@ -182,37 +187,37 @@ module _ {F : Type 0} (value : F → Fraction) (p : Problem F) (asked : Asked F)
     pub exact_is : IsExactInterval value p asked.column (rational (value asked.tau)) (rational (value asked.crit)) r
     exact_is =
         subst (λ k. IsExactInterval value p k (rational (value asked.tau)) (rational (value asked.crit)) r) h.column
-        (subst (λ (x : F). IsExactInterval value p r.proof.column (rational (value x)) (rational (value asked.crit)) r) h.tau
-        (subst (λ (x : F). IsExactInterval value p r.proof.column (rational (value r.proof.tau)) (rational (value x)) r) h.crit
+        (subst (λ (x : F). IsExactInterval value p r.column (rational (value x)) (rational (value asked.crit)) r) h.tau
+        (subst (λ (x : F). IsExactInterval value p r.column (rational (value r.tau)) (rational (value x)) r) h.crit
         (exact_interval value p r is_asked h.lawful).exact))
 
     abbrev b : ℚ
-    b = bound_by value p r
+    b = bound_by value p r h.lawful.factors
 
-    abbrev col : r.proof.column < p.columns
+    abbrev col : r.column < p.columns
     col = subst (λ k. k < p.columns) (sym h.column) askable.column
 
     -- each bound is that of the interval
     one_bound : (c : ℚ) → IsBound value p asked.column (rational (value asked.tau)) (rational (value asked.crit)) c → c ≡ b
     one_bound c (f, is, e) =
         e
-        ∙ ap (rank_bound tau' (rational (value asked.crit))) (one_length (sample value p) asked.column f (value_at value r.proof.projection) askable.column is
-        (subst (λ k. IsProjection (sample value p) k (value_at value r.proof.projection)) h.column h.lawful.projection))
+        ∙ ap (rank_bound tau' (rational (value asked.crit))) (one_length (sample value p) asked.column f h.lawful.factors askable.column is
+        (subst (λ k. IsProjection (sample value p) k h.lawful.factors) h.column h.lawful.right.projection))
         ∙ same
       where
-        same : rank_bound tau' (rational (value asked.crit)) (squared_length (sample value p) asked.column (value_at value r.proof.projection)) ≡ b
+        same : rank_bound tau' (rational (value asked.crit)) (squared_length (sample value p) asked.column h.lawful.factors) ≡ b
         same =
-            ap (λ (x : F). rank_bound (rational (value x)) (rational (value asked.crit)) (squared_length (sample value p) asked.column (value_at value r.proof.projection))) (sym h.tau)
-            ∙ ap (λ (x : F). rank_bound (rational (value r.proof.tau)) (rational (value x)) (squared_length (sample value p) asked.column (value_at value r.proof.projection))) (sym h.crit)
-            ∙ ap (λ k. rank_bound (rational (value r.proof.tau)) (rational (value r.proof.crit)) (squared_length (sample value p) k (value_at value r.proof.projection))) (sym h.column)
+            ap (λ (x : F). rank_bound (rational (value x)) (rational (value asked.crit)) (squared_length (sample value p) asked.column h.lawful.factors)) (sym h.tau)
+            ∙ ap (λ (x : F). rank_bound (rational (value r.tau)) (rational (value x)) (squared_length (sample value p) asked.column h.lawful.factors)) (sym h.crit)
+            ∙ ap (λ k. rank_bound (rational (value r.tau)) (rational (value r.crit)) (squared_length (sample value p) k h.lawful.factors)) (sym h.column)
 
     pub none_limited : ¬ IsLimited value p asked.column (rational (value asked.tau)) (rational (value asked.crit)) limit
     none_limited (c, is, (other, reached)) =
-        one_interval value (sample value p) (rational (value r.proof.tau)) r.proof.column b is_asked.costs r.trail other h.lawful.solved limit h.lawful.lawful
-        (walk_is_ended value p r.proof.column (rational (value r.proof.tau)) b col rise h.lawful.solved r.trail.rise r.proof.high h.lawful.high)
-        (walk_is_ended value p r.proof.column (rational (value r.proof.tau)) b col fall h.lawful.solved r.trail.fall r.proof.low h.lawful.low)
+        one_interval value (sample value p) (rational (value r.tau)) r.column b is_asked.costs r.trail other h.lawful.right.solved limit h.lawful.right.lawful
+        (walk_is_ended value p r.column (rational (value r.tau)) b col rise h.lawful.right.solved r.trail.rise r.high h.lawful.right.high)
+        (walk_is_ended value p r.column (rational (value r.tau)) b col fall h.lawful.right.solved r.trail.fall r.low h.lawful.right.low)
         h.short
-        (subst (λ (x : F). ReachesIntervalLimit value (sample value p) (rational (value x)) r.proof.column b limit other) (sym h.tau)
+        (subst (λ (x : F). ReachesIntervalLimit value (sample value p) (rational (value x)) r.column b limit other) (sym h.tau)
         (subst (λ k. ReachesIntervalLimit value (sample value p) tau' k b limit other) (sym h.column)
         (subst (λ b. ReachesIntervalLimit value (sample value p) tau' asked.column b limit other) (one_bound c is) reached)))
 

@@ -1,5 +1,5 @@
 -- The interval of a solve and of both walks from it.
-use Rattle.std.specs.Prelude.{◌≡◌, ◌⊎◌, ◌+◌, ◌≤◌, ℕ, List, [], length, pos}
+use Rattle.std.specs.Prelude.{◌≡◌, ◌⊎◌, ◌+◌, ◌≤◌, ℕ, List, [], length, Option, IfSome, pos}
 use Rattle.std.proofs.Common.{refl, inr}
 use Rattle.exact_algebra.specs.Fraction.{Fraction, rational}
 use Rattle.exact_algebra.specs.Rational.{ℚ, whole, ◌≤ℚ◌}
@@ -66,24 +66,29 @@ module _ {F : Type 0} (value : F → Fraction) (p : Problem F) (asked : Asked F)
   pub walked_is_risen : (bound : ℚ) (up down : List (Exchange F)) (high : End F) → IsWalked value p rise j tau bound solved up high → HasRisen value q tau j bound (with_walks solve up down) solved
   walked_is_risen bound up down high h = walk_is_ended value p j tau bound askable.column rise solved up high h
 
-  module _ (factors : List F) (up down : List (Exchange F)) (high low : End F) where
+  module _ (listed : Option (List F)) (c : ℕ → ℚ) (up down : List (Exchange F)) (high low : End F) where
     abbrev made : Interval F
-    made = record { proof = record { column = j; tau = asked.tau; crit = asked.crit; low = low; high = high; projection = factors }; trail = with_walks solve up down }
+    made = record { column = j; tau = asked.tau; crit = asked.crit; low = low; high = high; projection = listed; trail = with_walks solve up down }
 
     abbrev bound : ℚ
-    bound = bound_by value p made
+    bound = bound_by value p made c
 
     module _ (lawful : IsSolvingTrail value q tau solve solved) (optimal : IsOptimalBasis q tau solved)
-        (projection : IsProjection q j (value_at value factors)) (positive : whole (pos 0) <ℚ squared_length q j (value_at value factors)) (size : length factors ≡ p.columns)
+        (projection : IsProjection q j c) (positive : whole (pos 0) <ℚ squared_length q j c)
+        (same : IfSome listed (λ list. value_at value list ≡ c)) (size : IfSome listed (λ list. length list ≡ p.columns))
         (rose : AreSteps rise bound up) (fell : AreSteps fall bound down) (high_end : IsWalked value p rise j tau bound solved up high) (low_end : IsWalked value p fall j tau bound solved down low) where
       of : IsIntervalOf value p made
       of =
           record {
-            solved = solved;
-            projection = projection;
-            lawful = lawful_walks lawful optimal bound up down rose fell (inr (walked_is_risen bound up down high high_end));
-            high = high_end;
-            low = low_end;
+            factors = c;
+            listed = same;
+            right = record {
+              solved = solved;
+              projection = projection;
+              lawful = lawful_walks lawful optimal bound up down rose fell (inr (walked_is_risen bound up down high high_end));
+              high = high_end;
+              low = low_end;
+            };
           }
 
       is_asked : IsAsked value p made
@@ -103,7 +108,7 @@ module _ {F : Type 0} (value : F → Fraction) (p : Problem F) (asked : Asked F)
             tau = refl;
             crit = refl;
             lawful = of;
-            conditions = passes value p made askable.data_rows askable.tau_above askable.tau_below positive is_asked of;
+            conditions = passes value p made askable.data_rows askable.tau_above askable.tau_below is_asked of positive;
             size = size;
             short = short;
           }

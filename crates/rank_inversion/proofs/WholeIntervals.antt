@@ -37,14 +37,19 @@ module _ {F : Type 0} (value : F → Fraction) (s : Started F) (asked : Asked F)
     pub whole_interval : IsAskable value p asked → (w : BothSides F) → AreSidesOf value s asked limit w
         → IsRankInterval value p asked.column asked.tau asked.crit limit
         (record {
-          proof = record { column = asked.column; tau = asked.tau; crit = asked.crit; low = w.fall.end; high = w.rise.end; projection = w.factors };
+          column = asked.column;
+          tau = asked.tau;
+          crit = asked.crit;
+          low = w.fall.end;
+          high = w.rise.end;
+          projection = w.factors;
           trail = with_walks s.reached.trail w.rise.steps w.fall.steps;
         })
     whole_interval askable w sides =
         let made : length s.reached.trail.steps ≤ limit = h.reached.short in
         let few : length w.rise.steps + length w.fall.steps ≤ limit - length s.reached.trail.steps = sides.short in
-        interval_is value p asked askable s.reached.trail s.reached.tableau.rows w.factors w.rise.steps w.fall.steps w.rise.end w.fall.end h.reached.lawful optimal sides.projection sides.positive sides.size
-        sides.rise.walked sides.fall.walked sides.rise.ended sides.fall.ended limit (omega (arith, made, few))
+        interval_is value p asked askable s.reached.trail s.reached.tableau.rows w.factors sides.factors w.rise.steps w.fall.steps w.rise.end w.fall.end h.reached.lawful optimal sides.projection sides.positive
+        sides.listed sides.size sides.rise.walked sides.fall.walked sides.rise.ended sides.fall.ended limit (omega (arith, made, few))
 
 -- what was begun for a problem is of that problem
 module _ {F : Type 0} (value : F → Fraction) (p : Problem F) (s : Started F) (asked : Asked F) (limit : ℕ) (h : IsStarted value p (rational (value asked.tau)) limit s) where

@@ -25,7 +25,7 @@ use crate::wholes::{Started, start_in_wholes};
 use br_pivot::{Solved, solve_at};
 use frac_core::{Exact, List, OutOfMemory};
 use fraction_tableau::FractionTableau;
-use loss_model::{Basis, Exchange, Interval, IntervalProof, Problem, Spill, Stop, Trail};
+use loss_model::{Basis, Exchange, Interval, Problem, Spill, Stop, Trail};
 use rank_steps::Way;
 use rank_tableau::Arrival;
 use std::alloc::Global;
@@ -178,14 +178,12 @@ impl<'a, F: Exact> Inversion<'a, F> {
     {
         let trail = self.trail(alloc, rise.steps, fall.steps)?;
         Ok(Interval {
-            proof: IntervalProof {
-                column: self.asked.column,
-                tau: self.asked.tau,
-                crit: self.asked.crit,
-                low: fall.end,
-                high: rise.end,
-                projection: factors,
-            },
+            column: self.asked.column,
+            tau: self.asked.tau,
+            crit: self.asked.crit,
+            low: fall.end,
+            high: rise.end,
+            projection: Some(factors),
             trail,
         })
     }

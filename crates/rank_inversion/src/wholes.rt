@@ -15,7 +15,7 @@ use crate::trails::with_walks;
 use br_pivot::{Reached, reach_in_wholes};
 use frac_core::{Exact, List};
 use gram_check::whole_gram;
-use loss_model::{Interval, IntervalProof, Problem};
+use loss_model::{Interval, Problem};
 use rank_tableau::{Arrival, BothSides, Question, both_sides};
 use std::alloc::Global;
 use whole_tableau::Setting;
@@ -94,14 +94,12 @@ impl<'a, F: Exact> Started<'a, F> {
             Err(_) => return None,
         };
         Some(Interval {
-            proof: IntervalProof {
-                column: asked.column,
-                tau: asked.tau,
-                crit: asked.crit,
-                low,
-                high,
-                projection: factors,
-            },
+            column: asked.column,
+            tau: asked.tau,
+            crit: asked.crit,
+            low,
+            high,
+            projection: factors,
             trail,
         })
     }

@@ -1,16 +1,18 @@
 //! The test of a column: the factors that project it on the others, and the bound of the square of its statistic.
-ghost use Rattle.std.specs.Prelude.{◌≡◌, ◌<◌, ◌≤◌, ◌≤ℤ◌, length, IfOk, pos};
+ghost use Rattle.std.specs.Prelude.{◌≡◌, ◌≢◌, ◌<◌, ◌≤◌, ◌≤ℤ◌, length, IfOk, pos};
 ghost use Rattle.exact_algebra.specs.Fraction.{rational};
 ghost use Rattle.exact_algebra.specs.Rational.{whole};
 ghost use Rattle.loss_model.specs.Sample.{Sample};
 ghost use Rattle.loss_model.specs.Strict.{◌<ℚ◌};
 ghost use Rattle.rank_law.specs.Restricted.{IsProjection, squared_length, rank_bound};
 ghost use Rattle.whole_inverse.specs.Shares.{share, share_at};
+ghost use Rattle.whole_rows.specs.Wholes.{factor_at};
 ghost use Rattle.whole_tableau.specs.Kept.{IsKept, wholes_of};
 ghost use Rattle.wide_int.specs.Longs.{value_of};
 ghost use Rattle.gram_check.specs.Equations.{HasGram};
 ghost use Rattle.gram_check.specs.Sizes.{IsSquare};
-ghost use Rattle.rank_tableau.specs.Tests.{IsColumnTest};
+ghost use Rattle.gram_check.specs.Laws.{unscaled_factors};
+ghost use Rattle.rank_tableau.specs.Tests.{AreListed, IsColumnTest};
 
 use crate::bound::square_bound;
 use crate::reach::Square;
@@ -22,10 +24,10 @@ use whole_inverse::Obstacle;
 use whole_rows::Factor;
 use whole_tableau::WholeTableau;
 
-/// The factors of the problem's columns, and the bound of the square for the whole rows.
+/// The factors of the problem's columns, where none of them is too wide, and the bound of the square for the whole rows.
 #[derive(Drop)]
 pub struct ColumnTest<F> {
-    pub factors: List<F>,
+    pub factors: Option<List<F>>,
     pub reach: Square,
 }
 
@@ -75,6 +77,24 @@ fn reach_of<F: Exact>(
     }
 }
 
+/// The factors as fractions; none where one is too wide.
+fn listed<F: Exact>(
+    alloc: Global,
+    factors: &Factors,
+    scales: &[Factor],
+    column: usize,
+) -> Result<Option<List<F>>, Obstacle>
+    requires column { column < length scales.now }
+    requires some { factor_at scales.now column ≢ whole (pos 0) }
+    ensures { let f = factors.now in IfOk result (AreListed F.value (length f.numerators) (unscaled_factors (factor_at scales.now) column (share_at f.denominator f.numerators))) }
+{
+    match factor_values(alloc, factors, scales, column) {
+        Ok(values) => Ok(Some(values)),
+        Err(Obstacle::OutOfMemory) => Err(Obstacle::OutOfMemory),
+        Err(Obstacle::TooWide) => Ok(None),
+    }
+}
+
 /// The test of a column of the problem of a basis in whole numbers, by the Gram matrix of its whole rows.
 pub fn column_test<F: Exact>(
     alloc: Global,
@@ -96,6 +116,6 @@ pub fn column_test<F: Exact>(
     }
     let found = factors_of(alloc, gram, column as usize)?;
     let reach = reach_of(gram, column as usize, &found, tau, crit)?;
-    let factors = factor_values(alloc, &found, scales, column as usize)?;
+    let factors = listed(alloc, &found, scales, column as usize)?;
     Ok(ColumnTest { factors, reach })
 }
