@@ -3,7 +3,8 @@
 //! The problem is made whole once. Then the solves in whole numbers are jobs, one for each quantile, and then the
 //! walks, one for each quantile and column, from the solve at the quantile. The one contract:
 //! `all_intervals` gives a right interval for each that is asked, or tells the first that stops, in the order in
-//! which they are asked and not in that in which the jobs end. It stands on `rank_inversion` for the work,
+//! which they are asked and not in that in which the jobs end; for a certificate each lists the factors of its
+//! projection. It stands on `rank_inversion` for the work,
 //! and on `rq_fan` for the jobs.
 //! Its tests are those of whole runs, in the crate `run_tests`.
 #![tactic(auto)]
@@ -13,5 +14,5 @@ mod intervals;
 mod jobs;
 mod until;
 
-pub use asks::{IntervalStop, RankAsks};
+pub use asks::{IntervalStop, Purpose, RankAsks};
 pub use intervals::all_intervals;

@@ -65,8 +65,8 @@ impl Tested {
             crit: (crit.num.0, crit.den.0),
         };
         let found = answered(rt, alloc, &self.problem, question, 1000);
-        assert!(rt; is_same(found.proof.low.bound, want.low));
-        assert!(rt; is_same(found.proof.high.bound, want.high));
+        assert!(rt; is_same(found.low.bound, want.low));
+        assert!(rt; is_same(found.high.bound, want.high));
         drop(found);
         let quick = in_wholes(rt, alloc, &self.problem, question, 1000);
         counts.add(&want, quick.is_some());

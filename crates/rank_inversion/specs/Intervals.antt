@@ -1,5 +1,5 @@
 -- Stated. What a rank interval is (Koenker 2005, section 3.5).
-use Rattle.std.specs.Prelude.{◌≡◌, ◌↔◌, ◌+◌, ◌≤◌, ℕ, length, IfSome}
+use Rattle.std.specs.Prelude.{◌≡◌, ◌↔◌, ◌+◌, ◌≤◌, ℕ, length, is_some, true, IfSome}
 use Rattle.exact_algebra.specs.Fraction.{Fraction}
 use Rattle.exact_algebra.specs.Rational.{ℚ}
 use Rattle.loss_model.specs.declared.interval.Interval.{Interval}
@@ -27,3 +27,7 @@ pub record IsRankInterval {F : Type 0} (value : F → Fraction) (p : Problem F) 
   pub conditions : MeetsConditionsBy value p r lawful.factors
   pub size : IfSome r.projection (λ list. length list ≡ p.columns)
   pub short : length r.trail.steps + length r.trail.rise + length r.trail.fall ≤ limit
+
+-- it lists the factors of its projection
+abbrev pub HasFactors : {F : Type 0} → Interval F → Type 0
+HasFactors r = is_some r.projection ≡ true

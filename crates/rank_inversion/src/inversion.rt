@@ -9,7 +9,7 @@ ghost use Rattle.loss_model.specs.declared.stop.Stop.TheVariants.{PivotLimit, Ov
 ghost use Rattle.fraction_tableau.specs.Kept.{IsKept};
 ghost use Rattle.br_pivot.specs.Solutions.{IsSolution};
 ghost use Rattle.br_pivot.specs.Solves.{IsLimitAnswer};
-ghost use Rattle.rank_inversion.specs.Intervals.{IsExactInterval, IsRankInterval};
+ghost use Rattle.rank_inversion.specs.Intervals.{IsExactInterval, HasFactors, IsRankInterval};
 ghost use Rattle.rank_inversion.specs.Stops.{IsIntervalStop, IsWalkStop, IsLimited};
 ghost use Rattle.rank_inversion.specs.Tests.{IsTested};
 ghost use Rattle.rank_inversion.specs.Walks.{IsEnded, IsHalted};
@@ -174,7 +174,8 @@ impl<'a, F: Exact> Inversion<'a, F> {
         requires tested { IsTested F.value self.now.problem.now self.now.asked (record { asked = self.now.asked; factors = factors; bound = self.now.bound }) }
         requires risen { IsRisen F.value self.now rise }
         requires fallen { IsFallen F.value self.now rise.steps fall }
-        ensures { IfOk result (IsRankInterval F.value self.now.problem.now self.now.asked.column self.now.asked.tau self.now.asked.crit self.now.limit) }
+        ensures interval { IfOk result (IsRankInterval F.value self.now.problem.now self.now.asked.column self.now.asked.tau self.now.asked.crit self.now.limit) }
+        ensures listed { IfOk result HasFactors }
     {
         let trail = self.trail(alloc, rise.steps, fall.steps)?;
         Ok(Interval {
@@ -193,6 +194,7 @@ impl<'a, F: Exact> Inversion<'a, F> {
         requires ready { IsReady F.value self.now }
         requires tested { IsTested F.value self.now.problem.now self.now.asked (record { asked = self.now.asked; factors = factors; bound = self.now.bound }) }
         ensures interval { IfOk result (IsRankInterval F.value self.now.problem.now self.now.asked.column self.now.asked.tau self.now.asked.crit self.now.limit) }
+        ensures listed { IfOk result HasFactors }
         ensures stopped { IfErr result (IsStopHere F.value F.range self.now) }
     {
         let left = self.limit - self.solved.trail.steps.as_slice().len() as u32;
@@ -230,6 +232,7 @@ pub fn interval_from<F: Exact>(
     requires tested { IsTested F.value problem.now test.asked test }
     ensures exact { IfOk result (IsExactInterval F.value problem.now test.asked.column (rational (F.value test.asked.tau)) (rational (F.value test.asked.crit))) }
     ensures interval { IfOk result (IsRankInterval F.value problem.now test.asked.column test.asked.tau test.asked.crit limit) }
+    ensures listed { IfOk result HasFactors }
     ensures stopped { IfErr result (IsWalkStop F.value F.range problem.now test.asked.column (rational (F.value test.asked.tau)) (rational (F.value test.asked.crit)) limit) }
     ensures limited { IsLimited F.value problem.now test.asked.column (rational (F.value test.asked.tau)) (rational (F.value test.asked.crit)) limit → IsLimitAnswer result }
 {
@@ -255,6 +258,7 @@ fn by_parts<F: Exact>(
 ) -> Result<Interval<F>, Stop<F>>
     requires asked { IsAskable F.value problem.now asked }
     ensures interval { IfOk result (IsRankInterval F.value problem.now asked.column asked.tau asked.crit limit) }
+    ensures listed { IfOk result HasFactors }
     ensures stopped { IfErr result (IsIntervalStop F.value F.range problem.now asked.column (rational (F.value asked.tau)) (rational (F.value asked.crit)) limit) }
 {
     let gram = match gram_inverse(alloc, problem) {
@@ -290,6 +294,7 @@ pub fn interval_by_parts<F: Exact>(
     requires crit { whole (pos 0) ≤ℚ rational (F.value asked.crit) }
     requires data { (i : ℕ) → i < length problem.now.rows → IsDataRow (sample F.value problem.now) i }
     ensures interval { IfOk result (IsRankInterval F.value problem.now asked.column asked.tau asked.crit limit) }
+    ensures listed { IfOk result HasFactors }
     ensures stopped { IfErr result (IsIntervalStop F.value F.range problem.now asked.column (rational (F.value asked.tau)) (rational (F.value asked.crit)) limit) }
 {
     match by_parts(alloc, problem, asked, limit) {

@@ -1,5 +1,6 @@
 -- Lawful intervals are exact.
-use Rattle.std.specs.Prelude.{◌≡◌, ◌↔◌, ℕ, ◌<◌, List, [], ◌∷◌, slice_index, slice_set, Option, Some, IfSome, pos}
+use Rattle.std.specs.Prelude.{◌≡◌, ◌↔◌, ℕ, ◌<◌, List, [], ◌∷◌, map, option_map, slice_index, slice_set, Option, None, Some, IfSome, pos}
+use Rattle.std.specs.List.{AllZip}
 use Rattle.std.proofs.Common.{refl, sym, subst, ◌∙◌, length-set}
 use Rattle.exact_algebra.specs.Fraction.{Fraction, rational}
 use Rattle.exact_algebra.specs.Rational.{ℚ, whole}
@@ -20,13 +21,14 @@ use Rattle.loss_model.specs.declared.interval.Bound.{Bound}
 use Rattle.loss_model.specs.declared.interval.Bound.TheVariants.{Finite, Infinite}
 use Rattle.loss_model.specs.declared.interval.End.{End}
 use Rattle.loss_model.specs.declared.interval.Interval.{Interval}
+use Rattle.loss_model.specs.declared.interval.IntervalProof.{IntervalProof}
 use Rattle.rank_law.specs.Restricted.{squared_length, rank_bound, Holds}
 use Rattle.rank_law.specs.Bounds.{IsHighEnd, IsLowEnd}
 use Rattle.rank_law.specs.Certified.{bound_of, AreInOrder, MeetsConditions}
 use Rattle.rank_law.proofs.Exact.{bound_not_negative, exact, in_order}
 use Rattle.rank_walk.specs.RankWalks.{Way, rise, fall, tested, StandsAt, IsTest, IsEnd}
 use Rattle.rank_walk.specs.Ends.{IsEndAt, MeetsOn}
-use Rattle.rank_walk.specs.Intervals.{when_on, StandsIn, stated, IsIntervalBy, IsIntervalOf, MeetsConditionsBy, LawfulWalkStands, LawfulIntervalIsExact, WrittenIntervalPasses, ListedIntervalIsCertified}
+use Rattle.rank_walk.specs.Intervals.{when_on, StandsIn, stated, statement, IsIntervalBy, IsIntervalOf, MeetsConditionsBy, LawfulWalkStands, LawfulIntervalIsExact, WrittenIntervalPasses, ListedIntervalIsCertified}
 use Rattle.rank_walk.proofs.Walks.{stands_first, stands_next}
 use Rattle.rank_walk.proofs.Ends.{right_end, meets}
 
@@ -225,3 +227,15 @@ module _ {F : Type 0} (value : F → Fraction) (p : Problem F) (interval : Inter
 
 pub listed : {F : Type 0} (value : F → Fraction) (p : Problem F) (interval : Interval F) → ListedIntervalIsCertified value p interval
 listed value p interval = record { by_list = by_list value p interval; conditions = conditions value p interval }
+
+-- what is stated of intervals is stated of each
+pub stated_each : {F : Type 0} (rs : List (Interval F)) (xs : List (IntervalProof F)) → map Some xs ≡ map statement rs
+    → AllZip (λ r x. (factors : List F) × (r.projection ≡ Some factors) × (x ≡ stated r factors)) rs xs
+stated_each [] [] e = tt
+stated_each [] (x ∷ xs) e = absurd (cc e)
+stated_each (r ∷ rs) [] e = absurd (cc e)
+stated_each {F} (r ∷ rs) (x ∷ xs) e = (by r.projection refl (cc e), stated_each rs xs (cc e))
+  where
+    by : (o : Option (List F)) → r.projection ≡ o → Some x ≡ option_map (stated r) o → (factors : List F) × (r.projection ≡ Some factors) × (x ≡ stated r factors)
+    by None is h = absurd (cc h)
+    by (Some factors) is h = (factors, is, cc h)

@@ -1,6 +1,6 @@
 -- Stated. Rank intervals by their lawful trails: the fit to all columns, the rising walk and the falling one
 -- from it, and what they hand out; and that such an interval is exact.
-use Rattle.std.specs.Prelude.{◌≡◌, ◌↔◌, ℕ, ◌<◌, List, length, slice_index, Some, IfSome, pos}
+use Rattle.std.specs.Prelude.{◌≡◌, ◌↔◌, ℕ, ◌<◌, List, length, option_map, slice_index, Option, Some, IfSome, pos}
 use Rattle.exact_algebra.specs.Fraction.{Fraction, rational}
 use Rattle.exact_algebra.specs.Rational.{ℚ, whole, ◌≤ℚ◌}
 use Rattle.loss_model.specs.declared.problem.Problem.{Problem}
@@ -49,6 +49,10 @@ LawfulWalkStands {F} value =
 -- what a certificate states of an interval, with these factors of its projection
 abbrev pub stated : {F : Type 0} → Interval F → List F → IntervalProof F
 stated r factors = record { column = r.column; tau = r.tau; crit = r.crit; low = r.low; high = r.high; projection = factors }
+
+-- the same by the factors that the interval lists, where it does
+abbrev pub statement : {F : Type 0} → Interval F → Option (IntervalProof F)
+statement r = option_map (stated r) r.projection
 
 module _ {F : Type 0} (value : F → Fraction) (p : Problem F) (interval : Interval F) where
   -- the squared length that factors leave of its column

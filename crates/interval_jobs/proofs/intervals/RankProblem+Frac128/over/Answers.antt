@@ -4,7 +4,7 @@ use Rattle.rank_inversion.specs.Jobs.{range, value}
 use Rattle.interval_jobs.specs.Answers.{IsIntervalAnswer}
 use Rattle.interval_jobs.specs.Intervals.{asked_over}
 use Rattle.interval_jobs.specs.Until.{AreAnswered}
-use Rattle.interval_jobs.proofs.Ends.{all_starts, first_first, interval_first, none_stops}
+use Rattle.interval_jobs.proofs.Ends.{all_made, all_starts, first_first, interval_first, none_stops}
 use Rattle.interval_jobs.proofs.intervals.RankProblem+Frac128.over.Goals as goal
 
 pub returns-in-Err-clause-stopped : goal.returns-in-Err-clause-stopped
@@ -41,4 +41,14 @@ returns-clause-right g c =
     let asked = asked_over self.crit self.problem.now.columns (map (λ at. at.tau) starts) in
     rw c.from.ensures
     (none_stops value range self c.args.taus.now starts (c.in-Ok.ensures {u = tt}) made
+    (subst (AreAnswered (IsIntervalAnswer value range self) asked made) c.in_default.is (rw c.as_slice.ensures.value at (c.in-Ok-intervals.ensures {u = tt}))))
+
+pub returns-clause-purpose : goal.returns-clause-purpose
+returns-clause-purpose g c =
+    let self = c.args.self.now in
+    let starts = c.in-Ok.starts.items in
+    let made = c.in-Ok-intervals.intervals.done.items in
+    let asked = asked_over self.crit self.problem.now.columns (map (λ at. at.tau) starts) in
+    rw c.from.ensures
+    (all_made value range self c.args.taus.now starts (c.in-Ok.ensures {u = tt}) made
     (subst (AreAnswered (IsIntervalAnswer value range self) asked made) c.in_default.is (rw c.as_slice.ensures.value at (c.in-Ok-intervals.ensures {u = tt}))))
