@@ -170,7 +170,7 @@ module _ (words : List (List ℕ)) (job : FitJob) (asked : IsJobOf words (jobs.C
     is_within small =
         let is = certified.is in
         let many : length cert.intervals ≡ length certified.fit.intervals
-            = sym (length-map cert.intervals Some) ∙ ap length is.intervals ∙ length-map certified.fit.intervals statement in
+        = sym (length-map cert.intervals Some) ∙ ap length is.intervals ∙ length-map certified.fit.intervals statement in
         let zipped = zip_length (IsRightInterval value certified.fit.problem job.limit) (asked_by job.rank certified.fit.problem.columns) certified.fit.intervals right.intervals in
         record {
           columns = subst (λ (p : Problem Frac128). p.columns ≤ 128) (sym is.problem) right.shaped.columns;

@@ -119,7 +119,12 @@ impl<'a, F: Exact> RankProblem<'a, F> {
 
     /// An interval that lists the factors of its projection, where a certificate is to have them: one that doesn't is
     /// made again by its parts, which stops where these factors have no numbers.
-    fn for_purpose(&self, alloc: Global, asked: Asked<F>, found: Interval<F>) -> Result<Interval<F>, Stop<F>>
+    fn for_purpose(
+        &self,
+        alloc: Global,
+        asked: Asked<F>,
+        found: Interval<F>,
+    ) -> Result<Interval<F>, Stop<F>>
         requires askable { IsAskable F.value self.now.problem.now asked }
         requires right { IsRightInterval F.value self.now.problem.now self.now.limit asked found }
         ensures right { IfOk result (IsRightInterval F.value self.now.problem.now self.now.limit asked) }

@@ -280,7 +280,7 @@ fn by_parts<F: Exact>(
 }
 
 /// The rank interval of a column by its parts alone, whose walks go in fractions: what `interval` comes to where whole
-/// numbers don't suffice.
+/// numbers don't suffice. It lists the factors of its projection, so it stops where one of them has no number.
 pub fn interval_by_parts<F: Exact>(
     alloc: Global,
     problem: &Problem<F>,
@@ -293,9 +293,11 @@ pub fn interval_by_parts<F: Exact>(
     requires tau_below { rational (F.value asked.tau) <ℚ whole (pos 1) }
     requires crit { whole (pos 0) ≤ℚ rational (F.value asked.crit) }
     requires data { (i : ℕ) → i < length problem.now.rows → IsDataRow (sample F.value problem.now) i }
+    ensures exact { IfOk result (IsExactInterval F.value problem.now asked.column (rational (F.value asked.tau)) (rational (F.value asked.crit))) }
     ensures interval { IfOk result (IsRankInterval F.value problem.now asked.column asked.tau asked.crit limit) }
     ensures listed { IfOk result HasFactors }
     ensures stopped { IfErr result (IsIntervalStop F.value F.range problem.now asked.column (rational (F.value asked.tau)) (rational (F.value asked.crit)) limit) }
+    ensures limited { IsLimited F.value problem.now asked.column (rational (F.value asked.tau)) (rational (F.value asked.crit)) limit → IsLimitAnswer result }
 {
     match by_parts(alloc, problem, asked, limit) {
         Ok(interval) => Ok(interval),
