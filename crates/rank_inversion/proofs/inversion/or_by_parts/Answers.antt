@@ -3,11 +3,11 @@ use Rattle.rank_inversion.proofs.inversion.or_by_parts.Goals as goal
 
 pub returns-in-Some-clause-exact : goal.returns-in-Some-clause-exact
 returns-in-Some-clause-exact g c =
-    exact_is g.F.Exact.value c.args.problem.now c.args.asked c.args.limit c.requires.asked c.in-Some.interval (c.in-Some.ensures {u = tt})
+    exact_is g.F.Exact.value c.args.problem.now c.args.asked c.args.limit c.requires.asked c.in-Some.interval (rw c.in-Some.is at c.requires.quick)
 
 pub returns-in-Some-clause-limited : goal.returns-in-Some-clause-limited
 returns-in-Some-clause-limited g c = λ reached.
-    none_limited g.F.Exact.value c.args.problem.now c.args.asked c.args.limit c.requires.asked c.in-Some.interval (c.in-Some.ensures {u = tt}) reached
+    none_limited g.F.Exact.value c.args.problem.now c.args.asked c.args.limit c.requires.asked c.in-Some.interval (rw c.in-Some.is at c.requires.quick) reached
 
 pub returns-in-Ok-clause-exact : goal.returns-in-Ok-clause-exact
 returns-in-Ok-clause-exact g c =

@@ -3,7 +3,7 @@ use Rattle.gram_check.specs.Sizes.{IsSquare}
 use Rattle.rank_inversion.proofs.wholes.start_in_wholes.Goals as goal
 
 pub whole_gram-requires : goal.whole_gram-requires
-whole_gram-requires g c κs within =
+whole_gram-requires g c =
     let kept = (c.in_ok-reached.ensures {u = tt}).kept in
     rw (c.as_slice-rows.ensures, c.setting.ensures, c.problem.ensures) kept.setting.wide
 
