@@ -1,5 +1,5 @@
 //! What is asked of a problem, and the work for one quantile and for one column.
-ghost use Rattle.std.specs.Prelude.{◌≡◌, IfErr, IfOk, IfSome};
+ghost use Rattle.std.specs.Prelude.{◌≡◌, IfErr, IfOk, IfSome, true};
 ghost use Rattle.exact_algebra.specs.Fraction.{rational};
 ghost use Rattle.loss_model.specs.Problem.{IsWellShaped};
 ghost use Rattle.whole_tableau.specs.Kept.{IsSetting};
@@ -21,6 +21,18 @@ use whole_tableau::{Setting, setting_of};
 pub enum Purpose {
     Report,
     Certificate,
+}
+
+impl Purpose {
+    /// Whether an interval has what it is for.
+    fn is_met<F: Exact>(&self, interval: &Interval<F>) -> bool
+        ensures { result ≡ true → IsFor self.now interval.now }
+    {
+        match self {
+            Purpose::Report => true,
+            Purpose::Certificate => interval.projection.is_some(),
+        }
+    }
 }
 
 /// What is asked of a problem: intervals for a critical value, at these quantiles, the limit of the pivots of each, and
@@ -131,11 +143,7 @@ impl<'a, F: Exact> RankProblem<'a, F> {
         ensures purpose { IfOk result (IsFor self.now.purpose) }
         ensures stopped { IfErr result (IsIntervalStop F.value F.range self.now.problem.now asked.column (rational (F.value asked.tau)) (rational (F.value asked.crit)) self.now.limit) }
     {
-        match self.purpose {
-            Purpose::Report => return Ok(found),
-            Purpose::Certificate => {}
-        }
-        if found.projection.is_some() {
+        if self.purpose.is_met(&found) {
             return Ok(found);
         }
         match interval_by_parts(alloc, self.problem, asked, self.limit) {

@@ -33,13 +33,22 @@ fn proof_of<F: Exact>(interval: Interval<F>) -> IntervalProof<F>
     requires { HasFactors interval }
     ensures { Some result ≡ statement interval }
 {
-    match interval.projection {
+    let Interval {
+        column,
+        tau,
+        crit,
+        low,
+        high,
+        projection,
+        ..
+    } = interval;
+    match projection {
         Some(projection) => IntervalProof {
-            column: interval.column,
-            tau: interval.tau,
-            crit: interval.crit,
-            low: interval.low,
-            high: interval.high,
+            column,
+            tau,
+            crit,
+            low,
+            high,
             projection,
         },
         None => unreachable!(),
