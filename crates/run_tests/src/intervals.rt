@@ -284,6 +284,42 @@ fn only_what_is_printed_must_have_128_bits(rt: HostRuntime) {
     expect_all(&rt, rt.alloc(), WIDE, 3);
 }
 
+// Columns of eight digits, one of them in units of 10^-17: the factor of x in the projection of the intercept has 128 bits. So there
+// is no certificate of its interval, and both ends of each are printed. They were found by going through all bases of each restricted fit, in
+// fractions of any size, and the operation by doing the exchanges of the inverse of the Gram matrix in these.
+static UNLISTED: &str = r"
+> process|--formula|y ~ .|--lo|1/2|--hi|1/2|--crit|1|--rank-at|1/2
+y,x,z;3637,50708047e-17,9927505;5903,74273971e-17,74739467;4534,30800027e-17,39839355;8526,23846711e-17,3659816;8793,63158037e-17,54900633;2829,22093051e-17,8898318
+quantreg 1
+records 6 dropped 0
+column 1 (Intercept)
+column 2 x
+column 3 z
+data 6 penalty 0
+pivots 0
+segment 1 1/2 1/2
+coef 1 3054869731131324599/997589109767320
+coef 2 12054902732500000000000000/24939727744183
+coef 3 16562551787/498794554883660
+loss 4721065779450990593/997589109767320 4721065779450990593/997589109767320
+scores ***110
+basic 1 76981995611009/249397277441830 76981995611009/249397277441830
+basic 2 38964152109081/199517821953464 38964152109081/199517821953464
+basic 3 494840366777879/997589109767320 494840366777879/997589109767320
+interval 1 1/2 1594281884509473853/876416543482340 5208589776852607429/398308001367899
+interval 2 1/2 12054902732500000000000000/24939727744183 116227970305000000000000000/43820827174117
+interval 3 1/2 -45766768513/332548936315106 16562551787/498794554883660
+end
+> certify|--formula|y ~ .|--lo|1/2|--hi|1/2|--crit|1|--rank-at|1/2
+y,x,z;3637,50708047e-17,9927505;5903,74273971e-17,74739467;4534,30800027e-17,39839355;8526,23846711e-17,3659816;8793,63158037e-17,54900633;2829,22093051e-17,8898318
+7 quantreg: solver: Overflow place=interval:1:1/2 quantity=exchanged-entry at=1,1 term=1 op=mul left=54774227828557535631567/3583082001978821 right=3222013401679855037151/315446089772499860620577001394
+";
+
+#[test]
+fn ends_are_printed_of_an_interval_without_a_certificate(rt: HostRuntime) {
+    expect_all(&rt, rt.alloc(), UNLISTED, 2);
+}
+
 static STOPS: &str = r"
 # The fit takes one pivot, and so does each solve of an interval. Then the walks of five points take
 # one step each.
