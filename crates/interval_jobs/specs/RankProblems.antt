@@ -35,6 +35,6 @@ module _ {F : Type 0} (value : F → Fraction) where
     pub inner : IsInner (rational (value tau))
 
   -- what the walks of a column need
-  pub record IsWalkable (v : RankProblem F) (asked : Asked F) (started : Option (Started F)) : Type 0 where
+  pub record IsWalkable (v : RankProblem F) (asked : Asked F) (start : Option (Started F)) : Type 0 where
     pub askable : IsAskable value v.problem.now asked
-    pub started : IfSome started (IsStarted value v.problem.now (rational (value asked.tau)) v.limit)
+    pub started : IfSome start (IsStarted value v.problem.now (rational (value asked.tau)) v.limit)
