@@ -24,7 +24,6 @@ use Rattle.rank_walk.specs.Loops.{IsWalking}
 use Rattle.rank_walk.specs.RankWalks.{Way, rise, fall, tested}
 use Rattle.rank_walk.specs.Crossings.{parameter_of}
 use Rattle.rank_walk.proofs.Loops as loop
-use Rattle.wide_int.specs.Longs.{value_of}
 use Rattle.whole_inverse.specs.Shares.{share}
 use Rattle.whole_tableau.specs.declared.setting.Setting.{Setting}
 use Rattle.whole_tableau.specs.Kept.{IsKept, place}
@@ -126,7 +125,7 @@ module _ {F : Type 0} (value : F → Fraction) (p : Problem F) (c : Course F) (b
         record {
           problem = same_problem;
           kept = a.kept;
-          bound_is = ap (λ (s : Setting). share (pos (value_of r.over)) (pos (value_of r.under)) *ℚ inverse
+          bound_is = ap (λ (s : Setting). share (pos r.over) (pos r.under) *ℚ inverse
               ((factor_value s.wholes.cost *ℚ factor_at s.wholes.factors c.column) *ℚ (factor_value s.wholes.cost *ℚ factor_at s.wholes.factors c.column))) a.setting ∙ h.bound_is;
           walking =
               subst (λ steps. W steps (parameter_at value c after.weight) (here_of after).rows (place value (here_of after)).inverse) (sym a.steps)

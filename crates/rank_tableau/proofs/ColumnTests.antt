@@ -7,7 +7,6 @@ use Rattle.loss_model.specs.Problem.{sample, value_at}
 use Rattle.loss_model.specs.Sample.{Sample}
 use Rattle.loss_model.specs.Strict.{◌<ℚ◌}
 use Rattle.rank_law.specs.Restricted.{IsProjection, squared_length, rank_bound}
-use Rattle.wide_int.specs.Longs.{value_of}
 use Rattle.whole_inverse.specs.Shares.{share}
 use Rattle.scaled_model.specs.Scaled.{IsScaled}
 use Rattle.whole_rows.specs.Wholes.{factor_at, factor_value}
@@ -34,8 +33,8 @@ module _ {F : Type 0} (value : F → Fraction) (k : Kept F) (j : ℕ) (c : ℕ �
   lc = factor_value k.setting.wholes.cost
 
   module _ (lj : j < k.problem.columns) (h : IsScaled p q s ly lc) (some : (m : ℕ) → m < k.problem.columns → s m ≢ whole (pos 0)) (cost : lc ≢ whole (pos 0))
-      (projection : IsProjection q j c) (positive : whole (pos 0) <ℚ squared_length q j c) (under : 1 ≤ value_of reach.under)
-      (bound : share (pos (value_of reach.over)) (pos (value_of reach.under)) ≡ rank_bound tau crit (squared_length q j c)) where
+      (projection : IsProjection q j c) (positive : whole (pos 0) <ℚ squared_length q j c) (under : 1 ≤ reach.under)
+      (bound : share (pos reach.over) (pos reach.under) ≡ rank_bound tau crit (squared_length q j c)) where
     test_by : (e : ℕ → ℚ) (listed : Option (List F)) → IfSome listed (λ list. value_at value list ≡ e) → IfSome listed (λ list. length list ≡ k.problem.columns)
         → ((m : ℕ) → m < k.problem.columns → e m ≡ unscaled_factors s j c m) → IsColumnTest value k j tau crit (record { factors = listed; reach = reach })
     test_by e listed same size each =

@@ -16,7 +16,6 @@ use Rattle.walk_rule.specs.Walks.{IsNextBreak, IsFirstMover, IsWalkingStep}
 use Rattle.rank_walk.specs.RankWalks.{Way, rise, fall, tested}
 use Rattle.walk_rule.specs.WalkTrails.{is_within}
 use Rattle.rank_walk.specs.Crossings.{parameter_of, bound_towards, IsMoving}
-use Rattle.wide_int.specs.Longs.{value_of}
 use Rattle.fraction_tableau.specs.declared.crossings.Breakpoint.{Breakpoint}
 use Rattle.fraction_tableau.specs.Crossings.{IsFirst}
 use Rattle.scaled_model.specs.Scaled.{unscaled}
@@ -99,14 +98,14 @@ module _ {F : Type 0} (value : F → Fraction) (k : Kept F) (h : IsKept value k)
       (λ m d. parameter_of (way_of c.way) ((bound_towards q (rational (value c.tau)) (at m) d -ℚ dual_value q at a (rational (value c.tau)) m) *ℚ inverse (a c.column m))) k.problem.columns b)
       first))
 
-  module _ (r : Square) (some : 1 ≤ value_of r.under) where
-    pub past_here : is_gt (nat_cmp ((value_of r.under * b.theta.over) * b.theta.over) ((value_of r.over * b.theta.under) * b.theta.under)) ≡ true
+  module _ (r : Square) (some : 1 ≤ r.under) where
+    pub past_here : is_gt (nat_cmp ((r.under * b.theta.over) * b.theta.over) ((r.over * b.theta.under) * b.theta.under)) ≡ true
         → IsFound value (place value k) c (bound_by k c.column r) from (Past (record { theta = theta; position = b.position; direction = b.direction }))
-    past_here e = (next_here, beyond_by b.theta.over b.theta.under (value_of r.over) (value_of r.under) divisor some (scale_of k c.column) scale_positive (rational (value theta)) scaled_theta e)
+    past_here e = (next_here, beyond_by b.theta.over b.theta.under r.over r.under divisor some (scale_of k c.column) scale_positive (rational (value theta)) scaled_theta e)
 
-    module _ (e : is_gt (nat_cmp ((value_of r.under * b.theta.over) * b.theta.over) ((value_of r.over * b.theta.under) * b.theta.under)) ≡ false) where
+    module _ (e : is_gt (nat_cmp ((r.under * b.theta.over) * b.theta.over) ((r.over * b.theta.under) * b.theta.under)) ≡ false) where
       within_here : (rational (value theta) *ℚ rational (value theta)) ≤ℚ bound_by k c.column r
-      within_here = within_by b.theta.over b.theta.under (value_of r.over) (value_of r.under) divisor some (scale_of k c.column) scale_positive (rational (value theta)) scaled_theta e
+      within_here = within_by b.theta.over b.theta.under r.over r.under divisor some (scale_of k c.column) scale_positive (rational (value theta)) scaled_theta e
 
       pub stuck_here : IsEnteringOrNone t b.position b.direction None
           → IsFound value (place value k) c (bound_by k c.column r) from (Stuck (record { theta = theta; position = b.position; direction = b.direction }))

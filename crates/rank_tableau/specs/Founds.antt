@@ -4,7 +4,6 @@ use Rattle.exact_algebra.specs.Fraction.{Fraction, rational}
 use Rattle.exact_algebra.specs.Rational.{ℚ, ◌-ℚ◌, ◌*ℚ◌, inverse, ◌≤ℚ◌}
 use Rattle.loss_model.specs.Sample.{Sample}
 use Rattle.loss_model.specs.Strict.{◌<ℚ◌}
-use Rattle.wide_int.specs.Longs.{value_of}
 use Rattle.pivot_rule.specs.Steps.{moves}
 use Rattle.walk_rule.specs.Families.{Family}
 use Rattle.walk_rule.specs.Walks.{IsNextBreak, IsWalkingStep}
@@ -34,7 +33,7 @@ scale_of k c = factor_value k.setting.wholes.cost *ℚ factor_at k.setting.whole
 
 -- the bound of the square for the problem, from that for the whole rows
 abbrev pub bound_by : {F : Type 0} → Kept F → ℕ → Square → ℚ
-bound_by k c r = share (pos (value_of r.over)) (pos (value_of r.under)) *ℚ inverse (scale_of k c *ℚ scale_of k c)
+bound_by k c r = share (pos r.over) (pos r.under) *ℚ inverse (scale_of k c *ℚ scale_of k c)
 
 module _ {F : Type 0} (value : F → Fraction) where
   -- the parameter where the column weighs so much

@@ -5,7 +5,6 @@ use Rattle.exact_algebra.specs.Rational.{ℚ, whole}
 use Rattle.loss_model.specs.Problem.{sample, value_at}
 use Rattle.loss_model.specs.Strict.{◌<ℚ◌}
 use Rattle.rank_law.specs.Restricted.{IsProjection, squared_length, rank_bound}
-use Rattle.wide_int.specs.Longs.{value_of}
 use Rattle.whole_tableau.specs.Kept.{Kept}
 use Rattle.rank_tableau.specs.Founds.{bound_by}
 use Rattle.rank_tableau.specs.declared.testing.ColumnTest.{ColumnTest}
@@ -21,5 +20,5 @@ pub record IsColumnTest {F : Type 0} (value : F → Fraction) (k : Kept F) (c : 
   pub size : IfSome t.factors (λ list. length list ≡ k.problem.columns)
   pub projection : IsProjection (sample value k.problem) c factors
   pub positive : whole (pos 0) <ℚ squared_length (sample value k.problem) c factors
-  pub under : 1 ≤ value_of t.reach.under
+  pub under : 1 ≤ t.reach.under
   pub bound : bound_by k c t.reach ≡ rank_bound tau crit (squared_length (sample value k.problem) c factors)

@@ -3,7 +3,6 @@ ghost use Rattle.std.specs.Prelude.{◌≡◌, ◌<◌, ◌≤◌, length, slice
 ghost use Rattle.exact_algebra.specs.Fraction.{rational};
 ghost use Rattle.loss_model.specs.Problem.{sample};
 ghost use Rattle.walk_rule.specs.Families.{IsOptimalIn};
-ghost use Rattle.wide_int.specs.Longs.{value_of};
 ghost use Rattle.whole_rows.specs.Wholes.{factor_at, factor_value, IsPositive};
 ghost use Rattle.whole_tableau.specs.Kept.{IsKept, place};
 ghost use Rattle.whole_tableau.specs.Steps.{IsStationOf};
@@ -35,7 +34,7 @@ fn at_crossing<F: Exact>(
     tableau: &WholeTableau<'_, F>,
     station: &Station<'_>,
     course: &Course<F>,
-    reach: Square,
+    reach: &Square,
     factor: Factor,
     next: Breakpoint<Quotient>,
     from: F,
@@ -43,13 +42,13 @@ fn at_crossing<F: Exact>(
     requires kept { IsKept F.value tableau.now }
     requires station { IsStationOf tableau.now station.now }
     requires column { course.now.column < tableau.now.problem.columns }
-    requires reach { 1 ≤ value_of reach.under }
+    requires reach { 1 ≤ reach.now.under }
     requires factor { factor_value factor ≡ factor_at tableau.now.setting.wholes.factors course.now.column }
     requires positive { IsPositive factor }
     requires first { IsFirstAt F.value station.now course.now tableau.now.problem.columns next }
     requires divisor { 1 ≤ next.theta.under }
     requires optimal { IsOptimalIn (family_of F.value (sample F.value tableau.now.problem) course.now) (slice_index tableau.now.rows) (place F.value tableau.now).inverse (parameter_at F.value course.now from) }
-    ensures { IfOk result (IsFound F.value (place F.value tableau.now) course.now (bound_by tableau.now course.now.column reach) from) }
+    ensures { IfOk result (IsFound F.value (place F.value tableau.now) course.now (bound_by tableau.now course.now.column reach.now) from) }
 {
     let _from = from;
     let theta: F = weight_of(tableau, factor, next.theta)?;
@@ -58,20 +57,18 @@ fn at_crossing<F: Exact>(
         position: next.position,
         direction: next.direction,
     };
-    match is_beyond(next.theta, reach) {
-        None => Err(Obstacle::TooWide),
-        Some(true) => Ok(Finding::Past(here)),
-        Some(false) => {
-            match entering_row::<F>(station, tableau.alloc(), next.position, next.direction) {
-                Ok(Some(row)) => Ok(Finding::Step(Exchange {
-                    theta: course.way.turned(theta),
-                    position: next.position,
-                    row,
-                })),
-                Ok(None) => Ok(Finding::Stuck(here)),
-                Err(obstacle) => Err(obstacle),
-            }
-        }
+    let beyond = is_beyond(tableau.alloc(), next.theta, reach)?;
+    if beyond {
+        return Ok(Finding::Past(here));
+    }
+    match entering_row::<F>(station, tableau.alloc(), next.position, next.direction) {
+        Ok(Some(row)) => Ok(Finding::Step(Exchange {
+            theta: course.way.turned(theta),
+            position: next.position,
+            row,
+        })),
+        Ok(None) => Ok(Finding::Stuck(here)),
+        Err(obstacle) => Err(obstacle),
     }
 }
 
@@ -79,13 +76,13 @@ fn at_crossing<F: Exact>(
 pub fn found<F: Exact>(
     tableau: &WholeTableau<'_, F>,
     course: &Course<F>,
-    reach: Square,
+    reach: &Square,
     from: F,
 ) -> Result<Finding<F>, Obstacle>
     requires column { course.now.column < tableau.now.problem.columns }
-    requires reach { 1 ≤ value_of reach.under }
+    requires reach { 1 ≤ reach.now.under }
     requires optimal { IsOptimalIn (family_of F.value (sample F.value tableau.now.problem) course.now) (slice_index tableau.now.rows) (place F.value tableau.now).inverse (parameter_at F.value course.now from) }
-    ensures { IfOk result (IsFound F.value (place F.value tableau.now) course.now (bound_by tableau.now course.now.column reach) from) }
+    ensures { IfOk result (IsFound F.value (place F.value tableau.now) course.now (bound_by tableau.now course.now.column reach.now) from) }
 {
     let factor = factor_of(tableau, course.column)?;
     let held = tableau.held();

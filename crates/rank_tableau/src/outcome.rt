@@ -2,7 +2,6 @@
 ghost use Rattle.std.specs.Prelude.{◌≡◌, ℕ, ◌<◌, ◌≤◌, length, slice_index, Contains, IfOk};
 ghost use Rattle.exact_algebra.specs.Fraction.{rational};
 ghost use Rattle.loss_model.specs.Problem.{sample, value_at};
-ghost use Rattle.wide_int.specs.Longs.{value_of};
 ghost use Rattle.walk_rule.specs.Families.{IsOptimalIn};
 ghost use Rattle.whole_rows.specs.Wholes.{factor_at, factor_value, IsPositive};
 ghost use Rattle.whole_tableau.specs.Kept.{IsKept, place};
@@ -67,7 +66,7 @@ fn finite_end<F: Exact>(
     tableau: &WholeTableau<'_, F>,
     course: &Course<F>,
     factor: Factor,
-    reach: Square,
+    reach: &Square,
     from: F,
     next: Breakpoint<F>,
 ) -> Result<End<F>, Obstacle>
@@ -75,8 +74,8 @@ fn finite_end<F: Exact>(
     requires column { course.now.column < tableau.now.problem.columns }
     requires factor { factor_value factor ≡ factor_at tableau.now.setting.wholes.factors course.now.column }
     requires positive { IsPositive factor }
-    requires past { IsFound F.value (place F.value tableau.now) course.now (bound_by tableau.now course.now.column reach) from (Past next) }
-    ensures { IfOk result (IsEndOf F.value (place F.value tableau.now) course.now (bound_by tableau.now course.now.column reach) from) }
+    requires past { IsFound F.value (place F.value tableau.now) course.now (bound_by tableau.now course.now.column reach.now) from (Past next) }
+    ensures { IfOk result (IsEndOf F.value (place F.value tableau.now) course.now (bound_by tableau.now course.now.column reach.now) from) }
 {
     let _reach = reach;
     let fitted = tableau.fit(course.tau)?;
@@ -104,7 +103,7 @@ fn endless<F: Exact>(
     tableau: &WholeTableau<'_, F>,
     course: &Course<F>,
     factor: Factor,
-    reach: Square,
+    reach: &Square,
     from: F,
     next: Breakpoint<F>,
 ) -> Result<End<F>, Obstacle>
@@ -112,8 +111,8 @@ fn endless<F: Exact>(
     requires column { course.now.column < tableau.now.problem.columns }
     requires factor { factor_value factor ≡ factor_at tableau.now.setting.wholes.factors course.now.column }
     requires positive { IsPositive factor }
-    requires stuck { IsFound F.value (place F.value tableau.now) course.now (bound_by tableau.now course.now.column reach) from (Stuck next) }
-    ensures { IfOk result (IsEndOf F.value (place F.value tableau.now) course.now (bound_by tableau.now course.now.column reach) from) }
+    requires stuck { IsFound F.value (place F.value tableau.now) course.now (bound_by tableau.now course.now.column reach.now) from (Stuck next) }
+    ensures { IfOk result (IsEndOf F.value (place F.value tableau.now) course.now (bound_by tableau.now course.now.column reach.now) from) }
 {
     let _reach = reach;
     let _from = from;
@@ -140,13 +139,13 @@ fn endless<F: Exact>(
 pub fn left_at<F: Exact>(
     tableau: &WholeTableau<'_, F>,
     course: &Course<F>,
-    reach: Square,
+    reach: &Square,
     from: F,
 ) -> Result<Next<F>, Obstacle>
     requires column { course.now.column < tableau.now.problem.columns }
-    requires reach { 1 ≤ value_of reach.under }
+    requires reach { 1 ≤ reach.now.under }
     requires optimal { IsOptimalIn (family_of F.value (sample F.value tableau.now.problem) course.now) (slice_index tableau.now.rows) (place F.value tableau.now).inverse (parameter_at F.value course.now from) }
-    ensures { IfOk result (IsNext F.value (place F.value tableau.now) course.now (bound_by tableau.now course.now.column reach) from) }
+    ensures { IfOk result (IsNext F.value (place F.value tableau.now) course.now (bound_by tableau.now course.now.column reach.now) from) }
 {
     let factor = factor_of(tableau, course.column)?;
     let _held = tableau.held();

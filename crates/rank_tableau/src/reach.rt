@@ -1,23 +1,34 @@
 //! Whether the square of a quotient is within a bound.
-ghost use Rattle.std.specs.Prelude.{◌≡◌, ◌*◌, ◌≤◌, ◌↔◌, IfSome, IsTrue};
+ghost use Rattle.std.specs.Prelude.{◌≡◌, ◌*◌, IfOk};
 ghost use Rattle.std.specs.Ordering.{nat_cmp, is_gt};
-ghost use Rattle.wide_int.specs.Longs.{value_of};
 
+use frac_core::OutOfMemory;
+use natural::Natural;
+use std::alloc::Global;
 use whole_descent::Quotient;
-use wide_int::Long;
 
-/// The bound `over / under` of a square.
-#[derive(Clone, Copy)]
+/// The bound `over / under` of a square, in numbers of any size.
+#[derive(Drop)]
 pub struct Square {
-    pub over: Long,
-    pub under: Long,
+    pub over: Natural,
+    pub under: Natural,
 }
 
-/// Whether the square of a quotient is beyond a bound, where both products have 512 bits.
-pub(crate) fn is_beyond(theta: Quotient, bound: Square) -> Option<bool>
-    ensures { IfSome result (λ b. b ≡ is_gt (nat_cmp ((value_of bound.under * theta.over) * theta.over) ((value_of bound.over * theta.under) * theta.under))) }
+/// A number times the square of another.
+fn times_square(alloc: Global, n: &Natural, m: u128) -> Result<Natural, OutOfMemory>
+    ensures { IfOk result (λ r. r ≡ (n.now * m) * m) }
 {
-    let square = bound.under.times(theta.over)?.times(theta.over)?;
-    let most = bound.over.times(theta.under)?.times(theta.under)?;
-    Some(square.compare(most).is_gt())
+    let factor = Natural::new(alloc, m)?;
+    let once = n.mul(alloc, &factor)?;
+    let twice = once.mul(alloc, &factor)?;
+    Ok(twice)
+}
+
+/// Whether the square of a quotient is beyond a bound.
+pub(crate) fn is_beyond(alloc: Global, theta: Quotient, bound: &Square) -> Result<bool, OutOfMemory>
+    ensures { IfOk result (λ b. b ≡ is_gt (nat_cmp ((bound.now.under * theta.over) * theta.over) ((bound.now.over * theta.under) * theta.under))) }
+{
+    let square = times_square(alloc, &bound.under, theta.over)?;
+    let most = times_square(alloc, &bound.over, theta.under)?;
+    Ok(square.compare(&most).is_gt())
 }

@@ -1,5 +1,5 @@
 //! The test of a column: the factors that project it on the others, and the bound of the square of its statistic.
-ghost use Rattle.std.specs.Prelude.{◌≡◌, ◌≢◌, ◌<◌, ◌≤◌, ◌≤ℤ◌, length, IfOk, pos};
+ghost use Rattle.std.specs.Prelude.{◌≡◌, ◌≢◌, ◌<◌, ◌≤◌, length, IfOk, pos};
 ghost use Rattle.exact_algebra.specs.Fraction.{rational};
 ghost use Rattle.exact_algebra.specs.Rational.{whole};
 ghost use Rattle.loss_model.specs.Sample.{Sample};
@@ -8,7 +8,6 @@ ghost use Rattle.rank_law.specs.Restricted.{IsProjection, squared_length, rank_b
 ghost use Rattle.whole_inverse.specs.Shares.{share, share_at};
 ghost use Rattle.whole_rows.specs.Wholes.{factor_at};
 ghost use Rattle.whole_tableau.specs.Kept.{IsKept, wholes_of};
-ghost use Rattle.wide_int.specs.Longs.{value_of};
 ghost use Rattle.gram_check.specs.Equations.{HasGram};
 ghost use Rattle.gram_check.specs.Sizes.{IsSquare};
 ghost use Rattle.gram_check.specs.Laws.{unscaled_factors};
@@ -33,6 +32,7 @@ pub struct ColumnTest<F> {
 
 /// The bound of the square, by what the factors leave of the column.
 fn reach_of<F: Exact>(
+    alloc: Global,
     gram: &[List<i128>],
     column: usize,
     factors: &Factors,
@@ -42,39 +42,32 @@ fn reach_of<F: Exact>(
     requires square { IsSquare (length gram.now) gram.now }
     requires column { column < length gram.now }
     requires size { length factors.now.numerators ≡ length gram.now }
-    requires positive { pos 1 ≤ℤ factors.now.denominator }
-    ensures under { IfOk result (λ s. 1 ≤ value_of s.under) }
-    ensures positive { let f = factors.now in let c = share_at f.denominator f.numerators in
+    requires positive { 1 ≤ factors.now.denominator }
+    ensures under { IfOk result (λ s. 1 ≤ s.under) }
+    ensures positive { let f = factors.now in let c = share_at (pos f.denominator) f.numerators in
         IfOk result (λ s. (p : Sample) → HasGram p gram.now → IsProjection p column c → whole (pos 0) <ℚ squared_length p column c) }
-    ensures bound { let f = factors.now in let c = share_at f.denominator f.numerators in
-        IfOk result (λ s. (p : Sample) → HasGram p gram.now → IsProjection p column c → share (pos (value_of s.over)) (pos (value_of s.under)) ≡ rank_bound (rational (F.value tau)) (rational (F.value crit)) (squared_length p column c)) }
+    ensures bound { let f = factors.now in let c = share_at (pos f.denominator) f.numerators in
+        IfOk result (λ s. (p : Sample) → HasGram p gram.now → IsProjection p column c → share (pos s.over) (pos s.under) ≡ rank_bound (rational (F.value tau)) (rational (F.value crit)) (squared_length p column c)) }
 {
     let quantile = Quantile::of(tau)?;
     let critical = Quantile::of(crit)?;
-    match length_of(gram, column, factors) {
-        Some(left) => {
-            if left < 1 {
-                return Err(Obstacle::TooWide);
-            }
-            let most = Factor {
-                over: critical.over,
-                under: critical.under,
-            };
-            let part = Factor {
-                over: quantile.over,
-                under: quantile.under,
-            };
-            let length = Factor {
-                over: left,
-                under: factors.denominator,
-            };
-            match square_bound(most, part, length) {
-                Some(square) => Ok(square),
-                None => Err(Obstacle::TooWide),
-            }
-        }
-        None => Err(Obstacle::TooWide),
+    let left = length_of(alloc, gram, column, factors)?;
+    if left.is_negative() {
+        return Err(Obstacle::TooWide);
     }
+    if left.size().is_zero() {
+        return Err(Obstacle::TooWide);
+    }
+    let most = Factor {
+        over: critical.over,
+        under: critical.under,
+    };
+    let part = Factor {
+        over: quantile.over,
+        under: quantile.under,
+    };
+    let square = square_bound(alloc, most, part, &left, &factors.denominator)?;
+    Ok(square)
 }
 
 /// The factors as fractions; none where one is too wide.
@@ -86,7 +79,7 @@ fn listed<F: Exact>(
 ) -> Result<Option<List<F>>, Obstacle>
     requires column { column < length scales.now }
     requires some { factor_at scales.now column ≢ whole (pos 0) }
-    ensures { let f = factors.now in IfOk result (AreListed F.value (length f.numerators) (unscaled_factors (factor_at scales.now) column (share_at f.denominator f.numerators))) }
+    ensures { let f = factors.now in IfOk result (AreListed F.value (length f.numerators) (unscaled_factors (factor_at scales.now) column (share_at (pos f.denominator) f.numerators))) }
 {
     match factor_values(alloc, factors, scales, column) {
         Ok(values) => Ok(Some(values)),
@@ -115,7 +108,7 @@ pub fn column_test<F: Exact>(
         return Err(Obstacle::TooWide);
     }
     let found = factors_of(alloc, gram, column as usize)?;
-    let reach = reach_of(gram, column as usize, &found, tau, crit)?;
+    let reach = reach_of(alloc, gram, column as usize, &found, tau, crit)?;
     let factors = listed(alloc, &found, scales, column as usize)?;
     Ok(ColumnTest { factors, reach })
 }

@@ -2,7 +2,6 @@
 ghost use Rattle.std.specs.Prelude.{◌<◌, ◌≤◌, ◌≡◌, ℕ, length, slice_index, IfOk, OnOk};
 ghost use Rattle.exact_algebra.specs.Fraction.{rational};
 ghost use Rattle.loss_model.specs.Problem.{sample};
-ghost use Rattle.wide_int.specs.Longs.{value_of};
 ghost use Rattle.pivot_rule.specs.Duals.{HasCosts};
 ghost use Rattle.pivot_rule.specs.Steps.{HasNoNegativeSlope};
 ghost use Rattle.walk_rule.specs.Families.{IsOptimalIn};
@@ -51,11 +50,11 @@ impl<'s, 'a, F: Exact> Walk<'s, 'a, F> {
     fn make_step(
         &mut self,
         course: &Course<F>,
-        reach: Square,
+        reach: &Square,
         step: Exchange<F>,
     ) -> Result<(), Obstacle>
-        requires step { IsStepAt F.value (here_of self.old) course.now reach self.old.weight step }
-        ensures { OnOk result (IsAdvanced F.value course.now reach self.old self.new) }
+        requires step { IsStepAt F.value (here_of self.old) course.now reach.now self.old.weight step }
+        ensures { OnOk result (IsAdvanced F.value course.now reach.now self.old self.new) }
     {
         let _course = course;
         let _reach = reach;
@@ -76,11 +75,11 @@ impl<'s, 'a, F: Exact> Walk<'s, 'a, F> {
     }
 
     /// Makes the walking step that is left, or gives the end.
-    fn advance(&mut self, course: &Course<F>, reach: Square) -> Result<Option<End<F>>, Obstacle>
+    fn advance(&mut self, course: &Course<F>, reach: &Square) -> Result<Option<End<F>>, Obstacle>
         requires column { course.now.column < (here_of self.old).problem.columns }
-        requires reach { 1 ≤ value_of reach.under }
+        requires reach { 1 ≤ reach.now.under }
         requires optimal { IsOptimalIn (family_of F.value (sample F.value (here_of self.old).problem) course.now) (slice_index (here_of self.old).rows) (place F.value (here_of self.old)).inverse (parameter_at F.value course.now self.old.weight) }
-        ensures { IfOk result (IsAdvancedOrEnded F.value course.now reach self.old self.new) }
+        ensures { IfOk result (IsAdvancedOrEnded F.value course.now reach.now self.old self.new) }
     {
         match left_at(self.here(), course, reach, self.weight) {
             Ok(Next::Step(step)) => match self.make_step(course, reach, step) {
@@ -97,15 +96,15 @@ impl<'s, 'a, F: Exact> Walk<'s, 'a, F> {
 pub fn walk_to_end<F: Exact>(
     start: &WholeTableau<'_, F>,
     course: &Course<F>,
-    reach: Square,
+    reach: &Square,
     limit: u32,
 ) -> Result<Arrival<F>, Obstacle>
     requires kept { IsKept F.value start.now }
     requires column { course.now.column < start.now.problem.columns }
-    requires reach { 1 ≤ value_of reach.under }
+    requires reach { 1 ≤ reach.now.under }
     requires costs { HasCosts (sample F.value start.now.problem) (rational (F.value course.now.tau)) }
     requires stop { HasNoNegativeSlope (sample F.value start.now.problem) (slice_index start.now.rows) (place F.value start.now).inverse (rational (F.value course.now.tau)) }
-    ensures { IfOk result (IsEnded F.value start.now.problem course.now (bound_by start.now course.now.column reach) start.now.rows limit) }
+    ensures { IfOk result (IsEnded F.value start.now.problem course.now (bound_by start.now course.now.column reach.now) start.now.rows limit) }
 {
     let mut walk = Walk {
         start,

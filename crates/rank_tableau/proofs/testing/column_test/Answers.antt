@@ -1,4 +1,4 @@
-use Rattle.std.proofs.Common.{rules, ◌≡◌, List, length, sym, subst, ◌∙◌}
+use Rattle.std.proofs.Common.{rules, ◌≡◌, List, length, pos, sym, subst, ◌∙◌}
 use Rattle.exact_algebra.specs.Fraction.{rational}
 use Rattle.whole_inverse.specs.Shares.{share_at}
 use Rattle.whole_rows.specs.declared.factor.Factor.{Factor}
@@ -18,7 +18,7 @@ returns g c =
     let setting = c.requires.kept.setting in
     let w = k.setting.wholes in
     let found = c.in_ok-found.found in
-    let over = share_at found.denominator found.numerators in
+    let over = share_at (pos found.denominator) found.numerators in
     let listed = c.in_ok-factors.factors in
     let scales : c.as_slice-scales.result.now ≡ w.factors = search rules in
     let wide : k.problem.columns ≡ length found.numerators = c.requires.gram.size ∙ sym c.in_ok-found.ensures.size in
