@@ -16,6 +16,7 @@ use loss_model::{Basis, Problem, Stop, Trail, Vertex};
 use std::alloc::Global;
 use tableau::{Halt, Progress, Solution, halt_of, solve, stop_of};
 use whole_inverse::Obstacle;
+use whole_tableau::setting_of;
 
 /// An optimal vertex with the dual values of its basic rows, ascending; and how it was reached: the
 /// basis by position, its inverse, and the trail that leads to it.
@@ -103,7 +104,12 @@ fn solve_in_wholes<F: Exact>(
     requires costs { HasCosts (sample F.value problem.now) (rational (F.value theta)) }
     ensures { IfSome result (IsAnswer F.value F.range problem.now (rational (F.value theta)) limit) }
 {
-    match Progress::begin_in_wholes(alloc, problem) {
+    let setting = match setting_of(alloc, problem) {
+        Ok(setting) => setting,
+        Err(Obstacle::OutOfMemory) => return Some(Err(Stop::OutOfMemory)),
+        Err(Obstacle::TooWide) => return None,
+    };
+    match Progress::begin_in_wholes(alloc, problem, &setting) {
         Ok(begun) => solve_from(begun, theta, limit),
         Err(Obstacle::OutOfMemory) => Some(Err(Stop::OutOfMemory)),
         Err(Obstacle::TooWide) => None,

@@ -1,6 +1,6 @@
 -- The certificate of a right fit is sound, within the limits, and passes.
-use Rattle.std.proofs.Common.{◌≡◌, ◌≤◌, ◌*◌, ℕ, List, [], ◌∷◌, All, Option, Some, None, get_or, length, map, option_map, slice_index, arith, refl, sym, ap, subst, ◌∙◌}
-use Rattle.std.specs.List.{range_with_len}
+use Rattle.std.proofs.Common.{◌≡◌, ◌≤◌, ◌*◌, ℕ, List, [], ◌∷◌, All, Option, Some, None, IfSome, get_or, length, map, option_map, slice_index, arith, refl, sym, ap, subst, ◌∙◌}
+use Rattle.std.specs.List.{AllZip, range_with_len}
 use Rattle.std.proofs.lemmas.List.{length-append, length-map}
 use Rattle.std.proofs.lemmas.List.FromFn.{length-range_with_len}
 use Rattle.std.proofs.lemmas.List.Elements.{All-cons, All-nil}
@@ -13,6 +13,7 @@ use Rattle.loss_model.specs.declared.interval.Beyond.{Beyond}
 use Rattle.loss_model.specs.declared.interval.Beyond.TheVariants.{Outside, Ray}
 use Rattle.loss_model.specs.declared.interval.End.{End}
 use Rattle.loss_model.specs.declared.interval.Interval.{Interval}
+use Rattle.loss_model.specs.declared.interval.IntervalProof.{IntervalProof}
 use Rattle.loss_model.specs.declared.problem.Problem.{Problem}
 use Rattle.loss_model.specs.declared.process.Segment.{Segment}
 use Rattle.loss_model.specs.declared.vertex.Vertex.{Vertex}
@@ -21,7 +22,9 @@ use Rattle.pivot_rule.specs.declared.direction.Direction.{Direction}
 use Rattle.pivot_rule.specs.Duals.{HasCosts}
 use Rattle.pivot_rule.specs.Trails.{AtBasis}
 use Rattle.rank_walk.specs.Ends.{IsEndAt, IsHandedOut}
+use Rattle.rank_walk.specs.Intervals.{stated, statement}
 use Rattle.rank_walk.specs.RankWalks.{Way}
+use Rattle.rank_walk.proofs.Intervals.{conditions, stated_each}
 use Rattle.rq_engine.specs.Asked.{Asked}
 use Rattle.cert_text.specs.Laws.{SameContent}
 use Rattle.cert_text.specs.Limits.{IsWithinLimits}
@@ -91,20 +94,24 @@ sound_ending p way j tau bound basis t end at =
     let sizes = beyond_size p way j tau bound (slice_index basis) at.a t h.u h.k h.d end.vertex end.inside end.bound end.beyond h.vertex.shape.size h.handed in
     record { vertex = h.vertex.shape; inside = sizes.0; beyond = sizes.1 }
 
-sound_interval : (p : Problem Frac128) (limit : ℕ) (asked : Asked Frac128) (r : Interval Frac128) → IsRightInterval value p limit asked r → IsSoundInterval p r.proof
-sound_interval p limit asked r h = record {
-  meets = h.lawful.conditions;
-  projection = h.lawful.size;
-  low = sound_ending p _ _ _ _ _ _ r.proof.low h.lawful.lawful.low;
-  high = sound_ending p _ _ _ _ _ _ r.proof.high h.lawful.lawful.high;
+sound_interval : (p : Problem Frac128) (limit : ℕ) (asked : Asked Frac128) (r : Interval Frac128) → IsRightInterval value p limit asked r
+    → (factors : List Frac128) → r.projection ≡ Some factors → IsSoundInterval p (stated r factors)
+sound_interval p limit asked r h factors there = record {
+  meets = (conditions value p r factors there h.lawful.lawful).0 h.lawful.conditions;
+  projection = subst (λ (o : Option (List Frac128)). IfSome o (λ list. length list ≡ p.columns)) there h.lawful.size;
+  low = sound_ending p _ _ _ _ _ _ r.low h.lawful.lawful.right.low;
+  high = sound_ending p _ _ _ _ _ _ r.high h.lawful.lawful.right.high;
 }
 
-sound_intervals : (p : Problem Frac128) (limit : ℕ) (asked : List (Asked Frac128)) (rs : List (Interval Frac128)) → AreRightIntervals value p limit asked rs → All (IsSoundInterval p) (map (λ (r : Interval Frac128). r.proof) rs)
-sound_intervals p limit [] [] h = All-nil (IsSoundInterval p)
-sound_intervals p limit [] (r ∷ rs) h = absurd h
-sound_intervals p limit (a ∷ others) [] h = absurd h
-sound_intervals p limit (a ∷ others) (r ∷ rs) h =
-    All-cons (IsSoundInterval p) r.proof (map (λ (r : Interval Frac128). r.proof) rs) (sound_interval p limit a r h.0) (sound_intervals p limit others rs h.1)
+sound_intervals : (p : Problem Frac128) (limit : ℕ) (asked : List (Asked Frac128)) (rs : List (Interval Frac128)) (xs : List (IntervalProof Frac128)) → AreRightIntervals value p limit asked rs
+    → AllZip (λ r x. (factors : List Frac128) × (r.projection ≡ Some factors) × (x ≡ stated r factors)) rs xs → All (IsSoundInterval p) xs
+sound_intervals p limit [] [] [] h is = All-nil (IsSoundInterval p)
+sound_intervals p limit asked [] (x ∷ xs) h is = absurd is
+sound_intervals p limit asked (r ∷ rs) [] h is = absurd is
+sound_intervals p limit [] (r ∷ rs) (x ∷ xs) h is = absurd h
+sound_intervals p limit (a ∷ others) [] [] h is = absurd h
+sound_intervals p limit (a ∷ others) (r ∷ rs) (x ∷ xs) h ((factors, there, same), is) =
+    All-cons (IsSoundInterval p) x xs (subst (IsSoundInterval p) (sym same) (sound_interval p limit a r h.0 factors there)) (sound_intervals p limit others rs xs h.1 is)
 
 -- how many are asked for
 asked_count : (crit : Frac128) (n : ℕ) (taus : List Frac128) → n ≤ 128 → length (asked_over crit n taus) ≤ 128 * length taus
@@ -155,14 +162,15 @@ module _ (words : List (List ℕ)) (job : FitJob) (asked : IsJobOf words (jobs.C
               (subst (AreSound certified.fit.problem job.lo job.hi) (sym is.segments) are_sound)));
           intervals =
               subst (λ (p : Problem Frac128). All (IsSoundInterval p) cert.intervals) (sym is.problem)
-              (subst (All (IsSoundInterval certified.fit.problem)) (sym is.intervals)
-              (sound_intervals certified.fit.problem job.limit (asked_by job.rank certified.fit.problem.columns) certified.fit.intervals right.intervals));
+              (sound_intervals certified.fit.problem job.limit (asked_by job.rank certified.fit.problem.columns) certified.fit.intervals cert.intervals right.intervals
+              (stated_each certified.fit.intervals cert.intervals is.intervals));
         }
 
     is_within : IsWritten cert → IsWithinLimits cert
     is_within small =
         let is = certified.is in
-        let many : length cert.intervals ≡ length certified.fit.intervals = ap length is.intervals ∙ length-map certified.fit.intervals (λ (r : Interval Frac128). r.proof) in
+        let many : length cert.intervals ≡ length certified.fit.intervals
+        = sym (length-map cert.intervals Some) ∙ ap length is.intervals ∙ length-map certified.fit.intervals statement in
         let zipped = zip_length (IsRightInterval value certified.fit.problem job.limit) (asked_by job.rank certified.fit.problem.columns) certified.fit.intervals right.intervals in
         record {
           columns = subst (λ (p : Problem Frac128). p.columns ≤ 128) (sym is.problem) right.shaped.columns;

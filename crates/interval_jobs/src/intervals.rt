@@ -1,37 +1,38 @@
 //! All rank intervals that are asked of a problem.
 ghost use Rattle.std.specs.Prelude.{◌≡◌, ◌<◌, All, length, map, IfOk, IfErr};
+ghost use Rattle.std.specs.List.{AllZip};
 ghost use Rattle.exact_algebra.specs.Fraction.{rational};
 ghost use Rattle.rank_inversion.specs.Jobs.{range, value};
-ghost use Rattle.interval_jobs.specs.Answers.{IsIntervalAnswer, IsSolveAnswer, IsStart};
-ghost use Rattle.interval_jobs.specs.Intervals.{AreRightIntervals, asked_at, asked_over, IsFirstStop};
+ghost use Rattle.interval_jobs.specs.Answers.{IsIntervalAnswer, IsStart, IsStartedAt};
+ghost use Rattle.interval_jobs.specs.Intervals.{AreRightIntervals, asked_at, asked_over, IsFirstStop, IsFor};
 ghost use Rattle.interval_jobs.specs.RankProblems.{IsInner, IsRankable, IsRankProblem, IsSolvable};
 ghost use Rattle.interval_jobs.specs.Until.{AreAnswered};
 
-use crate::asks::{IntervalStop, RankAsks, RankProblem, SolvedAt};
-use crate::jobs::{ColumnJob, SolveJob};
+use crate::asks::{IntervalStop, RankAsks, RankProblem, StartedAt, whole_setting};
+use crate::jobs::{ColumnJob, StartJob};
 use crate::until::{UntilStop, until_stop};
 use frac_core::{Exact, Frac128, List, OutOfMemory};
 use loss_model::{Interval, Problem, Stop};
-use rank_inversion::{Asked, gram_inverse};
+use rank_inversion::Asked;
 use rq_fan::{Gate, run_jobs};
 use std::alloc::Global;
 use std::thread::Threads;
 
 /// The columns at a quantile: the solve that each begins with, the gate, and the place of the first one's job.
 #[derive(Drop)]
-struct ColumnsAt<'b, F: Exact, G> {
-    at: &'b SolvedAt<F>,
+struct ColumnsAt<'a, 'b, F: Exact, G> {
+    at: &'b StartedAt<'a, F>,
     gate: &'b G,
     place: u32,
 }
 
 impl<'a, F: Exact> RankProblem<'a, F> {
     /// The job of a quantile.
-    fn solve_job(&self, alloc: Global, tau: F) -> SolveJob<'a, F>
+    fn start_job(&self, alloc: Global, tau: F) -> StartJob<'a, F>
         requires { IsSolvable F.value self.now tau }
         ensures { result ≡ (self.now, tau) }
     {
-        SolveJob {
+        StartJob {
             alloc,
             ranked: self.again(),
             tau,
@@ -39,14 +40,14 @@ impl<'a, F: Exact> RankProblem<'a, F> {
     }
 
     /// A job for each quantile.
-    fn solve_jobs(&self, alloc: Global, taus: &[F]) -> Result<Vec<SolveJob<'a, F>>, OutOfMemory>
+    fn start_jobs(&self, alloc: Global, taus: &[F]) -> Result<Vec<StartJob<'a, F>>, OutOfMemory>
         requires ready { IsRankProblem F.value self.now }
         requires taus { All (λ tau. IsInner (rational (F.value tau))) taus.now }
         ensures { IfOk result (λ jobs. jobs.items ≡ map (λ tau. (self.now, tau)) taus.now) }
     {
         let mut jobs = Vec::new(alloc);
         for tau in taus {
-            match jobs.push(self.solve_job(alloc, *tau)) {
+            match jobs.push(self.start_job(alloc, *tau)) {
                 Ok(()) => {}
                 Err(_) => return Err(OutOfMemory),
             }
@@ -58,7 +59,7 @@ impl<'a, F: Exact> RankProblem<'a, F> {
     fn column_job<'b, G: Gate>(
         &self,
         alloc: Global,
-        columns: &ColumnsAt<'b, F, G>,
+        columns: &ColumnsAt<'a, 'b, F, G>,
         column: u32,
     ) -> ColumnJob<'a, 'b, F, G>
         requires ready { IsRankProblem F.value self.now }
@@ -69,7 +70,7 @@ impl<'a, F: Exact> RankProblem<'a, F> {
         ColumnJob {
             alloc,
             ranked: self.again(),
-            solved: &columns.at.solved,
+            started: &columns.at.started,
             asked: Asked {
                 column,
                 tau: columns.at.tau,
@@ -84,7 +85,7 @@ impl<'a, F: Exact> RankProblem<'a, F> {
     fn jobs_at<'b, G: Gate>(
         &self,
         alloc: Global,
-        columns: &ColumnsAt<'b, F, G>,
+        columns: &ColumnsAt<'a, 'b, F, G>,
     ) -> Result<Vec<ColumnJob<'a, 'b, F, G>>, OutOfMemory>
         requires ready { IsRankProblem F.value self.now }
         requires start { IsStart F.value self.now columns.now.at.now }
@@ -104,15 +105,15 @@ impl<'a, F: Exact> RankProblem<'a, F> {
     fn column_jobs<'b, G: Gate>(
         &self,
         alloc: Global,
-        solves: &'b [SolvedAt<F>],
+        starts: &'b [StartedAt<'a, F>],
         gate: &'b G,
     ) -> Result<Vec<ColumnJob<'a, 'b, F, G>>, OutOfMemory>
         requires ready { IsRankProblem F.value self.now }
-        requires starts { All (IsStart F.value self.now) solves.now }
-        ensures { IfOk result (λ jobs. jobs.items ≡ map (λ asked. (self.now, asked)) (asked_over self.now.crit self.now.problem.now.columns (map (λ at. at.tau) solves.now))) }
+        requires starts { All (IsStart F.value self.now) starts.now }
+        ensures { IfOk result (λ jobs. jobs.items ≡ map (λ asked. (self.now, asked)) (asked_over self.now.crit self.now.problem.now.columns (map (λ at. at.tau) starts.now))) }
     {
         let mut jobs = Vec::new(alloc);
-        for at in solves {
+        for at in starts {
             // No list of words asks for so many intervals that a place is lost.
             let place = u32::try_from(jobs.len()).unwrap_or(u32::MAX);
             let mut more = self.jobs_at(alloc, &ColumnsAt { at, gate, place })?;
@@ -126,20 +127,20 @@ impl<'a, F: Exact> RankProblem<'a, F> {
 }
 
 impl<'a> RankProblem<'a, Frac128> {
-    /// The solves at the quantiles, up to the first that stops.
-    fn solves<R: Threads + Sync>(
+    /// The solves at the quantiles.
+    fn starts<R: Threads + Sync>(
         &self,
         rt: &R,
         alloc: Global,
         taus: &[Frac128],
-    ) -> Result<UntilStop<SolvedAt<Frac128>, IntervalStop<Frac128>>, OutOfMemory>
+    ) -> Result<Vec<StartedAt<'a, Frac128>>, OutOfMemory>
         requires ready { IsRankProblem value self.now }
         requires taus { All (λ tau. IsInner (rational (value tau))) taus.now }
-        ensures { IfOk result (λ until. AreAnswered (IsSolveAnswer value range self.now) taus.now until.done.items until.stop) }
+        ensures { IfOk result (λ starts. AllZip (IsStartedAt value self.now) taus.now starts.items) }
     {
-        let jobs = self.solve_jobs(alloc, taus)?;
+        let jobs = self.start_jobs(alloc, taus)?;
         let answers = run_jobs(rt, alloc, jobs)?;
-        until_stop(alloc, answers)
+        Ok(answers)
     }
 
     /// The intervals of all columns from these solves, up to the first that stops.
@@ -147,14 +148,14 @@ impl<'a> RankProblem<'a, Frac128> {
         &self,
         rt: &R,
         alloc: Global,
-        solves: &[SolvedAt<Frac128>],
+        starts: &[StartedAt<'a, Frac128>],
         gate: &G,
     ) -> Result<UntilStop<Interval<Frac128>, IntervalStop<Frac128>>, OutOfMemory>
         requires ready { IsRankProblem value self.now }
-        requires starts { All (IsStart value self.now) solves.now }
-        ensures { IfOk result (λ until. AreAnswered (IsIntervalAnswer value range self.now) (asked_over self.now.crit self.now.problem.now.columns (map (λ at. at.tau) solves.now)) until.done.items until.stop) }
+        requires starts { All (IsStart value self.now) starts.now }
+        ensures { IfOk result (λ until. AreAnswered (IsIntervalAnswer value range self.now) (asked_over self.now.crit self.now.problem.now.columns (map (λ at. at.tau) starts.now)) until.done.items until.stop) }
     {
-        let jobs = self.column_jobs(alloc, solves, gate)?;
+        let jobs = self.column_jobs(alloc, starts, gate)?;
         let answers = run_jobs(rt, alloc, jobs)?;
         until_stop(alloc, answers)
     }
@@ -171,16 +172,13 @@ impl<'a> RankProblem<'a, Frac128> {
         requires taus { All (λ tau. IsInner (rational (value tau))) taus.now }
         requires some { 0 < length taus.now }
         ensures right { IfOk result (AreRightIntervals value self.now.problem.now self.now.limit (asked_over self.now.crit self.now.problem.now.columns taus.now)) }
+        ensures purpose { IfOk result (All (IsFor self.now.purpose)) }
         ensures stopped { IfErr result (λ s. IsFirstStop value range self.now.problem.now self.now.limit (asked_over self.now.crit self.now.problem.now.columns taus.now) s.asked s.stop) }
     {
-        let solves = match self.solves(rt, alloc, taus) {
-            Ok(solves) => solves,
+        let starts = match self.starts(rt, alloc, taus) {
+            Ok(starts) => starts,
             Err(_) => return Err(self.first_stop(taus[0], Stop::OutOfMemory)),
         };
-        let UntilStop {
-            done: starts,
-            stop: solve_stop,
-        } = solves;
         let intervals = match self.intervals(rt, alloc, starts.as_slice(), gate) {
             Ok(intervals) => intervals,
             Err(_) => return Err(self.first_stop(taus[0], Stop::OutOfMemory)),
@@ -189,16 +187,14 @@ impl<'a> RankProblem<'a, Frac128> {
         if let Some(stop) = stop {
             return Err(stop);
         }
-        if let Some(stop) = solve_stop {
-            return Err(stop);
-        }
         Ok(List::from(done))
     }
 }
 
 /// The rank intervals of a problem of data rows for a critical value, at the quantiles as given and column
 /// by column within; or the first of them that stops. Each interval is a job, which enters the gate with its
-/// place in this order before it works. The limit counts the pivots of each interval.
+/// place in this order before it works. The limit counts the pivots of each interval. For a certificate each of them
+/// lists the factors of its projection, and one whose factors have no numbers of 128 bits stops.
 pub fn all_intervals<R: Threads + Sync, G: Gate>(
     rt: &R,
     alloc: Global,
@@ -209,31 +205,22 @@ pub fn all_intervals<R: Threads + Sync, G: Gate>(
     requires rankable { IsRankable value problem.now asks.now.crit }
     requires taus { All (λ tau. IsInner (rational (value tau))) asks.now.taus.now }
     ensures right { IfOk result (AreRightIntervals value problem.now asks.now.limit (asked_over asks.now.crit problem.now.columns asks.now.taus.now)) }
+    ensures purpose { IfOk result (All (IsFor asks.now.purpose)) }
     ensures stopped { IfErr result (λ s. IsFirstStop value range problem.now asks.now.limit (asked_over asks.now.crit problem.now.columns asks.now.taus.now) s.asked s.stop) }
 {
-    let Some(first) = asks.taus.first() else {
+    let Some(_first) = asks.taus.first() else {
         return Ok(List::new(alloc));
     };
-    match gram_inverse(alloc, problem) {
-        Ok(gram) => {
-            let ranked = RankProblem {
-                problem,
-                gram: &gram,
-                crit: asks.crit,
-                limit: asks.limit,
-            };
-            match ranked.over(rt, alloc, asks.taus, gate) {
-                Ok(all) => Ok(all),
-                Err(stopped) => Err(stopped),
-            }
-        }
-        Err(stop) => Err(IntervalStop {
-            asked: Asked {
-                column: 0,
-                tau: *first,
-                crit: asks.crit,
-            },
-            stop,
-        }),
+    let setting = whole_setting(alloc, problem);
+    let ranked = RankProblem {
+        problem,
+        setting: &setting,
+        crit: asks.crit,
+        limit: asks.limit,
+        purpose: asks.purpose,
+    };
+    match ranked.over(rt, alloc, asks.taus, gate) {
+        Ok(all) => Ok(all),
+        Err(stopped) => Err(stopped),
     }
 }

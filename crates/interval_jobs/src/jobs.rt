@@ -2,26 +2,26 @@
 //!
 //! They are done over `Frac128`: what an implementation of `Work` for every type of fractions would hand to a
 //! thread isn't covered by the toolchain yet.
-ghost use Rattle.interval_jobs.specs.Answers.{IsIntervalAnswer, IsSolveAnswer};
+ghost use Rattle.interval_jobs.specs.Answers.{IsIntervalAnswer, IsStartedAt};
 ghost use Rattle.rank_inversion.specs.Jobs.{range, value};
 
-use crate::asks::{IntervalStop, RankProblem, SolvedAt};
+use crate::asks::{IntervalStop, RankProblem, StartedAt};
 use frac_core::{Exact, Frac128};
 use loss_model::Interval;
-use rank_inversion::{Asked, Solved};
+use rank_inversion::{Asked, Started};
 use rq_fan::{Gate, Work};
 use std::alloc::Global;
 use std::marker::Model;
 
 /// The solve at a quantile. Contracts see the problem and the quantile.
 #[derive(Drop)]
-pub(crate) struct SolveJob<'a, F: Exact> {
+pub(crate) struct StartJob<'a, F: Exact> {
     pub alloc: Global,
     pub ranked: RankProblem<'a, F>,
     pub tau: F,
 }
 
-impl<'a, F: Exact> Model for SolveJob<'a, F> {
+impl<'a, F: Exact> Model for StartJob<'a, F> {
     ghost use Rattle.interval_jobs.specs.RankProblems.{IsSolvable};
     ghost use Rattle.interval_jobs.specs.declared.asks.RankProblem.{RankProblem};
 
@@ -32,13 +32,13 @@ impl<'a, F: Exact> Model for SolveJob<'a, F> {
     ghost invariant = { λ j. IsSolvable F.value j.ranked j.tau };
 }
 
-impl<'a> Work for SolveJob<'a, Frac128> {
-    type Answer = Result<SolvedAt<Frac128>, IntervalStop<Frac128>>;
+impl<'a> Work for StartJob<'a, Frac128> {
+    type Answer = StartedAt<'a, Frac128>;
 
-    ghost answers = { λ job answer. IsSolveAnswer value range job.0 job.1 answer };
+    ghost answers = { λ job answer. IsStartedAt value job.0 job.1 answer };
 
-    fn work(self) -> Result<SolvedAt<Frac128>, IntervalStop<Frac128>> {
-        self.ranked.solve(self.alloc, self.tau)
+    fn work(self) -> StartedAt<'a, Frac128> {
+        self.ranked.start(self.alloc, self.tau)
     }
 }
 
@@ -48,7 +48,7 @@ impl<'a> Work for SolveJob<'a, Frac128> {
 pub(crate) struct ColumnJob<'a, 'b, F: Exact, G> {
     pub alloc: Global,
     pub ranked: RankProblem<'a, F>,
-    pub solved: &'b Solved<F>,
+    pub started: &'b Option<Started<'a, F>>,
     pub asked: Asked<F>,
     pub gate: &'b G,
     pub place: u32,
@@ -63,7 +63,7 @@ impl<'a, 'b, F: Exact, G> Model for ColumnJob<'a, 'b, F, G> {
 
     ghost view = { λ j. (j.ranked, j.asked) };
 
-    ghost invariant = { λ j. IsWalkable F.value j.ranked j.asked j.solved.now };
+    ghost invariant = { λ j. IsWalkable F.value j.ranked j.asked j.started.now };
 }
 
 impl<'a, 'b, G: Gate> Work for ColumnJob<'a, 'b, Frac128, G> {
@@ -73,6 +73,6 @@ impl<'a, 'b, G: Gate> Work for ColumnJob<'a, 'b, Frac128, G> {
 
     fn work(self) -> Result<Interval<Frac128>, IntervalStop<Frac128>> {
         self.gate.enter(self.place);
-        self.ranked.interval(self.alloc, self.solved, self.asked)
+        self.ranked.interval(self.alloc, self.started, self.asked)
     }
 }

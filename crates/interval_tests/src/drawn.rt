@@ -1,7 +1,7 @@
 //! Intervals of drawn tables, compared with those of a slow program: of a drawn critical value, and of those at, just
 //! below and just above the statistic of a breakpoint. Of the 79 tables 66 have full rank.
 
-use crate::helpers::{Question, answered, problem, ratio};
+use crate::helpers::{Question, answered, in_wholes, problem, ratio};
 use frac_core::{Exact, Frac128};
 use loss_model::{Bound, Problem};
 use slow_ranks::{
@@ -34,16 +34,18 @@ fn is_same(found: Bound<Frac128>, want: Bound<Ratio>) -> bool {
     }
 }
 
-/// How many intervals were compared, and how many of their ends were infinite.
+/// How many intervals were compared, how many of them whole numbers give alone, and how many ends were infinite.
 #[derive(Clone, Copy)]
 struct Counts {
     intervals: u32,
+    whole: u32,
     infinite: u32,
 }
 
 impl Counts {
-    fn add(&mut self, ends: &Ends) {
+    fn add(&mut self, ends: &Ends, is_whole: bool) {
         self.intervals = self.intervals.wrapping_add(1);
+        self.whole = self.whole.wrapping_add(u32::from(is_whole));
         for end in [ends.low, ends.high] {
             if let Bound::Infinite = end {
                 self.infinite = self.infinite.wrapping_add(1);
@@ -63,10 +65,12 @@ impl Tested {
             crit: (crit.num.0, crit.den.0),
         };
         let found = answered(rt, alloc, &self.problem, question, 1000);
-        assert!(rt; is_same(found.proof.low.bound, want.low));
-        assert!(rt; is_same(found.proof.high.bound, want.high));
+        assert!(rt; is_same(found.low.bound, want.low));
+        assert!(rt; is_same(found.high.bound, want.high));
         drop(found);
-        counts.add(&want);
+        let quick = in_wholes(rt, alloc, &self.problem, question, 1000);
+        counts.add(&want, quick.is_some());
+        drop(quick);
     }
 }
 
@@ -128,12 +132,14 @@ fn try_table(rt: &impl Abort, alloc: Global, state: &mut u32, counts: &mut Count
     }
 }
 
-/// The numbers of intervals and of infinite ends come from an enumeration that is no part of this program.
+/// The numbers of intervals and of infinite ends come from an enumeration that is no part of this program. Whole numbers give
+/// them all.
 #[test]
 fn drawn_intervals(rt: HostRuntime) {
     let mut state = 7;
     let mut counts = Counts {
         intervals: 0,
+        whole: 0,
         infinite: 0,
     };
     for number in 0..79 {
@@ -141,10 +147,11 @@ fn drawn_intervals(rt: HostRuntime) {
     }
     let Counts {
         intervals,
+        whole,
         infinite,
     } = counts;
     assert!(rt;
-        (intervals, infinite) == (492, 412),
-        "{intervals} {infinite}"
+        (intervals, whole, infinite) == (492, 492, 412),
+        "{intervals} {whole} {infinite}"
     );
 }

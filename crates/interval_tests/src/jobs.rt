@@ -66,8 +66,8 @@ static LINE: [Data; 3] = [([1, 0, 0], 0, 1), ([1, 1, 0], 2, 1), ([1, 3, 0], 3, 1
 static ENDS: [(Ratio, Ratio); 2] = [((0, 1), (3, 2)), ((1, 2), (2, 1))];
 
 fn expect_ends(rt: &impl Abort, found: &Interval<Frac128>, (low, high): (Ratio, Ratio)) {
-    assert!(rt; end(found.proof.low.bound) == Some(low));
-    assert!(rt; end(found.proof.high.bound) == Some(high));
+    assert!(rt; end(found.low.bound) == Some(low));
+    assert!(rt; end(found.high.bound) == Some(high));
 }
 
 #[test]

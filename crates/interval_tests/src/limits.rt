@@ -2,7 +2,8 @@
 //! trail.
 
 use crate::helpers::{
-    Question, Ratio, Step, answered, expect, expect_steps, problem, ratio, stopped,
+    Question, Ratio, Step, answered, expect, expect_steps, in_wholes, problem, ratio, stopped,
+    stopped_by_parts,
 };
 use frac_core::{Exact, Frac64, Frac128, OpKind};
 use loss_model::{Quantity, Site, Stop, Trail};
@@ -32,6 +33,15 @@ static FIVE: [Data; 5] = [
     ([1, 0, 0], 3, 1),
     ([1, 0, 0], 4, 1),
     ([1, 0, 0], 5, 1),
+];
+
+/// The same, the last of which is 10^30.
+static HIGH: [Data; 5] = [
+    ([1, 0, 0], 1, 1),
+    ([1, 0, 0], 2, 1),
+    ([1, 0, 0], 3, 1),
+    ([1, 0, 0], 4, 1),
+    ([1, 0, 0], 1_000_000_000_000_000_000_000_000_000_000, 1),
 ];
 
 const OF_FIVE: Question = Question {
@@ -97,6 +107,21 @@ fn limits_below_five_steps(rt: HostRuntime) {
         expect_limit::<Frac128>(&rt, rt.alloc(), limit as u32, want);
         expect_limit::<Frac64>(&rt, rt.alloc(), limit as u32, want);
     }
+}
+
+/// Whole numbers give no interval where a step is left at the limit, or a response has more than 64 bits.
+#[test]
+fn whole_numbers_refuse(rt: HostRuntime) {
+    let rows = problem::<Frac128>(&rt, rt.alloc(), 1, FIVE.as_slice());
+    for limit in 0..5 {
+        assert!(&rt; in_wholes(&rt, rt.alloc(), &rows, OF_FIVE, limit).is_none());
+    }
+    assert!(&rt; in_wholes(&rt, rt.alloc(), &rows, OF_FIVE, 5).is_some());
+    drop(rows);
+    let rows = problem::<Frac128>(&rt, rt.alloc(), 1, HIGH.as_slice());
+    assert!(&rt; in_wholes(&rt, rt.alloc(), &rows, OF_FIVE, 100).is_none());
+    drop(answered(&rt, rt.alloc(), &rows, OF_FIVE, 100));
+    drop(rows);
 }
 
 #[test]
@@ -314,7 +339,7 @@ static OVERFLOWS: [Overflow; 6] = [
 
 fn expect_overflow(rt: &impl Abort, alloc: Global, case: &Overflow) {
     let rows = problem::<Frac64>(rt, alloc, case.columns, case.table);
-    let stop = stopped(rt, alloc, &rows, case.question, 100);
+    let stop = stopped_by_parts(rt, alloc, &rows, case.question, 100);
     match &stop {
         Stop::Overflow { trail, spill } => {
             assert!(rt; spill.site == case.site);

@@ -247,8 +247,8 @@ fn expect_case<F: Exact>(rt: &impl Abort, alloc: Global, (column, low, high): &C
         crit: (27_055, 10_000),
     };
     let found = answered(rt, alloc, &rows, question, 1_000);
-    expect_end(rt, &found.proof.low, low);
-    expect_end(rt, &found.proof.high, high);
+    expect_end(rt, &found.low, low);
+    expect_end(rt, &found.high, high);
     drop(found);
     drop(rows);
 }

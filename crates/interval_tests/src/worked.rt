@@ -237,15 +237,18 @@ fn expect_end<F: Exact>(rt: &impl Abort, found: &End<F>, want: &Edge) {
 }
 
 fn expect_interval<F: Exact>(rt: &impl Abort, found: &Interval<F>, case: &Case) {
-    assert!(rt; found.proof.column == case.column);
-    assert!(rt; ratio(found.proof.tau) == (1, 2));
-    assert!(rt; ratio(found.proof.crit) == case.crit);
-    expect(rt, &found.proof.projection, case.projection);
+    assert!(rt; found.column == case.column);
+    assert!(rt; ratio(found.tau) == (1, 2));
+    assert!(rt; ratio(found.crit) == case.crit);
+    match &found.projection {
+        Some(factors) => expect(rt, factors, case.projection),
+        None => assert!(rt; false),
+    }
     expect_steps(rt, &found.trail.steps, case.steps);
     expect_steps(rt, &found.trail.rise, case.rise);
     expect_steps(rt, &found.trail.fall, case.fall);
-    expect_end(rt, &found.proof.low, &case.low);
-    expect_end(rt, &found.proof.high, &case.high);
+    expect_end(rt, &found.low, &case.low);
+    expect_end(rt, &found.high, &case.high);
 }
 
 fn expect_case<F: Exact>(

@@ -1,5 +1,5 @@
 -- Inner. The shared types with their numbers replaced by a function's, and which problems have numbers of 64 bits.
-use Rattle.std.specs.Prelude.{◌-◌, ◌^◌, List, map, All}
+use Rattle.std.specs.Prelude.{◌-◌, ◌^◌, List, map, All, option_map}
 use Rattle.frac_core.specs.declared.frac128.Frac128.{Frac128}
 use Rattle.frac_core.specs.Overflow.{IsWithin}
 use Rattle.frac_core.specs.Widths.{wide_value}
@@ -15,7 +15,6 @@ use Rattle.loss_model.specs.declared.interval.Bound.TheVariants.{Finite, Infinit
 use Rattle.loss_model.specs.declared.interval.Beyond.{Beyond}
 use Rattle.loss_model.specs.declared.interval.Beyond.TheVariants.{Outside, Ray}
 use Rattle.loss_model.specs.declared.interval.End.{End}
-use Rattle.loss_model.specs.declared.interval.IntervalProof.{IntervalProof}
 use Rattle.loss_model.specs.declared.interval.Interval.{Interval}
 use Rattle.loss_model.specs.declared.spill.Spill.{Spill}
 use Rattle.loss_model.specs.declared.stop.Stop.{Stop}
@@ -76,20 +75,17 @@ beyond_by f (Ray xs) = Ray (map f xs)
 abbrev pub end_by : {A B : Type 0} → (A → B) → End A → End B
 end_by f e = record { bound = bound_by f e.bound; vertex = vertex_by f e.vertex; inside = map f e.inside; beyond = beyond_by f e.beyond }
 
--- what shows an interval
-abbrev pub shown_by : {A B : Type 0} → (A → B) → IntervalProof A → IntervalProof B
-shown_by f t = record {
+-- an interval
+abbrev pub interval_by : {A B : Type 0} → (A → B) → Interval A → Interval B
+interval_by f t = record {
   column = t.column;
   tau = f t.tau;
   crit = f t.crit;
   low = end_by f t.low;
   high = end_by f t.high;
-  projection = map f t.projection;
+  projection = option_map (map f) t.projection;
+  trail = trail_by f t.trail;
 }
-
--- an interval
-abbrev pub interval_by : {A B : Type 0} → (A → B) → Interval A → Interval B
-interval_by f t = record { proof = shown_by f t.proof; trail = trail_by f t.trail }
 
 -- an operation that overflows
 abbrev pub spill_by : {A B : Type 0} → (A → B) → Spill A → Spill B

@@ -40,9 +40,16 @@ pub struct IntervalProof<F> {
     pub projection: List<F>,
 }
 
-/// An interval, and the trail of the fit and of both walks by which it was found.
+/// Both ends of the interval of one column, counted from 0, for a quantile and a critical value; the factors of its
+/// projection, where each of them has a number of the type; and the trail of the fit and of both walks by which it
+/// was found.
 #[derive(Drop)]
 pub struct Interval<F> {
-    pub proof: IntervalProof<F>,
+    pub column: u32,
+    pub tau: F,
+    pub crit: F,
+    pub low: End<F>,
+    pub high: End<F>,
+    pub projection: Option<List<F>>,
     pub trail: Trail<F>,
 }

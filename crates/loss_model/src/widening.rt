@@ -1,9 +1,9 @@
 //! What a solver answers in 64 bits, with the same values in 128.
-ghost use Rattle.std.specs.Prelude.{◌≡◌, map, IfOk};
+ghost use Rattle.std.specs.Prelude.{◌≡◌, map, option_map, IfOk};
 ghost use Rattle.frac_core.specs.Widths.{narrow_value, wide_value};
-ghost use Rattle.loss_model.specs.Widths.{vertex_by, segment_by, exchange_by, trail_by, process_by, bound_by, beyond_by, end_by, shown_by, interval_by, spill_by, stop_by};
+ghost use Rattle.loss_model.specs.Widths.{vertex_by, segment_by, exchange_by, trail_by, process_by, bound_by, beyond_by, end_by, interval_by, spill_by, stop_by};
 
-use crate::interval::{Beyond, Bound, End, Interval, IntervalProof};
+use crate::interval::{Beyond, Bound, End, Interval};
 use crate::process::{Exchange, Process, Segment, Trail};
 use crate::spill::Spill;
 use crate::stop::Stop;
@@ -156,24 +156,17 @@ fn widen_end(alloc: Global, end: &End<Frac64>) -> Result<End<Frac128>, OutOfMemo
     })
 }
 
-// What shows an interval.
-fn widen_shown(
+// A list of numbers, where there is one.
+fn widen_projection(
     alloc: Global,
-    shown: &IntervalProof<Frac64>,
-) -> Result<IntervalProof<Frac128>, OutOfMemory>
-    ensures { IfOk result (λ made. shown_by wide_value made ≡ shown_by narrow_value shown.now) }
+    projection: &Option<List<Frac64>>,
+) -> Result<Option<List<Frac128>>, OutOfMemory>
+    ensures { IfOk result (λ made. option_map (map wide_value) made ≡ option_map (map narrow_value) projection.now) }
 {
-    let low = widen_end(alloc, &shown.low)?;
-    let high = widen_end(alloc, &shown.high)?;
-    let projection = widen_list(alloc, shown.projection.as_slice())?;
-    Ok(IntervalProof {
-        column: shown.column,
-        tau: widen(shown.tau),
-        crit: widen(shown.crit),
-        low,
-        high,
-        projection,
-    })
+    match projection {
+        Some(values) => Ok(Some(widen_list(alloc, values.as_slice())?)),
+        None => Ok(None),
+    }
 }
 
 /// An interval with the same values in 128 bits.
@@ -183,9 +176,19 @@ pub fn widen_interval(
 ) -> Result<Interval<Frac128>, OutOfMemory>
     ensures { IfOk result (λ made. interval_by wide_value made ≡ interval_by narrow_value interval.now) }
 {
-    let proof = widen_shown(alloc, &interval.proof)?;
+    let low = widen_end(alloc, &interval.low)?;
+    let high = widen_end(alloc, &interval.high)?;
+    let projection = widen_projection(alloc, &interval.projection)?;
     let trail = widen_trail(alloc, &interval.trail)?;
-    Ok(Interval { proof, trail })
+    Ok(Interval {
+        column: interval.column,
+        tau: widen(interval.tau),
+        crit: widen(interval.crit),
+        low,
+        high,
+        projection,
+        trail,
+    })
 }
 
 // An operation.

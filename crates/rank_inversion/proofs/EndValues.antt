@@ -13,9 +13,10 @@ use Rattle.walk_rule.proofs.Tested.{values}
 use Rattle.rank_walk.specs.RankWalks.{Way, rise, fall, tested, ray}
 use Rattle.rank_walk.specs.Crossings.{parameter_of}
 use Rattle.rank_walk.specs.Ends.{AreValuesOf}
-use Rattle.rank_inversion.specs.Courses.{along}
+use Rattle.rank_steps.specs.Ways.{along}
 use Rattle.rank_inversion.specs.declared.station.Station.{Station}
-use Rattle.rank_inversion.specs.Courses.{way_of, tau_of, family_of}
+use Rattle.rank_steps.specs.Ways.{way_of}
+use Rattle.rank_inversion.specs.Courses.{tau_of, family_of}
 use Rattle.rank_inversion.specs.Nexts.{IsValueOfRow}
 use Rattle.rank_inversion.specs.Stations.{sample_at, rows_at, entries_at}
 

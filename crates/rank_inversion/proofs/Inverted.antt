@@ -1,9 +1,8 @@
 -- The interval of both walks, and why it stops.
-use Rattle.std.specs.Prelude.{◌≡◌, ◌⊎◌, ◌+◌, ◌≤◌, ◌<◌, ℕ, List, [], length, slice_index, pos}
+use Rattle.std.specs.Prelude.{◌≡◌, ◌⊎◌, ◌+◌, ◌≤◌, ◌<◌, ℕ, List, [], length, slice_index, Some, pos}
 use Rattle.std.proofs.Common.{Result, Err, arith, refl, sym, ap, subst, ◌∙◌, inl, inr}
 use Rattle.exact_algebra.specs.Fraction.{Fraction, rational}
 use Rattle.exact_algebra.specs.Rational.{ℚ, whole, ◌≤ℚ◌}
-use Rattle.exact_algebra.proofs.OrderLaws.{le_from_not}
 use Rattle.loss_model.specs.declared.interval.Interval.{Interval}
 use Rattle.loss_model.specs.declared.problem.Problem.{Problem}
 use Rattle.loss_model.specs.declared.process.Exchange.{Exchange}
@@ -18,34 +17,27 @@ use Rattle.basis_inverse.specs.Square.{inverse_entry}
 use Rattle.pivot_rule.specs.Duals.{HasCosts, ◌<ℚ◌}
 use Rattle.pivot_rule.specs.Trails.{IsOptimalBasis}
 use Rattle.pivot_rule.proofs.Solved.{full_rank}
-use Rattle.walk_rule.specs.WalkTrails.{IsIntervalTrail, HasRisen, HasFallen, ReachesIntervalLimit}
+use Rattle.walk_rule.specs.WalkTrails.{AreWalkingSteps, IsIntervalTrail, HasRisen, ReachesIntervalLimit, is_within}
 use Rattle.walk_rule.proofs.Trails.{one_interval}
 use Rattle.rank_law.specs.Restricted.{IsProjection, squared_length, rank_bound}
 use Rattle.rank_law.proofs.Lengths.{one_length}
-use Rattle.rank_walk.specs.Intervals.{IsIntervalOf, IsAsked, IsWalked, bound_by}
-use Rattle.rank_walk.specs.RankWalks.{rise, fall}
-use Rattle.rank_inversion.proofs.Costs.{data_costs}
-use Rattle.rank_walk.proofs.Intervals.{exact_interval, passes}
+use Rattle.rank_walk.specs.Intervals.{IsAsked, IsWalked, bound_by, when_on}
+use Rattle.rank_walk.specs.RankWalks.{rise, fall, tested as walk}
+use Rattle.rank_walk.proofs.Intervals.{exact_interval}
 use Rattle.fraction_tableau.proofs.Inverses.{basis_of, ends_of}
 use Rattle.br_pivot.specs.Solves.{IsLimitAnswer}
-use Rattle.rank_inversion.specs.declared.course.Way.TheVariants.{Rise, Fall}
+use Rattle.rank_steps.specs.declared.way.Way.TheVariants.{Rise, Fall}
 use Rattle.rank_inversion.specs.declared.inversion.Inversion.{Inversion}
 use Rattle.rank_inversion.specs.declared.column_test.Asked.{Asked}
-use Rattle.rank_inversion.specs.declared.walking.Arrival.{Arrival}
+use Rattle.rank_tableau.specs.declared.walking.Arrival.{Arrival}
 use Rattle.rank_inversion.specs.declared.walking.WalkHalt.{WalkHalt}
 use Rattle.rank_inversion.specs.Intervals.{IsExactInterval, IsRankInterval}
 use Rattle.rank_inversion.specs.Inversions.{IsAskable, course_of, trail_with, IsReady, IsStopHere, IsRisen, IsFallen}
 use Rattle.rank_inversion.specs.Stops.{IsBound, IsLimited, IsIntervalStop, IsWalkSpillAfter, IsRankSpillAfter}
 use Rattle.rank_inversion.specs.Tests.{IsTested}
 use Rattle.rank_inversion.specs.Walks.{AreSteps, IsAtLimit, IsSpilled}
+use Rattle.rank_inversion.proofs.Joined.{at_most, asked_costs, lawful_walks, walked_is_risen, interval_is}
 use Rattle.rank_inversion.proofs.NoStep.{walk_is_ended}
-
-at_most : (x y : ℚ) → x <ℚ y → x ≤ℚ y
-at_most x y h = le_from_not x y h
-
-pub asked_costs : {F : Type 0} (value : F → Fraction) (p : Problem F) (asked : Asked F) → IsAskable value p asked → HasCosts (sample value p) (rational (value asked.tau))
-asked_costs value p asked h =
-    data_costs (sample value p) (rational (value asked.tau)) (at_most (whole (pos 0)) (rational (value asked.tau)) h.tau_above) (at_most (rational (value asked.tau)) (whole (pos 1)) h.tau_below) h.data_rows
 
 module _ {F : Type 0} (value : F → Fraction) (v : Inversion F) (ready : IsReady value v) where
   abbrev p : Problem F
@@ -81,21 +73,10 @@ module _ {F : Type 0} (value : F → Fraction) (v : Inversion F) (ready : IsRead
 
   lawful : (up down : List (Exchange F)) → AreSteps value p (course_of v Rise) solved up → AreSteps value p (course_of v Fall) solved down
       → (down ≡ []) ⊎ HasRisen value q tau j bound (trail_with v up down) solved → IsIntervalTrail value q tau j bound (trail_with v up down) solved
-  lawful up down rose fell order =
-      record {
-        first = ready.solution.lawful.first;
-        begins = ready.solution.lawful.begins;
-        greedy = ready.solution.lawful.greedy;
-        solved = ready.solution.lawful.lawful;
-        leads = ready.solution.lawful.leads;
-        optimal = optimal;
-        rose = rose;
-        fell = fell;
-        order = order;
-      }
+  lawful = lawful_walks value p v.asked ready.askable v.solved.now.trail solved ready.solution.lawful optimal bound
 
   risen : (up : Arrival F) (down : List (Exchange F)) → IsRisen value v up → HasRisen value q tau j bound (trail_with v up.steps down) solved
-  risen up down h = walk_is_ended value p j tau bound ready.askable.column rise solved up.steps up.end h.ended.ended
+  risen up down h = walked_is_risen value p v.asked ready.askable v.solved.now.trail solved bound up.steps down up.end h.ended.ended
 
   -- ---- stops
 
@@ -162,51 +143,26 @@ module _ {F : Type 0} (value : F → Fraction) (v : Inversion F) (ready : IsRead
   -- ---- the interval
 
   module _ (factors : List F) (tested : IsTested value p v.asked (record { asked = v.asked; factors = factors; bound = v.bound })) (up down : Arrival F) (h : IsRisen value v up) (k : IsFallen value v up.steps down) where
-    abbrev made : Interval F
-    made =
-        record {
-          proof = record { column = j; tau = v.asked.tau; crit = v.asked.crit; low = down.end; high = up.end; projection = factors };
-          trail = trail_with v up.steps down.steps;
-        }
-
-    same_bound : bound ≡ bound_by value p made
+    same_bound : bound ≡ rank_bound tau crit (squared_length q j (value_at value factors))
     same_bound = tested.bound
-
-    of : IsIntervalOf value p made
-    of =
-        record {
-          solved = solved;
-          projection = tested.projection;
-          lawful = subst (λ b. IsIntervalTrail value q tau j b (trail_with v up.steps down.steps) solved) same_bound (lawful up.steps down.steps h.ended.walked k.ended.walked (inr (risen up down.steps h)));
-          high = subst (λ b. IsWalked value p rise j tau b solved up.steps up.end) same_bound h.ended.ended;
-          low = subst (λ b. IsWalked value p fall j tau b solved down.steps down.end) same_bound k.ended.ended;
-        }
-
-    asked : IsAsked value p made
-    asked =
-        record {
-          column = ready.askable.column;
-          costs = asked_costs value p v.asked ready.askable;
-          tau_above = at_most (whole (pos 0)) tau ready.askable.tau_above;
-          tau_below = at_most tau (whole (pos 1)) ready.askable.tau_below;
-          crit = ready.askable.crit;
-        }
 
     pub joined_is : IsRankInterval value p j v.asked.tau v.asked.crit v.limit
         (record {
-          proof = record { column = j; tau = v.asked.tau; crit = v.asked.crit; low = down.end; high = up.end; projection = factors };
+          column = j;
+          tau = v.asked.tau;
+          crit = v.asked.crit;
+          low = down.end;
+          high = up.end;
+          projection = Some factors;
           trail = trail_with v up.steps down.steps;
         })
     joined_is =
-        record {
-          column = refl;
-          tau = refl;
-          crit = refl;
-          lawful = of;
-          conditions = passes value p made ready.askable.data_rows ready.askable.tau_above ready.askable.tau_below tested.positive asked of;
-          size = tested.size;
-          short = let few : length down.steps ≤ k.left = k.ended.short in let count : length v.solved.now.trail.steps + (length up.steps + k.left) ≡ v.limit = k.count in omega (arith, few, count);
-        }
+        interval_is value p v.asked ready.askable v.solved.now.trail solved (Some factors) (value_at value factors) up.steps down.steps up.end down.end ready.solution.lawful optimal tested.projection tested.positive refl tested.size
+        (subst (λ b. AreWalkingSteps (when_on rise value) (walk rise q tau j) (is_within b) (whole (pos 0)) solved up.steps) same_bound h.ended.walked)
+        (subst (λ b. AreWalkingSteps (when_on fall value) (walk fall q tau j) (is_within b) (whole (pos 0)) solved down.steps) same_bound k.ended.walked)
+        (subst (λ b. IsWalked value p rise j tau b solved up.steps up.end) same_bound h.ended.ended)
+        (subst (λ b. IsWalked value p fall j tau b solved down.steps down.end) same_bound k.ended.ended) v.limit
+        (let few : length down.steps ≤ k.left = k.ended.short in let count : length v.solved.now.trail.steps + (length up.steps + k.left) ≡ v.limit = k.count in omega (arith, few, count))
 
 -- ---- what an interval says
 
@@ -215,7 +171,7 @@ module _ {F : Type 0} (value : F → Fraction) (p : Problem F) (asked : Asked F)
   tau' = rational (value asked.tau)
 
   module _ (r : Interval F) (h : IsRankInterval value p asked.column asked.tau asked.crit limit r) where
-    same_tau : rational (value r.proof.tau) ≡ tau'
+    same_tau : rational (value r.tau) ≡ tau'
     same_tau = ap (λ x. rational (value x)) h.tau
 
     is_asked : IsAsked value p r
@@ -231,37 +187,37 @@ module _ {F : Type 0} (value : F → Fraction) (p : Problem F) (asked : Asked F)
     pub exact_is : IsExactInterval value p asked.column (rational (value asked.tau)) (rational (value asked.crit)) r
     exact_is =
         subst (λ k. IsExactInterval value p k (rational (value asked.tau)) (rational (value asked.crit)) r) h.column
-        (subst (λ (x : F). IsExactInterval value p r.proof.column (rational (value x)) (rational (value asked.crit)) r) h.tau
-        (subst (λ (x : F). IsExactInterval value p r.proof.column (rational (value r.proof.tau)) (rational (value x)) r) h.crit
+        (subst (λ (x : F). IsExactInterval value p r.column (rational (value x)) (rational (value asked.crit)) r) h.tau
+        (subst (λ (x : F). IsExactInterval value p r.column (rational (value r.tau)) (rational (value x)) r) h.crit
         (exact_interval value p r is_asked h.lawful).exact))
 
     abbrev b : ℚ
-    b = bound_by value p r
+    b = bound_by value p r h.lawful.factors
 
-    abbrev col : r.proof.column < p.columns
+    abbrev col : r.column < p.columns
     col = subst (λ k. k < p.columns) (sym h.column) askable.column
 
     -- each bound is that of the interval
     one_bound : (c : ℚ) → IsBound value p asked.column (rational (value asked.tau)) (rational (value asked.crit)) c → c ≡ b
     one_bound c (f, is, e) =
         e
-        ∙ ap (rank_bound tau' (rational (value asked.crit))) (one_length (sample value p) asked.column f (value_at value r.proof.projection) askable.column is
-        (subst (λ k. IsProjection (sample value p) k (value_at value r.proof.projection)) h.column h.lawful.projection))
+        ∙ ap (rank_bound tau' (rational (value asked.crit))) (one_length (sample value p) asked.column f h.lawful.factors askable.column is
+        (subst (λ k. IsProjection (sample value p) k h.lawful.factors) h.column h.lawful.right.projection))
         ∙ same
       where
-        same : rank_bound tau' (rational (value asked.crit)) (squared_length (sample value p) asked.column (value_at value r.proof.projection)) ≡ b
+        same : rank_bound tau' (rational (value asked.crit)) (squared_length (sample value p) asked.column h.lawful.factors) ≡ b
         same =
-            ap (λ (x : F). rank_bound (rational (value x)) (rational (value asked.crit)) (squared_length (sample value p) asked.column (value_at value r.proof.projection))) (sym h.tau)
-            ∙ ap (λ (x : F). rank_bound (rational (value r.proof.tau)) (rational (value x)) (squared_length (sample value p) asked.column (value_at value r.proof.projection))) (sym h.crit)
-            ∙ ap (λ k. rank_bound (rational (value r.proof.tau)) (rational (value r.proof.crit)) (squared_length (sample value p) k (value_at value r.proof.projection))) (sym h.column)
+            ap (λ (x : F). rank_bound (rational (value x)) (rational (value asked.crit)) (squared_length (sample value p) asked.column h.lawful.factors)) (sym h.tau)
+            ∙ ap (λ (x : F). rank_bound (rational (value r.tau)) (rational (value x)) (squared_length (sample value p) asked.column h.lawful.factors)) (sym h.crit)
+            ∙ ap (λ k. rank_bound (rational (value r.tau)) (rational (value r.crit)) (squared_length (sample value p) k h.lawful.factors)) (sym h.column)
 
     pub none_limited : ¬ IsLimited value p asked.column (rational (value asked.tau)) (rational (value asked.crit)) limit
     none_limited (c, is, (other, reached)) =
-        one_interval value (sample value p) (rational (value r.proof.tau)) r.proof.column b is_asked.costs r.trail other h.lawful.solved limit h.lawful.lawful
-        (walk_is_ended value p r.proof.column (rational (value r.proof.tau)) b col rise h.lawful.solved r.trail.rise r.proof.high h.lawful.high)
-        (walk_is_ended value p r.proof.column (rational (value r.proof.tau)) b col fall h.lawful.solved r.trail.fall r.proof.low h.lawful.low)
+        one_interval value (sample value p) (rational (value r.tau)) r.column b is_asked.costs r.trail other h.lawful.right.solved limit h.lawful.right.lawful
+        (walk_is_ended value p r.column (rational (value r.tau)) b col rise h.lawful.right.solved r.trail.rise r.high h.lawful.right.high)
+        (walk_is_ended value p r.column (rational (value r.tau)) b col fall h.lawful.right.solved r.trail.fall r.low h.lawful.right.low)
         h.short
-        (subst (λ (x : F). ReachesIntervalLimit value (sample value p) (rational (value x)) r.proof.column b limit other) (sym h.tau)
+        (subst (λ (x : F). ReachesIntervalLimit value (sample value p) (rational (value x)) r.column b limit other) (sym h.tau)
         (subst (λ k. ReachesIntervalLimit value (sample value p) tau' k b limit other) (sym h.column)
         (subst (λ b. ReachesIntervalLimit value (sample value p) tau' asked.column b limit other) (one_bound c is) reached)))
 

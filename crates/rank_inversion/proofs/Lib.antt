@@ -1,6 +1,6 @@
 mod Operations
 mod Projections
-mod Breaks
+mod EntrySigns
 mod Spills
 mod EndValues
 mod StationLaws
@@ -9,5 +9,7 @@ mod LookLaws
 mod WalkLaws
 mod NoStep
 pub mod Costs
-pub mod Causes
+mod Causes
+mod Joined
+mod WholeIntervals
 mod Inverted

@@ -24,7 +24,8 @@ use Rattle.walk_rule.specs.WalkTrails.{value_after, is_within, IsEndAfter}
 use Rattle.rank_walk.specs.Ends.{IsHandedOut, IsEndAt}
 use Rattle.rank_walk.specs.Intervals.{when_on, IsWalked}
 use Rattle.rank_walk.specs.RankWalks.{Way, rise, fall, tested}
-use Rattle.rank_inversion.proofs.Breaks.{crossed, one_direction}
+use Rattle.rank_steps.proofs.Directions.{one_direction}
+use Rattle.rank_tableau.proofs.Breaks.{crossed}
 
 module _ (f : Family) (at : ℕ → ℕ) (a : ℕ → ℕ → ℚ) (from : ℚ) where
   same_place : (t u : ℚ) (j k : ℕ) (d e : Direction) → IsNextBreak f at a from t j d → IsNextBreak f at a from u k e → t ≡ u

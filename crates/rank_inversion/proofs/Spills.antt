@@ -29,7 +29,7 @@ use Rattle.fraction_tableau.specs.Lines.{IsOrderSpill, at_coordinates, at_ratio,
 use Rattle.rank_walk.specs.RankWalks.{Way, rise, fall, tested}
 use Rattle.rank_walk.specs.Crossings.{parameter_of, bound_towards, IsMoving}
 use Rattle.rank_inversion.specs.Stops.{IsRankSpill, of_walk}
-use Rattle.rank_inversion.proofs.Breaks.{turned_twice, crosses}
+use Rattle.rank_tableau.proofs.Breaks.{turned_twice, crosses}
 
 -- the bound of a row in a direction is the value of the side there
 bound_is : (p : Sample) (tau : ℚ) (i : ℕ) (d : Direction) → bound_towards p tau i d ≡ value_of_side p tau (λ i. whole (pos 0)) i (side_towards d)

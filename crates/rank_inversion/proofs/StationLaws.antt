@@ -50,14 +50,16 @@ use Rattle.fraction_tableau.proofs.Vertices.{is_vertex}
 use Rattle.rank_walk.specs.Crossings.{parameter_of, bound_towards}
 use Rattle.rank_walk.specs.RankWalks.{Way, rise, fall, tested, ray}
 use Rattle.rank_walk.specs.Ends.{AreValuesOf}
-use Rattle.rank_inversion.specs.declared.ends.Finding.TheVariants.{Step, Past, Stuck}
+use Rattle.rank_tableau.specs.declared.finding.Finding.TheVariants.{Step, Past, Stuck}
 use Rattle.rank_inversion.specs.declared.station.Station.{Station}
-use Rattle.rank_inversion.specs.Courses.{way_of, tau_of, bound_of, parameter_at, family_of, Moves, crossing_at}
+use Rattle.rank_steps.specs.Ways.{way_of}
+use Rattle.rank_inversion.specs.Courses.{tau_of, bound_of, parameter_at, family_of, Moves, crossing_at}
 use Rattle.rank_inversion.specs.Looks.{IsEndHere}
 use Rattle.rank_inversion.specs.Nexts.{IsBreakFrom, IsFound, IsSpillHere, IsValueOfRow, IsWeighed, IsWeighingSpill, IsRaySpill}
 use Rattle.rank_inversion.specs.Stations.{IsStation, sample_at, rows_at, entries_at, IsMeetingSpill, of_cost, of_gap, of_quotient}
 use Rattle.rank_inversion.specs.Stops.{of_square, of_ray}
-use Rattle.rank_inversion.proofs.Breaks.{one_direction, moving_some, crossed, turned_twice, first_is_next, never_none}
+use Rattle.rank_steps.proofs.Directions.{one_direction, moving_some}
+use Rattle.rank_tableau.proofs.Breaks.{crossed, turned_twice, first_is_next, never_none}
 use Rattle.rank_inversion.proofs.EndValues.{values_of}
 use Rattle.rank_inversion.proofs.Operations.{operation}
 use Rattle.rank_inversion.proofs.Spills.{cost_here, gap_here, quotient_here, entered_here, break_here, order_here}

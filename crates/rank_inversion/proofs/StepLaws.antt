@@ -14,7 +14,8 @@ use Rattle.walk_rule.specs.Walks.{IsWalkingStep}
 use Rattle.fraction_tableau.specs.Kept.{Kept}
 use Rattle.rank_walk.specs.RankWalks.{Way, rise, fall, tested}
 use Rattle.rank_inversion.specs.declared.course.Course.{Course}
-use Rattle.rank_inversion.specs.Courses.{way_of, tau_of, bound_of, parameter_at}
+use Rattle.rank_steps.specs.Ways.{way_of}
+use Rattle.rank_inversion.specs.Courses.{tau_of, bound_of, parameter_at}
 use Rattle.rank_inversion.specs.Looks.{IsStepAt, IsSpillAt}
 use Rattle.rank_inversion.proofs.Operations.{short_weaker}
 use Rattle.rank_inversion.proofs.Spills.{exchange_here}

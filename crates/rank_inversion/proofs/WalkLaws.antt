@@ -32,7 +32,8 @@ use Rattle.rank_inversion.specs.declared.course.Course.{Course}
 use Rattle.rank_inversion.specs.declared.walking.Walk.{Walk}
 use Rattle.rank_inversion.specs.declared.walking.WalkHalt.{WalkHalt}
 use Rattle.rank_inversion.specs.declared.walking.WalkHalt.TheVariants.{OutOfMemory, Overflow}
-use Rattle.rank_inversion.specs.Courses.{way_of, tau_of, bound_of, parameter_at, family_of}
+use Rattle.rank_steps.specs.Ways.{way_of}
+use Rattle.rank_inversion.specs.Courses.{tau_of, bound_of, parameter_at, family_of}
 use Rattle.rank_inversion.specs.Looks.{IsStepAt, IsEndOf, IsSpillAt}
 use Rattle.rank_inversion.specs.Stops.{IsRankSpill}
 use Rattle.rank_inversion.specs.Walks.{IsHaltOf, IsBegun, IsAdvanced, IsAlong, AreSteps, IsEnded, IsAtLimit, IsSpilled, IsHalted}

@@ -1,39 +1,15 @@
 -- Inner. The walks of a tested value as the code has them.
-use Rattle.std.specs.Prelude.{◌≡◌, ℕ, Bool, true, false, Option, Some, None, pos}
+use Rattle.std.specs.Prelude.{ℕ}
 use Rattle.exact_algebra.specs.Fraction.{Fraction, rational}
-use Rattle.exact_algebra.specs.Rational.{ℚ, ◌-ℚ◌, ◌*ℚ◌, neg_ℚ, inverse, whole}
+use Rattle.exact_algebra.specs.Rational.{ℚ, ◌-ℚ◌, ◌*ℚ◌, inverse}
 use Rattle.loss_model.specs.Sample.{Sample}
 use Rattle.basis_model.specs.Basis.{dual_value}
 use Rattle.pivot_rule.specs.declared.direction.Direction.{Direction}
-use Rattle.pivot_rule.specs.declared.direction.Direction.TheVariants.{Upward, Downward}
 use Rattle.walk_rule.specs.Families.{Family}
-use Rattle.rank_walk.specs.RankWalks.{Way as RankWay, rise, fall, tested}
+use Rattle.rank_walk.specs.RankWalks.{tested}
 use Rattle.rank_walk.specs.Crossings.{parameter_of, bound_towards, IsMoving}
-use Rattle.rank_inversion.specs.declared.course.Way.{Way}
-use Rattle.rank_inversion.specs.declared.course.Way.TheVariants.{Rise, Fall}
+use Rattle.rank_steps.specs.Ways.{way_of}
 use Rattle.rank_inversion.specs.declared.course.Course.{Course}
-
--- the way
-abbrev pub way_of : Way → RankWay
-way_of Rise = rise
-way_of Fall = fall
-
--- a coefficient's way, where it rises by x as that of the tested column rises by 1
-abbrev pub along : RankWay → ℚ → ℚ
-along rise x = x
-along fall x = neg_ℚ x
-
--- the direction in which a dual value moves, by whether the inverse's entry is above 0
-abbrev pub direction_for : RankWay → Bool → Direction
-direction_for rise true = Downward
-direction_for rise false = Upward
-direction_for fall true = Upward
-direction_for fall false = Downward
-
--- the direction in which it moves by an entry, if that isn't 0
-abbrev pub IsDirectionBy : RankWay → ℚ → Option Direction → Type 0
-IsDirectionBy way entry None = entry ≡ whole (pos 0)
-IsDirectionBy way entry (Some d) = IsMoving way d entry
 
 module _ {F : Type 0} (value : F → Fraction) where
   -- the quantile, and the bound

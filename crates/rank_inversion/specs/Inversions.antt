@@ -11,13 +11,14 @@ use Rattle.loss_model.specs.Problem.{sample, IsWellShaped}
 use Rattle.loss_model.specs.Strict.{◌<ℚ◌}
 use Rattle.br_pivot.specs.Solutions.{IsSolution}
 use Rattle.rank_inversion.specs.declared.course.Course.{Course}
-use Rattle.rank_inversion.specs.declared.course.Way.{Way}
-use Rattle.rank_inversion.specs.declared.course.Way.TheVariants.{Rise, Fall}
+use Rattle.rank_steps.specs.declared.way.Way.{Way}
+use Rattle.rank_steps.specs.declared.way.Way.TheVariants.{Rise, Fall}
 use Rattle.rank_inversion.specs.declared.inversion.Inversion.{Inversion}
 use Rattle.rank_inversion.specs.declared.column_test.Asked.{Asked}
-use Rattle.rank_inversion.specs.declared.walking.Arrival.{Arrival}
+use Rattle.rank_tableau.specs.declared.walking.Arrival.{Arrival}
 use Rattle.rank_inversion.specs.declared.walking.WalkHalt.{WalkHalt}
 use Rattle.rank_inversion.specs.Stops.{IsBound, IsWalkStop}
+use Rattle.rank_inversion.specs.Trails.{with_walks}
 use Rattle.rank_inversion.specs.Walks.{IsEnded, IsHalted}
 
 -- the problem, the column, the quantile and the critical value are such as an interval is asked for
@@ -35,8 +36,7 @@ course_of v way = record { way = way; column = v.asked.column; tau = v.asked.tau
 
 -- the trail of the solve, with the steps of both walks
 abbrev pub trail_with : {F : Type 0} → Inversion F → List (Exchange F) → List (Exchange F) → Trail F
-trail_with v rise fall =
-    record { start = v.solved.now.trail.start; steps = v.solved.now.trail.steps; rise = rise; fall = fall }
+trail_with v = with_walks v.solved.now.trail
 
 module _ {F : Type 0} (value : F → Fraction) where
   -- what is asked is such, the solve is one at the quantile and within the limit, and the bound is that by a

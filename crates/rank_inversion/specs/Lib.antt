@@ -7,9 +7,12 @@ pub mod Stations
 pub mod Nexts
 pub mod Looks
 pub mod Walks
+pub mod Trails
+pub mod Wholes
 pub mod Inversions
 pub mod Intervals
 pub mod Jobs
+pub use Rattle.br_pivot.specs.Reached
 pub use Rattle.br_pivot.specs.Solutions
 pub use Rattle.br_pivot.specs.Solves
 pub use Rattle.br_pivot.specs.declared.solve.Solved

@@ -11,10 +11,11 @@ use Rattle.walk_rule.specs.WalkTrails.{is_within}
 use Rattle.fraction_tableau.specs.Kept.{Kept}
 use Rattle.rank_walk.specs.Ends.{IsEndAt}
 use Rattle.rank_inversion.specs.declared.course.Course.{Course}
-use Rattle.rank_inversion.specs.declared.look.Next.{Next}
-use Rattle.rank_inversion.specs.declared.look.Next.TheVariants.{Step, End as Ended}
+use Rattle.rank_tableau.specs.declared.outcome.Next.{Next}
+use Rattle.rank_tableau.specs.declared.outcome.Next.TheVariants.{Step, End as Ended}
 use Rattle.rank_inversion.specs.declared.station.Station.{Station}
-use Rattle.rank_inversion.specs.Courses.{way_of, tau_of, bound_of, parameter_at, family_of}
+use Rattle.rank_steps.specs.Ways.{way_of}
+use Rattle.rank_inversion.specs.Courses.{tau_of, bound_of, parameter_at, family_of}
 use Rattle.rank_inversion.specs.Stops.{IsRankSpill}
 
 module _ {F : Type 0} (value : F → Fraction) where

@@ -13,10 +13,11 @@ use Rattle.pivot_rule.specs.Steps.{moves}
 use Rattle.walk_rule.specs.Walks.{IsNextBreak, IsWalkingStep}
 use Rattle.walk_rule.specs.WalkTrails.{is_within}
 use Rattle.fraction_tableau.specs.declared.crossings.Breakpoint.{Breakpoint}
-use Rattle.rank_inversion.specs.declared.ends.Finding.{Finding}
-use Rattle.rank_inversion.specs.declared.ends.Finding.TheVariants.{Step, Past, Stuck}
+use Rattle.rank_tableau.specs.declared.finding.Finding.{Finding}
+use Rattle.rank_tableau.specs.declared.finding.Finding.TheVariants.{Step, Past, Stuck}
 use Rattle.rank_inversion.specs.declared.station.Station.{Station}
-use Rattle.rank_inversion.specs.Courses.{way_of, tau_of, bound_of, parameter_at, family_of}
+use Rattle.rank_steps.specs.Ways.{way_of}
+use Rattle.rank_inversion.specs.Courses.{tau_of, bound_of, parameter_at, family_of}
 use Rattle.rank_inversion.specs.Stations.{sample_at, rows_at, entries_at}
 use Rattle.rank_inversion.specs.Stops.{IsRankSpill}
 

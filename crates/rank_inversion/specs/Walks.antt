@@ -19,10 +19,11 @@ use Rattle.rank_walk.specs.Loops.{IsWalking}
 use Rattle.rank_walk.specs.RankWalks.{tested}
 use Rattle.rank_inversion.specs.declared.course.Course.{Course}
 use Rattle.rank_inversion.specs.declared.walking.Walk.{Walk}
-use Rattle.rank_inversion.specs.declared.walking.Arrival.{Arrival}
+use Rattle.rank_tableau.specs.declared.walking.Arrival.{Arrival}
 use Rattle.rank_inversion.specs.declared.walking.WalkHalt.{WalkHalt}
 use Rattle.rank_inversion.specs.declared.walking.WalkHalt.TheVariants.{OutOfMemory, PivotLimit, Overflow}
-use Rattle.rank_inversion.specs.Courses.{way_of, tau_of, bound_of, parameter_at}
+use Rattle.rank_steps.specs.Ways.{way_of}
+use Rattle.rank_inversion.specs.Courses.{tau_of, bound_of, parameter_at}
 use Rattle.rank_inversion.specs.Looks.{IsStepAt, IsEndOf, IsSpillAt}
 use Rattle.rank_inversion.specs.Stops.{IsRankSpillAfter}
 

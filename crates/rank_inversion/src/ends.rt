@@ -7,23 +7,16 @@ ghost use Rattle.loss_model.specs.Quantities.{IsShortOf};
 ghost use Rattle.loss_model.specs.Spill.{AtSome};
 ghost use Rattle.walk_rule.specs.Families.{IsOptimalIn};
 ghost use Rattle.rank_walk.specs.RankWalks.{ray};
-ghost use Rattle.rank_inversion.specs.Courses.{way_of, parameter_at, family_of};
+ghost use Rattle.rank_steps.specs.Ways.{way_of};
+ghost use Rattle.rank_inversion.specs.Courses.{parameter_at, family_of};
 ghost use Rattle.rank_inversion.specs.Stations.{IsStation, sample_at, rows_at, entries_at};
 ghost use Rattle.rank_inversion.specs.Nexts.{IsFound, IsSpillHere, weighed_value, IsWeighed, IsValueOfRow, IsWeighingSpill, IsRaySpill};
 
 use crate::station::Station;
 use frac_core::{Exact, List};
-use fraction_tableau::{Breakpoint, by_row};
+use fraction_tableau::by_row;
 use loss_model::{Exchange, Quantity, Short, Site, Spill, over_at, plus_product, times_at};
-
-/// What is found at a basis: the walking step; or the next breakpoint, where that is beyond the bound, or
-/// where no row moves there.
-#[derive(Clone, Copy)]
-pub enum Finding<F> {
-    Step(Exchange<F>),
-    Past(Breakpoint<F>),
-    Stuck(Breakpoint<F>),
-}
+use rank_tableau::Finding;
 
 impl<'a, F: Exact> Station<'a, F> {
     /// What is left at the basis, which the walk entered where the column weighed so much.

@@ -1,5 +1,5 @@
 //! Rank intervals.
-ghost use Rattle.std.specs.Prelude.{◌≡◌, ℕ, ◌<◌, ◌≤◌, length, IfOk, IfErr, pos};
+ghost use Rattle.std.specs.Prelude.{◌≡◌, ℕ, ◌<◌, ◌≤◌, length, IfOk, IfErr, IfSome, pos};
 ghost use Rattle.exact_algebra.specs.Fraction.{rational};
 ghost use Rattle.exact_algebra.specs.Rational.{whole, ◌≤ℚ◌};
 ghost use Rattle.loss_model.specs.Dual.{IsDataRow};
@@ -9,21 +9,27 @@ ghost use Rattle.loss_model.specs.declared.stop.Stop.TheVariants.{PivotLimit, Ov
 ghost use Rattle.fraction_tableau.specs.Kept.{IsKept};
 ghost use Rattle.br_pivot.specs.Solutions.{IsSolution};
 ghost use Rattle.br_pivot.specs.Solves.{IsLimitAnswer};
-ghost use Rattle.rank_inversion.specs.Intervals.{IsExactInterval, IsRankInterval};
+ghost use Rattle.rank_inversion.specs.Intervals.{IsExactInterval, HasFactors, IsRankInterval};
 ghost use Rattle.rank_inversion.specs.Stops.{IsIntervalStop, IsWalkStop, IsLimited};
 ghost use Rattle.rank_inversion.specs.Tests.{IsTested};
 ghost use Rattle.rank_inversion.specs.Walks.{IsEnded, IsHalted};
+ghost use Rattle.rank_inversion.specs.Wholes.{IsStarted};
 ghost use Rattle.rank_inversion.specs.Inversions.{IsAskable, IsReady, course_of, trail_with, IsStopHere, IsRisen, IsFallen, IsRiseHalt, IsFallHalt};
 
 use crate::column_test::{Asked, RankTest, rank_test};
-use crate::course::{Course, Way};
+use crate::course::Course;
 use crate::gram::gram_inverse;
-use crate::walking::{Arrival, Walk, WalkHalt, walk_to_end};
+use crate::trails::with_walks;
+use crate::walking::{Walk, WalkHalt, walk_to_end};
+use crate::wholes::{Started, start_in_wholes};
 use br_pivot::{Solved, solve_at};
 use frac_core::{Exact, List, OutOfMemory};
 use fraction_tableau::FractionTableau;
-use loss_model::{Basis, Exchange, Interval, IntervalProof, Problem, Spill, Stop, Trail};
+use loss_model::{Basis, Exchange, Interval, Problem, Spill, Stop, Trail};
+use rank_steps::Way;
+use rank_tableau::Arrival;
 use std::alloc::Global;
+use whole_tableau::setting_of;
 
 /// What both walks of a tested column go by: the problem and its solve at the quantile, what is asked, the
 /// bound on the square of the statistic, and the limit of all steps.
@@ -91,14 +97,7 @@ impl<'a, F: Exact> Inversion<'a, F> {
     ) -> Result<Trail<F>, OutOfMemory>
         ensures { IfOk result (λ t. t ≡ trail_with self.now rise fall) }
     {
-        let start = List::copy(alloc, self.solved.trail.start.as_slice())?;
-        let steps = List::copy(alloc, self.solved.trail.steps.as_slice())?;
-        Ok(Trail {
-            start,
-            steps,
-            rise,
-            fall,
-        })
+        with_walks(alloc, &self.solved.trail, rise, fall)
     }
 
     /// The stop where a walk reaches the limit, after these steps of both walks.
@@ -175,18 +174,17 @@ impl<'a, F: Exact> Inversion<'a, F> {
         requires tested { IsTested F.value self.now.problem.now self.now.asked (record { asked = self.now.asked; factors = factors; bound = self.now.bound }) }
         requires risen { IsRisen F.value self.now rise }
         requires fallen { IsFallen F.value self.now rise.steps fall }
-        ensures { IfOk result (IsRankInterval F.value self.now.problem.now self.now.asked.column self.now.asked.tau self.now.asked.crit self.now.limit) }
+        ensures interval { IfOk result (IsRankInterval F.value self.now.problem.now self.now.asked.column self.now.asked.tau self.now.asked.crit self.now.limit) }
+        ensures listed { IfOk result HasFactors }
     {
         let trail = self.trail(alloc, rise.steps, fall.steps)?;
         Ok(Interval {
-            proof: IntervalProof {
-                column: self.asked.column,
-                tau: self.asked.tau,
-                crit: self.asked.crit,
-                low: fall.end,
-                high: rise.end,
-                projection: factors,
-            },
+            column: self.asked.column,
+            tau: self.asked.tau,
+            crit: self.asked.crit,
+            low: fall.end,
+            high: rise.end,
+            projection: Some(factors),
             trail,
         })
     }
@@ -196,6 +194,7 @@ impl<'a, F: Exact> Inversion<'a, F> {
         requires ready { IsReady F.value self.now }
         requires tested { IsTested F.value self.now.problem.now self.now.asked (record { asked = self.now.asked; factors = factors; bound = self.now.bound }) }
         ensures interval { IfOk result (IsRankInterval F.value self.now.problem.now self.now.asked.column self.now.asked.tau self.now.asked.crit self.now.limit) }
+        ensures listed { IfOk result HasFactors }
         ensures stopped { IfErr result (IsStopHere F.value F.range self.now) }
     {
         let left = self.limit - self.solved.trail.steps.as_slice().len() as u32;
@@ -233,6 +232,7 @@ pub fn interval_from<F: Exact>(
     requires tested { IsTested F.value problem.now test.asked test }
     ensures exact { IfOk result (IsExactInterval F.value problem.now test.asked.column (rational (F.value test.asked.tau)) (rational (F.value test.asked.crit))) }
     ensures interval { IfOk result (IsRankInterval F.value problem.now test.asked.column test.asked.tau test.asked.crit limit) }
+    ensures listed { IfOk result HasFactors }
     ensures stopped { IfErr result (IsWalkStop F.value F.range problem.now test.asked.column (rational (F.value test.asked.tau)) (rational (F.value test.asked.crit)) limit) }
     ensures limited { IsLimited F.value problem.now test.asked.column (rational (F.value test.asked.tau)) (rational (F.value test.asked.crit)) limit → IsLimitAnswer result }
 {
@@ -258,6 +258,7 @@ fn by_parts<F: Exact>(
 ) -> Result<Interval<F>, Stop<F>>
     requires asked { IsAskable F.value problem.now asked }
     ensures interval { IfOk result (IsRankInterval F.value problem.now asked.column asked.tau asked.crit limit) }
+    ensures listed { IfOk result HasFactors }
     ensures stopped { IfErr result (IsIntervalStop F.value F.range problem.now asked.column (rational (F.value asked.tau)) (rational (F.value asked.crit)) limit) }
 {
     let gram = match gram_inverse(alloc, problem) {
@@ -276,6 +277,122 @@ fn by_parts<F: Exact>(
         Ok(interval) => Ok(interval),
         Err(stop) => Err(stop),
     }
+}
+
+/// The rank interval of a column by its parts alone, whose walks go in fractions: what `interval` comes to where whole
+/// numbers don't suffice. It lists the factors of its projection, so it stops where one of them has no number.
+pub fn interval_by_parts<F: Exact>(
+    alloc: Global,
+    problem: &Problem<F>,
+    asked: Asked<F>,
+    limit: u32,
+) -> Result<Interval<F>, Stop<F>>
+    requires shaped { IsWellShaped problem.now }
+    requires column { asked.column < problem.now.columns }
+    requires tau_above { whole (pos 0) <ℚ rational (F.value asked.tau) }
+    requires tau_below { rational (F.value asked.tau) <ℚ whole (pos 1) }
+    requires crit { whole (pos 0) ≤ℚ rational (F.value asked.crit) }
+    requires data { (i : ℕ) → i < length problem.now.rows → IsDataRow (sample F.value problem.now) i }
+    ensures exact { IfOk result (IsExactInterval F.value problem.now asked.column (rational (F.value asked.tau)) (rational (F.value asked.crit))) }
+    ensures interval { IfOk result (IsRankInterval F.value problem.now asked.column asked.tau asked.crit limit) }
+    ensures listed { IfOk result HasFactors }
+    ensures stopped { IfErr result (IsIntervalStop F.value F.range problem.now asked.column (rational (F.value asked.tau)) (rational (F.value asked.crit)) limit) }
+    ensures limited { IsLimited F.value problem.now asked.column (rational (F.value asked.tau)) (rational (F.value asked.crit)) limit → IsLimitAnswer result }
+{
+    match by_parts(alloc, problem, asked, limit) {
+        Ok(interval) => Ok(interval),
+        Err(stop) => Err(stop),
+    }
+}
+
+/// The interval in whole numbers, or else by its parts.
+fn or_by_parts<F: Exact>(
+    alloc: Global,
+    problem: &Problem<F>,
+    quick: Option<Interval<F>>,
+    asked: Asked<F>,
+    limit: u32,
+) -> Result<Interval<F>, Stop<F>>
+    requires asked { IsAskable F.value problem.now asked }
+    requires quick { IfSome quick (IsRankInterval F.value problem.now asked.column asked.tau asked.crit limit) }
+    ensures exact { IfOk result (IsExactInterval F.value problem.now asked.column (rational (F.value asked.tau)) (rational (F.value asked.crit))) }
+    ensures interval { IfOk result (IsRankInterval F.value problem.now asked.column asked.tau asked.crit limit) }
+    ensures stopped { IfErr result (IsIntervalStop F.value F.range problem.now asked.column (rational (F.value asked.tau)) (rational (F.value asked.crit)) limit) }
+    ensures limited { IsLimited F.value problem.now asked.column (rational (F.value asked.tau)) (rational (F.value asked.crit)) limit → IsLimitAnswer result }
+{
+    if let Some(interval) = quick {
+        return Ok(interval);
+    }
+    match by_parts(alloc, problem, asked, limit) {
+        Ok(interval) => Ok(interval),
+        Err(stop) => Err(stop),
+    }
+}
+
+/// The interval of a column from the solve at its quantile, where that is in whole numbers.
+fn interval_by<F: Exact>(
+    alloc: Global,
+    problem: &Problem<F>,
+    started: &Option<Started<'_, F>>,
+    asked: Asked<F>,
+    limit: u32,
+) -> Option<Interval<F>>
+    requires asked { IsAskable F.value problem.now asked }
+    requires started { IfSome started.now (IsStarted F.value problem.now (rational (F.value asked.tau)) limit) }
+    ensures { IfSome result (IsRankInterval F.value problem.now asked.column asked.tau asked.crit limit) }
+{
+    let _problem = problem;
+    match started {
+        Some(started) => {
+            let interval = started.interval(alloc, asked, limit)?;
+            Some(interval)
+        }
+        None => None,
+    }
+}
+
+/// The rank interval of a column, where the solve at its quantile may have been made in whole numbers before: what
+/// `interval` answers, without that solve. Where whole numbers don't suffice, all is done in fractions.
+pub fn interval_after<F: Exact>(
+    alloc: Global,
+    problem: &Problem<F>,
+    started: &Option<Started<'_, F>>,
+    asked: Asked<F>,
+    limit: u32,
+) -> Result<Interval<F>, Stop<F>>
+    requires asked { IsAskable F.value problem.now asked }
+    requires started { IfSome started.now (IsStarted F.value problem.now (rational (F.value asked.tau)) limit) }
+    ensures exact { IfOk result (IsExactInterval F.value problem.now asked.column (rational (F.value asked.tau)) (rational (F.value asked.crit))) }
+    ensures interval { IfOk result (IsRankInterval F.value problem.now asked.column asked.tau asked.crit limit) }
+    ensures stopped { IfErr result (IsIntervalStop F.value F.range problem.now asked.column (rational (F.value asked.tau)) (rational (F.value asked.crit)) limit) }
+    ensures limited { IsLimited F.value problem.now asked.column (rational (F.value asked.tau)) (rational (F.value asked.crit)) limit → IsLimitAnswer result }
+{
+    let quick = interval_by(alloc, problem, started, asked, limit);
+    or_by_parts(alloc, problem, quick, asked, limit)
+}
+
+/// The rank interval of a column in whole numbers alone. There is none where they don't suffice, where a limit is
+/// reached, where the columns are dependent, and where memory is wanting: `interval` tells which.
+pub fn interval_in_wholes<F: Exact>(
+    alloc: Global,
+    problem: &Problem<F>,
+    asked: Asked<F>,
+    limit: u32,
+) -> Option<Interval<F>>
+    requires shaped { IsWellShaped problem.now }
+    requires column { asked.column < problem.now.columns }
+    requires tau_above { whole (pos 0) <ℚ rational (F.value asked.tau) }
+    requires tau_below { rational (F.value asked.tau) <ℚ whole (pos 1) }
+    requires crit { whole (pos 0) ≤ℚ rational (F.value asked.crit) }
+    requires data { (i : ℕ) → i < length problem.now.rows → IsDataRow (sample F.value problem.now) i }
+    ensures { IfSome result (IsRankInterval F.value problem.now asked.column asked.tau asked.crit limit) }
+{
+    let setting = match setting_of(alloc, problem) {
+        Ok(setting) => setting,
+        Err(_) => return None,
+    };
+    let started = start_in_wholes(alloc, problem, &setting, asked.tau, limit);
+    interval_by(alloc, problem, &started, asked, limit)
 }
 
 /// The rank interval of a column at the quantile tau for a critical value: the tested values for which some
@@ -306,8 +423,6 @@ pub fn interval<F: Exact>(
     ensures limited { IsLimited F.value problem.now column (rational (F.value tau)) (rational (F.value crit)) limit → IsLimitAnswer result }
 {
     let asked = Asked { column, tau, crit };
-    match by_parts(alloc, problem, asked, limit) {
-        Ok(interval) => Ok(interval),
-        Err(stop) => Err(stop),
-    }
+    let quick = interval_in_wholes(alloc, problem, asked, limit);
+    or_by_parts(alloc, problem, quick, asked, limit)
 }

@@ -9,27 +9,20 @@ ghost use Rattle.basis_inverse.specs.Square.{inverse_entry};
 ghost use Rattle.pivot_rule.specs.Results.{IsVertexAt};
 ghost use Rattle.walk_rule.specs.Families.{IsOptimalIn};
 ghost use Rattle.fraction_tableau.specs.Next.{IsDualFault};
-ghost use Rattle.rank_inversion.specs.declared.ends.Finding.TheVariants.{Past, Stuck};
+ghost use Rattle.rank_tableau.specs.declared.finding.Finding.TheVariants.{Past, Stuck};
 ghost use Rattle.rank_inversion.specs.Courses.{parameter_at, family_of};
 ghost use Rattle.rank_inversion.specs.Stations.{IsStation, sample_at, rows_at, entries_at};
 ghost use Rattle.rank_inversion.specs.Nexts.{IsFound, IsSpillHere};
 ghost use Rattle.rank_inversion.specs.Looks.{IsEndHere, IsNextAt, IsSpillAt};
 
 use crate::course::Course;
-use crate::ends::Finding;
 use crate::station::Station;
 use basic_solution::BasicSolution;
 use frac_core::{Exact, List, OutOfMemory};
 use fraction_tableau::{Breakpoint, FractionTableau, ascending, duals_at};
-use loss_model::{Basis, Beyond, Bound, End, Exchange, Short, Vertex};
+use loss_model::{Basis, Beyond, Bound, End, Short, Vertex};
+use rank_tableau::{Finding, Next};
 use std::alloc::Global;
-
-/// What is left at a basis: the walking step, or the end of the walk.
-#[derive(Drop)]
-pub enum Next<F> {
-    Step(Exchange<F>),
-    End(End<F>),
-}
 
 impl<'a, F: Exact> Station<'a, F> {
     /// The vertex of the basis.

@@ -8,15 +8,17 @@ ghost use Rattle.walk_rule.specs.Families.{IsOptimalIn};
 ghost use Rattle.walk_rule.specs.Walks.{IsNextBreak};
 ghost use Rattle.fraction_tableau.specs.Crossings.{IsCrossingAt, IsFirstOf};
 ghost use Rattle.rank_walk.specs.Crossings.{bound_towards};
-ghost use Rattle.rank_inversion.specs.Courses.{way_of, tau_of, parameter_at, family_of, direction_for, IsDirectionBy, Moves, crossing_at};
+ghost use Rattle.rank_steps.specs.Ways.{way_of, direction_for, IsDirectionBy};
+ghost use Rattle.rank_inversion.specs.Courses.{tau_of, parameter_at, family_of, Moves, crossing_at};
 ghost use Rattle.rank_inversion.specs.Stations.{IsStation, sample_at, rows_at, entries_at, IsMeetingSpill};
 
-use crate::course::{Course, Way};
+use crate::course::Course;
 use basic_solution::BasicSolution;
 use frac_core::{Exact, List};
 use fraction_tableau::{Breakpoint, FractionTableau, sooner};
 use loss_model::{Quantity, Site, Spill, minus_at, over_at};
 use pivot_rule::Direction;
+use rank_steps::{Way, direction_of};
 
 /// A basis on a walk, its basic solution, and its dual values at the quantile of the walk, by position.
 #[derive(Drop)]
@@ -25,28 +27,6 @@ pub struct Station<'a, F: Exact> {
     pub solution: BasicSolution<F>,
     pub duals: List<F>,
     pub course: Course<F>,
-}
-
-/// The direction in which a dual value moves, by whether the inverse's entry of the column is above 0.
-fn direction_of(way: Way, above: bool) -> Direction
-    ensures { result ≡ direction_for (way_of way) above }
-{
-    match way {
-        Way::Rise => {
-            if above {
-                Direction::Downward
-            } else {
-                Direction::Upward
-            }
-        }
-        Way::Fall => {
-            if above {
-                Direction::Upward
-            } else {
-                Direction::Downward
-            }
-        }
-    }
 }
 
 /// The direction in which a dual value moves by the inverse's entry of the column, if it moves.

@@ -9,10 +9,11 @@ ghost use Rattle.rank_inversion.specs.Looks.{IsStepAt};
 ghost use Rattle.rank_inversion.specs.Walks.{IsBegun, IsAdvanced, IsAdvancedOrEnded, IsKeptShort, IsEnded, IsHalted, IsHaltOf};
 
 use crate::course::Course;
-use crate::look::{Next, look};
+use crate::look::look;
 use frac_core::{Exact, List};
 use fraction_tableau::FractionTableau;
 use loss_model::{End, Exchange, Short, Spill};
+use rank_tableau::{Arrival, Next};
 use tableau_model::Step;
 
 /// A walk in its midst: the basis at which it stands, the steps that led there, and what the column
@@ -22,13 +23,6 @@ pub struct Walk<'a, F: Exact> {
     pub tableau: FractionTableau<'a, F>,
     pub steps: List<Exchange<F>>,
     pub now: F,
-}
-
-/// A walk at its end.
-#[derive(Drop)]
-pub struct Arrival<F> {
-    pub steps: List<Exchange<F>>,
-    pub end: End<F>,
 }
 
 /// Why a walk halts. The steps lead to the basis at which it halted.

@@ -1,6 +1,7 @@
 -- Lawful intervals are exact.
-use Rattle.std.specs.Prelude.{ℕ, ◌<◌, List, [], ◌∷◌, slice_index, slice_set, pos}
-use Rattle.std.proofs.Common.{subst, ◌∙◌, length-set}
+use Rattle.std.specs.Prelude.{◌≡◌, ◌↔◌, ℕ, ◌<◌, List, [], ◌∷◌, map, option_map, slice_index, slice_set, Option, None, Some, IfSome, pos}
+use Rattle.std.specs.List.{AllZip}
+use Rattle.std.proofs.Common.{refl, sym, subst, ◌∙◌, length-set}
 use Rattle.exact_algebra.specs.Fraction.{Fraction, rational}
 use Rattle.exact_algebra.specs.Rational.{ℚ, whole}
 use Rattle.exact_algebra.proofs.RationalLaws.{≤ℚ_refl}
@@ -20,13 +21,14 @@ use Rattle.loss_model.specs.declared.interval.Bound.{Bound}
 use Rattle.loss_model.specs.declared.interval.Bound.TheVariants.{Finite, Infinite}
 use Rattle.loss_model.specs.declared.interval.End.{End}
 use Rattle.loss_model.specs.declared.interval.Interval.{Interval}
+use Rattle.loss_model.specs.declared.interval.IntervalProof.{IntervalProof}
 use Rattle.rank_law.specs.Restricted.{squared_length, rank_bound, Holds}
 use Rattle.rank_law.specs.Bounds.{IsHighEnd, IsLowEnd}
-use Rattle.rank_law.specs.Certified.{bound_of, AreInOrder}
+use Rattle.rank_law.specs.Certified.{bound_of, AreInOrder, MeetsConditions}
 use Rattle.rank_law.proofs.Exact.{bound_not_negative, exact, in_order}
 use Rattle.rank_walk.specs.RankWalks.{Way, rise, fall, tested, StandsAt, IsTest, IsEnd}
 use Rattle.rank_walk.specs.Ends.{IsEndAt, MeetsOn}
-use Rattle.rank_walk.specs.Intervals.{when_on, StandsIn, LawfulWalkStands, LawfulIntervalIsExact, WrittenIntervalPasses}
+use Rattle.rank_walk.specs.Intervals.{when_on, StandsIn, stated, statement, IsIntervalBy, IsIntervalOf, MeetsConditionsBy, LawfulWalkStands, LawfulIntervalIsExact, WrittenIntervalPasses, ListedIntervalIsCertified}
 use Rattle.rank_walk.proofs.Walks.{stands_first, stands_next}
 use Rattle.rank_walk.proofs.Ends.{right_end, meets}
 
@@ -98,66 +100,66 @@ module _ {F : Type 0} (value : F → Fraction) (p : Problem F) (j : ℕ) (tau cr
 pub exact_interval : {F : Type 0} (value : F → Fraction) (p : Problem F) (interval : Interval F) → LawfulIntervalIsExact value p interval
 exact_interval {F} value p interval asked of =
     record {
-      exact = exact s j tau crit start c (bound_of value interval.proof.low.bound) (bound_of value interval.proof.high.bound) asked.column of.projection low_end.0 high_end.0;
+      exact = exact s j tau crit start c (bound_of value interval.low.bound) (bound_of value interval.high.bound) asked.column of.right.projection low_end.0 high_end.0;
       low = low_end.1;
       high = high_end.1;
-      order = by (bound_of value interval.proof.low.bound) (bound_of value interval.proof.high.bound) low_end.0 high_end.0;
+      order = by (bound_of value interval.low.bound) (bound_of value interval.high.bound) low_end.0 high_end.0;
     }
   where
     s : Sample
     s = sample value p
 
     j : ℕ
-    j = interval.proof.column
+    j = interval.column
 
     tau : ℚ
-    tau = rational (value interval.proof.tau)
+    tau = rational (value interval.tau)
 
     crit : ℚ
-    crit = rational (value interval.proof.crit)
+    crit = rational (value interval.crit)
 
     c : ℕ → ℚ
-    c = value_at value interval.proof.projection
+    c = of.factors
 
     test : IsTest s j tau c
-    test = record { column = asked.column; costs = asked.costs; projection = of.projection }
+    test = record { column = asked.column; costs = asked.costs; projection = of.right.projection }
 
     start : ℚ
-    start = coefficient s (slice_index of.solved) of.lawful.optimal.a j
+    start = coefficient s (slice_index of.right.solved) of.right.lawful.optimal.a j
 
-    begins : (way : Way) → StandsIn way s j tau crit c start of.solved (whole (pos 0))
+    begins : (way : Way) → StandsIn way s j tau crit c start of.right.solved (whole (pos 0))
     begins way =
         record {
-          size = of.lawful.optimal.size;
-          a = of.lawful.optimal.a;
-          is_basis = of.lawful.optimal.is_basis;
-          ends = of.lawful.optimal.ends;
+          size = of.right.lawful.optimal.size;
+          a = of.right.lawful.optimal.a;
+          is_basis = of.right.lawful.optimal.is_basis;
+          ends = of.right.lawful.optimal.ends;
           holds =
-              stands_first way s j tau crit c (slice_index of.solved) of.lawful.optimal.a test of.lawful.optimal.is_basis of.lawful.optimal.holds
+              stands_first way s j tau crit c (slice_index of.right.solved) of.right.lawful.optimal.a test of.right.lawful.optimal.is_basis of.right.lawful.optimal.holds
               (bound_not_negative s j tau crit c asked.crit asked.tau_above asked.tau_below);
         }
 
-    high_end : IsEnd rise s j tau crit (squared_length s j c) start (bound_of value interval.proof.high.bound) × MeetsOn rise value p j tau crit (squared_length s j c) interval.proof.high
+    high_end : IsEnd rise s j tau crit (squared_length s j c) start (bound_of value interval.high.bound) × MeetsOn rise value p j tau crit (squared_length s j c) interval.high
     high_end =
-        ended value p j tau crit c start test rise (basis_after of.solved interval.trail.rise) _ interval.proof.high
-        (walk_stands value rise s j tau crit c start of.solved (whole (pos 0)) interval.trail.rise test (begins rise) of.lawful.rose) of.high
+        ended value p j tau crit c start test rise (basis_after of.right.solved interval.trail.rise) _ interval.high
+        (walk_stands value rise s j tau crit c start of.right.solved (whole (pos 0)) interval.trail.rise test (begins rise) of.right.lawful.rose) of.right.high
 
-    low_end : IsEnd fall s j tau crit (squared_length s j c) start (bound_of value interval.proof.low.bound) × MeetsOn fall value p j tau crit (squared_length s j c) interval.proof.low
+    low_end : IsEnd fall s j tau crit (squared_length s j c) start (bound_of value interval.low.bound) × MeetsOn fall value p j tau crit (squared_length s j c) interval.low
     low_end =
-        ended value p j tau crit c start test fall (basis_after of.solved interval.trail.fall) _ interval.proof.low
-        (walk_stands value fall s j tau crit c start of.solved (whole (pos 0)) interval.trail.fall test (begins fall) of.lawful.fell) of.low
+        ended value p j tau crit c start test fall (basis_after of.right.solved interval.trail.fall) _ interval.low
+        (walk_stands value fall s j tau crit c start of.right.solved (whole (pos 0)) interval.trail.fall test (begins fall) of.right.lawful.fell) of.right.low
 
     holds : Holds s j tau crit start
     holds = (begins rise).holds.holds start (≤ℚ_refl start) (≤ℚ_refl start)
 
     by : (low high : Bound ℚ) → IsLowEnd s j tau crit (squared_length s j c) start low → IsHighEnd s j tau crit (squared_length s j c) start high → AreInOrder low high
-    by (Finite lo) (Finite hi) l h = in_order s j tau crit start c lo hi asked.column of.projection holds l h
+    by (Finite lo) (Finite hi) l h = in_order s j tau crit start c lo hi asked.column of.right.projection holds l h
     by (Finite lo) Infinite l h = tt
     by Infinite (Finite hi) l h = tt
     by Infinite Infinite l h = tt
 
 pub passes : {F : Type 0} (value : F → Fraction) (p : Problem F) (interval : Interval F) → WrittenIntervalPasses value p interval
-passes value p interval rows above below positive asked of =
+passes value p interval rows above below asked of positive =
     let known = exact_interval value p interval asked of in
     record {
       column = asked.column;
@@ -165,9 +167,75 @@ passes value p interval rows above below positive asked of =
       tau_above = above;
       tau_below = below;
       crit = asked.crit;
-      projection = of.projection;
+      projection = of.right.projection;
       positive = positive;
       low = known.low;
       high = known.high;
       order = known.order;
     }
+
+module _ {F : Type 0} (value : F → Fraction) (p : Problem F) (interval : Interval F) (factors : List F) where
+  certified : MeetsConditionsBy value p interval (value_at value factors) → MeetsConditions value p (stated interval factors)
+  certified m =
+      record {
+        column = m.column;
+        data_rows = m.data_rows;
+        tau_above = m.tau_above;
+        tau_below = m.tau_below;
+        crit = m.crit;
+        projection = m.projection;
+        positive = m.positive;
+        low = m.low;
+        high = m.high;
+        order = m.order;
+      }
+
+  by_factors : MeetsConditions value p (stated interval factors) → MeetsConditionsBy value p interval (value_at value factors)
+  by_factors m =
+      record {
+        column = m.column;
+        data_rows = m.data_rows;
+        tau_above = m.tau_above;
+        tau_below = m.tau_below;
+        crit = m.crit;
+        projection = m.projection;
+        positive = m.positive;
+        low = m.low;
+        high = m.high;
+        order = m.order;
+      }
+
+  module _ (there : interval.projection ≡ Some factors) where
+    listed_is : (c : ℕ → ℚ) → IfSome interval.projection (λ list. value_at value list ≡ c) → value_at value factors ≡ c
+    listed_is c h = subst (λ (o : Option (List F)). IfSome o (λ list. value_at value list ≡ c)) there h
+
+    pub by_list : IsIntervalOf value p interval ↔ IsIntervalBy value p interval (value_at value factors)
+    by_list = (
+      λ of. subst (IsIntervalBy value p interval) (sym (listed_is of.factors of.listed)) of.right,
+      λ right. record {
+        factors = value_at value factors;
+        listed = subst (λ (o : Option (List F)). IfSome o (λ list. value_at value list ≡ value_at value factors)) (sym there) refl;
+        right = right;
+      },
+    )
+
+    pub conditions : (of : IsIntervalOf value p interval) → MeetsConditionsBy value p interval of.factors ↔ MeetsConditions value p (stated interval factors)
+    conditions of = (
+      λ m. certified (subst (MeetsConditionsBy value p interval) (sym (listed_is of.factors of.listed)) m),
+      λ m. subst (MeetsConditionsBy value p interval) (listed_is of.factors of.listed) (by_factors m),
+    )
+
+pub listed : {F : Type 0} (value : F → Fraction) (p : Problem F) (interval : Interval F) → ListedIntervalIsCertified value p interval
+listed value p interval = record { by_list = by_list value p interval; conditions = conditions value p interval }
+
+-- what is stated of intervals is stated of each
+pub stated_each : {F : Type 0} (rs : List (Interval F)) (xs : List (IntervalProof F)) → map Some xs ≡ map statement rs
+    → AllZip (λ r x. (factors : List F) × (r.projection ≡ Some factors) × (x ≡ stated r factors)) rs xs
+stated_each [] [] e = tt
+stated_each [] (x ∷ xs) e = absurd (cc e)
+stated_each (r ∷ rs) [] e = absurd (cc e)
+stated_each {F} (r ∷ rs) (x ∷ xs) e = (by r.projection refl (cc e), stated_each rs xs (cc e))
+  where
+    by : (o : Option (List F)) → r.projection ≡ o → Some x ≡ option_map (stated r) o → (factors : List F) × (r.projection ≡ Some factors) × (x ≡ stated r factors)
+    by None is h = absurd (cc h)
+    by (Some factors) is h = (factors, is, cc h)

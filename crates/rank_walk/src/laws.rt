@@ -2,7 +2,7 @@
 
 ghost use Rattle.rank_walk.specs.RankWalks.{WalkStandsFirst, WalkStandsNext, WalkIsInside, WalkHasBreak, WalkEndsHere, WalkNeverEnds, WalksAreExact};
 ghost use Rattle.rank_walk.specs.Crossings.{CrossingByEntry};
-ghost use Rattle.rank_walk.specs.Intervals.{LawfulWalkStands, LawfulIntervalIsExact, WrittenIntervalPasses};
+ghost use Rattle.rank_walk.specs.Intervals.{LawfulWalkStands, LawfulIntervalIsExact, WrittenIntervalPasses, ListedIntervalIsCertified};
 ghost use Rattle.rank_walk.specs.Loops.{LoopBegins, LoopGoesOn, LoopIsDone};
 ghost use Rattle.rank_walk.specs.Ends.{EndIsRight, EndMeetsConditions};
 
@@ -34,11 +34,12 @@ pub fn crossings()
 {}
 
 /// An interval whose trail is lawful and whose ends are those of its walks bounds exactly the values
-/// that hold.
+/// that hold; and where it lists the factors of its projection, it meets the conditions of a certificate with them.
 pub fn lawful_interval<F: Exact>(problem: &Problem<F>, interval: &Interval<F>)
     ensures stands { LawfulWalkStands F.value }
     ensures exact { LawfulIntervalIsExact F.value problem.now interval.now }
     ensures passes { WrittenIntervalPasses F.value problem.now interval.now }
+    ensures listed { ListedIntervalIsCertified F.value problem.now interval.now }
 {}
 
 /// A walk as a loop: how it begins, goes on and is done.

@@ -94,8 +94,8 @@ module _ {F : Type 0} (value : F → Fraction) where
   -- a rank interval: its column, counted from 1, its quantile, its low end and its high end
   unfoldable pub interval_line : Interval F → List ℕ
   interval_line r =
-      codes "interval " ++ decimal (r.proof.column + 1) ++ codes " " ++ number_text_of (value r.proof.tau) ++ codes " "
-      ++ bound_text (codes "-Inf") r.proof.low.bound ++ codes " " ++ bound_text (codes "Inf") r.proof.high.bound ++ codes "\n"
+      codes "interval " ++ decimal (r.column + 1) ++ codes " " ++ number_text_of (value r.tau) ++ codes " "
+      ++ bound_text (codes "-Inf") r.low.bound ++ codes " " ++ bound_text (codes "Inf") r.high.bound ++ codes "\n"
 
 -- the numbers of a value of 128 bits
 abbrev pub value : Frac128 → Fraction

@@ -23,12 +23,11 @@ impl Page {
     fn interval_line<F: Exact>(&mut self, interval: &Interval<F>) -> Result<(), OutOfMemory>
         ensures { OnOk result (self.new ≡ self.old ++ interval_line F.value interval.now) }
     {
-        let proof = &interval.proof;
         self.put(b"interval ")?;
-        self.put_count(proof.column as u64 + 1)?;
-        self.put_next(proof.tau)?;
-        self.put_bound(b"-Inf", proof.low.bound)?;
-        self.put_bound(b"Inf", proof.high.bound)?;
+        self.put_count(interval.column as u64 + 1)?;
+        self.put_next(interval.tau)?;
+        self.put_bound(b"-Inf", interval.low.bound)?;
+        self.put_bound(b"Inf", interval.high.bound)?;
         self.put(b"\n")
     }
 

@@ -1,5 +1,6 @@
 -- The certificate of a right fit, and why there is none.
-use Rattle.std.proofs.Common.{◌≡◌, ◌<◌, ◌≤◌, ℕ, suc, Bool, List, [], ◌∷◌, All, Contains, get_or, is_some, length, map, slice_index, arith, refl, subst, ◌∙◌}
+use Rattle.std.proofs.Common.{◌≡◌, ◌<◌, ◌≤◌, ℕ, suc, Bool, List, [], ◌∷◌, All, Contains, get_or, is_some, length, map, Some, slice_index, arith, refl, sym, subst, ◌∙◌}
+use Rattle.std.specs.List.{AllZip}
 use Rattle.std.proofs.lemmas.List.Elements.{All-cons, All-nil}
 use Rattle.exact_algebra.specs.Fraction.{Fraction, rational}
 use Rattle.exact_algebra.specs.Rational.{ℚ}
@@ -10,6 +11,7 @@ use Rattle.loss_model.specs.declared.interval.Beyond.{Beyond}
 use Rattle.loss_model.specs.declared.interval.Beyond.TheVariants.{Outside, Ray}
 use Rattle.loss_model.specs.declared.interval.End.{End}
 use Rattle.loss_model.specs.declared.interval.Interval.{Interval}
+use Rattle.loss_model.specs.declared.interval.IntervalProof.{IntervalProof}
 use Rattle.loss_model.specs.declared.problem.Problem.{Problem}
 use Rattle.loss_model.specs.declared.vertex.Vertex.{Vertex}
 use Rattle.loss_model.specs.Problem.{sample}
@@ -18,7 +20,8 @@ use Rattle.pivot_rule.specs.Results.{IsVertexAt}
 use Rattle.pivot_rule.specs.Trails.{AtBasis}
 use Rattle.pivot_rule.proofs.Solved.{any_default}
 use Rattle.rank_walk.specs.Ends.{IsEndAt, IsHandedOut}
-use Rattle.rank_walk.specs.Intervals.{bound_by, IsIntervalOf}
+use Rattle.rank_walk.specs.Intervals.{stated, statement, bound_by, IsIntervalOf}
+use Rattle.rank_walk.proofs.Intervals.{stated_each}
 use Rattle.rank_walk.specs.RankWalks.{Way, rise, fall}
 use Rattle.rq_fit.specs.Asked.{Asked}
 use Rattle.cert_text.specs.Kept.{is_finite, is_outside, IsKeptEnd, IsKeptInterval, IsKeptSegment}
@@ -37,7 +40,7 @@ use Rattle.rq_fit.specs.Intervals.{AreRightIntervals, asked_by}
 use Rattle.rq_fit.specs.Stops.{HasProblemCause}
 use Rattle.rq_fit.proofs.Fits.{process_scorable}
 use Rattle.rq_engine.specs.Answers.{HasCertifyCause, HasFitCause, IsCertified}
-use Rattle.rq_engine.specs.Certifying.{HasCertifiedCause, IsLengthHalt}
+use Rattle.rq_engine.specs.Certifying.{HasCertifiedCause, IsKept, IsLengthHalt}
 use Rattle.rq_engine.proofs.Causes.{input_cause, problem_cause}
 use Rattle.rq_engine.proofs.Listed.{listed_vertex}
 
@@ -73,30 +76,37 @@ module _ {F : Type 0} (value : F → Fraction) (p : Problem F) where
         same_kind way j tau bound (slice_index basis) at.a t h.u h.k h.d end.vertex end.inside end.bound end.beyond h.handed,
       )
 
-  kept_interval : (interval : Interval F) → p.columns ≤ 128 → interval.proof.column < p.columns → IsIntervalOf value p interval → IsKeptInterval interval.proof
-  kept_interval interval few column h =
-      let tau = rational (value interval.proof.tau) in (
+  kept_interval : (interval : Interval F) → p.columns ≤ 128 → interval.column < p.columns → IsIntervalOf value p interval → (factors : List F) → IsKeptInterval (stated interval factors)
+  kept_interval interval few column h factors =
+      let tau = rational (value interval.tau) in
+      let bound = bound_by value p interval h.factors in (
         omega (arith, few, column),
-        (kept_end fall interval.proof.column tau (bound_by value p interval) _ _ interval.proof.low h.low, kept_end rise interval.proof.column tau (bound_by value p interval) _ _ interval.proof.high h.high),
+        (kept_end fall interval.column tau bound _ _ interval.low h.right.low, kept_end rise interval.column tau bound _ _ interval.high h.right.high),
       )
 
   -- so do the bases of right intervals
-  intervals_kept : (limit : ℕ) → p.columns ≤ 128 → (asked : List (Asked F)) (intervals : List (Interval F)) → AreRightIntervals value p limit asked intervals → All (λ (interval : Interval F). IsKeptInterval interval.proof) intervals
-  intervals_kept limit few [] [] h = All-nil (λ (interval : Interval F). IsKeptInterval interval.proof)
+  intervals_kept : (limit : ℕ) → p.columns ≤ 128 → (asked : List (Asked F)) (intervals : List (Interval F)) → AreRightIntervals value p limit asked intervals
+      → All (λ (interval : Interval F). (factors : List F) → IsKeptInterval (stated interval factors)) intervals
+  intervals_kept limit few [] [] h = All-nil (λ (interval : Interval F). (factors : List F) → IsKeptInterval (stated interval factors))
   intervals_kept limit few [] (x ∷ xs) h = absurd h
   intervals_kept limit few (a ∷ others) [] h = absurd h
   intervals_kept limit few (a ∷ others) (x ∷ xs) h =
-      All-cons (λ (interval : Interval F). IsKeptInterval interval.proof) x xs
+      All-cons (λ (interval : Interval F). (factors : List F) → IsKeptInterval (stated interval factors)) x xs
       (kept_interval x few h.0.lawful.conditions.column h.0.lawful.lawful) (intervals_kept limit few others xs h.1)
 
--- what shows intervals keeps what they keep
-pub proofs_kept : (intervals : List (Interval Frac128)) → All (λ (interval : Interval Frac128). IsKeptInterval interval.proof) intervals → All IsKeptInterval (map (λ (interval : Interval Frac128). interval.proof) intervals)
-proofs_kept [] h = All-nil IsKeptInterval
-proofs_kept (x ∷ xs) h =
-    All-cons IsKeptInterval x.proof (map (λ (interval : Interval Frac128). interval.proof) xs) (h 0 x (omega arith))
-    (proofs_kept xs (λ k d l. h (suc k) d (omega (arith, l))))
+-- what is stated of intervals keeps what they keep
+pub proofs_kept : (intervals : List (Interval Frac128)) (proofs : List (IntervalProof Frac128)) → map Some proofs ≡ map statement intervals → All IsKept intervals → All IsKeptInterval proofs
+proofs_kept intervals proofs e h = by intervals proofs (stated_each intervals proofs e) h
+  where
+    by : (rs : List (Interval Frac128)) (xs : List (IntervalProof Frac128))
+        → AllZip (λ r x. (factors : List Frac128) × (r.projection ≡ Some factors) × (x ≡ stated r factors)) rs xs → All IsKept rs → All IsKeptInterval xs
+    by [] [] is h = All-nil IsKeptInterval
+    by [] (x ∷ xs) is h = absurd is
+    by (r ∷ rs) [] is h = absurd is
+    by (r ∷ rs) (x ∷ xs) ((factors, there, same), is) h =
+        All-cons IsKeptInterval x xs (subst IsKeptInterval (sym same) (h 0 r (omega arith) factors)) (by rs xs is (λ k d l. h (suc k) d (omega (arith, l))))
 
-pub fit_ended : (job : FitJob) (fit : Fit) → IsRightFit value job fit → All (λ (interval : Interval Frac128). IsKeptInterval interval.proof) fit.intervals
+pub fit_ended : (job : FitJob) (fit : Fit) → IsRightFit value job fit → All IsKept fit.intervals
 fit_ended job fit right = intervals_kept value fit.problem job.limit right.shaped.columns (asked_by job.rank fit.problem.columns) fit.intervals right.intervals
 
 -- ---- causes

@@ -1,5 +1,6 @@
 -- Stated. What the certificate of a fit states.
-use Rattle.std.specs.Prelude.{◌≡◌, ℕ, ◌*◌, ◌≤◌, ◌<◌, ◌^◌, ◌⊎◌, Ok, length, map}
+use Rattle.std.specs.Prelude.{◌≡◌, ℕ, ◌*◌, ◌≤◌, ◌<◌, ◌^◌, ◌⊎◌, Ok, Some, length, map}
+use Rattle.rank_walk.specs.Intervals.{statement}
 use Rattle.cert_text.specs.Certificates.{cert_of}
 use Rattle.cert_text.specs.Contents.{content}
 use Rattle.cert_text.specs.Limits.{IsWithinLimits, most_sides}
@@ -8,13 +9,14 @@ use Rattle.cert_text.specs.declared.cert.Cert.{Cert}
 use Rattle.rq_words.specs.declared.job.FitJob.{FitJob}
 use Rattle.report_text.specs.declared.report.Fit.{Fit}
 
--- the certificate has the problem, the segments and the intervals of the fit, and the range of the job
+-- the certificate has the problem, the segments and the intervals of the fit, these with the factors that each lists, and the
+-- range of the job
 pub record IsCertificateOf (job : FitJob) (fit : Fit) (cert : Cert) : Type 0 where
   pub problem : cert.problem ≡ fit.problem
   pub lo : cert.lo ≡ job.lo
   pub hi : cert.hi ≡ job.hi
   pub segments : cert.segments ≡ fit.process.segments
-  pub intervals : cert.intervals ≡ map (λ interval. interval.proof) fit.intervals
+  pub intervals : map Some cert.intervals ≡ map statement fit.intervals
 
 -- the most bytes of a certificate's text
 abbrev pub most_bytes : ℕ

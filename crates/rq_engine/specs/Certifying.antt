@@ -1,5 +1,9 @@
 -- Inner. Why an input has no certificate, step by step.
-use Rattle.std.specs.Prelude.{length, ⊤}
+use Rattle.std.specs.Prelude.{List, length, ⊤}
+use Rattle.frac_core.specs.declared.frac128.Frac128.{Frac128}
+use Rattle.loss_model.specs.declared.interval.Interval.{Interval}
+use Rattle.rank_walk.specs.Intervals.{stated}
+use Rattle.cert_text.specs.Kept.{IsKeptInterval}
 use Rattle.cert_text.specs.declared.cert.Cert.{Cert}
 use Rattle.rq_input.specs.declared.input.Input.{Input}
 use Rattle.rq_words.specs.declared.job.FitJob.{FitJob}
@@ -9,6 +13,10 @@ use Rattle.report_text.specs.declared.report.Halt.TheVariants.{Refused, OutOfMem
 use Rattle.rq_fit.specs.Stops.{HasProblemCause}
 use Rattle.rq_engine.specs.Answers.{IsCertified}
 use Rattle.rq_engine.specs.Certificates.{IsTooLong}
+
+-- a certificate with this interval can be kept, whatever factors are listed
+abbrev pub IsKept : Interval Frac128 → Type 0
+IsKept r = (factors : List Frac128) → IsKeptInterval (stated r factors)
 
 -- the certificate wasn't found to be short: memory ended, or it is too long
 abbrev pub IsLengthHalt : Cert → Halt → Type 0

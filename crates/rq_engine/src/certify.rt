@@ -1,15 +1,18 @@
 //! The job `certify`: the fit of the job `process`, as a certificate.
-ghost use Rattle.std.specs.Prelude.{◌≡◌, ◌<◌, ◌≤◌, ◌^◌, All, is_some, length, map, nat_lt, true, IfOk, IfErr, OnOk};
-ghost use Rattle.cert_text.specs.Kept.{IsKeptInterval, IsKeptSegment};
+ghost use Rattle.std.specs.Prelude.{◌≡◌, ◌<◌, ◌≤◌, ◌^◌, All, is_some, length, map, nat_lt, true, IfOk, IfErr, OnOk, Some};
+ghost use Rattle.rank_walk.specs.Intervals.{statement};
+ghost use Rattle.cert_text.specs.Kept.{IsKeptSegment};
 ghost use Rattle.cert_text.specs.Limits.{most_sides};
 ghost use Rattle.rq_input.specs.Rows.{HasRows};
 ghost use Rattle.rq_fit.specs.Asks.{IsFitAsk};
+ghost use Rattle.rq_fit.specs.Intervals.{HasFactors};
 ghost use Rattle.rq_engine.specs.Answers.{HasCertifyCause, IsCertified, IsCertifiedOfBytes};
 ghost use Rattle.rq_engine.specs.Certificates.{IsCertificateOf, IsWritten, sides_of};
-ghost use Rattle.rq_engine.specs.Certifying.{HasCertifiedCause, IsLengthHalt};
+ghost use Rattle.rq_engine.specs.Certifying.{HasCertifiedCause, IsKept, IsLengthHalt};
 
 use cert_text::{Cert, write_cert};
 use frac_core::{Exact, Frac128, List, OutOfMemory};
+use interval_jobs::Purpose;
 use loss_model::{Interval, IntervalProof};
 use report_text::{Fit, Halt, Refusal};
 use rq_fan::Gate;
@@ -25,16 +28,44 @@ const MOST_BYTES: u64 = 1 << 26;
 /// The most sides of a certificate: rows times segments.
 const MOST_SIDES: usize = 1 << 30;
 
-// What shows the intervals, without their trails.
+// What a certificate states of an interval that lists the factors of its projection.
+fn proof_of<F: Exact>(interval: Interval<F>) -> IntervalProof<F>
+    requires { HasFactors interval }
+    ensures { Some result ≡ statement interval }
+{
+    let Interval {
+        column,
+        tau,
+        crit,
+        low,
+        high,
+        projection,
+        ..
+    } = interval;
+    match projection {
+        Some(projection) => IntervalProof {
+            column,
+            tau,
+            crit,
+            low,
+            high,
+            projection,
+        },
+        None => unreachable!(),
+    }
+}
+
+// What a certificate states of each of the intervals.
 fn proofs<F: Exact>(
     alloc: Global,
     intervals: List<Interval<F>>,
 ) -> Result<List<IntervalProof<F>>, OutOfMemory>
-    ensures { IfOk result (λ proofs. proofs ≡ map (λ interval. interval.proof) intervals) }
+    requires { All HasFactors intervals }
+    ensures { IfOk result (λ proofs. map Some proofs ≡ map statement intervals) }
 {
     let mut proofs = List::new(alloc);
     for interval in intervals.into_vec() {
-        proofs.add(interval.proof)?;
+        proofs.add(proof_of(interval))?;
     }
     Ok(proofs)
 }
@@ -42,7 +73,8 @@ fn proofs<F: Exact>(
 // The certificate of a fit.
 fn cert_of_fit(alloc: Global, job: &FitJob, fit: Fit) -> Result<Cert, OutOfMemory>
     requires listed { All IsKeptSegment fit.process.segments }
-    requires ended { All (λ interval. IsKeptInterval interval.proof) fit.intervals }
+    requires ended { All IsKept fit.intervals }
+    requires projections { All HasFactors fit.intervals }
     ensures { IfOk result (IsCertificateOf job.now fit) }
 {
     let Fit {
@@ -87,7 +119,7 @@ fn test_length(alloc: Global, cert: &Cert) -> Result<(), Halt>
 
 // The certificate of an input.
 //
-// Its halts are those of the fit, and then `CertTooLong`.
+// Its halts are those of the fit, each of whose intervals lists the factors of its projection, and then `CertTooLong`.
 fn certify_input<R: Threads + Sync, G: Gate>(
     rt: &R,
     alloc: Global,
@@ -102,7 +134,7 @@ fn certify_input<R: Threads + Sync, G: Gate>(
     ensures written { IfOk result IsWritten }
     ensures cause { IfErr result (HasCertifiedCause job.now input) }
 {
-    let fit = match fit_input(rt, alloc, job, input, gate) {
+    let fit = match fit_input(rt, alloc, job, Purpose::Certificate, input, gate) {
         Ok(fit) => fit,
         Err(halt) => return Err(halt),
     };

@@ -5,6 +5,7 @@ ghost use Rattle.report_text.specs.declared.report.Report.TheVariants as reports
 ghost use Rattle.rq_fit.specs.Asks.{IsFitAsk};
 ghost use Rattle.rq_engine.specs.Answers.{HasFitCause, IsFitOfBytes};
 
+use interval_jobs::Purpose;
 use report_text::{Fit, Halt};
 use rq_fan::Gate;
 use rq_fit::fit_input;
@@ -32,7 +33,7 @@ pub(crate) fn fit_bytes<R: Threads + Sync, G: Gate>(
     ensures cause { IfErr result (HasFitCause job.now ranked bytes.now) }
 {
     match read_input(alloc, job, ranked, bytes) {
-        Ok(input) => fit_input(rt, alloc, job, input, gate),
+        Ok(input) => fit_input(rt, alloc, job, Purpose::Report, input, gate),
         Err(halt) => Err(halt),
     }
 }

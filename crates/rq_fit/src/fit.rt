@@ -12,13 +12,13 @@ ghost use Rattle.report_text.specs.declared.report.Report.TheVariants as reports
 ghost use Rattle.rq_input.specs.Rows.{HasRows};
 ghost use Rattle.rq_fit.specs.Asks.{IsFitAsk, IsRankAskOf};
 ghost use Rattle.rq_fit.specs.Fit.{IsFitOf, IsFitUnder};
-ghost use Rattle.rq_fit.specs.Intervals.{AreRightIntervals, asked_by};
+ghost use Rattle.rq_fit.specs.Intervals.{AreRightIntervals, IsFor, asked_by};
 ghost use Rattle.rq_fit.specs.RankProblems.{HasIntervalCause};
 ghost use Rattle.rq_fit.specs.Stops.{HasProblemCause, IsSegmentSpill};
 
 use crate::halt::{interval_halt, short_halt, stop_halt};
 use frac_core::{Exact, Frac128, List, OutOfMemory};
-use interval_jobs::{RankAsks, all_intervals};
+use interval_jobs::{Purpose, RankAsks, all_intervals};
 use loss_model::{Interval, Problem, Process, Segment, Short};
 use rankscores::{ScorePair, scores};
 use report_text::{Fit, Halt, Place};
@@ -58,6 +58,7 @@ fn job_intervals<R: Threads + Sync, G: Gate>(
     rt: &R,
     alloc: Global,
     job: &FitJob,
+    purpose: Purpose,
     problem: &Problem<Frac128>,
     gate: &G,
 ) -> Result<List<Interval<Frac128>>, Halt>
@@ -65,6 +66,7 @@ fn job_intervals<R: Threads + Sync, G: Gate>(
     requires shaped { IsWellShaped problem.now }
     requires data { is_some job.now.rank ≡ true → (i : ℕ) → i < length problem.now.rows → IsDataRow (sample value problem.now) i }
     ensures right { IfOk result (AreRightIntervals value problem.now job.now.limit (asked_by job.now.rank problem.now.columns)) }
+    ensures purpose { IfOk result (All (IsFor purpose)) }
     ensures cause { IfErr result (HasIntervalCause job.now problem.now) }
 {
     let Some(rank) = &job.rank else {
@@ -74,6 +76,7 @@ fn job_intervals<R: Threads + Sync, G: Gate>(
         crit: rank.crit,
         taus: rank.taus.as_slice(),
         limit: job.limit,
+        purpose,
     };
     match all_intervals(rt, alloc, problem, &asks, gate) {
         Ok(intervals) => Ok(intervals),
@@ -132,11 +135,13 @@ fn fit_of(
 /// `Dependent`, and `PivotLimit` and `Overflow` of the process are those of `process`; an overflow of a
 /// rankscore comes after it, with the whole trail, and after that the first stop of an interval, with its
 /// column and its quantile. `OutOfMemory` may come at any step, and no other halt comes. Each interval is a job
-/// of its own, which enters the gate with its place among them before it works.
+/// of its own, which enters the gate with its place among them before it works. For a certificate each lists the
+/// factors of its projection.
 pub fn fit_input<R: Threads + Sync, G: Gate>(
     rt: &R,
     alloc: Global,
     job: &FitJob,
+    purpose: Purpose,
     input: Input,
     gate: &G,
 ) -> Result<Fit, Halt>
@@ -145,6 +150,7 @@ pub fn fit_input<R: Threads + Sync, G: Gate>(
     requires unpenalised { is_some job.now.rank ≡ true → length input.smoothing.rows ≡ 0 }
     ensures right { IfOk result (IsFitOf job.now input) }
     ensures printable { IfOk result (λ fit. IsPrintable (reports.Process fit)) }
+    ensures purpose { IfOk result (λ fit. All (IsFor purpose) fit.intervals) }
     ensures cause { IfErr result (HasProblemCause job.now (length input.design.rows) input.problem) }
 {
     let walked = match process(alloc, &input.problem, job.lo, job.hi, job.limit) {
@@ -157,7 +163,7 @@ pub fn fit_input<R: Threads + Sync, G: Gate>(
         Ok(scores) => scores,
         Err(short) => return Err(short_halt(Place::Process, short, walked.trail)),
     };
-    let intervals = match job_intervals(rt, alloc, job, &input.problem, gate) {
+    let intervals = match job_intervals(rt, alloc, job, purpose, &input.problem, gate) {
         Ok(intervals) => intervals,
         Err(halt) => return Err(halt),
     };

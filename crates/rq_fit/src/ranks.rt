@@ -7,6 +7,7 @@ ghost use Rattle.rq_fit.specs.Stops.{HasProblemCause};
 
 use crate::fit::fit_input;
 use frac_core::OutOfMemory;
+use interval_jobs::Purpose;
 use rankscores::wilcoxon;
 use report_text::{Halt, RanksFit};
 use rq_fan::Gate;
@@ -32,7 +33,7 @@ pub fn ranks_input<R: Threads + Sync, G: Gate>(
     ensures right { IfOk result (AreRanksOf job.now input) }
     ensures cause { IfErr result (HasProblemCause job.now (length input.design.rows) input.problem) }
 {
-    let fit = match fit_input(rt, alloc, job, input, gate) {
+    let fit = match fit_input(rt, alloc, job, Purpose::Report, input, gate) {
         Ok(fit) => fit,
         Err(halt) => return Err(halt),
     };

@@ -8,6 +8,8 @@ mod cases;
 #[cfg(test)]
 mod certificates;
 #[cfg(test)]
+mod datasets;
+#[cfg(test)]
 mod factors;
 #[cfg(test)]
 mod gates;

@@ -16,6 +16,7 @@ use loss_model::{Problem, Process};
 use std::alloc::Global;
 use std::process::Abort;
 use tableau::{Progress, solve_over, walk_range};
+use whole_tableau::setting_of;
 
 /// The walk over a range from a start, which no body refuses.
 fn walked_from<'a, F: Exact>(
@@ -49,7 +50,10 @@ pub(crate) fn in_wholes<F: Exact>(
     assert!(rt; is_ordered(lo, hi));
     assert!(rt; has_costs(problem, lo));
     assert!(rt; has_costs(problem, hi));
-    match Progress::begin_in_wholes(alloc, problem) {
+    let Ok(setting) = setting_of(alloc, problem) else {
+        return None;
+    };
+    match Progress::begin_in_wholes(alloc, problem, &setting) {
         Ok(begun) => Some(walked_from(rt, alloc, begun, lo, hi)),
         Err(_) => None,
     }

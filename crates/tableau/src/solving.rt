@@ -10,6 +10,7 @@ ghost use Rattle.tableau_model.specs.Places.{in_fractions, in_wholes, sample_of}
 ghost use Rattle.tableau_model.specs.Questions.{solving, IsStepOf};
 ghost use Rattle.tableau_model.specs.Refusals.{IsRefusedOf};
 ghost use Rattle.tableau_model.specs.Answers.{IsOptimalAt};
+ghost use Rattle.whole_tableau.specs.Kept.{IsSetting};
 ghost use Rattle.tableau.specs.Bodies.{place_of};
 ghost use Rattle.tableau.specs.Solving.{IsBegun, IsUnderway, IsAdvance, IsAdvanceOrEnd, IsRefusal, IsSolved, IsSolution, IsHalted, IsHaltOf, stop_of};
 
@@ -20,7 +21,7 @@ use loss_model::{Exchange, Problem, Stop, Trail};
 use std::alloc::Global;
 use tableau_model::{Failure, Fitted, Refusal, Step};
 use whole_inverse::Obstacle;
-use whole_tableau::WholeTableau;
+use whole_tableau::{Setting, WholeTableau};
 
 /// A tableau, and the trail that leads to its basis.
 #[derive(Drop)]
@@ -118,11 +119,13 @@ impl<'a, F: Exact> Progress<'a, F> {
     pub fn begin_in_wholes(
         alloc: Global,
         problem: &'a Problem<F>,
+        setting: &'a Setting,
     ) -> Result<Progress<'a, F>, Obstacle>
         requires shaped { IsWellShaped problem.now }
+        requires setting { IsSetting F.value problem.now setting.now }
         ensures begun { IfOk result (IsBegun F.value (record { problem = problem.now; body = in_wholes })) }
     {
-        let body = WholeTableau::begin(alloc, problem)?;
+        let body = WholeTableau::begin(alloc, problem, setting)?;
         let begun = Progress::at_start(alloc, Tableau::Wholes(body))?;
         Ok(begun)
     }

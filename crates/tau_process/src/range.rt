@@ -17,6 +17,7 @@ use loss_model::{Problem, Process, Stop};
 use std::alloc::Global;
 use tableau::{Progress, solve_over, stop_of, walk_range};
 use whole_inverse::Obstacle;
+use whole_tableau::setting_of;
 
 /// Walks from a start, in fractions or in whole numbers. Fractions always answer; there is no answer where whole
 /// numbers are too wide.
@@ -64,7 +65,12 @@ fn process_in_wholes<F: Exact>(
     requires costs_hi { HasCosts (sample F.value problem.now) (rational (F.value hi)) }
     ensures { IfSome result (IsAnswer F.value F.range problem.now (rational (F.value lo)) (rational (F.value hi)) limit) }
 {
-    match Progress::begin_in_wholes(alloc, problem) {
+    let setting = match setting_of(alloc, problem) {
+        Ok(setting) => setting,
+        Err(Obstacle::OutOfMemory) => return Some(Err(Stop::OutOfMemory)),
+        Err(Obstacle::TooWide) => return None,
+    };
+    match Progress::begin_in_wholes(alloc, problem, &setting) {
         Ok(begun) => process_from(alloc, begun, lo, hi, limit),
         Err(Obstacle::OutOfMemory) => Some(Err(Stop::OutOfMemory)),
         Err(Obstacle::TooWide) => None,

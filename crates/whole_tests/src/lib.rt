@@ -1,11 +1,14 @@
 //! Tests of whole numbers (`wide_int`): products and quotients at the edges of 128 bits; and of the body of whole numbers
-//! (`whole_tableau`, with all that stands below it): starts and segments of small tables.
+//! (`whole_tableau`, with all that stands below it): starts and segments of small tables; and of projections (`gram_check`) whose
+//! numbers have more than 128 bits.
 //!
 //! What is tested is what no clause says: that an answer is given wherever one fits. The expected numbers are worked by hand.
 #![tactic(auto)]
 
 #[cfg(test)]
 mod breakpoints;
+#[cfg(test)]
+mod projections;
 #[cfg(test)]
 mod segments;
 #[cfg(test)]

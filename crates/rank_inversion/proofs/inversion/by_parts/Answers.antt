@@ -7,7 +7,7 @@ use Rattle.rank_inversion.specs.Inversions.{IsAskable}
 use Rattle.rank_inversion.specs.Stops.{IsWalkStop}
 use Rattle.rank_inversion.specs.Tests.{IsTested}
 use Rattle.rank_inversion.proofs.Causes.{bound_there, by_gram, by_test, by_solve, by_walks}
-use Rattle.rank_inversion.proofs.Inverted.{asked_costs}
+use Rattle.rank_inversion.proofs.Joined.{asked_costs}
 use Rattle.rank_inversion.proofs.inversion.by_parts.Goals as goal
 
 pub returns-in-Err-clause-stopped : goal.returns-in-Err-clause-stopped

@@ -1,27 +1,6 @@
-use Rattle.rank_inversion.specs.declared.column_test.Asked.{Asked}
 use Rattle.rank_inversion.specs.Inversions.{IsAskable}
-use Rattle.rank_inversion.proofs.Inverted.{exact_is, none_limited, stop_limited}
 use Rattle.rank_inversion.proofs.inversion.interval.Goals as goal
 
-pub by_parts-requires-clause-asked : goal.by_parts-requires-clause-asked
-by_parts-requires-clause-asked g c κs within =
-    record {
-      shaped = c.requires.shaped;
-      column = c.requires.column;
-      tau_above = c.requires.tau_above;
-      tau_below = c.requires.tau_below;
-      crit = c.requires.crit;
-      data_rows = c.requires.data;
-    }
-
-pub returns-in-Ok-clause-exact : goal.returns-in-Ok-clause-exact
-returns-in-Ok-clause-exact g c =
-    exact_is g.F.Exact.value c.args.problem.now (record { column = c.args.column; tau = c.args.tau; crit = c.args.crit }) c.args.limit (record { shaped = c.requires.shaped; column = c.requires.column; tau_above = c.requires.tau_above; tau_below = c.requires.tau_below; crit = c.requires.crit; data_rows = c.requires.data }) c.in-Ok.interval (c.in-Ok.ensures {u = tt}).interval
-
-pub returns-in-Ok-clause-limited : goal.returns-in-Ok-clause-limited
-returns-in-Ok-clause-limited g c = λ reached.
-    none_limited g.F.Exact.value c.args.problem.now (record { column = c.args.column; tau = c.args.tau; crit = c.args.crit }) c.args.limit (record { shaped = c.requires.shaped; column = c.requires.column; tau_above = c.requires.tau_above; tau_below = c.requires.tau_below; crit = c.requires.crit; data_rows = c.requires.data }) c.in-Ok.interval (c.in-Ok.ensures {u = tt}).interval reached
-
-pub returns-in-Err-clause-limited : goal.returns-in-Err-clause-limited
-returns-in-Err-clause-limited g c = λ reached.
-    stop_limited g.F.Exact.value c.args.problem.now (record { column = c.args.column; tau = c.args.tau; crit = c.args.crit }) c.args.limit (record { shaped = c.requires.shaped; column = c.requires.column; tau_above = c.requires.tau_above; tau_below = c.requires.tau_below; crit = c.requires.crit; data_rows = c.requires.data }) g.F.Exact.range c.in-Err.stop (c.in-Err.ensures {u = tt}).stopped reached
+pub or_by_parts-requires-clause-asked : goal.or_by_parts-requires-clause-asked
+or_by_parts-requires-clause-asked g c κs within =
+    record { shaped = c.requires.shaped; column = c.requires.column; tau_above = c.requires.tau_above; tau_below = c.requires.tau_below; crit = c.requires.crit; data_rows = c.requires.data }

@@ -1,7 +1,7 @@
 use Rattle.std.proofs.Common.{sym, ap, ◌∙◌}
 use Rattle.exact_algebra.specs.Fraction.{rational}
 use Rattle.exact_algebra.specs.Order.{cmp_ℚ}
-use Rattle.rank_inversion.proofs.Breaks.{stays_by}
+use Rattle.rank_inversion.proofs.EntrySigns.{stays_by}
 use Rattle.rank_inversion.proofs.station.direction_by.Goals as goal
 
 pub returns-then-is_eq : goal.returns-then-is_eq

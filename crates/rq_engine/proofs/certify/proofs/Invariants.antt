@@ -1,8 +1,12 @@
-use Rattle.std.proofs.Common.{◌≡◌, ◌++◌, map}
+use Rattle.std.proofs.Common.{◌≡◌, ◌++◌, All, Some, map}
 use Rattle.std.specs.Vec.Iter.{into_iter_items}
+use Rattle.rank_walk.specs.Intervals.{statement}
+use Rattle.rq_fit.specs.Intervals.{HasFactors}
 use Rattle.rq_engine.proofs.certify.proofs.Given as goal
 
--- what shows the intervals so far and those that are left shows all
+-- what is stated of the intervals so far and of those that are left is stated of all
 abbrev pub invariant-loop-interval : goal.invariant-loop-interval
-invariant-loop-interval g l =
-    l.proofs ++ map (λ interval. interval.proof) (into_iter_items l.interval-iterator) ≡ map (λ interval. interval.proof) l.fn.intervals
+invariant-loop-interval g l = record {
+  all_stated : map Some l.proofs ++ map statement (into_iter_items l.interval-iterator) ≡ map statement l.fn.intervals;
+  listed : All HasFactors (into_iter_items l.interval-iterator);
+}

@@ -58,3 +58,6 @@ returns-in-Ok-fit_of-clause-printable g c =
       ap length c.in-Ok-fit_of.ensures.scores ∙ each ∙ sym (ap (λ q. length q.segments) c.in-Ok-fit_of.ensures.process),
       omega (arith, under.data_rows, c.requires.rows.size, ap (λ p. length p.rows) under.problem_is),
     )
+
+pub returns-in-Ok-fit_of-clause-purpose : goal.returns-in-Ok-fit_of-clause-purpose
+returns-in-Ok-fit_of-clause-purpose g c = rw c.in-Ok-fit_of.ensures.intervals c.in-Ok-job_intervals.ensures.purpose

@@ -8,7 +8,7 @@ pub loop-at-preserved : goal.loop-at-preserved
 loop-at-preserved g c =
     let self = c.args.self.now in
     let n = self.problem.now.columns in
-    let starts = c.args.solves.now in
+    let starts = c.args.starts.now in
     let k = c.loop-at.at-index in
     let at = c.at-item.result in
     let before = asked_over self.crit n (map (λ s. s.tau) (take k starts)) in

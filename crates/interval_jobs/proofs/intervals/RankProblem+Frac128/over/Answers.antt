@@ -1,10 +1,10 @@
 use Rattle.std.proofs.Common.{map, subst}
 use Rattle.loss_model.specs.declared.stop.Stop.TheVariants as stops
 use Rattle.rank_inversion.specs.Jobs.{range, value}
-use Rattle.interval_jobs.specs.Answers.{IsIntervalAnswer, IsSolveAnswer}
+use Rattle.interval_jobs.specs.Answers.{IsIntervalAnswer}
 use Rattle.interval_jobs.specs.Intervals.{asked_over}
 use Rattle.interval_jobs.specs.Until.{AreAnswered}
-use Rattle.interval_jobs.proofs.Ends.{first_first, interval_first, none_stops, solve_first, starts_there}
+use Rattle.interval_jobs.proofs.Ends.{all_made, all_starts, first_first, interval_first, none_stops}
 use Rattle.interval_jobs.proofs.intervals.RankProblem+Frac128.over.Goals as goal
 
 pub returns-in-Err-clause-stopped : goal.returns-in-Err-clause-stopped
@@ -15,7 +15,7 @@ returns-in-Err-clause-stopped g c =
 
 pub intervals-requires-clause-starts : goal.intervals-requires-clause-starts
 intervals-requires-clause-starts g c κs within =
-    rw c.as_slice.ensures.value (starts_there value range c.args.self.now c.args.taus.now c.in-Ok.solves.done.items c.in-Ok.solves.stop (c.in-Ok.ensures {u = tt}))
+    rw c.as_slice.ensures.value (all_starts value range c.args.self.now c.args.taus.now c.in-Ok.starts.items (c.in-Ok.ensures {u = tt}))
 
 pub returns-in-Err-intervals-clause-stopped : goal.returns-in-Err-intervals-clause-stopped
 returns-in-Err-intervals-clause-stopped g c =
@@ -27,29 +27,28 @@ returns-in-Err-intervals-clause-stopped g c =
 pub returns-in-Some-clause-stopped : goal.returns-in-Some-clause-stopped
 returns-in-Some-clause-stopped g c =
     let self = c.args.self.now in
-    let starts = c.in-Ok.solves.done.items in
+    let starts = c.in-Ok.starts.items in
     let made = c.in-Ok-intervals.intervals.done.items in
     let asked = asked_over self.crit self.problem.now.columns (map (λ at. at.tau) starts) in
-    interval_first value range self c.args.taus.now starts c.in-Ok.solves.stop made c.in-Some.stop (c.in-Ok.ensures {u = tt})
+    interval_first value range self c.args.taus.now starts (c.in-Ok.ensures {u = tt}) made c.in-Some.stop
     (subst (AreAnswered (IsIntervalAnswer value range self) asked made) c.in-Some.is (rw c.as_slice.ensures.value at (c.in-Ok-intervals.ensures {u = tt})))
-
-pub returns-in-Some-solve_stop-clause-stopped : goal.returns-in-Some-solve_stop-clause-stopped
-returns-in-Some-solve_stop-clause-stopped g c =
-    let self = c.args.self.now in
-    let starts = c.in-Ok.solves.done.items in
-    let made = c.in-Ok-intervals.intervals.done.items in
-    let asked = asked_over self.crit self.problem.now.columns (map (λ at. at.tau) starts) in
-    solve_first value range self c.args.taus.now starts c.in-Some-solve_stop.stop made c.requires.ready.rankable.shaped.some
-    (subst (AreAnswered (IsSolveAnswer value range self) c.args.taus.now starts) c.in-Some-solve_stop.is (c.in-Ok.ensures {u = tt}))
-    (subst (AreAnswered (IsIntervalAnswer value range self) asked made) c.in_default.is (rw c.as_slice.ensures.value at (c.in-Ok-intervals.ensures {u = tt})))
 
 pub returns-clause-right : goal.returns-clause-right
 returns-clause-right g c =
     let self = c.args.self.now in
-    let starts = c.in-Ok.solves.done.items in
+    let starts = c.in-Ok.starts.items in
     let made = c.in-Ok-intervals.intervals.done.items in
     let asked = asked_over self.crit self.problem.now.columns (map (λ at. at.tau) starts) in
     rw c.from.ensures
-    (none_stops value range self c.args.taus.now starts made
-    (subst (AreAnswered (IsSolveAnswer value range self) c.args.taus.now starts) c.in_default-solve_stop.is (c.in-Ok.ensures {u = tt}))
+    (none_stops value range self c.args.taus.now starts (c.in-Ok.ensures {u = tt}) made
+    (subst (AreAnswered (IsIntervalAnswer value range self) asked made) c.in_default.is (rw c.as_slice.ensures.value at (c.in-Ok-intervals.ensures {u = tt}))))
+
+pub returns-clause-purpose : goal.returns-clause-purpose
+returns-clause-purpose g c =
+    let self = c.args.self.now in
+    let starts = c.in-Ok.starts.items in
+    let made = c.in-Ok-intervals.intervals.done.items in
+    let asked = asked_over self.crit self.problem.now.columns (map (λ at. at.tau) starts) in
+    rw c.from.ensures
+    (all_made value range self c.args.taus.now starts (c.in-Ok.ensures {u = tt}) made
     (subst (AreAnswered (IsIntervalAnswer value range self) asked made) c.in_default.is (rw c.as_slice.ensures.value at (c.in-Ok-intervals.ensures {u = tt}))))

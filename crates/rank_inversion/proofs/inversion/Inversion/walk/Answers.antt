@@ -1,4 +1,4 @@
-use Rattle.rank_inversion.proofs.Inverted.{asked_costs}
+use Rattle.rank_inversion.proofs.Joined.{asked_costs}
 use Rattle.rank_inversion.proofs.inversion.Inversion.walk.Goals as goal
 
 pub solved_basis-requires-after_bounds : goal.solved_basis-requires-after_bounds

@@ -1,7 +1,7 @@
 use Rattle.std.proofs.Common.{subst}
 use Rattle.exact_algebra.specs.Fraction.{rational}
 use Rattle.rank_walk.specs.Crossings.{IsMoving}
-use Rattle.rank_inversion.specs.Courses.{way_of}
+use Rattle.rank_steps.specs.Ways.{way_of}
 use Rattle.rank_inversion.proofs.StationLaws.{crossing_none, crossing_some}
 use Rattle.rank_inversion.proofs.station.Station.crossing.Goals as goal
 

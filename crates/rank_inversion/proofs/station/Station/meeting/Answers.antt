@@ -2,9 +2,10 @@ use Rattle.std.proofs.Common.{refl, sym, ap, ◌∙◌}
 use Rattle.std.proofs.lemmas.Result.{err_from_is_err_and}
 use Rattle.exact_algebra.specs.Fraction.{rational}
 use Rattle.rank_walk.specs.Crossings.{bound_towards}
-use Rattle.rank_inversion.specs.Courses.{way_of, tau_of}
+use Rattle.rank_steps.specs.Ways.{way_of}
+use Rattle.rank_inversion.specs.Courses.{tau_of}
 use Rattle.rank_inversion.specs.Stations.{sample_at, entries_at}
-use Rattle.rank_inversion.proofs.Breaks.{moving_some}
+use Rattle.rank_steps.proofs.Directions.{moving_some}
 use Rattle.rank_inversion.proofs.StationLaws.{dual_read, meeting_is, gap_spill, quotient_spill}
 use Rattle.rank_inversion.proofs.station.Station.meeting.Goals as goal
 

@@ -1,7 +1,7 @@
 use Rattle.std.specs.Prelude.{◌≡◌, ℕ, ◌<◌, length}
 use Rattle.loss_model.specs.Problem.{value_at}
 use Rattle.rank_walk.specs.RankWalks.{ray}
-use Rattle.rank_inversion.specs.Courses.{way_of}
+use Rattle.rank_steps.specs.Ways.{way_of}
 use Rattle.rank_inversion.specs.Stations.{entries_at}
 use Rattle.rank_inversion.proofs.station.Station.ray.Given as goal
 

@@ -1,0 +1,19 @@
+-- A product more is added, and a product less is left.
+use Rattle.std.proofs.Common.{◌≡◌, ◌+ℤ◌, ◌*ℤ◌, pos, get_or, arith, rules, sym, ap, ◌∙◌}
+use Rattle.std.proofs.lemmas.Int.{ints}
+use Rattle.wide_int.proofs.Totals.{total-past}
+use Rattle.gram_check.proofs.Products.{one_product}
+use Rattle.gram_check.proofs.equations.sum_of_products.Goals as goal
+
+pub loop-i-preserved : goal.loop-i-preserved
+loop-i-preserved c =
+    let a = c.args.row.now in
+    let b = c.args.numerators.now in
+    let i = c.loop-i.i in
+    let made : c.in_ok-sum.sum ≡ c.loop-i.sum +ℤ get_or a i (pos 0) *ℤ c.index-numerators-i.result = search rules in
+    one_product a b i c.loop-i.sum c.index-numerators-i.result c.in_ok-sum.sum c.loop-i-test.true (omega (arith, c.loop-i-test.true, c.requires)) c.loop-i.invariant c.index-numerators-i.is made
+
+pub returns : goal.returns
+returns c =
+    let none = total-past c.loop-i.i c.args.row.now c.args.numerators.now c.loop-i-test.false in
+    sym (c.loop-i.invariant ∙ ap (λ t. c.loop-i.sum +ℤ t) none ∙ omega (arith, ints))

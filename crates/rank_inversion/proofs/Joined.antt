@@ -1,0 +1,114 @@
+-- The interval of a solve and of both walks from it.
+use Rattle.std.specs.Prelude.{◌≡◌, ◌⊎◌, ◌+◌, ◌≤◌, ℕ, List, [], length, Option, IfSome, pos}
+use Rattle.std.proofs.Common.{refl, inr}
+use Rattle.exact_algebra.specs.Fraction.{Fraction, rational}
+use Rattle.exact_algebra.specs.Rational.{ℚ, whole, ◌≤ℚ◌}
+use Rattle.exact_algebra.proofs.OrderLaws.{le_from_not}
+use Rattle.loss_model.specs.declared.interval.End.{End}
+use Rattle.loss_model.specs.declared.interval.Interval.{Interval}
+use Rattle.loss_model.specs.declared.problem.Problem.{Problem}
+use Rattle.loss_model.specs.declared.process.Exchange.{Exchange}
+use Rattle.loss_model.specs.declared.process.Trail.{Trail}
+use Rattle.loss_model.specs.Problem.{value_at, sample}
+use Rattle.loss_model.specs.Sample.{Sample}
+use Rattle.loss_model.specs.Strict.{◌<ℚ◌}
+use Rattle.pivot_rule.specs.Duals.{HasCosts}
+use Rattle.pivot_rule.specs.Trails.{IsOptimalBasis, IsSolvingTrail}
+use Rattle.walk_rule.specs.WalkTrails.{AreWalkingSteps, IsIntervalTrail, HasRisen, is_within}
+use Rattle.rank_law.specs.Restricted.{IsProjection, squared_length}
+use Rattle.rank_walk.specs.Intervals.{IsIntervalOf, IsAsked, IsWalked, bound_by, when_on}
+use Rattle.rank_walk.specs.RankWalks.{Way, rise, fall, tested}
+use Rattle.rank_walk.proofs.Intervals.{passes}
+use Rattle.rank_inversion.specs.declared.column_test.Asked.{Asked}
+use Rattle.rank_inversion.specs.Intervals.{IsRankInterval}
+use Rattle.rank_inversion.specs.Inversions.{IsAskable}
+use Rattle.rank_inversion.specs.Trails.{with_walks}
+use Rattle.rank_inversion.proofs.Costs.{data_costs}
+use Rattle.rank_inversion.proofs.NoStep.{walk_is_ended}
+
+pub at_most : (x y : ℚ) → x <ℚ y → x ≤ℚ y
+at_most x y h = le_from_not x y h
+
+pub asked_costs : {F : Type 0} (value : F → Fraction) (p : Problem F) (asked : Asked F) → IsAskable value p asked → HasCosts (sample value p) (rational (value asked.tau))
+asked_costs value p asked h =
+    data_costs (sample value p) (rational (value asked.tau)) (at_most (whole (pos 0)) (rational (value asked.tau)) h.tau_above) (at_most (rational (value asked.tau)) (whole (pos 1)) h.tau_below) h.data_rows
+
+module _ {F : Type 0} (value : F → Fraction) (p : Problem F) (asked : Asked F) (askable : IsAskable value p asked) (solve : Trail F) (solved : List ℕ) where
+  abbrev q : Sample
+  q = sample value p
+
+  abbrev tau : ℚ
+  tau = rational (value asked.tau)
+
+  abbrev j : ℕ
+  j = asked.column
+
+  abbrev AreSteps : Way → ℚ → List (Exchange F) → Type 0
+  AreSteps way bound steps = AreWalkingSteps (when_on way value) (tested way q tau j) (is_within bound) (whole (pos 0)) solved steps
+
+  -- the trail of the interval is lawful
+  pub lawful_walks : IsSolvingTrail value q tau solve solved → IsOptimalBasis q tau solved → (bound : ℚ) (up down : List (Exchange F)) → AreSteps rise bound up → AreSteps fall bound down
+      → (down ≡ []) ⊎ HasRisen value q tau j bound (with_walks solve up down) solved → IsIntervalTrail value q tau j bound (with_walks solve up down) solved
+  lawful_walks lawful optimal bound up down rose fell order =
+      record {
+        first = lawful.first;
+        begins = lawful.begins;
+        greedy = lawful.greedy;
+        solved = lawful.lawful;
+        leads = lawful.leads;
+        optimal = optimal;
+        rose = rose;
+        fell = fell;
+        order = order;
+      }
+
+  -- where the rising walk has its end, it has risen
+  pub walked_is_risen : (bound : ℚ) (up down : List (Exchange F)) (high : End F) → IsWalked value p rise j tau bound solved up high → HasRisen value q tau j bound (with_walks solve up down) solved
+  walked_is_risen bound up down high h = walk_is_ended value p j tau bound askable.column rise solved up high h
+
+  module _ (listed : Option (List F)) (c : ℕ → ℚ) (up down : List (Exchange F)) (high low : End F) where
+    abbrev made : Interval F
+    made = record { column = j; tau = asked.tau; crit = asked.crit; low = low; high = high; projection = listed; trail = with_walks solve up down }
+
+    abbrev bound : ℚ
+    bound = bound_by value p made c
+
+    module _ (lawful : IsSolvingTrail value q tau solve solved) (optimal : IsOptimalBasis q tau solved)
+        (projection : IsProjection q j c) (positive : whole (pos 0) <ℚ squared_length q j c)
+        (same : IfSome listed (λ list. value_at value list ≡ c)) (size : IfSome listed (λ list. length list ≡ p.columns))
+        (rose : AreSteps rise bound up) (fell : AreSteps fall bound down) (high_end : IsWalked value p rise j tau bound solved up high) (low_end : IsWalked value p fall j tau bound solved down low) where
+      of : IsIntervalOf value p made
+      of =
+          record {
+            factors = c;
+            listed = same;
+            right = record {
+              solved = solved;
+              projection = projection;
+              lawful = lawful_walks lawful optimal bound up down rose fell (inr (walked_is_risen bound up down high high_end));
+              high = high_end;
+              low = low_end;
+            };
+          }
+
+      is_asked : IsAsked value p made
+      is_asked =
+          record {
+            column = askable.column;
+            costs = asked_costs value p asked askable;
+            tau_above = at_most (whole (pos 0)) tau askable.tau_above;
+            tau_below = at_most tau (whole (pos 1)) askable.tau_below;
+            crit = askable.crit;
+          }
+
+      pub interval_is : (limit : ℕ) → length solve.steps + length up + length down ≤ limit → IsRankInterval value p j asked.tau asked.crit limit made
+      interval_is limit short =
+          record {
+            column = refl;
+            tau = refl;
+            crit = refl;
+            lawful = of;
+            conditions = passes value p made askable.data_rows askable.tau_above askable.tau_below is_asked of positive;
+            size = size;
+            short = short;
+          }

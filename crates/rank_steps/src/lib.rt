@@ -1,0 +1,19 @@
+//! What is left to do at a basis of rows in whole numbers on a walk of a tested value: where the next breakpoint is.
+//!
+//! The one contract for the layers above: `first_crossing` gives the first crossing of all positions, as it is defined in ℚ for
+//! the problem in whole numbers, or refuses. What a dual value misses to its bound is a number over the determinant and the
+//! quantile's second part, and its speed is a numerator of the inverse, so a crossing is a quotient of two whole numbers from
+//! which the determinant has gone; crossings are compared by cross products. It stands on `whole_descent` for what stands at
+//! the basis, and on `rank_walk` for the walks.
+#![tactic(auto)]
+
+mod crossings;
+mod entering;
+mod entries;
+mod levels;
+mod sooner;
+mod way;
+
+pub use crossings::{WholeCourse, first_crossing};
+pub use entering::entering_row;
+pub use way::{Way, direction_of};

@@ -1,0 +1,54 @@
+-- Inner. What a walk in whole numbers hands out at its end.
+use Rattle.std.specs.Prelude.{◌≡◌, ℕ, ◌<◌, ◌*ℤ◌, List, length}
+use Rattle.exact_algebra.specs.Fraction.{Fraction, rational}
+use Rattle.exact_algebra.specs.Rational.{ℚ, ◌+ℚ◌, ◌*ℚ◌}
+use Rattle.loss_model.specs.declared.interval.End.{End}
+use Rattle.loss_model.specs.Problem.{value_at}
+use Rattle.basis_model.specs.Basis.{dual_value}
+use Rattle.rank_walk.specs.Ends.{IsEndAt}
+use Rattle.tableau_model.specs.Places.{Place, at_of, sample_of}
+use Rattle.whole_rows.specs.declared.factor.Factor.{Factor}
+use Rattle.whole_rows.specs.Wholes.{factor_value}
+use Rattle.whole_descent.specs.declared.quantile.Quantile.{Quantile}
+use Rattle.whole_tableau.specs.declared.reading.Reading.{Reading}
+use Rattle.whole_tableau.specs.Kept.{Kept}
+use Rattle.rank_steps.specs.Ways.{way_of}
+use Rattle.rank_tableau.specs.declared.course.Course.{Course}
+use Rattle.rank_tableau.specs.declared.finding.Finding.TheVariants.{Step as Stepped}
+use Rattle.rank_tableau.specs.declared.outcome.Next.{Next}
+use Rattle.rank_tableau.specs.declared.outcome.Next.TheVariants.{Step, End as Ended}
+use Rattle.rank_tableau.specs.Founds.{parameter_at, IsFound}
+
+-- numbers over the determinant and the quantile's second part, affine in what the column weighs for the whole rows, are read
+-- there and divided by the factor of the costs
+pub record IsWeighing {F : Type 0} (value : F → Fraction) (k : Kept F) (q : Quantile) (f : Factor) (weight : F) (r : Reading F) : Type 0 where
+  pub theta : rational (value r.theta) ≡ (rational (value weight) *ℚ factor_value k.setting.wholes.cost) *ℚ factor_value f
+  pub denominator : r.denominator ≡ k.square.determinant *ℤ q.under
+  pub factor : rational (value r.factor) ≡ factor_value k.setting.wholes.cost
+
+module _ {F : Type 0} (value : F → Fraction) (h : Place F) (c : Course F) where
+  -- the dual value at position j, where the column weighs so much
+  abbrev pub weighed_value : F → ℕ → ℚ
+  weighed_value weight j =
+      dual_value (sample_of value h) (at_of h) h.inverse (rational (value c.tau)) j +ℚ (h.inverse c.column j *ℚ rational (value weight))
+
+  -- the list has these by position
+  pub record AreWeighed (weight : F) (list : List F) : Type 0 where
+    pub size : length list ≡ h.task.problem.columns
+    pub each : (j : ℕ) → j < h.task.problem.columns → value_at value list j ≡ weighed_value weight j
+
+  -- the end of the walk there
+  abbrev pub IsEndOf : ℚ → F → End F → Type 0
+  IsEndOf bound from end = IsEndAt value h.task.problem (way_of c.way) c.column (rational (value c.tau)) bound h.rows h.inverse (parameter_at value c from) end
+
+  -- x is the dual value of row i of the basis there
+  pub record IsValueOfRow (weight : F) (i : ℕ) (x : ℚ) : Type 0 where
+    pub position : ℕ
+    pub within : position < h.task.problem.columns
+    pub holds : at_of h position ≡ i
+    pub same : x ≡ weighed_value weight position
+
+  -- the walking step, or the end
+  abbrev pub IsNext : ℚ → F → Next F → Type 0
+  IsNext bound from (Step x) = IsFound value h c bound from (Stepped x)
+  IsNext bound from (Ended end) = IsEndOf bound from end

@@ -1,0 +1,97 @@
+//! The dual values where the column weighs so much, as fractions.
+ghost use Rattle.std.specs.Prelude.{◌≡◌, ◌<◌, IfOk};
+ghost use Rattle.exact_algebra.specs.Fraction.{rational};
+ghost use Rattle.exact_algebra.specs.Rational.{◌*ℚ◌};
+ghost use Rattle.whole_rows.specs.Wholes.{factor_at, factor_value, IsPositive};
+ghost use Rattle.whole_descent.specs.Quantiles.{IsQuantile, theta_of};
+ghost use Rattle.whole_tableau.specs.Kept.{IsKept, place};
+ghost use Rattle.rank_tableau.specs.Ends.{IsWeighing, weighed_value, AreWeighed};
+
+use crate::course::Course;
+use crate::numbers::{dual_number, scale_number, speed_number};
+use frac_core::{Exact, List};
+use whole_descent::Quantile;
+use whole_fractions::value_over;
+use whole_inverse::Obstacle;
+use whole_rows::Factor;
+use whole_tableau::{Reading, WholeTableau};
+use wide_int::Wide;
+
+/// The product of two fractions.
+pub(crate) fn product<F: Exact>(a: F, b: F) -> Result<F, Obstacle>
+    ensures { IfOk result (λ r. rational (F.value r) ≡ rational (F.value a) *ℚ rational (F.value b)) }
+{
+    match a.try_mul(b) {
+        Ok(product) => Ok(product),
+        Err(_) => Err(Obstacle::TooWide),
+    }
+}
+
+/// How the dual values where the column weighs so much are read from their numbers.
+fn weighing<F: Exact>(
+    tableau: &WholeTableau<'_, F>,
+    theta: Quantile,
+    factor: Factor,
+    weight: F,
+) -> Result<Reading<F>, Obstacle>
+    requires positive { IsPositive factor }
+    ensures { IfOk result (IsWeighing F.value tableau.now theta factor weight) }
+{
+    let cost = tableau.setting().wholes.cost;
+    let costs: F = value_over(cost.over, cost.under)?;
+    let column: F = value_over(factor.over, factor.under)?;
+    let first = product(weight, costs)?;
+    let whole = product(first, column)?;
+    let denominator = scale_number(tableau, theta)?;
+    Ok(Reading {
+        theta: whole,
+        denominator,
+        factor: costs,
+    })
+}
+
+/// The dual value at a position, where the column weighs so much.
+fn weighed<F: Exact>(
+    tableau: &WholeTableau<'_, F>,
+    course: &Course<F>,
+    factor: Factor,
+    weight: F,
+    position: u32,
+) -> Result<F, Obstacle>
+    requires kept { IsKept F.value tableau.now }
+    requires column { course.now.column < tableau.now.problem.columns }
+    requires position { position < tableau.now.problem.columns }
+    requires factor { factor_value factor ≡ factor_at tableau.now.setting.wholes.factors course.now.column }
+    requires positive { IsPositive factor }
+    ensures { IfOk result (λ e. rational (F.value e) ≡ weighed_value F.value (place F.value tableau.now) course.now weight position) }
+{
+    let theta = Quantile::of(course.tau)?;
+    let reading = weighing(tableau, theta, factor, weight)?;
+    let dual = dual_number(tableau, theta, position)?;
+    let speed = speed_number(tableau, course.column, theta, position)?;
+    let constant = Wide::of(dual);
+    let linear = Wide::of(speed);
+    let value = reading.value(constant, linear)?;
+    Ok(value)
+}
+
+/// The dual values by position, where the column weighs so much.
+pub(crate) fn weighed_values<F: Exact>(
+    tableau: &WholeTableau<'_, F>,
+    course: &Course<F>,
+    factor: Factor,
+    weight: F,
+) -> Result<List<F>, Obstacle>
+    requires kept { IsKept F.value tableau.now }
+    requires column { course.now.column < tableau.now.problem.columns }
+    requires factor { factor_value factor ≡ factor_at tableau.now.setting.wholes.factors course.now.column }
+    requires positive { IsPositive factor }
+    ensures { IfOk result (AreWeighed F.value (place F.value tableau.now) course.now weight) }
+{
+    let mut made = List::new(tableau.alloc());
+    for position in 0..tableau.problem().columns {
+        let value = weighed(tableau, course, factor, weight, position)?;
+        made.add(value)?;
+    }
+    Ok(made)
+}

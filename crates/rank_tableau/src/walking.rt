@@ -1,0 +1,135 @@
+//! A walk of a tested value in whole numbers, from the solved basis to its end.
+ghost use Rattle.std.specs.Prelude.{◌<◌, ◌≤◌, ◌≡◌, ℕ, length, slice_index, IfOk, OnOk};
+ghost use Rattle.exact_algebra.specs.Fraction.{rational};
+ghost use Rattle.loss_model.specs.Problem.{sample};
+ghost use Rattle.pivot_rule.specs.Duals.{HasCosts};
+ghost use Rattle.pivot_rule.specs.Steps.{HasNoNegativeSlope};
+ghost use Rattle.walk_rule.specs.Families.{IsOptimalIn};
+ghost use Rattle.whole_tableau.specs.Kept.{IsKept, place};
+ghost use Rattle.rank_tableau.specs.Founds.{family_of, parameter_at, bound_by};
+ghost use Rattle.rank_tableau.specs.Walks.{here_of, IsStepAt, IsAdvanced, IsAdvancedOrEnded, IsEnded};
+
+use crate::course::Course;
+use crate::outcome::{Next, left_at};
+use crate::reach::Square;
+use frac_core::{Exact, List};
+use loss_model::{End, Exchange};
+use tableau_model::Step;
+use whole_inverse::Obstacle;
+use whole_tableau::WholeTableau;
+
+/// A walk in its midst: the basis at which it began, the one at which it stands, where that is another, the steps that led
+/// there, and what the column weighed where it entered the basis.
+#[derive(Drop)]
+struct Walk<'s, 'a, F: Exact> {
+    start: &'s WholeTableau<'a, F>,
+    own: Option<WholeTableau<'a, F>>,
+    steps: List<Exchange<F>>,
+    weight: F,
+}
+
+/// A walk at its end.
+#[derive(Drop)]
+pub struct Arrival<F> {
+    pub steps: List<Exchange<F>>,
+    pub end: End<F>,
+}
+
+impl<'s, 'a, F: Exact> Walk<'s, 'a, F> {
+    /// The basis at which it stands.
+    fn here(&self) -> &WholeTableau<'a, F>
+        ensures { result.now ≡ here_of self.now }
+    {
+        match &self.own {
+            Some(tableau) => tableau,
+            None => self.start,
+        }
+    }
+
+    /// Makes the walking step.
+    fn make_step(
+        &mut self,
+        course: &Course<F>,
+        reach: &Square,
+        step: Exchange<F>,
+    ) -> Result<(), Obstacle>
+        requires step { IsStepAt F.value (here_of self.old) course.now reach.now self.old.weight step }
+        ensures { OnOk result (IsAdvanced F.value course.now reach.now self.old self.new) }
+    {
+        let _course = course;
+        let _reach = reach;
+        let exchanged = Step {
+            position: step.position,
+            row: step.row,
+        };
+        match self.here().after(exchanged) {
+            Ok(tableau) => self.own = Some(tableau),
+            Err(obstacle) => return Err(obstacle),
+        }
+        match self.steps.push(step) {
+            Ok(()) => {}
+            Err(_) => return Err(Obstacle::OutOfMemory),
+        }
+        self.weight = step.theta;
+        Ok(())
+    }
+
+    /// Makes the walking step that is left, or gives the end.
+    fn advance(&mut self, course: &Course<F>, reach: &Square) -> Result<Option<End<F>>, Obstacle>
+        requires column { course.now.column < (here_of self.old).problem.columns }
+        requires reach { 1 ≤ reach.now.under }
+        requires optimal { IsOptimalIn (family_of F.value (sample F.value (here_of self.old).problem) course.now) (slice_index (here_of self.old).rows) (place F.value (here_of self.old)).inverse (parameter_at F.value course.now self.old.weight) }
+        ensures { IfOk result (IsAdvancedOrEnded F.value course.now reach.now self.old self.new) }
+    {
+        match left_at(self.here(), course, reach, self.weight) {
+            Ok(Next::Step(step)) => match self.make_step(course, reach, step) {
+                Ok(()) => Ok(None),
+                Err(obstacle) => Err(obstacle),
+            },
+            Ok(Next::End(end)) => Ok(Some(end)),
+            Err(obstacle) => Err(obstacle),
+        }
+    }
+}
+
+/// Walks from the solved basis to the end, within a limit of steps. It refuses too where that is reached.
+pub fn walk_to_end<F: Exact>(
+    start: &WholeTableau<'_, F>,
+    course: &Course<F>,
+    reach: &Square,
+    limit: u32,
+) -> Result<Arrival<F>, Obstacle>
+    requires kept { IsKept F.value start.now }
+    requires column { course.now.column < start.now.problem.columns }
+    requires reach { 1 ≤ reach.now.under }
+    requires costs { HasCosts (sample F.value start.now.problem) (rational (F.value course.now.tau)) }
+    requires stop { HasNoNegativeSlope (sample F.value start.now.problem) (slice_index start.now.rows) (place F.value start.now).inverse (rational (F.value course.now.tau)) }
+    ensures { IfOk result (IsEnded F.value start.now.problem course.now (bound_by start.now course.now.column reach.now) start.now.rows limit) }
+{
+    let mut walk = Walk {
+        start,
+        own: None,
+        steps: List::new(start.alloc()),
+        weight: F::zero(),
+    };
+    for _ in 0..limit {
+        match walk.advance(course, reach) {
+            Ok(None) => {}
+            Ok(Some(end)) => {
+                return Ok(Arrival {
+                    steps: walk.steps,
+                    end,
+                });
+            }
+            Err(obstacle) => return Err(obstacle),
+        }
+    }
+    match left_at(walk.here(), course, reach, walk.weight) {
+        Ok(Next::End(end)) => Ok(Arrival {
+            steps: walk.steps,
+            end,
+        }),
+        Ok(Next::Step(_)) => Err(Obstacle::TooWide),
+        Err(obstacle) => Err(obstacle),
+    }
+}
