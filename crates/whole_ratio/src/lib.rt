@@ -9,5 +9,6 @@ mod first;
 mod less;
 mod line;
 mod order;
+mod tie;
 
 pub use line::{Line, Mover};
