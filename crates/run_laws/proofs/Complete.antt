@@ -386,7 +386,6 @@ module _ (lawful : PathHasCosts) (words : List (List ℕ)) (source source' : Str
   limit_below places.Check fit problem limit trail h = absurd h
   limit_below (places.Predict rec) fit problem limit trail h = absurd h
   limit_below places.Full fit problem limit trail h = absurd h
-  limit_below places.Gram fit problem limit trail h = absurd h
   limit_below places.Path fit problem limit trail h = absurd h
 
   pub ample : (out out' err err' : Stream) (place : Place) (limit : ℕ) (trail : Trail Frac128)
@@ -407,7 +406,6 @@ module _ (lawful : PathHasCosts) (words : List (List ℕ)) (source source' : Str
   limited_rank places.Check fit problem limit trail h = absurd h
   limited_rank (places.Predict rec) fit problem limit trail h = absurd h
   limited_rank places.Full fit problem limit trail h = absurd h
-  limited_rank places.Gram fit problem limit trail h = absurd h
   limited_rank places.Path fit problem limit trail h = absurd h
 
   pub unfitted : (first : FitJob) (kind : Bool) → AskFit words first kind → (out out' err err' : Stream) (outcome : Outcome) → IsRun words source source' out out' err err' outcome

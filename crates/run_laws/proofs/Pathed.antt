@@ -105,7 +105,6 @@ module _ (words : List (List ℕ)) (first : PathJob) (asked : IsJobOf words (job
       no_stop job other read (places.Interval column tau) limit trail h = h.cause
       no_stop job other read places.Check limit trail h = h.cause
       no_stop job other read places.Full limit trail h = h.cause
-      no_stop job other read places.Gram limit trail h = h.cause
       no_stop job other read (places.Predict rec) limit trail h = h.cause
       no_stop job other read places.Path limit trail h = h.cause
 
@@ -115,7 +114,6 @@ module _ (words : List (List ℕ)) (first : PathJob) (asked : IsJobOf words (job
       no_spill job other read (places.Interval column tau) trail spill h = h.cause
       no_spill job other read places.Check trail spill h = h.cause
       no_spill job other read places.Full trail spill h = h.cause
-      no_spill job other read places.Gram trail spill h = h.cause
       no_spill job other read (places.Predict rec) trail spill h = h.cause
 
       no_path : (report : Report) → IsAnswered words source source' report → ⊥
