@@ -5,6 +5,16 @@
 //! quantile's second part, and its speed is a numerator of the inverse, so a crossing is a quotient of two whole numbers from
 //! which the determinant has gone; crossings are compared by cross products. It stands on `whole_descent` for what stands at
 //! the basis, and on `rank_walk` for the walks.
+//!
+//! `rank_tableau` calls both so:
+//! ```text
+//! match first_crossing(&station, whole, tableau.problem().columns) {
+//!     Ok(Some(next)) => { at_crossing(tableau, &station, course, reach, factor, next, from) }
+//!     Ok(None) => Err(Obstacle::TooWide),
+//!     Err(obstacle) => Err(obstacle),
+//! }
+//! match entering_row::<F>(station, tableau.alloc(), next.position, next.direction) {
+//! ```
 #![tactic(auto)]
 
 mod crossings;

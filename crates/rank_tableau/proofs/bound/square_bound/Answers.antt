@@ -1,4 +1,4 @@
-use Rattle.std.proofs.Common.{rules, ◌≡◌, ◌≤◌, ◌*◌, ◌+ℤ◌, neg_ℤ, pos, unsigned_abs, subst, sym, ap, ◌∙◌}
+use Rattle.std.proofs.Common.{rules, ◌≡◌, ◌≤◌, ◌*◌, ◌+ℤ◌, neg_ℤ, pos, unsigned_abs, subst, sym, ◌∙◌}
 use Rattle.rank_tableau.proofs.Bounds.{same_natural, bound_parts, natural_is, under_some}
 use Rattle.rank_tableau.proofs.bound.square_bound.Goals as goal
 
