@@ -102,6 +102,7 @@ module _ {F : Type 0} (value : F → Fraction) (p : Problem F) (asked : Asked F)
           }
 
       pub interval_is : (limit : ℕ) → length solve.steps + length up + length down ≤ limit → IsRankInterval value p j asked.tau asked.crit limit made
+      unfolding of
       interval_is limit short =
           record {
             column = refl;
