@@ -6,6 +6,15 @@
 //! and the inner product of two lists stand beside it, since scores of columns are made of them. The crate stands on
 //! `ratio`, on the Gram matrix of `rank_law` and on the weighted entries of `gram_matrix`.
 //! Its tests stand in the crate `derived_tests`.
+//!
+//! `nested_test` calls it so:
+//! ```text
+//! let inverse = GramInverse::new(alloc, full)?;
+//! let factor = inverse.entry(tested[j], tested[m]);
+//!
+//! let weighted = weighted_column(alloc, full, column)?;
+//! let score = inner_product(alloc, weighted.as_slice(), wilcoxon)?;
+//! ```
 #![tactic(auto)]
 
 mod columns;

@@ -16,7 +16,7 @@
 //!
 //! let found = match nested(alloc, full, tested, wilcoxon.as_slice()) {
 //!     Ok(found) => found,
-//!     Err(stop) => return Err(nested_halt(stop)),
+//!     Err(OutOfMemory) => return Err(Halt::OutOfMemory),
 //! };
 //! ```
 #![tactic(auto)]
