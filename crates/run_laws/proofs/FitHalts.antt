@@ -250,7 +250,7 @@ module _ (words : List (List ℕ)) (source source' : Stream) where
           by (inl h) = at place h
           by (inr h) = at_rows place h
 
-      Spilled : Place → Trail Frac128 → Spill Frac128 → Type 0
+      abbrev Spilled : Place → Trail Frac128 → Spill Frac128 → Type 0
       Spilled place trail spill = IsFitHalt (halts.Overflow place trail spill) ⊎ IsPredictHalt (halts.Overflow place trail spill)
 
       in_start : (place : Place) (trail : Trail Frac128) (spill : Spill Frac128) → Spilled place trail spill → IsDependentOutcome words source source' (Overflow place trail spill)
