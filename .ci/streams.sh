@@ -110,6 +110,35 @@ status=${PIPESTATUS[0]}
 : > "$room/out"
 compare "a reader that leaves" 4 "$status" $'quantreg: sink: SinkFault\n' "$nothing"
 
+# A design of 128 columns, the most, and one of 129: a factor of so many levels.
+levels() { awk -v n="$1" 'BEGIN { print "y,f"; for (i = 1; i <= n; i++) print i ",l" i }' > "$room/levels"; }
+levels 128
+"$program" process --formula "y ~ f" --lo 1/2 --hi 1/2 < "$room/levels" > "$room/out" 2> "$room/err"
+[ $? -eq 0 ] || wrong "a design of 128 columns" "$(cat "$room/err")"
+[ "$(grep -c '^column ' "$room/out")" -eq 128 ] || wrong "a design of 128 columns" "it has another number of columns"
+levels 129
+try "a design of 129 columns" 1 $'quantreg: design: TooManyColumns\n' "$nothing" "$room/levels" process --formula "y ~ f" --lo 1/2 --hi 1/2
+
+# A certificate that is longer than 2^26 bytes, of a table that isn't: each of 114 columns has one record with 1 there and the response 0,
+# and 16,270 records have 33 ones in each column, half of them the response 1 and half -1. So the median has the coefficients 0 and the
+# dual values 0, and loses 16,270 halves. The length is that of the text by its format.
+ones=111111111111111111111111111111111
+awk -v ones=$ones 'BEGIN {
+  n = 114; printf "y"; for (j = 1; j <= n; j++) printf ",x%d", j; print ""
+  for (i = 1; i <= n; i++) { printf "0"; for (j = 1; j <= n; j++) printf ",%d", i == j; print "" }
+  for (j = 1; j <= n; j++) full = full "," ones
+  for (i = 1; i <= 8135; i++) { print "1" full; print "-1" full }
+}' > "$room/wide"
+awk -v ones=$ones 'function list(x, n,  t, j) { for (j = 1; j <= n; j++) t = t (j > 1 ? "," : "") "\"" x "\""; return "[" t "]" }
+function row(x, y) { return "{\"down0\":\"1\",\"down1\":\"-1\",\"up0\":\"0\",\"up1\":\"1\",\"x\":" x ",\"y\":\"" y "\"}" }
+BEGIN {
+  n = 114; zeros = list("0", n); full = list(ones, n)
+  head = "{\"columns\":114,\"hi\":\"1/2\",\"intervals\":[],\"kind\":\"quantreg-certificate\",\"lo\":\"1/2\",\"rows\":["
+  tail = "],\"segments\":[{\"basic_hi\":" zeros ",\"basic_lo\":" zeros ",\"coef\":" zeros ",\"hi\":\"1/2\",\"lo\":\"1/2\",\"loss_hi\":\"8135\",\"loss_lo\":\"8135\",\"sides\":\"\"}],\"version\":2}\n"
+  print length(head) + length(tail) + 114 * length(row(zeros, "0")) + 8135 * (length(row(full, "1")) + length(row(full, "-1"))) + 2 * 16384 - 1
+}' > "$room/length"
+try "a certificate that is too long" 1 "quantreg: certificate: CertTooLong length=$(cat "$room/length")"$'\n' "$nothing" "$room/wide" certify --formula "y ~ 0 + ." --lo 1/2 --hi 1/2
+
 # The deepest formula and the deepest text that are read, with a stack of 256 KiB.
 deep=$(printf '%64s' '' | tr ' ' '(')x$(printf '%64s' '' | tr ' ' ')')
 "$program" process --formula "y ~ x" --lo 1/2 --hi 1/2 < "$room/two" > "$room/shallow" 2> "$room/err"
@@ -119,15 +148,60 @@ compare "64 parentheses on a small stack" 0 $? "" "$room/shallow"
 (ulimit -s 256 && exec "$program" check) < "$room/deep.json" > "$room/out" 2> "$room/err"
 compare "127 lists on a small stack" 1 $? $'quantreg: certificate: Shape path=\n' "$nothing"
 
-# No thread to be had: jobs run one after the other, and the report is the same.
+# A program that is stopped while it reads, and then goes on.
+mkfifo "$room/pipe"
+"$program" "${job[@]}" < "$room/pipe" > "$room/out" 2> "$room/err" &
+stopped=$!
+exec 9> "$room/pipe"
+head -c 100 "$table" >&9
+sleep 0.1
+kill -STOP "$stopped"
+sleep 0.1
+tail -c +101 "$table" >&9
+exec 9>&-
+kill -CONT "$stopped"
+wait "$stopped"
+compare "a program that is stopped and goes on" 0 $? "" "$report"
+
+# No thread to be had: jobs run one after the other, and reports, limits and rejections are the same. Each is of a job that has more than
+# one thread otherwise.
 intervals=("${job[@]}" --crit 2.7055 --rank-at 1/4,1/2)
 "$program" "${intervals[@]}" < "$table" > "$room/threads" 2> "$room/err"
+"$program" certify --formula "stack.loss ~ ." --lo 0 --hi 1 < "$table" > "$room/whole.json" 2> "$room/err"
+sed 's/"loss_hi":"[^"]*"/"loss_hi":"7"/2' "$room/whole.json" > "$room/bent.json"
+"$program" check < "$room/whole.json" > "$room/whole" 2> "$room/err"
+"$program" check < "$room/bent.json" > "$room/out" 2> "$room/bent"
+[ $? -eq 8 ] || wrong "a loss that is changed" "it isn't rejected"
+"$program" "${intervals[@]}" --pivots 6 < "$table" > "$room/out" 2> "$room/limit"
+[ $? -eq 6 ] || wrong "an interval with too few pivots" "it isn't stopped"
+
+# alone NAME STATUS LINE REPORT INPUT COMMAND WORD..: the program under a command that lets it have no thread
+alone() {
+  local name=$1 status=$2 line=$3 wanted=$4 input=$5
+  shift 5
+  "$@" < "$input" > "$room/out" 2> "$room/err"
+  compare "$name" "$status" $? "$line" "$wanted"
+}
+
 if [ "$(id -u)" -eq 0 ] && command -v setpriv > "$room/nothing.out" && command -v prlimit > "$room/nothing.out"; then
   chmod 755 "$room" && cp "$program" "$room/program" && chmod 755 "$room/program"
-  setpriv --reuid=65534 --regid=65534 --clear-groups prlimit --nproc=1 "$room/program" "${intervals[@]}" < "$table" > "$room/out" 2> "$room/err"
-  compare "no thread to be had" 0 $? "" "$room/threads"
+  single=(setpriv --reuid=65534 --regid=65534 --clear-groups prlimit --nproc=1 "$room/program")
+  alone "no thread to be had" 0 "" "$room/threads" "$table" "${single[@]}" "${intervals[@]}"
+  alone "an interval's limit without a thread" 6 "$(cat "$room/limit")"$'\n' "$nothing" "$table" "${single[@]}" "${intervals[@]}" --pivots 6
+  alone "a check without a thread" 0 "" "$room/whole" "$room/whole.json" "${single[@]}" check
+  alone "a rejection without a thread" 8 "$(cat "$room/bent")"$'\n' "$nothing" "$room/bent.json" "${single[@]}" check
 else
   echo "streams: no setpriv and prlimit as root, so a run without threads was not tried" >&2
 fi
+
+# An address space that is too small for a table of 16,384 records and 100 columns, and enough for small jobs, whose threads it leaves no
+# stacks: want of memory is told, and a report is whole.
+narrow() { (ulimit -v 65536 && exec "$program" "$@"); }
+narrow sample --number 1 --rows 16384 --columns 100 --lo 1/2 --hi 1/2 < "$nothing" > "$room/out" 2> "$room/err"
+compare "an address space that is too small" 5 $? $'quantreg: memory: OutOfMemory\n' "$nothing"
+narrow "${job[@]}" < "$table" > "$room/out" 2> "$room/err"
+compare "a small address space" 0 $? "" "$report"
+narrow "${intervals[@]}" < "$table" > "$room/out" 2> "$room/err"
+compare "threads without room for their stacks" 0 $? "" "$room/threads"
 
 exit "$failed"

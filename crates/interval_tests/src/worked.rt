@@ -2,7 +2,7 @@
 
 use crate::helpers::{Question, Ratio, Step, answered, expect, expect_steps, problem, ratio};
 use frac_core::{Exact, Frac64, Frac128};
-use loss_model::{Beyond, Bound, End, Interval, Side};
+use loss_model::{Beyond, Bound, End, Interval, Side, widen_interval};
 use slow_ranks::Data;
 use std::alloc::Global;
 use std::process::Abort;
@@ -251,6 +251,14 @@ fn expect_interval<F: Exact>(rt: &impl Abort, found: &Interval<F>, case: &Case) 
     expect_end(rt, &found.high, &case.high);
 }
 
+fn question_of(case: &Case) -> Question {
+    Question {
+        column: case.column,
+        tau: (1, 2),
+        crit: case.crit,
+    }
+}
+
 fn expect_case<F: Exact>(
     rt: &impl Abort,
     alloc: Global,
@@ -258,13 +266,19 @@ fn expect_case<F: Exact>(
     case: &Case,
 ) {
     let rows = problem::<F>(rt, alloc, columns, table);
-    let question = Question {
-        column: case.column,
-        tau: (1, 2),
-        crit: case.crit,
-    };
-    let found = answered(rt, alloc, &rows, question, 100);
+    let found = answered(rt, alloc, &rows, question_of(case), 100);
     expect_interval(rt, &found, case);
+    drop(found);
+    drop(rows);
+}
+
+// The interval is found in 64 bits, and has the same values in 128.
+fn expect_widened(rt: &impl Abort, alloc: Global, (columns, table): (u32, &[Data]), case: &Case) {
+    let rows = problem::<Frac64>(rt, alloc, columns, table);
+    let found = answered(rt, alloc, &rows, question_of(case), 100);
+    let widened = widen_interval(alloc, &found).ok().expect(rt, "memory");
+    expect_interval(rt, &widened, case);
+    drop(widened);
     drop(found);
     drop(rows);
 }
@@ -282,5 +296,15 @@ fn intervals_of_a_line(rt: HostRuntime) {
     for case in &OF_LINE {
         expect_case::<Frac128>(&rt, rt.alloc(), (2, LINE.as_slice()), case);
         expect_case::<Frac64>(&rt, rt.alloc(), (2, LINE.as_slice()), case);
+    }
+}
+
+#[test]
+fn widened_intervals_have_the_same_values(rt: HostRuntime) {
+    for case in &OF_FIVE {
+        expect_widened(&rt, rt.alloc(), (1, FIVE.as_slice()), case);
+    }
+    for case in &OF_LINE {
+        expect_widened(&rt, rt.alloc(), (2, LINE.as_slice()), case);
     }
 }

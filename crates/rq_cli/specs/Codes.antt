@@ -1,6 +1,6 @@
 -- Stated. Exit statuses.
-use Rattle.std.specs.Prelude.{◌≡◌, ℕ, List, Option, None}
-use Rattle.rq_cli.specs.Outcomes.{Stream, stream, IsRun}
+use Rattle.std.specs.Prelude.{◌≡◌, ℕ, List}
+use Rattle.rq_cli.specs.Outcomes.{Stream, IsRun}
 use Rattle.rq_cli.specs.declared.outcome.Outcome.{Outcome}
 use Rattle.rq_cli.specs.declared.outcome.Outcome.TheVariants.{Done, Refused, Usage, SourceFault, SinkFault, OutOfMemory, PivotLimit, Overflow, Rejected}
 
@@ -16,11 +16,8 @@ code_of (PivotLimit _ _ _) = 6
 code_of (Overflow _ _ _) = 7
 code_of (Rejected _) = 8
 
--- a run of the words over this input, and outputs that tell no bytes, ends with the status
-pub record IsStatus (words : List (List ℕ)) (input : Option (List ℕ)) (status : ℕ) : Type 0 where
+-- a run of the words that did this to its three streams ended with the status
+pub record IsStatus (words : List (List ℕ)) (source source' out out' err err' : Stream) (status : ℕ) : Type 0 where
   pub outcome : Outcome
-  pub source : Stream
-  pub out : Stream
-  pub err : Stream
-  pub ran : IsRun words (stream input 0) source (stream None 0) out (stream None 0) err outcome
+  pub ran : IsRun words source source' out out' err err' outcome
   pub code : status ≡ code_of outcome

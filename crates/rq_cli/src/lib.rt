@@ -6,9 +6,16 @@
 //! faults (`specs/Outcomes.antt`). It stands on `rq_engine` for reports and on `port_io` for streams.
 //! Its tests stand in the crate `run_tests`.
 //!
-//! `quantreg` calls it so, and a caller that has the words and the streams itself calls `run`:
+//! `program` and `status` hand a run on to `main` as its exit status. `quantreg` calls them so, and a caller that has the
+//! words and the streams itself calls `run`:
 //! ```text
-//! ExitCode::from(program(&rt, rt.stdin(), rt.stdout(), rt.stderr()))
+//! let Some(words) = arguments(&rt) else {
+//!     return ExitCode::from(Outcome::OutOfMemory.code());
+//! };
+//! let mut input = StdSource::new(rt.stdin());
+//! let mut output = StdSink::new(rt.stdout());
+//! let mut errors = StdSink::new(rt.stderr());
+//! let status = program(&rt, rt.alloc(), &words, &mut input, &mut output, &mut errors);
 //!
 //! let outcome = run(rt, alloc, words, source, out, err, gate);
 //! ```
@@ -20,5 +27,5 @@ mod top;
 mod trouble;
 
 pub use outcome::Outcome;
-pub use system::{program, status};
+pub use system::{arguments, program, status};
 pub use top::run;

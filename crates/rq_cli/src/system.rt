@@ -1,63 +1,67 @@
 //! What stands between `main` and the top call: the words of the system, the three streams, and the
 //! exit status.
-ghost use Rattle.std.specs.Prelude.{◌≡◌, ◌⊎◌, ℕ, List, map, string_bytes};
+ghost use Rattle.std.specs.Prelude.{◌≡◌, List, ℕ, None, drop, map, string_bytes};
 ghost use Rattle.rq_cli.specs.Codes.{IsStatus};
+ghost use Rattle.rq_cli.specs.Outcomes.{stream, AskSource};
 
-use crate::outcome::Outcome;
 use crate::top::run;
-use port_io::{StdSink, StdSource};
+use port_io::{Sink, Source, StdSink, StdSource};
 use rq_fan::Open;
-use std::alloc::{Alloc, AllocError, Global};
+use std::alloc::{Alloc, Global};
 use std::env;
 use std::env::Env;
-use std::io::{Read, Write};
+use std::io::{Stderr, Stdin, Stdout};
 use std::thread::Threads;
 
-/// All of the program but the handing over of streams: the exit status of a run of the words behind
-/// the program's name. Where these can't be taken from the system, it is 5, and nothing is read or
-/// written.
-pub fn program<R, I: Read + Drop, O: Write + Drop, E: Write + Drop>(
+/// The arguments of the system, the program's name first. There are none where memory is wanting or
+/// one of them isn't UTF-8.
+pub fn arguments<R: Env + Alloc<A = Global>>(rt: &R) -> Option<Vec<String>> {
+    env::args(rt).ok()?.collect(rt.alloc()).ok()
+}
+
+/// All of the program but what it takes from the system: the exit status of a run of the words behind
+/// the program's name, over the three standard streams. Their types tell which is which.
+pub fn program<R: Threads + Sync>(
     rt: &R,
-    input: I,
-    output: O,
-    errors: E,
+    alloc: Global,
+    arguments: &[String],
+    input: &mut StdSource<Stdin>,
+    output: &mut StdSink<Stdout>,
+    errors: &mut StdSink<Stderr>,
 ) -> u8
-where
-    R: Env + Alloc<A = Global> + Threads + Sync,
-    ensures { (result ≡ 5) ⊎ ((words : List (List ℕ)) × IsStatus words (I.remaining input) result) }
+    ensures ran { IsStatus (map string_bytes (drop 1 arguments.now))
+        (stream None input.old.faults) (stream None input.new.faults)
+        (stream None output.old.faults) (stream None output.new.faults)
+        (stream None errors.old.faults) (stream None errors.new.faults) result }
+    ensures unread { ¬ AskSource (map string_bytes (drop 1 arguments.now)) → input.new ≡ input.old }
 {
-    match words_of(rt) {
-        Ok(words) => status(rt, rt.alloc(), &words, input, output, errors),
-        Err(_) => Outcome::OutOfMemory.code(),
-    }
+    status(rt, alloc, words_behind(arguments), input, output, errors)
 }
 
 // The words behind the program's name.
-fn words_of<R: Env + Alloc<A = Global>>(rt: &R) -> Result<Vec<String>, AllocError> {
-    let mut words = Vec::new(rt.alloc());
-    let Ok(arguments) = env::args(rt) else {
-        return Err(AllocError);
-    };
-    for word in arguments.skip(1) {
-        words.push(word)?;
+fn words_behind(arguments: &[String]) -> &[String]
+    ensures { result.now ≡ drop 1 arguments.now }
+{
+    match arguments.split_first() {
+        Some((_name, words)) => words,
+        None => arguments,
     }
-    Ok(words)
 }
 
-/// The exit status of a run of the words over these streams: a report goes to the output and the
-/// line of a fault to the errors, and each write is flushed.
-pub fn status<R: Threads + Sync, I: Read + Drop, O: Write + Drop, E: Write + Drop>(
+/// The exit status of a run of the words over these streams.
+pub fn status<R: Threads + Sync, S: Source, K: Sink, E: Sink>(
     rt: &R,
     alloc: Global,
     words: &[String],
-    input: I,
-    output: O,
-    errors: E,
+    source: &mut S,
+    out: &mut K,
+    err: &mut E,
 ) -> u8
-    ensures { IsStatus (map string_bytes words.now) (I.remaining input) result }
+    ensures ran { IsStatus (map string_bytes words.now)
+        (stream (S.left source.old) (S.faults source.old)) (stream (S.left source.new) (S.faults source.new))
+        (stream (K.written out.old) (K.faults out.old)) (stream (K.written out.new) (K.faults out.new))
+        (stream (E.written err.old) (E.faults err.old)) (stream (E.written err.new) (E.faults err.new)) result }
+    ensures unread { ¬ AskSource (map string_bytes words.now) → source.new ≡ source.old }
 {
-    let mut source = StdSource::new(input);
-    let mut out = StdSink::new(output);
-    let mut err = StdSink::new(errors);
-    run(rt, alloc, words, &mut source, &mut out, &mut err, &Open).into_code()
+    run(rt, alloc, words, source, out, err, &Open).into_code()
 }

@@ -1,10 +1,10 @@
 //! Independent jobs at once, by `join` on halves of their list.
 //!
 //! The one contract: `run_jobs` gives one answer per job, in the order of the jobs, and each stands in the
-//! relation that the jobs' type states for its `work`. So the answers are those that one thread would give,
-//! whatever the order in which the jobs end. Each half of the list belongs to one side of a `join`: nothing is
-//! shared, and nothing is locked. That two jobs run at once is said by no clause; a test of `ground_tests`
-//! shows it, through jobs that wait for each other.
+//! relation that the jobs' type states for its `work`, whatever the order in which the jobs end. Where that relation
+//! admits one answer, it is the one that a single thread would give; elsewhere that is tested, by runs without a second
+//! thread. Each half of the list belongs to one side of a `join`: nothing is shared, and nothing is locked. That two
+//! jobs run at once is said by no clause; a test of `ground_tests` shows it, through jobs that wait for each other.
 //!
 //! It stands on `frac_core` for `OutOfMemory` alone.
 //!

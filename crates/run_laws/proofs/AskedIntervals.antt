@@ -1,5 +1,5 @@
 -- The rank intervals that a job asks for are of columns of its problem, at quantiles where rows have costs.
-use Rattle.std.proofs.Common.{◌≡◌, ℕ, zero, suc, ◌+◌, ◌<◌, ◌≤◌, List, [], ◌∷◌, ◌++◌, All, Option, None, Some, map, pos, arith, subst}
+use Rattle.std.proofs.Common.{◌≡◌, ℕ, zero, suc, ◌+◌, ◌<◌, ◌≤◌, List, [], ◌∷◌, ◌++◌, All, Option, None, Some, map, pos, arith, refl, subst}
 use Rattle.std.specs.List.{range_with_len}
 use Rattle.std.proofs.lemmas.List.Elements.{All-append, All-cons, All-nil}
 use Rattle.exact_algebra.specs.Fraction.{rational}
@@ -48,6 +48,29 @@ module _ (n : ℕ) where
   -- one that a job asks for
   pub asked_there : (rank : Option RankAsk) → IsRankAskOf rank → (earlier : List (Asked Frac128)) (asked : Asked Frac128) (later : List (Asked Frac128)) → asked_by rank n ≡ earlier ++ asked ∷ later → IsAskedWithin asked
   asked_there rank ask earlier asked later order = all_there IsAskedWithin earlier asked later (subst (All IsAskedWithin) order (rank_within rank ask))
+
+-- each has the critical value of the words
+module _ (n : ℕ) where
+  abbrev HasCritical : Frac128 → Asked Frac128 → Type 0
+  HasCritical crit asked = asked.crit ≡ crit
+
+  columns_critical : (crit tau : Frac128) (first m : ℕ) → All (HasCritical crit) (map (λ j. record { column = j; tau = tau; crit = crit }) (range_with_len first m))
+  columns_critical crit tau first zero = All-nil (HasCritical crit)
+  columns_critical crit tau first (suc m) =
+      All-cons (HasCritical crit) (record { column = first; tau = tau; crit = crit }) (map (λ j. record { column = j; tau = tau; crit = crit }) (range_with_len (first + 1) m)) refl
+      (columns_critical crit tau (first + 1) m)
+
+  all_critical : (crit : Frac128) (taus : List Frac128) → All (HasCritical crit) (asked_over crit n taus)
+  all_critical crit [] = All-nil (HasCritical crit)
+  all_critical crit (tau ∷ taus) = All-append (HasCritical crit) (asked_at crit n tau) (asked_over crit n taus) (columns_critical crit tau 0 n) (all_critical crit taus)
+
+  -- so has one that a job asks for
+  pub critical_there : (rank : Option RankAsk) (earlier : List (Asked Frac128)) (asked : Asked Frac128) (later : List (Asked Frac128)) → asked_by rank n ≡ earlier ++ asked ∷ later
+      → (ask : RankAsk) × (rank ≡ Some ask) × HasCritical ask.crit asked
+  critical_there None [] asked later order = absurd (cc order)
+  critical_there None (x ∷ earlier) asked later order = absurd (cc order)
+  critical_there (Some rank) earlier asked later order =
+      (rank, refl, all_there (HasCritical rank.crit) earlier asked later (subst (All (HasCritical rank.crit)) order (all_critical rank.crit rank.taus)))
 
 -- at such a quantile the rows of an input have costs
 pub inner_costs : (input : Input) (tau : ℚ) → IsInner tau → HasRows input → HasCosts (sample value input.problem) tau

@@ -1,14 +1,11 @@
 -- A job whose input is well formed is answered.
-use Rattle.std.specs.Prelude.{◌≡◌, ◌≢◌, ℕ, ◌+◌, ◌*◌, ◌<◌, ◌≤◌, Bool, true, false, is_some, List, Some, length, slice_index}
-use Rattle.std.proofs.Common.{arith, refl, sym, subst, ◌∙◌, inl, inr}
-use Rattle.exact_algebra.specs.Fraction.{rational}
+use Rattle.std.specs.Prelude.{◌≡◌, ◌≢◌, ℕ, ◌+◌, ◌*◌, ◌<◌, ◌≤◌, Bool, true, false, is_some, List, Some, length}
+use Rattle.std.proofs.Common.{arith, refl, sym, subst, ◌∙◌}
 use Rattle.frac_core.specs.declared.frac128.Frac128.{Frac128}
 use Rattle.loss_model.specs.declared.problem.Problem.{Problem}
 use Rattle.loss_model.specs.declared.process.Process.{Process}
 use Rattle.loss_model.specs.declared.process.Trail.{Trail}
-use Rattle.loss_model.specs.FullRank.{HasFullRank}
 use Rattle.loss_model.specs.Problem.{sample, IsWellShaped}
-use Rattle.pivot_rule.proofs.Solved.{full_rank}
 use Rattle.port_io.specs.Told.{most_bytes, TakesAll, TakesFirst}
 use Rattle.pivot_bound.specs.BoundLaws.{further_bases}
 use Rattle.lambda_path.specs.Laws.{PathHasCosts}
@@ -38,12 +35,11 @@ use Rattle.rq_engine.specs.Jobs.{IsJobOf, sample_fit}
 use Rattle.rq_cli.specs.Outcomes.{Stream, IsRun, IsAnswered, IsHalted, IsTooLong, Reads, Takes, WereRead}
 use Rattle.rq_cli.specs.declared.outcome.Outcome.{Outcome}
 use Rattle.rq_cli.specs.declared.outcome.Outcome.TheVariants.{Refused, PivotLimit, Rejected}
-use Rattle.stop_laws.proofs.Needed.{dependent, process_full}
-use Rattle.interval_laws.proofs.Needed.{interval_full}
-use Rattle.run_laws.specs.Completeness.{NoneRose, IsWellFormed, IsAnswer, IsLimitedProblem, IsNoReport, IsUnfitted, parts_of}
+use Rattle.stop_laws.proofs.Needed.{dependent}
+use Rattle.run_laws.specs.Completeness.{NoneRose, IsWellFormed, IsAnswer, parts_of}
 use Rattle.run_laws.specs.NeededOutcomes.{IsFitJob, AskFit, WasInput, WasPosed, ReachesLimitAt, table_bytes}
 use Rattle.run_laws.proofs.AskedInputs.{asked_input}
-use Rattle.run_laws.proofs.Answering.{answered_with, no_report, unfitted_with}
+use Rattle.run_laws.proofs.Answering.{answered_with}
 use Rattle.run_laws.proofs.Needed.{limit_needed}
 
 -- ---- words
@@ -372,11 +368,6 @@ module _ (words : List (List ℕ)) (source source' : Stream) where
       by (jobs.Sample job) (reports.Path f) read right = absurd right
       by (jobs.Sample job) (reports.Sample f) read right = of_fit (sample_fit job) right.0 f (was (sample_fit job) right.0 false (jobs.Sample job) (refl, refl) read right.1) right.2
 
-  pub limited : (first : FitJob) (kind : Bool) → AskFit words first kind → (out out' err err' : Stream) (outcome : Outcome) → IsRun words source source' out out' err err' outcome
-      → ((fit : FitJob) (input : Input) → WasInput words source source' fit input → IsLimitedProblem fit input.problem) → IsNoReport outcome
-  limited first kind asked out out' err err' outcome run reaches =
-      no_report words source source' (λ report a. let h = report_process first kind asked report a in h.3.right.unlimited (reaches h.0 h.1 h.3.was)) out out' err err' outcome run
-
 module _ (lawful : PathHasCosts) (words : List (List ℕ)) (source source' : Stream) where
   -- what a trail that reaches a limit says of it
   limit_below : (place : Place) (fit : FitJob) (problem : Problem Frac128) (limit : ℕ) (trail : Trail Frac128) → ReachesLimitAt place fit problem limit trail
@@ -396,35 +387,3 @@ module _ (lawful : PathHasCosts) (words : List (List ℕ)) (source source' : Str
       let enough : (parts_of place * further_bases (sample value needed.1)) ≤ needed.0.limit = long needed.0 needed.1 needed.2 in
       let below = limit_below place needed.0 needed.1 limit trail needed.3 in
       omega (arith, enough, below.0, below.1)
-
-  -- ---- dependent columns
-
-  -- where a trail reaches a limit, the columns are independent
-  limited_rank : (place : Place) (fit : FitJob) (problem : Problem Frac128) (limit : ℕ) (trail : Trail Frac128) → ReachesLimitAt place fit problem limit trail → HasFullRank (sample value problem)
-  limited_rank places.Process fit problem limit trail h = process_full value (sample value problem) (rational (value fit.lo)) (rational (value fit.hi)) limit trail h.reached
-  limited_rank (places.Interval column tau) fit problem limit trail h = interval_full value (sample value problem) column (rational (value tau)) h.bound limit trail h.reached
-  limited_rank places.Check fit problem limit trail h = absurd h
-  limited_rank (places.Predict rec) fit problem limit trail h = absurd h
-  limited_rank places.Full fit problem limit trail h = absurd h
-  limited_rank places.Path fit problem limit trail h = absurd h
-
-  pub unfitted : (first : FitJob) (kind : Bool) → AskFit words first kind → (out out' err err' : Stream) (outcome : Outcome) → IsRun words source source' out out' err err' outcome
-      → ((fit : FitJob) (input : Input) → WasInput words source source' fit input → ¬ HasFullRank (sample value input.problem)) → IsUnfitted outcome
-  unfitted first kind asked out out' err err' outcome run dependent = unfitted_with words source source' reported limits out out' err err' outcome run
-    where
-      reported : (report : Report) → ¬ IsAnswered words source source' report
-      reported report a =
-          let h = report_process words source source' first kind asked report a in
-          let end = h.3.right.results.ended in
-          dependent h.0 h.1 h.3.was (full_rank (sample value h.1.problem) (slice_index h.3.right.results.basis) end.a end.is_basis)
-
-      of : (fit : FitJob) (problem : Problem Frac128) → WasPosed words source source' fit problem → HasFullRank (sample value problem) → ⊥
-      of fit problem (inl input) full = dependent fit input.0 input.1 (subst (λ (p : Problem Frac128). HasFullRank (sample value p)) (sym input.2) full)
-      of fit problem (inr (inl test)) full =
-          no_test words asked.job first kind asked.is test.job (one_request words (jobs.Test test.job) asked.job test.was.read.asked asked.asked)
-      of fit problem (inr (inr path)) full = no_path words asked.job first kind asked.is path.job (one_request words (jobs.Path path.job) asked.job path.read.asked asked.asked)
-
-      limits : (place : Place) (limit : ℕ) (trail : Trail Frac128) → ¬ IsHalted words source source' (halts.PivotLimit place limit trail)
-      limits place limit trail h =
-          let needed = limit_needed lawful words source source' place limit trail h in
-          of needed.0 needed.1 needed.2 (limited_rank place needed.0 needed.1 limit trail needed.3)

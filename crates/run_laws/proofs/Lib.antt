@@ -13,3 +13,4 @@ pub mod Pathed
 pub mod Unposed
 pub mod Unpredicted
 pub mod Generated
+pub mod FitHalts

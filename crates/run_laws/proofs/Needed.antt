@@ -20,6 +20,7 @@ use Rattle.interval_laws.proofs.Spilled.{of_interval}
 use Rattle.pivot_bound.proofs.Bounds.{process_within}
 use Rattle.lambda_path.specs.Laws.{PathHasCosts}
 use Rattle.nested_test.specs.Restricted.{restricted_problem}
+use Rattle.rank_inversion.specs.Stops.{IsBound}
 use Rattle.rq_words.specs.declared.job.FitJob.{FitJob}
 use Rattle.rq_words.specs.declared.job.Job.{Job}
 use Rattle.rq_words.specs.declared.job.Job.TheVariants as jobs
@@ -28,7 +29,7 @@ use Rattle.rq_words.specs.declared.job.TestJob.{TestJob}
 use Rattle.report_text.specs.ReportText.{value}
 use Rattle.report_text.specs.declared.report.Place.{Place}
 use Rattle.report_text.specs.declared.report.Place.TheVariants as places
-use Rattle.report_text.specs.declared.report.Refusal.TheVariants.{Dependent}
+use Rattle.report_text.specs.declared.report.Refusal.TheVariants.{CertTooLong, Dependent}
 use Rattle.report_text.specs.declared.report.Halt.TheVariants.{Refused, PivotLimit, Overflow}
 use Rattle.rq_input.specs.Inputs.{IsInput}
 use Rattle.rq_input.specs.Rows.{HasRows}
@@ -40,7 +41,7 @@ use Rattle.rq_fit.proofs.Pathing.{low_costs as path_costs}
 use Rattle.rq_fit.proofs.Scoring.{unit_ask}
 use Rattle.rq_fit.proofs.Testing.{data_stays, input_data, restricted_low}
 use Rattle.rq_engine.specs.Answers as engine
-use Rattle.rq_engine.specs.Answers.{LacksFit, LacksPathFit, LacksPredictFit, LacksTestFit}
+use Rattle.rq_engine.specs.Answers.{HasLongCertificate, LacksFit, LacksPathFit, LacksPredictFit, LacksTestFit}
 use Rattle.rq_engine.specs.Jobs.{sample_fit, sample_table}
 use Rattle.rq_engine.proofs.Asked.{asked_job}
 use Rattle.rq_cli.specs.Outcomes.{Stream, IsHalted, WereRead}
@@ -48,7 +49,7 @@ use Rattle.run_laws.specs.NeededOutcomes.{IsFitJob, IsLimitedAt, OverflowsAt, Re
 use Rattle.rq_input.proofs.PlainInputs.{plain_rows}
 use Rattle.rq_input.proofs.TestedInputs.{ranked_rows}
 use Rattle.run_laws.proofs.AskedInputs.{asked_input}
-use Rattle.run_laws.proofs.AskedIntervals.{asked_there, inner_costs}
+use Rattle.run_laws.proofs.AskedIntervals.{asked_there, critical_there, inner_costs}
 use Rattle.run_laws.proofs.Spilled.{of_first, of_fit, of_row, of_scored}
 
 -- ---- a limit
@@ -69,9 +70,13 @@ reached_interval : (fit : FitJob) (input : Input) (column : ℕ) (tau : Frac128)
 reached_interval fit input column tau limit trail ask rows h =
     let cause = h.1.cause in
     let asked = asked_there input.problem.columns fit.rank ask.rank h.1.earlier _ h.1.later h.1.order in
+    let critical = critical_there input.problem.columns fit.rank h.1.earlier _ h.1.later h.1.order in
     record {
       shown = cause.0;
+      rank = critical.0;
+      asked = critical.1;
       bound = cause.1.0;
+      critical = subst (λ (crit : Frac128). IsBound value input.problem column (rational (value tau)) (rational (value crit)) cause.1.0) critical.2 cause.1.1;
       reached = subst (λ n. ReachesIntervalLimit value (sample value input.problem) (rational (value tau)) column cause.1.0 n trail) (sym cause.0) cause.1.2;
       below =
           interval_needed value most input.problem column (rational (value tau)) (rational (value h.0)) fit.limit (stops.PivotLimit limit trail) (inner_costs input (rational (value tau)) asked.1 rows) asked.0 cause;
@@ -205,6 +210,22 @@ module _ (lawful : PathHasCosts) (words : List (List ℕ)) (source source' : Str
           (job.fit, cause.input, inr (job, refl, record { bytes = h.bytes; read = read; is = cause.is }), dependent (sample value cause.input.problem) _ cause.cause.dependence)
       by (jobs.Path job) read cause = absurd cause.2.cause
       by (jobs.Sample job) read cause = of (sample_fit job) false (jobs.Sample job) (refl, refl) read cause
+
+  -- ---- a certificate that is too long
+
+  pub length_needed : (n : ℕ) → IsHalted words source source' (Refused (CertTooLong n)) → (fit : FitJob) × (bytes : List ℕ) × WereRead words source source' (jobs.Certify fit) bytes × HasLongCertificate fit bytes n
+  length_needed n h = by h.job h.read h.cause
+    where
+      by : (job : Job) → WereRead words source source' job h.bytes → engine.HasCause job h.bytes (Refused (CertTooLong n))
+          → (fit : FitJob) × (bytes : List ℕ) × WereRead words source source' (jobs.Certify fit) bytes × HasLongCertificate fit bytes n
+      by (jobs.Process fit) read cause = absurd cause.2.cause
+      by (jobs.Ranks fit) read cause = absurd cause.2.cause
+      by (jobs.Certify fit) read cause = (fit, h.bytes, read, cause)
+      by jobs.Check read cause = absurd cause
+      by (jobs.Predict fit) read cause = absurd cause.2.cause
+      by (jobs.Test job) read cause = absurd cause.2.cause
+      by (jobs.Path job) read cause = absurd cause.2.cause
+      by (jobs.Sample job) read cause = absurd cause.2.cause
 
   -- ---- an overflow
 

@@ -8,6 +8,7 @@ use Rattle.loss_model.specs.declared.process.Trail.{Trail}
 use Rattle.loss_model.specs.declared.spill.Spill.{Spill}
 use Rattle.loss_model.specs.Problem.{IsWellShaped}
 use Rattle.lambda_path.specs.Laws.{PathHasCosts}
+use Rattle.rq_words.specs.declared.job.FitJob.{FitJob}
 use Rattle.rq_words.specs.declared.job.Job.{Job}
 use Rattle.rq_words.specs.declared.job.Job.TheVariants as jobs
 use Rattle.rq_words.specs.declared.job.PathJob.{PathJob}
@@ -31,9 +32,10 @@ use Rattle.rq_engine.specs.Answers.{HasPathFitCause, IsPathFitOfBytes, IsRight, 
 use Rattle.rq_engine.specs.Jobs.{IsJobOf}
 use Rattle.rq_cli.specs.Outcomes.{IsAnswered, IsHalted, IsRun, IsTooLong, Stream, WereRead}
 use Rattle.rq_cli.specs.declared.outcome.Outcome.{Outcome}
-use Rattle.run_laws.specs.Completeness.{HasPathFault, IsAnswer, IsLimitedProblem, IsNoReport, IsNotTooLong, IsPathed, IsUnposed, NoneRose, path_rows}
+use Rattle.rq_cli.specs.declared.outcome.Outcome.TheVariants.{Done, Refused, PivotLimit, Overflow, Rejected}
+use Rattle.run_laws.specs.Completeness.{HasPathFault, IsAnswer, IsAtPath, IsAtProcess, IsLimitedProblem, IsLimitOutcome, IsNotTooLong, IsPathed, IsUnposed, NoneRose, path_rows}
 use Rattle.run_laws.specs.NeededOutcomes.{WasPath}
-use Rattle.run_laws.proofs.Answering.{answered_with, no_report, not_too_long}
+use Rattle.run_laws.proofs.Answering.{answered_with, not_too_long}
 use Rattle.run_laws.proofs.Complete.{none_beyond, were_told}
 use Rattle.run_laws.proofs.OnlyJob.{only_halted, only_reported}
 use Rattle.run_laws.proofs.Stopless.{unposed_without}
@@ -75,16 +77,46 @@ module _ (words : List (List ℕ)) (first : PathJob) (asked : IsJobOf words (job
 
     -- ---- limits
 
-    pub path_limited : (out out' err err' : Stream) (outcome : Outcome) → IsRun words source source' out out' err err' outcome
-        → ((fit : _) (problem : Problem Frac128) → WasPath words source source' fit problem → IsLimitedProblem fit problem) → IsNoReport outcome
-    path_limited out out' err err' outcome run reaches = no_report words source source' none out out' err err' outcome run
+    -- a limit is one of the process
+    limit_at : (place : Place) (limit : ℕ) (trail : Trail Frac128) → IsHalted words source source' (halts.PivotLimit place limit trail) → IsAtProcess place
+    limit_at place limit trail h = by place (halted (halts.PivotLimit place limit trail) h).3
       where
-        none : (report : Report) → ¬ IsAnswered words source source' report
-        none report a =
-            let r = reported report a in
-            let fit = right_path r.0 r.1 report r.3 in
-            let of = fit.1.2 in
-            of.process.unlimited (reaches r.0.fit fit.0.problem (record { job = r.0; same = refl; bytes = r.1; read = r.2; plain = fit.1.0; is = fit.1.1; path = of.path }))
+        by : {job : PathJob} {bytes : List ℕ} (place : Place) → LacksPathFit job bytes (halts.PivotLimit place limit trail) → IsAtProcess place
+        by places.Process h = tt
+        by (places.Interval column tau) h = h.cause
+        by places.Check h = h.cause
+        by places.Full h = h.cause
+        by (places.Predict rec) h = h.cause
+        by places.Path h = h.cause
+
+    -- and an overflow one of the costs or of the process
+    overflow_at : (place : Place) (trail : Trail Frac128) (spill : Spill Frac128) → IsHalted words source source' (halts.Overflow place trail spill) → IsAtPath place
+    overflow_at place trail spill h = by place (halted (halts.Overflow place trail spill) h).3
+      where
+        by : {job : PathJob} {bytes : List ℕ} (place : Place) → LacksPathFit job bytes (halts.Overflow place trail spill) → IsAtPath place
+        by places.Process h = tt
+        by places.Path h = tt
+        by (places.Interval column tau) h = h.cause
+        by places.Check h = h.cause
+        by places.Full h = h.cause
+        by (places.Predict rec) h = h.cause
+
+    module _ (reaches : (fit : FitJob) (problem : Problem Frac128) → WasPath words source source' fit problem → IsLimitedProblem fit problem) where
+      none : (report : Report) → ¬ IsAnswered words source source' report
+      none report a =
+          let r = reported report a in
+          let fit = right_path r.0 r.1 report r.3 in
+          let of = fit.1.2 in
+          of.process.unlimited (reaches r.0.fit fit.0.problem (record { job = r.0; same = refl; bytes = r.1; read = r.2; plain = fit.1.0; is = fit.1.1; path = of.path }))
+
+      pub path_limited : (out out' err err' : Stream) (outcome : Outcome) → IsRun words source source' out out' err err' outcome → IsLimitOutcome IsAtPath outcome
+      path_limited out out' err err' (Done report) run = none report run.cause
+      path_limited out out' err err' (PivotLimit place limit trail) run = limit_at place limit trail run.cause
+      path_limited out out' err err' (Overflow place trail spill) run = overflow_at place trail spill run.cause
+      path_limited out out' err err' (Refused (refusals.Dependent combination)) run = (halted (halts.Refused (refusals.Dependent combination)) run.cause).3.2.cause
+      path_limited out out' err err' (Refused (refusals.CertTooLong n)) run = too_long n run.cause
+      path_limited out out' err err' (Rejected rejection) run = (halted (halts.Rejected rejection) run.cause).3.2.cause
+      path_limited out out' err err' outcome run = tt
 
     -- ---- faults
 

@@ -5,8 +5,10 @@ use Rattle.frac_core.specs.Limits.{most_rows}
 use Rattle.frac_core.specs.declared.frac128.Frac128.{Frac128}
 use Rattle.loss_model.specs.declared.problem.Problem.{Problem}
 use Rattle.loss_model.specs.declared.process.Trail.{Trail}
+use Rattle.loss_model.specs.declared.spill.Spill.{Spill}
 use Rattle.loss_model.specs.FullRank.{HasFullRank}
 use Rattle.loss_model.specs.Problem.{sample}
+use Rattle.loss_model.specs.StartStop.{IsStartSpill}
 use Rattle.port_io.specs.Counts.{Rose}
 use Rattle.port_io.specs.Told.{most_bytes}
 use Rattle.pivot_bound.specs.BoundLaws.{further_bases}
@@ -35,12 +37,13 @@ use Rattle.rq_input.specs.Tested.{HasTestedCause, IsTested}
 use Rattle.rq_input.specs.declared.input.Input.{Input}
 use Rattle.rq_input.specs.declared.plain.PlainInput.{PlainInput}
 use Rattle.rq_fit.specs.Paths.{first_penalised}
+use Rattle.rq_fit.specs.Stops.{most}
 use Rattle.rq_engine.specs.Answers.{IsRight}
 use Rattle.rq_engine.specs.Checks.{IsCertOf}
 use Rattle.rq_engine.specs.Jobs.{IsJobOf, sample_fit, sample_table}
 use Rattle.rq_cli.specs.Outcomes.{Stream, IsRun, IsHalted, Reads}
 use Rattle.rq_cli.specs.declared.outcome.Outcome.{Outcome}
-use Rattle.rq_cli.specs.declared.outcome.Outcome.TheVariants.{Done, Refused, OutOfMemory, PivotLimit, Overflow}
+use Rattle.rq_cli.specs.declared.outcome.Outcome.TheVariants.{Done, Refused, OutOfMemory, PivotLimit, Overflow, Rejected}
 use Rattle.run_laws.specs.NeededOutcomes.{AskFit, IsLimitedAt, OverflowsAt, WasInput, WasPath, WasPosed, WasRestricted, WasTested, table_bytes}
 
 -- no count of faults rose
@@ -83,7 +86,8 @@ abbrev pub IsNotTooLong : Outcome → Type 0
 IsNotTooLong (Refused (CertTooLong n)) = ⊥
 IsNotTooLong _ = ⊤
 
--- the words ask for a generated table of at least one record, and its problem has full rank
+-- the words ask for a generated table of at least one record, as all words do that ask for one (`--rows` is required, and 0
+-- is refused), and its problem has full rank
 pub record IsGenerated (words : List (List ℕ)) : Type 0 where
   pub first : SampleJob
   pub asked : IsJobOf words (jobs.Sample first)
@@ -213,33 +217,57 @@ abbrev pub IsLimitedProblem : FitJob → Problem Frac128 → Type 0
 IsLimitedProblem fit problem =
     IsLimited {F = Frac128} value (sample value problem) (rational (value fit.lo)) (rational (value fit.hi)) fit.limit
 
--- the outcome is no report
-abbrev pub IsNoReport : Outcome → Type 0
-IsNoReport (Done report) = ⊥
-IsNoReport _ = ⊤
+-- the place is the process
+abbrev pub IsAtProcess : Place → Type 0
+IsAtProcess places.Process = ⊤
+IsAtProcess place = ⊥
 
--- where the words ask for a fit, and some trail of its problem reaches the limit, there is no report
+-- or the costs of a path, which come before it
+abbrev pub IsAtPath : Place → Type 0
+IsAtPath places.Path = ⊤
+IsAtPath place = IsAtProcess place
+
+-- where a fit reaches its limit, a stop is that limit, or an overflow at such a place; there is no report, no stop of what
+-- comes after the process, and no refusal of its columns or of a certificate
+abbrev pub IsLimitOutcome : (Place → Type 0) → Outcome → Type 0
+IsLimitOutcome overflows (Done report) = ⊥
+IsLimitOutcome overflows (PivotLimit place limit trail) = IsAtProcess place
+IsLimitOutcome overflows (Overflow place trail spill) = overflows place
+IsLimitOutcome overflows (Refused (Dependent combination)) = ⊥
+IsLimitOutcome overflows (Refused (CertTooLong n)) = ⊥
+IsLimitOutcome overflows (Rejected rejection) = ⊥
+IsLimitOutcome overflows _ = ⊤
+
+-- where the words ask for a fit, and some trail of its problem reaches the limit, a stop is that limit, or an overflow of
+-- the process
 abbrev pub LimitIsAnswered : Type 0
 LimitIsAnswered =
     (words : List (List ℕ)) (source source' out out' err err' : Stream) (outcome : Outcome) (first : FitJob) (kind : Bool)
     → AskFit words first kind → IsRun words source source' out out' err err' outcome
     → ((fit : FitJob) (input : Input) → WasInput words source source' fit input → IsLimitedProblem fit input.problem)
-    → IsNoReport outcome
+    → IsLimitOutcome IsAtProcess outcome
 
--- nor is there where the words ask for a rank test, and some trail of the problem without the tested columns reaches it
-abbrev pub TestLimitIsAnswered : Type 0
-TestLimitIsAnswered =
-    (words : List (List ℕ)) (source source' out out' err err' : Stream) (outcome : Outcome) (first : TestJob)
-    → IsJobOf words (jobs.Test first) → IsRun words source source' out out' err err' outcome
-    → ((fit : FitJob) (problem : Problem Frac128) → WasRestricted words source source' fit problem → IsLimitedProblem fit problem)
-    → IsNoReport outcome
-
--- nor is there where the words ask for a path, and some trail of its problem reaches it
+-- where the words ask for a path, and some trail of its problem reaches it, a stop is that limit, or an overflow of the
+-- costs or of the process
 abbrev pub PathLimitIsAnswered : Type 0
 PathLimitIsAnswered =
     (words : List (List ℕ)) (source source' out out' err err' : Stream) (outcome : Outcome) (first : PathJob)
     → IsJobOf words (jobs.Path first) → IsRun words source source' out out' err err' outcome
     → ((fit : FitJob) (problem : Problem Frac128) → WasPath words source source' fit problem → IsLimitedProblem fit problem)
+    → IsLimitOutcome IsAtPath outcome
+
+-- the outcome is no report
+abbrev pub IsNoReport : Outcome → Type 0
+IsNoReport (Done report) = ⊥
+IsNoReport _ = ⊤
+
+-- where the words ask for a rank test, and some trail of the problem without the tested columns reaches the limit, there is
+-- no report
+abbrev pub TestLimitIsAnswered : Type 0
+TestLimitIsAnswered =
+    (words : List (List ℕ)) (source source' out out' err err' : Stream) (outcome : Outcome) (first : TestJob)
+    → IsJobOf words (jobs.Test first) → IsRun words source source' out out' err err' outcome
+    → ((fit : FitJob) (problem : Problem Frac128) → WasRestricted words source source' fit problem → IsLimitedProblem fit problem)
     → IsNoReport outcome
 
 -- how often the bases after the first may come: in the solve and in the walk of a process, and in the solve and in both
@@ -259,21 +287,36 @@ AmpleLimitIsNeverReached =
     → ((fit : FitJob) (problem : Problem Frac128) → WasPosed words source source' fit problem → (parts_of place * further_bases (sample value problem)) ≤ fit.limit)
     → ¬ IsRun words source source' out out' err err' (PivotLimit place limit trail)
 
+-- an operation in the start of the problem of a fit overflows
+abbrev pub StartOverflows : List (List ℕ) → (before now : Stream) → Trail Frac128 → Spill Frac128 → Type 0
+StartOverflows words before now trail spill =
+    (fit : FitJob) × (input : Input) × WasInput words before now fit input × IsStartSpill value most input.problem trail spill
+
+-- where its columns are dependent, a stop is an overflow in the start: there is no report, no limit, and no certificate
+abbrev pub IsDependentOutcome : List (List ℕ) → (before now : Stream) → Outcome → Type 0
+IsDependentOutcome words before now (Done report) = ⊥
+IsDependentOutcome words before now (PivotLimit place limit trail) = ⊥
+IsDependentOutcome words before now (Overflow places.Process trail spill) = StartOverflows words before now trail spill
+IsDependentOutcome words before now (Overflow place trail spill) = ⊥
+IsDependentOutcome words before now (Refused (CertTooLong n)) = ⊥
+IsDependentOutcome words before now (Rejected rejection) = ⊥
+IsDependentOutcome words before now _ = ⊤
+
+-- where the words ask for a fit, and the columns of its problem are dependent, the outcome is such a one
+abbrev pub DependenceIsAnswered : Type 0
+DependenceIsAnswered =
+    (words : List (List ℕ)) (source source' out out' err err' : Stream) (outcome : Outcome) (first : FitJob) (kind : Bool)
+    → AskFit words first kind → IsRun words source source' out out' err err' outcome
+    → ((fit : FitJob) (input : Input) → WasInput words source source' fit input → ¬ HasFullRank (sample value input.problem))
+    → IsDependentOutcome words source source' outcome
+
 -- the outcome is neither a report nor a limit
 abbrev pub IsUnfitted : Outcome → Type 0
 IsUnfitted (Done report) = ⊥
 IsUnfitted (PivotLimit place limit trail) = ⊥
 IsUnfitted _ = ⊤
 
--- where the words ask for a fit, and the columns of its problem are dependent, there is neither
-abbrev pub DependenceIsAnswered : Type 0
-DependenceIsAnswered =
-    (words : List (List ℕ)) (source source' out out' err err' : Stream) (outcome : Outcome) (first : FitJob) (kind : Bool)
-    → AskFit words first kind → IsRun words source source' out out' err err' outcome
-    → ((fit : FitJob) (input : Input) → WasInput words source source' fit input → ¬ HasFullRank (sample value input.problem))
-    → IsUnfitted outcome
-
--- nor is there where the words ask for a rank test, and the columns of the whole problem are dependent
+-- where the words ask for a rank test, and the columns of the whole problem are dependent, there is neither
 abbrev pub TestDependenceIsAnswered : Type 0
 TestDependenceIsAnswered =
     (words : List (List ℕ)) (source source' out out' err err' : Stream) (outcome : Outcome) (first : TestJob)

@@ -1,5 +1,6 @@
--- Law. A run that stops for a limit, for an overflow or for dependent columns had to.
-use Rattle.std.specs.Prelude.{◌≡◌, ◌⊎◌, ℕ, ◌*◌, ◌<◌, Bool, true, false, is_some, List, ⊤}
+-- Law. A run that stops for a limit, for dependent columns or for a certificate that is too long had to; what overflows is an
+-- operation on the printed operands.
+use Rattle.std.specs.Prelude.{◌≡◌, ◌⊎◌, ℕ, ◌*◌, ◌<◌, Bool, true, false, is_some, List, Some, ⊤}
 use Rattle.exact_algebra.specs.Fraction.{rational}
 use Rattle.exact_algebra.specs.Rational.{ℚ}
 use Rattle.frac_core.specs.declared.frac128.Frac128.{Frac128}
@@ -11,16 +12,18 @@ use Rattle.loss_model.specs.Problem.{sample}
 use Rattle.walk_rule.specs.WalkTrails.{ReachesProcessLimit, ReachesIntervalLimit}
 use Rattle.pivot_bound.specs.BoundLaws.{further_bases}
 use Rattle.stop_laws.specs.NeededStops.{DoesOverflow}
+use Rattle.rank_inversion.specs.Stops.{IsBound}
 use Rattle.nested_test.specs.Restricted.{restricted_problem}
 use Rattle.rq_words.specs.declared.job.FitJob.{FitJob}
 use Rattle.rq_words.specs.declared.job.Job.{Job}
 use Rattle.rq_words.specs.declared.job.Job.TheVariants as jobs
 use Rattle.rq_words.specs.declared.job.PathJob.{PathJob}
+use Rattle.rq_words.specs.declared.job.RankAsk.{RankAsk}
 use Rattle.rq_words.specs.declared.job.TestJob.{TestJob}
 use Rattle.report_text.specs.ReportText.{value}
 use Rattle.report_text.specs.declared.report.Place.{Place}
 use Rattle.report_text.specs.declared.report.Place.TheVariants as places
-use Rattle.report_text.specs.declared.report.Refusal.TheVariants.{Dependent}
+use Rattle.report_text.specs.declared.report.Refusal.TheVariants.{CertTooLong, Dependent}
 use Rattle.rq_input.specs.Inputs.{IsInput}
 use Rattle.rq_input.specs.Plain.{IsPlain}
 use Rattle.rq_input.specs.Tested.{IsTested}
@@ -28,6 +31,7 @@ use Rattle.rq_input.specs.declared.input.Input.{Input}
 use Rattle.rq_input.specs.declared.plain.PlainInput.{PlainInput}
 use Rattle.rq_fit.specs.Paths.{IsPathProblem}
 use Rattle.rq_fit.specs.Stops.{most}
+use Rattle.rq_engine.specs.Answers.{HasLongCertificate}
 use Rattle.rq_engine.specs.Jobs.{IsJobOf, sample_fit, sample_table}
 use Rattle.rq_cli.specs.Outcomes.{Stream, IsRun, WereRead}
 use Rattle.rq_cli.specs.declared.outcome.Outcome.TheVariants.{Refused, PivotLimit, Overflow}
@@ -99,11 +103,14 @@ pub record ReachesItsLimit (fit : FitJob) (problem : Problem Frac128) (limit : �
   pub reached : ReachesProcessLimit value (sample value problem) (rational (value fit.lo)) (rational (value fit.hi)) limit trail
   pub below : limit < 2 * further_bases (sample value problem)
 
--- the lawful trail of the interval of a column at a quantile has so many, with one more left; and the limit is less than
--- three times the bases after the first
+-- the lawful trail of the interval of a column at a quantile has so many, with one more left, where the squared statistic is
+-- bounded by the critical value of the words; and the limit is less than three times the bases after the first
 pub record ReachesItsIntervalLimit (fit : FitJob) (problem : Problem Frac128) (column : ℕ) (tau : Frac128) (limit : ℕ) (trail : Trail Frac128) : Type 0 where
   pub shown : limit ≡ fit.limit
+  pub rank : RankAsk
+  pub asked : fit.rank ≡ Some rank
   pub bound : ℚ
+  pub critical : IsBound value problem column (rational (value tau)) (rational (value rank.crit)) bound
   pub reached : ReachesIntervalLimit value (sample value problem) (rational (value tau)) column bound limit trail
   pub below : limit < 3 * further_bases (sample value problem)
 
@@ -145,3 +152,10 @@ DependenceIsNeeded =
     (words : List (List ℕ)) (source source' out out' err err' : Stream) (combination : List Frac128)
     → IsRun words source source' out out' err err' (Refused (Dependent combination))
     → (fit : FitJob) × (input : Input) × WasWhole words source source' fit input × ¬ HasFullRank (sample value input.problem)
+
+-- CertTooLong comes only where the words ask for a certificate, and that of the bytes is too long
+abbrev pub LengthIsNeeded : Type 0
+LengthIsNeeded =
+    (words : List (List ℕ)) (source source' out out' err err' : Stream) (n : ℕ)
+    → IsRun words source source' out out' err err' (Refused (CertTooLong n))
+    → (fit : FitJob) × (bytes : List ℕ) × WereRead words source source' (jobs.Certify fit) bytes × HasLongCertificate fit bytes n

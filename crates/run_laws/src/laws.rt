@@ -1,7 +1,7 @@
 //! The laws of a run. Each function does nothing: its contract is the law.
 
 ghost use Rattle.run_laws.specs.Completeness.{Completeness, SampleIsAnswered, TestIsAnswered, PathIsAnswered, CheckIsAnswered, FaultIsAnswered, PredictionFaultIsAnswered, TestFaultIsAnswered, PathFaultIsAnswered, LimitIsAnswered, TestLimitIsAnswered, PathLimitIsAnswered, AmpleLimitIsNeverReached, DependenceIsAnswered, TestDependenceIsAnswered};
-ghost use Rattle.run_laws.specs.NeededOutcomes.{LimitIsNeeded, OverflowIsNeeded, DependenceIsNeeded};
+ghost use Rattle.run_laws.specs.NeededOutcomes.{LimitIsNeeded, OverflowIsNeeded, DependenceIsNeeded, LengthIsNeeded};
 ghost use Rattle.run_laws.specs.PathReports.{PathIsLeast};
 ghost use Rattle.run_laws.specs.TestReports.{TestIsRight};
 
@@ -13,21 +13,24 @@ use input_laws::laws::{
 use lambda_path::laws::{path, path_is_askable};
 use nested_test::laws::statistic_is_square;
 
-/// A run that stops for a limit, for an overflow or for dependent columns had to: the lawful trail of the
-/// problem reaches the limit, which is less than the bases of both parts; the operation overflows; the
-/// columns are dependent.
+/// A run that stops for a limit, for dependent columns or for a certificate that is too long had to: the lawful trail of
+/// the problem, or of an interval by the critical value of the words, reaches the limit, which is less than the bases of its
+/// parts; the columns are dependent; the words ask for a certificate, and it is too long. Of one that stops for an overflow
+/// less is true: the operation that it names overflows on the operands that it names.
 pub fn needed()
     ensures limit { LimitIsNeeded }
     ensures overflow { OverflowIsNeeded }
     ensures dependence { DependenceIsNeeded }
+    ensures length { LengthIsNeeded }
 {
     path_is_askable();
 }
 
 /// While source and sinks don't fail, a job whose input is well formed and of full rank is answered, by its
-/// report, by its limit or by an overflow, save for memory; by its report not where a trail reaches the limit,
-/// and by the limit not where that is ample. Where the columns are dependent it is answered by neither, and
-/// where the bytes have a fault by none of these: such a refusal comes exactly where there is one. So a
+/// report, by its limit or by an overflow, save for memory. Where a trail reaches the limit of a fit or of a path, it stops
+/// for that, or by an overflow of its process or of a path's costs, and never where the limit is ample. Where the columns
+/// of a fit are dependent, it stops for that, or by an overflow in the start. Where the bytes have a fault it is answered
+/// by none of these: such a refusal comes exactly where there is one. So a
 /// certificate whose conditions are all true is accepted, save for memory and an operation of a test that
 /// overflows. A generated table of full rank is answered as a job whose input is well formed: its bytes have no fault.
 /// So is a rank test, where all columns are independent and the tested ones leave one; and a path in lambda, of whose

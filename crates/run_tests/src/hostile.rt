@@ -56,6 +56,14 @@ fn cut_report(left: usize) -> &'static str {
 }
 
 #[test]
+fn a_table_is_read_byte_by_byte(rt: HostRuntime) {
+    let bytes = copied(&rt, rt.alloc(), LINE.as_bytes());
+    let mut source = MemSource::new(bytes, 1, copied(&rt, rt.alloc(), &[0]));
+    let left = ran(&rt, rt.alloc(), WHOLE, &mut source, &SOUND);
+    assert_printed(&rt, &left, WHOLE_REPORT, "byte by byte");
+}
+
+#[test]
 fn a_cut_table_is_read_as_far_as_it_goes(rt: HostRuntime) {
     for (bytes, told) in CUTS.iter().enumerate() {
         let left = ran_on(&rt, rt.alloc(), WHOLE, &LINE.as_bytes()[..bytes]);

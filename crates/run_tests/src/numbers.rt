@@ -205,3 +205,31 @@ end
 fn levels_of_numbers_are_sorted_by_value(rt: HostRuntime) {
     expect_all(&rt, rt.alloc(), NUMERIC_FACTORS, 5);
 }
+
+// The greatest number of 64 bits and its opposite: their difference has 65. Below the median the lesser one is fitted, above it
+// the greater one, and the rankscores add up to 2 - 2 tau.
+static EDGE: &str = r"
+> process|--formula|y ~ 1|--lo|0|--hi|1
+y;9223372036854775807;-9223372036854775807
+quantreg 1
+records 2 dropped 0
+column 1 (Intercept)
+data 2 penalty 0
+pivots 2
+segment 1 0 1/2
+coef 1 -9223372036854775807
+loss 0 9223372036854775807
+scores 1*
+basic 2 1 0
+segment 2 1/2 1
+coef 1 9223372036854775807
+loss 9223372036854775807 0
+scores *0
+basic 1 1 0
+end
+";
+
+#[test]
+fn numbers_at_the_edge_of_64_bits_are_fitted(rt: HostRuntime) {
+    expect_all(&rt, rt.alloc(), EDGE, 1);
+}

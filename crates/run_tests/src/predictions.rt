@@ -339,11 +339,15 @@ y,x;0,0;2,1;3,3;,4
 > predict|--formula|y ~ x|--lo|1/2|--hi|1/2
 y,x;0,0;2,1;,170141183460469231731687303715884105727
 7 quantreg: solver: Overflow place=predict:3 quantity=prediction at=3,1 term=2 op=mul left=170141183460469231731687303715884105727 right=2
+# Of two records whose predictions overflow the first, behind one whose prediction is 6.
+> predict|--formula|y ~ x|--lo|1/2|--hi|1/2
+y,x;0,0;2,1;,3;,170141183460469231731687303715884105726;,170141183460469231731687303715884105727
+7 quantreg: solver: Overflow place=predict:4 quantity=prediction at=4,1 term=2 op=mul left=170141183460469231731687303715884105726 right=2
 ";
 
 #[test]
 fn fits_without_an_answer(rt: HostRuntime) {
-    expect_all(&rt, rt.alloc(), FITS, 3);
+    expect_all(&rt, rt.alloc(), FITS, 4);
 }
 
 // Words that are refused.

@@ -169,6 +169,10 @@ y,x;3,0.1e-40
 > process|--formula|y ~ f|--lo|1/2|--hi|1/2
 y,f;1,a;2,a
 1 quantreg: design: OneLevel factor=f
+# Twelve levels and eleven: 1 + 11 + 10 + 110 columns.
+> process|--formula|y ~ f*g|--lo|1/2|--hi|1/2
+y,f,g;1,a,m;2,b,n;3,c,o;4,d,p;5,e,q;6,f,r;7,g,s;8,h,t;9,i,u;10,j,v;11,k,w;12,l,m
+1 quantreg: design: TooManyColumns
 # The second record's product is 10^40, which is above 2^127.
 > process|--formula|y ~ x:z|--lo|1/2|--hi|1/2
 y,x,z;1,2,3;1,1e20,1e20
@@ -177,7 +181,7 @@ y,x,z;1,2,3;1,1e20,1e20
 
 #[test]
 fn tables_and_their_models_are_told(rt: HostRuntime) {
-    expect_all(&rt, rt.alloc(), FAULTS, 16);
+    expect_all(&rt, rt.alloc(), FAULTS, 17);
 }
 
 const MEDIAN: &str = "process|--formula|y ~ 1|--lo|1/2|--hi|1/2";
