@@ -8,6 +8,11 @@
 //! Everything together costs O(rows * columns) operations on fractions and O(columns^2) more; all
 //! coordinates of a row are looked at only where its residual is 0.
 //! Its tests stand in the crate `solver_tests`.
+//!
+//! `fraction_tableau` calls it so:
+//! ```text
+//! basic_solution(self.alloc, self.problem, &self.inverse, &self.basis)
+//! ```
 #![tactic(auto)]
 
 mod columns;

@@ -6,6 +6,14 @@
 //! what it had to stop for. It stands on `pivot_rule` for the definitions and their laws, and on the loop of
 //! `tableau` for the pivots.
 //! Its tests stand in the crate `solver_tests`.
+//!
+//! `interval_jobs` calls it so:
+//! ```text
+//! match solve_at(alloc, self.problem, tau, self.limit) {
+//!     Ok(solved) => Ok(SolvedAt { tau, solved }),
+//!     Err(stop) => Err(self.first_stop(tau, stop)),
+//! }
+//! ```
 #![tactic(auto)]
 
 mod solve;

@@ -6,6 +6,16 @@
 //! the conditions). Where a number is too wide for that, or memory is wanting, the answer is `false` too.
 //!
 //! It stands on the definitions of `loss_model` and the fractions of `frac_core`, and shares nothing with the solver.
+//!
+//! `cert_checker` calls it so:
+//! ```text
+//! let table = whole_table(alloc, &cert.problem);
+//!
+//! match self.table {
+//!     Some(table) => duals_balance(alloc, WholeProblem { problem, table }, segment),
+//!     None => false,
+//! }
+//! ```
 #![tactic(auto)]
 
 mod duals;

@@ -4,6 +4,17 @@
 //! `read_cert` gives the certificate of the bytes, or their first fault, as `specs/Certificates.antt`
 //! reads them; a text that was written, within the limits, is read as the same certificate. It stands on
 //! `loss_model`, whose types a certificate holds, and on `serde_json`.
+//!
+//! `rq_engine` reads and `report_text` writes so:
+//! ```text
+//! match read_cert(alloc, bytes) {
+//!     Ok(cert) => Ok(cert),
+//!     Err(CertFault::OutOfMemory) => Err(Halt::OutOfMemory),
+//!     Err(fault) => Err(Halt::Refused(Refusal::Certificate(fault))),
+//! }
+//!
+//! Report::Certificate(cert) => return write_cert(alloc, cert),
+//! ```
 #![tactic(auto)]
 
 mod cert;

@@ -8,6 +8,12 @@
 //! The crate's one contract: each entry and each name is that of the table in `specs/Coding.antt`.
 //! It stands on `frac_core` for texts alone.
 //! Its tests stand in the crate `ground_tests`.
+//!
+//! `design_matrix` calls it so:
+//! ```text
+//! contrasts::width(self.coding, count as u32)
+//! contrasts::label(alloc, self.variable.coding, &levels.texts, name, self.column)
+//! ```
 #![tactic(auto)]
 
 ghost use Rattle.std.specs.Prelude.{◌≡◌, ◌<◌, ◌≤◌, ◌^◌, ◌++◌, length, IfOk, decimal, string_bytes};

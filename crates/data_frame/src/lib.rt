@@ -26,6 +26,14 @@
 //! It stands on `csv` for the records, on `indexmap` for the places of names, and on `frac_core`
 //! for numbers and texts.
 //! Its tests stand in the crate `input_tests`.
+//!
+//! `rq_input` calls it so:
+//! ```text
+//! match read_table(alloc, bytes) {
+//!     Ok(frame) => table_input(alloc, job, ranked, &frame),
+//!     Err(fault) => Err(table_halt(fault)),
+//! }
+//! ```
 #![tactic(auto)]
 
 mod cell;

@@ -27,6 +27,20 @@
 //! It stands on `data_frame` for tables, on `formula_parser` for formulas, on `contrasts` for
 //! codings, and on `loss_model` for the place of an operation that overflows.
 //! Its tests stand in the crate `input_tests`.
+//!
+//! `rq_input` calls it so:
+//! ```text
+//! let design = match build(alloc, frame, model, job.coding, weights_of(job)) {
+//!     Ok(design) => design,
+//!     Err(fault) => return Err(design_halt(fault)),
+//! };
+//!
+//! let records = match predicted_records(alloc, self.frame, self.model, self.design) {
+//!     Ok(records) => records,
+//!     Err(_) => return Err(Halt::OutOfMemory),
+//! };
+//! predict_row(alloc, self.frame, self.model, self.coding, self.design, *rec)
+//! ```
 #![tactic(auto)]
 
 mod builder;

@@ -16,6 +16,14 @@
 //!
 //! One loop over the code keeps a stack of its own: no call is nested more deeply for a deeper or
 //! longer arithmetic. It stands on `frac_core`. Its tests stand in the crate `ground_tests`.
+//!
+//! `design_matrix` calls it so:
+//! ```text
+//! match numbers_in(alloc, frame, arith.names.as_slice(), index) {
+//!     Ok(numbers) => evaluate(alloc, arith, &numbers),
+//!     Err(_) => Err(ArithFault::OutOfMemory),
+//! }
+//! ```
 #![tactic(auto)]
 
 mod count;

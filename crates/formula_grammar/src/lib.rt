@@ -46,6 +46,12 @@
 //!
 //! It stands on `frac_core`, for number texts, lists and `OutOfMemory`.
 //! Its tests stand in the crate `input_tests`.
+//!
+//! `formula_parser` calls it so:
+//! ```text
+//! let tokens = tokens_of(alloc, text)?;
+//! let reading = read(alloc, tokens.as_slice())?;
+//! ```
 #![tactic(auto)]
 
 mod arith_levels;

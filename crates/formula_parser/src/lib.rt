@@ -39,6 +39,14 @@
 //! It stands on `formula_grammar` for the code of a formula, on `formula_arith` for what an arithmetic
 //! is, and on `frac_core` for texts, lists and fractions.
 //! Its tests stand in the crate `input_tests`.
+//!
+//! `rq_input` calls it so:
+//! ```text
+//! match parse(alloc, job.formula.as_str(), frame.names()) {
+//!     Ok(model) => Ok(model),
+//!     Err(fault) => Err(fault),
+//! }
+//! ```
 #![tactic(auto)]
 
 mod arithmetics;

@@ -7,6 +7,16 @@
 //! arithmetic of a formula, which layers above read and evaluate. The crate stands on `exact_algebra`, whose field ℚ its clauses speak of, and on
 //! `itoa` for the digits of whole numbers.
 //! Its tests stand in the crate `ground_tests`.
+//!
+//! `loss_model` adds so, and `rq_words` reads a number so:
+//! ```text
+//! match left.try_add(right) {
+//!     Ok(sum) => Ok(sum),
+//!     Err(op) => Err(spill_at(site, op)),
+//! }
+//!
+//! read_number(text).ok()
+//! ```
 #![tactic(auto)]
 
 mod arith;

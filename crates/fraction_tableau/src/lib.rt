@@ -6,6 +6,13 @@
 //! on `basic_solution` for the quantities at a basis, and on `lex_rule` for the order of ties. The line search
 //! is that of Barrodale and Roberts (1973).
 //! Its tests stand in the crate `solver_tests`.
+//!
+//! `tableau` begins and asks so:
+//! ```text
+//! let body = FractionTableau::begin(alloc, problem)?;
+//!
+//! Tableau::Fractions(body) => body.solving_step(theta),
+//! ```
 #![tactic(auto)]
 
 mod answers;

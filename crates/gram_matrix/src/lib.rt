@@ -5,6 +5,14 @@
 //! as `specs/Grams.antt` has them. The crate stands on `loss_model` for problems, on `rank_law` for what the matrix is, and
 //! on `basis_inverse` for the entries of lists of lists.
 //! Its tests stand in the crate `derived_tests`.
+//!
+//! `rank_inversion` calls it so:
+//! ```text
+//! let gram = match gram_problem(alloc, problem) {
+//!     Ok(gram) => gram,
+//!     Err(short) => return Err(early_stop(alloc, problem, short)),
+//! };
+//! ```
 #![tactic(auto)]
 
 mod columns;

@@ -6,6 +6,19 @@
 //! which they are asked and not in that in which the jobs end. It stands on `rank_inversion` and on the solve of
 //! `br_pivot` for the work, and on `rq_fan` for the jobs.
 //! Its tests are those of whole runs, in the crate `run_tests`.
+//!
+//! `rq_fit` calls it so:
+//! ```text
+//! let asks = RankAsks {
+//!     crit: rank.crit,
+//!     taus: rank.taus.as_slice(),
+//!     limit: job.limit,
+//! };
+//! match all_intervals(rt, alloc, problem, &asks, gate) {
+//!     Ok(intervals) => Ok(intervals),
+//!     Err(stopped) => Err(interval_halt(stopped)),
+//! }
+//! ```
 #![tactic(auto)]
 
 mod asks;

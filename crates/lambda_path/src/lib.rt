@@ -7,6 +7,14 @@
 //! laws of `laws`. The crate stands on `tv_penalty`, whose penalty rows it takes, on `loss_model`, whose problem it gives,
 //! and on `pivot_rule` for what lawful costs are.
 //! Its tests stand in the crate `derived_tests`.
+//!
+//! `rq_fit` calls it so:
+//! ```text
+//! let problem = match path_problem(alloc, &input.problem, first, job.tau) {
+//!     Ok(problem) => problem,
+//!     Err(fault) => return Err(path_halt(alloc, fault)),
+//! };
+//! ```
 #![tactic(auto)]
 
 mod costs;

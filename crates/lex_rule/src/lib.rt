@@ -5,6 +5,16 @@
 //! that can differ: the residual, those of the basis's rows in ascending order, and those of the rows
 //! themselves. It takes no memory. It stands on `basis_model`, and on `loss_model` for the types.
 //! Its tests stand in the crate `solver_tests`.
+//!
+//! `basic_solution` takes a sign so, and `fraction_tableau` breaks a tie so:
+//! ```text
+//! Ok(lex_sign(residual, coords.as_slice(), station.basis, row))
+//!
+//! match lex_less(&first, &second, line.tableau.basis(), line.position) {
+//!     Ok(less) => Ok(less),
+//!     Err(spill) => Err(Short::Overflow(spill)),
+//! }
+//! ```
 #![tactic(auto)]
 
 mod less;

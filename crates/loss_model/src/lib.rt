@@ -5,6 +5,12 @@
 //! values of equal cost show that coefficients minimise it. The crate stands on exact fractions
 //! (`frac_core`) and on the algebra below them (`exact_algebra`).
 //! Its tests stand in the crate `ground_tests`.
+//!
+//! `basic_solution` takes residuals and sums so:
+//! ```text
+//! made.add(residual_at(problem, row, coef)?)?;
+//! total = plus_product(site, total, inverse.entry(column, position), response)?;
+//! ```
 #![tactic(auto)]
 
 pub mod full_rank;

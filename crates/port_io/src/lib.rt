@@ -9,6 +9,21 @@
 //!
 //! It stands on `frac_core` for `OutOfMemory` alone.
 //! Its tests stand in the crate `ground_tests`.
+//!
+//! `rq_cli` reads and writes so:
+//! ```text
+//! match read_all(alloc, source) {
+//!     Ok(bytes) => Ok(bytes),
+//!     Err(ReadFault::Failed) => Err(Trouble::Source),
+//!     Err(ReadFault::TooLong) => Err(Trouble::Halt(Halt::Refused(Refusal::TooLong))),
+//!     Err(ReadFault::OutOfMemory) => Err(Trouble::Halt(Halt::OutOfMemory)),
+//! }
+//!
+//! match write_all(out, text) {
+//!     Ok(()) => Outcome::Done(report),
+//!     Err(Failed) => Outcome::SinkFault,
+//! }
+//! ```
 #![tactic(auto)]
 
 mod counts;

@@ -6,6 +6,12 @@
 //! `specs/Rearranged.antt` defines it, with ends of any size. The laws say that steps have one
 //! rearrangement. It stands on `loss_model`, whose processes are predicted from, and on `ratio`.
 //! Its tests stand in the crate `ground_tests`.
+//!
+//! `rq_fit` calls it so:
+//! ```text
+//! let steps = steps(alloc, process, row.x.as_slice(), row.offsets.as_slice(), rec)?;
+//! let rearranged = rearrange(alloc, steps.as_slice())?;
+//! ```
 #![tactic(auto)]
 
 pub mod laws;

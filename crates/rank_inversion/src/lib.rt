@@ -7,6 +7,18 @@
 //! `rank_test` once for a column, the solve of `br_pivot` once for a quantile, and `interval_from`. `IntervalJob` is
 //! an interval as a job of `rq_fan`. The crate stands on `br_pivot` for the solve, on the basis in fractions of
 //! `fraction_tableau` for the walks, on the laws of `rank_walk`, and on `rq_fan` for its job.
+//!
+//! `interval_jobs` calls its parts so, after `gram_inverse` and `solve_at`:
+//! ```text
+//! let test = match rank_test(alloc, self.problem, self.gram, asked) {
+//!     Ok(test) => test,
+//!     Err(stop) => return Err(stop),
+//! };
+//! match interval_from(alloc, self.problem, solved, test, self.limit) {
+//!     Ok(interval) => Ok(interval),
+//!     Err(stop) => Err(stop),
+//! }
+//! ```
 #![tactic(auto)]
 
 mod column_test;

@@ -5,6 +5,16 @@
 //! integral of each row's rankscore over 0 to 1, minus 1/2, as `specs/Wilcoxon.antt` defines it, as
 //! fractions of any size. The laws say that scores are bounded, and that Wilcoxon scores balance. It
 //! stands on `loss_model`, whose dual values are scored, and on `ratio`.
+//!
+//! `rq_fit` calls it so:
+//! ```text
+//! let pairs = scores(alloc, problem, data_rows, segment, number as u32)?;
+//!
+//! match wilcoxon(alloc, &problem, &process) {
+//!     Ok(wilcoxon) => Ok(ScoredProcess { process, wilcoxon }),
+//!     Err(OutOfMemory) => Err(Halt::OutOfMemory),
+//! }
+//! ```
 #![tactic(auto)]
 
 mod integral;

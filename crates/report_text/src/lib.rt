@@ -8,6 +8,16 @@
 //! `cert_text` and `cert_checker` for certificates and what is found to be false in them, and on
 //! `itoa`.
 //! Its tests stand in the crate `report_tests`.
+//!
+//! `rq_cli` calls it so:
+//! ```text
+//! match report_bytes(alloc, &report) {
+//!     Ok(text) => Ok((report, text)),
+//!     Err(_) => Err(Halt::OutOfMemory),
+//! }
+//!
+//! Trouble::Halt(halt) => fault_line(alloc, &Fault::Halt(halt)),
+//! ```
 #![tactic(auto)]
 
 mod checked;

@@ -5,6 +5,13 @@
 //! error has the outcome's line; each outcome has its cause in the words, the bytes and the counts of
 //! faults (`specs/Outcomes.antt`). It stands on `rq_engine` for reports and on `port_io` for streams.
 //! Its tests stand in the crate `run_tests`.
+//!
+//! `quantreg` calls it so, and a caller that has the words and the streams itself calls `run`:
+//! ```text
+//! ExitCode::from(program(&rt, rt.stdin(), rt.stdout(), rt.stderr()))
+//!
+//! let outcome = run(rt, alloc, words, source, out, err, gate);
+//! ```
 #![tactic(auto)]
 
 mod outcome;

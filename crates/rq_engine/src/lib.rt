@@ -7,6 +7,14 @@
 //! for generated tables, on `cert_text` and `cert_checker` for certificates, and on `report_text` for the types
 //! that it answers with.
 //! Its tests are those of whole runs, in the crate `run_tests`.
+//!
+//! `rq_cli` calls it so:
+//! ```text
+//! let report = match answer(rt, alloc, job, bytes, gate) {
+//!     Ok(report) => report,
+//!     Err(halt) => return Err(halt),
+//! };
+//! ```
 #![tactic(auto)]
 
 mod certify;

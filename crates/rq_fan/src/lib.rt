@@ -7,6 +7,21 @@
 //! shows it, through jobs that wait for each other.
 //!
 //! It stands on `frac_core` for `OutOfMemory` alone.
+//!
+//! `interval_jobs` states and runs its jobs so:
+//! ```text
+//! impl<'a> Work for SolveJob<'a, Frac128> {
+//!     type Answer = Result<SolvedAt<Frac128>, IntervalStop<Frac128>>;
+//!
+//!     ghost answers = { λ job answer. IsSolveAnswer value range job.0 job.1 answer };
+//!
+//!     fn work(self) -> Result<SolvedAt<Frac128>, IntervalStop<Frac128>> {
+//!         self.ranked.solve(self.alloc, self.tau)
+//!     }
+//! }
+//!
+//! let answers = run_jobs(rt, alloc, jobs)?;
+//! ```
 #![tactic(auto)]
 
 mod gate;

@@ -9,6 +9,14 @@
 //! It stands on `rq_input` for the input, on `tau_process` for the segments and the trail, on `rankscores`
 //! and `nested_test`, on `interval_jobs` for rank intervals, and on `report_text` for the types that it answers with.
 //! Its tests are those of whole runs, in the crate `run_tests`.
+//!
+//! `rq_engine` calls it so:
+//! ```text
+//! match read_input(alloc, job, ranked, bytes) {
+//!     Ok(input) => fit_input(rt, alloc, job, input, gate),
+//!     Err(halt) => Err(halt),
+//! }
+//! ```
 #![tactic(auto)]
 
 mod fit;

@@ -9,6 +9,14 @@
 //! `design_matrix`, `tv_penalty` and `rq_program` for the steps, on `rq_words` for the job and on
 //! `report_text` for the refusals, and on no solver. A law of `laws` says what the problem loses in
 //! the subject's words.
+//!
+//! `rq_engine` calls it so:
+//! ```text
+//! match read_input(alloc, job, ranked, bytes) {
+//!     Ok(input) => fit_input(rt, alloc, job, input, gate),
+//!     Err(halt) => Err(halt),
+//! }
+//! ```
 #![tactic(auto)]
 
 mod halt;

@@ -6,6 +6,15 @@
 //! command, and over the number text of `frac_core`; the contract says that each job and each
 //! fault is the one of that definition.
 //! Its tests stand in the crate `input_tests`.
+//!
+//! `rq_cli` calls it so:
+//! ```text
+//! match read_words(alloc, words) {
+//!     Ok(job) => Ok(job),
+//!     Err(WordFault::OutOfMemory) => Err(Trouble::Halt(Halt::OutOfMemory)),
+//!     Err(fault) => Err(Trouble::Words(fault)),
+//! }
+//! ```
 #![tactic(auto)]
 
 ghost use Rattle.std.specs.Prelude.{◌≡◌, ◌⊎◌, Err, map, string_bytes, drop};

@@ -3,6 +3,14 @@
 //! The one contract: `make` gives the bytes of `specs/Tables.antt`, whose cells are those of a linear
 //! congruential generator. It stands on `frac_core` for want of memory and the limit of records.
 //! Its tests stand in the crate `ground_tests`.
+//!
+//! `rq_engine` calls it so:
+//! ```text
+//! match make(alloc, job.number, job.rows, job.columns) {
+//!     Ok(table) => Ok(table),
+//!     Err(_) => Err(Halt::OutOfMemory),
+//! }
+//! ```
 #![tactic(auto)]
 
 mod generator;

@@ -4,6 +4,30 @@
 //! and don't know which body answers. The one contract for the layers above: `solve` goes by lawful steps from the
 //! start to a basis at which no slope is negative, and `walk_range` from there over a range of quantiles, or they say
 //! what they halted for. It stands on `fraction_tableau` and `whole_tableau`, and on the laws of `walk_rule`.
+//!
+//! `tau_process` calls it so; no answer means that whole numbers were too wide:
+//! ```text
+//! match Progress::begin_in_wholes(alloc, problem) {
+//!     Ok(begun) => process_from(alloc, begun, lo, hi, limit),
+//!     Err(Obstacle::OutOfMemory) => Some(Err(Stop::OutOfMemory)),
+//!     Err(Obstacle::TooWide) => None,
+//! }
+//!
+//! let solved = match solve_over(begun, lo, limit) {
+//!     Ok(solved) => solved,
+//!     Err(halt) => {
+//!         let stop = stop_of(halt, limit)?;
+//!         return Some(Err(stop));
+//!     }
+//! };
+//! match walk_range(alloc, solved, lo, hi, limit) {
+//!     Ok(walked) => Some(Ok(walked)),
+//!     Err(halt) => {
+//!         let stop = stop_of(halt, limit)?;
+//!         Some(Err(stop))
+//!     }
+//! }
+//! ```
 #![tactic(auto)]
 
 mod bodies;

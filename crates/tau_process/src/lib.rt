@@ -6,6 +6,14 @@
 //! without them, it says what it had to stop for. It stands on the two loops of `tableau`, and on the laws
 //! of `walk_rule`.
 //! Its tests stand in the crate `solver_tests`.
+//!
+//! `rq_fit` calls it so:
+//! ```text
+//! let walked = match process(alloc, &input.problem, job.lo, job.hi, job.limit) {
+//!     Ok(walked) => walked,
+//!     Err(stop) => return Err(stop_halt(Place::Process, stop)),
+//! };
+//! ```
 #![tactic(auto)]
 
 mod range;

@@ -14,6 +14,19 @@
 //!
 //! It stands on `design_matrix` for designs and columns, on `data_frame` and `formula_parser` for
 //! tables and smooths, and on `loss_model` for the place of an operation that overflows.
+//!
+//! `rq_input` asks for the rows of all smooths so, and `lambda_path` for one on each coefficient:
+//! ```text
+//! let smoothing = match qss_rows(alloc, frame, &design, model) {
+//!     Ok(smoothing) => smoothing,
+//!     Err(fault) => return Err(penalty_halt(fault)),
+//! };
+//!
+//! match l1_rows(alloc, columns, first, Frac128::one()) {
+//!     Ok(rows) => Ok(rows),
+//!     Err(_) => Err(OutOfMemory),
+//! }
+//! ```
 #![tactic(auto)]
 
 mod assembly;

@@ -5,6 +5,13 @@
 //! quantile are numbers over the determinant and the quantile's second part. The row is found by halving those that are left
 //! (Hoare 1961), of which nothing is promised: it is then tested in one pass over all rows, and that test is the whole
 //! proof. It stands on `whole_steps` for the slopes, and on `whole_ratio` for the order of the rows that move.
+//!
+//! `whole_tableau` calls it so:
+//! ```text
+//! let quantile = Quantile::of(theta)?;
+//! let station = Station { basis: &held, solution };
+//! let step = solving_step::<F>(self.alloc(), &station, quantile, columns)?;
+//! ```
 #![tactic(auto)]
 
 mod guess;

@@ -2,6 +2,12 @@
 //!
 //! How a factor is found doesn't matter: an entry is divided out and multiplied back, and where it
 //! isn't whole or doesn't fit into 64 bits, the call refuses.
+//!
+//! `whole_tableau` calls it so:
+//! ```text
+//! let wholes = whole_problem(alloc, problem)?;
+//! let limit = limit_of(wholes.rows.as_slice());
+//! ```
 #![tactic(auto)]
 
 mod factor;

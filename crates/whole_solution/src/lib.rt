@@ -5,6 +5,12 @@
 //! `solution_after` does so from what stood at another basis, of which it takes what rows weigh that keep their sides. Each
 //! number is a sum of products that one bound makes safe, in 64 bits or in halves of 64 bits where that allows, or is multiplied out in
 //! 256 bits. It stands on `whole_rows` for the problem, and on `whole_inverse` for the inverse of the basis.
+//!
+//! `whole_tableau` calls it so, at the start and after an exchange:
+//! ```text
+//! let solution = held.solution(alloc)?;
+//! let solution = after.solution_after(self.alloc(), before)?;
+//! ```
 #![tactic(auto)]
 
 mod basis;

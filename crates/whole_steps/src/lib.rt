@@ -5,6 +5,16 @@
 //! there, or refuse. Slopes are two numerators over the determinant, crossings are compared by cross products, and nothing is
 //! reduced. It stands on `whole_solution` for what stands at the basis, on `whole_ratio` for the order of the rows that move, and
 //! on `fraction_tableau` for the laws of a first crossing.
+//!
+//! `whole_tableau` calls it so:
+//! ```text
+//! let station = Station { basis: &held, solution };
+//! match station.first_crossing(self.problem().columns) {
+//!     Ok(None) => Ok(None),
+//!     Ok(Some(next)) => self.step_at(&station, next, hi),
+//!     Err(obstacle) => Err(obstacle),
+//! }
+//! ```
 #![tactic(auto)]
 
 mod crossings;
