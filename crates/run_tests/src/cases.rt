@@ -1,7 +1,6 @@
 //! Cases as texts: each of a text is run, and what is left is held to what is wanted.
 
 use crate::certificates::{CHAINED, FULL, expect_accepted, expect_told};
-use crate::helpers::{assert_left, ran_on};
 use std::alloc::Global;
 use std::process::Abort;
 use std::thread::Threads;
@@ -9,8 +8,6 @@ use std::thread::Threads;
 /// The kinds of cases. They are no trait: the check doesn't cover a method of one that is generic in the runtime.
 #[derive(Clone, Copy)]
 pub(crate) enum Kind {
-    /// A run.
-    Run,
     /// A certificate that is written and then checked.
     Written,
     /// The check of the certificate of version 1, where it is spoilt.
@@ -40,18 +37,8 @@ pub(crate) fn table_of(alloc: Global, lines: &str) -> Option<String> {
     Some(table)
 }
 
-// A case of a run: a line `> WORDS`, a line with the table, in which `;` stands for the ends of lines, and what is left:
-// the printed text, or the end of one behind a line `..`, or the exit status and the line that is told.
-fn expect_left<R: Abort + Threads + Sync>(rt: &R, alloc: Global, case: &str) {
-    let (words, lines, wanted) = parts(case).expect(rt, "three lines");
-    let table = table_of(alloc, lines).expect(rt, "memory");
-    let left = ran_on(rt, alloc, words, table.as_bytes());
-    assert_left(rt, alloc, &left, wanted, words);
-}
-
 fn expect<R: Abort + Threads + Sync>(rt: &R, alloc: Global, kind: Kind, case: &str) {
     match kind {
-        Kind::Run => expect_left(rt, alloc, case),
         Kind::Written => expect_accepted(rt, alloc, case),
         Kind::Spoilt => expect_told(rt, alloc, FULL, case),
         Kind::SpoiltChain => expect_told(rt, alloc, CHAINED, case),
@@ -72,14 +59,4 @@ pub(crate) fn expect_each<R: Abort + Threads + Sync>(
         tried = tried.wrapping_add(1);
     }
     assert!(rt; tried == count, "{tried} cases");
-}
-
-/// Tries each of so many cases of runs.
-pub(crate) fn expect_all<R: Abort + Threads + Sync>(
-    rt: &R,
-    alloc: Global,
-    cases: &str,
-    count: u32,
-) {
-    expect_each(rt, alloc, Kind::Run, (cases, count));
 }
