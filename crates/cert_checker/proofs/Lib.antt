@@ -1,5 +1,7 @@
 mod Spilled
 pub mod Decided
+mod Settlements
+mod Wide
 mod Parts
 mod Chains
 mod Steps

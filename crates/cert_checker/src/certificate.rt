@@ -2,8 +2,8 @@
 
 ghost use Rattle.std.specs.Prelude.{IfOk, IfErr};
 ghost use Rattle.cert_text.specs.Limits.{IsWithinLimits};
-ghost use Rattle.cert_checker.specs.Certificates.{first_tests, later_tests, tests, IsVerdict, IsStop};
-ghost use Rattle.cert_checker.specs.Verdicts.{Decides, DecidesUnlessHalted};
+ghost use Rattle.cert_checker.specs.Certificates.{first_tests, later_tests, tests, IsVerdict, IsStop, IsUntrue};
+ghost use Rattle.cert_checker.specs.Settled.{Settles};
 ghost use Rattle.cert_checker.specs.Views.{IsTableOf};
 
 use crate::form::{RowForm, SegmentCount, SegmentForm};
@@ -25,9 +25,9 @@ use std::thread::Threads;
 
 // The first three conditions.
 #[tactic(auto, unfolding(crate::specs::Certificates::first_tests))]
-fn decide_first(cert: &Cert) -> Result<(), Failure>
+fn decide_first(alloc: Global, cert: &Cert) -> Result<(), Halt>
     requires { IsWithinLimits cert.now }
-    ensures { Decides (first_tests cert.now) result }
+    ensures { Settles (first_tests cert.now) result }
 {
     let problem = &cert.problem;
     let range = One {
@@ -96,7 +96,7 @@ fn decide_first(cert: &Cert) -> Result<(), Failure>
             },
         },
     }
-    .decide()
+    .decide(alloc)
 }
 
 // The conditions on dual values, losses and intervals.
@@ -110,7 +110,7 @@ fn decide_quickly<R: Threads + Sync, G: Gate>(
 ) -> Result<(), Halt>
     requires limits { IsWithinLimits cert.now }
     requires table { IsTableOf cert.now.problem table.now }
-    ensures { DecidesUnlessHalted (later_tests cert.now) result }
+    ensures { Settles (later_tests cert.now) result }
 {
     let problem = &cert.problem;
     let list = &cert.segments;
@@ -137,8 +137,7 @@ fn decide_quickly<R: Threads + Sync, G: Gate>(
         list: &cert.intervals,
         of: IntervalConditions { problem },
     };
-    intervals.decide()?;
-    Ok(())
+    intervals.decide(alloc)
 }
 
 // The same, over the problem in whole numbers where it is narrow enough for that.
@@ -149,7 +148,7 @@ fn decide_later<R: Threads + Sync, G: Gate>(
     gate: &G,
 ) -> Result<(), Halt>
     requires { IsWithinLimits cert.now }
-    ensures { DecidesUnlessHalted (later_tests cert.now) result }
+    ensures { Settles (later_tests cert.now) result }
 {
     let table = whole_table(alloc, &cert.problem);
     decide_quickly(rt, alloc, cert, gate, &table)
@@ -163,9 +162,9 @@ fn decide_all<R: Threads + Sync, G: Gate>(
     gate: &G,
 ) -> Result<(), Halt>
     requires { IsWithinLimits cert.now }
-    ensures { DecidesUnlessHalted (tests cert.now) result }
+    ensures { Settles (tests cert.now) result }
 {
-    decide_first(cert)?;
+    decide_first(alloc, cert)?;
     decide_later(rt, alloc, cert, gate)
 }
 
@@ -199,6 +198,7 @@ pub fn check<R: Threads + Sync, G: Gate>(
     requires { IsWithinLimits cert.now }
     ensures verdict { IfOk result (IsVerdict cert.now) }
     ensures stop { IfErr result (IsStop cert.now) }
+    ensures untrue { IfErr result (IsUntrue cert.now) }
 {
     match decide_all(rt, alloc, cert, gate) {
         Ok(()) => Ok(Verdict::Accepted),

@@ -11,11 +11,12 @@ ghost use Rattle.cert_checker.specs.Formulas.{given};
 ghost use Rattle.cert_checker.specs.Tests.{AreTrue, Test, one, upto};
 ghost use Rattle.cert_checker.specs.Conditions.{each, zero_formula, low_of, high_of, side_in, dual_at_row, balance, bound_parts, bound_test, bounds, balances as balance_tests_of, losses as losses_of, loss_tests, cost_tests, row_costs, lo_at, hi_at, first_end, order_of_ends, joint_end, joint_tests, joints};
 ghost use Rattle.cert_checker.specs.Given.{AllGiven};
-ghost use Rattle.cert_checker.specs.Verdicts.{Decides};
+ghost use Rattle.cert_checker.specs.Settled.{Settles};
 ghost use Rattle.cert_checker.specs.Views.{IsSmall, IsTabled, end_of};
 ghost use Rattle.cert_checker.specs.declared.relation.Relation.TheVariants.{AtMost, Below, Equal};
 ghost use Rattle.loss_model.specs.declared.vertex.Side.TheVariants.{Basic};
 
+use crate::exact::widened;
 use crate::formula::{Count, Expression, Negation, Number};
 use crate::leaves::{
     BalanceTerms, DownCost, DualValue, EndView, LossTerms, ObjectiveTerms, RowSum, UpCost, rows,
@@ -24,10 +25,12 @@ use crate::place::{Place, Progress};
 use crate::quick::Quick;
 use crate::relation::Relation;
 use crate::tests::{Both, Comparison, One, Parts, Tests, TestsOf, Then, decide_each};
-use crate::verdict::Failure;
+use crate::verdict::{Failure, Halt};
 use cert_sums::side;
-use frac_core::{Exact, Frac128, List};
+use frac_core::{Exact, Frac128, List, OutOfMemory};
 use loss_model::{Problem, Segment, Side, Spill};
+use ratio::Ratio;
+use std::alloc::Global;
 
 // ---- condition 2
 
@@ -45,7 +48,7 @@ impl Tests for CostsAt<'_> {
 
     ghost few = { λ x. (x.row < 16384) × (x.inner ≤ 3) };
 
-    fn decide(self) -> Result<(), Failure> {
+    fn decide(self, alloc: Global) -> Result<(), Halt> {
         let problem = self.problem;
         let theta = self.theta;
         let row = self.row;
@@ -86,7 +89,7 @@ impl Tests for CostsAt<'_> {
             first: up,
             rest: down,
         }
-        .decide()
+        .decide(alloc)
     }
 }
 
@@ -103,7 +106,7 @@ impl TestsOf for CostRows<'_> {
 
     ghost given_of = { λ x i. i < 16384 };
 
-    fn decide_of(self, i: usize) -> Result<(), Failure> {
+    fn decide_of(self, alloc: Global, i: usize) -> Result<(), Halt> {
         let low = CostsAt {
             problem: self.problem,
             theta: self.lo,
@@ -120,7 +123,7 @@ impl TestsOf for CostRows<'_> {
             first: low,
             rest: high,
         }
-        .decide()
+        .decide(alloc)
     }
 }
 
@@ -165,6 +168,36 @@ impl Parts for BasicBounds<'_> {
         }
         .decide(at, done)
     }
+
+    fn hold(self, alloc: Global) -> Result<bool, OutOfMemory> {
+        let problem = self.end.problem;
+        let theta = self.end.theta;
+        let row = self.row;
+        let dual = DualValue { end: self.end, row };
+        let at_most = Comparison {
+            left: dual,
+            relation: Relation::AtMost,
+            right: UpCost {
+                problem,
+                theta,
+                row,
+            },
+        };
+        let at_least = Comparison {
+            left: dual,
+            relation: Relation::AtLeast,
+            right: Negation(DownCost {
+                problem,
+                theta,
+                row,
+            }),
+        };
+        Both {
+            first: at_most,
+            rest: at_least,
+        }
+        .hold(alloc)
+    }
 }
 
 /// The bounds of the dual values of an end.
@@ -180,7 +213,7 @@ impl TestsOf for BoundRows<'_> {
 
     ghost given_of = { λ x i. i < 16384 };
 
-    fn decide_of(self, i: usize) -> Result<(), Failure> {
+    fn decide_of(self, alloc: Global, i: usize) -> Result<(), Halt> {
         match side(self.end.vertex, i) {
             Side::Basic => One {
                 at: Place {
@@ -193,7 +226,7 @@ impl TestsOf for BoundRows<'_> {
                     row: i,
                 },
             }
-            .decide(),
+            .decide(alloc),
             Side::Up => Ok(()),
             Side::Down => Ok(()),
         }
@@ -215,7 +248,7 @@ impl TestsOf for BalanceColumns<'_> {
 
     ghost given_of = { λ x k. (k < 128) × (x.before ≤ 128) × (length x.end.problem.now.rows ≤ 16384) };
 
-    fn decide_of(self, i: usize) -> Result<(), Failure> {
+    fn decide_of(self, alloc: Global, i: usize) -> Result<(), Halt> {
         One {
             at: Place {
                 condition: 6,
@@ -234,7 +267,7 @@ impl TestsOf for BalanceColumns<'_> {
                 right: Count(0),
             },
         }
-        .decide()
+        .decide(alloc)
     }
 }
 
@@ -255,7 +288,7 @@ impl Tests for LossAt<'_> {
 
     ghost few = { λ x. IsSmall x.end.problem.now × (x.inner ≤ 3) };
 
-    fn decide(self) -> Result<(), Failure> {
+    fn decide(self, alloc: Global) -> Result<(), Halt> {
         let problem = self.end.problem;
         let loss = One {
             at: Place {
@@ -295,7 +328,7 @@ impl Tests for LossAt<'_> {
             first: loss,
             rest: objective,
         }
-        .decide()
+        .decide(alloc)
     }
 }
 
@@ -314,7 +347,7 @@ impl TestsOf for JointRows<'_> {
 
     ghost given_of = { λ x i. i < 16384 };
 
-    fn decide_of(self, i: usize) -> Result<(), Failure> {
+    fn decide_of(self, alloc: Global, i: usize) -> Result<(), Halt> {
         One {
             at: Place {
                 condition: 8,
@@ -333,7 +366,7 @@ impl TestsOf for JointRows<'_> {
                 },
             },
         }
-        .decide()
+        .decide(alloc)
     }
 }
 
@@ -348,9 +381,14 @@ pub(crate) trait SegmentTests: Copy {
     ghost segment_given: { Self → ℕ → Piece Fraction128 → Type 0 };
 
     /// Nothing where all are true.
-    fn decide_segment(self, index: u32, segment: &Segment<Frac128>) -> Result<(), Failure>
+    fn decide_segment(
+        self,
+        alloc: Global,
+        index: u32,
+        segment: &Segment<Frac128>,
+    ) -> Result<(), Halt>
         requires { segment_given self index segment.now }
-        ensures { Decides (segment_tests self index segment.now) result };
+        ensures { Settles (segment_tests self index segment.now) result };
 }
 
 /// The tests of all segments, one after the other.
@@ -365,9 +403,9 @@ impl<T: SegmentTests> TestsOf for Segments<'_, T> {
 
     ghost given_of = { λ x j. (j < 2 ^ 20) × AllGiven x.list.now (T.segment_given x.of) };
 
-    fn decide_of(self, i: usize) -> Result<(), Failure> {
+    fn decide_of(self, alloc: Global, i: usize) -> Result<(), Halt> {
         match self.list.as_slice().get(i) {
-            Some(segment) => self.of.decide_segment(i as u32 + 1, segment),
+            Some(segment) => self.of.decide_segment(alloc, i as u32 + 1, segment),
             None => Ok(()),
         }
     }
@@ -378,9 +416,9 @@ impl<T: SegmentTests> Tests for Segments<'_, T> {
 
     ghost few = { λ x. (length x.list.now ≤ 2 ^ 20) × AllGiven x.list.now (T.segment_given x.of) };
 
-    fn decide(self) -> Result<(), Failure> {
+    fn decide(self, alloc: Global) -> Result<(), Halt> {
         let count = self.list.as_slice().len();
-        decide_each(count, self)
+        decide_each(alloc, count, self)
     }
 }
 
@@ -396,9 +434,9 @@ impl<T: TestsOf> Tests for Rows<'_, T> {
 
     ghost few = { λ x. (length x.problem.now.rows ≤ 16384) × ((i : ℕ) → i < 16384 → T.given_of x.of i) };
 
-    fn decide(self) -> Result<(), Failure> {
+    fn decide(self, alloc: Global) -> Result<(), Halt> {
         let count = rows(self.problem);
-        decide_each(count, self.of)
+        decide_each(alloc, count, self.of)
     }
 }
 
@@ -414,8 +452,8 @@ impl<T: TestsOf> Tests for Columns<'_, T> {
 
     ghost few = { λ x. (x.problem.now.columns ≤ 128) × ((k : ℕ) → k < 128 → T.given_of x.of k) };
 
-    fn decide(self) -> Result<(), Failure> {
-        decide_each(self.problem.columns as usize, self.of)
+    fn decide(self, alloc: Global) -> Result<(), Halt> {
+        decide_each(alloc, self.problem.columns as usize, self.of)
     }
 }
 
@@ -431,7 +469,12 @@ impl SegmentTests for Bounds<'_> {
 
     ghost segment_given = { λ x j s. length x.problem.now.rows ≤ 16384 };
 
-    fn decide_segment(self, index: u32, segment: &Segment<Frac128>) -> Result<(), Failure> {
+    fn decide_segment(
+        self,
+        alloc: Global,
+        index: u32,
+        segment: &Segment<Frac128>,
+    ) -> Result<(), Halt> {
         if self.high {
             let end = EndView {
                 problem: self.problem,
@@ -447,7 +490,7 @@ impl SegmentTests for Bounds<'_> {
                     end,
                 },
             }
-            .decide();
+            .decide(alloc);
         }
         let end = EndView {
             problem: self.problem,
@@ -463,7 +506,7 @@ impl SegmentTests for Bounds<'_> {
                 end,
             },
         }
-        .decide()
+        .decide(alloc)
     }
 }
 
@@ -478,7 +521,12 @@ impl SegmentTests for Balances<'_> {
 
     ghost segment_given = { λ x j s. IsSmall x.quick.problem.now × IsTabled x.quick };
 
-    fn decide_segment(self, index: u32, segment: &Segment<Frac128>) -> Result<(), Failure> {
+    fn decide_segment(
+        self,
+        alloc: Global,
+        index: u32,
+        segment: &Segment<Frac128>,
+    ) -> Result<(), Halt> {
         if self.quick.duals_balance(segment) {
             return Ok(());
         }
@@ -514,7 +562,7 @@ impl SegmentTests for Balances<'_> {
                 },
             },
         }
-        .decide()
+        .decide(alloc)
     }
 }
 
@@ -529,7 +577,12 @@ impl SegmentTests for Losses<'_> {
 
     ghost segment_given = { λ x j s. IsSmall x.quick.problem.now × IsTabled x.quick × AreTrue (balance_tests_of (sample value128 x.quick.problem.now) j s) };
 
-    fn decide_segment(self, index: u32, segment: &Segment<Frac128>) -> Result<(), Failure> {
+    fn decide_segment(
+        self,
+        alloc: Global,
+        index: u32,
+        segment: &Segment<Frac128>,
+    ) -> Result<(), Halt> {
         if self.quick.losses_hold(index, segment) {
             return Ok(());
         }
@@ -559,7 +612,7 @@ impl SegmentTests for Losses<'_> {
             first: low,
             rest: high,
         }
-        .decide()
+        .decide(alloc)
     }
 }
 
@@ -576,10 +629,10 @@ fn decide_joint(
     index: u32,
     segment: &Segment<Frac128>,
     next: &Segment<Frac128>,
-) -> Result<(), Failure>
+) -> Result<(), Halt>
     requires few { length quick.problem.now.rows ≤ 16384 }
     requires table { IsTabled quick }
-    ensures { Decides (joint_tests (sample value128 quick.entry.problem.now) index segment.now next.now) result }
+    ensures { Settles (joint_tests (sample value128 quick.entry.problem.now) index segment.now next.now) result }
 {
     if quick.duals_meet(segment, next) {
         return Ok(());
@@ -601,7 +654,7 @@ fn decide_joint(
         problem,
         of: JointRows { index, high, low },
     }
-    .decide()
+    .decide(quick.alloc)
 }
 
 impl SegmentTests for Joints<'_> {
@@ -609,7 +662,12 @@ impl SegmentTests for Joints<'_> {
 
     ghost segment_given = { λ x j s. (length x.quick.problem.now.rows ≤ 16384) × IsTabled x.quick };
 
-    fn decide_segment(self, index: u32, segment: &Segment<Frac128>) -> Result<(), Failure> {
+    fn decide_segment(
+        self,
+        alloc: Global,
+        index: u32,
+        segment: &Segment<Frac128>,
+    ) -> Result<(), Halt> {
         match self.list.as_slice().get(index as usize) {
             Some(next) => decide_joint(self.quick, index, segment, next),
             None => Ok(()),
@@ -655,6 +713,10 @@ impl Expression for LowEnd<'_> {
             done,
         })
     }
+
+    fn exact(self, alloc: Global) -> Result<Ratio, OutOfMemory> {
+        widened(alloc, low_at(self.list, self.place))
+    }
 }
 
 /// Where it ends.
@@ -673,6 +735,10 @@ impl Expression for HighEnd<'_> {
             done,
         })
     }
+
+    fn exact(self, alloc: Global) -> Result<Ratio, OutOfMemory> {
+        widened(alloc, high_at(self.list, self.place))
+    }
 }
 
 /// The ends of the segments of a range.
@@ -685,8 +751,8 @@ pub(crate) struct Ends<'a> {
 
 impl Ends<'_> {
     // The first segment begins where the range does.
-    fn first(self, segment: usize) -> Result<(), Failure>
-        ensures { Decides (first_end self.entry.list.now (rational (value128 self.entry.lo)) segment) result }
+    fn first(self, alloc: Global, segment: usize) -> Result<(), Halt>
+        ensures { Settles (first_end self.entry.list.now (rational (value128 self.entry.lo)) segment) result }
     {
         if segment != 0 {
             return Ok(());
@@ -706,13 +772,13 @@ impl Ends<'_> {
                 right: Number(self.lo),
             },
         }
-        .decide()
+        .decide(alloc)
     }
 
     // A segment has a length, but for a single one.
-    fn order(self, segment: usize) -> Result<(), Failure>
+    fn order(self, alloc: Global, segment: usize) -> Result<(), Halt>
         requires { segment < 2 ^ 20 }
-        ensures { Decides (order_of_ends self.entry.list.now segment) result }
+        ensures { Settles (order_of_ends self.entry.list.now segment) result }
     {
         let relation = order_in(self.list.as_slice().len());
         One {
@@ -733,13 +799,13 @@ impl Ends<'_> {
                 },
             },
         }
-        .decide()
+        .decide(alloc)
     }
 
     // It ends where the next one begins, or where the range does.
-    fn joint(self, segment: usize) -> Result<(), Failure>
+    fn joint(self, alloc: Global, segment: usize) -> Result<(), Halt>
         requires { segment < 2 ^ 20 }
-        ensures { Decides (joint_end self.entry.list.now (rational (value128 self.entry.hi)) segment) result }
+        ensures { Settles (joint_end self.entry.list.now (rational (value128 self.entry.hi)) segment) result }
     {
         let index = segment as u32 + 1;
         let left = HighEnd {
@@ -759,7 +825,7 @@ impl Ends<'_> {
                     right: Number(self.hi),
                 },
             }
-            .decide();
+            .decide(alloc);
         }
         One {
             at: Place {
@@ -776,7 +842,7 @@ impl Ends<'_> {
                 },
             },
         }
-        .decide()
+        .decide(alloc)
     }
 }
 
@@ -795,10 +861,10 @@ impl TestsOf for Ends<'_> {
 
     ghost given_of = { λ x j. j < 2 ^ 20 };
 
-    fn decide_of(self, i: usize) -> Result<(), Failure> {
-        self.first(i)?;
-        self.order(i)?;
-        self.joint(i)
+    fn decide_of(self, alloc: Global, i: usize) -> Result<(), Halt> {
+        self.first(alloc, i)?;
+        self.order(alloc, i)?;
+        self.joint(alloc, i)
     }
 }
 
@@ -807,8 +873,8 @@ impl Tests for Ends<'_> {
 
     ghost few = { λ x. length x.list.now ≤ 2 ^ 20 };
 
-    fn decide(self) -> Result<(), Failure> {
+    fn decide(self, alloc: Global) -> Result<(), Halt> {
         let count = self.list.as_slice().len();
-        decide_each(count, self)
+        decide_each(alloc, count, self)
     }
 }

@@ -169,3 +169,14 @@ fn an_operation_that_overflows_bears_its_number(rt: HostRuntime) -> Result<(), F
     assert!(rt; overflows(&rt, second.as_bytes(), &product));
     Ok(())
 }
+
+/// Two rows with the entry 2^127 - 1, of which the first is fitted up to 2/5. There its dual value is -2/5 and that of the
+/// second 2/5, so that the products with the entries need 128 bits and come to 0.
+static GREATEST_ENTRIES: &str =
+    r#"{"columns":1,"hi":"2/5","intervals":[],"kind":"quantreg-certificate","lo":"0","rows":[{"down0":"1","down1":"-1","up0":"0","up1":"1","x":["170141183460469231731687303715884105727"],"y":"0"},{"down0":"1","down1":"-1","up0":"0","up1":"1","x":["170141183460469231731687303715884105727"],"y":"3"}],"segments":[{"basic_hi":["-2/5"],"basic_lo":["0"],"coef":["0"],"hi":"2/5","lo":"0","loss_hi":"6/5","loss_lo":"0","sides":"*+"}],"version":1}"#;
+
+#[test]
+fn a_sum_whose_terms_overflow_is_compared(rt: HostRuntime) -> Result<(), Fail> {
+    assert!(rt; is_accepted(&rt, GREATEST_ENTRIES.as_bytes()));
+    Ok(())
+}

@@ -95,17 +95,27 @@ fn a_column_that_the_others_make_has_no_interval(rt: HostRuntime) -> Result<(), 
     Ok(())
 }
 
-// The square of the statistic takes two times 17 operations and one, the product of critical value, quantile
-// and 1 minus that three, and the squared length 19.
+static GREATEST: &str = r#""crit":"170141183460469231731687303715884105727""#;
+
+// The square of the statistic is 25/4, and its bound (2^127 - 1)/4 times 5, which has 128 bits.
 #[test]
-fn the_bound_of_an_interval_overflows_at_its_last_product(rt: HostRuntime) -> Result<(), Fail> {
-    let greatest = r#""crit":"170141183460469231731687303715884105727""#;
-    let text = changed(rt.alloc(), FIVE, r#""crit":"5""#, greatest)?;
+fn a_bound_past_128_bits_is_compared(rt: HostRuntime) -> Result<(), Fail> {
+    let text = changed(rt.alloc(), FIVE, r#""crit":"5""#, GREATEST)?;
+    assert!(rt; is_accepted(&rt, text.as_bytes()));
+    Ok(())
+}
+
+// Inside the low end the square of the statistic is within that bound, but beyond it too. The statistic takes 7 operations
+// and 7 twice and one for its square, the product of critical value, quantile and 1 minus that three, and the
+// squared length 29.
+#[test]
+fn a_bound_that_is_not_passed_overflows_at_its_last_product(rt: HostRuntime) -> Result<(), Fail> {
+    let text = changed(rt.alloc(), RANKED, r#""crit":"6/7""#, GREATEST)?;
     let product = Operation {
-        place: (9, 1, 14),
-        term: 58,
+        place: (9, 1, 17),
+        term: 55,
         left: (i128::MAX, 4),
-        right: (5, 1),
+        right: (14, 3),
     };
     assert!(rt; overflows(&rt, text.as_bytes(), &product));
     Ok(())
