@@ -94,6 +94,11 @@ module _ {F : Type 0} (value : F → Fraction) (p : Problem F) where
       All-cons (λ (interval : Interval F). (factors : List F) → IsKeptInterval (stated interval factors)) x xs
       (kept_interval x few h.0.lawful.conditions.column h.0.lawful.lawful) (intervals_kept limit few others xs h.1)
 
+-- a list of no length is empty
+pub nothing_left : {A : Type 0} (xs : List A) → length xs ≡ 0 → xs ≡ []
+nothing_left [] h = refl
+nothing_left (x ∷ xs) h = absurd (omega (arith, h))
+
 -- what is stated of one interval more
 pub stated_more : {F : Type 0} (made : List (IntervalProof F)) (r : Interval F) (x : IntervalProof F) (left : List (Interval F)) → Some x ≡ statement r
     → map Some (made ++ x ∷ []) ++ map statement left ≡ map Some made ++ map statement (r ∷ left)

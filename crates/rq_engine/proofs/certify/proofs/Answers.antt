@@ -1,8 +1,8 @@
-use Rattle.std.proofs.Common.{rules, ◌≡◌, suc, [], ◌∷◌, ◌++◌, ◌∙◌, All, Some, map, append-nil, arith, subst, sym}
+use Rattle.std.proofs.Common.{◌≡◌, suc, [], ◌∷◌, ◌++◌, ◌∙◌, All, Some, ap, append-nil, arith, length, map, subst, sym}
 use Rattle.std.specs.Vec.Iter.{into_iter_items}
 use Rattle.rank_walk.specs.Intervals.{statement}
 use Rattle.rq_fit.specs.Intervals.{HasFactors}
-use Rattle.rq_engine.proofs.Certifying.{stated_more}
+use Rattle.rq_engine.proofs.Certifying.{nothing_left, stated_more}
 use Rattle.rq_engine.proofs.certify.proofs.Goals as goal
 
 pub proof_of-requires-after_bounds : goal.proof_of-requires-after_bounds
@@ -21,11 +21,12 @@ loop-interval-preserved g c =
       all_stated = subst (λ made. map Some made ++ map statement left ≡ map statement c.args.intervals) (sym added)
           (stated_more at.proofs r c.proof_of.result left c.proof_of.ensures ∙ subst (λ items. map Some at.proofs ++ map statement items ≡ map statement c.args.intervals) steps at.invariant.all_stated);
       listed = λ k d l. subst (All HasFactors) steps at.invariant.listed (suc k) d (omega (arith, l));
+      counted = let was = at.invariant.counted in let gone = c.in-Some.ensures.steps.1 in let short = ap length steps in omega (arith, was, gone, short);
     }
 
 pub returns : goal.returns
 returns g c =
     let at = c.loop-interval in
-    let done : into_iter_items at.interval-iterator ≡ [] = search rules in
+    let done : into_iter_items at.interval-iterator ≡ [] = nothing_left _ (sym at.invariant.counted ∙ c.in-None.ensures.steps.0) in
     sym (append-nil (map Some at.proofs))
     ∙ subst (λ items. map Some at.proofs ++ map statement items ≡ map statement c.args.intervals) done at.invariant.all_stated
