@@ -45,7 +45,7 @@ path_exact <- function(formula, data = NULL, tau = 0.5, lo, hi = lo, weights = N
 
 # The test of the columns with these numbers by the job test, or by gmp: texts, the names of the columns, and a note.
 tested_by <- function(model, tested) {
-    rescued(c("test", "gram", "process", "full"), report_of(model, "test", list(tested = tested)), function(fault) {
+    rescued(c("test", "process", "full"), report_of(model, "test", list(tested = tested)), function(fault) {
         need_gmp(fault)
         names <- report_of(model, "process", list(lo = "1/2", hi = "1/2"))$names
         c(exact_rank_test(model, as.integer(tested)), list(names = names, tested = as.integer(tested), note = rescue_note(fault)))
