@@ -1,5 +1,5 @@
 -- The certificate of a right fit, and why there is none.
-use Rattle.std.proofs.Common.{◌≡◌, ◌<◌, ◌≤◌, ℕ, suc, Bool, List, [], ◌∷◌, All, Contains, get_or, is_some, length, map, Some, slice_index, arith, refl, sym, subst, ◌∙◌}
+use Rattle.std.proofs.Common.{◌≡◌, ◌<◌, ◌≤◌, ℕ, suc, Bool, List, [], ◌∷◌, ◌++◌, All, Contains, get_or, is_some, length, map, Some, slice_index, arith, refl, sym, ap, subst, ◌∙◌}
 use Rattle.std.specs.List.{AllZip}
 use Rattle.std.proofs.lemmas.List.Elements.{All-cons, All-nil}
 use Rattle.exact_algebra.specs.Fraction.{Fraction, rational}
@@ -93,6 +93,12 @@ module _ {F : Type 0} (value : F → Fraction) (p : Problem F) where
   intervals_kept limit few (a ∷ others) (x ∷ xs) h =
       All-cons (λ (interval : Interval F). (factors : List F) → IsKeptInterval (stated interval factors)) x xs
       (kept_interval x few h.0.lawful.conditions.column h.0.lawful.lawful) (intervals_kept limit few others xs h.1)
+
+-- what is stated of one interval more
+pub stated_more : {F : Type 0} (made : List (IntervalProof F)) (r : Interval F) (x : IntervalProof F) (left : List (Interval F)) → Some x ≡ statement r
+    → map Some (made ++ x ∷ []) ++ map statement left ≡ map Some made ++ map statement (r ∷ left)
+stated_more [] r x left e = ap (λ o. o ∷ map statement left) e
+stated_more (m ∷ made) r x left e = ap (λ l. Some m ∷ l) (stated_more made r x left e)
 
 -- what is stated of intervals keeps what they keep
 pub proofs_kept : (intervals : List (Interval Frac128)) (proofs : List (IntervalProof Frac128)) → map Some proofs ≡ map statement intervals → All IsKept intervals → All IsKeptInterval proofs

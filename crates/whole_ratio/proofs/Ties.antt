@@ -1,25 +1,24 @@
 -- The order of perturbed ratios, by the first entries or by all.
-use Rattle.std.specs.Prelude.{◌≡◌, ◌≢◌, ◌↔◌, ℕ, zero, suc, ℤ, ◌*◌, ◌+◌, ◌<◌, ◌≤◌, ◌<ℤ◌, ◌≤ℤ◌, Bool, true, false, not, IsTrue, neg_ℤ, unsigned_abs, [], ◌∷◌, get_or, length, pos}
+use Rattle.std.specs.Prelude.{◌≡◌, ◌≢◌, ◌↔◌, ℕ, suc, ℤ, ◌*◌, ◌+◌, ◌<◌, ◌≤◌, ◌<ℤ◌, ◌≤ℤ◌, Bool, true, false, not, IsTrue, neg_ℤ, unsigned_abs, [], ◌∷◌, get_or, length, pos}
 use Rattle.std.specs.Ordering.{is_lt, is_eq, is_ne, nat_cmp, ordering_reverse}
 use Rattle.std.specs.declared.cmp.Ordering.{Ordering}
 use Rattle.std.specs.declared.cmp.Ordering.TheVariants.{Less, Equal, Greater}
 use Rattle.std.proofs.Common.{arith, refl, sym, ap, ap₂, subst, ◌∙◌}
 use Rattle.std.proofs.lemmas.Int.{ints}
-use Rattle.exact_algebra.specs.Rational.{ℚ, ◌*ℚ◌, neg_ℚ, inverse, whole, ◌≤ℚ◌}
+use Rattle.exact_algebra.specs.Rational.{ℚ, ◌*ℚ◌, neg_ℚ, inverse, whole}
 use Rattle.exact_algebra.specs.Order.{cmp_ℚ}
 use Rattle.exact_algebra.specs.Solver.{negated, ◌⊠◌, v0, v1}
 use Rattle.exact_algebra.proofs.RationalLaws.{ring_ℚ, ≤ℚ_trans}
 use Rattle.exact_algebra.proofs.OrderLaws.{cmp_ℚ-Equal, cmp_ℚ-Less, cmp_ℚ-Greater}
 use Rattle.loss_model.specs.declared.vertex.Side.{Side}
 use Rattle.loss_model.specs.declared.vertex.Side.TheVariants.{Up, Down, Basic}
-use Rattle.loss_model.specs.Sample.{residual}
 use Rattle.loss_model.specs.Spill.{abs_ℚ}
 use Rattle.basis_model.specs.Lexicographic.{lex_cmp}
 use Rattle.basis_model.proofs.LexicographicLaws.{lex_cmp-first, lex_cmp-Equal}
-use Rattle.basis_model.specs.Perturbed.{Nonbasic, IsOutside, perturbed, perturbed_side, turned, zeros}
-use Rattle.basis_model.specs.Basis.{coord, coefficient, outside_row}
+use Rattle.basis_model.specs.Perturbed.{IsOutside, perturbed, perturbed_side, turned, zeros}
+use Rattle.basis_model.specs.Basis.{coord, outside_row}
 use Rattle.pivot_rule.proofs.Passing.{mover_some, is_outside}
-use Rattle.lex_rule.proofs.Comparisons.{equal_from, side_cases, held_entry, agree_between, agree_more, decided, same_entry, less_from_first, left_decides, right_decides}
+use Rattle.lex_rule.proofs.Comparisons.{equal_from, side_cases, held_entry, agree_between, agree_more, less_from_first, left_decides, right_decides}
 use Rattle.whole_inverse.specs.Shares.{share, whole_at}
 use Rattle.whole_rows.specs.declared.rows.WholeRow.{WholeRow}
 use Rattle.whole_rows.specs.Wholes.{of_whole}

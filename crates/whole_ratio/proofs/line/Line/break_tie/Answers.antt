@@ -1,5 +1,5 @@
 -- By the first entry that differs, or by the lesser of both rows.
-use Rattle.std.proofs.Common.{◌≡◌, ◌<◌, ◌↔◌, IsTrue, arith, sym, ap, ap₂, ◌∙◌, true, false}
+use Rattle.std.proofs.Common.{◌≡◌, ◌<◌, arith, sym, ap, ap₂, ◌∙◌, true, false}
 use Rattle.std.specs.Ordering.{is_ne}
 use Rattle.whole_ratio.specs.Lines.{comes_before}
 use Rattle.whole_ratio.specs.Ties.{ratio_of}

@@ -1,5 +1,5 @@
 -- The coordinate at the position, on the side of the row.
-use Rattle.std.proofs.Common.{rules, ◌≡◌, ℤ, length, pos, to_z, of_z, ap, ◌∙◌}
+use Rattle.std.proofs.Common.{rules, ◌≡◌, length, to_z, of_z, ap, ◌∙◌}
 use mir.Syntax.{w128}
 use Rattle.exact_matrices.specs.Matrices.{coordinate}
 use Rattle.whole_inverse.specs.Shares.{share, whole_at}

@@ -1,9 +1,8 @@
 -- The entries at the rows of the basis, one after the other.
-use Rattle.std.proofs.Common.{◌≡◌, ℕ, ◌<◌, ◌+◌, suc, true, false, List, slice_index, slice_index_or, arith, sym, ap, ◌∙◌}
+use Rattle.std.proofs.Common.{◌≡◌, ℕ, true, false, List, slice_index, slice_index_or, arith, sym, ap, ◌∙◌}
 use Rattle.std.specs.Ordering.{is_ne}
-use Rattle.exact_algebra.specs.Order.{cmp_ℚ}
 use Rattle.whole_ratio.specs.Lines.{at_of, model}
-use Rattle.whole_ratio.specs.Ties.{ratio_of, IsLeastHeld, HoldsNone}
+use Rattle.whole_ratio.specs.Ties.{IsLeastHeld, HoldsNone}
 use Rattle.whole_ratio.proofs.Ties.{agree_first, all_agree, entry_decides, entry_agrees}
 use Rattle.whole_ratio.proofs.line.Line.order_before.Goals as goal
 
