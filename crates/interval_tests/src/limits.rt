@@ -2,8 +2,8 @@
 //! trail.
 
 use crate::helpers::{
-    Question, Ratio, Step, answered, expect, expect_steps, in_wholes, problem, ratio, stopped,
-    stopped_by_parts,
+    Question, Ratio, Step, answered, expect, expect_steps, problem, ratio, stopped,
+    stopped_by_parts, whole_numbers_answer,
 };
 use frac_core::{Exact, Frac64, Frac128, OpKind};
 use loss_model::{Quantity, Site, Stop, Trail};
@@ -114,14 +114,14 @@ fn limits_below_five_steps(rt: HostRuntime) {
 fn whole_numbers_refuse(rt: HostRuntime) {
     let rows = problem::<Frac128>(&rt, rt.alloc(), 1, FIVE.as_slice());
     for limit in 0..5 {
-        assert!(&rt; in_wholes(&rt, rt.alloc(), &rows, OF_FIVE, limit).is_none());
+        assert!(&rt; !whole_numbers_answer(&rt, rt.alloc(), &rows, OF_FIVE, limit));
     }
-    assert!(&rt; in_wholes(&rt, rt.alloc(), &rows, OF_FIVE, 5).is_some());
+    assert!(&rt; whole_numbers_answer(&rt, rt.alloc(), &rows, OF_FIVE, 5));
     drop(rows);
-    let rows = problem::<Frac128>(&rt, rt.alloc(), 1, HIGH.as_slice());
-    assert!(&rt; in_wholes(&rt, rt.alloc(), &rows, OF_FIVE, 100).is_none());
-    drop(answered(&rt, rt.alloc(), &rows, OF_FIVE, 100));
-    drop(rows);
+    let high = problem::<Frac128>(&rt, rt.alloc(), 1, HIGH.as_slice());
+    assert!(&rt; !whole_numbers_answer(&rt, rt.alloc(), &high, OF_FIVE, 100));
+    drop(answered(&rt, rt.alloc(), &high, OF_FIVE, 100));
+    drop(high);
 }
 
 #[test]
