@@ -11,6 +11,7 @@ use Rattle.rq_words.specs.declared.job.Job.TheVariants as jobs
 use Rattle.report_text.specs.declared.report.Report.{Report}
 use Rattle.report_text.specs.declared.report.Report.TheVariants as reports
 use Rattle.report_text.specs.declared.report.Refusal.TheVariants as refusals
+use Rattle.report_text.specs.declared.report.Place.TheVariants as places
 use Rattle.report_text.specs.declared.report.Halt.{Halt}
 use Rattle.report_text.specs.declared.report.Halt.TheVariants.{Refused, OutOfMemory, PivotLimit, Overflow, Rejected}
 use Rattle.rq_engine.specs.Answers.{HasCause, IsRight}
@@ -63,6 +64,11 @@ module _ (same : SameContent) (bytes : List ℕ) (cert : Cert) (back : IsCertOf 
   undecided (Refused (refusals.TooManyPredictions found)) h = absurd h
   undecided OutOfMemory h = tt
   undecided (PivotLimit place limit trail) h = absurd h
-  undecided (Overflow place trail spill) h = tt
+  undecided (Overflow places.Process trail spill) h = absurd h
+  undecided (Overflow (places.Interval column tau) trail spill) h = absurd h
+  undecided (Overflow places.Check trail spill) h = absurd (h.1.untrue (subst (λ (c : Cert). AreTrue (tests c)) (sym (same_cert h.1.cert h.1.is)) sound))
+  undecided (Overflow places.Full trail spill) h = absurd h
+  undecided (Overflow (places.Predict rec) trail spill) h = absurd h
+  undecided (Overflow places.Path trail spill) h = absurd h
   undecided (Rejected rejection) h =
       absurd (none_false (tests cert) rejection sound (subst (λ (c : Cert). IsFirstFalse (tests c) rejection) (same_cert h.cert h.is) h.first))

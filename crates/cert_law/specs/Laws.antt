@@ -1,4 +1,4 @@
--- Law. What `certify` writes passes: `check` of its text accepts it, unless memory ends or an operation of a test overflows.
+-- Law. What `certify` writes passes: `check` of its text accepts it, unless memory ends.
 use Rattle.std.specs.Prelude.{◌≡◌, ℕ, List, ⊤}
 use Rattle.cert_text.specs.Limits.{IsWithinLimits}
 use Rattle.cert_text.specs.Trees.{cert_text}
@@ -10,19 +10,18 @@ use Rattle.rq_words.specs.declared.job.Job.TheVariants as jobs
 use Rattle.report_text.specs.declared.report.Report.{Report}
 use Rattle.report_text.specs.declared.report.Report.TheVariants as reports
 use Rattle.report_text.specs.declared.report.Halt.{Halt}
-use Rattle.report_text.specs.declared.report.Halt.TheVariants.{OutOfMemory, Overflow}
+use Rattle.report_text.specs.declared.report.Halt.TheVariants.{OutOfMemory}
 use Rattle.rq_engine.specs.Answers.{HasCause, IsRight}
 use Rattle.rq_engine.specs.Jobs.{IsJobOf}
 use Rattle.rq_engine.specs.Checks.{IsCertOf}
 
--- want of memory, or an operation that overflows
+-- want of memory
 abbrev pub IsUndecided : Halt → Type 0
 IsUndecided OutOfMemory = ⊤
-IsUndecided (Overflow place trail spill) = ⊤
 IsUndecided halt = ⊥
 
 -- the text of the certificate is read as the certificate, all its conditions are true, the one report of its text is
--- that it is accepted, and it is halted by nothing but want of memory or an overflow
+-- that it is accepted, and it is halted by nothing but want of memory
 pub record Passes (cert : Cert) : Type 0 where
   pub within : IsWithinLimits cert
   pub back : IsCertOf (cert_text cert) cert

@@ -6,7 +6,7 @@ use cert_text::same_content;
 
 /// What `certify` writes for any words and any table is within the limits of what is read, is read as the
 /// certificate that was written, and makes all conditions true. So `check` of its text answers that it is
-/// accepted, that no memory was found, or that an operation of a test overflows, and nothing else.
+/// accepted, or that no memory was found, and nothing else.
 pub fn written_certificates_pass()
     ensures { WrittenCertificatesPass }
 {

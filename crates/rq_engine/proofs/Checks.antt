@@ -10,7 +10,7 @@ use Rattle.cert_text.specs.Limits.{IsWithinLimits, most_intervals, most_segments
 use Rattle.cert_text.specs.Reading.{Reading, on_read, or_shape}
 use Rattle.cert_text.specs.declared.cert.Cert.{Cert}
 use Rattle.cert_text.specs.declared.fault.CertFault.{CertFault}
-use Rattle.cert_checker.specs.Certificates.{IsStop}
+use Rattle.cert_checker.specs.Certificates.{IsStop, IsUntrue}
 use Rattle.cert_checker.specs.declared.verdict.CheckStop.{CheckStop}
 use Rattle.cert_checker.specs.declared.verdict.CheckStop.TheVariants as stops
 use Rattle.rq_engine.specs.Checks.{HasCheckCause, IsCertOf, check_halt}
@@ -57,6 +57,6 @@ read_within bytes cert h =
     }
 
 -- why there is no verdict
-pub stop_cause : (bytes : List ℕ) (cert : Cert) → IsCertOf bytes cert → (stop : CheckStop) → IsStop cert stop → HasCheckCause bytes (check_halt stop)
-stop_cause bytes cert is stops.OutOfMemory h = tt
-stop_cause bytes cert is (stops.Overflow spill) h = (refl, record { cert = cert; is = is; operation = h })
+pub stop_cause : (bytes : List ℕ) (cert : Cert) → IsCertOf bytes cert → (stop : CheckStop) → IsStop cert stop → IsUntrue cert stop → HasCheckCause bytes (check_halt stop)
+stop_cause bytes cert is stops.OutOfMemory h k = tt
+stop_cause bytes cert is (stops.Overflow spill) h k = (refl, record { cert = cert; is = is; operation = h; untrue = k })

@@ -8,6 +8,7 @@ use Rattle.cert_text.specs.Contents.{content}
 use Rattle.cert_text.specs.declared.cert.Cert.{Cert}
 use Rattle.cert_text.specs.declared.fault.CertFault.TheVariants as faults
 use Rattle.cert_checker.specs.Certificates.{tests, IsVerdict}
+use Rattle.cert_checker.specs.Tests.{AreTrue}
 use Rattle.cert_checker.specs.Verdicts.{IsFirstFalse, IsTestSpill}
 use Rattle.cert_checker.specs.declared.verdict.CheckStop.{CheckStop}
 use Rattle.cert_checker.specs.declared.verdict.CheckStop.TheVariants as stops
@@ -33,11 +34,13 @@ pub record IsRejectedOf (bytes : List ℕ) (rejection : Rejection) : Type 0 wher
   pub is : IsCertOf bytes cert
   pub first : IsFirstFalse (tests cert) rejection
 
--- the bytes are a certificate, and this operation of a test overflows, before which all tests are true
+-- the bytes are a certificate, and this operation of a test overflows, before which all tests are true; and one of its tests is
+-- false
 pub record LacksVerdict (bytes : List ℕ) (spill : Spill Frac128) : Type 0 where
   pub cert : Cert
   pub is : IsCertOf bytes cert
   pub operation : IsTestSpill (tests cert) spill
+  pub untrue : ¬ (AreTrue (tests cert))
 
 -- where nothing was solved there is no trail
 abbrev pub no_trail : Trail Frac128

@@ -40,7 +40,7 @@ fn check_halt(alloc: Global, stop: CheckStop) -> Halt
 /// The certificate that the bytes are, if all its conditions are true.
 ///
 /// `Refused` is the first fault of the bytes as a certificate. `Rejected` has the first test that is false,
-/// and `Overflow` an operation of a test before which all are true. The jobs of `check` pass the gate.
+/// and `Overflow` an operation of a test before which all are true, where one is false. The jobs of `check` pass the gate.
 pub(crate) fn check_bytes<R: Threads + Sync, G: Gate>(
     rt: &R,
     alloc: Global,

@@ -52,10 +52,10 @@ module _ (same : SameContent) (words : List (List ℕ)) (source source' : Stream
   not_refused : (refusal : Refusal) → IsHalted words source source' (halts.Refused refusal) → ⊥
   not_refused refusal h = halted (halts.Refused refusal) h
 
-  pub accepted : (out out' err err' : Stream) (outcome : Outcome) → IsRun words source source' out out' err err' outcome → NoneRose source source' out out' err err' → IsAccepted words source source' cert outcome
+  pub accepted : (out out' err err' : Stream) (outcome : Outcome) → IsRun words source source' out out' err err' outcome → NoneRose source source' out out' err err' → IsAccepted cert outcome
   accepted out out' err err' outcome run none = by outcome run
     where
-      by : (outcome : Outcome) → IsRun words source source' out out' err err' outcome → IsAccepted words source source' cert outcome
+      by : (outcome : Outcome) → IsRun words source source' out out' err err' outcome → IsAccepted cert outcome
       by (Done report) run =
           let a = run.cause in
           one_report same bytes cert w.is w.sound report
@@ -85,5 +85,5 @@ module _ (same : SameContent) (words : List (List ℕ)) (source source' : Stream
           failed (inr h) = none.2 h.1.rose
       by OutOfMemory run = tt
       by (PivotLimit place limit trail) run = absurd (halted (halts.PivotLimit place limit trail) run.cause)
-      by (Overflow place trail spill) run = run.cause
+      by (Overflow place trail spill) run = absurd (halted (halts.Overflow place trail spill) run.cause)
       by (Rejected rejection) run = absurd (halted (halts.Rejected rejection) run.cause)

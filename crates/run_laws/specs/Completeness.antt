@@ -198,19 +198,18 @@ pub record IsPassing (words : List (List ℕ)) (source : Stream) (bytes : List �
   pub is : IsCertOf bytes cert
   pub sound : AreTrue (tests cert)
 
--- the certificate is accepted, or an operation of a test overflows; want of memory is the free answer
-abbrev pub IsAccepted : List (List ℕ) → (source source' : Stream) → Cert → Outcome → Type 0
-IsAccepted words source source' cert (Done report) = report ≡ reports.Checked cert
-IsAccepted words source source' cert (Overflow place trail spill) = IsHalted words source source' (halts.Overflow place trail spill)
-IsAccepted words source source' cert OutOfMemory = ⊤
-IsAccepted words source source' cert _ = ⊥
+-- the certificate is accepted; want of memory is the free answer
+abbrev pub IsAccepted : Cert → Outcome → Type 0
+IsAccepted cert (Done report) = report ≡ reports.Checked cert
+IsAccepted cert OutOfMemory = ⊤
+IsAccepted cert _ = ⊥
 
 -- while nothing fails, every check of a certificate whose conditions are true ends so
 abbrev pub CheckIsAnswered : Type 0
 CheckIsAnswered =
     (words : List (List ℕ)) (source source' out out' err err' : Stream) (bytes : List ℕ) (cert : Cert) (outcome : Outcome)
     → IsRun words source source' out out' err err' outcome → NoneRose source source' out out' err err'
-    → IsPassing words source bytes cert → IsAccepted words source source' cert outcome
+    → IsPassing words source bytes cert → IsAccepted cert outcome
 
 -- some trail of the problem reaches the limit of the words
 abbrev pub IsLimitedProblem : FitJob → Problem Frac128 → Type 0

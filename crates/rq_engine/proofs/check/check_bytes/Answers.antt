@@ -8,7 +8,7 @@ check-requires g c = (c.type_bounds.sync-R, (c.type_bounds.sync-G, read_within c
 
 pub returns-in-Err-check-clause-cause : goal.returns-in-Err-check-clause-cause
 returns-in-Err-check-clause-cause g c =
-    rw c.check_halt.ensures (stop_cause c.args.bytes.now c.in-Ok.cert c.in-Ok.ensures.ok c.in-Err-check.stop c.in-Err-check.ensures.stop)
+    rw c.check_halt.ensures (stop_cause c.args.bytes.now c.in-Ok.cert c.in-Ok.ensures.ok c.in-Err-check.stop c.in-Err-check.ensures.stop c.in-Err-check.ensures.untrue)
 
 pub returns-in-Rejected-clause-cause : goal.returns-in-Rejected-clause-cause
 returns-in-Rejected-clause-cause g c =
