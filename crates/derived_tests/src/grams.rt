@@ -1,9 +1,14 @@
 //! Weighted columns and Gram matrices.
 
-ghost use Rattle.std.specs.Prelude.{◌<◌};
+ghost use Rattle.std.specs.Prelude.{◌≡◌, ◌<◌, IfOk, length};
 
-use crate::helpers::{Data, Ratio, Spilt, expect, expect_spill, is_shaped, problem};
-use frac_core::{Exact, Frac64, Frac128, List, OpKind};
+use crate::helpers::{
+    Data, Ratio, Spilt, are_data, expect, expect_pair, expect_spill, expect_text, is_shaped,
+    problem, widened,
+};
+use basis_inverse::start;
+use frac_core::{Exact, Frac64, Frac128, List, OpKind, OutOfMemory};
+use gram_inverse::{GramInverse, inner_product, weighted_column};
 use gram_matrix::{gram_problem, scaled_column};
 use loss_model::{Problem, Quantity, Short, Site};
 use std::alloc::Global;
@@ -110,4 +115,99 @@ fn entries_that_are_too_wide(rt: HostRuntime) {
         right: (1 << 100, 1),
     };
     expect_wide(&rt, rt.alloc(), 1, HEAVY.as_slice(), &weighted);
+}
+
+/// The inverse where its conditions are met. The start shows that the columns are independent.
+fn inverse_of<F: Exact>(
+    rt: &impl Abort,
+    alloc: Global,
+    full: &Problem<F>,
+) -> Result<GramInverse, OutOfMemory>
+    ensures { IfOk result (λ a. length a ≡ full.now.columns) }
+{
+    assert!(rt; is_shaped(full));
+    assert!(rt; are_data(full));
+    match start(alloc, full) {
+        Ok(_) => GramInverse::new(alloc, full),
+        Err(_) => panic!(rt; "the columns are independent"),
+    }
+}
+
+/// Two columns past 128 bits: (1, 1, 1) and (0, s, 3s) with s = 2^70, of the Gram matrix 3, 4s; 4s, 10s^2, whose inverse is
+/// 10/14, -4/14s; -4/14s, 3/14s^2.
+static STEEP: [Data; 3] = [
+    ([1, 0, 0], 0, (1, 1)),
+    ([1, 1 << 70, 0], 2, (1, 1)),
+    ([1, 3 << 70, 0], 3, (1, 1)),
+];
+
+/// A table, and the texts of the entries of its inverse: the first, the two beside the diagonal, and the last.
+struct Inverted {
+    table: &'static [Data],
+    entries: [&'static [u8]; 3],
+}
+
+static INVERTED: [Inverted; 2] = [
+    Inverted {
+        table: WEIGHTED.as_slice(),
+        entries: [b"85/229", b"-31/229", b"14/229"],
+    },
+    Inverted {
+        table: STEEP.as_slice(),
+        entries: [
+            b"5/7",
+            b"-1/4132070672510939561984",
+            b"3/19513152048714295248843753488567316317732864",
+        ],
+    },
+];
+
+fn expect_inverse(rt: &impl Abort, alloc: Global, case: &Inverted) {
+    let full = problem::<Frac128>(rt, alloc, 2, case.table);
+    match inverse_of(rt, alloc, &full) {
+        Ok(inverse) => {
+            expect_text(rt, alloc, inverse.entry(0, 0), case.entries[0]);
+            expect_text(rt, alloc, inverse.entry(0, 1), case.entries[1]);
+            expect_text(rt, alloc, inverse.entry(1, 0), case.entries[1]);
+            expect_text(rt, alloc, inverse.entry(1, 1), case.entries[2]);
+        }
+        Err(_) => panic!(rt; "no memory"),
+    }
+}
+
+#[test]
+fn inverses_of_gram_matrices(rt: HostRuntime) {
+    for case in &INVERTED {
+        expect_inverse(&rt, rt.alloc(), case);
+    }
+}
+
+#[test]
+fn weighted_columns_of_any_size(rt: HostRuntime) {
+    let rows = problem::<Frac128>(&rt, rt.alloc(), 1, HEAVY.as_slice());
+    assert!(rt; is_shaped(&rows));
+    match weighted_column(rt.alloc(), &rows, 0) {
+        Ok(column) => {
+            for entry in column.as_slice() {
+                expect_text(
+                    &rt,
+                    rt.alloc(),
+                    entry,
+                    b"1361129467683753853853498429727072845824",
+                );
+            }
+        }
+        Err(_) => panic!(rt; "no memory"),
+    }
+}
+
+#[test]
+fn an_inner_product(rt: HostRuntime) {
+    let left = widened(&rt, rt.alloc(), &[(1, 2), (3, 1), (-1, 3)]);
+    let right = widened(&rt, rt.alloc(), &[(4, 1), (1, 6), (3, 2)]);
+    assert!(rt; left.as_slice().len() == right.as_slice().len());
+    match inner_product(rt.alloc(), left.as_slice(), right.as_slice()) {
+        Ok(product) => expect_pair(&rt, rt.alloc(), &product, (2, 1)),
+        Err(_) => panic!(rt; "no memory"),
+    }
 }

@@ -10,7 +10,7 @@ use crate::helpers::{
 use basis_inverse::start;
 use frac_core::{Exact, Frac64, Frac128, OutOfMemory};
 use loss_model::Problem;
-use nested_test::{NestedStatistic, NestedStop, nested, restricted};
+use nested_test::{NestedStatistic, nested, restricted};
 use std::alloc::Global;
 use std::process::Abort;
 
@@ -120,7 +120,7 @@ fn ask<F: Exact>(
     full: &Problem<F>,
     tested: &[u32],
     wilcoxon: &[ratio::Ratio],
-) -> Result<NestedStatistic, NestedStop<F>> {
+) -> Result<NestedStatistic, OutOfMemory> {
     assert!(rt; is_shaped(full));
     assert!(rt; are_data(full));
     assert!(rt; are_tested(tested, full.columns));
@@ -142,7 +142,7 @@ fn expect_statistic<F: Exact>(rt: &impl Abort, alloc: Global, case: &Case) {
             }
             expect_pair(rt, alloc, &found.statistic, case.statistic);
         }
-        Err(_) => panic!(rt; "the numbers are small"),
+        Err(_) => panic!(rt; "no memory"),
     }
 }
 
@@ -185,7 +185,7 @@ fn expect_wide(rt: &impl Abort, alloc: Global, case: &Wide) {
             }
             expect_text(rt, alloc, &found.statistic, case.statistic);
         }
-        Err(_) => panic!(rt; "the Gram matrix is small"),
+        Err(_) => panic!(rt; "no memory"),
     }
 }
 
@@ -193,6 +193,29 @@ fn expect_wide(rt: &impl Abort, alloc: Global, case: &Wide) {
 fn statistics_past_128_bits(rt: HostRuntime) {
     for case in &WIDE {
         expect_wide(&rt, rt.alloc(), case);
+    }
+}
+
+/// The first table with an x that is 2^70 times as large: its Gram matrix is past 128 bits, the score of x is 2^70, and the
+/// statistic is that of the first table.
+const STEEP: &[Data] = &[
+    ([1, 0, 0], 0, (1, 1)),
+    ([1, 1 << 70, 0], 2, (1, 1)),
+    ([1, 3 << 70, 0], 3, (1, 1)),
+];
+
+#[test]
+fn a_gram_matrix_past_128_bits(rt: HostRuntime) {
+    let full = problem::<Frac128>(&rt, rt.alloc(), 2, STEEP);
+    let wilcoxon = widened(&rt, rt.alloc(), &[(-1, 3), (0, 1), (1, 3)]);
+    match ask(&rt, rt.alloc(), &full, &[1], wilcoxon.as_slice()) {
+        Ok(found) => {
+            for score in found.scores.as_slice() {
+                expect_text(&rt, rt.alloc(), score, b"1180591620717411303424");
+            }
+            expect_pair(&rt, rt.alloc(), &found.statistic, (18, 7));
+        }
+        Err(_) => panic!(rt; "no memory"),
     }
 }
 

@@ -29,7 +29,8 @@ bounded u v e a b lower upper p q =
     subst (λ z. z ≤ℚ ((u *ℚ a) +ℚ (v *ℚ b))) (ring_ℚ vs ((v1 ⊠ v4 ⊟ v4 ⊠ v2) ⊞ (v3 ⊠ v2 ⊞ v4 ⊠ negated v1)) (v2 ⊠ (v3 ⊟ v4)) refl)
     (subst (λ z. (((v *ℚ b) -ℚ (b *ℚ e)) +ℚ ((a *ℚ e) +ℚ (b *ℚ neg_ℚ v))) ≤ℚ z) (ring_ℚ vs ((v1 ⊠ v4 ⊟ v4 ⊠ v2) ⊞ (v3 ⊠ v0 ⊞ v4 ⊠ v2)) (v0 ⊠ v3 ⊞ v1 ⊠ v4) refl) moved)
 
-row_bounded : (p : Sample) (theta : ℚ) (b e : ℕ → ℚ) → IsFeasible p theta e → (i : ℕ) → i < p.rows → (e i *ℚ residual p b i) ≤ℚ row_loss p theta b i
+-- a dual value within its bounds, times the residual, is at most the loss of the row
+pub row_bounded : (p : Sample) (theta : ℚ) (b e : ℕ → ℚ) → IsFeasible p theta e → (i : ℕ) → i < p.rows → (e i *ℚ residual p b i) ≤ℚ row_loss p theta b i
 row_bounded p theta b e f i l =
     let r = residual p b i in
     let two = parts_ℚ r in
@@ -37,7 +38,7 @@ row_bounded p theta b e f i l =
     (bounded (up_cost p theta i) (down_cost p theta i) (e i) (positive_ℚ r) (negative_ℚ r) (f.lower i l) (f.upper i l) two.1 two.2)
 
 -- balanced values send every fit to 0
-orthogonal : (p : Sample) (b e : ℕ → ℚ) → IsBalanced p e → sum_ℚ p.rows (λ i. e i *ℚ fitted p b i) ≡ whole (pos 0)
+pub orthogonal : (p : Sample) (b e : ℕ → ℚ) → IsBalanced p e → sum_ℚ p.rows (λ i. e i *ℚ fitted p b i) ≡ whole (pos 0)
 orthogonal p b e balanced =
     sum_ℚ-same p.rows (λ i. e i *ℚ fitted p b i) (λ i. sum_ℚ p.columns (λ k. b k *ℚ (e i *ℚ p.x i k)))
     (λ i l. sym (sum_ℚ-scale p.columns (e i) (λ k. p.x i k *ℚ b k)) ∙ sum_ℚ-same p.columns (λ k. e i *ℚ (p.x i k *ℚ b k)) (λ k. b k *ℚ (e i *ℚ p.x i k)) (λ k m. ring_ℚ (e i ∷ p.x i k ∷ b k ∷ []) (v0 ⊠ (v1 ⊠ v2)) (v2 ⊠ (v0 ⊠ v1)) refl))

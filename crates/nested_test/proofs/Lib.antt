@@ -1,5 +1,4 @@
 mod Statistics
 mod Pairs
-mod Scored
 mod Restrictions
 mod FullRank

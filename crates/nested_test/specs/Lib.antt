@@ -1,5 +1,4 @@
 pub mod Nested
-pub mod Stops
 pub mod Restricted
 pub mod Pairs
 pub mod Laws

@@ -1,10 +1,9 @@
 -- Inner. Sums over pairs of tested columns, and what is known while they are added.
 use Rattle.std.specs.Prelude.{◌≡◌, ℕ, ◌<◌, All, length, slice_index}
-use Rattle.exact_algebra.specs.Fraction.{Fraction}
 use Rattle.exact_algebra.specs.Rational.{ℚ, ◌+ℚ◌, ◌*ℚ◌}
 use Rattle.exact_algebra.specs.RationalSums.{sum_ℚ}
 use Rattle.loss_model.specs.Problem.{value_at}
-use Rattle.basis_inverse.specs.Square.{inverse_entry}
+use Rattle.basis_inverse.specs.Square.{entries}
 use Rattle.nested_test.specs.declared.statistic.Pairs.{Pairs}
 
 -- the tested columns at 0, .., at (n - 1) with their scores, in this order, and the entries a of an inverse
@@ -22,17 +21,17 @@ module _ (at : ℕ → ℕ) (n : ℕ) (a : ℕ → ℕ → ℚ) (score : ℕ →
   pairs = sum_ℚ n (λ j. sum_ℚ n (pair j))
 
 -- there is a score for each tested column, and each is one of the inverse
-pub record ArePairs {F : Type 0} (p : Pairs F) : Type 0 where
-  pub within : All (λ k. k < length p.inverse.now.columns) p.tested.now
+pub record ArePairs (p : Pairs) : Type 0 where
+  pub within : All (λ k. k < length p.inverse.now) p.tested.now
   pub scored : length p.scores.now ≡ length p.tested.now
 
 -- the same of what the program holds
-module _ {F : Type 0} (value : F → Fraction) (p : Pairs F) where
+module _ (p : Pairs) where
   abbrev pub pair_of : ℕ → ℕ → ℚ
-  pair_of = pair (slice_index p.tested.now) (length p.tested.now) (inverse_entry value p.inverse.now) (value_at (λ x. x) p.scores.now)
+  pair_of = pair (slice_index p.tested.now) (length p.tested.now) (entries (λ x. x) p.inverse.now) (value_at (λ x. x) p.scores.now)
 
   abbrev pub sum_before : ℕ → ℕ → ℚ
-  sum_before = pairs_before (slice_index p.tested.now) (length p.tested.now) (inverse_entry value p.inverse.now) (value_at (λ x. x) p.scores.now)
+  sum_before = pairs_before (slice_index p.tested.now) (length p.tested.now) (entries (λ x. x) p.inverse.now) (value_at (λ x. x) p.scores.now)
 
   abbrev pub sum_of_all : ℚ
-  sum_of_all = pairs (slice_index p.tested.now) (length p.tested.now) (inverse_entry value p.inverse.now) (value_at (λ x. x) p.scores.now)
+  sum_of_all = pairs (slice_index p.tested.now) (length p.tested.now) (entries (λ x. x) p.inverse.now) (value_at (λ x. x) p.scores.now)

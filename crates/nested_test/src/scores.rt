@@ -1,13 +1,13 @@
 //! The scores of tested columns.
 ghost use Rattle.std.specs.Prelude.{◌≡◌, ◌<◌, All, length, IfOk};
 ghost use Rattle.exact_algebra.specs.Fraction.{rational};
-ghost use Rattle.gram_matrix.specs.Grams.{scaled};
 ghost use Rattle.loss_model.specs.Problem.{value_at, sample, IsWellShaped};
 ghost use Rattle.nested_test.specs.Nested.{column_score as column_score_of, AreScores};
 
 use frac_core::{Exact, List, OutOfMemory};
+use gram_inverse::{inner_product, weighted_column};
 use loss_model::Problem;
-use ratio::{Ratio, sum};
+use ratio::Ratio;
 use std::alloc::Global;
 
 /// The scores of all tested columns, in their order.
@@ -42,31 +42,7 @@ fn column_score<F: Exact>(
     requires scored { length wilcoxon.now ≡ length full.now.rows }
     ensures { IfOk result (λ s. rational s ≡ column_score_of (sample F.value full.now) (value_at (λ x. x) wilcoxon.now) column) }
 {
-    let mut products = List::new(alloc);
-    for row in 0..wilcoxon.len() {
-        let entry = weighted_entry(alloc, full, row, column)?;
-        let product = entry.mul(alloc, &wilcoxon[row])?;
-        products.add(product)?;
-    }
-    let score = sum(alloc, products.as_slice())?;
+    let weighted = weighted_column(alloc, full, column)?;
+    let score = inner_product(alloc, weighted.as_slice(), wilcoxon)?;
     Ok(score)
-}
-
-// An entry times the weight of its row.
-fn weighted_entry<F: Exact>(
-    alloc: Global,
-    full: &Problem<F>,
-    row: usize,
-    column: u32,
-) -> Result<Ratio, OutOfMemory>
-    requires shaped { IsWellShaped full.now }
-    requires row { row < length full.now.rows }
-    requires column { column < full.now.columns }
-    ensures { IfOk result (λ e. rational e ≡ scaled (sample F.value full.now) row column) }
-{
-    let chosen = &full.rows.as_slice()[row];
-    let weight = Ratio::widen(alloc, chosen.up1)?;
-    let entry = Ratio::widen(alloc, chosen.x.as_slice()[column as usize])?;
-    let weighted = weight.mul(alloc, &entry)?;
-    Ok(weighted)
 }

@@ -1,5 +1,5 @@
 //! The statistic of nested models.
-ghost use Rattle.std.specs.Prelude.{◌≡◌, ℕ, ◌<◌, length, slice_index, IfOk, IfErr, pos};
+ghost use Rattle.std.specs.Prelude.{◌≡◌, ℕ, ◌<◌, length, slice_index, IfOk, pos};
 ghost use Rattle.exact_algebra.specs.Fraction.{rational};
 ghost use Rattle.exact_algebra.specs.Rational.{◌*ℚ◌, whole};
 ghost use Rattle.loss_model.specs.Dual.{IsDataRow};
@@ -8,13 +8,10 @@ ghost use Rattle.loss_model.specs.Problem.{value_at, sample, IsWellShaped};
 ghost use Rattle.nested_test.specs.Nested.{column_score, AreScores, IsNestedStatistic};
 ghost use Rattle.nested_test.specs.Pairs.{pair_of, sum_before, sum_of_all, ArePairs};
 ghost use Rattle.nested_test.specs.Restricted.{AreTested};
-ghost use Rattle.nested_test.specs.Stops.{IsNestedStop};
 
-use crate::inverse::gram_inverse;
 use crate::scores::scores;
-use crate::stop::NestedStop;
-use basis_inverse::Inverse;
 use frac_core::{Exact, List, OutOfMemory};
+use gram_inverse::GramInverse;
 use loss_model::Problem;
 use ratio::Ratio;
 use std::alloc::Global;
@@ -32,14 +29,13 @@ pub struct NestedStatistic {
 /// of a score times the entry of the inverse of the Gram matrix of all columns times another score, over all ordered pairs
 /// of tested columns. The rows are data rows, the columns independent, and the tested ones ascend.
 ///
-/// An overflow comes only where an operation of the Gram matrix or of its inverse overflows. Scores and statistic are of any
-/// size.
+/// All numbers are of any size, so it is refused only where no memory is found.
 pub fn nested<F: Exact>(
     alloc: Global,
     full: &Problem<F>,
     tested: &[u32],
     wilcoxon: &[Ratio],
-) -> Result<NestedStatistic, NestedStop<F>>
+) -> Result<NestedStatistic, OutOfMemory>
     requires shaped { IsWellShaped full.now }
     requires data { (i : ℕ) → i < length full.now.rows → IsDataRow (sample F.value full.now) i }
     requires rank { HasFullRank (sample F.value full.now) }
@@ -48,9 +44,8 @@ pub fn nested<F: Exact>(
     ensures scores { IfOk result (λ t. AreScores F.value full.now tested.now (value_at (λ x. x) wilcoxon.now) t.scores) }
     ensures statistic { let p = sample F.value full.now in let b = value_at (λ x. x) wilcoxon.now in
         IfOk result (λ t. IsNestedStatistic p (slice_index tested.now) (length tested.now) (column_score p b) (rational t.statistic)) }
-    ensures stopped { IfErr result (IsNestedStop F.value F.range full.now) }
 {
-    let inverse = gram_inverse(alloc, full)?;
+    let inverse = GramInverse::new(alloc, full)?;
     let scores = scores(alloc, full, tested, wilcoxon)?;
     let pairs = Pairs {
         inverse: &inverse,
@@ -63,17 +58,17 @@ pub fn nested<F: Exact>(
 
 // The pairs of tested columns with their scores, by the inverse of the Gram matrix.
 #[derive(Drop)]
-struct Pairs<'a, F: Exact> {
-    inverse: &'a Inverse<F>,
+struct Pairs<'a> {
+    inverse: &'a GramInverse,
     tested: &'a [u32],
     scores: &'a [Ratio],
 }
 
-impl<'a, F: Exact> Pairs<'a, F> {
+impl<'a> Pairs<'a> {
     // 12 times the sum of all pairs.
     fn statistic(&self, alloc: Global) -> Result<Ratio, OutOfMemory>
         requires { ArePairs self.now }
-        ensures { IfOk result (λ z. rational z ≡ whole (pos 12) *ℚ sum_of_all F.value self.now) }
+        ensures { IfOk result (λ z. rational z ≡ whole (pos 12) *ℚ sum_of_all self.now) }
     {
         let mut sum = Ratio::zero(alloc)?;
         for j in 0..self.tested.len() {
@@ -88,8 +83,8 @@ impl<'a, F: Exact> Pairs<'a, F> {
     fn plus_row(&self, alloc: Global, before: Ratio, j: usize) -> Result<Ratio, OutOfMemory>
         requires pairs { ArePairs self.now }
         requires within { j < length self.now.tested.now }
-        requires before { rational before ≡ sum_before F.value self.now j 0 }
-        ensures { IfOk result (λ z. rational z ≡ sum_before F.value self.now j (length self.now.tested.now)) }
+        requires before { rational before ≡ sum_before self.now j 0 }
+        ensures { IfOk result (λ z. rational z ≡ sum_before self.now j (length self.now.tested.now)) }
     {
         let mut sum = before;
         for m in 0..self.tested.len() {
@@ -104,11 +99,10 @@ impl<'a, F: Exact> Pairs<'a, F> {
         requires pairs { ArePairs self.now }
         requires first { j < length self.now.tested.now }
         requires second { m < length self.now.tested.now }
-        ensures { IfOk result (λ z. rational z ≡ pair_of F.value self.now j m) }
+        ensures { IfOk result (λ z. rational z ≡ pair_of self.now j m) }
     {
-        let narrow = self.inverse.entry(self.tested[j], self.tested[m]);
-        let entry = Ratio::widen(alloc, narrow)?;
-        let weighted = self.scores[j].mul(alloc, &entry)?;
+        let factor = self.inverse.entry(self.tested[j], self.tested[m]);
+        let weighted = self.scores[j].mul(alloc, factor)?;
         let product = weighted.mul(alloc, &self.scores[m])?;
         Ok(product)
     }

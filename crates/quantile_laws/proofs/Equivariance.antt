@@ -13,10 +13,9 @@ use Rattle.exact_matrices.proofs.TermLaws.{delta-turned, sum_ℚ-delta}
 use Rattle.loss_model.specs.Sample.{Sample, up_cost, down_cost, fitted, residual, row_loss, loss, Minimises}
 use Rattle.loss_model.specs.Dual.{IsFeasible, dual_objective}
 use Rattle.loss_model.specs.Complements.{IsComplementary}
-use Rattle.loss_model.proofs.Duality.{positive_when, negative_when, positive_below, negative_below, sides as by_sides, complements as shown}
+use Rattle.loss_model.proofs.Duality.{orthogonal, positive_when, negative_when, positive_below, negative_below, sides as by_sides, complements as shown}
 use Rattle.quantile_laws.specs.Equivariance.{scaled, negated, shifted, combined, times, ScaleEquivariance, HasMirroredCosts, DataRowsAreMirrored, SignEquivariance, NegativeEquivariance, ShiftEquivariance, DesignEquivariance, DualEquivariance, answered, ResponsesMayMove, ResidualsMayStretch}
 use Rattle.quantile_laws.proofs.Slack.{by_same, complements}
-use Rattle.quantile_laws.proofs.Counts.{orthogonal}
 
 -- coefficients minimise where all others lose, times a factor that isn't negative, what some coefficients lose elsewhere
 carried : (p q : Sample) (theta sigma a : ℚ) (b c : ℕ → ℚ) → whole (pos 0) ≤ℚ a → Minimises p theta b → loss q sigma c ≡ a *ℚ loss p theta b
@@ -226,7 +225,7 @@ duals_stay p theta b e d =
             equal = loss_shifted p theta g b (λ k. b k +ℚ g k) (λ k l. refl) ∙ d.equal
                 ∙ sym (sum_ℚ-same p.rows (λ i. (p.y i +ℚ fitted p g i) *ℚ e i) (λ i. (p.y i *ℚ e i) +ℚ (e i *ℚ fitted p g i)) (λ i l. ring_ℚ (p.y i ∷ fitted p g i ∷ e i ∷ []) ((v0 ⊞ v1) ⊠ v2) (v0 ⊠ v2 ⊞ v2 ⊠ v1) refl)
                 ∙ sum_ℚ-add p.rows (λ i. p.y i *ℚ e i) (λ i. e i *ℚ fitted p g i)
-                ∙ ap (λ z. dual_objective p e +ℚ z) (orthogonal p theta g e d.feasible)
+                ∙ ap (λ z. dual_objective p e +ℚ z) (orthogonal p g e d.feasible.balanced)
                 ∙ ring_ℚ (dual_objective p e ∷ []) (v0 ⊞ number (pos 0)) v0 refl);
           };
       design = λ m a inverse.

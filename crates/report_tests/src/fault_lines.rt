@@ -25,7 +25,7 @@ fn expect_line(rt: &impl Abort, alloc: Global, halt: Halt, want: &str) {
 // An operation of a quantity at the indices 4, 1 and 2, and the fields that are printed of it.
 type Case = (Quantity, OpKind, &'static str);
 
-static CASES: [Case; 32] = [
+static CASES: [Case; 27] = [
     (Quantity::Coordinate, Mul, "coordinate at=5,2 term=9 op=mul"),
     (Quantity::Coefficient, Add, "coefficient at=5 term=9 op=add"),
     (Quantity::Residual, Sub, "residual at=5 term=9 op=sub"),
@@ -52,7 +52,6 @@ static CASES: [Case; 32] = [
     ),
     (Quantity::Loss, Mul, "loss at=4 term=9 op=mul"),
     (Quantity::Score, Sub, "score at=5,1,3 term=9 op=sub"),
-    (Quantity::Wilcoxon, Add, "wilcoxon at=5,2 term=9 op=add"),
     (
         Quantity::ScaledEntry,
         Mul,
@@ -79,15 +78,7 @@ static CASES: [Case; 32] = [
     ),
     (Quantity::CheckSum, Add, "check-sum at=4,1,2 term=9 op=add"),
     (Quantity::Prediction, Mul, "prediction at=4,2 term=9 op=mul"),
-    (Quantity::StepLength, Sub, "step-length at=5 term=9 op=sub"),
-    (Quantity::StepPlace, Add, "step-place at=4,2 term=9 op=add"),
     (Quantity::PathCost, Sub, "path-cost at=5,1 term=9 op=sub"),
-    (Quantity::TestScore, Add, "test-score at=5 term=9 op=add"),
-    (
-        Quantity::TestStatistic,
-        Mul,
-        "test-statistic at=4 term=9 op=mul",
-    ),
     (
         Quantity::ArithValue,
         Mul,
@@ -211,13 +202,6 @@ fn the_start_of_a_test_is_told(rt: HostRuntime) {
     let want =
         "quantreg: solver: Overflow place=full quantity=gram at=5,2 term=9 op=add left=7/2 right=-3\n";
     expect_place(&rt, rt.alloc(), Place::Full, want);
-}
-
-#[test]
-fn the_gram_matrix_of_a_test_is_told(rt: HostRuntime) {
-    let want =
-        "quantreg: solver: Overflow place=gram quantity=gram at=5,2 term=9 op=add left=7/2 right=-3\n";
-    expect_place(&rt, rt.alloc(), Place::Gram, want);
 }
 
 #[test]

@@ -26,7 +26,7 @@ use Rattle.report_text.specs.ReportText.{numbered, value}
 use Rattle.report_text.specs.declared.quantity.PrintedIndices.{PrintedIndices}
 use Rattle.report_text.specs.declared.quantity.PrintedIndices.TheVariants.{One, Two, Three}
 use Rattle.report_text.specs.declared.report.Place.{Place}
-use Rattle.report_text.specs.declared.report.Place.TheVariants.{Process, Interval, Check, Full, Gram, Predict, Path}
+use Rattle.report_text.specs.declared.report.Place.TheVariants.{Process, Interval, Check, Full, Predict, Path}
 use Rattle.report_text.specs.declared.report.Refusal.{Refusal}
 use Rattle.report_text.specs.declared.report.Refusal.TheVariants.{TooLong, Table, Formula, RankWithPenalty, Design, Penalty, Program, Dependent, CertTooLong, Certificate, NoSuchColumn, AllTested, SmoothNotTaken, NothingToPredict, TooManyPredictions}
 use Rattle.report_text.specs.declared.report.Halt.{Halt}
@@ -99,14 +99,12 @@ unfoldable pub spill_text : Spill Frac128 → List ℕ
 spill_text spill = site_text spill.site ++ word (codes "op") (op_name spill.site.kind) ++ fraction (codes "left") spill.left ++ fraction (codes "right") spill.right
 
 -- the place where a job stopped: the fit, the interval of a column, counted from 1, at a quantile, the conditions of a
--- certificate, the start of a whole problem, the Gram matrix or the statistic of a test, the prediction of a record, or the
--- costs of a path
+-- certificate, the start of a whole problem, the prediction of a record, or the costs of a path
 abbrev pub place_text : Place → List ℕ
 place_text Process = codes "process"
 place_text (Interval column tau) = codes "interval:" ++ decimal (column + 1) ++ codes ":" ++ number_text_of (value tau)
 place_text Check = codes "check"
 place_text Full = codes "full"
-place_text Gram = codes "gram"
 place_text (Predict rec) = codes "predict:" ++ decimal rec
 place_text Path = codes "path"
 

@@ -99,7 +99,6 @@ impl Page {
             Place::Interval { column, tau } => self.put_interval(column, tau),
             Place::Check => self.put(b"check"),
             Place::Full => self.put(b"full"),
-            Place::Gram => self.put(b"gram"),
             Place::Predict { rec } => self.put_predicted(rec),
             Place::Path => self.put(b"path"),
         }

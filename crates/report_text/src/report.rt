@@ -146,8 +146,6 @@ pub enum Place {
     Check,
     /// In the start of a whole problem, before the process without its tested columns.
     Full,
-    /// In the Gram matrix of a whole problem, or in its inverse.
-    Gram,
     /// In the prediction of a record, counted from 1.
     Predict { rec: u32 },
     /// In the costs of a path problem.

@@ -257,7 +257,6 @@ interval_cause job n p q scores results short scored (PivotLimit (places.Interva
 interval_cause job n p q scores results short scored (PivotLimit places.Check limit trail) h = absurd h
 interval_cause job n p q scores results short scored (PivotLimit (places.Predict rec) limit trail) h = absurd h
 interval_cause job n p q scores results short scored (PivotLimit places.Full limit trail) h = absurd h
-interval_cause job n p q scores results short scored (PivotLimit places.Gram limit trail) h = absurd h
 interval_cause job n p q scores results short scored (PivotLimit places.Path limit trail) h = absurd h
 interval_cause job n p q scores results short scored (Overflow places.Process trail spill) h = absurd h
 interval_cause job n p q scores results short scored (Overflow (places.Interval column tau) trail spill) h =
@@ -265,7 +264,6 @@ interval_cause job n p q scores results short scored (Overflow (places.Interval 
 interval_cause job n p q scores results short scored (Overflow places.Check trail spill) h = absurd h
 interval_cause job n p q scores results short scored (Overflow (places.Predict rec) trail spill) h = absurd h
 interval_cause job n p q scores results short scored (Overflow places.Full trail spill) h = absurd h
-interval_cause job n p q scores results short scored (Overflow places.Gram trail spill) h = absurd h
 interval_cause job n p q scores results short scored (Overflow places.Path trail spill) h = absurd h
 interval_cause job n p q scores results short scored (Rejected rejection) h = absurd h
 

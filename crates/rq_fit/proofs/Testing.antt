@@ -22,10 +22,7 @@ use Rattle.tau_process.specs.Processes.{IsProcess}
 use Rattle.tau_process.specs.Stops.{IsProcessStop}
 use Rattle.rankscores.specs.Scores.{IsScorable}
 use Rattle.nested_test.specs.Laws.{RestrictedHasDataRows, RestrictedHasFullRank}
-use Rattle.nested_test.specs.Stops.{IsNestedStop}
 use Rattle.nested_test.specs.Restricted.{AreTested, restricted_problem, restricted_row}
-use Rattle.nested_test.specs.declared.stop.NestedStop.{NestedStop}
-use Rattle.nested_test.specs.declared.stop.NestedStop.TheVariants as tests
 use Rattle.rq_words.specs.declared.job.FitJob.{FitJob}
 use Rattle.rq_words.specs.declared.job.TestJob.{TestJob}
 use Rattle.report_text.specs.ReportText.{value}
@@ -37,7 +34,7 @@ use Rattle.rq_input.specs.Rows.{HasRows}
 use Rattle.rq_input.specs.Tested.{AreColumns}
 use Rattle.rq_input.specs.declared.input.Input.{Input}
 use Rattle.rq_fit.specs.Asks.{IsFitAsk, IsUnitAsk}
-use Rattle.rq_fit.specs.Halts.{nested_halt, stop_halt}
+use Rattle.rq_fit.specs.Halts.{stop_halt}
 use Rattle.rq_fit.specs.Stops.{most}
 use Rattle.rq_fit.specs.Tested.{AreScoredBy, HasScoredCause, HasTestCause}
 use Rattle.rq_fit.proofs.Costs.{IsCosted, data_costs}
@@ -148,13 +145,7 @@ module _ (job : TestJob) (input : Input) where
   scored_cause rank (Refused (Dependent combination)) h = absurd h
   scored_cause rank (PivotLimit place limit trail) h = (rank, h)
   scored_cause rank (Overflow places.Full trail spill) h = absurd h
-  scored_cause rank (Overflow places.Gram trail spill) h = absurd h
   scored_cause rank halt h = h
-
-  -- there is no statistic
-  pub nested_cause : (stop : NestedStop Frac128) → IsNestedStop value most input.problem stop → HasTestCause job input (nested_halt stop)
-  nested_cause tests.OutOfMemory h = tt
-  nested_cause (tests.Gram trail spill) h = h
 
   pub wilcoxon_size : (q : Process Frac128) (wilcoxon : List Fraction) → AreScoredBy job.fit (restricted_problem job.tested input.problem) q wilcoxon → length wilcoxon ≡ length input.problem.rows
   wilcoxon_size q wilcoxon by = by.scores.size ∙ length-map input.problem.rows (restricted_row job.tested)

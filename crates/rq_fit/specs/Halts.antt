@@ -5,14 +5,12 @@ use Rattle.loss_model.specs.declared.spill.Short.{Short}
 use Rattle.loss_model.specs.declared.spill.Short.TheVariants as shorts
 use Rattle.loss_model.specs.declared.stop.Stop.{Stop}
 use Rattle.loss_model.specs.declared.stop.Stop.TheVariants as stops
-use Rattle.nested_test.specs.declared.stop.NestedStop.{NestedStop}
-use Rattle.nested_test.specs.declared.stop.NestedStop.TheVariants as tests
 use Rattle.lambda_path.specs.declared.fault.PathFault.{PathFault}
 use Rattle.lambda_path.specs.declared.fault.PathFault.TheVariants as faults
 use Rattle.rq_program.specs.declared.fault.ProgramFault.TheVariants.{TooManyRows}
 use Rattle.report_text.specs.declared.report.Refusal.TheVariants.{Dependent, Program}
 use Rattle.report_text.specs.declared.report.Place.{Place}
-use Rattle.report_text.specs.declared.report.Place.TheVariants.{Interval, Gram, Path}
+use Rattle.report_text.specs.declared.report.Place.TheVariants.{Interval, Path}
 use Rattle.report_text.specs.declared.report.Halt.{Halt}
 use Rattle.report_text.specs.declared.report.Halt.TheVariants.{Refused, OutOfMemory, PivotLimit, Overflow}
 use Rattle.interval_jobs.specs.declared.asks.IntervalStop.{IntervalStop}
@@ -39,8 +37,3 @@ interval_halt stopped = stop_halt (Interval stopped.asked.column stopped.asked.t
 abbrev pub short_halt : Place → Short Frac128 → Trail Frac128 → Halt
 short_halt place shorts.OutOfMemory trail = OutOfMemory
 short_halt place (shorts.Overflow spill) trail = Overflow place trail spill
-
--- that of a test without a statistic
-abbrev pub nested_halt : NestedStop Frac128 → Halt
-nested_halt tests.OutOfMemory = OutOfMemory
-nested_halt (tests.Gram trail spill) = Overflow Gram trail spill

@@ -9,7 +9,6 @@ use Rattle.loss_model.specs.FullRank.{HasFullRank}
 use Rattle.loss_model.specs.Problem.{sample, value_at, IsWellShaped}
 use Rattle.loss_model.specs.Segment.{Covers, segments_of}
 use Rattle.loss_model.specs.StartStop.{IsDependent, IsStartSpill}
-use Rattle.gram_matrix.specs.Grams.{IsGramSpillAfter}
 use Rattle.walk_rule.specs.WalkTrails.{ReachesProcessLimit}
 use Rattle.tau_process.specs.Stops.{IsProcessSpill}
 use Rattle.rankscores.specs.Wilcoxon.{AreWilcoxon}
@@ -63,13 +62,11 @@ HasScoredCause job p (Overflow places.Process trail spill) =
     IsProcessSpill value most p (rational (value job.lo)) (rational (value job.hi)) job.limit trail spill
 HasScoredCause job p halt = ⊥
 
--- why an input has no test: dependent columns, or an operation that overflows, in the start of its problem or in its Gram
--- matrix; or the problem without the tested columns has no process. A limit is reached only where the columns are
--- independent
+-- why an input has no test: dependent columns, or an operation that overflows, in the start of its problem; or the problem
+-- without the tested columns has no process. A limit is reached only where the columns are independent
 abbrev pub HasTestCause : TestJob → Input → Halt → Type 0
 HasTestCause job input (Refused (Dependent combination)) = IsDependent value input.problem combination
 HasTestCause job input (Overflow places.Full trail spill) = IsStartSpill value most input.problem trail spill
-HasTestCause job input (Overflow places.Gram trail spill) = IsGramSpillAfter value most input.problem trail spill
 HasTestCause job input (PivotLimit place limit trail) =
     HasFullRank (sample value input.problem) × HasScoredCause job.fit (restricted_problem job.tested input.problem) (PivotLimit place limit trail)
 HasTestCause job input halt = HasScoredCause job.fit (restricted_problem job.tested input.problem) halt

@@ -1,12 +1,11 @@
 //! The halts of the solver.
 ghost use Rattle.std.specs.Prelude.{◌≡◌};
-ghost use Rattle.rq_fit.specs.Halts.{interval_halt as interval_halt_of, nested_halt as nested_halt_of, path_halt as path_halt_of, short_halt as short_halt_of, stop_halt as stop_halt_of};
+ghost use Rattle.rq_fit.specs.Halts.{interval_halt as interval_halt_of, path_halt as path_halt_of, short_halt as short_halt_of, stop_halt as stop_halt_of};
 
 use frac_core::{Frac128, List};
 use interval_jobs::IntervalStop;
 use lambda_path::PathFault;
 use loss_model::{Short, Stop, Trail};
-use nested_test::NestedStop;
 use report_text::{Halt, Place, Refusal};
 use rq_program::ProgramFault;
 use std::alloc::Global;
@@ -70,20 +69,6 @@ pub(crate) fn short_halt(place: Place, short: Short<Frac128>, trail: Trail<Frac1
         Short::OutOfMemory => Halt::OutOfMemory,
         Short::Overflow(spill) => Halt::Overflow {
             place,
-            trail,
-            spill,
-        },
-    }
-}
-
-/// The halt of a test without a statistic.
-pub(crate) fn nested_halt(stop: NestedStop<Frac128>) -> Halt
-    ensures { result ≡ nested_halt_of stop }
-{
-    match stop {
-        NestedStop::OutOfMemory => Halt::OutOfMemory,
-        NestedStop::Gram { trail, spill } => Halt::Overflow {
-            place: Place::Gram,
             trail,
             spill,
         },

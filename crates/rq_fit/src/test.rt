@@ -12,7 +12,7 @@ ghost use Rattle.rq_input.specs.Tested.{AreColumns};
 ghost use Rattle.rq_fit.specs.Asks.{IsUnitAsk};
 ghost use Rattle.rq_fit.specs.Tested.{AreScoredBy, HasScoredCause, HasTestCause, IsTestFitOf};
 
-use crate::halt::{nested_halt, stop_halt};
+use crate::halt::stop_halt;
 use basis_inverse::start;
 use design_matrix::Design;
 use frac_core::{Frac128, List, OutOfMemory};
@@ -96,8 +96,8 @@ fn fit_of(
 /// statistic. The input has no penalty rows.
 ///
 /// `Dependent` and `Overflow` at `Full` are those of the start of the whole problem; `PivotLimit` and `Overflow` of the
-/// process are those of `process`. `Overflow` at `Gram` is one of the Gram matrix or of its inverse, with the trail of
-/// `nested`. `OutOfMemory` may come at any step, and no other halt comes: scores and statistic are of any size.
+/// process are those of `process`. `OutOfMemory` may come at any step, and no other halt comes: scores, Gram matrix and
+/// statistic are of any size.
 pub fn test_input(alloc: Global, job: &TestJob, input: Input) -> Result<TestFit, Halt>
     requires ask { IsUnitAsk job.now.fit }
     requires rows { HasRows input }
@@ -119,7 +119,7 @@ pub fn test_input(alloc: Global, job: &TestJob, input: Input) -> Result<TestFit,
     let tested = job.tested.as_slice();
     let found = match nested(alloc, full, tested, wilcoxon.as_slice()) {
         Ok(found) => found,
-        Err(stop) => return Err(nested_halt(stop)),
+        Err(OutOfMemory) => return Err(Halt::OutOfMemory),
     };
     match List::copy(alloc, tested) {
         Ok(tested) => Ok(fit_of(input.design, tested, process, found)),

@@ -377,7 +377,6 @@ module _ (lawful : PathHasCosts) (words : List (List ℕ)) (source source' : Str
   limit_below places.Check fit problem limit trail h = absurd h
   limit_below (places.Predict rec) fit problem limit trail h = absurd h
   limit_below places.Full fit problem limit trail h = absurd h
-  limit_below places.Gram fit problem limit trail h = absurd h
   limit_below places.Path fit problem limit trail h = absurd h
 
   pub ample : (out out' err err' : Stream) (place : Place) (limit : ℕ) (trail : Trail Frac128)

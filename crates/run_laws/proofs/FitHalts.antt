@@ -167,8 +167,6 @@ module _ (words : List (List ℕ)) (source source' : Stream) where
       limit_at (places.Predict rec) limit trail (inr h) = h.lacks.cause
       limit_at places.Full limit trail (inl h) = h.lacks.cause
       limit_at places.Full limit trail (inr h) = h.lacks.cause
-      limit_at places.Gram limit trail (inl h) = h.lacks.cause
-      limit_at places.Gram limit trail (inr h) = h.lacks.cause
       limit_at places.Path limit trail (inl h) = h.lacks.cause
       limit_at places.Path limit trail (inr h) = h.lacks.cause
 
@@ -184,8 +182,6 @@ module _ (words : List (List ℕ)) (source source' : Stream) where
           not_ended h.fit h.ask h.lacks.asked.input h.lacks.rows h.was (record { segments = of.segments; trail = trail }) of.results of.short
       overflow_at places.Full trail spill (inl h) = h.lacks.cause
       overflow_at places.Full trail spill (inr h) = h.lacks.cause
-      overflow_at places.Gram trail spill (inl h) = h.lacks.cause
-      overflow_at places.Gram trail spill (inr h) = h.lacks.cause
       overflow_at places.Path trail spill (inl h) = h.lacks.cause
       overflow_at places.Path trail spill (inr h) = h.lacks.cause
 
@@ -234,7 +230,6 @@ module _ (words : List (List ℕ)) (source source' : Stream) where
           at places.Check h = h.lacks.cause
           at (places.Predict rec) h = h.lacks.cause
           at places.Full h = h.lacks.cause
-          at places.Gram h = h.lacks.cause
           at places.Path h = h.lacks.cause
 
           at_rows : (place : Place) → IsPredictHalt (halts.PivotLimit place limit trail) → ⊥
@@ -243,7 +238,6 @@ module _ (words : List (List ℕ)) (source source' : Stream) where
           at_rows places.Check h = h.lacks.cause
           at_rows (places.Predict rec) h = h.lacks.cause
           at_rows places.Full h = h.lacks.cause
-          at_rows places.Gram h = h.lacks.cause
           at_rows places.Path h = h.lacks.cause
 
           by : IsFitHalt (halts.PivotLimit place limit trail) ⊎ IsPredictHalt (halts.PivotLimit place limit trail) → ⊥
@@ -264,8 +258,6 @@ module _ (words : List (List ℕ)) (source source' : Stream) where
       in_start (places.Predict rec) trail spill (inr h) = no_results h.fit h.lacks.asked.input h.was _ _ (record { segments = h.lacks.cause.segments; trail = trail }) h.lacks.cause.results
       in_start places.Full trail spill (inl h) = h.lacks.cause
       in_start places.Full trail spill (inr h) = h.lacks.cause
-      in_start places.Gram trail spill (inl h) = h.lacks.cause
-      in_start places.Gram trail spill (inr h) = h.lacks.cause
       in_start places.Path trail spill (inl h) = h.lacks.cause
       in_start places.Path trail spill (inr h) = h.lacks.cause
 

@@ -16,7 +16,7 @@ use Rattle.stop_laws.specs.NeededStops.{DoesOverflow}
 use Rattle.stop_laws.proofs.Needed.{below, dependent}
 use Rattle.stop_laws.proofs.Spilled.{of_process, start}
 use Rattle.interval_laws.proofs.Needed.{interval_needed}
-use Rattle.interval_laws.proofs.Spilled.{gram, of_interval}
+use Rattle.interval_laws.proofs.Spilled.{of_interval}
 use Rattle.pivot_bound.proofs.Bounds.{process_within}
 use Rattle.lambda_path.specs.Laws.{PathHasCosts}
 use Rattle.nested_test.specs.Restricted.{restricted_problem}
@@ -88,7 +88,6 @@ reached fit ranked bytes (places.Interval column tau) limit trail ask h = reache
 reached fit ranked bytes places.Check limit trail ask h = absurd h.cause
 reached fit ranked bytes (places.Predict rec) limit trail ask h = absurd h.cause
 reached fit ranked bytes places.Full limit trail ask h = absurd h.cause
-reached fit ranked bytes places.Gram limit trail ask h = absurd h.cause
 reached fit ranked bytes places.Path limit trail ask h = absurd h.cause
 
 predict_reached : (fit : FitJob) (bytes : List ℕ) (place : Place) (limit : ℕ) (trail : Trail Frac128) → IsFitAsk fit → (h : LacksPredictFit fit bytes (PivotLimit place limit trail)) → ReachesLimitAt place fit h.asked.input.problem limit trail
@@ -97,7 +96,6 @@ predict_reached fit bytes (places.Interval column tau) limit trail ask h = absur
 predict_reached fit bytes places.Check limit trail ask h = absurd h.cause
 predict_reached fit bytes (places.Predict rec) limit trail ask h = absurd h.cause
 predict_reached fit bytes places.Full limit trail ask h = absurd h.cause
-predict_reached fit bytes places.Gram limit trail ask h = absurd h.cause
 predict_reached fit bytes places.Path limit trail ask h = absurd h.cause
 
 -- a job and its bytes, of which the input was read
@@ -128,7 +126,6 @@ module _ (lawful : PathHasCosts) (words : List (List ℕ)) (source source' : Str
   test_limited job bytes read (places.Interval column tau) limit trail h = absurd h.cause.1
   test_limited job bytes read places.Check limit trail h = absurd h.cause.1
   test_limited job bytes read places.Full limit trail h = absurd h.cause.1
-  test_limited job bytes read places.Gram limit trail h = absurd h.cause.1
   test_limited job bytes read (places.Predict rec) limit trail h = absurd h.cause.1
   test_limited job bytes read places.Path limit trail h = absurd h.cause.1
 
@@ -149,7 +146,6 @@ module _ (lawful : PathHasCosts) (words : List (List ℕ)) (source source' : Str
   path_limited job bytes read places.Check limit trail h = absurd h.cause
   path_limited job bytes read (places.Predict rec) limit trail h = absurd h.cause
   path_limited job bytes read places.Full limit trail h = absurd h.cause
-  path_limited job bytes read places.Gram limit trail h = absurd h.cause
   path_limited job bytes read places.Path limit trail h = absurd h.cause
 
   pub limit_needed : (place : Place) (limit : ℕ) (trail : Trail Frac128) → IsHalted words source source' (PivotLimit place limit trail) → IsLimitedAt words source source' place limit trail
@@ -272,17 +268,6 @@ module _ (lawful : PathHasCosts) (words : List (List ℕ)) (source source' : Str
       by (jobs.Certify fit) cause = absurd cause.cause
       by jobs.Check cause = absurd cause
       by (jobs.Test job) cause = start value most spill cause.input.problem trail cause.cause
-      by (jobs.Predict fit) cause = absurd cause.cause
-      by (jobs.Path job) cause = absurd cause.cause
-      by (jobs.Sample job) cause = absurd cause.cause
-  overflow_needed places.Gram trail spill h = by h.job h.cause
-    where
-      by : (job : Job) → engine.HasCause job h.bytes (Overflow places.Gram trail spill) → DoesOverflow value most spill
-      by (jobs.Process fit) cause = absurd cause.cause
-      by (jobs.Ranks fit) cause = absurd cause.cause
-      by (jobs.Certify fit) cause = absurd cause.cause
-      by jobs.Check cause = absurd cause
-      by (jobs.Test job) cause = gram value most spill cause.input.problem trail cause.cause
       by (jobs.Predict fit) cause = absurd cause.cause
       by (jobs.Path job) cause = absurd cause.cause
       by (jobs.Sample job) cause = absurd cause.cause

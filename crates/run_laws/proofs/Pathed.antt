@@ -86,7 +86,6 @@ module _ (words : List (List ℕ)) (first : PathJob) (asked : IsJobOf words (job
         by (places.Interval column tau) h = h.cause
         by places.Check h = h.cause
         by places.Full h = h.cause
-        by places.Gram h = h.cause
         by (places.Predict rec) h = h.cause
         by places.Path h = h.cause
 
@@ -100,7 +99,6 @@ module _ (words : List (List ℕ)) (first : PathJob) (asked : IsJobOf words (job
         by (places.Interval column tau) h = h.cause
         by places.Check h = h.cause
         by places.Full h = h.cause
-        by places.Gram h = h.cause
         by (places.Predict rec) h = h.cause
 
     module _ (reaches : (fit : FitJob) (problem : Problem Frac128) → WasPath words source source' fit problem → IsLimitedProblem fit problem) where
@@ -139,7 +137,6 @@ module _ (words : List (List ℕ)) (first : PathJob) (asked : IsJobOf words (job
       no_stop job other read (places.Interval column tau) limit trail h = h.cause
       no_stop job other read places.Check limit trail h = h.cause
       no_stop job other read places.Full limit trail h = h.cause
-      no_stop job other read places.Gram limit trail h = h.cause
       no_stop job other read (places.Predict rec) limit trail h = h.cause
       no_stop job other read places.Path limit trail h = h.cause
 
@@ -149,7 +146,6 @@ module _ (words : List (List ℕ)) (first : PathJob) (asked : IsJobOf words (job
       no_spill job other read (places.Interval column tau) trail spill h = h.cause
       no_spill job other read places.Check trail spill h = h.cause
       no_spill job other read places.Full trail spill h = h.cause
-      no_spill job other read places.Gram trail spill h = h.cause
       no_spill job other read (places.Predict rec) trail spill h = h.cause
 
       no_path : (report : Report) → IsAnswered words source source' report → ⊥

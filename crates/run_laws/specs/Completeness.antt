@@ -278,7 +278,6 @@ parts_of (places.Interval column tau) = 3
 parts_of places.Check = 0
 parts_of (places.Predict rec) = 0
 parts_of places.Full = 0
-parts_of places.Gram = 0
 parts_of places.Path = 0
 
 -- where the limit is at least so many times these bases, it stops neither the process nor the interval

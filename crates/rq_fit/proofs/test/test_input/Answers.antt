@@ -1,10 +1,5 @@
-use Rattle.rq_fit.proofs.Testing.{nested_cause, scored_cause}
+use Rattle.rq_fit.proofs.Testing.{scored_cause}
 use Rattle.rq_fit.proofs.test.test_input.Goals as goal
-
-pub returns-in-Err-nested-clause-cause : goal.returns-in-Err-nested-clause-cause
-returns-in-Err-nested-clause-cause c =
-    rw c.nested_halt.ensures
-    (nested_cause c.args.job.now c.args.input c.in-Err-nested.stop c.in-Err-nested.ensures.stopped)
 
 pub returns-in-Err-scored-clause-cause : goal.returns-in-Err-scored-clause-cause
 returns-in-Err-scored-clause-cause c = scored_cause c.args.job.now c.args.input c.in-Ok.ensures.full_rank c.in-Err-scored.halt c.in-Err-scored.ensures.cause

@@ -4,4 +4,4 @@ use Rattle.nested_test.specs.Pairs.{sum_before}
 use Rattle.nested_test.proofs.statistic.Pairs.plus_row.Given as goal
 
 abbrev pub invariant-loop-m : goal.invariant-loop-m
-invariant-loop-m g l = rational l.sum ≡ sum_before g.F.Exact.value l.self l.j l.m
+invariant-loop-m l = rational l.sum ≡ sum_before l.self l.j l.m

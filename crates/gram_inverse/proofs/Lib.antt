@@ -1,0 +1,4 @@
+mod Lists
+mod Borders
+mod Steps
+pub mod Symmetry

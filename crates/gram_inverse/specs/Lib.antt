@@ -1,0 +1,4 @@
+pub mod Products
+pub mod Columns
+pub mod Borders
+pub mod Inverses
