@@ -63,7 +63,7 @@ if (requireNamespace("gmp", quietly = TRUE)) {
     suppressWarnings(stopifnot(
         identical(ranks_exact(y ~ x, three, program = refusing("ranks*", "process"))$exact, c("-1/5", "3/10", "-1/10")),
         identical(rank_test_exact(y ~ x, three, 2, program = refusing("test*", "test"))$exact, list(scores = "1", statistic = "18/7")),
-        identical(rank_test_exact(stack.loss ~ ., stackloss, 2:4, program = refusing("test*", "gram"))$exact$statistic, "131034135696/7232275883")
+        identical(rank_test_exact(stack.loss ~ ., stackloss, 2:4, program = refusing("test*", "full"))$exact$statistic, "131034135696/7232275883")
     ))
     stopifnot(grepl("gmp, not by the proved program", warned(ranks_exact(y ~ x, three, program = refusing("ranks*", "process")))))
     stopifnot(is.list(warned(ranks_exact(y ~ x, three))))
