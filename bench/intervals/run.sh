@@ -25,7 +25,7 @@ seconds() {
 with_r=$(command -v Rscript > "$work/nothing" && Rscript -e 'quit(status = !requireNamespace("quantreg", quietly = TRUE))' \
   > "$work/nothing" 2>&1 && echo yes || true)
 
-for size in "100 4 16" "1000 4 16" "1000 4 1000" "1000 5 16" "1000 5 1000" "2000 4 16" "2000 9 16" "16384 4 16" "16384 4 1000"; do
+for size in "100 4 16" "1000 4 16" "1000 4 1000" "1000 5 16" "1000 5 1000" "2000 4 16" "2000 4 1000" "2000 9 16" "2000 9 1000" "16384 4 16" "16384 4 1000"; do
   read -r rows columns below <<< "$size"
   awk -v number=1 -v rows="$rows" -v columns="$columns" -f "$here/../whole/make_table.awk" |
     awk -F , -v OFS=, -v below="$below" 'NR > 1 { for (i = 1; i <= NF; i++) $i %= below } 1' > "$work/table.csv"
