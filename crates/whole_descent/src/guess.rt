@@ -4,7 +4,7 @@ ghost use Rattle.whole_ratio.specs.Lines.{IsMover};
 ghost use Rattle.whole_descent.specs.Passing.{IsDescent};
 
 use crate::passing::{Descent, sum_of};
-use frac_core::{Exact, List};
+use frac_core::List;
 use std::alloc::Global;
 use whole_inverse::Obstacle;
 use whole_ratio::Mover;
@@ -55,20 +55,14 @@ impl<'a> Descent<'a> {
     }
 
     /// Puts a row on its side of another one.
-    fn put<F: Exact>(
-        &self,
-        alloc: Global,
-        parts: &mut Parts,
-        row: u32,
-        pivot: Mover,
-    ) -> Result<(), Obstacle>
+    fn put(&self, parts: &mut Parts, row: u32, pivot: Mover) -> Result<(), Obstacle>
         requires descent { IsDescent self.now }
         requires pivot { IsMover self.now.line.now pivot }
     {
         if row as usize >= self.line.sides.len() || row == pivot.row {
             return Ok(());
         }
-        if self.is_passed::<F>(alloc, row, pivot)? {
+        if self.is_passed(row, pivot)? {
             parts.sum = sum_of(parts.sum, self.passing(row)?)?;
             parts.before.add(row)?;
         } else {
@@ -78,7 +72,7 @@ impl<'a> Descent<'a> {
     }
 
     /// Rows parted by one of them.
-    fn parted<F: Exact>(&self, alloc: Global, rows: &[u32], pivot: Mover) -> Result<Parts, Obstacle>
+    fn parted(&self, alloc: Global, rows: &[u32], pivot: Mover) -> Result<Parts, Obstacle>
         requires descent { IsDescent self.now }
         requires pivot { IsMover self.now.line.now pivot }
     {
@@ -88,14 +82,14 @@ impl<'a> Descent<'a> {
             after: List::new(alloc),
         };
         for i in 0..rows.len() {
-            self.put::<F>(alloc, &mut parts, rows[i], pivot)?;
+            self.put(&mut parts, rows[i], pivot)?;
         }
         Ok(parts)
     }
 
     /// The row whose passing takes the slope from below 0: the rows that are left are parted by one of them, and the
     /// search goes on on the side where the slope turns.
-    pub(crate) fn guess<F: Exact>(&self, alloc: Global, start: i128) -> Result<u32, Obstacle>
+    pub(crate) fn guess(&self, alloc: Global, start: i128) -> Result<u32, Obstacle>
         requires descent { IsDescent self.now }
     {
         let mut left = self.movers(alloc)?;
@@ -110,7 +104,7 @@ impl<'a> Descent<'a> {
                 Some(pivot) => pivot,
                 None => return Err(Obstacle::TooWide),
             };
-            let parts = self.parted::<F>(alloc, rows, pivot)?;
+            let parts = self.parted(alloc, rows, pivot)?;
             let reached = sum_of(slope, parts.sum)?;
             if reached >= 0 {
                 left = parts.before;

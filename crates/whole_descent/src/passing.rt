@@ -6,8 +6,6 @@ ghost use Rattle.whole_ratio.specs.Lines.{IsMover, is_moving, comes_before};
 ghost use Rattle.whole_descent.specs.Passing.{IsDescent, number_value, first_slope, passing_of, passed_by, slope_until, Enters};
 
 use crate::quantile::Quantile;
-use frac_core::Exact;
-use std::alloc::Global;
 use whole_inverse::Obstacle;
 use whole_ratio::{Line, Mover};
 
@@ -71,12 +69,7 @@ impl<'a> Descent<'a> {
     }
 
     /// Whether a row moves, and is passed before another one.
-    pub(crate) fn is_passed<F: Exact>(
-        &self,
-        alloc: Global,
-        row: u32,
-        target: Mover,
-    ) -> Result<bool, Obstacle>
+    pub(crate) fn is_passed(&self, row: u32, target: Mover) -> Result<bool, Obstacle>
         requires descent { IsDescent self.now }
         requires row { row < length self.now.line.now.basis.now.rows.now }
         requires target { IsMover self.now.line.now target }
@@ -89,26 +82,20 @@ impl<'a> Descent<'a> {
                 if mover.row == target.row {
                     return Ok(false);
                 }
-                let before = line.precedes::<F>(alloc, mover, target)?;
+                let before = line.precedes(mover, target)?;
                 Ok(before)
             }
         }
     }
 
     /// The slope after a row, where it is passed before another one.
-    fn after<F: Exact>(
-        &self,
-        alloc: Global,
-        row: u32,
-        target: Mover,
-        slope: i128,
-    ) -> Result<i128, Obstacle>
+    fn after(&self, row: u32, target: Mover, slope: i128) -> Result<i128, Obstacle>
         requires descent { IsDescent self.now }
         requires row { row < length self.now.line.now.basis.now.rows.now }
         requires target { IsMover self.now.line.now target }
         ensures { IfOk result (λ n. rational (number_value self.now n) ≡ rational (number_value self.now slope) +ℚ passed_by self.now target.row row) }
     {
-        if self.is_passed::<F>(alloc, row, target)? {
+        if self.is_passed(row, target)? {
             let more = self.passing(row)?;
             let sum = sum_of(slope, more)?;
             return Ok(sum);
@@ -117,12 +104,7 @@ impl<'a> Descent<'a> {
     }
 
     /// The slope after all rows that are passed before a row.
-    fn slope_before<F: Exact>(
-        &self,
-        alloc: Global,
-        target: Mover,
-        start: i128,
-    ) -> Result<i128, Obstacle>
+    fn slope_before(&self, target: Mover, start: i128) -> Result<i128, Obstacle>
         requires descent { IsDescent self.now }
         requires target { IsMover self.now.line.now target }
         requires start { rational (number_value self.now start) ≡ first_slope self.now }
@@ -130,7 +112,7 @@ impl<'a> Descent<'a> {
     {
         let mut slope = start;
         for row in 0..self.line.sides.len() as u32 {
-            match self.after::<F>(alloc, row, target, slope) {
+            match self.after(row, target, slope) {
                 Ok(next) => slope = next,
                 Err(obstacle) => return Err(obstacle),
             }
@@ -139,13 +121,13 @@ impl<'a> Descent<'a> {
     }
 
     /// Whether passing a row takes the slope from below 0.
-    fn turns<F: Exact>(&self, alloc: Global, target: Mover, start: i128) -> Result<bool, Obstacle>
+    fn turns(&self, target: Mover, start: i128) -> Result<bool, Obstacle>
         requires descent { IsDescent self.now }
         requires target { IsMover self.now.line.now target }
         requires start { rational (number_value self.now start) ≡ first_slope self.now }
         ensures { IfOk result (λ b. IsTrue b → Enters self.now target.row) }
     {
-        let before = self.slope_before::<F>(alloc, target, start)?;
+        let before = self.slope_before(target, start)?;
         if before >= 0 {
             return Ok(false);
         }
@@ -158,12 +140,7 @@ impl<'a> Descent<'a> {
     }
 
     /// The row that enters, from a guess at it.
-    pub(crate) fn tested<F: Exact>(
-        &self,
-        alloc: Global,
-        guess: u32,
-        start: i128,
-    ) -> Result<u32, Obstacle>
+    pub(crate) fn tested(&self, guess: u32, start: i128) -> Result<u32, Obstacle>
         requires descent { IsDescent self.now }
         requires start { rational (number_value self.now start) ≡ first_slope self.now }
         ensures { IfOk result (Enters self.now) }
@@ -174,7 +151,7 @@ impl<'a> Descent<'a> {
         }
         match line.mover_at(guess) {
             Some(target) => {
-                if self.turns::<F>(alloc, target, start)? {
+                if self.turns(target, start)? {
                     Ok(target.row)
                 } else {
                     Err(Obstacle::TooWide)

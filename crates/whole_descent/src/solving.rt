@@ -7,7 +7,6 @@ ghost use Rattle.whole_descent.specs.Leavings.{IsLeavingAt, IsEnteringAt, IsSolv
 use crate::leaving::{Leaving, steepest};
 use crate::passing::Descent;
 use crate::quantile::Quantile;
-use frac_core::Exact;
 use std::alloc::Global;
 use tableau_model::Step;
 use whole_inverse::Obstacle;
@@ -16,7 +15,7 @@ use whole_solution::row_products;
 use whole_steps::Station;
 
 /// The row that enters where a position leaves.
-fn entering<F: Exact>(
+fn entering(
     alloc: Global,
     station: &Station<'_>,
     theta: Quantile,
@@ -40,13 +39,13 @@ fn entering<F: Exact>(
         direction: leave.direction,
     };
     let descent = Descent { line: &line, theta };
-    let guess = descent.guess::<F>(alloc, leave.slope)?;
-    let row = descent.tested::<F>(alloc, guess, leave.slope)?;
+    let guess = descent.guess(alloc, leave.slope)?;
+    let row = descent.tested(guess, leave.slope)?;
     Ok(row)
 }
 
 /// The solving step at a quantile that is left, or none where no slope is negative.
-pub fn solving_step<F: Exact>(
+pub fn solving_step(
     alloc: Global,
     station: &Station<'_>,
     theta: Quantile,
@@ -61,7 +60,7 @@ pub fn solving_step<F: Exact>(
     match steepest(station, theta, columns) {
         Ok(None) => Ok(None),
         Ok(Some(leave)) => {
-            let row = entering::<F>(alloc, station, theta, leave)?;
+            let row = entering(alloc, station, theta, leave)?;
             Ok(Some(Step {
                 position: leave.position,
                 row,

@@ -16,7 +16,8 @@ use Rattle.exact_algebra.specs.Order.{cmp_ℚ}
 use Rattle.pivot_rule.specs.declared.direction.Direction.{Direction}
 use Rattle.pivot_rule.specs.declared.direction.Direction.TheVariants.{Upward, Downward}
 use Rattle.pivot_rule.specs.Steps.{is_towards, change}
-use Rattle.pivot_rule.proofs.Passing.{mover_some}
+use Rattle.pivot_rule.proofs.Passing.{mover_some, mover_outside}
+use Rattle.pivot_rule.proofs.Sides.{side_outside}
 use Rattle.whole_inverse.specs.Shares.{share}
 use Rattle.whole_inverse.proofs.Lists.{share_read}
 use Rattle.whole_inverse.proofs.Turned.{share-quotient}
@@ -24,6 +25,7 @@ use Rattle.whole_solution.proofs.Numbers.{share_none, share_some}
 use Rattle.whole_solution.proofs.Reading.{side_read}
 use Rattle.whole_ratio.specs.declared.line.Line.{Line}
 use Rattle.whole_ratio.specs.Lines.{turned_by, model, at_of, inverse_at, over_of, IsLine, IsMover, is_moving}
+use Rattle.whole_ratio.specs.Ties.{IsTied}
 use Rattle.whole_ratio.proofs.Signs.{abs_share, turned_share}
 
 change_turned : (d : Direction) (p : Sample) (at : ℕ → ℕ) (a : ℕ → ℕ → ℚ) (j i : ℕ) → change p at a j d i ≡ turned_by d (coord p a i j)
@@ -80,4 +82,16 @@ module _ (l : Line) (line : IsLine l) (i : ℕ) (li : i < length l.basis.now.row
             ∙ ap (turned (perturbed_side (model l).rows (model l).columns (at_of l) (outside_row (model l) (at_of l) (inverse_at l) i))) residual_here)
             (sym (abs_share (get_or l.coords.now i (pos 0)) (over_of l) line.held.shape.positive) ∙ ap abs_ℚ coord_here)
             ∙ sym (turned-times (perturbed_side (model l).rows (model l).columns (at_of l) (outside_row (model l) (at_of l) (inverse_at l) i)) (residual (model l) (coefficient (model l) (at_of l) (inverse_at l)) i) (inverse (abs_ℚ (coord (model l) (inverse_at l) i l.position))));
+      }
+
+  -- and with what its entries share
+  pub tied_here : is_moving l i ≡ true → IsTied l (record { row = i; side = get_or l.sides.now i Up; size = unsigned_abs (get_or l.coords.now i (pos 0)) })
+  unfolding is_moving
+  tied_here h =
+      record {
+        row = li;
+        moves = h;
+        side = side_here ∙ side_outside (model l) (at_of l) (inverse_at l) i (mover_outside (model l) (at_of l) (inverse_at l) l.position l.direction i h);
+        some = size_some (get_or l.coords.now i (pos 0)) (λ e. moving_some h (sym coord_here ∙ share_none (get_or l.coords.now i (pos 0)) (over_of l) e));
+        size = sym (abs_share (get_or l.coords.now i (pos 0)) (over_of l) line.held.shape.positive) ∙ ap abs_ℚ coord_here;
       }

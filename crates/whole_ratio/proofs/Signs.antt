@@ -20,14 +20,14 @@ use Rattle.whole_solution.proofs.Numbers.{share-neg, share_none, share_not_above
 
 -- ---- the sign of a share
 
-share_below : (r d : ℤ) → pos 1 ≤ℤ d → r <ℤ pos 0 → ¬ (whole (pos 0) ≤ℚ share r d)
+pub share_below : (r d : ℤ) → pos 1 ≤ℤ d → r <ℤ pos 0 → ¬ (whole (pos 0) ≤ℚ share r d)
 share_below r d h p l =
     share_above (neg_ℤ r) d h (omega (arith, ints)) (subst (λ z. z ≤ℚ whole (pos 0)) (sym (share-neg r d)) (negative_le (share r d) l))
   where
     negative_le : (x : ℚ) → whole (pos 0) ≤ℚ x → neg_ℚ x ≤ℚ whole (pos 0)
     negative_le x l = subst (λ z. neg_ℚ x ≤ℚ z) (ring_ℚ [] (negated (number (pos 0))) (number (pos 0)) refl) (≤ℚ_neg (whole (pos 0)) x l)
 
-share_not_below : (r d : ℤ) → pos 1 ≤ℤ d → pos 0 ≤ℤ r → whole (pos 0) ≤ℚ share r d
+pub share_not_below : (r d : ℤ) → pos 1 ≤ℤ d → pos 0 ≤ℤ r → whole (pos 0) ≤ℚ share r d
 share_not_below r d h p =
     subst (λ z. whole (pos 0) ≤ℚ z) (ap neg_ℚ (share-neg r d) ∙ ring_ℚ (share r d ∷ []) (negated (negated v0)) v0 refl)
     (subst (λ z. z ≤ℚ neg_ℚ (share (neg_ℤ r) d)) (ring_ℚ [] (negated (number (pos 0))) (number (pos 0)) refl) (≤ℚ_neg (share (neg_ℤ r) d) (whole (pos 0)) (share_not_above (neg_ℤ r) d h (omega (arith, ints)))))
@@ -79,6 +79,19 @@ neg_cmp x = by_cmp x (whole (pos 0)) (λ o. cmp_ℚ (neg_ℚ x) (whole (pos 0)) 
 
     forth : (x : ℚ) → whole (pos 0) ≤ℚ neg_ℚ x → x ≤ℚ whole (pos 0)
     forth x l = subst (λ z. x ≤ℚ z) (sym zero_neg) (subst (λ z. z ≤ℚ neg_ℚ (whole (pos 0))) (ring_ℚ (x ∷ []) (negated (negated v0)) v0 refl) (≤ℚ_neg (whole (pos 0)) (neg_ℚ x) l))
+
+-- negated numbers are in the reversed order
+pub neg_order : (x y : ℚ) → cmp_ℚ (neg_ℚ x) (neg_ℚ y) ≡ ordering_reverse (cmp_ℚ x y)
+neg_order x y = by_cmp x y (λ o. cmp_ℚ (neg_ℚ x) (neg_ℚ y) ≡ ordering_reverse o)
+    (λ n. (cmp_ℚ-Greater (neg_ℚ x) (neg_ℚ y)).1 (λ l. n (turned_back y x l)))
+    (λ e. (cmp_ℚ-Equal (neg_ℚ x) (neg_ℚ y)).1 (ap neg_ℚ e))
+    (λ n. (cmp_ℚ-Less (neg_ℚ x) (neg_ℚ y)).1 (λ l. n (turned_back x y l)))
+  where
+    twice : (x : ℚ) → neg_ℚ (neg_ℚ x) ≡ x
+    twice x = ring_ℚ (x ∷ []) (negated (negated v0)) v0 refl
+
+    turned_back : (x y : ℚ) → neg_ℚ y ≤ℚ neg_ℚ x → x ≤ℚ y
+    turned_back x y l = subst (λ z. z ≤ℚ y) (twice x) (subst (λ z. neg_ℚ (neg_ℚ x) ≤ℚ z) (twice y) (≤ℚ_neg (neg_ℚ y) (neg_ℚ x) l))
 
 pub falls_by : (x : ℚ) → is_gt (cmp_ℚ x (whole (pos 0))) ≡ is_lt (cmp_ℚ (neg_ℚ x) (whole (pos 0)))
 falls_by x = sym (reversed_gt (cmp_ℚ x (whole (pos 0)))) ∙ sym (ap is_lt (neg_cmp x))

@@ -1,9 +1,7 @@
 -- Inner. The line along which a position leaves a basis of rows in whole numbers, and the rows that move on it.
 use Rattle.std.specs.Prelude.{◌≡◌, ◌≢◌, ◌⊎◌, ℕ, ℤ, ◌<◌, ◌≤◌, Bool, true, false, length, slice_index, Option, Some, None, pos}
-use Rattle.exact_algebra.specs.Fraction.{Fraction, rational}
 use Rattle.exact_algebra.specs.Rational.{ℚ, neg_ℚ}
 use Rattle.loss_model.specs.Sample.{Sample, residual}
-use Rattle.loss_model.specs.Problem.{value_at}
 use Rattle.basis_model.specs.Perturbed.{ratio}
 use Rattle.basis_model.specs.Basis.{IsBasis, coord, coefficient, outside_row, side_at}
 use Rattle.pivot_rule.specs.declared.direction.Direction.{Direction}
@@ -15,7 +13,6 @@ use Rattle.whole_rows.specs.Wholes.{sample_of_rows}
 use Rattle.whole_solution.specs.Standing.{side_in, IsWholeBasis}
 use Rattle.whole_ratio.specs.declared.line.Line.{Line}
 use Rattle.whole_ratio.specs.declared.line.Mover.{Mover}
-use Rattle.whole_ratio.specs.declared.order.RowValues.{RowValues}
 
 -- a change in a direction
 abbrev pub turned_by : Direction → ℚ → ℚ
@@ -83,10 +80,3 @@ pub record IsFirstMoverBelow (l : Line) (n : ℕ) (m : Mover) : Type 0 where
 abbrev pub IsFirstBelow : Line → ℕ → Option Mover → Type 0
 IsFirstBelow l n None = (i : ℕ) → i < n → is_moving l i ≡ false
 IsFirstBelow l n (Some m) = IsFirstMoverBelow l n m
-
--- the values are the residual and the coordinates of row i
-pub record IsRowValues {F : Type 0} (value : F → Fraction) (l : Line) (i : ℕ) (v : RowValues F) : Type 0 where
-  pub row : v.row ≡ i
-  pub residual : rational (value v.residual) ≡ residual (model l) (coefficient (model l) (at_of l) (inverse_at l)) i
-  pub size : length v.coords ≡ length l.basis.now.inverse.now.columns
-  pub coords : (j : ℕ) → j < length l.basis.now.inverse.now.columns → value_at value v.coords j ≡ coord (model l) (inverse_at l) i j

@@ -5,25 +5,18 @@ ghost use Rattle.whole_ratio.specs.Lines.{IsLine, IsMover, IsMoverAt, IsFirstBel
 
 use crate::less::is_surely_less;
 use crate::line::{Line, Mover, goes_towards};
-use frac_core::Exact;
-use std::alloc::Global;
 use whole_inverse::Obstacle;
 
 impl<'a> Line<'a> {
     /// The one of two movers that comes first.
-    fn earlier<F: Exact>(
-        &self,
-        alloc: Global,
-        first: Mover,
-        second: Mover,
-    ) -> Result<Mover, Obstacle>
+    fn earlier(&self, first: Mover, second: Mover) -> Result<Mover, Obstacle>
         requires line { IsLine self.now }
         requires first { IsMover self.now first }
         requires second { IsMover self.now second }
         requires after { first.row < second.row }
         ensures { IfOk result (IsEarlierMover self.now first second) }
     {
-        if self.precedes::<F>(alloc, second, first)? {
+        if self.precedes(second, first)? {
             Ok(second)
         } else {
             Ok(first)
@@ -67,12 +60,7 @@ impl<'a> Line<'a> {
     }
 
     /// The first of the movers up to a row, from that of those before it.
-    fn one_more<F: Exact>(
-        &self,
-        alloc: Global,
-        best: Option<Mover>,
-        row: u32,
-    ) -> Result<Option<Mover>, Obstacle>
+    fn one_more(&self, best: Option<Mover>, row: u32) -> Result<Option<Mover>, Obstacle>
         requires line { IsLine self.now }
         requires row { row < length self.now.basis.now.rows.now }
         requires best { IsFirstBelow self.now row best }
@@ -83,7 +71,7 @@ impl<'a> Line<'a> {
             Some(mover) => match best {
                 None => Ok(Some(mover)),
                 Some(first) => {
-                    let next = self.earlier::<F>(alloc, first, mover)?;
+                    let next = self.earlier(first, mover)?;
                     Ok(Some(next))
                 }
             },
@@ -123,7 +111,7 @@ impl<'a> Line<'a> {
     }
 
     /// The row that enters: the first of the rows that move.
-    pub fn first_mover<F: Exact>(&self, alloc: Global) -> Result<u32, Obstacle>
+    pub fn first_mover(&self) -> Result<u32, Obstacle>
         requires line { IsLine self.now }
         requires some { (i : ℕ) × (i < length self.now.basis.now.rows.now) × (is_moving self.now i ≡ true) }
         ensures { IfOk result (IsFirstMover (model self.now) (at_of self.now) (inverse_at self.now) self.now.position self.now.direction) }
@@ -136,7 +124,7 @@ impl<'a> Line<'a> {
             if rival >= end {
                 return Ok(self.row_of(best));
             }
-            match self.one_more::<F>(alloc, best, rival) {
+            match self.one_more(best, rival) {
                 Ok(next) => best = next,
                 Err(obstacle) => return Err(obstacle),
             }

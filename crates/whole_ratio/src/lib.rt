@@ -22,5 +22,6 @@ mod first;
 mod less;
 mod line;
 mod order;
+mod tie;
 
 pub use line::{Line, Mover};

@@ -5,7 +5,6 @@ ghost use Rattle.walk_rule.specs.Walks.{IsFirstMover};
 ghost use Rattle.whole_steps.specs.Stations.{IsStation, model, at_of, inverse_at};
 
 use crate::station::Station;
-use frac_core::Exact;
 use pivot_rule::Direction;
 use std::alloc::Global;
 use whole_inverse::Obstacle;
@@ -14,7 +13,7 @@ use whole_solution::row_products;
 
 impl<'a> Station<'a> {
     /// The row that enters where a position leaves in a direction, if some row moves: the first of those that do.
-    pub fn first_mover<F: Exact>(
+    pub fn first_mover(
         &self,
         alloc: Global,
         position: u32,
@@ -37,7 +36,7 @@ impl<'a> Station<'a> {
             position,
             direction,
         };
-        let row = line.first_mover::<F>(alloc)?;
+        let row = line.first_mover()?;
         Ok(row)
     }
 }

@@ -5,7 +5,7 @@ use Rattle.whole_descent.proofs.Passed.{not_itself}
 use Rattle.whole_descent.proofs.passing.Descent.is_passed.Goals as goal
 
 pub returns-then-mover-target : goal.returns-then-mover-target
-returns-then-mover-target g c =
+returns-then-mover-target c =
     let d = c.args.self.now in
     let l = d.line.now in
     let row = c.args.row in

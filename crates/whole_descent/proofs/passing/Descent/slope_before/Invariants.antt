@@ -6,4 +6,4 @@ use Rattle.whole_descent.specs.Passing.{number_value, first_slope, passed_by}
 use Rattle.whole_descent.proofs.passing.Descent.slope_before.Given as goal
 
 abbrev pub invariant-loop-row : goal.invariant-loop-row
-invariant-loop-row g l = rational (number_value l.self l.slope) ≡ first_slope l.self +ℚ sum_ℚ l.row (passed_by l.self l.target.row)
+invariant-loop-row l = rational (number_value l.self l.slope) ≡ first_slope l.self +ℚ sum_ℚ l.row (passed_by l.self l.target.row)

@@ -4,7 +4,7 @@ use Rattle.whole_descent.proofs.Passed.{enters_by}
 use Rattle.whole_descent.proofs.passing.Descent.turns.Goals as goal
 
 pub returns : goal.returns
-returns g c = λ t.
+returns c = λ t.
     let d = c.args.self.now in
     let before = c.in_ok-before.before in
     let own = c.in_ok-own.own in

@@ -1,26 +1,37 @@
--- By all entries.
-use Rattle.std.proofs.Common.{length, refl}
-use Rattle.lex_rule.specs.declared.less.Ratio.{Ratio}
-use Rattle.lex_rule.specs.Compared.{of_ratio}
-use Rattle.whole_ratio.proofs.Ties.{row_of, ratio_at, tie_exact}
+-- By the first entry that differs, or by the lesser of both rows.
+use Rattle.std.proofs.Common.{◌≡◌, ◌<◌, arith, sym, ap, ap₂, ◌∙◌, true, false}
+use Rattle.std.specs.Ordering.{is_ne}
+use Rattle.whole_ratio.specs.Lines.{comes_before}
+use Rattle.whole_ratio.specs.Ties.{ratio_of}
+use Rattle.whole_ratio.proofs.Ties.{first_agrees, order_decides, left_first, right_first}
 use Rattle.whole_ratio.proofs.line.Line.break_tie.Goals as goal
 
-pub lex_less-requires-clause-left : goal.lex_less-requires-clause-left
-lex_less-requires-clause-left g c κs within =
-    ratio_at c.args.self.now c.requires.line g.F.Exact.value c.args.left c.in_ok-one.one _ c.requires.left_moves (c.in_ok-one.ensures {u = tt}) refl c.as_slice.ensures
-
-pub lex_less-requires-clause-right : goal.lex_less-requires-clause-right
-lex_less-requires-clause-right g c κs within =
-    ratio_at c.args.self.now c.requires.line g.F.Exact.value c.args.right c.in_ok-two.two _ c.requires.right_moves (c.in_ok-two.ensures {u = tt}) refl c.as_slice-2.ensures
-
-pub returns-in-Ok : goal.returns-in-Ok
-returns-in-Ok g c =
-    let value = g.F.Exact.value in
+pub order_before-requires-clause-first : goal.order_before-requires-clause-first
+order_before-requires-clause-first c =
     let l = c.args.self.now in
-    let line = c.requires.line in
-    let first : Ratio _ = record { row = c.args.left; residual = c.in_ok-one.one.residual; coords = c.as_slice.result } in
-    let second : Ratio _ = record { row = c.args.right; residual = c.in_ok-two.two.residual; coords = c.as_slice-2.result } in
-    tie_exact l line c.args.left c.args.right (of_ratio value first) (of_ratio value second) c.in-Ok.less c.requires.left c.requires.right
-    (row_of l line value c.args.left c.in_ok-one.one first (c.in_ok-one.ensures {u = tt}) refl refl c.as_slice.ensures)
-    (row_of l line value c.args.right c.in_ok-two.two second (c.in_ok-two.ensures {u = tt}) refl refl c.as_slice-2.ensures)
-    (length l.basis.now.basis.now.rows) line.held.size (c.in-Ok.ensures {u = tt}).less
+    ap (λ i. ratio_of l i 0) c.tied-one.ensures.row
+    ∙ first_agrees l c.requires.line c.args.left c.args.right c.requires.left c.requires.right c.requires.equal
+    ∙ sym (ap (λ i. ratio_of l i 0) c.tied-two.ensures.row)
+
+pub returns-then-is_ne : goal.returns-then-is_ne
+returns-then-is_ne c =
+    let l = c.args.self.now in
+    let differ : is_ne c.in_ok-order.order ≡ true = sym c.is_ne.ensures ∙ c.if-is_ne.true in
+    c.is_lt.ensures
+    ∙ order_decides l c.requires.line c.tied-one.result c.tied-two.result c.tied-one.ensures.tied c.tied-two.ensures.tied c.min-end.result c.in_ok-order.order (omega arith) (c.in_ok-order.ensures {u = tt}) differ
+    ∙ ap₂ (comes_before l) c.tied-one.ensures.row c.tied-two.ensures.row
+
+pub returns-then-one-two : goal.returns-then-one-two
+returns-then-one-two c =
+    let l = c.args.self.now in
+    let same : is_ne c.in_ok-order.order ≡ false = sym c.is_ne.ensures ∙ c.if-is_ne.false in
+    left_first l c.requires.line c.tied-one.result c.tied-two.result c.tied-one.ensures.tied c.tied-two.ensures.tied c.min-end.result c.in_ok-order.order c.is_down.result (omega arith) (omega arith) c.is_down.ensures (c.in_ok-order.ensures {u = tt}) same
+    ∙ ap₂ (comes_before l) c.tied-one.ensures.row c.tied-two.ensures.row
+
+pub returns-else-one-two : goal.returns-else-one-two
+returns-else-one-two c =
+    let l = c.args.self.now in
+    let same : is_ne c.in_ok-order.order ≡ false = sym c.is_ne.ensures ∙ c.if-is_ne.false in
+    let less : c.tied-two.result.row < c.tied-one.result.row = omega (arith, c.requires.differ, c.tied-one.ensures.row, c.tied-two.ensures.row) in
+    right_first l c.requires.line c.tied-one.result c.tied-two.result c.tied-one.ensures.tied c.tied-two.ensures.tied c.min-end.result c.in_ok-order.order c.is_down-else-one-two.result (omega (arith, less)) less c.is_down-else-one-two.ensures (c.in_ok-order.ensures {u = tt}) same
+    ∙ ap₂ (comes_before l) c.tied-one.ensures.row c.tied-two.ensures.row

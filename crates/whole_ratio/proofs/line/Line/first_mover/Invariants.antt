@@ -4,7 +4,7 @@ use Rattle.whole_ratio.specs.Lines.{IsFirstBelow}
 use Rattle.whole_ratio.proofs.line.Line.first_mover.Given as goal
 
 abbrev pub invariant-loop-step : goal.invariant-loop-step
-invariant-loop-step g l = record {
+invariant-loop-step l = record {
   best : IsFirstBelow l.self l.row l.best;
   within : l.row ≤ length l.self.basis.now.rows.now;
   steps : l.step ≤ l.row;

@@ -5,7 +5,7 @@ use Rattle.whole_ratio.proofs.FirstLaws.{one_of_two}
 use Rattle.whole_ratio.proofs.line.Line.one_more.Goals as goal
 
 pub returns-in_ok-next-in-Some-best : goal.returns-in_ok-next-in-Some-best
-returns-in_ok-next-in-Some-best g c =
+returns-in_ok-next-in-Some-best c =
     let l = c.args.self.now in
     let row = c.args.row in
     let made : IsMover l c.in-Some.mover × (c.in-Some.mover.row ≡ row) = subst (IsMoverAt l row) c.in-Some.is c.mover_at.ensures in

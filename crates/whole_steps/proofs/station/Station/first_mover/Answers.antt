@@ -9,12 +9,12 @@ use Rattle.whole_steps.proofs.Lines.{moving_there, column_size, coordinates_by}
 use Rattle.whole_steps.proofs.station.Station.first_mover.Goals as goal
 
 pub row_products-requires-clause-wide : goal.row_products-requires-clause-wide
-row_products-requires-clause-wide g c =
+row_products-requires-clause-wide c =
     let b = c.args.self.now.basis.now in
     subst (λ m. All (λ r. length r.x ≡ m) b.rows.now) (sym (column_size b.inverse.now c.requires.station.held.shape c.args.position c.numerators-column.result.now c.requires.position c.numerators-column.ensures)) c.requires.station.held.wide
 
 pub first_mover-requires-clause-line : goal.first_mover-requires-clause-line
-first_mover-requires-clause-line g c κs within =
+first_mover-requires-clause-line c =
     let s = c.args.self.now in
     let b = s.basis.now in
     let d = over_of s in
@@ -34,7 +34,7 @@ first_mover-requires-clause-line g c κs within =
     }
 
 pub first_mover-requires-clause-some : goal.first_mover-requires-clause-some
-first_mover-requires-clause-some g c κs within =
+first_mover-requires-clause-some c =
     let l : Line = record { basis = c.args.self.now.basis; residuals = c.as_slice.result; sides = c.as_slice-2.result; coords = c.as_slice-3.result; position = c.args.position; direction = c.args.direction } in
     let row = c.requires.some in
     (row.0, row.1, moving_there l row.0 row.2)
