@@ -10,7 +10,7 @@
 //! ```text
 //! let quantile = Quantile::of(theta)?;
 //! let station = Station { basis: &held, solution };
-//! let step = solving_step::<F>(self.alloc(), &station, quantile, columns)?;
+//! let step = solving_step(self.alloc(), &station, quantile, columns)?;
 //! ```
 #![tactic(auto)]
 

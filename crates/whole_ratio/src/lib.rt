@@ -14,7 +14,7 @@
 //!     position,
 //!     direction,
 //! };
-//! let row = line.first_mover::<F>(alloc)?;
+//! let row = line.first_mover()?;
 //! ```
 #![tactic(auto)]
 
