@@ -1,17 +1,19 @@
 -- Inner. A basis of rows in whole numbers, and what stands there.
-use Rattle.std.specs.Prelude.{◌≡◌, ℕ, ℤ, ◌<◌, ◌≤◌, ◌^◌, List, All, length, slice_get, slice_index, unwrap_or, unsigned_abs}
+use Rattle.std.specs.Prelude.{◌≡◌, ℕ, ℤ, ◌<◌, ◌≤◌, ◌^◌, List, All, length, pos, slice_get, slice_index, unwrap_or, unsigned_abs}
 use Rattle.exact_algebra.specs.Rational.{ℚ}
 use Rattle.exact_matrices.specs.Selections.{AreDistinct}
 use Rattle.loss_model.specs.declared.vertex.Side.{Side}
 use Rattle.loss_model.specs.declared.vertex.Side.TheVariants.{Basic}
-use Rattle.loss_model.specs.Sample.{Sample, residual}
+use Rattle.loss_model.specs.Sample.{Sample}
 use Rattle.basis_model.specs.declared.part.Part.TheVariants.{Constant, Linear}
 use Rattle.basis_model.specs.Basis.{coefficient, side_at, basic_dual}
-use Rattle.whole_inverse.specs.Shares.{share_at}
+use Rattle.whole_inverse.specs.Shares.{share, share_at}
 use Rattle.whole_inverse.specs.Squares.{IsWholeSquare}
 use Rattle.whole_solution.specs.declared.basis.WholeBasis.{WholeBasis}
 use Rattle.whole_solution.specs.declared.solution.WholeSolution.{WholeSolution}
+use Rattle.whole_solution.specs.declared.solution.Sided.{Sided}
 use Rattle.whole_solution.specs.Weighing.{AreWeights}
+use Rattle.whole_solution.specs.Far.{AreOthersFar, IsNear}
 
 -- the side of row i
 abbrev pub side_in : List Side → ℕ → Side
@@ -26,20 +28,30 @@ pub record IsWholeBasis (b : WholeBasis) : Type 0 where
   pub small : All (λ r. All (λ e. unsigned_abs e ≤ b.limit) r.x) b.rows.now
   pub distinct : AreDistinct (slice_index b.basis.now.rows) (length b.inverse.now.columns) (length b.rows.now)
 
--- the weights are those of the rows on the sides that stand beside them
+-- the weights are those of the rows on the sides that stand beside them, and rows that aren't near were far on these
 pub record HasWeights (p : Sample) (s : WholeSolution) : Type 0 where
   pub size : length s.sides ≡ p.rows
+  pub near : IsNear p (side_in s.sides) s.near
   pub weights : AreWeights p (side_in s.sides) s.weights
 
--- the numerators over d are those of the coefficients, the residuals and both parts of the basic dual values, the
--- sides are those of the rows, and the weights are theirs on these
+-- the numerators over d are those of the coefficients, the sides are those of the rows, and rows that aren't near are far
+pub record IsSided (p : Sample) (at : ℕ → ℕ) (a : ℕ → ℕ → ℚ) (d : ℤ) (s : Sided) : Type 0 where
+  pub columns : length s.coef ≡ p.columns
+  pub coef : (k : ℕ) → k < p.columns → share_at d s.coef k ≡ coefficient p at a k
+  pub all_sides : length s.sides ≡ p.rows
+  pub sides : (i : ℕ) → i < p.rows → side_in s.sides i ≡ side_at p at a i
+  pub near : IsNear p (side_in s.sides) s.near
+  pub far : AreOthersFar p (side_in s.sides) s.near.rows (share (pos s.near.reach) s.near.determinant) (coefficient p at a)
+
+-- the numerators over d are those of the coefficients and both parts of the basic dual values, the sides are those of
+-- the rows, the weights are theirs on these, and rows that aren't near are far
 pub record IsWholeSolution (p : Sample) (at : ℕ → ℕ) (a : ℕ → ℕ → ℚ) (d : ℤ) (s : WholeSolution) : Type 0 where
   pub columns : length s.coef ≡ p.columns
   pub coef : (k : ℕ) → k < p.columns → share_at d s.coef k ≡ coefficient p at a k
-  pub rows : length s.residuals ≡ p.rows
-  pub residuals : (i : ℕ) → i < p.rows → share_at d s.residuals i ≡ residual p (coefficient p at a) i
   pub all_sides : length s.sides ≡ p.rows
   pub sides : (i : ℕ) → i < p.rows → side_in s.sides i ≡ side_at p at a i
+  pub near : IsNear p (side_in s.sides) s.near
+  pub far : AreOthersFar p (side_in s.sides) s.near.rows (share (pos s.near.reach) s.near.determinant) (coefficient p at a)
   pub weights : AreWeights p (side_in s.sides) s.weights
   pub constants : length s.constant ≡ p.columns
   pub constant : (j : ℕ) → j < p.columns → share_at d s.constant j ≡ basic_dual p at a Constant j

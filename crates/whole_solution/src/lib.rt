@@ -18,6 +18,7 @@ mod bounds;
 mod duals;
 mod halves;
 mod narrow;
+mod near;
 mod position;
 mod primal;
 mod products;
@@ -29,7 +30,8 @@ mod totals;
 
 pub use basis::WholeBasis;
 pub use duals::negation;
+pub use near::Near;
 pub use primal::residual_of;
 pub use products::row_products;
-pub use solution::WholeSolution;
+pub use solution::{Sided, WholeSolution};
 pub use totals::{Totals, Weights};

@@ -1,39 +1,72 @@
 //! All that stands at a basis, together.
-ghost use Rattle.std.specs.Prelude.{◌≡◌, ℕ, ◌<◌, length, slice_index, IfOk};
+ghost use Rattle.std.specs.Prelude.{◌≡◌, ℕ, ◌<◌, length, slice_index, IfOk, IfSome, IsTrue};
 ghost use Rattle.loss_model.specs.Sample.{residual};
-ghost use Rattle.whole_inverse.specs.Shares.{share_at};
+ghost use Rattle.loss_model.specs.declared.vertex.Side.TheVariants.{Basic};
+ghost use Rattle.whole_inverse.specs.Shares.{share, share_at};
 ghost use Rattle.whole_inverse.specs.Squares.{inverse_of};
 ghost use Rattle.whole_rows.specs.Wholes.{sample_of_rows};
-ghost use Rattle.whole_solution.specs.Standing.{side_in, HasWeights, IsWholeBasis, IsWholeSolution};
+ghost use Rattle.whole_solution.specs.Standing.{side_in, HasWeights, IsSided, IsWholeBasis, IsWholeSolution};
+ghost use Rattle.whole_solution.specs.Far.{AreTops, IsNear};
 ghost use Rattle.whole_solution.specs.Weighing.{AreWeights};
 
 use crate::basis::WholeBasis;
 use crate::duals::balancing_numbers;
-use crate::primal::{coefficients, residuals};
+use crate::near::{Near, tops_of};
+use crate::primal::{coefficients, residual_of, residuals};
 use crate::products::row_products;
 use crate::sides::basic_sides;
 use crate::totals::Weights;
 use frac_core::List;
 use loss_model::Side;
 use std::alloc::Global;
-use whole_inverse::Obstacle;
+use whole_inverse::{Obstacle, product_over};
 
-/// What stands at a basis: the coefficients by column, the residuals and the sides by row, what the rows weigh on these,
-/// and the two parts of the dual values by position, which at theta are `constant + linear * theta`. Numbers are numerators
-/// over the determinant, but for the weights, which are whole.
+/// What stands at a basis: the coefficients by column, the sides by row, the rows near the fit, what the rows weigh on their
+/// sides, and the two parts of the dual values by position, which at theta are `constant + linear * theta`. Numbers are
+/// numerators over the determinant, but for the weights, which are whole.
 #[derive(Drop)]
 pub struct WholeSolution {
     pub coef: List<i128>,
-    pub residuals: List<i128>,
     pub sides: List<Side>,
+    pub near: Near,
     pub weights: Weights,
     pub constant: List<i128>,
     pub linear: List<i128>,
 }
 
+/// The coefficients at a basis, the sides of all rows, and the rows near the fit.
+#[derive(Drop)]
+pub struct Sided {
+    pub coef: List<i128>,
+    pub sides: List<Side>,
+    pub near: Near,
+}
+
 impl<'a> WholeBasis<'a> {
-    /// The coefficients, and the residuals of all rows.
-    fn residuals_of(&self, alloc: Global, coef: &[i128]) -> Result<List<i128>, Obstacle>
+    /// The numerators of the coefficients.
+    fn coefficients(&self, alloc: Global) -> Result<List<i128>, Obstacle> {
+        let n = self.basis.rows.as_slice().len() as u32;
+        coefficients(alloc, self.inverse, self.rows, self.basis, n)
+    }
+
+    /// The numerator of the residual of a row.
+    pub fn residual_at(&self, coef: &[i128], row: u32) -> Result<i128, Obstacle>
+        requires basis { IsWholeBasis self.now }
+        requires size { length coef.now ≡ length self.now.inverse.now.columns }
+        requires row { row < length self.now.rows.now }
+        ensures { let s = self.now.inverse.now in let p = sample_of_rows (length s.columns) self.now.rows.now in
+            IfOk result (λ n. share n s.determinant ≡ residual p (share_at s.determinant coef.now) row) }
+    {
+        let rows = self.rows;
+        let chosen = &rows[row as usize];
+        match product_over(chosen.x.as_slice(), coef, self.limit) {
+            Some(fit) => residual_of(chosen.y, fit, self.inverse.determinant()),
+            None => Err(Obstacle::TooWide),
+        }
+    }
+
+    /// The residuals of all rows.
+    pub fn residuals(&self, alloc: Global, coef: &[i128]) -> Result<List<i128>, Obstacle>
         requires basis { IsWholeBasis self.now }
         requires size { length coef.now ≡ length self.now.inverse.now.columns }
         ensures size { IfOk result (λ made. length made ≡ length self.now.rows.now) }
@@ -49,30 +82,88 @@ impl<'a> WholeBasis<'a> {
         )
     }
 
+    /// The sides of all rows by their residuals, and the rows near this fit.
+    fn sided(&self, alloc: Global, coef: List<i128>, tops: List<u64>) -> Result<Sided, Obstacle> {
+        let residuals = self.residuals(alloc, coef.as_slice())?;
+        let sides = self.sides(alloc, residuals.as_slice())?;
+        let near = Near::chosen(
+            alloc,
+            residuals.as_slice(),
+            sides.as_slice(),
+            coef.as_slice(),
+            self.inverse.determinant(),
+            tops,
+        )?;
+        Ok(Sided { coef, sides, near })
+    }
+
+    /// The sides of the near rows at this basis beside the earlier ones of all others.
+    fn near_sides(&self, alloc: Global, coef: &[i128], before: &WholeSolution) -> Result<List<Side>, Obstacle> {
+        let mut sides = List::copy(alloc, before.sides.as_slice())?;
+        let near = before.near.rows.as_slice();
+        for k in 0..near.len() {
+            let row = near[k];
+            let number = self.residual_at(coef, row)?;
+            let side = self.side_of_row(row, number)?;
+            sides.replace(row, side);
+        }
+        Ok(sides)
+    }
+
+    /// Whether the rows of the basis are on no side.
+    fn holds_basis(&self, sides: &[Side]) -> bool
+        requires basis { IsWholeBasis self.now }
+        requires size { length sides.now ≡ length self.now.rows.now }
+        ensures { IsTrue result → (j : ℕ) → j < length self.now.basis.now.rows → side_in sides.now (slice_index self.now.basis.now.rows j) ≡ Basic }
+    {
+        let basis = self.basis.rows.as_slice();
+        let mut holds = true;
+        for j in 0..basis.len() {
+            if sides[basis[j] as usize] != Side::Basic {
+                holds = false;
+            }
+        }
+        holds
+    }
+
+    /// The same as `sided`, from what stood at another basis: where no far row can have changed its side, near rows alone are
+    /// looked at.
+    fn sided_after(&self, alloc: Global, before: &WholeSolution) -> Result<Sided, Obstacle> {
+        let coef = self.coefficients(alloc)?;
+        if before.near.serves(coef.as_slice(), self.inverse.determinant()) {
+            let sides = self.near_sides(alloc, coef.as_slice(), before)?;
+            if self.holds_basis(sides.as_slice()) {
+                let near = before.near.copy(alloc)?;
+                return Ok(Sided { coef, sides, near });
+            }
+        }
+        let tops = List::copy(alloc, before.near.tops.as_slice())?;
+        self.sided(alloc, coef, tops)
+    }
+
     /// What stands at a basis, from what its rows weigh on other sides.
     fn standing(
         &self,
         alloc: Global,
+        sided: Sided,
         old: &[Side],
         before: &Weights,
     ) -> Result<WholeSolution, Obstacle>
         requires basis { IsWholeBasis self.now }
+        requires sided { let s = self.now.inverse.now in let p = sample_of_rows (length s.columns) self.now.rows.now in let at = slice_index self.now.basis.now.rows in
+            IsSided p at (inverse_of s) s.determinant sided }
         requires old { length old.now ≡ length self.now.rows.now }
         requires before { AreWeights (sample_of_rows (length self.now.inverse.now.columns) self.now.rows.now) (side_in old.now) before.now }
         ensures { let s = self.now.inverse.now in let p = sample_of_rows (length s.columns) self.now.rows.now in let at = slice_index self.now.basis.now.rows in
             IfOk result (IsWholeSolution p at (inverse_of s) s.determinant) }
     {
-        let n = self.basis.rows.as_slice().len() as u32;
-        let coef = coefficients(alloc, self.inverse, self.rows, self.basis, n)?;
-        let residuals = self.residuals_of(alloc, coef.as_slice())?;
-        let sides = self.sides(alloc, residuals.as_slice())?;
-        let weights = before.after(alloc, self.rows, old, sides.as_slice())?;
+        let weights = before.after(alloc, self.rows, old, sided.sides.as_slice())?;
         let constant = balancing_numbers(alloc, self.inverse, weights.constant.columns.as_slice())?;
         let linear = balancing_numbers(alloc, self.inverse, weights.linear.columns.as_slice())?;
         Ok(WholeSolution {
-            coef,
-            residuals,
-            sides,
+            coef: sided.coef,
+            sides: sided.sides,
+            near: sided.near,
             weights,
             constant,
             linear,
@@ -86,9 +177,12 @@ impl<'a> WholeBasis<'a> {
             IfOk result (IsWholeSolution p at (inverse_of s) s.determinant) }
     {
         let n = self.basis.rows.as_slice().len() as u32;
+        let coef = self.coefficients(alloc)?;
+        let tops = tops_of(alloc, self.rows, n)?;
+        let sided = self.sided(alloc, coef, tops)?;
         let uncounted = basic_sides(alloc, self.rows.len())?;
         let weights = Weights::none(alloc, n)?;
-        let solution = self.standing(alloc, uncounted.as_slice(), &weights)?;
+        let solution = self.standing(alloc, sided, uncounted.as_slice(), &weights)?;
         Ok(solution)
     }
 
@@ -103,7 +197,8 @@ impl<'a> WholeBasis<'a> {
         ensures { let s = self.now.inverse.now in let p = sample_of_rows (length s.columns) self.now.rows.now in let at = slice_index self.now.basis.now.rows in
             IfOk result (IsWholeSolution p at (inverse_of s) s.determinant) }
     {
-        let solution = self.standing(alloc, before.sides.as_slice(), &before.weights)?;
+        let sided = self.sided_after(alloc, before)?;
+        let solution = self.standing(alloc, sided, before.sides.as_slice(), &before.weights)?;
         Ok(solution)
     }
 }

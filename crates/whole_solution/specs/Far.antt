@@ -1,0 +1,63 @@
+-- Inner. Rows far from a fit, which keep their sides while the coefficients move little.
+use Rattle.std.specs.Prelude.{◌≡◌, ◌⊎◌, ℕ, ℤ, ◌<◌, ◌≤◌, ◌≤ℤ◌, ◌*◌, ◌*ℤ◌, ◌+ℤ◌, neg_ℤ, List, All, length, slice_index, unsigned_abs, pos}
+use Rattle.exact_algebra.specs.Rational.{ℚ, ◌+ℚ◌, ◌-ℚ◌, ◌*ℚ◌, neg_ℚ, ◌≤ℚ◌, whole}
+use Rattle.exact_algebra.specs.RationalSums.{sum_ℚ}
+use Rattle.loss_model.specs.declared.vertex.Side.{Side}
+use Rattle.loss_model.specs.declared.vertex.Side.TheVariants.{Up, Down, Basic}
+use Rattle.loss_model.specs.Sample.{Sample, residual}
+use Rattle.loss_model.specs.Spill.{abs_ℚ}
+use Rattle.whole_inverse.specs.Shares.{share, share_at}
+use Rattle.whole_solution.specs.declared.near.Near.{Near}
+
+-- the most that a residual moves from one list of coefficients to another, where the tops bound the entries of each column
+abbrev pub room : ℕ → (ℕ → ℚ) → (ℕ → ℚ) → (ℕ → ℚ) → ℚ
+room n top from to = sum_ℚ n (λ k. top k *ℚ abs_ℚ (to k -ℚ from k))
+
+-- a residual that is at least `far` on one side stays at least `least` there, where what it may move takes no more than what is between
+abbrev pub FarRowsKeep : Type 0
+FarRowsKeep =
+    (p : Sample) (from to top : ℕ → ℚ) (far least : ℚ) (i : ℕ)
+    → ((k : ℕ) → k < p.columns → abs_ℚ (p.x i k) ≤ℚ top k)
+    → (room p.columns top from to +ℚ least) ≤ℚ far
+    → (far ≤ℚ residual p from i → least ≤ℚ residual p to i)
+    × (far ≤ℚ neg_ℚ (residual p from i) → least ≤ℚ neg_ℚ (residual p to i))
+
+-- a residual is at least `far` on a side
+abbrev pub IsFarOn : Side → ℚ → ℚ → Type 0
+IsFarOn Up far r = far ≤ℚ r
+IsFarOn Down far r = far ≤ℚ neg_ℚ r
+IsFarOn Basic far r = ⊥
+
+-- row i is one of these
+abbrev pub IsListed : List ℕ → ℕ → Type 0
+IsListed rows i = (k : ℕ) × (k < length rows) × (slice_index rows k ≡ i)
+
+-- row i is near, or its residual is at least `far` on its side
+abbrev pub IsNearOrFar : List ℕ → Side → ℚ → ℕ → ℚ → Type 0
+IsNearOrFar near side far i r = IsListed near i ⊎ IsFarOn side far r
+
+-- each row is near, or its residual at these coefficients is at least `far` on its side
+abbrev pub AreOthersFar : Sample → (ℕ → Side) → List ℕ → ℚ → (ℕ → ℚ) → Type 0
+AreOthersFar p side near far b = (i : ℕ) → i < p.rows → IsNearOrFar near (side i) far i (residual p b i)
+
+-- a bound of the entries of column k
+abbrev pub top_at : List ℕ → ℕ → ℚ
+top_at tops k = whole (pos (slice_index tops k))
+
+-- the sizes of the entries of each column are within these
+pub record AreTops (p : Sample) (tops : List ℕ) : Type 0 where
+  pub size : length tops ≡ p.columns
+  pub each : (i k : ℕ) → i < p.rows → k < p.columns → abs_ℚ (p.x i k) ≤ℚ top_at tops k
+
+-- how far the numerator of coefficient k over d may move a residual from the earlier fit, times both determinants
+abbrev pub shift_of : Near → ℕ → ℤ → ℤ → ℕ
+shift_of n k number d = unsigned_abs (number *ℤ n.determinant +ℤ neg_ℤ (slice_index n.coef k *ℤ d)) * slice_index n.tops k
+
+-- at the earlier fit all rows but these were at least twice the reach from it, on these sides
+pub record IsNear (p : Sample) (side : ℕ → Side) (n : Near) : Type 0 where
+  pub columns : length n.coef ≡ p.columns
+  pub some : pos 1 ≤ℤ n.determinant
+  pub reach : 1 ≤ n.reach
+  pub rows : All (λ i. i < p.rows) n.rows
+  pub tops : AreTops p n.tops
+  pub others : AreOthersFar p side n.rows (share (pos (2 * n.reach)) n.determinant) (share_at n.determinant n.coef)

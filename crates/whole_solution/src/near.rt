@@ -1,0 +1,208 @@
+//! Rows near an earlier fit, and how long all others are sure to keep their sides.
+//!
+//! A row is far where its residual at the earlier fit is at least twice the reach. While no residual can have moved by more than
+//! the reach, which a bound on the coefficients says of all rows at once, far rows keep their sides and have residuals of at
+//! least the reach, so that only near rows are looked at.
+ghost use Rattle.std.specs.Prelude.{◌≡◌, ℕ, ◌<◌, ◌≤◌, ◌^◌, ◌+◌, ◌≤ℤ◌, All, length, slice_index, IfOk, IfSome, IsTrue, pos};
+ghost use Rattle.exact_algebra.specs.Rational.{◌≤ℚ◌, whole};
+ghost use Rattle.loss_model.specs.Spill.{abs_ℚ};
+ghost use Rattle.whole_inverse.specs.Shares.{share, share_at};
+ghost use Rattle.whole_rows.specs.Wholes.{sample_of_rows};
+ghost use Rattle.whole_solution.specs.Standing.{side_in};
+ghost use Rattle.whole_solution.specs.Far.{room, shift_of, IsFarOn, IsNearOrFar, AreTops};
+
+use crate::room::room_for;
+use frac_core::List;
+use loss_model::Side;
+use std::alloc::Global;
+use std::cmp::Ordering;
+use whole_inverse::Obstacle;
+use whole_rows::WholeRow;
+use wide_int::{Natural, Wide};
+
+/// The rows near an earlier fit, whose coefficients stand over its determinant, as does the reach: the residuals of all other
+/// rows there are at least twice as much. The tops bound the sizes of the entries of each column.
+#[derive(Drop)]
+pub struct Near {
+    pub rows: List<u32>,
+    pub coef: List<i128>,
+    pub determinant: i128,
+    pub reach: u128,
+    pub tops: List<u64>,
+}
+
+/// The greatest size of an entry of a column.
+fn top_of(rows: &[WholeRow], k: u32, columns: u32) -> u64
+    requires column { k < columns }
+    requires wide { All (λ r. length r.x ≡ columns) rows.now }
+    ensures { (i : ℕ) → i < length rows.now → abs_ℚ ((sample_of_rows columns rows.now).x i k) ≤ℚ whole (pos result) }
+{
+    let mut top: u64 = 0;
+    for i in 0..rows.len() {
+        let row = &rows[i];
+        let x = row.x.as_slice();
+        top = top.max(x[k as usize].unsigned_abs());
+    }
+    top
+}
+
+/// The greatest size of an entry of each column.
+pub(crate) fn tops_of(alloc: Global, rows: &[WholeRow], columns: u32) -> Result<List<u64>, Obstacle>
+    requires { All (λ r. length r.x ≡ columns) rows.now }
+    ensures { IfOk result (AreTops (sample_of_rows columns rows.now)) }
+{
+    let mut made = room_for(alloc, columns as usize)?;
+    for k in 0..columns {
+        let top = top_of(rows, k, columns);
+        made.add(top)?;
+    }
+    Ok(made)
+}
+
+/// Whether a residual is at least `far` on a side.
+fn is_far_on(side: Side, residual: i128, far: u128) -> bool
+    ensures { IsTrue result → (d : ℤ) → pos 1 ≤ℤ d → IsFarOn side (share (pos far) d) (share residual d) }
+{
+    let size = residual.unsigned_abs();
+    match side {
+        Side::Up => residual >= 0 && size >= far,
+        Side::Down => residual <= 0 && size >= far,
+        Side::Basic => false,
+    }
+}
+
+/// The rows whose residual isn't at least `far` on their side.
+fn near_rows(
+    alloc: Global,
+    residuals: &[i128],
+    sides: &[Side],
+    far: u128,
+) -> Result<List<u32>, Obstacle>
+    requires same { length sides.now ≡ length residuals.now }
+    requires few { length residuals.now < 2 ^ 32 }
+    ensures within { IfOk result (λ near. All (λ i. i < length residuals.now) near) }
+    ensures others { IfOk result (λ near. (d : ℤ) → pos 1 ≤ℤ d → (i : ℕ) → i < length residuals.now → IsNearOrFar near (side_in sides.now i) (share (pos far) d) i (share_at d residuals.now i)) }
+{
+    let mut near = List::new(alloc);
+    for row in 0..residuals.len() as u32 {
+        if !is_far_on(sides[row as usize], residuals[row as usize], far) {
+            near.add(row)?;
+        }
+    }
+    Ok(near)
+}
+
+/// How many rows are taken as near, or a little more: about twice the root of their number, and eight a column.
+fn near_count(rows: usize, columns: usize) -> u64 {
+    let bits = 64 - (rows as u64).leading_zeros();
+    (2 << (bits / 2)) + 8 * columns as u64
+}
+
+/// How many residuals have sizes below a bound.
+fn count_below(residuals: &[i128], bound: u128) -> u64 {
+    let mut count = 0;
+    for i in 0..residuals.len() {
+        if residuals[i].unsigned_abs() < bound {
+            count += 1;
+        }
+    }
+    count
+}
+
+/// Half the least power of 2 below which so many residuals are. Any number is lawful: this one leaves few rows near.
+fn reach_of(residuals: &[i128], few: u64) -> u128
+    ensures some { 1 ≤ result }
+    ensures room { result < 2 ^ 126 }
+{
+    let mut low: u32 = 0;
+    let mut high: u32 = 125;
+    while low < high {
+        let bits = (low + high) / 2;
+        if count_below(residuals, 2 << bits) < few {
+            low = bits + 1;
+        } else {
+            high = bits;
+        }
+    }
+    1 << low
+}
+
+impl Near {
+    /// The rows near a fit, for the steps after it.
+    pub(crate) fn chosen(
+        alloc: Global,
+        residuals: &[i128],
+        sides: &[Side],
+        coef: &[i128],
+        determinant: i128,
+        tops: List<u64>,
+    ) -> Result<Near, Obstacle> {
+        let few = near_count(residuals.len(), coef.len());
+        let reach = reach_of(residuals, few);
+        let rows = near_rows(alloc, residuals, sides, reach + reach)?;
+        let coef = List::copy(alloc, coef)?;
+        Ok(Near {
+            rows,
+            coef,
+            determinant,
+            reach,
+            tops,
+        })
+    }
+
+    /// The same in lists of their own.
+    pub(crate) fn copy(&self, alloc: Global) -> Result<Near, Obstacle>
+        ensures { IfOk result (λ n. n ≡ self.now) }
+    {
+        let rows = List::copy(alloc, self.rows.as_slice())?;
+        let coef = List::copy(alloc, self.coef.as_slice())?;
+        let tops = List::copy(alloc, self.tops.as_slice())?;
+        Ok(Near {
+            rows,
+            coef,
+            determinant: self.determinant,
+            reach: self.reach,
+            tops,
+        })
+    }
+
+    /// How far a coefficient can have moved a residual, times both determinants.
+    fn shift(&self, k: u32, number: i128, determinant: i128) -> Option<Natural>
+        requires { k < length self.now.coef }
+        requires { k < length self.now.tops }
+        ensures { IfSome result (λ n. joined n.low n.high ≡ shift_of self.now k number determinant) }
+    {
+        let old = self.coef.as_slice();
+        let tops = self.tops.as_slice();
+        let here = Wide::product(number, self.determinant);
+        let there = Wide::product(old[k as usize], determinant);
+        let moved = here.plus(there.negation())?;
+        moved.size.times(u128::from(tops[k as usize]))
+    }
+
+    /// How far all coefficients together can have moved a residual, times both determinants.
+    fn room_for_moves(&self, coef: &[i128], determinant: i128) -> Option<Natural>
+    {
+        let mut sum = Natural::of(0);
+        for k in 0..coef.len() as u32 {
+            let shift = self.shift(k, coef[k as usize], determinant)?;
+            sum = sum.plus(shift)?;
+        }
+        Some(sum)
+    }
+
+    /// Whether no residual can have moved by more than the reach.
+    pub(crate) fn serves(&self, coef: &[i128], determinant: i128) -> bool
+        requires size { length coef.now ≡ length self.now.coef }
+        requires tops { length self.now.tops ≡ length self.now.coef }
+        requires some { pos 1 ≤ℤ self.now.determinant }
+        requires now { pos 1 ≤ℤ determinant }
+        ensures { IsTrue result → room (length coef.now) (λ k. whole (pos (slice_index self.now.tops k))) (share_at self.now.determinant self.now.coef) (share_at determinant coef.now) ≤ℚ share (pos self.now.reach) self.now.determinant }
+    {
+        let most = Natural::product(self.reach, determinant.unsigned_abs());
+        match self.room_for_moves(coef, determinant) {
+            Some(sum) => sum.compare(most) != Ordering::Greater,
+            None => false,
+        }
+    }
+}
