@@ -1,5 +1,5 @@
 -- Inner. Rows far from a fit, which keep their sides while the coefficients move little.
-use Rattle.std.specs.Prelude.{◌≡◌, ◌⊎◌, ℕ, ℤ, ◌<◌, ◌≤◌, ◌≤ℤ◌, ◌*◌, ◌*ℤ◌, ◌+ℤ◌, neg_ℤ, List, All, length, slice_index, unsigned_abs, pos}
+use Rattle.std.specs.Prelude.{◌≡◌, ◌⊎◌, ℕ, ℤ, ◌<◌, ◌≤◌, ◌≤ℤ◌, ◌*◌, ◌*ℤ◌, ◌+ℤ◌, neg_ℤ, List, All, length, get_or, slice_index, unsigned_abs, pos}
 use Rattle.exact_algebra.specs.Rational.{ℚ, ◌+ℚ◌, ◌-ℚ◌, ◌*ℚ◌, neg_ℚ, ◌≤ℚ◌, whole}
 use Rattle.exact_algebra.specs.RationalSums.{sum_ℚ}
 use Rattle.loss_model.specs.declared.vertex.Side.{Side}
@@ -51,7 +51,7 @@ pub record AreTops (p : Sample) (tops : List ℕ) : Type 0 where
 
 -- how far the numerator of coefficient k over d may move a residual from the earlier fit, times both determinants
 abbrev pub shift_of : Near → ℕ → ℤ → ℤ → ℕ
-shift_of n k number d = unsigned_abs (number *ℤ n.determinant +ℤ neg_ℤ (slice_index n.coef k *ℤ d)) * slice_index n.tops k
+shift_of n k number d = unsigned_abs (number *ℤ n.determinant +ℤ neg_ℤ (get_or n.coef k (pos 0) *ℤ d)) * slice_index n.tops k
 
 -- at the earlier fit all rows but these were at least twice the reach from it, on these sides
 pub record IsNear (p : Sample) (side : ℕ → Side) (n : Near) : Type 0 where
@@ -61,3 +61,16 @@ pub record IsNear (p : Sample) (side : ℕ → Side) (n : Near) : Type 0 where
   pub rows : All (λ i. i < p.rows) n.rows
   pub tops : AreTops p n.tops
   pub others : AreOthersFar p side n.rows (share (pos (2 * n.reach)) n.determinant) (share_at n.determinant n.coef)
+
+-- the same of the first n coefficients together
+abbrev pub shifts : Near → List ℤ → ℤ → ℕ → ℚ
+shifts near coef d n = sum_ℚ n (λ k. whole (pos (shift_of near k (get_or coef k (pos 0)) d)))
+
+-- the rows near the fit of these coefficients over d, where all rows have these residuals and sides
+pub record IsChosen (side : ℕ → Side) (residuals coefs : List ℤ) (d : ℤ) (sizes : List ℕ) (n : Near) : Type 0 where
+  pub coef : n.coef ≡ coefs
+  pub determinant : n.determinant ≡ d
+  pub tops : n.tops ≡ sizes
+  pub reach : 1 ≤ n.reach
+  pub rows : All (λ i. i < length residuals) n.rows
+  pub others : (i : ℕ) → i < length residuals → IsNearOrFar n.rows (side i) (share (pos (2 * n.reach)) d) i (share_at d residuals i)

@@ -1,5 +1,6 @@
 pub mod Outside
 pub mod Halving
+pub mod Columns
 pub mod Weighing
 pub mod Far
 pub mod Standing

@@ -15,6 +15,7 @@
 
 mod basis;
 mod bounds;
+mod column;
 mod duals;
 mod halves;
 mod narrow;
@@ -29,6 +30,7 @@ mod solution;
 mod totals;
 
 pub use basis::WholeBasis;
+pub use column::Column;
 pub use duals::negation;
 pub use near::Near;
 pub use primal::residual_of;

@@ -3,13 +3,14 @@
 //! A row is far where its residual at the earlier fit is at least twice the reach. While no residual can have moved by more than
 //! the reach, which a bound on the coefficients says of all rows at once, far rows keep their sides and have residuals of at
 //! least the reach, so that only near rows are looked at.
-ghost use Rattle.std.specs.Prelude.{◌≡◌, ℕ, ◌<◌, ◌≤◌, ◌^◌, ◌+◌, ◌≤ℤ◌, All, length, slice_index, IfOk, IfSome, IsTrue, pos};
+ghost use Rattle.std.specs.Prelude.{◌≡◌, ℕ, ℤ, ◌<◌, ◌≤◌, ◌^◌, ◌≤ℤ◌, All, length, IfOk, IfSome, IsTrue, pos};
 ghost use Rattle.exact_algebra.specs.Rational.{◌≤ℚ◌, whole};
 ghost use Rattle.loss_model.specs.Spill.{abs_ℚ};
+ghost use Rattle.wide_int.specs.Numbers.{joined};
 ghost use Rattle.whole_inverse.specs.Shares.{share, share_at};
 ghost use Rattle.whole_rows.specs.Wholes.{sample_of_rows};
 ghost use Rattle.whole_solution.specs.Standing.{side_in};
-ghost use Rattle.whole_solution.specs.Far.{room, shift_of, IsFarOn, IsNearOrFar, AreTops};
+ghost use Rattle.whole_solution.specs.Far.{room, shift_of, shifts, top_at, AreTops, IsChosen, IsFarOn, IsNearOrFar};
 
 use crate::room::room_for;
 use frac_core::List;
@@ -136,7 +137,12 @@ impl Near {
         coef: &[i128],
         determinant: i128,
         tops: List<u64>,
-    ) -> Result<Near, Obstacle> {
+    ) -> Result<Near, Obstacle>
+        requires same { length sides.now ≡ length residuals.now }
+        requires few { length residuals.now < 2 ^ 32 }
+        requires some { pos 1 ≤ℤ determinant }
+        ensures { IfOk result (IsChosen (side_in sides.now) residuals.now coef.now determinant tops) }
+    {
         let few = near_count(residuals.len(), coef.len());
         let reach = reach_of(residuals, few);
         let rows = near_rows(alloc, residuals, sides, reach + reach)?;
@@ -168,8 +174,8 @@ impl Near {
 
     /// How far a coefficient can have moved a residual, times both determinants.
     fn shift(&self, k: u32, number: i128, determinant: i128) -> Option<Natural>
-        requires { k < length self.now.coef }
-        requires { k < length self.now.tops }
+        requires coef { k < length self.now.coef }
+        requires tops { k < length self.now.tops }
         ensures { IfSome result (λ n. joined n.low n.high ≡ shift_of self.now k number determinant) }
     {
         let old = self.coef.as_slice();
@@ -182,6 +188,10 @@ impl Near {
 
     /// How far all coefficients together can have moved a residual, times both determinants.
     fn room_for_moves(&self, coef: &[i128], determinant: i128) -> Option<Natural>
+        requires size { length coef.now ≡ length self.now.coef }
+        requires tops { length self.now.tops ≡ length self.now.coef }
+        requires short { length coef.now < 2 ^ 32 }
+        ensures { IfSome result (λ n. whole (pos (joined n.low n.high)) ≡ shifts self.now coef.now determinant (length coef.now)) }
     {
         let mut sum = Natural::of(0);
         for k in 0..coef.len() as u32 {
@@ -195,9 +205,10 @@ impl Near {
     pub(crate) fn serves(&self, coef: &[i128], determinant: i128) -> bool
         requires size { length coef.now ≡ length self.now.coef }
         requires tops { length self.now.tops ≡ length self.now.coef }
+        requires short { length coef.now < 2 ^ 32 }
         requires some { pos 1 ≤ℤ self.now.determinant }
         requires now { pos 1 ≤ℤ determinant }
-        ensures { IsTrue result → room (length coef.now) (λ k. whole (pos (slice_index self.now.tops k))) (share_at self.now.determinant self.now.coef) (share_at determinant coef.now) ≤ℚ share (pos self.now.reach) self.now.determinant }
+        ensures { IsTrue result → room (length coef.now) (top_at self.now.tops) (share_at self.now.determinant self.now.coef) (share_at determinant coef.now) ≤ℚ share (pos self.now.reach) self.now.determinant }
     {
         let most = Natural::product(self.reach, determinant.unsigned_abs());
         match self.room_for_moves(coef, determinant) {

@@ -82,7 +82,7 @@ impl<'a> WholeBasis<'a> {
     }
 
     /// The side of a row, where it is outside the basis. A residual that isn't 0 tells it, without a look at the basis.
-    fn free_side(&self, row: u32, number: i128) -> Result<Side, Obstacle>
+    pub(crate) fn free_side(&self, row: u32, number: i128) -> Result<Side, Obstacle>
         requires basis { IsWholeBasis self.now }
         requires row { row < length self.now.rows.now }
         requires residual { let s = self.now.inverse.now in let p = sample_of_rows (length s.columns) self.now.rows.now in let at = slice_index self.now.basis.now.rows in

@@ -1,15 +1,19 @@
 //! All that stands at a basis, together.
-ghost use Rattle.std.specs.Prelude.{◌≡◌, ℕ, ◌<◌, length, slice_index, IfOk, IfSome, IsTrue};
+ghost use Rattle.std.specs.Prelude.{◌≡◌, ◌⊎◌, ℕ, ◌<◌, false, All, length, slice_index, IfOk, IsTrue};
+ghost use Rattle.exact_matrices.specs.Selections.{is_among};
 ghost use Rattle.loss_model.specs.Sample.{residual};
 ghost use Rattle.loss_model.specs.declared.vertex.Side.TheVariants.{Basic};
+ghost use Rattle.basis_model.specs.Basis.{coefficient, side_at};
 ghost use Rattle.whole_inverse.specs.Shares.{share, share_at};
 ghost use Rattle.whole_inverse.specs.Squares.{inverse_of};
 ghost use Rattle.whole_rows.specs.Wholes.{sample_of_rows};
 ghost use Rattle.whole_solution.specs.Standing.{side_in, HasWeights, IsSided, IsWholeBasis, IsWholeSolution};
-ghost use Rattle.whole_solution.specs.Far.{AreTops, IsNear};
+ghost use Rattle.whole_solution.specs.Columns.{IsColumn};
+ghost use Rattle.whole_solution.specs.Far.{AreTops, IsListed};
 ghost use Rattle.whole_solution.specs.Weighing.{AreWeights};
 
 use crate::basis::WholeBasis;
+use crate::column::Column;
 use crate::duals::balancing_numbers;
 use crate::near::{Near, tops_of};
 use crate::primal::{coefficients, residual_of, residuals};
@@ -19,7 +23,7 @@ use crate::totals::Weights;
 use frac_core::List;
 use loss_model::Side;
 use std::alloc::Global;
-use whole_inverse::{Obstacle, product_over};
+use whole_inverse::Obstacle;
 
 /// What stands at a basis: the coefficients by column, the sides by row, the rows near the fit, what the rows weigh on their
 /// sides, and the two parts of the dual values by position, which at theta are `constant + linear * theta`. Numbers are
@@ -44,22 +48,28 @@ pub struct Sided {
 
 impl<'a> WholeBasis<'a> {
     /// The numerators of the coefficients.
-    fn coefficients(&self, alloc: Global) -> Result<List<i128>, Obstacle> {
+    fn coefficients(&self, alloc: Global) -> Result<List<i128>, Obstacle>
+        requires basis { IsWholeBasis self.now }
+        ensures size { IfOk result (λ made. length made ≡ length self.now.inverse.now.columns) }
+        ensures each { let s = self.now.inverse.now in let p = sample_of_rows (length s.columns) self.now.rows.now in let at = slice_index self.now.basis.now.rows in
+            IfOk result (λ made. (k : ℕ) → k < p.columns → share_at s.determinant made k ≡ coefficient p at (inverse_of s) k) }
+    {
         let n = self.basis.rows.as_slice().len() as u32;
         coefficients(alloc, self.inverse, self.rows, self.basis, n)
     }
 
     /// The numerator of the residual of a row.
-    pub fn residual_at(&self, coef: &[i128], row: u32) -> Result<i128, Obstacle>
+    pub fn residual_at(&self, coef: &Column, row: u32) -> Result<i128, Obstacle>
         requires basis { IsWholeBasis self.now }
-        requires size { length coef.now ≡ length self.now.inverse.now.columns }
+        requires column { IsColumn coef.now.numbers.now self.now.limit coef.now }
+        requires size { length coef.now.numbers.now ≡ length self.now.inverse.now.columns }
         requires row { row < length self.now.rows.now }
         ensures { let s = self.now.inverse.now in let p = sample_of_rows (length s.columns) self.now.rows.now in
-            IfOk result (λ n. share n s.determinant ≡ residual p (share_at s.determinant coef.now) row) }
+            IfOk result (λ n. share n s.determinant ≡ residual p (share_at s.determinant coef.now.numbers.now) row) }
     {
         let rows = self.rows;
         let chosen = &rows[row as usize];
-        match product_over(chosen.x.as_slice(), coef, self.limit) {
+        match coef.product(chosen.x.as_slice()) {
             Some(fit) => residual_of(chosen.y, fit, self.inverse.determinant()),
             None => Err(Obstacle::TooWide),
         }
@@ -83,7 +93,15 @@ impl<'a> WholeBasis<'a> {
     }
 
     /// The sides of all rows by their residuals, and the rows near this fit.
-    fn sided(&self, alloc: Global, coef: List<i128>, tops: List<u64>) -> Result<Sided, Obstacle> {
+    fn sided(&self, alloc: Global, coef: List<i128>, tops: List<u64>) -> Result<Sided, Obstacle>
+        requires basis { IsWholeBasis self.now }
+        requires size { length coef ≡ length self.now.inverse.now.columns }
+        requires each { let s = self.now.inverse.now in let p = sample_of_rows (length s.columns) self.now.rows.now in let at = slice_index self.now.basis.now.rows in
+            (k : ℕ) → k < p.columns → share_at s.determinant coef k ≡ coefficient p at (inverse_of s) k }
+        requires tops { AreTops (sample_of_rows (length self.now.inverse.now.columns) self.now.rows.now) tops }
+        ensures { let s = self.now.inverse.now in let p = sample_of_rows (length s.columns) self.now.rows.now in let at = slice_index self.now.basis.now.rows in
+            IfOk result (IsSided p at (inverse_of s) s.determinant) }
+    {
         let residuals = self.residuals(alloc, coef.as_slice())?;
         let sides = self.sides(alloc, residuals.as_slice())?;
         let near = Near::chosen(
@@ -98,14 +116,30 @@ impl<'a> WholeBasis<'a> {
     }
 
     /// The sides of the near rows at this basis beside the earlier ones of all others.
-    fn near_sides(&self, alloc: Global, coef: &[i128], before: &WholeSolution) -> Result<List<Side>, Obstacle> {
-        let mut sides = List::copy(alloc, before.sides.as_slice())?;
-        let near = before.near.rows.as_slice();
+    fn near_sides(
+        &self,
+        alloc: Global,
+        coef: &[i128],
+        old: &[Side],
+        near: &[u32],
+    ) -> Result<List<Side>, Obstacle>
+        requires basis { IsWholeBasis self.now }
+        requires size { length coef.now ≡ length self.now.inverse.now.columns }
+        requires each { let s = self.now.inverse.now in let p = sample_of_rows (length s.columns) self.now.rows.now in let at = slice_index self.now.basis.now.rows in
+            (k : ℕ) → k < p.columns → share_at s.determinant coef.now k ≡ coefficient p at (inverse_of s) k }
+        requires old { length old.now ≡ length self.now.rows.now }
+        requires near { All (λ i. i < length self.now.rows.now) near.now }
+        ensures size { IfOk result (λ made. length made ≡ length self.now.rows.now) }
+        ensures each { IfOk result (λ made. (i : ℕ) → IsListed near.now i ⊎ (side_in made i ≡ side_in old.now i)) }
+        ensures near { let s = self.now.inverse.now in let p = sample_of_rows (length s.columns) self.now.rows.now in let at = slice_index self.now.basis.now.rows in
+            IfOk result (λ made. (i : ℕ) → IsListed near.now i → is_among at p.columns i ≡ false → side_in made i ≡ side_at p at (inverse_of s) i) }
+    {
+        let coef = Column::of(coef, self.limit);
+        let mut sides = List::copy(alloc, old)?;
         for k in 0..near.len() {
-            let row = near[k];
-            let number = self.residual_at(coef, row)?;
-            let side = self.side_of_row(row, number)?;
-            sides.replace(row, side);
+            let number = self.residual_at(&coef, near[k])?;
+            let side = self.free_side(near[k], number)?;
+            sides.replace(near[k], side);
         }
         Ok(sides)
     }
@@ -128,10 +162,23 @@ impl<'a> WholeBasis<'a> {
 
     /// The same as `sided`, from what stood at another basis: where no far row can have changed its side, near rows alone are
     /// looked at.
-    fn sided_after(&self, alloc: Global, before: &WholeSolution) -> Result<Sided, Obstacle> {
+    fn sided_after(&self, alloc: Global, before: &WholeSolution) -> Result<Sided, Obstacle>
+        requires basis { IsWholeBasis self.now }
+        requires before { HasWeights (sample_of_rows (length self.now.inverse.now.columns) self.now.rows.now) before.now }
+        ensures { let s = self.now.inverse.now in let p = sample_of_rows (length s.columns) self.now.rows.now in let at = slice_index self.now.basis.now.rows in
+            IfOk result (IsSided p at (inverse_of s) s.determinant) }
+    {
         let coef = self.coefficients(alloc)?;
-        if before.near.serves(coef.as_slice(), self.inverse.determinant()) {
-            let sides = self.near_sides(alloc, coef.as_slice(), before)?;
+        if before
+            .near
+            .serves(coef.as_slice(), self.inverse.determinant())
+        {
+            let sides = self.near_sides(
+                alloc,
+                coef.as_slice(),
+                before.sides.as_slice(),
+                before.near.rows.as_slice(),
+            )?;
             if self.holds_basis(sides.as_slice()) {
                 let near = before.near.copy(alloc)?;
                 return Ok(Sided { coef, sides, near });

@@ -4,7 +4,7 @@ use mir.Syntax.{w128}
 use Rattle.std.proofs.lemmas.Result.{IfOk-weaker}
 use Rattle.exact_algebra.specs.Rational.{◌-ℚ◌, whole}
 use Rattle.whole_rows.specs.Wholes.{of_whole}
-use Rattle.whole_solution.proofs.basis.WholeBasis.residuals_of.Goals as goal
+use Rattle.whole_solution.proofs.basis.WholeBasis.residuals.Goals as goal
 
 pub returns-clause-each : goal.returns-clause-each
 returns-clause-each c =
