@@ -103,13 +103,10 @@ impl<'a> Line<'a> {
         ensures row { result.row ≡ mover.row }
     {
         let sides = self.sides;
-        let coords = self.coords;
-        let row = mover.row;
-        let coord = coords[row as usize];
         Tied {
-            row,
-            side: sides[row as usize],
-            size: coord.unsigned_abs(),
+            row: mover.row,
+            side: sides[mover.row as usize],
+            size: mover.coord,
         }
     }
 
