@@ -14,6 +14,7 @@ use Rattle.whole_steps.specs.Stations.{model, at_of, inverse_at, over_of}
 pub record IsLineOf (s : Station) (j : ℕ) (d : Direction) (l : Line) : Type 0 where
   pub line : IsLine l
   pub basis : l.basis.now ≡ s.basis.now
+  pub sides : l.sides.now ≡ s.solution.now.sides
   pub position : l.position ≡ j
   pub direction : l.direction ≡ d
 
