@@ -7,6 +7,7 @@ use Rattle.exact_algebra.specs.Rational.{ℚ, ◌*ℚ◌, whole}
 use Rattle.exact_algebra.specs.RationalSums.{sum_ℚ}
 use Rattle.exact_algebra.proofs.RationalSumLaws.{sum_ℚ-same}
 use Rattle.loss_model.specs.declared.vertex.Side.{Side}
+use Rattle.loss_model.specs.Sample.{residual}
 use Rattle.basis_model.specs.Basis.{coord, coefficient}
 use Rattle.pivot_rule.specs.declared.direction.Direction.{Direction}
 use Rattle.pivot_rule.specs.Steps.{moves}
@@ -20,10 +21,12 @@ use Rattle.whole_solution.specs.Far.{AreOthersFar, IsNear}
 use Rattle.whole_solution.specs.Standing.{side_in}
 use Rattle.whole_ratio.specs.declared.line.Line.{Line}
 use Rattle.whole_ratio.specs.declared.near_line.NearLine.{NearLine}
-use Rattle.whole_ratio.specs.Lines.{is_moving, IsNearLine}
+use Rattle.whole_ratio.specs.declared.full_line.FullLine.{FullLine}
+use Rattle.whole_ratio.specs.Lines.{is_moving, IsFullLine, IsNearLine}
 use Rattle.whole_steps.specs.declared.station.Station.{Station}
 use Rattle.whole_steps.specs.Stations.{model, at_of, inverse_at, IsStation}
-use Rattle.whole_steps.specs.Entering.{IsLineOf}
+use Rattle.whole_steps.specs.declared.entering.RowNumbers.{RowNumbers}
+use Rattle.whole_steps.specs.Entering.{IsLineOf, AreRowNumbers}
 
 -- a row moves on the line of a position where it moves at the station
 moves_at : WholeBasis → ℕ → Direction → ℕ → Bool
@@ -33,6 +36,35 @@ pub moving_is : (s : Station) (j : ℕ) (d : Direction) (l : Line) → IsLineOf 
 unfolding is_moving moves_at
 moving_is s j d l h i =
     ap (λ b. moves_at b l.position l.direction i) h.basis ∙ ap (λ k. moves_at s.basis.now k l.direction i) h.position ∙ ap (λ e. moves_at s.basis.now j e i) h.direction
+
+-- what holds of the basis of a line, its position and its direction holds of the station's, and the other way
+pub along : (P : WholeBasis → ℕ → Direction → Type 0) (s : Station) (j : ℕ) (d : Direction) (l : Line) → IsLineOf s j d l → P s.basis.now j d → P l.basis.now l.position l.direction
+along P s j d l h x =
+    subst (λ b. P b l.position l.direction) (sym h.basis) (subst (λ k. P s.basis.now k l.direction) (sym h.position) (subst (λ e. P s.basis.now j e) (sym h.direction) x))
+
+pub back : (P : WholeBasis → ℕ → Direction → Type 0) (s : Station) (j : ℕ) (d : Direction) (l : Line) → IsLineOf s j d l → P l.basis.now l.position l.direction → P s.basis.now j d
+back P s j d l h x =
+    subst (λ e. P s.basis.now j e) h.direction (subst (λ k. P s.basis.now k l.direction) h.position (subst (λ b. P b l.position l.direction) h.basis x))
+
+-- the numbers of all rows of a basis at a position
+HasNumbers : WholeBasis → ℕ → List ℤ → List ℤ → Type 0
+HasNumbers b j residuals coords =
+    let p = sample_of_rows (length b.inverse.now.columns) b.rows.now in
+    let a = inverse_of b.inverse.now in
+    (length residuals ≡ length b.rows.now)
+    × ((i : ℕ) → i < length b.rows.now → share_at b.inverse.now.determinant residuals i ≡ residual p (coefficient p (slice_index b.basis.now.rows) a) i)
+    × (length coords ≡ length b.rows.now)
+    × ((i : ℕ) → i < length b.rows.now → share_at b.inverse.now.determinant coords i ≡ coord p a i j)
+
+-- a line with the numbers of all rows of the station
+pub full_line : (s : Station) (j : ℕ) (d : Direction) (numbers : RowNumbers) (f : FullLine) → IsLineOf s j d f.line → AreRowNumbers s j numbers → f.residuals.now ≡ numbers.residuals → f.coords.now ≡ numbers.coords → IsFullLine f
+unfolding HasNumbers
+full_line s j d numbers f line are residuals coords =
+    let held : HasNumbers s.basis.now j numbers.residuals numbers.coords = (are.size, are.residuals, are.all_coords, are.coords) in
+    let moved : HasNumbers f.line.basis.now f.line.position f.residuals.now f.coords.now =
+        along (λ b k e. HasNumbers b k f.residuals.now f.coords.now) s j d f.line line
+        (subst (λ xs. HasNumbers s.basis.now j xs f.coords.now) (sym residuals) (subst (λ xs. HasNumbers s.basis.now j numbers.residuals xs) (sym coords) held)) in
+    record { line = line.line; size = moved.0; residuals = moved.1; all_coords = moved.2; coords = moved.3 }
 
 -- the coefficients and near rows of a basis with these rows on these sides
 HasNear : WholeBasis → List Side → List ℤ → Near → Type 0
