@@ -23,7 +23,7 @@ use Rattle.walk_rule.proofs.Lines.{decide, le_by}
 use Rattle.whole_inverse.specs.Shares.{share}
 use Rattle.whole_solution.specs.Far.{room, FarRowsKeep, IsFarOn}
 use Rattle.whole_solution.proofs.Made.{outside_by}
-use Rattle.whole_solution.proofs.Numbers.{share-neg, share_above, not_greater}
+use Rattle.whole_solution.proofs.Numbers.{share-neg, not_greater}
 
 -- ---- a product by the sizes of its factors
 

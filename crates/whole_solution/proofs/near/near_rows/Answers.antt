@@ -1,7 +1,6 @@
 -- A row more.
-use Rattle.std.proofs.Common.{rules, ◌≡◌, ℕ, ℤ, ◌<◌, ◌+◌, ◌++◌, ◌∷◌, [], ◌≤ℤ◌, length, get_or, pos, arith, subst}
+use Rattle.std.proofs.Common.{rules, ◌≡◌, ℤ, ◌<◌, ◌+◌, ◌++◌, ◌∷◌, [], ◌≤ℤ◌, length, get_or, pos, arith, subst}
 use Rattle.std.proofs.lemmas.List.Elements.{All-weaker, All-push}
-use Rattle.loss_model.specs.declared.vertex.Side.{Side}
 use Rattle.loss_model.specs.declared.vertex.Side.TheVariants.{Up}
 use Rattle.whole_inverse.specs.Shares.{share, share_at}
 use Rattle.whole_inverse.proofs.Lists.{share_read}

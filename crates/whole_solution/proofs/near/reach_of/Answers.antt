@@ -1,5 +1,5 @@
 -- A power of 2 with few bits.
-use Rattle.std.proofs.Common.{◌<◌, ◌≤◌, arith}
+use Rattle.std.proofs.Common.{◌≤◌, arith}
 use Rattle.std.proofs.lemmas.Nat.{one_shl, pow_below}
 use Rattle.whole_solution.proofs.near.reach_of.Goals as goal
 

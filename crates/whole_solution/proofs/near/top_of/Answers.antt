@@ -1,5 +1,5 @@
 -- A row more.
-use Rattle.std.proofs.Common.{rules, ◌≡◌, ℕ, ◌<◌, ◌≤◌, length, get_or, pos, unsigned_abs, ap, sym, ◌∙◌, arith}
+use Rattle.std.proofs.Common.{rules, ◌≡◌, ◌≤◌, length, get_or, pos, unsigned_abs, ap, ◌∙◌, arith}
 use Rattle.whole_rows.specs.declared.rows.WholeRow.{WholeRow}
 use Rattle.whole_solution.proofs.Tops.{top_more}
 use Rattle.whole_solution.proofs.near.top_of.Goals as goal

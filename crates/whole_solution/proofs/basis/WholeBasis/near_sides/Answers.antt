@@ -1,5 +1,5 @@
 -- The side of a near row more.
-use Rattle.std.proofs.Common.{rules, ◌≡◌, ◌<◌, length, slice_index, slice_set, to_z, of_z, arith, sym, subst, ◌∙◌}
+use Rattle.std.proofs.Common.{rules, ◌≡◌, ◌<◌, length, slice_index, slice_set, to_z, of_z, arith, ◌∙◌}
 use mir.Syntax.{w128}
 use Rattle.basis_model.specs.Basis.{coefficient}
 use Rattle.whole_inverse.specs.Shares.{share_at}

@@ -1,13 +1,10 @@
 -- Far rows keep their sides, or all residuals are made.
-use Rattle.std.proofs.Common.{rules, ◌≡◌, ◌<◌, ℕ, length, slice_index, to_z, of_z, arith, sym, subst, ◌∙◌}
+use Rattle.std.proofs.Common.{rules, ◌≡◌, length, slice_index, to_z, of_z, sym, subst}
 use mir.Syntax.{w128}
-use Rattle.exact_algebra.specs.Rational.{◌≤ℚ◌}
-use Rattle.loss_model.specs.declared.vertex.Side.TheVariants.{Basic}
 use Rattle.whole_inverse.specs.Squares.{inverse_of}
 use Rattle.whole_rows.specs.Wholes.{sample_of_rows}
 use Rattle.whole_solution.specs.declared.near.Near.{Near}
-use Rattle.whole_solution.specs.declared.solution.Sided.{Sided}
-use Rattle.whole_solution.specs.Standing.{side_in, IsSided}
+use Rattle.whole_solution.specs.Standing.{IsSided}
 use Rattle.whole_solution.proofs.Chosen.{near_now, far_now, sides_now}
 use Rattle.whole_solution.proofs.basis.WholeBasis.sided_after.Goals as goal
 

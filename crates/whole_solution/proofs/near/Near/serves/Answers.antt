@@ -1,5 +1,5 @@
 -- The bound of all moves is within the reach.
-use Rattle.std.proofs.Common.{rules, ◌≡◌, ◌≤◌, ◌*◌, length, pos, unsigned_abs, arith, sym, subst}
+use Rattle.std.proofs.Common.{rules, ◌≡◌, ◌≤◌, ◌*◌, length, pos, unsigned_abs, arith, subst}
 use Rattle.std.proofs.lemmas.Int.{ints}
 use Rattle.exact_algebra.specs.Rational.{◌≤ℚ◌, whole}
 use Rattle.exact_algebra.proofs.WholeNumbers.{whole-le}
