@@ -34,7 +34,7 @@ change_turned : (d : Direction) (p : Sample) (at : ℕ → ℕ) (a : ℕ → ℕ
 change_turned Upward p at a j i = refl
 change_turned Downward p at a j i = refl
 
-turned-times : (o : Side) (x y : ℚ) → turned o (x *ℚ y) ≡ turned o x *ℚ y
+pub turned-times : (o : Side) (x y : ℚ) → turned o (x *ℚ y) ≡ turned o x *ℚ y
 turned-times Up x y = refl
 turned-times Down x y = ring_ℚ (x ∷ y ∷ []) (negated (v0 ⊠ v1)) (negated v0 ⊠ v1) refl
 turned-times Basic x y = refl
