@@ -4,7 +4,7 @@ use Rattle.std.specs.Ordering.{is_lt}
 use Rattle.std.specs.declared.cmp.Ordering.TheVariants.{Less}
 use Rattle.std.proofs.Common.{arith, refl, sym, ap, ap₂, subst, ◌∙◌, inl, inr}
 use Rattle.std.proofs.lemmas.Int.{ints}
-use Rattle.exact_algebra.specs.Solver.{number, ◌⊠◌, v0, v1, v2, v3}
+use Rattle.exact_algebra.specs.Solver.{number, ◌⊠◌, v0, v1, v2, v3, v4}
 use Rattle.exact_algebra.specs.Rational.{ℚ, ◌*ℚ◌, inverse, whole, ◌≤ℚ◌}
 use Rattle.exact_algebra.specs.RationalSums.{sum_ℚ}
 use Rattle.exact_algebra.proofs.RationalLaws.{ring_ℚ, ring_by_ℚ, whole-mul, *ℚ-inverse, ≤ℚ_refl, ≤ℚ_trans, ≤ℚ_mul}
@@ -129,7 +129,7 @@ module _ (l : Line) (line : IsLine l) where
             (≤ℚ_trans (share (pos reach) (pos e)) (size *ℚ ratio_of l i 0) (size *ℚ ratio_of l m.row 0)
             (subst (λ z. share (pos reach) (pos e) ≤ℚ z) (sym (entry_times i moving)) on_side)
             (≤ℚ_mul (ratio_of l i 0) (ratio_of l m.row 0) size (size_not_negative (coord (model l) (inverse_at l) i l.position)) back))
-            (scaled_up size (share (pos most) (over_of l)) (ratio_of l m.row 0) up small))))
+            (scaled_up size (share (pos most) (over_of l)) (ratio_of l m.row 0) small up))))
           where
             size : ℚ
             size = abs_ℚ (coord (model l) (inverse_at l) i l.position)
@@ -159,6 +159,7 @@ module _ (n : NearLine) (near : IsNearLine n) (numbers : List ℤ) (is : slice_g
       later_by n.line near.line m h n.near.now.reach (unsigned_abs n.near.now.determinant) most (let p = near.near.some in omega (arith, ints, p)) (unsigned_abs (over_of n.line)) d less i li
       (coord_small most bound i li) (subst (λ z. IsFarOn (side_in n.line.sides.now i) (share (pos n.near.now.reach) z) (residual_of n.line i)) e far) moving
 
+module _ (n : NearLine) (near : IsNearLine n) where
   -- the first of the near rows that comes before the far ones is the first of all
   pub first_by_near : (m : Mover) → IsFirstMoverOf n.line (slice_index n.near.now.rows) (length n.near.now.rows) m → AreFarAfter n m.row
       → IsFirstMover (model n.line) (at_of n.line) (inverse_at n.line) n.line.position n.line.direction m.row

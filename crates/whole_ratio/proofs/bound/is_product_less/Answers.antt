@@ -1,5 +1,5 @@
 -- By the reduced pairs.
-use Rattle.std.proofs.Common.{rules, ◌≡◌, ◌*◌, ◌<◌, ap, ap₂, ◌∙◌}
+use Rattle.std.proofs.Common.{◌≡◌, ◌*◌, ap, ap₂, ◌∙◌}
 use Rattle.std.specs.Ordering.{is_lt, nat_cmp}
 use Rattle.whole_ratio.proofs.Bounded.{products_less, less_than}
 use Rattle.whole_ratio.proofs.bound.is_product_less.Goals as goal
