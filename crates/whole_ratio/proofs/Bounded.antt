@@ -1,12 +1,11 @@
 -- Products of bounds, and the most that a sum of products can be.
-use Rattle.std.specs.Prelude.{◌≡◌, ℕ, ℤ, ◌+◌, ◌*◌, ◌<◌, ◌≤◌, ◌≤ℤ◌, ◌*ℤ◌, ◌+ℤ◌, unsigned_abs, List, [], ◌∷◌, get_or, length, slice_index, IsTrue, pos}
+use Rattle.std.specs.Prelude.{◌≡◌, ℕ, ℤ, ◌+◌, ◌*◌, ◌<◌, ◌≤◌, unsigned_abs, List, [], ◌∷◌, get_or, length, slice_index, IsTrue, pos}
 use Rattle.std.specs.Ordering.{is_lt, nat_cmp}
-use Rattle.std.proofs.Common.{arith, refl, sym, ap, ap₂, subst, ◌∙◌}
+use Rattle.std.proofs.Common.{arith, refl, sym, ap, subst, ◌∙◌}
 use Rattle.std.proofs.lemmas.Grind.{common_steps}
 use Rattle.std.proofs.lemmas.Nat.{mul-le}
-use Rattle.std.proofs.lemmas.Int.{ints}
-use Rattle.exact_algebra.specs.Solver.{number, ◌⊞◌, ◌⊠◌, v0, v1, v2, v3}
-use Rattle.exact_algebra.specs.Rational.{ℚ, ◌+ℚ◌, ◌*ℚ◌, whole, inverse, ◌≤ℚ◌}
+use Rattle.exact_algebra.specs.Solver.{◌⊞◌, ◌⊠◌, v0, v1, v2}
+use Rattle.exact_algebra.specs.Rational.{◌+ℚ◌, ◌*ℚ◌, whole, inverse, ◌≤ℚ◌}
 use Rattle.exact_algebra.specs.RationalSums.{sum_ℚ}
 use Rattle.exact_algebra.proofs.RationalLaws.{ring_ℚ, whole-add, whole-mul, ≤ℚ_refl}
 use Rattle.exact_algebra.proofs.RationalSumLaws.{sum_ℚ-next}
@@ -40,9 +39,9 @@ pub products_less : (one two three p q r : Pair) → IsReduced one p → IsReduc
     → one.left * two.left * three.left < one.right * two.right * three.right
 products_less one two three p q r (s, ps, ha, hd) (t, pt, hb, he) (u, pu, hc, hf) h =
     let above : one.left * two.left * three.left ≤ (p.left * s) * (q.left * t) * (r.left * u) =
-        mul-le (one.left * two.left) three.left ((p.left * s) * (q.left * t)) (r.left * u) (mul-le one.left two.left (p.left * s) (q.left * t) ha hb) hc in
+    mul-le (one.left * two.left) three.left ((p.left * s) * (q.left * t)) (r.left * u) (mul-le one.left two.left (p.left * s) (q.left * t) ha hb) hc in
     let below : (p.right * s) * (q.right * t) * (r.right * u) ≤ one.right * two.right * three.right =
-        mul-le ((p.right * s) * (q.right * t)) (r.right * u) (one.right * two.right) three.right (mul-le (p.right * s) (q.right * t) one.right two.right hd he) hf in
+    mul-le ((p.right * s) * (q.right * t)) (r.right * u) (one.right * two.right) three.right (mul-le (p.right * s) (q.right * t) one.right two.right hd he) hf in
     let between = scaled p.left q.left r.left p.right q.right r.right s t u ps pt pu h in
     omega (arith, above, below, between)
 

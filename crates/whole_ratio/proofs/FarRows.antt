@@ -1,7 +1,6 @@
 -- Rows that are far come after a mover whose ratio is small enough.
-use Rattle.std.specs.Prelude.{◌≡◌, ◌≢◌, ℕ, suc, ℤ, ◌*◌, ◌<◌, ◌≤◌, ◌≤ℤ◌, ◌*ℤ◌, true, unsigned_abs, List, [], ◌∷◌, length, slice_get, slice_index, Some, pos}
+use Rattle.std.specs.Prelude.{◌≡◌, ◌≢◌, ℕ, suc, ℤ, ◌*◌, ◌<◌, ◌≤◌, true, unsigned_abs, List, [], ◌∷◌, length, slice_get, slice_index, Some, pos}
 use Rattle.std.specs.Ordering.{is_lt}
-use Rattle.std.specs.declared.cmp.Ordering.TheVariants.{Less}
 use Rattle.std.proofs.Common.{arith, refl, sym, ap, ap₂, subst, ◌∙◌, inl, inr}
 use Rattle.std.proofs.lemmas.Int.{ints}
 use Rattle.exact_algebra.specs.Solver.{number, ◌⊠◌, v0, v1, v2, v3, v4}
@@ -27,8 +26,7 @@ use Rattle.whole_ratio.specs.declared.line.Line.{Line}
 use Rattle.whole_ratio.specs.declared.line.Mover.{Mover}
 use Rattle.whole_ratio.specs.declared.near_line.NearLine.{NearLine}
 use Rattle.whole_ratio.specs.Bounds.{IsMost}
-use Rattle.whole_ratio.specs.Lines.{model, at_of, inverse_at, over_of, residual_of, IsLine, IsMover, IsNearLine, IsBefore, IsFirstMoverOf, AreFarAfter, is_moving, comes_before}
-use Rattle.whole_ratio.specs.Ties.{ratio_of}
+use Rattle.whole_ratio.specs.Lines.{model, at_of, inverse_at, over_of, residual_of, IsLine, IsMover, IsNearLine, IsBefore, IsFirstMoverOf, AreFarAfter, is_moving, comes_before, ratio_of}
 use Rattle.whole_ratio.proofs.Coordinates.{column_size, coordinates_by}
 use Rattle.whole_ratio.proofs.FirstLaws.{first_of_all}
 use Rattle.whole_ratio.proofs.Movers.{turned-times}
@@ -51,7 +49,7 @@ three a b c = ap (λ z. whole (pos a) *ℚ z) (sym (whole-mul (pos b) (pos c))) 
 apart : (r m e reach c d : ℕ) → 1 ≤ e → 1 ≤ c → 1 ≤ d → r * m * e < reach * c * d → ¬ (share (pos reach) (pos e) ≤ℚ (share (pos m) (pos d) *ℚ share (pos r) (pos c)))
 apart r m e reach c d he hc hd less l =
     let z = le_from_whole (pos (reach * (d * c))) (pos (e * (m * r))) (subst (λ x. x ≤ℚ whole (pos (e * (m * r)))) left (subst (λ x. (scale *ℚ share (pos reach) (pos e)) ≤ℚ x) right
-        (≤ℚ_mul (share (pos reach) (pos e)) (share (pos m) (pos d) *ℚ share (pos r) (pos c)) scale up l))) in
+    (≤ℚ_mul (share (pos reach) (pos e)) (share (pos m) (pos d) *ℚ share (pos r) (pos c)) scale up l))) in
     omega (arith, ints, less, z)
   where
     scale : ℚ
