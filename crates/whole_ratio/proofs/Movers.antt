@@ -7,11 +7,11 @@ use Rattle.exact_algebra.specs.Rational.{ℚ, ◌*ℚ◌, inverse, whole}
 use Rattle.exact_algebra.proofs.RationalLaws.{ring_ℚ}
 use Rattle.loss_model.specs.declared.vertex.Side.{Side}
 use Rattle.loss_model.specs.declared.vertex.Side.TheVariants.{Up, Down, Basic}
-use Rattle.loss_model.specs.Sample.{Sample, residual}
+use Rattle.loss_model.specs.Sample.{Sample}
 use Rattle.loss_model.specs.Spill.{abs_ℚ}
 use Rattle.basis_model.specs.Perturbed.{turned, side_of, perturbed_side}
 use Rattle.basis_model.proofs.Signs.{side-residual}
-use Rattle.basis_model.specs.Basis.{coord, coefficient, outside_row, side_at}
+use Rattle.basis_model.specs.Basis.{coord, outside_row, side_at}
 use Rattle.exact_algebra.specs.Order.{cmp_ℚ}
 use Rattle.pivot_rule.specs.declared.direction.Direction.{Direction}
 use Rattle.pivot_rule.specs.declared.direction.Direction.TheVariants.{Upward, Downward}
@@ -34,7 +34,7 @@ change_turned : (d : Direction) (p : Sample) (at : ℕ → ℕ) (a : ℕ → ℕ
 change_turned Upward p at a j i = refl
 change_turned Downward p at a j i = refl
 
-turned-times : (o : Side) (x y : ℚ) → turned o (x *ℚ y) ≡ turned o x *ℚ y
+pub turned-times : (o : Side) (x y : ℚ) → turned o (x *ℚ y) ≡ turned o x *ℚ y
 turned-times Up x y = refl
 turned-times Down x y = ring_ℚ (x ∷ y ∷ []) (negated (v0 ⊠ v1)) (negated v0 ⊠ v1) refl
 turned-times Basic x y = refl

@@ -1,5 +1,6 @@
 -- Inner. The line along which a position leaves a basis of rows in whole numbers, and the rows that move on it.
-use Rattle.std.specs.Prelude.{◌≡◌, ◌≢◌, ◌⊎◌, ℕ, ℤ, ◌<◌, ◌≤◌, Bool, true, false, length, slice_get, slice_index, Option, Some, None, pos}
+use Rattle.std.specs.Prelude.{◌≡◌, ◌≢◌, ◌⊎◌, ℕ, ℤ, ◌<◌, ◌≤◌, Bool, true, false, length, slice_get, slice_index}
+use Rattle.std.specs.Prelude.{Option, Some, None, pos}
 use Rattle.exact_algebra.specs.Rational.{ℚ, neg_ℚ}
 use Rattle.loss_model.specs.Sample.{Sample, residual}
 use Rattle.loss_model.specs.Spill.{abs_ℚ}
@@ -40,9 +41,19 @@ inverse_at l = inverse_of l.basis.now.inverse.now
 abbrev pub over_of : Line → ℤ
 over_of l = l.basis.now.inverse.now.determinant
 
--- the residual of row i at the coefficients of the basis
+-- the coefficients of the basis, the residual of row i there, and its coordinate at the position
+abbrev pub coefficient_of : Line → ℕ → ℚ
+coefficient_of l = coefficient (model l) (at_of l) (inverse_at l)
+
 abbrev pub residual_of : Line → ℕ → ℚ
-residual_of l = residual (model l) (coefficient (model l) (at_of l) (inverse_at l))
+residual_of l = residual (model l) (coefficient_of l)
+
+abbrev pub coord_of : Line → ℕ → ℚ
+coord_of l i = coord (model l) (inverse_at l) i l.position
+
+-- the perturbed ratio of row i
+abbrev pub ratio_of : Line → ℕ → ℕ → ℚ
+ratio_of l i = ratio (model l).rows (model l).columns (at_of l) l.position (outside_row (model l) (at_of l) (inverse_at l) i)
 
 -- the sides are those of all rows at the basis, which has this position
 pub record IsLine (l : Line) : Type 0 where
@@ -58,15 +69,19 @@ pub record IsFullLine (f : FullLine) : Type 0 where
   pub size : length f.residuals.now ≡ length f.line.basis.now.rows.now
   pub residuals : (i : ℕ) → i < length f.line.basis.now.rows.now → share_at (over_of f.line) f.residuals.now i ≡ residual_of f.line i
   pub all_coords : length f.coords.now ≡ length f.line.basis.now.rows.now
-  pub coords : (i : ℕ) → i < length f.line.basis.now.rows.now → share_at (over_of f.line) f.coords.now i ≡ coord (model f.line) (inverse_at f.line) i f.line.position
+  pub coords : (i : ℕ) → i < length f.line.basis.now.rows.now → share_at (over_of f.line) f.coords.now i ≡ coord_of f.line i
+
+-- the reach of the earlier fit
+abbrev pub reach_of : NearLine → ℚ
+reach_of n = share (pos n.near.now.reach) n.near.now.determinant
 
 -- the coefficients are those of the basis, where rows that aren't near are far
 pub record IsNearLine (n : NearLine) : Type 0 where
   pub line : IsLine n.line
   pub columns : length n.coef.now ≡ length n.line.basis.now.inverse.now.columns
-  pub coef : (k : ℕ) → k < length n.line.basis.now.inverse.now.columns → share_at (over_of n.line) n.coef.now k ≡ coefficient (model n.line) (at_of n.line) (inverse_at n.line) k
+  pub coef : (k : ℕ) → k < length n.line.basis.now.inverse.now.columns → share_at (over_of n.line) n.coef.now k ≡ coefficient_of n.line k
   pub near : IsNear (model n.line) (side_in n.line.sides.now) n.near.now
-  pub far : AreOthersFar (model n.line) (side_in n.line.sides.now) n.near.now.rows (share (pos n.near.now.reach) n.near.now.determinant) (coefficient (model n.line) (at_of n.line) (inverse_at n.line))
+  pub far : AreOthersFar (model n.line) (side_in n.line.sides.now) n.near.now.rows (reach_of n) (coefficient_of n.line)
 
 -- rows are multiplied by the coefficients, and by the column of the position
 pub record IsLook (k : Look) : Type 0 where
@@ -88,8 +103,8 @@ pub record IsMover (l : Line) (m : Mover) : Type 0 where
   pub row : m.row < length l.basis.now.rows.now
   pub moves : is_moving l m.row ≡ true
   pub some : 1 ≤ m.coord
-  pub size : share (pos m.coord) (over_of l) ≡ abs_ℚ (coord (model l) (inverse_at l) m.row l.position)
-  pub ratio_is : share (pos m.residual) (pos m.coord) ≡ ratio (model l).rows (model l).columns (at_of l) l.position (outside_row (model l) (at_of l) (inverse_at l) m.row) 0
+  pub size : share (pos m.coord) (over_of l) ≡ abs_ℚ (coord_of l m.row)
+  pub ratio_is : share (pos m.residual) (pos m.coord) ≡ ratio_of l m.row 0
 
 -- row i doesn't move, or this is it as a mover
 abbrev pub IsMoverAt : Line → ℕ → Option Mover → Type 0
@@ -126,5 +141,5 @@ IsFirstBelow l n o = IsFirstOf l (λ i. i) n o
 -- row r comes before every row that moves and is far on its side
 abbrev pub AreFarAfter : NearLine → ℕ → Type 0
 AreFarAfter n r =
-    (i : ℕ) → i < length n.line.basis.now.rows.now → IsFarOn (side_in n.line.sides.now i) (share (pos n.near.now.reach) n.near.now.determinant) (residual_of n.line i)
+    (i : ℕ) → i < length n.line.basis.now.rows.now → IsFarOn (side_in n.line.sides.now i) (reach_of n) (residual_of n.line i)
     → is_moving n.line i ≡ true → comes_before n.line r i ≡ true
