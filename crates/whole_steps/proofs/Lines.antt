@@ -1,7 +1,7 @@
 -- The line along which a position leaves a station.
 use Rattle.std.specs.Prelude.{◌≡◌, ℕ, ℤ, ◌<◌, Bool, List, length, slice_get, slice_index, Option, Some, pos}
 use Rattle.std.specs.Option.{option_map_or}
-use Rattle.std.proofs.Common.{refl, sym, ap, subst, ◌∙◌}
+use Rattle.std.proofs.Common.{sym, ap, subst, ◌∙◌}
 use Rattle.std.proofs.lemmas.Option.{get_or_from_slice_get}
 use Rattle.exact_algebra.specs.Rational.{ℚ, ◌*ℚ◌, whole}
 use Rattle.exact_algebra.specs.RationalSums.{sum_ℚ}
@@ -11,7 +11,6 @@ use Rattle.loss_model.specs.Sample.{residual}
 use Rattle.basis_model.specs.Basis.{coord, coefficient}
 use Rattle.pivot_rule.specs.declared.direction.Direction.{Direction}
 use Rattle.pivot_rule.specs.Steps.{moves}
-use Rattle.walk_rule.specs.Walks.{IsFirstMover}
 use Rattle.whole_inverse.specs.Shares.{share, share_at, whole_at}
 use Rattle.whole_inverse.specs.Squares.{WholeSquare, IsWholeSquare, inverse_of}
 use Rattle.whole_rows.specs.declared.rows.WholeRow.{WholeRow}
@@ -23,7 +22,7 @@ use Rattle.whole_solution.specs.Standing.{side_in}
 use Rattle.whole_ratio.specs.declared.line.Line.{Line}
 use Rattle.whole_ratio.specs.declared.near_line.NearLine.{NearLine}
 use Rattle.whole_ratio.specs.declared.full_line.FullLine.{FullLine}
-use Rattle.whole_ratio.specs.Lines.{model as line_model, at_of as line_at, inverse_at as line_inverse, is_moving, IsFullLine, IsNearLine}
+use Rattle.whole_ratio.specs.Lines.{is_moving, IsFullLine, IsNearLine}
 use Rattle.whole_steps.specs.declared.station.Station.{Station}
 use Rattle.whole_steps.specs.Stations.{model, at_of, inverse_at, IsStation}
 use Rattle.whole_steps.specs.declared.entering.RowNumbers.{RowNumbers}
@@ -46,12 +45,6 @@ along P s j d l h x =
 pub back : (P : WholeBasis → ℕ → Direction → Type 0) (s : Station) (j : ℕ) (d : Direction) (l : Line) → IsLineOf s j d l → P l.basis.now l.position l.direction → P s.basis.now j d
 back P s j d l h x =
     subst (λ e. P s.basis.now j e) h.direction (subst (λ k. P s.basis.now k l.direction) h.position (subst (λ b. P b l.position l.direction) h.basis x))
-
--- the first row that moves on the line is that at the station
-pub first_there : (s : Station) (j : ℕ) (d : Direction) (l : Line) → IsLineOf s j d l → (r : ℕ)
-    → IsFirstMover (line_model l) (line_at l) (line_inverse l) l.position l.direction r → IsFirstMover (model s) (at_of s) (inverse_at s) j d r
-first_there s j d l h r first =
-    back (λ b k e. IsFirstMover (sample_of_rows (length b.inverse.now.columns) b.rows.now) (slice_index b.basis.now.rows) (inverse_of b.inverse.now) k e r) s j d l h first
 
 -- the numbers of all rows of a basis at a position
 HasNumbers : WholeBasis → ℕ → List ℤ → List ℤ → Type 0

@@ -1,7 +1,7 @@
 -- The line has the numbers of the station, and its rows move as they do there.
 use Rattle.std.proofs.Common.{◌<◌, length, sym, subst, ◌∙◌}
 use Rattle.whole_solution.specs.declared.basis.WholeBasis.{WholeBasis}
-use Rattle.whole_steps.proofs.Lines.{full_line, moving_is, first_there}
+use Rattle.whole_steps.proofs.Lines.{full_line, moving_is}
 use Rattle.rank_steps.proofs.entering.first_of_all.Goals as goal
 
 pub some_mover-requires : goal.some_mover-requires
@@ -19,6 +19,3 @@ pub returns-in-None : goal.returns-in-None
 returns-in-None c i li =
     let none = rw (c.in-None.is) at c.some_mover.ensures in
     sym (moving_is c.args.station.now c.args.position c.args.direction c.line.result c.line.ensures i) ∙ none i (subst (λ (b : WholeBasis). i < length b.rows.now) (sym c.line.ensures.basis) li)
-
-pub returns-in_ok-row-in-Some : goal.returns-in_ok-row-in-Some
-returns-in_ok-row-in-Some c = first_there c.args.station.now c.args.position c.args.direction c.line.result c.line.ensures c.in_ok-row-in-Some.row (c.in_ok-row-in-Some.ensures {u = tt})
