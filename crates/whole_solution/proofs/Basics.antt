@@ -11,29 +11,29 @@ use Rattle.basis_model.specs.Basis.{side_at}
 use Rattle.whole_solution.specs.Standing.{side_in}
 use Rattle.whole_solution.proofs.Made.{basic_by}
 
-pub length_put : (xs : List Side) (r : ℕ) → length (slice_set xs r Basic) ≡ length xs
-length_put [] r = refl
-length_put (x ∷ xs) zero = refl
-length_put (x ∷ xs) (suc r) = ap suc (length_put xs r)
+pub length_put : (xs : List Side) (r : ℕ) (s : Side) → length (slice_set xs r s) ≡ length xs
+length_put [] r s = refl
+length_put (x ∷ xs) zero s = refl
+length_put (x ∷ xs) (suc r) s = ap suc (length_put xs r s)
 
-put_same : (xs : List Side) (r : ℕ) → r < length xs → side_in (slice_set xs r Basic) r ≡ Basic
-put_same [] r l = absurd (omega arith)
-put_same (x ∷ xs) zero l = refl
-put_same (x ∷ xs) (suc r) l = put_same xs r (omega arith)
+pub put_same : (xs : List Side) (r : ℕ) (s : Side) → r < length xs → side_in (slice_set xs r s) r ≡ s
+put_same [] r s l = absurd (omega arith)
+put_same (x ∷ xs) zero s l = refl
+put_same (x ∷ xs) (suc r) s l = put_same xs r s (omega arith)
 
-put_other : (xs : List Side) (r i : ℕ) → i ≢ r → side_in (slice_set xs r Basic) i ≡ side_in xs i
-put_other [] r i h = refl
-put_other (x ∷ xs) zero zero h = absurd (h refl)
-put_other (x ∷ xs) zero (suc i) h = refl
-put_other (x ∷ xs) (suc r) zero h = refl
-put_other (x ∷ xs) (suc r) (suc i) h = put_other xs r i (λ e. h (ap suc e))
+pub put_other : (xs : List Side) (r i : ℕ) (s : Side) → i ≢ r → side_in (slice_set xs r s) i ≡ side_in xs i
+put_other [] r i s h = refl
+put_other (x ∷ xs) zero zero s h = absurd (h refl)
+put_other (x ∷ xs) zero (suc i) s h = refl
+put_other (x ∷ xs) (suc r) zero s h = refl
+put_other (x ∷ xs) (suc r) (suc i) s h = put_other xs r i s (λ e. h (ap suc e))
 
 set_side : (xs : List Side) (r i : ℕ) → r < length xs → side_in (slice_set xs r Basic) i ≡ (if i == r then Basic else side_in xs i)
 set_side xs r i l = by (i == r) refl
   where
     by : (t : Bool) → (i == r) ≡ t → side_in (slice_set xs r Basic) i ≡ (if i == r then Basic else side_in xs i)
-    by true e = ap (λ i. side_in (slice_set xs r Basic) i) (eqb-true i r e) ∙ put_same xs r l ∙ sym (ap (λ t. if t then Basic else side_in xs i) e)
-    by false e = put_other xs r i (eqb-false i r e) ∙ sym (ap (λ t. if t then Basic else side_in xs i) e)
+    by true e = ap (λ i. side_in (slice_set xs r Basic) i) (eqb-true i r e) ∙ put_same xs r Basic l ∙ sym (ap (λ t. if t then Basic else side_in xs i) e)
+    by false e = put_other xs r i Basic (eqb-false i r e) ∙ sym (ap (λ t. if t then Basic else side_in xs i) e)
 
 either : (t u : Bool) (x y : Side) → (if t then x else (if u then x else y)) ≡ (if (if t then true else u) then x else y)
 either true u x y = refl

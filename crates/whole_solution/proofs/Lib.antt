@@ -7,3 +7,9 @@ pub mod Balanced
 pub mod Same
 pub mod Basics
 pub mod Moved
+pub mod Keeping
+pub mod Moves
+pub mod Listed
+pub mod Nearby
+pub mod Tops
+pub mod Chosen

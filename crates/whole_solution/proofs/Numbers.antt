@@ -22,18 +22,18 @@ nonzero d h e =
     let z = same_from_whole d (pos 0) e in
     omega (arith, ints)
 
-times : (r d : ℤ) → pos 1 ≤ℤ d → whole d *ℚ share r d ≡ whole r
+pub times : (r d : ℤ) → pos 1 ≤ℤ d → whole d *ℚ share r d ≡ whole r
 times r d h = ring_by_ℚ (whole r ∷ whole d ∷ inverse (whole d) ∷ []) (v1 ⊠ (v0 ⊠ v2)) v0 v0 (v1 ⊠ v2) (number (pos 1)) refl (*ℚ-inverse (whole d) (nonzero d h))
 
 none : (d : ℤ) → whole d *ℚ whole (pos 0) ≡ whole (pos 0)
 none d = ring_ℚ (whole d ∷ []) (v0 ⊠ number (pos 0)) (number (pos 0)) refl
 
-above : (d : ℤ) → pos 1 ≤ℤ d → ¬ (whole d ≤ℚ whole (pos 0))
+pub above : (d : ℤ) → pos 1 ≤ℤ d → ¬ (whole d ≤ℚ whole (pos 0))
 above d h l =
     let z = le_from_whole d (pos 0) l in
     omega (arith, ints)
 
-not_greater : (o : Ordering) → ¬ (o ≡ Greater) → Down ≡ side_of o
+pub not_greater : (o : Ordering) → ¬ (o ≡ Greater) → Down ≡ side_of o
 not_greater Less h = refl
 not_greater Equal h = refl
 not_greater Greater h = absurd (h refl)

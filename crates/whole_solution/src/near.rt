@@ -40,8 +40,7 @@ fn top_of(rows: &[WholeRow], k: u32, columns: u32) -> u64
 {
     let mut top: u64 = 0;
     for i in 0..rows.len() {
-        let row = &rows[i];
-        let x = row.x.as_slice();
+        let x = rows[i].x.as_slice();
         top = top.max(x[k as usize].unsigned_abs());
     }
     top
@@ -61,6 +60,7 @@ pub(crate) fn tops_of(alloc: Global, rows: &[WholeRow], columns: u32) -> Result<
 }
 
 /// Whether a residual is at least `far` on a side.
+#[tactic(auto, using(crate::proofs::Keeping::far_above, crate::proofs::Keeping::far_below))]
 fn is_far_on(side: Side, residual: i128, far: u128) -> bool
     ensures { IsTrue result → (d : ℤ) → pos 1 ≤ℤ d → IsFarOn side (share (pos far) d) (share residual d) }
 {
@@ -96,12 +96,14 @@ fn near_rows(
 /// How many rows are taken as near, or a little more: about twice the root of their number, and eight a column.
 fn near_count(rows: usize, columns: usize) -> u64 {
     let bits = 64 - (rows as u64).leading_zeros();
-    (2 << (bits / 2)) + 8 * columns as u64
+    (columns as u64)
+        .saturating_mul(8)
+        .saturating_add(2 << (bits / 2))
 }
 
 /// How many residuals have sizes below a bound.
 fn count_below(residuals: &[i128], bound: u128) -> u64 {
-    let mut count = 0;
+    let mut count: u64 = 0;
     for i in 0..residuals.len() {
         if residuals[i].unsigned_abs() < bound {
             count += 1;
@@ -126,6 +128,16 @@ fn reach_of(residuals: &[i128], few: u64) -> u128
         }
     }
     1 << low
+}
+
+/// Whether a number is at most another one.
+fn is_within(number: Natural, most: Natural) -> bool
+    ensures { IsTrue result → joined number.low number.high ≤ joined most.low most.high }
+{
+    match number.compare(most) {
+        Ordering::Greater => false,
+        _ => true,
+    }
 }
 
 impl Near {
@@ -183,7 +195,8 @@ impl Near {
         let here = Wide::product(number, self.determinant);
         let there = Wide::product(old[k as usize], determinant);
         let moved = here.plus(there.negation())?;
-        moved.size.times(u128::from(tops[k as usize]))
+        let shift = moved.size.times(u128::from(tops[k as usize]))?;
+        Some(shift)
     }
 
     /// How far all coefficients together can have moved a residual, times both determinants.
@@ -212,7 +225,7 @@ impl Near {
     {
         let most = Natural::product(self.reach, determinant.unsigned_abs());
         match self.room_for_moves(coef, determinant) {
-            Some(sum) => sum.compare(most) != Ordering::Greater,
+            Some(sum) => is_within(sum, most),
             None => false,
         }
     }

@@ -151,13 +151,12 @@ impl<'a> WholeBasis<'a> {
         ensures { IsTrue result → (j : ℕ) → j < length self.now.basis.now.rows → side_in sides.now (slice_index self.now.basis.now.rows j) ≡ Basic }
     {
         let basis = self.basis.rows.as_slice();
-        let mut holds = true;
         for j in 0..basis.len() {
             if sides[basis[j] as usize] != Side::Basic {
-                holds = false;
+                return false;
             }
         }
-        holds
+        true
     }
 
     /// The same as `sided`, from what stood at another basis: where no far row can have changed its side, near rows alone are

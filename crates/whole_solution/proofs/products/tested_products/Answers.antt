@@ -1,6 +1,5 @@
 -- A row more.
-use Rattle.std.proofs.Common.{rules, ◌≡◌, ◌++◌, ◌∷◌, [], ℤ, length, to_z, of_z, ap, ◌∙◌}
-use mir.Syntax.{w128}
+use Rattle.std.proofs.Common.{rules, ◌≡◌, ◌++◌, ◌∷◌, [], ℤ, length, ap, ◌∙◌}
 use Rattle.exact_algebra.specs.Rational.{◌*ℚ◌}
 use Rattle.exact_algebra.specs.RationalSums.{sum_ℚ}
 use Rattle.whole_inverse.specs.Shares.{share, share_at, whole_at}

@@ -14,6 +14,6 @@ loop-j-preserved c =
     let within : at j < length b.rows.now = c.requires.basis.distinct.within j (omega (arith, here, c.requires.basis.size)) in
     let put : c.replace.new.self ≡ slice_set made (at j) Basic = search rules in
     rw (put) (record {
-      size = length_put made (at j) ∙ c.loop-j.invariant.size;
+      size = length_put made (at j) Basic ∙ c.loop-j.invariant.size;
       each = basic_put at j c.args.sides made (omega (arith, within, c.loop-j.invariant.size)) c.loop-j.invariant.each;
     })

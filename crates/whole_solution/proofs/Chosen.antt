@@ -1,0 +1,120 @@
+-- Sides of all rows beside the rows near the fit, and after a step that far rows are not looked at.
+use Rattle.std.specs.Prelude.{◌≡◌, ◌⊎◌, ℕ, ℤ, ◌*◌, ◌<◌, ◌≤ℤ◌, Bool, true, false, List, All, length, pos}
+use Rattle.std.proofs.Common.{arith, refl, sym, ap, subst, ◌∙◌, inl, inr}
+use Rattle.std.proofs.lemmas.Int.{ints}
+use Rattle.exact_algebra.specs.Rational.{ℚ, ◌≤ℚ◌}
+use Rattle.exact_matrices.specs.Selections.{is_among}
+use Rattle.loss_model.specs.declared.vertex.Side.{Side}
+use Rattle.loss_model.specs.declared.vertex.Side.TheVariants.{Basic}
+use Rattle.loss_model.specs.Sample.{Sample, residual}
+use Rattle.basis_model.specs.Basis.{coefficient, side_at}
+use Rattle.pivot_rule.proofs.Among.{among_place}
+use Rattle.whole_inverse.specs.Shares.{share, share_at}
+use Rattle.whole_solution.specs.declared.near.Near.{Near}
+use Rattle.whole_solution.specs.Standing.{side_in}
+use Rattle.whole_solution.specs.Far.{room, top_at, AreOthersFar, AreTops, IsChosen, IsFarOn, IsListed, IsNear, IsNearOrFar}
+use Rattle.whole_solution.proofs.Keeping.{keeps_on, far_side, far_weaker, reach_left, share-le}
+use Rattle.whole_solution.proofs.Made.{basic_by}
+use Rattle.whole_solution.proofs.Numbers.{share_above}
+use Rattle.whole_solution.proofs.Same.{residual_same}
+
+-- a residual that is known
+far_same : (near : List ℕ) (side : Side) (far : ℚ) (i : ℕ) (r s : ℚ) → r ≡ s → IsNearOrFar near side far i r → IsNearOrFar near side far i s
+far_same near side far i r s e h = subst (λ r. IsNearOrFar near side far i r) e h
+
+weaker : (near : List ℕ) (side : Side) (far least : ℚ) (i : ℕ) (r : ℚ) → least ≤ℚ far → IsNearOrFar near side far i r → IsNearOrFar near side least i r
+weaker near side far least i r l (inl h) = inl h
+weaker near side far least i r l (inr h) = inr (far_weaker side far least r l h)
+
+-- rows that were chosen
+module _ (p : Sample) (side : ℕ → Side) (residuals coefs : List ℤ) (d : ℤ) (sizes : List ℕ) (n : Near) (chosen : IsChosen side residuals coefs d sizes n)
+    (rows : length residuals ≡ p.rows) (columns : length coefs ≡ p.columns) (positive : pos 1 ≤ℤ d) (tops : AreTops p sizes)
+    (are : (i : ℕ) → i < p.rows → share_at d residuals i ≡ residual p (share_at d coefs) i) where
+  pub near_from_chosen : IsNear p side n
+  near_from_chosen =
+      record {
+        columns = ap length chosen.coef ∙ columns;
+        some = subst (λ d. pos 1 ≤ℤ d) (sym chosen.determinant) positive;
+        reach = chosen.reach;
+        rows = subst (λ m. All (λ i. i < m) n.rows) rows chosen.rows;
+        tops = subst (λ sizes. AreTops p sizes) (sym chosen.tops) tops;
+        others = subst (λ d. AreOthersFar p side n.rows (share (pos (2 * n.reach)) d) (share_at d n.coef)) (sym chosen.determinant)
+            (subst (λ coefs. AreOthersFar p side n.rows (share (pos (2 * n.reach)) d) (share_at d coefs)) (sym chosen.coef)
+            (λ i li. far_same n.rows (side i) (share (pos (2 * n.reach)) d) i (share_at d residuals i) (residual p (share_at d coefs) i) (are i li) (chosen.others i (omega (arith, li, rows)))));
+      }
+
+  pub far_from_chosen : (b : ℕ → ℚ) → ((k : ℕ) → k < p.columns → share_at d coefs k ≡ b k) → AreOthersFar p side n.rows (share (pos n.reach) n.determinant) b
+  far_from_chosen b same =
+      subst (λ d. AreOthersFar p side n.rows (share (pos n.reach) d) b) (sym chosen.determinant)
+      (λ i li.
+      weaker n.rows (side i) (share (pos (2 * n.reach)) d) (share (pos n.reach) d) i (residual p b i) (share-le (pos n.reach) (pos (2 * n.reach)) d positive (omega (arith, ints)))
+      (far_same n.rows (side i) (share (pos (2 * n.reach)) d) i (share_at d residuals i) (residual p b i) (are i li ∙ residual_same p (share_at d coefs) b same i) (chosen.others i (omega (arith, li, rows)))))
+
+-- rows that were near an earlier fit, from which no residual has moved by more than the reach
+module _ (p : Sample) (at : ℕ → ℕ) (a : ℕ → ℕ → ℚ) (d : ℤ) (coef : List ℤ) (n : Near) (old made : List Side)
+    (size : length coef ≡ p.columns) (same : (k : ℕ) → k < p.columns → share_at d coef k ≡ coefficient p at a k) (is_near : IsNear p (side_in old) n)
+    (serves : room (length coef) (top_at n.tops) (share_at n.determinant n.coef) (share_at d coef) ≤ℚ share (pos n.reach) n.determinant)
+    (each : (i : ℕ) → IsListed n.rows i ⊎ (side_in made i ≡ side_in old i)) where
+  abbrev before : ℕ → ℚ
+  before = share_at n.determinant n.coef
+
+  abbrev far : ℚ
+  far = share (pos (2 * n.reach)) n.determinant
+
+  abbrev least : ℚ
+  least = share (pos n.reach) n.determinant
+
+  -- a far row is still far
+  still_far : (i : ℕ) → i < p.rows → (side : Side) → IsFarOn side far (residual p before i) → IsFarOn side least (residual p (coefficient p at a) i)
+  still_far i li side away =
+      let moves = subst (λ m. room m (top_at n.tops) before (share_at d coef) ≤ℚ least) size serves in
+      subst (λ r. IsFarOn side least r) (residual_same p (share_at d coef) (coefficient p at a) same i)
+      (keeps_on p before (share_at d coef) (top_at n.tops) i (λ k lk. is_near.tops.each i k li lk) far least (reach_left n.reach n.determinant (room p.columns (top_at n.tops) before (share_at d coef)) moves) side away)
+
+  -- on the side that stands now, unless it is listed
+  on_side : (i : ℕ) (r : ℚ) (bound : ℚ) → IsNearOrFar n.rows (side_in old i) bound i r → IsNearOrFar n.rows (side_in made i) bound i r
+  on_side i r bound h = by (each i) h
+    where
+      by : IsListed n.rows i ⊎ (side_in made i ≡ side_in old i) → IsNearOrFar n.rows (side_in old i) bound i r → IsNearOrFar n.rows (side_in made i) bound i r
+      by (inl listed) h = inl listed
+      by (inr e) (inl listed) = inl listed
+      by (inr e) (inr away) = inr (subst (λ side. IsFarOn side bound r) (sym e) away)
+
+  pub near_now : IsNear p (side_in made) n
+  near_now =
+      record {
+        columns = is_near.columns;
+        some = is_near.some;
+        reach = is_near.reach;
+        rows = is_near.rows;
+        tops = is_near.tops;
+        others = λ i li. on_side i (residual p before i) far (is_near.others i li);
+      }
+
+  pub far_now : AreOthersFar p (side_in made) n.rows least (coefficient p at a)
+  far_now i li = on_side i (residual p (coefficient p at a) i) least (by (is_near.others i li))
+    where
+      by : IsNearOrFar n.rows (side_in old i) far i (residual p before i) → IsNearOrFar n.rows (side_in old i) least i (residual p (coefficient p at a) i)
+      by (inl listed) = inl listed
+      by (inr away) = inr (still_far i li (side_in old i) away)
+
+  -- and all sides are those of the rows
+  module _ (near : (i : ℕ) → IsListed n.rows i → is_among at p.columns i ≡ false → side_in made i ≡ side_at p at a i) (basis : (j : ℕ) → j < p.columns → side_in made (at j) ≡ Basic) where
+    outside : (i : ℕ) → i < p.rows → is_among at p.columns i ≡ false → side_in made i ≡ side_at p at a i
+    outside i li e = by (each i) (is_near.others i li)
+      where
+        by : IsListed n.rows i ⊎ (side_in made i ≡ side_in old i) → IsNearOrFar n.rows (side_in old i) far i (residual p before i) → side_in made i ≡ side_at p at a i
+        by (inl listed) h = near i listed e
+        by (inr kept) (inl listed) = near i listed e
+        by (inr kept) (inr away) =
+            let some = share_above (pos n.reach) n.determinant is_near.some (omega (arith, ints, is_near.reach)) in
+            kept ∙ far_side p at a i e least some (side_in old i) (still_far i li (side_in old i) away)
+
+    pub sides_now : (i : ℕ) → i < p.rows → side_in made i ≡ side_at p at a i
+    sides_now i li = by (is_among at p.columns i) refl
+      where
+        by : (t : Bool) → is_among at p.columns i ≡ t → side_in made i ≡ side_at p at a i
+        by true e =
+            let place = among_place at p.columns i e in
+            subst (λ i. side_in made i ≡ Basic) place.2 (basis place.0 place.1) ∙ basic_by p at a i e
+        by false e = outside i li e

@@ -1,0 +1,199 @@
+-- Residuals that are far from 0, and how far the coefficients can take them.
+use Rattle.std.specs.Prelude.{◌≡◌, ◌⊎◌, ℕ, ℤ, ◌<◌, ◌≤◌, ◌+◌, ◌*◌, ◌≤ℤ◌, neg_ℤ, unsigned_abs, [], ◌∷◌, false, pos}
+use Rattle.std.proofs.Common.{arith, refl, sym, ap, subst, ◌∙◌, inl, inr}
+use Rattle.std.proofs.lemmas.Int.{ints}
+use Rattle.exact_algebra.specs.Solver.{number, negated, ◌⊞◌, ◌⊟◌, ◌⊠◌, v0, v1, v2}
+use Rattle.exact_algebra.specs.Rational.{ℚ, ◌+ℚ◌, ◌-ℚ◌, ◌*ℚ◌, neg_ℚ, whole, inverse, ◌≤ℚ◌}
+use Rattle.exact_algebra.specs.Order.{cmp_ℚ}
+use Rattle.exact_algebra.proofs.RationalLaws.{ring_ℚ, ≤ℚ_refl, ≤ℚ_trans, ≤ℚ_mul, whole-add}
+use Rattle.exact_algebra.proofs.OrderLaws.{cmp_ℚ-Greater, cmp_ℚ-not_Greater, inverse_not_negative, le_from_not}
+use Rattle.exact_algebra.proofs.WholeNumbers.{whole-le}
+use Rattle.exact_algebra.specs.RationalSums.{sum_ℚ}
+use Rattle.exact_algebra.proofs.RationalSumLaws.{sum_ℚ-same, sum_ℚ-le, sum_ℚ-mix, sum_ℚ-scale}
+use Rattle.exact_matrices.specs.Selections.{is_among}
+use Rattle.loss_model.specs.declared.vertex.Side.{Side}
+use Rattle.loss_model.specs.declared.vertex.Side.TheVariants.{Up, Down, Basic}
+use Rattle.loss_model.specs.Sample.{Sample, residual, fitted}
+use Rattle.loss_model.specs.Spill.{abs_ℚ}
+use Rattle.basis_model.specs.Perturbed.{side_of}
+use Rattle.basis_model.specs.Basis.{coefficient, outside_row, side_at}
+use Rattle.basis_model.proofs.Signs.{side-residual}
+use Rattle.pivot_rule.proofs.Entering.{abs_above, abs_below}
+use Rattle.walk_rule.proofs.Lines.{decide, le_by}
+use Rattle.whole_inverse.specs.Shares.{share}
+use Rattle.whole_solution.specs.Far.{room, FarRowsKeep, IsFarOn}
+use Rattle.whole_solution.proofs.Made.{outside_by}
+use Rattle.whole_solution.proofs.Numbers.{share-neg, not_greater}
+
+-- ---- a product by the sizes of its factors
+
+not_above : (x : ℚ) → ¬ (whole (pos 0) ≤ℚ x) → x ≤ℚ whole (pos 0)
+not_above x h = le_from_not x (whole (pos 0)) h
+
+negated_up : (x : ℚ) → x ≤ℚ whole (pos 0) → whole (pos 0) ≤ℚ neg_ℚ x
+negated_up x h = le_by x (whole (pos 0)) (whole (pos 0)) (neg_ℚ x) h (ring_ℚ (x ∷ []) (number (pos 0) ⊟ v0) (negated v0 ⊟ number (pos 0)) refl)
+
+-- a size is one of both
+pub size_by : (x : ℚ) (P : ℚ → Type 0) → P x → P (neg_ℚ x) → P (abs_ℚ x)
+size_by x P up down = by (decide (whole (pos 0)) x)
+  where
+    by : (whole (pos 0) ≤ℚ x) ⊎ ¬ (whole (pos 0) ≤ℚ x) → P (abs_ℚ x)
+    by (inl h) = subst P (sym (abs_above x h)) up
+    by (inr h) = subst P (sym (abs_below x (not_above x h))) down
+
+own_size : (x : ℚ) → x ≤ℚ abs_ℚ x
+own_size x = by (decide (whole (pos 0)) x)
+  where
+    by : (whole (pos 0) ≤ℚ x) ⊎ ¬ (whole (pos 0) ≤ℚ x) → x ≤ℚ abs_ℚ x
+    by (inl h) = subst (λ z. x ≤ℚ z) (sym (abs_above x h)) (≤ℚ_refl x)
+    by (inr h) =
+        let down = not_above x h in
+        subst (λ z. x ≤ℚ z) (sym (abs_below x down)) (≤ℚ_trans x (whole (pos 0)) (neg_ℚ x) down (negated_up x down))
+
+negated_size : (x : ℚ) → neg_ℚ x ≤ℚ abs_ℚ x
+negated_size x = by (decide (whole (pos 0)) x)
+  where
+    by : (whole (pos 0) ≤ℚ x) ⊎ ¬ (whole (pos 0) ≤ℚ x) → neg_ℚ x ≤ℚ abs_ℚ x
+    by (inl h) =
+        let down : neg_ℚ x ≤ℚ whole (pos 0) = le_by (whole (pos 0)) x (neg_ℚ x) (whole (pos 0)) h (ring_ℚ (x ∷ []) (v0 ⊟ number (pos 0)) (number (pos 0) ⊟ negated v0) refl) in
+        subst (λ z. neg_ℚ x ≤ℚ z) (sym (abs_above x h)) (≤ℚ_trans (neg_ℚ x) (whole (pos 0)) x down h)
+    by (inr h) = subst (λ z. neg_ℚ x ≤ℚ z) (sym (abs_below x (not_above x h))) (≤ℚ_refl (neg_ℚ x))
+
+module _ (x y t : ℚ) (small : abs_ℚ x ≤ℚ t) where
+  below : x ≤ℚ t
+  below = ≤ℚ_trans x (abs_ℚ x) t (own_size x) small
+
+  negated_below : neg_ℚ x ≤ℚ t
+  negated_below = ≤ℚ_trans (neg_ℚ x) (abs_ℚ x) t (negated_size x) small
+
+  -- by a factor of either sign
+  above_by : (u z : ℚ) → u ≤ℚ t → whole (pos 0) ≤ℚ z → (u *ℚ z) ≤ℚ (t *ℚ z)
+  above_by u z h p =
+      subst (λ w. w ≤ℚ (t *ℚ z)) (ring_ℚ (z ∷ u ∷ []) (v0 ⊠ v1) (v1 ⊠ v0) refl)
+      (subst (λ w. (z *ℚ u) ≤ℚ w) (ring_ℚ (z ∷ t ∷ []) (v0 ⊠ v1) (v1 ⊠ v0) refl) (≤ℚ_mul u t z p h))
+
+  product_below : (x *ℚ y) ≤ℚ (t *ℚ abs_ℚ y)
+  product_below = by (decide (whole (pos 0)) y)
+    where
+      by : (whole (pos 0) ≤ℚ y) ⊎ ¬ (whole (pos 0) ≤ℚ y) → (x *ℚ y) ≤ℚ (t *ℚ abs_ℚ y)
+      by (inl h) = subst (λ z. (x *ℚ y) ≤ℚ (t *ℚ z)) (sym (abs_above y h)) (above_by x y below h)
+      by (inr h) =
+          let down = not_above y h in
+          subst (λ z. (x *ℚ y) ≤ℚ (t *ℚ z)) (sym (abs_below y down))
+          (subst (λ z. z ≤ℚ (t *ℚ neg_ℚ y)) (ring_ℚ (x ∷ y ∷ []) (negated v0 ⊠ negated v1) (v0 ⊠ v1) refl) (above_by (neg_ℚ x) (neg_ℚ y) negated_below (negated_up y down)))
+
+  product_above : (neg_ℚ (whole (pos 1)) *ℚ (x *ℚ y)) ≤ℚ (t *ℚ abs_ℚ y)
+  product_above = by (decide (whole (pos 0)) y)
+    where
+      by : (whole (pos 0) ≤ℚ y) ⊎ ¬ (whole (pos 0) ≤ℚ y) → (neg_ℚ (whole (pos 1)) *ℚ (x *ℚ y)) ≤ℚ (t *ℚ abs_ℚ y)
+      by (inl h) =
+          subst (λ z. (neg_ℚ (whole (pos 1)) *ℚ (x *ℚ y)) ≤ℚ (t *ℚ z)) (sym (abs_above y h))
+          (subst (λ z. z ≤ℚ (t *ℚ y)) (ring_ℚ (x ∷ y ∷ []) (negated v0 ⊠ v1) (negated (number (pos 1)) ⊠ (v0 ⊠ v1)) refl) (above_by (neg_ℚ x) y negated_below h))
+      by (inr h) =
+          let down = not_above y h in
+          subst (λ z. (neg_ℚ (whole (pos 1)) *ℚ (x *ℚ y)) ≤ℚ (t *ℚ z)) (sym (abs_below y down))
+          (subst (λ z. z ≤ℚ (t *ℚ neg_ℚ y)) (ring_ℚ (x ∷ y ∷ []) (v0 ⊠ negated v1) (negated (number (pos 1)) ⊠ (v0 ⊠ v1)) refl) (above_by x (neg_ℚ y) below (negated_up y down)))
+
+-- ---- a row
+
+module _ (p : Sample) (from to top : ℕ → ℚ) (i : ℕ) (small : (k : ℕ) → k < p.columns → abs_ℚ (p.x i k) ≤ℚ top k) where
+  abbrev moved : ℚ
+  moved = sum_ℚ p.columns (λ k. p.x i k *ℚ (to k -ℚ from k))
+
+  moved_is : moved ≡ fitted p to i -ℚ fitted p from i
+  moved_is =
+      sum_ℚ-same p.columns (λ k. p.x i k *ℚ (to k -ℚ from k)) (λ k. (whole (pos 1) *ℚ (p.x i k *ℚ to k)) +ℚ (neg_ℚ (whole (pos 1)) *ℚ (p.x i k *ℚ from k)))
+      (λ k lk. ring_ℚ (p.x i k ∷ to k ∷ from k ∷ []) (v0 ⊠ (v1 ⊟ v2)) (number (pos 1) ⊠ (v0 ⊠ v1) ⊞ negated (number (pos 1)) ⊠ (v0 ⊠ v2)) refl)
+      ∙ sum_ℚ-mix p.columns (whole (pos 1)) (neg_ℚ (whole (pos 1))) (λ k. p.x i k *ℚ to k) (λ k. p.x i k *ℚ from k)
+      ∙ ring_ℚ (fitted p to i ∷ fitted p from i ∷ []) (number (pos 1) ⊠ v0 ⊞ negated (number (pos 1)) ⊠ v1) (v0 ⊟ v1) refl
+
+  moved_up : moved ≤ℚ room p.columns top from to
+  moved_up = sum_ℚ-le p.columns (λ k. p.x i k *ℚ (to k -ℚ from k)) (λ k. top k *ℚ abs_ℚ (to k -ℚ from k)) (λ k lk. product_below (p.x i k) (to k -ℚ from k) (top k) (small k lk))
+
+  moved_down : (neg_ℚ (whole (pos 1)) *ℚ moved) ≤ℚ room p.columns top from to
+  moved_down =
+      subst (λ z. z ≤ℚ room p.columns top from to) (sum_ℚ-scale p.columns (neg_ℚ (whole (pos 1))) (λ k. p.x i k *ℚ (to k -ℚ from k)))
+      (sum_ℚ-le p.columns (λ k. neg_ℚ (whole (pos 1)) *ℚ (p.x i k *ℚ (to k -ℚ from k))) (λ k. top k *ℚ abs_ℚ (to k -ℚ from k)) (λ k lk. product_above (p.x i k) (to k -ℚ from k) (top k) (small k lk)))
+
+  -- what is left of `far`
+  module _ (far least : ℚ) (within : (room p.columns top from to +ℚ least) ≤ℚ far) where
+    left : (r m : ℚ) → far ≤ℚ r → m ≤ℚ room p.columns top from to → least ≤ℚ (r -ℚ m)
+    left r m away less =
+        ≤ℚ_trans least (far -ℚ room p.columns top from to) (r -ℚ m)
+        (le_by (room p.columns top from to +ℚ least) far least (far -ℚ room p.columns top from to) within (ring_ℚ (room p.columns top from to ∷ least ∷ far ∷ []) (v2 ⊟ (v0 ⊞ v1)) ((v2 ⊟ v0) ⊟ v1) refl))
+        (≤ℚ_trans (far -ℚ room p.columns top from to) (r -ℚ room p.columns top from to) (r -ℚ m)
+        (le_by far r (far -ℚ room p.columns top from to) (r -ℚ room p.columns top from to) away (ring_ℚ (far ∷ r ∷ room p.columns top from to ∷ []) (v1 ⊟ v0) ((v1 ⊟ v2) ⊟ (v0 ⊟ v2)) refl))
+        (le_by m (room p.columns top from to) (r -ℚ room p.columns top from to) (r -ℚ m) less (ring_ℚ (m ∷ room p.columns top from to ∷ r ∷ []) (v1 ⊟ v0) ((v2 ⊟ v0) ⊟ (v2 ⊟ v1)) refl)))
+
+    keeps_up : far ≤ℚ residual p from i → least ≤ℚ residual p to i
+    keeps_up away =
+        subst (λ z. least ≤ℚ z)
+        (ap (λ z. residual p from i -ℚ z) moved_is ∙ ring_ℚ (p.y i ∷ fitted p to i ∷ fitted p from i ∷ []) ((v0 ⊟ v2) ⊟ (v1 ⊟ v2)) (v0 ⊟ v1) refl)
+        (left (residual p from i) moved away moved_up)
+
+    keeps_down : far ≤ℚ neg_ℚ (residual p from i) → least ≤ℚ neg_ℚ (residual p to i)
+    keeps_down away =
+        subst (λ z. least ≤ℚ z)
+        (ap (λ z. neg_ℚ (residual p from i) -ℚ (neg_ℚ (whole (pos 1)) *ℚ z)) moved_is
+        ∙ ring_ℚ (p.y i ∷ fitted p to i ∷ fitted p from i ∷ []) (negated (v0 ⊟ v2) ⊟ (negated (number (pos 1)) ⊠ (v1 ⊟ v2))) (negated (v0 ⊟ v1)) refl)
+        (left (neg_ℚ (residual p from i)) (neg_ℚ (whole (pos 1)) *ℚ moved) away moved_down)
+
+    -- on either side
+    pub keeps_on : (side : Side) → IsFarOn side far (residual p from i) → IsFarOn side least (residual p to i)
+    keeps_on Up away = keeps_up away
+    keeps_on Down away = keeps_down away
+    keeps_on Basic away = absurd away
+
+pub far_rows_keep : FarRowsKeep
+far_rows_keep p from to top far least i small within = (keeps_up p from to top i small far least within, keeps_down p from to top i small far least within)
+
+-- ---- shares in order
+
+pub share-le : (a b d : ℤ) → pos 1 ≤ℤ d → a ≤ℤ b → share a d ≤ℚ share b d
+share-le a b d h l =
+    subst (λ z. z ≤ℚ share b d) (ring_ℚ (whole a ∷ inverse (whole d) ∷ []) (v1 ⊠ v0) (v0 ⊠ v1) refl)
+    (subst (λ z. (inverse (whole d) *ℚ whole a) ≤ℚ z) (ring_ℚ (whole b ∷ inverse (whole d) ∷ []) (v1 ⊠ v0) (v0 ⊠ v1) refl)
+    (≤ℚ_mul (whole a) (whole b) (inverse (whole d)) (inverse_not_negative (whole d) (whole-le (pos 0) d (omega (arith, ints)))) (whole-le a b l)))
+
+pub share-add : (a b d : ℤ) → share a d +ℚ share b d ≡ (whole a +ℚ whole b) *ℚ inverse (whole d)
+share-add a b d = ring_ℚ (whole a ∷ whole b ∷ inverse (whole d) ∷ []) (v0 ⊠ v2 ⊞ v1 ⊠ v2) ((v0 ⊞ v1) ⊠ v2) refl
+
+-- ---- far on a side
+
+pub far_above : (r : ℤ) (far : ℕ) → pos 0 ≤ℤ r → far ≤ unsigned_abs r → (d : ℤ) → pos 1 ≤ℤ d → share (pos far) d ≤ℚ share r d
+far_above r far up h d p = share-le (pos far) r d p (omega (arith, ints))
+
+pub far_below : (r : ℤ) (far : ℕ) → r ≤ℤ pos 0 → far ≤ unsigned_abs r → (d : ℤ) → pos 1 ≤ℤ d → share (pos far) d ≤ℚ neg_ℚ (share r d)
+far_below r far down h d p = subst (λ z. share (pos far) d ≤ℚ z) (share-neg r d) (share-le (pos far) (neg_ℤ r) d p (omega (arith, ints)))
+
+pub far_weaker : (side : Side) (far least r : ℚ) → least ≤ℚ far → IsFarOn side far r → IsFarOn side least r
+far_weaker Up far least r h away = ≤ℚ_trans least far r h away
+far_weaker Down far least r h away = ≤ℚ_trans least far (neg_ℚ r) h away
+far_weaker Basic far least r h away = absurd away
+
+-- the side of a row that is far on it
+module _ (p : Sample) (at : ℕ → ℕ) (a : ℕ → ℕ → ℚ) (i : ℕ) (outside : is_among at p.columns i ≡ false) (least : ℚ) (some : ¬ (least ≤ℚ whole (pos 0))) where
+  abbrev r : ℚ
+  r = residual p (coefficient p at a) i
+
+  side_by : ¬ (r ≡ whole (pos 0)) → side_of (cmp_ℚ r (whole (pos 0))) ≡ side_at p at a i
+  side_by other = sym (side-residual p.columns at (outside_row p at a i) other p.rows) ∙ outside_by p at a i outside
+
+  pub far_side : (side : Side) → IsFarOn side least r → side ≡ side_at p at a i
+  far_side Up away =
+      let above : ¬ (r ≤ℚ whole (pos 0)) = λ h. some (≤ℚ_trans least r (whole (pos 0)) away h) in
+      sym (ap side_of ((cmp_ℚ-Greater r (whole (pos 0))).1 above)) ∙ side_by (λ e. above (subst (λ z. z ≤ℚ whole (pos 0)) (sym e) (≤ℚ_refl (whole (pos 0)))))
+  far_side Down away =
+      let below : ¬ (whole (pos 0) ≤ℚ r) =
+      λ h. some (≤ℚ_trans least (neg_ℚ r) (whole (pos 0)) away (le_by (whole (pos 0)) r (neg_ℚ r) (whole (pos 0)) h (ring_ℚ (r ∷ []) (v0 ⊟ number (pos 0)) (number (pos 0) ⊟ negated v0) refl))) in
+      not_greater (cmp_ℚ r (whole (pos 0))) ((cmp_ℚ-not_Greater r (whole (pos 0))).1 (not_above r below)) ∙ side_by (λ e. below (subst (λ z. whole (pos 0) ≤ℚ z) (sym e) (≤ℚ_refl (whole (pos 0)))))
+  far_side Basic away = absurd away
+
+-- twice the reach less what all rows can have moved
+pub reach_left : (reach : ℕ) (d : ℤ) (moves : ℚ) → moves ≤ℚ share (pos reach) d → (moves +ℚ share (pos reach) d) ≤ℚ share (pos (2 * reach)) d
+reach_left reach d moves h =
+    let twice : 2 * reach ≡ reach + reach = omega arith in
+    subst (λ z. (moves +ℚ share (pos reach) d) ≤ℚ z)
+    (share-add (pos reach) (pos reach) d ∙ ap (λ z. z *ℚ inverse (whole d)) (sym (whole-add (pos reach) (pos reach)) ∙ ap (λ n. whole (pos n)) (sym twice)))
+    (le_by moves (share (pos reach) d) (moves +ℚ share (pos reach) d) (share (pos reach) d +ℚ share (pos reach) d) h
+    (ring_ℚ (moves ∷ share (pos reach) d ∷ []) (v1 ⊟ v0) ((v1 ⊞ v1) ⊟ (v0 ⊞ v1)) refl))

@@ -1,0 +1,11 @@
+use Rattle.std.proofs.Common.{◌≤◌, ◌-◌}
+use Rattle.whole_solution.proofs.near.reach_of.Given as goal
+
+abbrev pub invariant-loop-low : goal.invariant-loop-low
+invariant-loop-low l = record {
+  order : l.low ≤ l.high;
+  most : l.high ≤ 125;
+}
+
+abbrev pub decreases-loop-low : goal.decreases-loop-low
+decreases-loop-low l = l.high - l.low
