@@ -1,4 +1,6 @@
 mod Lists
 mod Borders
+mod GreedyRows
 mod Steps
 mod Symmetry
+mod Zeros

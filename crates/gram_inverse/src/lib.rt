@@ -1,10 +1,11 @@
 //! The inverse of the Gram matrix of the weighted columns of a problem, in fractions of any size.
 //!
 //! The one contract: `GramInverse::new` gives the inverse for a problem of data rows and independent columns
-//! (`specs/Inverses.antt`), and is refused only where no memory is found. Column by column it takes the orthogonal vector of
-//! the column, by which the inverse of the columns before it grows (Gram-Schmidt under the Gram matrix). A weighted column
-//! and the inner product of two lists stand beside it, since scores of columns are made of them. The crate stands on
-//! `ratio`, on the Gram matrix of `rank_law` and on the weighted entries of `gram_matrix`.
+//! (`specs/Inverses.antt`), and is refused only where no memory is found. It is made in fractions of limited size first, and
+//! where these overflow in fractions of any size: column by column that takes the orthogonal vector of the column, by which
+//! the inverse of the columns before it grows (Gram-Schmidt under the Gram matrix). A weighted column and the inner product
+//! of two lists stand beside it, since scores of columns are made of them. The crate stands on `ratio`, on the Gram matrix of
+//! `rank_law` and `gram_matrix`, and on the greedy start of `basis_inverse`.
 //! Its tests stand in the crate `derived_tests`.
 //!
 //! `nested_test` calls it so:
@@ -19,6 +20,7 @@
 
 mod columns;
 mod inverse;
+mod narrow;
 mod product;
 mod rows;
 

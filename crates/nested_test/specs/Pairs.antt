@@ -1,6 +1,6 @@
--- Inner. Sums over pairs of tested columns, and what is known while they are added.
+-- Inner. Sums over pairs of tested columns.
 use Rattle.std.specs.Prelude.{◌≡◌, ℕ, ◌<◌, All, length, slice_index}
-use Rattle.exact_algebra.specs.Rational.{ℚ, ◌+ℚ◌, ◌*ℚ◌}
+use Rattle.exact_algebra.specs.Rational.{ℚ, ◌*ℚ◌}
 use Rattle.exact_algebra.specs.RationalSums.{sum_ℚ}
 use Rattle.loss_model.specs.Problem.{value_at}
 use Rattle.basis_inverse.specs.Square.{entries}
@@ -11,10 +11,6 @@ module _ (at : ℕ → ℕ) (n : ℕ) (a : ℕ → ℕ → ℚ) (score : ℕ →
   -- the term of a pair: the first score times the entry, times the second score
   abbrev pub pair : ℕ → ℕ → ℚ
   pair j m = (score j *ℚ a (at j) (at m)) *ℚ score m
-
-  -- the sum of the pairs before this one; the first of a pair is outermost
-  abbrev pub pairs_before : ℕ → ℕ → ℚ
-  pairs_before j m = sum_ℚ j (λ i. sum_ℚ n (pair i)) +ℚ sum_ℚ m (pair j)
 
   -- that of all pairs
   abbrev pub pairs : ℚ
@@ -30,8 +26,8 @@ module _ (p : Pairs) where
   abbrev pub pair_of : ℕ → ℕ → ℚ
   pair_of = pair (slice_index p.tested.now) (length p.tested.now) (entries (λ x. x) p.inverse.now) (value_at (λ x. x) p.scores.now)
 
-  abbrev pub sum_before : ℕ → ℕ → ℚ
-  sum_before = pairs_before (slice_index p.tested.now) (length p.tested.now) (entries (λ x. x) p.inverse.now) (value_at (λ x. x) p.scores.now)
+  abbrev pub sum_of_row : ℕ → ℚ
+  sum_of_row j = sum_ℚ (length p.tested.now) (pair_of j)
 
   abbrev pub sum_of_all : ℚ
   sum_of_all = pairs (slice_index p.tested.now) (length p.tested.now) (entries (λ x. x) p.inverse.now) (value_at (λ x. x) p.scores.now)

@@ -6,14 +6,14 @@ ghost use Rattle.loss_model.specs.Dual.{IsDataRow};
 ghost use Rattle.loss_model.specs.FullRank.{HasFullRank};
 ghost use Rattle.loss_model.specs.Problem.{value_at, sample, IsWellShaped};
 ghost use Rattle.nested_test.specs.Nested.{column_score, AreScores, IsNestedStatistic};
-ghost use Rattle.nested_test.specs.Pairs.{pair_of, sum_before, sum_of_all, ArePairs};
+ghost use Rattle.nested_test.specs.Pairs.{pair_of, sum_of_row, sum_of_all, ArePairs};
 ghost use Rattle.nested_test.specs.Restricted.{AreTested};
 
 use crate::scores::scores;
 use frac_core::{Exact, List, OutOfMemory};
 use gram_inverse::GramInverse;
 use loss_model::Problem;
-use ratio::Ratio;
+use ratio::{Ratio, sum};
 use std::alloc::Global;
 
 /// The scores of the tested columns, in their order, and the statistic.
@@ -70,28 +70,30 @@ impl<'a> Pairs<'a> {
         requires { ArePairs self.now }
         ensures { IfOk result (λ z. rational z ≡ whole (pos 12) *ℚ sum_of_all self.now) }
     {
-        let mut sum = Ratio::zero(alloc)?;
+        let mut sums = List::new(alloc);
         for j in 0..self.tested.len() {
-            sum = self.plus_row(alloc, sum, j)?;
+            let row = self.row(alloc, j)?;
+            sums.add(row)?;
         }
+        let all = sum(alloc, sums.as_slice())?;
         let twelve = Ratio::whole(alloc, 12)?;
-        let statistic = twelve.mul(alloc, &sum)?;
+        let statistic = twelve.mul(alloc, &all)?;
         Ok(statistic)
     }
 
-    // The sum of the pairs before those of a first column, and of these.
-    fn plus_row(&self, alloc: Global, before: Ratio, j: usize) -> Result<Ratio, OutOfMemory>
+    // The sum of the pairs of a first column. It is added by halves, since its numbers may be long.
+    fn row(&self, alloc: Global, j: usize) -> Result<Ratio, OutOfMemory>
         requires pairs { ArePairs self.now }
         requires within { j < length self.now.tested.now }
-        requires before { rational before ≡ sum_before self.now j 0 }
-        ensures { IfOk result (λ z. rational z ≡ sum_before self.now j (length self.now.tested.now)) }
+        ensures { IfOk result (λ z. rational z ≡ sum_of_row self.now j) }
     {
-        let mut sum = before;
+        let mut terms = List::new(alloc);
         for m in 0..self.tested.len() {
             let term = self.pair(alloc, j, m)?;
-            sum = sum.add(alloc, &term)?;
+            terms.add(term)?;
         }
-        Ok(sum)
+        let row = sum(alloc, terms.as_slice())?;
+        Ok(row)
     }
 
     // The term of a pair: the first score times the entry of the inverse, times the second score.

@@ -1,4 +1,4 @@
--- Areas below the rankscore of a row, one segment after another, and the place of a row.
+-- Cross products of the rankscore of a row, one segment after another, and the place of a row.
 use Rattle.std.proofs.Common.{◌≡◌, ◌<◌, ◌≤◌, ◌+◌, ◌-◌, ℕ, zero, suc, Bool, true, false, nat_lt, MatchResult, List, Option, None, Some, Contains, Result, Ok, Err, IfSome, IsOk, get_or, length, slice_get, pos, arith, refl, sym, ap, ap₂, subst, ◌∙◌, []}
 use Rattle.std.specs.List.Sorted.{IsBinarySearchResult, IsStrictlyIncreasing}
 use Rattle.std.specs.Ordering.{nat_cmp}
@@ -17,8 +17,8 @@ use Rattle.loss_model.specs.Dual.{rankscore}
 use Rattle.loss_model.specs.Problem.{sample}
 use Rattle.loss_model.specs.Segment.{dual_at, segments_of}
 use Rattle.loss_model.proofs.Vertices.{ascending}
-use Rattle.rankscores.specs.Rows.{area_to, run_length, segment_area, IsIntegrable}
-use Rattle.rankscores.specs.Trapezoids.{score_area, trapezoid}
+use Rattle.rankscores.specs.Scores.{score}
+use Rattle.rankscores.specs.Rows.{cross, cross_to, run_length, score_cross, segment_cross, IsIntegrable}
 
 module _ {F : Type 0} (value : F → Fraction) (p : Problem F) (segments : List (Segment F)) (i : ℕ) where
   -- a number of a segment, if there is one
@@ -39,16 +39,20 @@ module _ {F : Type 0} (value : F → Fraction) (p : Problem F) (segments : List 
 
   -- the terms of the first j segments and the run that is open, whose end is that of the last of them
   pub record AreTo (j : ℕ) (t : ℚ) (run : Option F) (end : F) : Type 0 where
-    pub area : t +ℚ run_length value run end ≡ area_to value p segments i j
+    pub crossed : t +ℚ run_length value run end ≡ cross_to value p segments i j
     pub ended : 0 < j → rational (value end) ≡ (segments_of value p segments).hi (j - 1)
     pub none : j ≡ 0 → run ≡ None
 
-  pub areas_none : (t : ℚ) (end : F) → t ≡ whole (pos 0) → AreTo 0 t None end
-  areas_none t end e = record { area = ap (λ z. z +ℚ whole (pos 0)) e ∙ ring_ℚ [] (number (pos 0) ⊞ number (pos 0)) (number (pos 0)) refl; ended = λ l. absurd (omega (arith, l)); none = λ z. refl }
+  pub crosses_none : (t : ℚ) (end : F) → t ≡ whole (pos 0) → AreTo 0 t None end
+  crosses_none t end e = record { crossed = ap (λ z. z +ℚ whole (pos 0)) e ∙ ring_ℚ [] (number (pos 0) ⊞ number (pos 0)) (number (pos 0)) refl; ended = λ l. absurd (omega (arith, l)); none = λ z. refl }
 
   module _ (j : ℕ) (s : Segment F) (there : slice_get segments j ≡ Some s) where
-    area_is : score_area (sample value p) (segments_of value p segments) i j ≡ segment_area value p s i
-    area_is = ap (λ o. trapezoid (low o) (high o) (low_score o) (high_score o)) there
+    cross_is : score_cross (sample value p) (segments_of value p segments) i j ≡ segment_cross value p s i
+    cross_is = ap (λ o. cross (low o) (high o) (low_score o) (high_score o)) there
+
+    -- the score at the end of the segment
+    pub score_there : score value p s.vertex s.basic_hi s.hi i ≡ rankscore (sample value p) ((segments_of value p segments).hi j) ((segments_of value p segments).at_hi j) i
+    score_there = sym (ap high_score there)
 
     -- an open run ends where the next segment begins
     pub run_joined : (t : ℚ) (run : Option F) (end : F) → j < length segments → IsIntegrable value p segments i → AreTo j t run end → IfSome run (λ _. rational (value end) ≡ rational (value s.lo))
@@ -60,11 +64,11 @@ module _ {F : Type 0} (value : F → Fraction) (p : Problem F) (segments : List 
         by (suc k) e =
             let some : 0 < j = omega arith in
             let f : j - 1 + 1 ≡ j = omega arith in
-            h.ended some ∙ ok.joined (j - 1) (omega arith) ∙ ap (segments_of value p segments).lo f ∙ ap low there
+            h.ended some ∙ ok.covers.joined (j - 1) (omega arith) ∙ ap (segments_of value p segments).lo f ∙ ap low there
 
-    pub area_more : (t u : ℚ) (run next : Option F) (end : F) → AreTo j t run end → u +ℚ run_length value next s.hi ≡ (t +ℚ run_length value run end) +ℚ segment_area value p s i → AreTo (j + 1) u next s.hi
-    area_more t u run next end h e = record {
-      area = e ∙ ap₂ (λ a b. a +ℚ b) h.area (sym area_is) ∙ sym (sum_ℚ-next j (score_area (sample value p) (segments_of value p segments) i));
+    pub cross_more : (t u : ℚ) (run next : Option F) (end : F) → AreTo j t run end → u +ℚ run_length value next s.hi ≡ (t +ℚ run_length value run end) +ℚ segment_cross value p s i → AreTo (j + 1) u next s.hi
+    cross_more t u run next end h e = record {
+      crossed = e ∙ ap₂ (λ a b. a +ℚ b) h.crossed (sym cross_is) ∙ sym (sum_ℚ-next j (score_cross (sample value p) (segments_of value p segments) i));
       ended = λ l. let f : j ≡ j + 1 - 1 = omega arith in sym (ap high there) ∙ ap (segments_of value p segments).hi f;
       none = λ z. absurd (omega (arith, z));
     }

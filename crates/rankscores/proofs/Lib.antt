@@ -3,5 +3,7 @@ pub mod Halving
 pub mod Integrals
 pub mod Rankscores
 pub mod Runs
+pub mod Stretches
+pub mod Surveyed
 pub mod WilcoxonLaws
 pub mod Wilcoxons

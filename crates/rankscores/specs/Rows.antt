@@ -1,25 +1,45 @@
--- Inner. The area below the rankscore of a row along segments of the program, and what is needed of the row and of the
--- segments for its integral.
-use Rattle.std.specs.Prelude.{◌≡◌, ℕ, ◌+◌, ◌<◌, List, Option, All, length, pos}
+-- Inner. The area below the rankscore of a row along segments of the program, the cross products that it is added up from, and
+-- what is needed of the row and of the segments for its integral.
+use Rattle.std.specs.Prelude.{◌≡◌, ◌≢◌, ℕ, ◌-◌, ◌<◌, List, Option, All, length, pos}
 use Rattle.std.specs.Option.{option_map_or}
-use Rattle.exact_algebra.specs.Rational.{ℚ, ◌-ℚ◌, whole}
+use Rattle.exact_algebra.specs.Rational.{ℚ, ◌+ℚ◌, ◌-ℚ◌, ◌*ℚ◌, inverse, whole}
 use Rattle.exact_algebra.specs.RationalSums.{sum_ℚ}
 use Rattle.exact_algebra.specs.Fraction.{Fraction, rational}
 use Rattle.loss_model.specs.declared.problem.Problem.{Problem}
 use Rattle.loss_model.specs.declared.process.Segment.{Segment}
-use Rattle.loss_model.specs.Dual.{IsDataRow}
+use Rattle.loss_model.specs.Dual.{rankscore, IsDataRow}
 use Rattle.loss_model.specs.Problem.{sample}
-use Rattle.loss_model.specs.Segment.{segments_of}
+use Rattle.loss_model.specs.Sample.{Sample}
+use Rattle.loss_model.specs.Segment.{Covers, Segments, segments_of}
+use Rattle.rankscores.specs.declared.score.Stretch.{Stretch}
 use Rattle.rankscores.specs.Scores.{score, IsScorable}
-use Rattle.rankscores.specs.Trapezoids.{score_area, trapezoid}
+use Rattle.rankscores.specs.Trapezoids.{score_area}
+
+-- the cross product of the points (lo, a) and (hi, b): twice the area of the triangle between them and the origin
+abbrev pub cross : ℚ → ℚ → ℚ → ℚ → ℚ
+cross lo hi a b = (hi *ℚ a) -ℚ (lo *ℚ b)
+
+-- that of the rankscores of row i at both ends of segment j
+abbrev pub score_cross : Sample → Segments → ℕ → ℕ → ℚ
+score_cross p s i j =
+    cross (s.lo j) (s.hi j) (rankscore p (s.lo j) (s.at_lo j) i) (rankscore p (s.hi j) (s.at_hi j) i)
 
 module _ {F : Type 0} (value : F → Fraction) (p : Problem F) where
-  -- the area below the rankscore of row i along a segment
-  abbrev pub segment_area : Segment F → ℕ → ℚ
-  segment_area s i =
-      trapezoid (rational (value s.lo)) (rational (value s.hi)) (score value p s.vertex s.basic_lo s.lo i) (score value p s.vertex s.basic_hi s.hi i)
+  -- that of a segment of the program
+  abbrev pub segment_cross : Segment F → ℕ → ℚ
+  segment_cross s i =
+      cross (rational (value s.lo)) (rational (value s.hi)) (score value p s.vertex s.basic_lo s.lo i) (score value p s.vertex s.basic_hi s.hi i)
 
-  -- that along the first n segments
+  -- those of the first n segments, added
+  abbrev pub cross_to : List (Segment F) → ℕ → ℕ → ℚ
+  cross_to segments i n = sum_ℚ n (score_cross (sample value p) (segments_of value p segments) i)
+
+  -- the rankscore at the end of the last segment
+  abbrev pub last_score : List (Segment F) → ℕ → ℚ
+  last_score segments i =
+      let s = segments_of value p segments in rankscore (sample value p) (s.hi (s.count - 1)) (s.at_hi (s.count - 1)) i
+
+  -- the area below the rankscore of row i along the first n segments
   abbrev pub area_to : List (Segment F) → ℕ → ℕ → ℚ
   area_to segments i n = sum_ℚ n (score_area (sample value p) (segments_of value p segments) i)
 
@@ -27,9 +47,23 @@ module _ {F : Type 0} (value : F → Fraction) (p : Problem F) where
 abbrev pub run_length : {F : Type 0} → (F → Fraction) → Option F → F → ℚ
 run_length value run end = option_map_or (λ s. rational (value end) -ℚ rational (value s)) run (whole (pos 0))
 
--- one of the rows, which are data rows, and segments that can be scored, each of which begins where the one before ends
+-- the cross product of a basic row, by its dual values and its weight
+abbrev pub stretch_cross : {F : Type 0} → (F → Fraction) → Stretch F → ℚ
+stretch_cross value e =
+    (((rational (value e.hi) *ℚ rational (value e.at_lo)) -ℚ (rational (value e.lo) *ℚ rational (value e.at_hi))) *ℚ inverse (rational (value e.weight)))
+    +ℚ (rational (value e.hi) -ℚ rational (value e.lo))
+
+-- e is basic row i along a segment: its dual values over its weight make its scores at both ends
+pub record IsStretch {F : Type 0} (value : F → Fraction) (p : Problem F) (s : Segment F) (i : ℕ) (e : Stretch F) : Type 0 where
+  pub weighted : rational (value e.weight) ≢ whole (pos 0)
+  pub lo : e.lo ≡ s.lo
+  pub hi : e.hi ≡ s.hi
+  pub at_lo : ((rational (value e.at_lo) *ℚ inverse (rational (value e.weight))) +ℚ whole (pos 1)) -ℚ rational (value s.lo) ≡ score value p s.vertex s.basic_lo s.lo i
+  pub at_hi : ((rational (value e.at_hi) *ℚ inverse (rational (value e.weight))) +ℚ whole (pos 1)) -ℚ rational (value s.hi) ≡ score value p s.vertex s.basic_hi s.hi i
+
+-- one of the rows, which are data rows, and segments that can be scored and cover 0 to 1
 pub record IsIntegrable {F : Type 0} (value : F → Fraction) (p : Problem F) (segments : List (Segment F)) (i : ℕ) : Type 0 where
   pub inside : i < length p.rows
   pub data_rows : (i : ℕ) → i < length p.rows → IsDataRow (sample value p) i
   pub scorable : All (IsScorable p) segments
-  pub joined : (j : ℕ) → j + 1 < length segments → (segments_of value p segments).hi j ≡ (segments_of value p segments).lo (j + 1)
+  pub covers : Covers (length p.rows) (whole (pos 0)) (whole (pos 1)) (segments_of value p segments)

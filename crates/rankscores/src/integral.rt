@@ -1,20 +1,25 @@
 //! Areas below rankscores over many segments, and the Wilcoxon scores.
 //!
-//! Along a run of segments at which a row lies above the fit, its rankscore is 1, and the area is the
-//! run's length: one term, however many segments. So the terms of a row are those at which it is
-//! basic, and one for each run.
-ghost use Rattle.std.specs.Prelude.{◌≡◌, ℕ, ◌<◌, ◌≤◌, ◌++◌, ◌∷◌, [], All, Some, None, IfOk, IfSome, MatchOption, OnOk, length, slice_get, pos};
+//! The rankscore of a row goes from point to point in straight lines and has no jump, so twice the area
+//! below it is the sum of the cross products of neighbouring points, plus the rankscore at 1 (the
+//! surveyor's formula). A cross product has the denominators of two points once, where the area of a
+//! trapezoid has them twice, so most fit in fractions of limited size.
+//!
+//! Along a run of segments at which a row lies above the fit, its rankscore is 1, and the cross products
+//! add up to the run's length: one term, however many segments. Below the fit they are 0. So the terms
+//! of a row are those at which it is basic, and one for each run.
+ghost use Rattle.std.specs.Prelude.{◌≡◌, ℕ, ◌<◌, ◌≤◌, ◌++◌, ◌∷◌, [], All, Some, None, IfOk, IfSome, MatchOption, OnOk, length, slice_get, pos, negsuc};
 ghost use Rattle.exact_algebra.specs.Fraction.{rational};
 ghost use Rattle.exact_algebra.specs.Rational.{◌+ℚ◌, ◌-ℚ◌, whole};
 ghost use Rattle.loss_model.specs.Dual.{IsDataRow};
 ghost use Rattle.loss_model.specs.Problem.{sample};
 ghost use Rattle.loss_model.specs.Segment.{Covers, segments_of};
 ghost use Rattle.ratio.specs.Sums.{total};
-ghost use Rattle.rankscores.specs.Rows.{area_to, run_length, segment_area, IsIntegrable};
-ghost use Rattle.rankscores.specs.Scores.{IsScorable};
+ghost use Rattle.rankscores.specs.Rows.{area_to, cross_to, last_score, run_length, segment_cross, IsIntegrable};
+ghost use Rattle.rankscores.specs.Scores.{score, IsScorable};
 ghost use Rattle.rankscores.specs.Wilcoxon.{half as half_of, AreWilcoxon};
 
-use crate::score::{basic_area, gap};
+use crate::score::{basic_cross, basic_score, gap, halved};
 use frac_core::{Exact, List, OutOfMemory};
 use loss_model::laws::rankscores_outside;
 use loss_model::{Problem, Process, Segment, Side};
@@ -54,11 +59,11 @@ fn side_of<F>(segment: &Segment<F>, row: u32) -> Side
     segment.vertex.sides.as_slice()[row as usize]
 }
 
-// One area more.
-fn put(areas: &mut List<Ratio>, area: Ratio) -> Result<(), OutOfMemory>
-    ensures { OnOk result (total areas.new ≡ total areas.old +ℚ rational area) }
+// One term more.
+fn put(terms: &mut List<Ratio>, term: Ratio) -> Result<(), OutOfMemory>
+    ensures { OnOk result (total terms.new ≡ total terms.old +ℚ rational term) }
 {
-    areas.add(area)?;
+    terms.add(term)?;
     Ok(())
 }
 
@@ -75,30 +80,30 @@ fn begun<F: Exact>(run: Option<F>, lo: F) -> Option<F>
 // Puts the length of a run that ends, if there is one.
 fn close<F: Exact>(
     alloc: Global,
-    areas: &mut List<Ratio>,
+    terms: &mut List<Ratio>,
     run: Option<F>,
     end: F,
 ) -> Result<(), OutOfMemory>
-    ensures { OnOk result (total areas.new ≡ total areas.old +ℚ run_length F.value run end) }
+    ensures { OnOk result (total terms.new ≡ total terms.old +ℚ run_length F.value run end) }
 {
     match run {
         None => Ok(()),
         Some(start) => {
             let length = gap(alloc, start, end)?;
-            put(areas, length)?;
+            put(terms, length)?;
             Ok(())
         }
     }
 }
 
-// Puts the area of a segment at which the row is basic, or adds the segment to the run; and gives the
-// run that is open.
-fn plus_area<F: Exact>(
+// Puts the cross product of a segment at which the row is basic, or adds the segment to the run; and
+// gives the run that is open.
+fn plus_cross<F: Exact>(
     alloc: Global,
     problem: &Problem<F>,
     segment: &Segment<F>,
     row: u32,
-    areas: &mut List<Ratio>,
+    terms: &mut List<Ratio>,
     run: Option<F>,
     end: F,
 ) -> Result<Option<F>, OutOfMemory>
@@ -106,44 +111,92 @@ fn plus_area<F: Exact>(
     requires inside { row < length problem.now.rows }
     requires data { (i : ℕ) → i < length problem.now.rows → IsDataRow (sample F.value problem.now) i }
     requires joined { IfSome run (λ _. rational (F.value end) ≡ rational (F.value segment.now.lo)) }
-    ensures { IfOk result (λ next. total areas.new +ℚ run_length F.value next segment.now.hi
-        ≡ (total areas.old +ℚ run_length F.value run end) +ℚ segment_area F.value problem.now segment.now row) }
+    ensures { IfOk result (λ next. total terms.new +ℚ run_length F.value next segment.now.hi
+        ≡ (total terms.old +ℚ run_length F.value run end) +ℚ segment_cross F.value problem.now segment.now row) }
 {
     rankscores_outside(problem, &segment.vertex);
     match side_of(segment, row) {
         Side::Up => Ok(begun(run, segment.lo)),
         Side::Down => {
-            close(alloc, areas, run, end)?;
+            close(alloc, terms, run, end)?;
             Ok(None)
         }
         Side::Basic => {
-            close(alloc, areas, run, end)?;
-            let area = basic_area(alloc, problem, segment, row)?;
-            put(areas, area)?;
+            close(alloc, terms, run, end)?;
+            let cross = basic_cross(alloc, problem, segment, row)?;
+            put(terms, cross)?;
             Ok(None)
         }
     }
 }
 
-// The areas below the rankscore of a row.
-fn areas<F: Exact>(
+// The cross products of a row.
+fn crosses<F: Exact>(
     alloc: Global,
     problem: &Problem<F>,
     segments: &[Segment<F>],
     row: u32,
 ) -> Result<List<Ratio>, OutOfMemory>
     requires { IsIntegrable F.value problem.now segments.now row }
-    ensures { IfOk result (λ r. total r ≡ area_to F.value problem.now segments.now row (length segments.now)) }
+    ensures { IfOk result (λ r. total r ≡ cross_to F.value problem.now segments.now row (length segments.now)) }
 {
-    let mut areas = List::new(alloc);
+    let mut terms = List::new(alloc);
     let mut run = None;
     let mut end = F::zero();
     for (number, segment) in segments.iter().enumerate() {
-        run = plus_area(alloc, problem, segment, row, &mut areas, run, end)?;
+        run = plus_cross(alloc, problem, segment, row, &mut terms, run, end)?;
         end = segment.hi;
     }
-    close(alloc, &mut areas, run, end)?;
-    Ok(areas)
+    close(alloc, &mut terms, run, end)?;
+    Ok(terms)
+}
+
+// The rankscore of a row at the end of a segment.
+fn high_score<F: Exact>(
+    alloc: Global,
+    problem: &Problem<F>,
+    segment: &Segment<F>,
+    row: u32,
+) -> Result<Ratio, OutOfMemory>
+    requires scorable { IsScorable problem.now segment.now }
+    requires inside { row < length problem.now.rows }
+    requires data { (i : ℕ) → i < length problem.now.rows → IsDataRow (sample F.value problem.now) i }
+    ensures { IfOk result (λ r. rational r ≡ score F.value problem.now segment.now.vertex segment.now.basic_hi segment.now.hi row) }
+{
+    rankscores_outside(problem, &segment.vertex);
+    match side_of(segment, row) {
+        Side::Up => {
+            let one = Ratio::whole(alloc, 1)?;
+            Ok(one)
+        }
+        Side::Down => {
+            let zero = Ratio::zero(alloc)?;
+            Ok(zero)
+        }
+        Side::Basic => {
+            let score = basic_score(alloc, problem, segment, row)?;
+            Ok(score)
+        }
+    }
+}
+
+// Puts the rankscore of a row at 1, less 1.
+fn put_end<F: Exact>(
+    alloc: Global,
+    problem: &Problem<F>,
+    segments: &[Segment<F>],
+    row: u32,
+    terms: &mut List<Ratio>,
+) -> Result<(), OutOfMemory>
+    requires { IsIntegrable F.value problem.now segments.now row }
+    ensures { OnOk result (total terms.new ≡ (total terms.old +ℚ last_score F.value problem.now segments.now row) +ℚ whole (negsuc 0)) }
+{
+    let last = &segments[segments.len() - 1];
+    let score = high_score(alloc, problem, last, row)?;
+    put(terms, score)?;
+    let less = Ratio::whole(alloc, -1)?;
+    put(terms, less)?;
+    Ok(())
 }
 
 // The Wilcoxon score of a row.
@@ -156,9 +209,9 @@ fn wilcoxon_of<F: Exact>(
     requires { IsIntegrable F.value problem.now segments.now row }
     ensures { IfOk result (λ r. rational r ≡ area_to F.value problem.now segments.now row (length segments.now) -ℚ half_of) }
 {
-    let areas = areas(alloc, problem, segments, row)?;
-    let area = sum(alloc, areas.as_slice())?;
-    let half = Ratio::fraction(alloc, 1, 2)?;
-    let score = area.sub(alloc, &half)?;
+    let mut terms = crosses(alloc, problem, segments, row)?;
+    put_end(alloc, problem, segments, row, &mut terms)?;
+    let twice = sum(alloc, terms.as_slice())?;
+    let score = halved(alloc, &twice)?;
     Ok(score)
 }

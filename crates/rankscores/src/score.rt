@@ -1,17 +1,18 @@
-//! The rankscore of a basic row, and the area below it.
-ghost use Rattle.std.specs.Prelude.{◌≡◌, ◌≢◌, ℕ, ◌<◌, All, Contains, IfOk, length, slice_index, pos};
+//! The rankscore of a basic row, and what it adds to the area below it along a segment.
+//!
+//! What a row adds is computed in fractions of limited size, and in fractions of any size where one of
+//! the operations overflows.
+ghost use Rattle.std.specs.Prelude.{◌≡◌, ◌≢◌, ℕ, ◌<◌, Contains, IfOk, IfSome, length, slice_index, pos};
 ghost use Rattle.std.specs.List.Sorted.{IsStrictlyIncreasing};
 ghost use Rattle.exact_algebra.specs.Fraction.{rational};
 ghost use Rattle.exact_algebra.specs.Rational.{◌+ℚ◌, ◌-ℚ◌, ◌*ℚ◌, inverse, whole};
 ghost use Rattle.loss_model.specs.Dual.{IsDataRow};
 ghost use Rattle.loss_model.specs.Problem.{sample};
-ghost use Rattle.loss_model.specs.Vertex.{IsVertexOf};
-ghost use Rattle.rankscores.specs.Rows.{segment_area};
+ghost use Rattle.rankscores.specs.Rows.{segment_cross, stretch_cross, IsStretch};
 ghost use Rattle.rankscores.specs.Scores.{score as score_of, IsScorable};
-ghost use Rattle.rankscores.specs.Trapezoids.{trapezoid as trapezoid_of};
 
 use frac_core::{Exact, OutOfMemory};
-use loss_model::{Problem, Segment, Vertex};
+use loss_model::{Problem, Segment};
 use ratio::Ratio;
 use std::alloc::Global;
 
@@ -66,34 +67,8 @@ fn rankscore<F: Exact>(alloc: Global, dual: F, weight: F, theta: F) -> Result<Ra
     Ok(score)
 }
 
-// The rankscore of a basic row.
-fn score<F: Exact>(
-    alloc: Global,
-    problem: &Problem<F>,
-    vertex: &Vertex<F>,
-    basic: &[F],
-    theta: F,
-    row: u32,
-) -> Result<Ratio, OutOfMemory>
-    requires vertex { IsVertexOf problem.now vertex.now }
-    requires all_inside { All (λ i. i < length problem.now.rows) vertex.now.basis.rows }
-    requires inside { row < length problem.now.rows }
-    requires weighted { (i : ℕ) → i < length problem.now.rows → (sample F.value problem.now).up1 i ≢ whole (pos 0) }
-    requires there { Contains vertex.now.basis.rows row }
-    requires size { length basic.now ≡ length vertex.now.basis.rows }
-    ensures { IfOk result (λ r. rational r ≡ score_of F.value problem.now vertex.now basic.now theta row) }
-{
-    let rows = vertex.basis.rows.as_slice();
-    let place = place_of(rows, row);
-    let dual = basic[place];
-    let all = problem.rows.as_slice();
-    let weight = all[row as usize].up1;
-    let score = rankscore(alloc, dual, weight, theta)?;
-    Ok(score)
-}
-
-// hi - lo
-pub(crate) fn gap<F: Exact>(alloc: Global, lo: F, hi: F) -> Result<Ratio, OutOfMemory>
+// hi - lo, where it isn't narrow
+fn wide_gap<F: Exact>(alloc: Global, lo: F, hi: F) -> Result<Ratio, OutOfMemory>
     ensures { IfOk result (λ r. rational r ≡ rational (F.value hi) -ℚ rational (F.value lo)) }
 {
     let high = Ratio::widen(alloc, hi)?;
@@ -101,8 +76,20 @@ pub(crate) fn gap<F: Exact>(alloc: Global, lo: F, hi: F) -> Result<Ratio, OutOfM
     Ok(gap)
 }
 
+// hi - lo
+pub(crate) fn gap<F: Exact>(alloc: Global, lo: F, hi: F) -> Result<Ratio, OutOfMemory>
+    ensures { IfOk result (λ r. rational r ≡ rational (F.value hi) -ℚ rational (F.value lo)) }
+{
+    let Ok(narrow) = hi.try_sub(lo) else {
+        let gap = wide_gap(alloc, lo, hi)?;
+        return Ok(gap);
+    };
+    let gap = Ratio::widen(alloc, narrow)?;
+    Ok(gap)
+}
+
 // x / 2
-fn halved(alloc: Global, x: &Ratio) -> Result<Ratio, OutOfMemory>
+pub(crate) fn halved(alloc: Global, x: &Ratio) -> Result<Ratio, OutOfMemory>
     ensures { IfOk result (λ r. rational r ≡ rational x.now *ℚ inverse (whole (pos 2))) }
 {
     let two = Ratio::whole(alloc, 2)?;
@@ -110,25 +97,96 @@ fn halved(alloc: Global, x: &Ratio) -> Result<Ratio, OutOfMemory>
     Ok(half)
 }
 
-// The area of a trapezoid between lo and hi whose sides are a and b.
-fn trapezoid<F: Exact>(
-    alloc: Global,
+// A basic row along a segment: both ends of the segment, the dual values of the row there, and its
+// weight.
+#[derive(Clone, Copy)]
+struct Stretch<F> {
     lo: F,
     hi: F,
-    a: &Ratio,
-    b: &Ratio,
-) -> Result<Ratio, OutOfMemory>
-    ensures { IfOk result (λ r. rational r ≡ trapezoid_of (rational (F.value lo)) (rational (F.value hi)) (rational a.now) (rational b.now)) }
-{
-    let sum = a.add(alloc, b)?;
-    let length = gap(alloc, lo, hi)?;
-    let product = length.mul(alloc, &sum)?;
-    let area = halved(alloc, &product)?;
-    Ok(area)
+    at_lo: F,
+    at_hi: F,
+    weight: F,
 }
 
-// The area below the rankscore of a basic row along a segment.
-pub(crate) fn basic_area<F: Exact>(
+fn stretch_of<F: Exact>(problem: &Problem<F>, segment: &Segment<F>, row: u32) -> Stretch<F>
+    requires scorable { IsScorable problem.now segment.now }
+    requires inside { row < length problem.now.rows }
+    requires weighted { (i : ℕ) → i < length problem.now.rows → (sample F.value problem.now).up1 i ≢ whole (pos 0) }
+    requires there { Contains segment.now.vertex.basis.rows row }
+    ensures { IsStretch F.value problem.now segment.now row result }
+{
+    let rows = segment.vertex.basis.rows.as_slice();
+    let place = place_of(rows, row);
+    let low = segment.basic_lo.as_slice();
+    let high = segment.basic_hi.as_slice();
+    let all = problem.rows.as_slice();
+    Stretch {
+        lo: segment.lo,
+        hi: segment.hi,
+        at_lo: low[place],
+        at_hi: high[place],
+        weight: all[row as usize].up1,
+    }
+}
+
+// The cross product of a stretch, where no operation of it overflows.
+fn narrow_cross<F: Exact>(stretch: Stretch<F>) -> Option<F>
+    requires { rational (F.value stretch.weight) ≢ whole (pos 0) }
+    ensures { IfSome result (λ r. rational (F.value r) ≡ stretch_cross F.value stretch) }
+{
+    let rise = stretch.hi.try_mul(stretch.at_lo).ok()?;
+    let fall = stretch.lo.try_mul(stretch.at_hi).ok()?;
+    let turned = rise.try_sub(fall).ok()?;
+    let share = turned.try_div(stretch.weight).ok()?;
+    let length = stretch.hi.try_sub(stretch.lo).ok()?;
+    share.try_add(length).ok()
+}
+
+// x * y
+fn product<F: Exact>(alloc: Global, x: F, y: F) -> Result<Ratio, OutOfMemory>
+    ensures { IfOk result (λ r. rational r ≡ rational (F.value x) *ℚ rational (F.value y)) }
+{
+    let left = Ratio::widen(alloc, x)?;
+    let right = Ratio::widen(alloc, y)?;
+    let product = left.mul(alloc, &right)?;
+    Ok(product)
+}
+
+// hi * at_lo - lo * at_hi
+fn turned<F: Exact>(alloc: Global, stretch: Stretch<F>) -> Result<Ratio, OutOfMemory>
+    ensures { IfOk result (λ r. rational r
+        ≡ (rational (F.value stretch.hi) *ℚ rational (F.value stretch.at_lo)) -ℚ (rational (F.value stretch.lo) *ℚ rational (F.value stretch.at_hi))) }
+{
+    let rise = product(alloc, stretch.hi, stretch.at_lo)?;
+    let fall = product(alloc, stretch.lo, stretch.at_hi)?;
+    let turned = rise.sub(alloc, &fall)?;
+    Ok(turned)
+}
+
+// a / y
+fn over<F: Exact>(alloc: Global, a: &Ratio, y: F) -> Result<Ratio, OutOfMemory>
+    requires { rational (F.value y) ≢ whole (pos 0) }
+    ensures { IfOk result (λ r. rational r ≡ rational a.now *ℚ inverse (rational (F.value y))) }
+{
+    let below = Ratio::widen(alloc, y)?;
+    let share = a.div(alloc, &below)?;
+    Ok(share)
+}
+
+// The cross product of a stretch.
+fn wide_cross<F: Exact>(alloc: Global, stretch: Stretch<F>) -> Result<Ratio, OutOfMemory>
+    requires { rational (F.value stretch.weight) ≢ whole (pos 0) }
+    ensures { IfOk result (λ r. rational r ≡ stretch_cross F.value stretch) }
+{
+    let turned = turned(alloc, stretch)?;
+    let share = over(alloc, &turned, stretch.weight)?;
+    let length = gap(alloc, stretch.lo, stretch.hi)?;
+    let cross = share.add(alloc, &length)?;
+    Ok(cross)
+}
+
+// The cross product of a basic row along a segment.
+pub(crate) fn basic_cross<F: Exact>(
     alloc: Global,
     problem: &Problem<F>,
     segment: &Segment<F>,
@@ -138,12 +196,31 @@ pub(crate) fn basic_area<F: Exact>(
     requires inside { row < length problem.now.rows }
     requires data { (i : ℕ) → i < length problem.now.rows → IsDataRow (sample F.value problem.now) i }
     requires there { Contains segment.now.vertex.basis.rows row }
-    ensures { IfOk result (λ r. rational r ≡ segment_area F.value problem.now segment.now row) }
+    ensures { IfOk result (λ r. rational r ≡ segment_cross F.value problem.now segment.now row) }
 {
-    let low = segment.basic_lo.as_slice();
-    let high = segment.basic_hi.as_slice();
-    let at_lo = score(alloc, problem, &segment.vertex, low, segment.lo, row)?;
-    let at_hi = score(alloc, problem, &segment.vertex, high, segment.hi, row)?;
-    let area = trapezoid(alloc, segment.lo, segment.hi, &at_lo, &at_hi)?;
-    Ok(area)
+    let stretch = stretch_of(problem, segment, row);
+    if let Some(narrow) = narrow_cross(stretch) {
+        let cross = Ratio::widen(alloc, narrow)?;
+        return Ok(cross);
+    }
+    let cross = wide_cross(alloc, stretch)?;
+    Ok(cross)
+}
+
+// The rankscore of a basic row at the end of a segment.
+pub(crate) fn basic_score<F: Exact>(
+    alloc: Global,
+    problem: &Problem<F>,
+    segment: &Segment<F>,
+    row: u32,
+) -> Result<Ratio, OutOfMemory>
+    requires scorable { IsScorable problem.now segment.now }
+    requires inside { row < length problem.now.rows }
+    requires data { (i : ℕ) → i < length problem.now.rows → IsDataRow (sample F.value problem.now) i }
+    requires there { Contains segment.now.vertex.basis.rows row }
+    ensures { IfOk result (λ r. rational r ≡ score_of F.value problem.now segment.now.vertex segment.now.basic_hi segment.now.hi row) }
+{
+    let stretch = stretch_of(problem, segment, row);
+    let score = rankscore(alloc, stretch.at_hi, stretch.weight, stretch.hi)?;
+    Ok(score)
 }

@@ -7,5 +7,5 @@ use Rattle.rankscores.proofs.integral.close.Goals as goal
 
 pub returns-in-None : goal.returns-in-None
 returns-in-None g c =
-    let t = total c.args.areas.now in
+    let t = total c.args.terms.now in
     closed_none t ∙ ap (λ r. t +ℚ run_length g.F.Exact.value r c.args.end) (sym c.in-None.is)

@@ -5,7 +5,7 @@ use Rattle.rankscores.proofs.integral.wilcoxon.Goals as goal
 pub wilcoxon_of-requires-after_bounds : goal.wilcoxon_of-requires-after_bounds
 wilcoxon_of-requires-after_bounds g c κs bounds =
     let within : c.loop-row.row < length c.args.problem.now.rows = omega (arith, c.loop-row-test.true, ap length c.as_slice-row-end.ensures) in
-    rw c.as_slice-segments.ensures (record { inside = within; data_rows = c.requires.data; scorable = c.requires.scorable; joined = c.requires.covers.joined })
+    rw c.as_slice-segments.ensures (record { inside = within; data_rows = c.requires.data; scorable = c.requires.scorable; covers = c.requires.covers })
 
 pub loop-row-preserved : goal.loop-row-preserved
 loop-row-preserved g c =

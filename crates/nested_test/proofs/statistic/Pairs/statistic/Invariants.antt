@@ -1,7 +1,8 @@
 use Rattle.std.proofs.Common.{◌≡◌}
-use Rattle.exact_algebra.specs.Fraction.{rational}
-use Rattle.nested_test.specs.Pairs.{sum_before}
+use Rattle.exact_algebra.specs.RationalSums.{sum_ℚ}
+use Rattle.ratio.specs.Sums.{total}
+use Rattle.nested_test.specs.Pairs.{sum_of_row}
 use Rattle.nested_test.proofs.statistic.Pairs.statistic.Given as goal
 
 abbrev pub invariant-loop-j : goal.invariant-loop-j
-invariant-loop-j l = rational l.sum ≡ sum_before l.self l.j 0
+invariant-loop-j l = total l.sums ≡ sum_ℚ l.j (sum_of_row l.self)
