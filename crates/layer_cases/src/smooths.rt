@@ -101,6 +101,20 @@ pub(crate) fn tell_columns(told: &mut Told, shared: &str, asked: &str) {
     tell_added(told, added);
 }
 
+/// How many penalty rows they have.
+pub(crate) fn tell_size(told: &mut Told, shared: &str, asked: &str) {
+    let Some(input) = input_of(told.alloc(), shared, asked) else {
+        return told.put("no design");
+    };
+    let added = qss_rows(told.alloc(), &input.frame, &input.design, &input.model);
+    drop(input);
+    match &added {
+        Ok(smoothing) => told.put_count(smoothing.rows.as_slice().len()),
+        Err(fault) => tell_fault(told, fault),
+    }
+    drop(added);
+}
+
 // The knots of the first smooth.
 fn tell_first(told: &mut Told, input: &Input) {
     let Some(smooth) = input.model.smooths.as_slice().first() else {
