@@ -18,7 +18,7 @@ use Rattle.pivot_bound.proofs.Bounds.{interval_within}
 use Rattle.stop_laws.specs.NeededStops.{IsNeeded}
 use Rattle.stop_laws.proofs.Needed.{below, dependent, solve_full}
 use Rattle.rank_inversion.specs.Stops.{IsIntervalStop}
-use Rattle.interval_laws.proofs.Spilled.{of_interval}
+use Rattle.stop_laws.proofs.IntervalsSpilled.{of_interval}
 
 module _ {F : Type 0} (value : F → Fraction) (range : ℕ) (p : Problem F) (j : ℕ) (tau crit : ℚ) (limit : ℕ) where
   pub interval_needed : (stop : Stop F) → HasCosts (sample value p) tau → j < p.columns → IsIntervalStop value range p j tau crit limit stop → IsNeeded value range p (3 * further_bases (sample value p)) stop
