@@ -1,7 +1,7 @@
 #!/bin/sh
 # Times the rank intervals of all columns at the median in whole numbers alone, in seconds of a processor, by the program beside this script over
 # the libraries of a gate.
-# The proofs that it needs are those of the same functions in the tests of intervals. Where R and its package quantreg stand on the
+# The proofs that it needs are those of the same functions in `test_kit`. Where R and its package quantreg stand on the
 # machine, `rq.fit.br(ci = TRUE)` has the same tables in the same run. See README.md.
 #
 # usage: walks.sh [FOLDER]    FOLDER keeps the program
@@ -10,10 +10,7 @@ here=$(cd "$(dirname "$0")" && pwd)
 work=${1:-$(mktemp -d)}
 mkdir -p "$work/src"
 cp "$here/intervals_bench.txt" "$work/src/main.rt"
-for proof in are_data/Invariants is_data/Answers is_less/Answers is_ordered/Answers; do
-    mkdir -p "$work/proofs/${proof%/*}"
-    sed 's/Rattle.interval_tests.proofs.helpers/Rattle.program.proofs/' "$here/../../crates/interval_tests/proofs/helpers/$proof.antt" >"$work/proofs/$proof.antt"
-done
+"$here/../take_proofs.sh" "$work" problems/are_data/Invariants problems/is_data/Answers numbers/is_less/Answers numbers/is_ordered/Answers
 "$here/../over.sh" "$work" exact_algebra frac_core loss_model rank_inversion anyhow
 uptime
 with_r=$(command -v Rscript >/dev/null && Rscript -e 'quit(status = !requireNamespace("quantreg", quietly = TRUE))' >/dev/null 2>&1 && echo yes || true)

@@ -1,6 +1,6 @@
 #!/bin/sh
 # Times walks over a range, by the program beside this script over the libraries of a gate. The three proofs that it needs are those of
-# the same functions in the solver's tests. Where R and its package quantreg stand on the machine, `rq.fit.br` has the same tables in
+# the same functions in `test_kit`. Where R and its package quantreg stand on the machine, `rq.fit.br` has the same tables in
 # the same run. See README.md.
 #
 # usage: run.sh [FOLDER]    FOLDER keeps the program
@@ -9,7 +9,7 @@ here=$(cd "$(dirname "$0")" && pwd)
 work=${1:-$(mktemp -d)}
 mkdir -p "$work/src"
 cp "$here/process_bench.txt" "$work/src/main.rt"
-"$here/../take_proofs.sh" "$work" has_costs/Invariants is_negative/Answers is_ordered/Answers
+"$here/../take_proofs.sh" "$work" problems/has_costs/Invariants problems/is_negative/Answers numbers/is_ordered/Answers
 "$here/../over.sh" "$work" exact_algebra frac_core loss_model pivot_rule lambda_path whole_inverse tableau_model whole_tableau tableau tau_process anyhow
 uptime
 "$work/program"

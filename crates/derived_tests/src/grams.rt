@@ -3,8 +3,7 @@
 ghost use Rattle.std.specs.Prelude.{◌≡◌, ◌<◌, IfOk, length};
 
 use crate::helpers::{
-    Data, Ratio, Spilt, are_data, expect, expect_pair, expect_spill, expect_text, is_shaped,
-    problem, widened,
+    Data, Ratio, Spilt, expect, expect_pair, expect_spill, expect_text, problem, widened,
 };
 use basis_inverse::start;
 use frac_core::{Exact, Frac64, Frac128, List, OpKind, OutOfMemory};
@@ -13,6 +12,7 @@ use gram_matrix::{gram_problem, scaled_column};
 use loss_model::{Problem, Quantity, Short, Site};
 use std::alloc::Global;
 use std::process::Abort;
+use test_kit::{are_data, is_shaped};
 
 /// Weighted rows: the weighted columns are (1, 2, 3) and (0, 2, 9), with the Gram matrix 14, 31; 31, 85.
 static WEIGHTED: [Data; 3] = [

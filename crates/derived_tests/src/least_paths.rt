@@ -1,11 +1,12 @@
 //! Paths in lambda of 30 small tables, which a script of its own worked by comparing all bases at every lambda.
 
-use crate::helpers::{is_shaped, push};
+use crate::helpers::push;
 use crate::walks::{path, walk};
 use frac_core::{Exact, Frac128, List, read_number};
 use loss_model::{Problem, Row, Segment, loss_at};
 use std::alloc::Global;
 use std::process::Abort;
+use test_kit::is_shaped;
 
 fn number(rt: &impl Abort, text: &str) -> Frac128 {
     read_number(text).ok().expect(rt, "a number in range")

@@ -4,15 +4,14 @@ ghost use Rattle.std.specs.Prelude.{◌≡◌, ◌<◌, All, IsTrue, length};
 ghost use Rattle.std.specs.List.Sorted.{IsStrictlyIncreasing};
 ghost use Rattle.nested_test.specs.Restricted.{AreTested};
 
-use crate::helpers::{
-    Data, Ratio, are_data, expect, expect_pair, expect_text, is_shaped, problem, ratio, widened,
-};
+use crate::helpers::{Data, Ratio, expect, expect_pair, expect_text, problem, widened};
 use basis_inverse::start;
 use frac_core::{Exact, Frac64, Frac128, OutOfMemory};
 use loss_model::Problem;
 use nested_test::{NestedStatistic, nested, restricted};
 use std::alloc::Global;
 use std::process::Abort;
+use test_kit::{are_data, is_shaped, ratio};
 
 /// A table of the specification: a constant, and x of 0, 1 and 3.
 const RISING: &[Data] = &[

@@ -2,14 +2,13 @@
 
 ghost use Rattle.std.specs.Prelude.{◌≤◌};
 
-use crate::helpers::{
-    Data, Ratio, Spilt, expect, expect_spill, fraction, is_shaped, problem, push, ratio,
-};
+use crate::helpers::{Data, Ratio, Spilt, expect, expect_spill, fraction, problem, push};
 use frac_core::{Exact, Frac128, List, OpKind};
 use lambda_path::{PathFault, path_problem};
 use loss_model::{Problem, Quantity, Row, Site};
 use std::alloc::Global;
 use std::process::Abort;
+use test_kit::{is_shaped, ratio};
 
 /// The entries of a row, its response, and its costs: those above the fit, and those below it.
 struct Wanted {

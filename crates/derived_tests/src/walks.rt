@@ -1,67 +1,13 @@
 //! Walks along paths in lambda: the process of a path problem.
 
-ghost use Rattle.std.specs.Prelude.{◌≡◌, ◌<◌, ◌≤◌, length, pos, false, IsTrue};
-ghost use Rattle.exact_algebra.specs.Fraction.{rational};
-ghost use Rattle.exact_algebra.specs.Rational.{◌+ℚ◌, ◌≤ℚ◌, whole};
-ghost use Rattle.loss_model.specs.Sample.{up_cost, down_cost};
-ghost use Rattle.loss_model.specs.Problem.{sample};
-ghost use Rattle.pivot_rule.specs.Duals.{HasCosts, ◌<ℚ◌};
-
-use crate::helpers::{Data, Ratio, expect, fraction, is_shaped, problem, ratio};
+use crate::helpers::{Data, Ratio, expect, fraction, problem};
 use frac_core::{Exact, Frac128};
 use lambda_path::path_problem;
-use loss_model::{Problem, Process, Segment, Stop, down_cost_at, up_cost_at};
+use loss_model::{Problem, Process, Segment, Stop};
 use std::alloc::Global;
 use std::process::Abort;
 use tau_process::process;
-
-fn is_negative<F: Exact>(value: F) -> bool
-    ensures { result ≡ false → whole (pos 0) ≤ℚ rational (F.value value) }
-{
-    if value.sign() < 0 { true } else { false }
-}
-
-// Whether neither cost of a row is negative, and one is positive.
-fn has_cost<F: Exact>(problem: &Problem<F>, row: u32, theta: F) -> bool
-    requires { row < length problem.now.rows }
-    ensures up { IsTrue result → whole (pos 0) ≤ℚ up_cost (sample F.value problem.now) (rational (F.value theta)) row }
-    ensures down { IsTrue result → whole (pos 0) ≤ℚ down_cost (sample F.value problem.now) (rational (F.value theta)) row }
-    ensures some { IsTrue result → whole (pos 0) <ℚ (up_cost (sample F.value problem.now) (rational (F.value theta)) row +ℚ down_cost (sample F.value problem.now) (rational (F.value theta)) row) }
-{
-    let Ok(up) = up_cost_at(problem, row, theta) else {
-        return false;
-    };
-    let Ok(down) = down_cost_at(problem, row, theta) else {
-        return false;
-    };
-    let Ok(sum) = up.try_add(down) else {
-        return false;
-    };
-    if is_negative(up) || is_negative(down) {
-        return false;
-    }
-    sum.sign() > 0
-}
-
-fn has_costs<F: Exact>(problem: &Problem<F>, theta: F) -> bool
-    requires { length problem.now.rows ≤ 16384 }
-    ensures { IsTrue result → HasCosts (sample F.value problem.now) (rational (F.value theta)) }
-{
-    let count = problem.rows.as_slice().len() as u32;
-    for row in 0..count {
-        if !has_cost(problem, row, theta) {
-            return false;
-        }
-    }
-    true
-}
-
-/// Whether a number is at most another.
-fn is_ordered<F: Exact>(lo: F, hi: F) -> bool
-    ensures { IsTrue result → rational (F.value lo) ≤ℚ rational (F.value hi) }
-{
-    if hi.compare(lo).is_lt() { false } else { true }
-}
+use test_kit::{has_costs, is_ordered, is_shaped, ratio};
 
 /// What `process` answers to a problem that meets its conditions.
 pub(crate) fn walk(

@@ -1,9 +1,10 @@
 //! Worked cases of the operations on fractions, at both types through the trait.
 
-use crate::helpers::{Ratio, fraction, ratio};
+use crate::helpers::{Ratio, fraction};
 use frac_core::{Exact, Frac64, Frac128, OpKind};
 use std::cmp::Ordering;
 use std::process::Abort;
+use test_kit::ratio;
 
 fn reduced<F: Exact>(n: i128, d: i128) -> Option<Ratio> {
     Some(ratio(F::from_parts(n, d)?))

@@ -1,6 +1,6 @@
 //! Losses and spills worked by hand.
 
-use crate::helpers::{Ratio, crosses, fraction, is_shaped, list, push, ratio};
+use crate::helpers::{Ratio, crosses, fraction, list, push};
 use frac_core::{Exact, Frac128, List, OpKind};
 use loss_model::{
     Problem, Process, Quantity, Row, Short, Site, Spill, loss_at, minus_at, over_at, plus_at,
@@ -8,6 +8,7 @@ use loss_model::{
 };
 use std::alloc::Global;
 use std::process::Abort;
+use test_kit::{is_shaped, ratio};
 
 /// A row worked by hand: its entries, its response, and the parts of its costs, upwards and then
 /// downwards, each of them constant and then by the quantile.

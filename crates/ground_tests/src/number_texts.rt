@@ -1,9 +1,10 @@
 //! Texts of numbers: what each reads as in both widths, and what is written.
 
-use crate::helpers::{Ratio, fraction, parted, ratio, text_of};
+use crate::helpers::{Ratio, fraction, parted, text_of};
 use frac_core::{Exact, Frac64, Frac128, NumberFault, read_number};
 use std::alloc::Global;
 use std::process::Abort;
+use test_kit::ratio;
 
 const NARROW_MAX: i128 = i64::MAX as i128;
 

@@ -1,6 +1,6 @@
 //! Fractions in 64 bits and back, and problems and answers so.
 
-use crate::helpers::{Ratio, fraction, is_shaped, list, push, ratio};
+use crate::helpers::{Ratio, fraction, list, push};
 use frac_core::{Exact, Frac64, Frac128, List, narrow, widen};
 use loss_model::{
     Basis, Exchange, Problem, Process, Row, Segment, Side, Stop, Trail, Vertex, narrow_problem,
@@ -8,6 +8,7 @@ use loss_model::{
 };
 use std::alloc::Global;
 use std::process::Abort;
+use test_kit::{is_shaped, ratio};
 
 /// The widest number of 64 bits.
 const L: i128 = Frac64::RANGE;

@@ -3,7 +3,7 @@
 ghost use Rattle.std.specs.Prelude.{◌≡◌, ◌<◌, length};
 ghost use Rattle.rank_inversion.specs.GramStops.{IsInverted};
 
-use crate::helpers::{Ratio, are_data, expect, fraction, is_shaped, problem, ratio};
+use crate::helpers::{Ratio, expect, fraction, problem};
 use basis_inverse::Inverse;
 use frac_core::{Exact, Frac64, Frac128};
 use loss_model::Problem;
@@ -11,6 +11,7 @@ use rank_inversion::{Asked, GramInverse, gram_inverse, rank_test};
 use slow_ranks::Data;
 use std::alloc::Global;
 use std::process::Abort;
+use test_kit::{are_data, is_shaped, ratio};
 
 /// Weighted rows: the weighted columns are (1, 2, 3) and (0, 2, 9), with the Gram matrix 14, 31; 31, 85 of
 /// determinant 229.

@@ -1,8 +1,6 @@
 //! Rank intervals as jobs: they enter the gate with their places, and their answers stand in the jobs' order.
 
-use crate::helpers::{
-    Ratio, are_data, fraction, is_less, is_ordered, is_shaped, problem, push, ratio,
-};
+use crate::helpers::{Ratio, fraction, problem, push};
 use frac_core::{Exact, Frac128};
 use loss_model::{Bound, Interval, Problem};
 use rank_inversion::IntervalJob;
@@ -11,6 +9,7 @@ use slow_ranks::Data;
 use std::alloc::Global;
 use std::process::Abort;
 use std::sync::atomic::{AtomicU64, Ordering};
+use test_kit::{are_data, is_less, is_ordered, is_shaped, ratio};
 
 /// A gate that adds up the places that enter, each times itself: no other places have the sum.
 #[derive(Drop)]

@@ -2,14 +2,15 @@
 //! trail.
 
 use crate::helpers::{
-    Question, Ratio, Step, answered, expect, expect_steps, problem, ratio, stopped,
-    stopped_by_parts, whole_numbers_answer,
+    Question, Ratio, Step, answered, expect, expect_steps, problem, stopped, stopped_by_parts,
+    whole_numbers_answer,
 };
 use frac_core::{Exact, Frac64, Frac128, OpKind};
 use loss_model::{Quantity, Site, Stop, Trail};
 use slow_ranks::Data;
 use std::alloc::Global;
 use std::process::Abort;
+use test_kit::ratio;
 
 /// The parts of a trail.
 struct Path {

@@ -5,13 +5,14 @@
 ghost use Rattle.std.specs.Prelude.{◌≡◌, ◌<◌, length};
 ghost use Rattle.rank_inversion.specs.GramStops.{IsInverted};
 
-use crate::helpers::{Question, Ratio, Wide, answered, are_data, is_shaped, ratio, wide_problem};
+use crate::helpers::{Question, Ratio, Wide, answered, wide_problem};
 use basis_inverse::{Inverse, start};
 use frac_core::{Exact, Frac128};
 use loss_model::{Bound, End, Problem, Stop};
 use rank_inversion::{GramInverse, gram_inverse};
 use std::alloc::Global;
 use std::process::Abort;
+use test_kit::{are_data, is_shaped, ratio};
 
 /// An intercept, four columns of numbers below 1,000, and the response.
 static TABLE: [Wide; 32] = [

@@ -1,11 +1,12 @@
 //! Intervals worked by hand, with their trails and all that their ends state.
 
-use crate::helpers::{Question, Ratio, Step, answered, expect, expect_steps, problem, ratio};
+use crate::helpers::{Question, Ratio, Step, answered, expect, expect_steps, problem};
 use frac_core::{Exact, Frac64, Frac128};
 use loss_model::{Beyond, Bound, End, Interval, Side, widen_interval};
 use slow_ranks::Data;
 use std::alloc::Global;
 use std::process::Abort;
+use test_kit::ratio;
 
 /// An end: its value, `None` where it is infinite; the vertex; the dual values inside, and those outside
 /// or the ray.

@@ -15,8 +15,8 @@ use Rattle.pivot_bound.specs.BoundLaws.{further_bases}
 use Rattle.stop_laws.specs.NeededStops.{DoesOverflow}
 use Rattle.stop_laws.proofs.Needed.{below, dependent}
 use Rattle.stop_laws.proofs.Spilled.{of_process, start}
-use Rattle.interval_laws.proofs.Needed.{interval_needed}
-use Rattle.interval_laws.proofs.Spilled.{of_interval}
+use Rattle.stop_laws.proofs.IntervalsNeeded.{interval_needed}
+use Rattle.stop_laws.proofs.IntervalsSpilled.{of_interval}
 use Rattle.pivot_bound.proofs.Bounds.{process_within}
 use Rattle.lambda_path.specs.Laws.{PathHasCosts}
 use Rattle.nested_test.specs.Restricted.{restricted_problem}

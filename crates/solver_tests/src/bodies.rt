@@ -9,13 +9,14 @@ ghost use Rattle.tableau.specs.Bodies.{place_of};
 ghost use Rattle.tableau.specs.Solving.{IsBegun};
 
 use crate::digest::digest_of;
-use crate::helpers::{has_costs, is_ordered, is_shaped, make_problem};
+use crate::helpers::make_problem;
 use crate::least_loss::{OVER, draw_problem};
 use frac_core::{Exact, Frac128};
 use loss_model::{Problem, Process};
 use std::alloc::Global;
 use std::process::Abort;
 use tableau::{Progress, solve_over, walk_range};
+use test_kit::{has_costs, is_ordered, is_shaped};
 use whole_tableau::setting_of;
 
 /// The walk over a range from a start, which no body refuses.

@@ -1,9 +1,9 @@
 //! All numbers of a walk as one.
 
-use crate::helpers::ratio;
 use frac_core::{Exact, Frac128};
 use loss_model::{Process, Segment};
 use std::num::Wrapping;
+use test_kit::ratio;
 
 /// The numbers that were put to it, as the digits of one to the base 31, modulo 2^128.
 #[derive(Clone, Copy)]

@@ -5,12 +5,13 @@
 
 use crate::bodies::in_wholes;
 use crate::digest::digest_of;
-use crate::helpers::{Ratio, draw, expect, fraction, push, ratio, solved, walked};
+use crate::helpers::{Ratio, expect, fraction, push, solved, walked};
 use br_pivot::Solved;
 use frac_core::{Exact, Frac128, List};
 use loss_model::{Problem, Process, Row};
 use std::alloc::Global;
 use std::process::Abort;
+use test_kit::{draw, ratio};
 
 /// A number from 100 to 999.
 fn drawn(rt: &impl Abort, state: &mut u32) -> Frac128 {

@@ -1,6 +1,6 @@
 //! Tests of the solver: inverses of bases (`basis_inverse`), the order of ties (`lex_rule`), basic
-//! solutions (`basic_solution`), pivots at one quantile (`br_pivot`), and walks over a range
-//! (`tau_process`).
+//! solutions (`basic_solution`), pivots at one quantile (`br_pivot`), walks over a range
+//! (`tau_process`), and how many pivots these need (`pivot_bound`).
 //!
 //! Cases worked by hand stand beside drawn ones, which are compared with a plain computation that is
 //! no part of the program.
@@ -20,6 +20,8 @@ mod helpers;
 mod inverses;
 #[cfg(test)]
 mod least_loss;
+#[cfg(test)]
+mod limits;
 #[cfg(test)]
 mod pivots;
 #[cfg(test)]

@@ -1,11 +1,12 @@
 //! Solves worked by hand: a trail of two pivots under each limit, overflows, and dependent columns.
 
-use crate::helpers::{Data, Ratio, expect, fraction, problem, ratio, solved, unsolved};
+use crate::helpers::{Data, Ratio, expect, fraction, problem, solved, unsolved};
 use br_pivot::Solved;
 use frac_core::{Exact, Frac64, Frac128, OpKind};
 use loss_model::{Quantity, Side, Site, Stop, Trail};
 use std::alloc::Global;
 use std::process::Abort;
+use test_kit::ratio;
 
 /// A trail: its start, and the position and the row of each of its steps.
 #[derive(Drop)]

@@ -2,7 +2,7 @@
 //! losses stand beside the least loss over all bases.
 
 use crate::helpers::{
-    Data, Ratio, expect, fraction, make_problem, problem, ratio, unwalked, walked, walked_if_full,
+    Data, Ratio, expect, fraction, make_problem, problem, unwalked, walked, walked_if_full,
 };
 use crate::least_loss::{Fit, Loss, OVER, Small, draw_problem, fit_at};
 use frac_core::{Exact, Frac64, Frac128};
@@ -10,6 +10,7 @@ use loss_model::{Exchange, Problem, Process, Segment, Side, Stop, Trail};
 use std::alloc::Global;
 use std::num::Wrapping;
 use std::process::Abort;
+use test_kit::ratio;
 
 /// Three rows of an intercept and a slope: the responses 0, 2 and 3 at 0, 1 and 3.
 ///

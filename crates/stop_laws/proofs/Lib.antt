@@ -1,2 +1,4 @@
 pub mod Spilled
 pub mod Needed
+pub mod IntervalsSpilled
+pub mod IntervalsNeeded

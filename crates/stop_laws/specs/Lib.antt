@@ -1,1 +1,2 @@
 pub mod NeededStops
+pub mod IntervalStops

@@ -1,2 +1,0 @@
-pub mod Spilled
-pub mod Needed
