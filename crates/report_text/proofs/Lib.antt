@@ -3,3 +3,4 @@ pub mod Duals
 pub mod Marks
 pub mod Numbered
 pub mod ScoreLines
+mod Walks
