@@ -3,4 +3,3 @@ pub mod Duals
 pub mod Marks
 pub mod Numbered
 pub mod ScoreLines
-mod Walks

@@ -1,11 +1,11 @@
-//! The text that a page is to have, for proofs alone: it takes no memory, and its calls do nothing when they run.
-ghost use Rattle.std.specs.Prelude.{◌≡◌, [], ◌++◌, List, ℕ};
+//! The text that a page is to have, for proofs alone: it takes no memory, and nothing is done when it is made.
+ghost use Rattle.std.specs.Prelude.{◌≡◌, List, ℕ};
 ghost use Rattle.std.specs.Borrow.{ftrue};
 
 use ratio::Ratio;
 use std::marker::Model;
 
-/// A text that is told piece by piece. What it has to do with bytes in memory, its holder says.
+/// A text, which clauses read as `text`. What it has to do with bytes in memory, the invariant of its holder says.
 #[derive(Drop)]
 pub(crate) struct GhostText {
     ghost text: { List ℕ },
@@ -15,27 +15,21 @@ impl Model for GhostText {
     ghost also_owns = { λ _. ftrue };
 }
 
-/// What is told at once: bytes, or a fraction of any size, which stands for its text.
+/// What a text is said to be: nothing, or an earlier one and behind it bytes, or a fraction of any size, which stands for its text.
 #[derive(Clone, Copy, Drop)]
-pub(crate) enum Piece<'a> {
-    Bytes(&'a [u8]),
-    Fraction(&'a Ratio),
+pub(crate) enum Said<'a> {
+    Nothing,
+    Bytes(&'a GhostText, &'a [u8]),
+    Fraction(&'a GhostText, &'a Ratio),
 }
 
 impl GhostText {
-    ghost use Rattle.report_text.specs.Pieces.{piece_text};
+    ghost use Rattle.report_text.specs.Said.{said_text};
 
-    /// The empty text.
-    pub(crate) fn new() -> GhostText
-        ensures { result.text ≡ [] }
-    {
-        GhostText {}
-    }
-
-    /// This text, and then a piece.
+    /// The text that is said.
     #[inline(always)]
-    pub(crate) fn and(&self, _piece: &Piece<'_>) -> GhostText
-        ensures { result.text ≡ self.now.text ++ piece_text _piece.now }
+    pub(crate) fn of(_said: &Said<'_>) -> GhostText
+        ensures { result.text ≡ said_text _said.now }
     {
         GhostText {}
     }

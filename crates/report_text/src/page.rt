@@ -4,7 +4,7 @@ ghost use Rattle.frac_core.specs.NumberText.{number_text_of};
 ghost use Rattle.ratio.specs.Text.{ratio_text};
 ghost use Rattle.report_text.specs.Names.{name_bytes, name_byte, hexadecimal};
 
-use crate::ghost_text::{GhostText, Piece};
+use crate::ghost_text::{GhostText, Said};
 use frac_core::{Exact, OutOfMemory, Text};
 use itoa::Buffer;
 use ratio::Ratio;
@@ -18,7 +18,7 @@ pub(crate) struct Page {
     alloc: Global,
     bytes: Vec<u8>,
     is_short: bool,
-    said: GhostText,
+    text: GhostText,
 }
 
 impl Model for Page {
@@ -26,9 +26,9 @@ impl Model for Page {
 
     ghost Value = { List ℕ };
 
-    ghost view = { λ page. page.said.text };
+    ghost view = { λ page. page.text.text };
 
-    ghost invariant = { λ page. page.is_short ≡ false → page.bytes.items ≡ page.said.text };
+    ghost invariant = { λ page. page.is_short ≡ false → page.bytes.items ≡ page.text.text };
 }
 
 impl Page {
@@ -40,7 +40,7 @@ impl Page {
             alloc,
             bytes: Vec::new(alloc),
             is_short: false,
-            said: GhostText::new(),
+            text: GhostText::of(&Said::Nothing),
         }
     }
 
@@ -51,7 +51,7 @@ impl Page {
         if !self.is_short {
             self.is_short = self.bytes.extend_from_slice(bytes).is_err();
         }
-        self.said = self.said.and(&Piece::Bytes(bytes));
+        self.text = GhostText::of(&Said::Bytes(&self.text, bytes));
     }
 
     /// Adds a fraction of any size: its numerator, and after a slash its denominator where that is not 1.
@@ -61,7 +61,7 @@ impl Page {
         if !self.is_short {
             self.is_short = value.write(self.alloc, &mut self.bytes).is_err();
         }
-        self.said = self.said.and(&Piece::Fraction(value));
+        self.text = GhostText::of(&Said::Fraction(&self.text, value));
     }
 
     /// The bytes of the text. It refuses only for memory, where that was wanting for a piece.
