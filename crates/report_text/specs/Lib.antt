@@ -4,3 +4,4 @@ pub mod Marks
 pub mod Names
 pub mod Quantities
 pub mod ReportText
+pub mod Said

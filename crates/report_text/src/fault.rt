@@ -1,5 +1,5 @@
 //! What the line of each fault says: its group, its name and its fields.
-ghost use Rattle.std.specs.Prelude.{◌≡◌, ◌++◌, IfOk, OnOk};
+ghost use Rattle.std.specs.Prelude.{◌≡◌, ◌++◌, IfOk};
 ghost use Rattle.report_text.specs.FaultText.{certificate_line, design_line, formula_line, halt_line, penalty_line, program_line, refusal_line, rejection_line, table_line, usage_line, fault_line as line_of};
 
 use crate::line::Field::{Fraction, Fractions, Length, Name, Number, Place, Position, Spill};
@@ -31,18 +31,18 @@ pub fn fault_line(alloc: Global, fault: &Fault) -> Result<Vec<u8>, OutOfMemory>
 {
     let mut page = Page::new(alloc);
     match fault {
-        Fault::Usage(fault) => page.usage_line(fault)?,
-        Fault::Source => page.put(SOURCE_LINE)?,
-        Fault::Sink => page.put(SINK_LINE)?,
-        Fault::Halt(halt) => page.halt_line(halt)?,
+        Fault::Usage(fault) => page.usage_line(fault),
+        Fault::Source => page.put(SOURCE_LINE),
+        Fault::Sink => page.put(SINK_LINE),
+        Fault::Halt(halt) => page.halt_line(halt),
     }
-    Ok(page.into_bytes())
+    page.finish()
 }
 
 impl Page {
     #[tactic(auto, unfolding(crate::specs::FaultText::usage_line))]
-    fn usage_line(&mut self, fault: &WordFault) -> Result<(), OutOfMemory>
-        ensures { OnOk result (self.new ≡ self.old ++ usage_line fault.now) }
+    fn usage_line(&mut self, fault: &WordFault)
+        ensures { self.new ≡ self.old ++ usage_line fault.now }
     {
         match fault {
             WordFault::NoJob => self.line(b"usage", b"NoJob", &[]),
@@ -62,8 +62,8 @@ impl Page {
     }
 
     #[tactic(auto, unfolding(crate::specs::FaultText::table_line))]
-    fn table_line(&mut self, fault: &TableFault) -> Result<(), OutOfMemory>
-        ensures { OnOk result (self.new ≡ self.old ++ table_line fault.now) }
+    fn table_line(&mut self, fault: &TableFault)
+        ensures { self.new ≡ self.old ++ table_line fault.now }
     {
         match fault {
             TableFault::NoHeader => self.line(b"table", b"NoHeader", &[]),
@@ -94,8 +94,8 @@ impl Page {
     }
 
     #[tactic(auto, unfolding(crate::specs::FaultText::formula_line))]
-    fn formula_line(&mut self, fault: &FormulaFault) -> Result<(), OutOfMemory>
-        ensures { OnOk result (self.new ≡ self.old ++ formula_line fault.now) }
+    fn formula_line(&mut self, fault: &FormulaFault)
+        ensures { self.new ≡ self.old ++ formula_line fault.now }
     {
         match fault {
             FormulaFault::Syntax { offset } => {
@@ -121,8 +121,8 @@ impl Page {
     }
 
     #[tactic(auto, unfolding(crate::specs::FaultText::design_line))]
-    fn design_line(&mut self, fault: &DesignFault) -> Result<(), OutOfMemory>
-        ensures { OnOk result (self.new ≡ self.old ++ design_line fault.now) }
+    fn design_line(&mut self, fault: &DesignFault)
+        ensures { self.new ≡ self.old ++ design_line fault.now }
     {
         match fault {
             DesignFault::UnknownWeights => self.line(b"design", b"UnknownWeights", &[]),
@@ -160,8 +160,8 @@ impl Page {
     }
 
     #[tactic(auto, unfolding(crate::specs::FaultText::penalty_line))]
-    fn penalty_line(&mut self, fault: &PenaltyFault) -> Result<(), OutOfMemory>
-        ensures { OnOk result (self.new ≡ self.old ++ penalty_line fault.now) }
+    fn penalty_line(&mut self, fault: &PenaltyFault)
+        ensures { self.new ≡ self.old ++ penalty_line fault.now }
     {
         match fault {
             PenaltyFault::NotNumeric { name } => {
@@ -177,8 +177,8 @@ impl Page {
     }
 
     #[tactic(auto, unfolding(crate::specs::FaultText::program_line))]
-    fn program_line(&mut self, fault: &ProgramFault) -> Result<(), OutOfMemory>
-        ensures { OnOk result (self.new ≡ self.old ++ program_line fault.now) }
+    fn program_line(&mut self, fault: &ProgramFault)
+        ensures { self.new ≡ self.old ++ program_line fault.now }
     {
         match fault {
             ProgramFault::TooManyRows => self.line(b"program", b"TooManyRows", &[]),
@@ -188,8 +188,8 @@ impl Page {
     }
 
     #[tactic(auto, unfolding(crate::specs::FaultText::certificate_line))]
-    fn certificate_line(&mut self, fault: &CertFault) -> Result<(), OutOfMemory>
-        ensures { OnOk result (self.new ≡ self.old ++ certificate_line fault.now) }
+    fn certificate_line(&mut self, fault: &CertFault)
+        ensures { self.new ≡ self.old ++ certificate_line fault.now }
     {
         match fault {
             CertFault::NotJson => self.line(b"certificate", b"NotJson", &[]),
@@ -208,8 +208,8 @@ impl Page {
     }
 
     #[tactic(auto, unfolding(crate::specs::FaultText::rejection_line))]
-    fn rejection_line(&mut self, rejection: &Rejection) -> Result<(), OutOfMemory>
-        ensures { OnOk result (self.new ≡ self.old ++ rejection_line rejection.now) }
+    fn rejection_line(&mut self, rejection: &Rejection)
+        ensures { self.new ≡ self.old ++ rejection_line rejection.now }
     {
         self.line(
             b"check",
@@ -224,8 +224,8 @@ impl Page {
         )
     }
 
-    fn refusal_line(&mut self, refusal: &Refusal) -> Result<(), OutOfMemory>
-        ensures { OnOk result (self.new ≡ self.old ++ refusal_line refusal.now) }
+    fn refusal_line(&mut self, refusal: &Refusal)
+        ensures { self.new ≡ self.old ++ refusal_line refusal.now }
     {
         match refusal {
             Refusal::TooLong => self.line(b"input", b"TooLong", &[]),
@@ -266,8 +266,8 @@ impl Page {
         }
     }
 
-    fn halt_line(&mut self, halt: &Halt) -> Result<(), OutOfMemory>
-        ensures { OnOk result (self.new ≡ self.old ++ halt_line halt.now) }
+    fn halt_line(&mut self, halt: &Halt)
+        ensures { self.new ≡ self.old ++ halt_line halt.now }
     {
         match halt {
             Halt::Refused(refusal) => self.refusal_line(refusal),

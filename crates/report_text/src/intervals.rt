@@ -1,18 +1,18 @@
 //! The lines of rank intervals.
-ghost use Rattle.std.specs.Prelude.{◌≡◌, ◌++◌, ◌∷◌, OnOk};
+ghost use Rattle.std.specs.Prelude.{◌≡◌, ◌++◌, ◌∷◌};
 ghost use Rattle.std.specs.List.{flat_map};
 ghost use Rattle.report_text.specs.ReportText.{bound_text, interval_line};
 
 use crate::page::Page;
-use frac_core::{Exact, OutOfMemory};
+use frac_core::Exact;
 use loss_model::{Bound, Interval};
 
 impl Page {
     // Adds a space and an end, or the word for one that is infinite.
-    fn put_bound<F: Exact>(&mut self, infinite: &[u8], bound: Bound<F>) -> Result<(), OutOfMemory>
-        ensures { OnOk result (self.new ≡ self.old ++ 32 ∷ bound_text F.value infinite.now bound) }
+    fn put_bound<F: Exact>(&mut self, infinite: &[u8], bound: Bound<F>)
+        ensures { self.new ≡ self.old ++ 32 ∷ bound_text F.value infinite.now bound }
     {
-        self.put(b" ")?;
+        self.put(b" ");
         match bound {
             Bound::Finite(value) => self.put_number(value),
             Bound::Infinite => self.put(infinite),
@@ -20,27 +20,23 @@ impl Page {
     }
 
     #[tactic(auto, unfolding(crate::specs::ReportText::interval_line))]
-    fn interval_line<F: Exact>(&mut self, interval: &Interval<F>) -> Result<(), OutOfMemory>
-        ensures { OnOk result (self.new ≡ self.old ++ interval_line F.value interval.now) }
+    fn interval_line<F: Exact>(&mut self, interval: &Interval<F>)
+        ensures { self.new ≡ self.old ++ interval_line F.value interval.now }
     {
-        self.put(b"interval ")?;
-        self.put_count(interval.column as u64 + 1)?;
-        self.put_next(interval.tau)?;
-        self.put_bound(b"-Inf", interval.low.bound)?;
-        self.put_bound(b"Inf", interval.high.bound)?;
-        self.put(b"\n")
+        self.put(b"interval ");
+        self.put_count(interval.column as u64 + 1);
+        self.put_next(interval.tau);
+        self.put_bound(b"-Inf", interval.low.bound);
+        self.put_bound(b"Inf", interval.high.bound);
+        self.put(b"\n");
     }
 
     /// Adds the lines of rank intervals.
-    pub(crate) fn interval_lines<F: Exact>(
-        &mut self,
-        intervals: &[Interval<F>],
-    ) -> Result<(), OutOfMemory>
-        ensures { OnOk result (self.new ≡ self.old ++ flat_map (interval_line F.value) intervals.now) }
+    pub(crate) fn interval_lines<F: Exact>(&mut self, intervals: &[Interval<F>])
+        ensures { self.new ≡ self.old ++ flat_map (interval_line F.value) intervals.now }
     {
         for interval in intervals {
-            self.interval_line(interval)?;
+            self.interval_line(interval);
         }
-        Ok(())
     }
 }

@@ -22,6 +22,7 @@
 
 mod checked;
 mod fault;
+mod ghost_text;
 mod intervals;
 pub mod laws;
 mod line;
@@ -37,7 +38,6 @@ mod test;
 
 pub use fault::{MEMORY_LINE, SINK_LINE, SOURCE_LINE, fault_line};
 pub use lines::report_bytes;
-pub use page::Page;
 pub use report::{
     Fault, Fit, Halt, PathFit, Place, PredictFit, Prediction, RanksFit, Refusal, Report, TestFit,
 };

@@ -1,5 +1,5 @@
 //! The one printer of fault lines, and the kinds of their fields.
-ghost use Rattle.std.specs.Prelude.{◌≡◌, ◌++◌, OnOk, codes, decimal};
+ghost use Rattle.std.specs.Prelude.{◌≡◌, ◌++◌, codes, decimal};
 ghost use Rattle.std.specs.List.{flat_map};
 ghost use Rattle.report_text.specs.FaultText.{fraction, fractions, indices_text, key, listed, number, place_text, site_text, spill_text, text, word};
 ghost use Rattle.report_text.specs.Fields.{shown};
@@ -8,7 +8,7 @@ ghost use Rattle.report_text.specs.ReportText.{numbered};
 use crate::page::Page;
 use crate::quantity::{PrintedIndices, indices, op_name, quantity_name};
 use crate::report::Place;
-use frac_core::{Frac128, OutOfMemory, Text};
+use frac_core::{Frac128, Text};
 use loss_model::{Site, Spill};
 
 /// A field of a line, by the kind of its value: a number or a length as it stands, a position, which is
@@ -27,33 +27,27 @@ pub(crate) enum Field<'a> {
 
 impl Page {
     /// Adds the line of a fault: its group, its name and its fields.
-    pub(crate) fn line(
-        &mut self,
-        group: &[u8],
-        name: &[u8],
-        fields: &[Field],
-    ) -> Result<(), OutOfMemory>
-        ensures { OnOk result (self.new ≡ self.old ++ (codes "quantreg: " ++ group.now ++ codes ": " ++ name.now ++ flat_map shown fields.now ++ codes "\n")) }
+    pub(crate) fn line(&mut self, group: &[u8], name: &[u8], fields: &[Field])
+        ensures { self.new ≡ self.old ++ (codes "quantreg: " ++ group.now ++ codes ": " ++ name.now ++ flat_map shown fields.now ++ codes "\n") }
     {
-        self.put(b"quantreg: ")?;
-        self.put(group)?;
-        self.put(b": ")?;
-        self.put(name)?;
-        self.put_fields(fields)?;
-        self.put(b"\n")
+        self.put(b"quantreg: ");
+        self.put(group);
+        self.put(b": ");
+        self.put(name);
+        self.put_fields(fields);
+        self.put(b"\n");
     }
 
-    fn put_fields(&mut self, fields: &[Field]) -> Result<(), OutOfMemory>
-        ensures { OnOk result (self.new ≡ self.old ++ flat_map shown fields.now) }
+    fn put_fields(&mut self, fields: &[Field])
+        ensures { self.new ≡ self.old ++ flat_map shown fields.now }
     {
         for field in fields {
-            self.put_field(field)?;
+            self.put_field(field);
         }
-        Ok(())
     }
 
-    fn put_field(&mut self, field: &Field) -> Result<(), OutOfMemory>
-        ensures { OnOk result (self.new ≡ self.old ++ shown field.now) }
+    fn put_field(&mut self, field: &Field)
+        ensures { self.new ≡ self.old ++ shown field.now }
     {
         match field {
             Field::Number(name, count) => self.put_counted(name, *count as u64),
@@ -68,32 +62,32 @@ impl Page {
     }
 
     // What names a field.
-    fn put_key(&mut self, name: &[u8]) -> Result<(), OutOfMemory>
-        ensures { OnOk result (self.new ≡ self.old ++ key name.now) }
+    fn put_key(&mut self, name: &[u8])
+        ensures { self.new ≡ self.old ++ key name.now }
     {
-        self.put(b" ")?;
-        self.put(name)?;
-        self.put(b"=")
+        self.put(b" ");
+        self.put(name);
+        self.put(b"=");
     }
 
-    fn put_counted(&mut self, name: &[u8], count: u64) -> Result<(), OutOfMemory>
-        ensures { OnOk result (self.new ≡ self.old ++ number name.now count) }
+    fn put_counted(&mut self, name: &[u8], count: u64)
+        ensures { self.new ≡ self.old ++ number name.now count }
     {
-        self.put_key(name)?;
-        self.put_count(count)
+        self.put_key(name);
+        self.put_count(count);
     }
 
-    fn put_word(&mut self, name: &[u8], told: &[u8]) -> Result<(), OutOfMemory>
-        ensures { OnOk result (self.new ≡ self.old ++ word name.now told.now) }
+    fn put_word(&mut self, name: &[u8], told: &[u8])
+        ensures { self.new ≡ self.old ++ word name.now told.now }
     {
-        self.put_key(name)?;
-        self.put(told)
+        self.put_key(name);
+        self.put(told);
     }
 
-    fn put_place(&mut self, name: &[u8], place: Place) -> Result<(), OutOfMemory>
-        ensures { OnOk result (self.new ≡ self.old ++ word name.now (place_text place)) }
+    fn put_place(&mut self, name: &[u8], place: Place)
+        ensures { self.new ≡ self.old ++ word name.now (place_text place) }
     {
-        self.put_key(name)?;
+        self.put_key(name);
         match place {
             Place::Process => self.put(b"process"),
             Place::Interval { column, tau } => self.put_interval(column, tau),
@@ -105,109 +99,108 @@ impl Page {
     }
 
     // The place of a rank interval, whose column is printed from 1.
-    fn put_interval(&mut self, column: u32, tau: Frac128) -> Result<(), OutOfMemory>
-        ensures { OnOk result (self.new ≡ self.old ++ place_text (Place.Interval column tau)) }
+    fn put_interval(&mut self, column: u32, tau: Frac128)
+        ensures { self.new ≡ self.old ++ place_text (Place.Interval column tau) }
     {
-        self.put(b"interval:")?;
-        self.put_count(column as u64 + 1)?;
-        self.put(b":")?;
-        self.put_number(tau)
+        self.put(b"interval:");
+        self.put_count(column as u64 + 1);
+        self.put(b":");
+        self.put_number(tau);
     }
 
     // The place of a prediction, whose record is printed as it is.
-    fn put_predicted(&mut self, rec: u32) -> Result<(), OutOfMemory>
-        ensures { OnOk result (self.new ≡ self.old ++ place_text (Place.Predict rec)) }
+    fn put_predicted(&mut self, rec: u32)
+        ensures { self.new ≡ self.old ++ place_text (Place.Predict rec) }
     {
-        self.put(b"predict:")?;
-        self.put_count(rec as u64)
+        self.put(b"predict:");
+        self.put_count(rec as u64);
     }
 
-    fn put_text(&mut self, name: &[u8], told: &Text) -> Result<(), OutOfMemory>
-        ensures { OnOk result (self.new ≡ self.old ++ text name.now told.now) }
+    fn put_text(&mut self, name: &[u8], told: &Text)
+        ensures { self.new ≡ self.old ++ text name.now told.now }
     {
-        self.put_key(name)?;
-        self.put_name(told)
+        self.put_key(name);
+        self.put_name(told);
     }
 
-    fn put_fraction(&mut self, name: &[u8], told: Frac128) -> Result<(), OutOfMemory>
-        ensures { OnOk result (self.new ≡ self.old ++ fraction name.now told) }
+    fn put_fraction(&mut self, name: &[u8], told: Frac128)
+        ensures { self.new ≡ self.old ++ fraction name.now told }
     {
-        self.put_key(name)?;
-        self.put_number(told)
+        self.put_key(name);
+        self.put_number(told);
     }
 
-    fn put_fractions(&mut self, name: &[u8], told: &[Frac128]) -> Result<(), OutOfMemory>
-        ensures { OnOk result (self.new ≡ self.old ++ fractions name.now told.now) }
+    fn put_fractions(&mut self, name: &[u8], told: &[Frac128])
+        ensures { self.new ≡ self.old ++ fractions name.now told.now }
     {
-        self.put_key(name)?;
-        self.put_numbers(told)
+        self.put_key(name);
+        self.put_numbers(told);
     }
 
     // Fractions with commas between them.
-    fn put_numbers(&mut self, numbers: &[Frac128]) -> Result<(), OutOfMemory>
-        ensures { OnOk result (self.new ≡ self.old ++ numbered listed 0 numbers.now) }
+    fn put_numbers(&mut self, numbers: &[Frac128])
+        ensures { self.new ≡ self.old ++ numbered listed 0 numbers.now }
     {
         for (place, number) in numbers.iter().enumerate() {
-            self.put_listed(place, *number)?;
+            self.put_listed(place, *number);
         }
-        Ok(())
     }
 
     // An item of a list, with a comma before all but the first.
-    fn put_listed(&mut self, place: usize, number: Frac128) -> Result<(), OutOfMemory>
-        ensures { OnOk result (self.new ≡ self.old ++ listed place number) }
+    fn put_listed(&mut self, place: usize, number: Frac128)
+        ensures { self.new ≡ self.old ++ listed place number }
     {
         if place > 0 {
-            self.put(b",")?;
+            self.put(b",");
         }
-        self.put_number(number)
+        self.put_number(number);
     }
 
     // Numbers with a comma between them.
     #[tactic(auto, unfolding(crate::specs::FaultText::indices_text))]
-    fn put_indices(&mut self, indices: PrintedIndices) -> Result<(), OutOfMemory>
-        ensures { OnOk result (self.new ≡ self.old ++ indices_text indices) }
+    fn put_indices(&mut self, indices: PrintedIndices)
+        ensures { self.new ≡ self.old ++ indices_text indices }
     {
         match indices {
             PrintedIndices::One(first) => self.put_count(first),
             PrintedIndices::Two(first, second) => {
-                self.put_count(first)?;
+                self.put_count(first);
                 self.put_after_comma(second)
             }
             PrintedIndices::Three(first, second, third) => {
-                self.put_count(first)?;
-                self.put_after_comma(second)?;
+                self.put_count(first);
+                self.put_after_comma(second);
                 self.put_after_comma(third)
             }
         }
     }
 
-    fn put_after_comma(&mut self, count: u64) -> Result<(), OutOfMemory>
-        ensures { OnOk result (self.new ≡ self.old ++ (codes "," ++ decimal count)) }
+    fn put_after_comma(&mut self, count: u64)
+        ensures { self.new ≡ self.old ++ (codes "," ++ decimal count) }
     {
-        self.put(b",")?;
-        self.put_count(count)
+        self.put(b",");
+        self.put_count(count);
     }
 
     // Where an operation stands.
     #[tactic(auto, unfolding(crate::specs::FaultText::site_text))]
-    fn put_site(&mut self, site: &Site) -> Result<(), OutOfMemory>
-        ensures { OnOk result (self.new ≡ self.old ++ site_text site.now) }
+    fn put_site(&mut self, site: &Site)
+        ensures { self.new ≡ self.old ++ site_text site.now }
     {
-        self.put_word(b"quantity", quantity_name(site.quantity))?;
-        self.put_key(b"at")?;
-        self.put_indices(indices(site))?;
-        self.put_counted(b"term", site.term as u64)
+        self.put_word(b"quantity", quantity_name(site.quantity));
+        self.put_key(b"at");
+        self.put_indices(indices(site));
+        self.put_counted(b"term", site.term as u64);
     }
 
     // An operation that overflows.
     #[tactic(auto, unfolding(crate::specs::FaultText::spill_text))]
-    fn put_spill(&mut self, spill: &Spill<Frac128>) -> Result<(), OutOfMemory>
-        ensures { OnOk result (self.new ≡ self.old ++ spill_text spill.now) }
+    fn put_spill(&mut self, spill: &Spill<Frac128>)
+        ensures { self.new ≡ self.old ++ spill_text spill.now }
     {
-        self.put_site(&spill.site)?;
-        self.put_word(b"op", op_name(spill.site.kind))?;
-        self.put_fraction(b"left", spill.left)?;
-        self.put_fraction(b"right", spill.right)
+        self.put_site(&spill.site);
+        self.put_word(b"op", op_name(spill.site.kind));
+        self.put_fraction(b"left", spill.left);
+        self.put_fraction(b"right", spill.right);
     }
 }

@@ -1,5 +1,5 @@
 //! The lines of a report.
-ghost use Rattle.std.specs.Prelude.{◌≡◌, ◌++◌, ◌+◌, ◌≤◌, length, IfOk, OnOk};
+ghost use Rattle.std.specs.Prelude.{◌≡◌, ◌++◌, ◌+◌, ◌≤◌, length, IfOk};
 ghost use Rattle.report_text.specs.ReportText.{records_line, column_line, data_line, pivots_line, segment_line, coef_line, loss_line, basic_line, score_mark, row_mark, scores_line, segment_text, fit_size, fit_head, fit_text, report_text, IsPrintable, numbered};
 ghost use Rattle.std.specs.List.{flat_map, zip};
 
@@ -13,144 +13,136 @@ use std::alloc::Global;
 
 impl Page {
     #[tactic(auto, unfolding(crate::specs::ReportText::records_line))]
-    pub(crate) fn records_line(&mut self, kept: u32, dropped: u32) -> Result<(), OutOfMemory>
-        ensures { OnOk result (self.new ≡ self.old ++ records_line kept dropped) }
+    pub(crate) fn records_line(&mut self, kept: u32, dropped: u32)
+        ensures { self.new ≡ self.old ++ records_line kept dropped }
     {
-        self.put(b"records ")?;
-        self.put_count(kept as u64)?;
-        self.put(b" dropped ")?;
-        self.put_count(dropped as u64)?;
-        self.put(b"\n")
+        self.put(b"records ");
+        self.put_count(kept as u64);
+        self.put(b" dropped ");
+        self.put_count(dropped as u64);
+        self.put(b"\n");
     }
 
     #[tactic(auto, unfolding(crate::specs::ReportText::column_line))]
-    pub(crate) fn column_line(&mut self, number: u64, name: &Text) -> Result<(), OutOfMemory>
-        ensures { OnOk result (self.new ≡ self.old ++ column_line number name.now) }
+    pub(crate) fn column_line(&mut self, number: u64, name: &Text)
+        ensures { self.new ≡ self.old ++ column_line number name.now }
     {
-        self.put(b"column ")?;
-        self.put_count(number)?;
-        self.put(b" ")?;
-        self.put_name(name)?;
-        self.put(b"\n")
+        self.put(b"column ");
+        self.put_count(number);
+        self.put(b" ");
+        self.put_name(name);
+        self.put(b"\n");
     }
 
     #[tactic(auto, unfolding(crate::specs::ReportText::segment_line))]
-    pub(crate) fn segment_line<F: Exact>(
-        &mut self,
-        number: u64,
-        segment: &Segment<F>,
-    ) -> Result<(), OutOfMemory>
-        ensures { OnOk result (self.new ≡ self.old ++ segment_line F.value number segment.now) }
+    pub(crate) fn segment_line<F: Exact>(&mut self, number: u64, segment: &Segment<F>)
+        ensures { self.new ≡ self.old ++ segment_line F.value number segment.now }
     {
-        self.put(b"segment ")?;
-        self.put_count(number)?;
-        self.put_next(segment.lo)?;
-        self.put_next(segment.hi)?;
-        self.put(b"\n")
+        self.put(b"segment ");
+        self.put_count(number);
+        self.put_next(segment.lo);
+        self.put_next(segment.hi);
+        self.put(b"\n");
     }
 
     #[tactic(auto, unfolding(crate::specs::ReportText::data_line))]
-    pub(crate) fn data_line(&mut self, rows: u64, penalty: u64) -> Result<(), OutOfMemory>
-        ensures { OnOk result (self.new ≡ self.old ++ data_line rows penalty) }
+    pub(crate) fn data_line(&mut self, rows: u64, penalty: u64)
+        ensures { self.new ≡ self.old ++ data_line rows penalty }
     {
-        self.put(b"data ")?;
-        self.put_count(rows)?;
-        self.put(b" penalty ")?;
-        self.put_count(penalty)?;
-        self.put(b"\n")
+        self.put(b"data ");
+        self.put_count(rows);
+        self.put(b" penalty ");
+        self.put_count(penalty);
+        self.put(b"\n");
     }
 
     #[tactic(auto, unfolding(crate::specs::ReportText::pivots_line))]
-    pub(crate) fn pivots_line(&mut self, pivots: u64) -> Result<(), OutOfMemory>
-        ensures { OnOk result (self.new ≡ self.old ++ pivots_line pivots) }
+    pub(crate) fn pivots_line(&mut self, pivots: u64)
+        ensures { self.new ≡ self.old ++ pivots_line pivots }
     {
-        self.put(b"pivots ")?;
-        self.put_count(pivots)?;
-        self.put(b"\n")
+        self.put(b"pivots ");
+        self.put_count(pivots);
+        self.put(b"\n");
     }
 
     #[tactic(auto, unfolding(crate::specs::ReportText::coef_line))]
-    fn coef_line<F: Exact>(&mut self, number: u64, coef: F) -> Result<(), OutOfMemory>
-        ensures { OnOk result (self.new ≡ self.old ++ coef_line F.value number coef) }
+    fn coef_line<F: Exact>(&mut self, number: u64, coef: F)
+        ensures { self.new ≡ self.old ++ coef_line F.value number coef }
     {
-        self.put(b"coef ")?;
-        self.put_count(number)?;
-        self.put(b" ")?;
-        self.put_number(coef)?;
-        self.put(b"\n")
+        self.put(b"coef ");
+        self.put_count(number);
+        self.put(b" ");
+        self.put_number(coef);
+        self.put(b"\n");
     }
 
     #[tactic(auto, unfolding(crate::specs::ReportText::loss_line))]
-    pub(crate) fn loss_line<F: Exact>(&mut self, lo: F, hi: F) -> Result<(), OutOfMemory>
-        ensures { OnOk result (self.new ≡ self.old ++ loss_line F.value lo hi) }
+    pub(crate) fn loss_line<F: Exact>(&mut self, lo: F, hi: F)
+        ensures { self.new ≡ self.old ++ loss_line F.value lo hi }
     {
-        self.put(b"loss ")?;
-        self.put_number(lo)?;
-        self.put(b" ")?;
-        self.put_number(hi)?;
-        self.put(b"\n")
+        self.put(b"loss ");
+        self.put_number(lo);
+        self.put(b" ");
+        self.put_number(hi);
+        self.put(b"\n");
     }
 
     #[tactic(auto, unfolding(crate::specs::ReportText::basic_line))]
-    fn basic_line<F: Exact>(&mut self, pair: &ScorePair<F>) -> Result<(), OutOfMemory>
-        ensures { OnOk result (self.new ≡ self.old ++ basic_line F.value pair.now) }
+    fn basic_line<F: Exact>(&mut self, pair: &ScorePair<F>)
+        ensures { self.new ≡ self.old ++ basic_line F.value pair.now }
     {
-        self.put(b"basic ")?;
-        self.put_count(pair.row as u64 + 1)?;
-        self.put_next(pair.at_lo)?;
-        self.put_next(pair.at_hi)?;
-        self.put(b"\n")
+        self.put(b"basic ");
+        self.put_count(pair.row as u64 + 1);
+        self.put_next(pair.at_lo);
+        self.put_next(pair.at_hi);
+        self.put(b"\n");
     }
 
-    fn basic_lines<F: Exact>(&mut self, pairs: &[ScorePair<F>]) -> Result<(), OutOfMemory>
-        ensures { OnOk result (self.new ≡ self.old ++ flat_map (basic_line F.value) pairs.now) }
+    fn basic_lines<F: Exact>(&mut self, pairs: &[ScorePair<F>])
+        ensures { self.new ≡ self.old ++ flat_map (basic_line F.value) pairs.now }
     {
         for pair in pairs {
-            self.basic_line(pair)?;
+            self.basic_line(pair);
         }
-        Ok(())
     }
 
-    pub(crate) fn coef_lines<F: Exact>(&mut self, coef: &[F]) -> Result<(), OutOfMemory>
-        ensures { OnOk result (self.new ≡ self.old ++ numbered (coef_line F.value) 1 coef.now) }
+    pub(crate) fn coef_lines<F: Exact>(&mut self, coef: &[F])
+        ensures { self.new ≡ self.old ++ numbered (coef_line F.value) 1 coef.now }
     {
         for (index, value) in coef.iter().enumerate() {
-            self.coef_line(index as u64 + 1, *value)?;
+            self.coef_line(index as u64 + 1, *value);
         }
-        Ok(())
     }
 
-    pub(crate) fn column_lines(&mut self, names: &[Text]) -> Result<(), OutOfMemory>
-        ensures { OnOk result (self.new ≡ self.old ++ numbered column_line 1 names.now) }
+    pub(crate) fn column_lines(&mut self, names: &[Text])
+        ensures { self.new ≡ self.old ++ numbered column_line 1 names.now }
     {
         for (index, name) in names.iter().enumerate() {
-            self.column_line(index as u64 + 1, name)?;
+            self.column_line(index as u64 + 1, name);
         }
-        Ok(())
     }
 
-    pub(crate) fn row_marks(&mut self, data_rows: u32, sides: &[Side]) -> Result<(), OutOfMemory>
-        ensures { OnOk result (self.new ≡ self.old ++ numbered (row_mark data_rows) 0 sides.now) }
+    pub(crate) fn row_marks(&mut self, data_rows: u32, sides: &[Side])
+        ensures { self.new ≡ self.old ++ numbered (row_mark data_rows) 0 sides.now }
     {
         for (row, side) in sides.iter().enumerate() {
-            self.row_mark(data_rows, row, *side)?;
+            self.row_mark(data_rows, row, *side);
         }
-        Ok(())
     }
 
-    fn row_mark(&mut self, data_rows: u32, row: usize, side: Side) -> Result<(), OutOfMemory>
-        ensures { OnOk result (self.new ≡ self.old ++ row_mark data_rows row side) }
+    fn row_mark(&mut self, data_rows: u32, row: usize, side: Side)
+        ensures { self.new ≡ self.old ++ row_mark data_rows row side }
     {
-        self.put(&[score_mark(row < data_rows as usize, side)])
+        self.put(&[score_mark(row < data_rows as usize, side)]);
     }
 
     #[tactic(auto, unfolding(crate::specs::ReportText::scores_line))]
-    fn scores_line(&mut self, data_rows: u32, sides: &[Side]) -> Result<(), OutOfMemory>
-        ensures { OnOk result (self.new ≡ self.old ++ scores_line data_rows sides.now) }
+    fn scores_line(&mut self, data_rows: u32, sides: &[Side])
+        ensures { self.new ≡ self.old ++ scores_line data_rows sides.now }
     {
-        self.put(b"scores ")?;
-        self.row_marks(data_rows, sides)?;
-        self.put(b"\n")
+        self.put(b"scores ");
+        self.row_marks(data_rows, sides);
+        self.put(b"\n");
     }
 
     #[tactic(auto, unfolding(crate::specs::ReportText::segment_text))]
@@ -160,14 +152,14 @@ impl Page {
         number: u64,
         segment: &Segment<F>,
         pairs: &[ScorePair<F>],
-    ) -> Result<(), OutOfMemory>
-        ensures { OnOk result (self.new ≡ self.old ++ segment_text F.value data_rows number (segment.now, pairs.now)) }
+    )
+        ensures { self.new ≡ self.old ++ segment_text F.value data_rows number (segment.now, pairs.now) }
     {
-        self.segment_line(number, segment)?;
-        self.coef_lines(segment.vertex.coef.as_slice())?;
-        self.loss_line(segment.loss_lo, segment.loss_hi)?;
-        self.scores_line(data_rows, segment.vertex.sides.as_slice())?;
-        self.basic_lines(pairs)
+        self.segment_line(number, segment);
+        self.coef_lines(segment.vertex.coef.as_slice());
+        self.loss_line(segment.loss_lo, segment.loss_hi);
+        self.scores_line(data_rows, segment.vertex.sides.as_slice());
+        self.basic_lines(pairs);
     }
 
     /// Adds the segments, each with the scores of its basic rows.
@@ -176,9 +168,9 @@ impl Page {
         data_rows: u32,
         segments: &[Segment<F>],
         scores: &[List<ScorePair<F>>],
-    ) -> Result<(), OutOfMemory>
+    )
         requires { length scores.now ≡ length segments.now }
-        ensures { OnOk result (self.new ≡ self.old ++ numbered (segment_text F.value data_rows) 1 (zip segments.now scores.now)) }
+        ensures { self.new ≡ self.old ++ numbered (segment_text F.value data_rows) 1 (zip segments.now scores.now) }
     {
         for (index, segment) in segments.iter().enumerate() {
             self.segment(
@@ -186,49 +178,46 @@ impl Page {
                 index as u64 + 1,
                 segment,
                 scores[index].as_slice(),
-            )?;
+            );
         }
-        Ok(())
     }
 
     #[tactic(auto, unfolding(crate::specs::ReportText::fit_size))]
-    fn fit_size(&mut self, fit: &Fit) -> Result<(), OutOfMemory>
+    fn fit_size(&mut self, fit: &Fit)
         requires { fit.now.data_rows ≤ length fit.now.problem.rows }
-        ensures { OnOk result (self.new ≡ self.old ++ fit_size fit.now) }
+        ensures { self.new ≡ self.old ++ fit_size fit.now }
     {
         let rows = fit.problem.rows.as_slice().len() as u64;
         let data_rows = fit.data_rows as u64;
-        self.data_line(data_rows, rows - data_rows)?;
-        self.pivots_line(fit.process.trail.steps.as_slice().len() as u64)?;
-        Ok(())
+        self.data_line(data_rows, rows - data_rows);
+        self.pivots_line(fit.process.trail.steps.as_slice().len() as u64);
     }
 
     #[tactic(auto, unfolding(crate::specs::ReportText::fit_head))]
-    fn fit_head(&mut self, fit: &Fit) -> Result<(), OutOfMemory>
+    fn fit_head(&mut self, fit: &Fit)
         requires { fit.now.data_rows ≤ length fit.now.problem.rows }
-        ensures { OnOk result (self.new ≡ self.old ++ fit_head fit.now) }
+        ensures { self.new ≡ self.old ++ fit_head fit.now }
     {
-        self.put(b"quantreg 1\n")?;
-        self.records_line(fit.kept, fit.dropped)?;
-        self.column_lines(fit.names.as_slice())?;
-        self.fit_size(fit)?;
-        Ok(())
+        self.put(b"quantreg 1\n");
+        self.records_line(fit.kept, fit.dropped);
+        self.column_lines(fit.names.as_slice());
+        self.fit_size(fit);
     }
 
     #[tactic(auto, unfolding(crate::specs::ReportText::fit_text))]
-    fn fit(&mut self, fit: &Fit) -> Result<(), OutOfMemory>
+    fn fit(&mut self, fit: &Fit)
         requires data { fit.now.data_rows ≤ length fit.now.problem.rows }
         requires scored { length fit.now.scores ≡ length fit.now.process.segments }
-        ensures { OnOk result (self.new ≡ self.old ++ fit_text fit.now) }
+        ensures { self.new ≡ self.old ++ fit_text fit.now }
     {
-        self.fit_head(fit)?;
+        self.fit_head(fit);
         self.segments(
             fit.data_rows,
             fit.process.segments.as_slice(),
             fit.scores.as_slice(),
-        )?;
-        self.interval_lines(fit.intervals.as_slice())?;
-        self.put(b"end\n")
+        );
+        self.interval_lines(fit.intervals.as_slice());
+        self.put(b"end\n");
     }
 }
 
@@ -242,16 +231,16 @@ pub fn report_bytes(alloc: Global, report: &Report) -> Result<Vec<u8>, OutOfMemo
 {
     let mut page = Page::new(alloc);
     match report {
-        Report::Process(fit) => page.fit(fit)?,
-        Report::Ranks(ranks) => page.ranks(alloc, ranks)?,
+        Report::Process(fit) => page.fit(fit),
+        Report::Ranks(ranks) => page.ranks(ranks),
         Report::Certificate(cert) => return write_cert(alloc, cert),
-        Report::Checked(cert) => page.checked(cert)?,
-        Report::Sample(fit) => page.sample(fit)?,
-        Report::Test(fit) => page.test(alloc, fit)?,
-        Report::Predict(fit) => page.predict(alloc, fit)?,
-        Report::Path(fit) => page.path(fit)?,
+        Report::Checked(cert) => page.checked(cert),
+        Report::Sample(fit) => page.sample(fit),
+        Report::Test(fit) => page.test(fit),
+        Report::Predict(fit) => page.predict(fit),
+        Report::Path(fit) => page.path(fit),
     }
-    Ok(page.into_bytes())
+    page.finish()
 }
 
 // The mark of a row's side.

@@ -1,98 +1,120 @@
-ghost use Rattle.std.specs.Prelude.{◌≡◌, ◌++◌, ◌<◌, [], ◌∷◌, OnOk, decimal};
+//! A text under construction: what is put into it, and at the end its bytes or want of memory.
+ghost use Rattle.std.specs.Prelude.{◌≡◌, ◌++◌, ◌<◌, [], ◌∷◌, IfOk, decimal};
 ghost use Rattle.frac_core.specs.NumberText.{number_text_of};
 ghost use Rattle.ratio.specs.Text.{ratio_text};
 ghost use Rattle.report_text.specs.Names.{name_bytes, name_byte, hexadecimal};
 
+use crate::ghost_text::{GhostText, Said};
 use frac_core::{Exact, OutOfMemory, Text};
 use itoa::Buffer;
 use ratio::Ratio;
 use std::alloc::Global;
 use std::marker::Model;
 
-/// A text under construction, seen as its bytes.
+/// A text under construction, seen as all that was put into it. Where memory is wanting for a piece, the page
+/// takes no more bytes, and `finish` refuses.
 #[derive(Drop)]
-pub struct Page {
+pub(crate) struct Page {
+    alloc: Global,
     bytes: Vec<u8>,
+    is_short: bool,
+    text: GhostText,
 }
 
 impl Model for Page {
-    ghost use Rattle.std.specs.Prelude.{List, ℕ};
+    ghost use Rattle.std.specs.Prelude.{List, ℕ, ◌≡◌, false};
 
     ghost Value = { List ℕ };
 
-    ghost view = { λ page. page.bytes.items };
+    ghost view = { λ page. page.text.text };
+
+    ghost invariant = { λ page. page.is_short ≡ false → page.bytes.items ≡ page.text.text };
 }
 
 impl Page {
     /// The empty page, which takes no memory.
-    pub fn new(alloc: Global) -> Page
+    pub(crate) fn new(alloc: Global) -> Page
         ensures { result ≡ [] }
     {
         Page {
+            alloc,
             bytes: Vec::new(alloc),
+            is_short: false,
+            text: GhostText::of(&Said::Nothing),
         }
     }
 
     /// Adds bytes.
-    pub fn put(&mut self, bytes: &[u8]) -> Result<(), OutOfMemory>
-        ensures { OnOk result (self.new ≡ self.old ++ bytes.now) }
+    pub(crate) fn put(&mut self, bytes: &[u8])
+        ensures { self.new ≡ self.old ++ bytes.now }
     {
-        match self.bytes.extend_from_slice(bytes) {
-            Ok(()) => Ok(()),
-            Err(_) => Err(OutOfMemory),
+        if !self.is_short {
+            self.is_short = self.bytes.extend_from_slice(bytes).is_err();
         }
+        self.text = GhostText::of(&Said::Bytes(&self.text, bytes));
+    }
+
+    /// Adds a fraction of any size: its numerator, and after a slash its denominator where that is not 1.
+    pub(crate) fn put_ratio(&mut self, value: &Ratio)
+        ensures { self.new ≡ self.old ++ ratio_text value.now }
+    {
+        if !self.is_short {
+            self.is_short = value.write(self.alloc, &mut self.bytes).is_err();
+        }
+        self.text = GhostText::of(&Said::Fraction(&self.text, value));
+    }
+
+    /// The bytes of the text. It refuses only for memory, where that was wanting for a piece.
+    pub(crate) fn finish(self) -> Result<Vec<u8>, OutOfMemory>
+        ensures { IfOk result (λ bytes. bytes.items ≡ self) }
+    {
+        if self.is_short {
+            return Err(OutOfMemory);
+        }
+        Ok(self.bytes)
     }
 
     /// Adds a whole number in decimal digits.
-    pub fn put_count(&mut self, count: u64) -> Result<(), OutOfMemory>
-        ensures { OnOk result (self.new ≡ self.old ++ decimal count) }
+    pub(crate) fn put_count(&mut self, count: u64)
+        ensures { self.new ≡ self.old ++ decimal count }
     {
-        self.put(Buffer::new().format(count).as_bytes())
+        self.put(Buffer::new().format(count).as_bytes());
     }
 
     /// Adds a fraction: its numerator, and after a slash its denominator where that is not 1.
     #[tactic(auto, unfolding(frac_core::specs::NumberText::number_text_of))]
-    pub fn put_number<F: Exact>(&mut self, value: F) -> Result<(), OutOfMemory>
-        ensures { OnOk result (self.new ≡ self.old ++ number_text_of (F.value value)) }
+    pub(crate) fn put_number<F: Exact>(&mut self, value: F)
+        ensures { self.new ≡ self.old ++ number_text_of (F.value value) }
     {
-        self.put(Buffer::new().format(value.numerator()).as_bytes())?;
+        self.put(Buffer::new().format(value.numerator()).as_bytes());
         if value.denominator() == 1 {
-            return Ok(());
+            return;
         }
-        self.put(b"/")?;
-        self.put(Buffer::new().format(value.denominator()).as_bytes())
+        self.put(b"/");
+        self.put(Buffer::new().format(value.denominator()).as_bytes());
     }
 
     /// Adds a space and a fraction.
-    pub fn put_next<F: Exact>(&mut self, value: F) -> Result<(), OutOfMemory>
-        ensures { OnOk result (self.new ≡ self.old ++ 32 ∷ number_text_of (F.value value)) }
+    pub(crate) fn put_next<F: Exact>(&mut self, value: F)
+        ensures { self.new ≡ self.old ++ 32 ∷ number_text_of (F.value value) }
     {
-        self.put(b" ")?;
-        self.put_number(value)
-    }
-
-    /// Adds a fraction of any size, in the same text.
-    pub fn put_ratio(&mut self, alloc: Global, value: &Ratio) -> Result<(), OutOfMemory>
-        ensures { OnOk result (self.new ≡ self.old ++ ratio_text value.now) }
-    {
-        value.write(alloc, &mut self.bytes)?;
-        Ok(())
+        self.put(b" ");
+        self.put_number(value);
     }
 
     /// Adds a name, in which a control byte or a backslash is written as `\x` and two digits.
-    pub fn put_name(&mut self, name: &Text) -> Result<(), OutOfMemory>
-        ensures { OnOk result (self.new ≡ self.old ++ name_bytes name.now) }
+    pub(crate) fn put_name(&mut self, name: &Text)
+        ensures { self.new ≡ self.old ++ name_bytes name.now }
     {
         for byte in name.as_str().as_bytes() {
-            self.put_name_byte(*byte)?;
+            self.put_name_byte(*byte);
         }
-        Ok(())
     }
 
     // Adds a byte of a name, or its escape.
     #[tactic(auto, unfolding(crate::specs::Names::name_byte))]
-    fn put_name_byte(&mut self, byte: u8) -> Result<(), OutOfMemory>
-        ensures { OnOk result (self.new ≡ self.old ++ name_byte byte) }
+    fn put_name_byte(&mut self, byte: u8)
+        ensures { self.new ≡ self.old ++ name_byte byte }
     {
         if byte < 32 || byte == 127 || byte == b'\\' {
             self.put(&[
@@ -104,13 +126,6 @@ impl Page {
         } else {
             self.put(&[byte])
         }
-    }
-
-    /// The bytes in order.
-    pub fn into_bytes(self) -> Vec<u8>
-        ensures { result.items ≡ self }
-    {
-        self.bytes
     }
 }
 

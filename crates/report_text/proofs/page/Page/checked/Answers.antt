@@ -7,4 +7,4 @@ pub returns : goal.returns
 unfolding checked_text
 returns c =
     append_four _ _ _ _ _ (codes "quantreg check 1\n") (size_lines c.args.cert.now) (codes "accepted\n") (codes "end\n")
-    c.in_ok-put.ensures c.in_ok-size_lines.ensures c.in_ok-put-2.ensures c.in_ok-put-3.ensures
+    c.put.ensures c.size_lines.ensures c.put-2.ensures c.put-3.ensures

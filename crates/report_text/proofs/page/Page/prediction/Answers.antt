@@ -8,7 +8,7 @@ pub returns : goal.returns
 unfolding prediction_text
 returns c =
     append_four _ _ _ _ _ (count_line (codes "predict") c.args.prediction.now.rec) _ (count_line (codes "rearranged") c.args.prediction.now.rec) _
-    c.in_ok-count_line.ensures
-    (c.in_ok-step_lines.ensures ∙ ap (λ steps. c.count_line.new.self ++ flat_map step_line steps) c.as_slice.ensures)
-    c.in_ok-count_line-2.ensures
-    (c.in_ok-rearranged_lines.ensures ∙ ap (λ steps. c.count_line-2.new.self ++ flat_map rearranged_line steps) c.as_slice-2.ensures)
+    c.count_line.ensures
+    (c.step_lines.ensures ∙ ap (λ steps. c.count_line.new.self ++ flat_map step_line steps) c.as_slice.ensures)
+    c.count_line-2.ensures
+    (c.rearranged_lines.ensures ∙ ap (λ steps. c.count_line-2.new.self ++ flat_map rearranged_line steps) c.as_slice-2.ensures)

@@ -6,6 +6,6 @@ use Rattle.report_text.proofs.page.Page.ranks_head.Goals as goal
 pub returns : goal.returns
 unfolding ranks_head
 returns c =
-    append_four _ _ _ _ _ (codes "quantreg ranks 1\n") _ _ _ c.in_ok-put.ensures c.in_ok-records_line.ensures
-    (c.in_ok-column_lines.ensures ∙ ap (λ names. c.records_line.new.self ++ numbered column_line 1 names) c.as_slice.ensures)
-    (c.in_ok-pivots_line.ensures ∙ ap (λ steps. c.column_lines.new.self ++ pivots_line (length steps)) c.as_slice-2.ensures)
+    append_four _ _ _ _ _ (codes "quantreg ranks 1\n") _ _ _ c.put.ensures c.records_line.ensures
+    (c.column_lines.ensures ∙ ap (λ names. c.records_line.new.self ++ numbered column_line 1 names) c.as_slice.ensures)
+    (c.pivots_line.ensures ∙ ap (λ steps. c.column_lines.new.self ++ pivots_line (length steps)) c.as_slice-2.ensures)

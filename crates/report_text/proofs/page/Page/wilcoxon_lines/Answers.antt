@@ -5,4 +5,4 @@ use Rattle.report_text.proofs.page.Page.wilcoxon_lines.Goals as goal
 
 pub loop-index-preserved : goal.loop-index-preserved
 loop-index-preserved c =
-    numbered_more_at wilcoxon_line 1 _ _ _ _ _ _ _ c.loop-index-test.true refl c.index-scores-index.is c.loop-index.invariant c.in_ok-wilcoxon_line.ensures
+    numbered_more_at wilcoxon_line 1 _ _ _ _ _ _ _ c.loop-index-test.true refl c.index-scores-index.is c.loop-index.invariant c.wilcoxon_line.ensures
