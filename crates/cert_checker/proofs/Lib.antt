@@ -14,6 +14,7 @@ mod Extracts
 pub mod Worths
 pub mod Shown
 mod Wholes
+mod Shared
 mod Later
 mod Ranks
 mod All

@@ -1,10 +1,11 @@
 //! All conditions on a certificate.
 
-ghost use Rattle.std.specs.Prelude.{IfOk, IfErr};
+ghost use Rattle.std.specs.Prelude.{◌≤◌, ◌^◌, IfOk, IfErr, length};
 ghost use Rattle.cert_text.specs.Limits.{IsWithinLimits};
 ghost use Rattle.cert_checker.specs.Certificates.{first_tests, later_tests, tests, IsVerdict, IsStop, IsUntrue};
 ghost use Rattle.cert_checker.specs.Settled.{Settles};
-ghost use Rattle.cert_checker.specs.Views.{IsTableOf};
+ghost use Rattle.cert_checker.specs.Runs.{all_sum_tests};
+ghost use Rattle.cert_checker.specs.Views.{IsSmall, IsTableOf, IsTabled};
 
 use crate::form::{RowForm, SegmentCount, SegmentForm};
 use crate::formula::{Count, Number};
@@ -12,9 +13,9 @@ use crate::interval_form::{IntervalForm, Intervals};
 use crate::intervals::IntervalConditions;
 use crate::jobs::SegmentJobs;
 use crate::place::Place;
-use crate::quick::Quick;
+use crate::quick::{Balances, Joints, Losses, Quick, Together};
 use crate::relation::Relation;
-use crate::segments::{Balances, Bounds, CostRows, Ends, Joints, Losses, Rows, Segments};
+use crate::segments::{Bounds, CostRows, Ends, Rows, Segments};
 use crate::tests::{Comparison, One, Tests, Then};
 use crate::verdict::{CheckStop, Failure, Halt, Verdict};
 use cert_sums::{Table, whole_table};
@@ -99,6 +100,42 @@ fn decide_first(alloc: Global, cert: &Cert) -> Result<(), Halt>
     .decide(alloc)
 }
 
+// Conditions 6 to 8, one after the other.
+fn decide_apart<R: Threads + Sync, G: Gate>(
+    rt: &R,
+    jobs: &SegmentJobs<'_, '_, G>,
+    quick: Quick<'_>,
+) -> Result<(), Halt>
+    requires few { length jobs.now.list.now ≤ 2 ^ 20 }
+    requires small { IsSmall quick.problem.now }
+    requires table { IsTabled quick }
+    ensures { Settles (all_sum_tests quick.entry.problem.now jobs.now.list.now) result }
+{
+    let list = jobs.list;
+    jobs.decide(rt, Balances { quick })?;
+    jobs.decide(rt, Losses { quick })?;
+    jobs.decide(rt, Joints { quick, list })
+}
+
+// The same, of all segments at once first: where one of their tests isn't found to be true, the first such is looked for
+// condition by condition.
+fn decide_sums<R: Threads + Sync, G: Gate>(
+    rt: &R,
+    jobs: &SegmentJobs<'_, '_, G>,
+    quick: Quick<'_>,
+) -> Result<(), Halt>
+    requires few { length jobs.now.list.now ≤ 2 ^ 20 }
+    requires small { IsSmall quick.problem.now }
+    requires table { IsTabled quick }
+    ensures { Settles (all_sum_tests quick.entry.problem.now jobs.now.list.now) result }
+{
+    let list = jobs.list;
+    match jobs.decide(rt, Together { quick, list }) {
+        Ok(()) => Ok(()),
+        Err(_) => decide_apart(rt, jobs, quick),
+    }
+}
+
 // The conditions on dual values, losses and intervals.
 #[tactic(auto, unfolding(crate::specs::Certificates::later_tests))]
 fn decide_quickly<R: Threads + Sync, G: Gate>(
@@ -130,9 +167,7 @@ fn decide_quickly<R: Threads + Sync, G: Gate>(
     };
     jobs.decide(rt, low)?;
     jobs.decide(rt, high)?;
-    jobs.decide(rt, Balances { quick })?;
-    jobs.decide(rt, Losses { quick })?;
-    jobs.decide(rt, Joints { quick, list })?;
+    decide_sums(rt, &jobs, quick)?;
     let intervals = Intervals {
         list: &cert.intervals,
         of: IntervalConditions { problem },

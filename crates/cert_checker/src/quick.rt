@@ -1,15 +1,25 @@
-//! Tests of a segment by sums of whole numbers: `true` says that all tests of a condition on it are true, and `false` says
-//! nothing.
+//! Conditions 6 to 8, by sums of whole numbers first: that these are `true` says that the tests are, and `false` says
+//! nothing. A run of segments is tested as one, with two lists of dual values a segment; where that isn't enough, each
+//! condition is tested apart, segment by segment.
 
-ghost use Rattle.std.specs.Prelude.{ℕ, IsTrue};
+ghost use Rattle.std.specs.Prelude.{◌≤◌, ◌<◌, ◌+◌, ◌^◌, ℕ, IsTrue, length};
 ghost use Rattle.loss_model.specs.Problem.{sample};
+ghost use Rattle.cert_sums.specs.Ends.{IsHeldAt};
 ghost use Rattle.cert_checker.specs.Places.{value128};
-ghost use Rattle.cert_checker.specs.Conditions.{balances as balances_of, losses as losses_of, joint_tests};
-ghost use Rattle.cert_checker.specs.Tests.{AreTrue};
-ghost use Rattle.cert_checker.specs.Views.{IsTabled};
+ghost use Rattle.cert_checker.specs.Conditions.{item_tests, balances as balances_of, losses as losses_of, joint_tests, joints};
+ghost use Rattle.cert_checker.specs.Given.{AllGiven};
+ghost use Rattle.cert_checker.specs.Runs.{sum_tests, IsSumGiven};
+ghost use Rattle.cert_checker.specs.Settled.{Settles};
+ghost use Rattle.cert_checker.specs.Tests.{AreTrue, upto};
+ghost use Rattle.cert_checker.specs.Views.{IsSmall, IsTabled};
 
-use cert_sums::{Table, WholeProblem, duals_balance, duals_meet, losses_hold};
-use frac_core::Frac128;
+use crate::jobs::{PER_JOB, decide_from};
+use crate::leaves::EndView;
+use crate::segments::{BalanceColumns, Columns, JointRows, LossAt, Rows, SegmentTests};
+use crate::tests::{Tests, Then};
+use crate::verdict::Halt;
+use cert_sums::{Table, WholeProblem, duals_balance, duals_meet, losses_hold, run_holds};
+use frac_core::{Frac128, List};
 use loss_model::{Problem, Segment};
 use std::alloc::Global;
 
@@ -76,5 +86,247 @@ impl Quick<'_> {
             ),
             None => false,
         }
+    }
+    /// All three, of each segment from one on up to another, or to the last.
+    pub(crate) fn run_holds(self, list: &List<Segment<Frac128>>, first: usize, past: usize) -> bool
+        requires { IsTabled self }
+        ensures { IsTrue result → (j : ℕ) → j < past → j < length list.now → first ≤ j → IsHeldAt self.entry.problem.now list.now j }
+    {
+        match self.table {
+            Some(table) => run_holds(
+                self.alloc,
+                WholeProblem {
+                    problem: self.problem,
+                    table,
+                },
+                list.as_slice(),
+                first,
+                past,
+            ),
+            None => false,
+        }
+    }
+}
+
+/// Condition 6.
+#[derive(Clone, Copy)]
+pub(crate) struct Balances<'a> {
+    pub(crate) quick: Quick<'a>,
+}
+
+impl SegmentTests for Balances<'_> {
+    ghost segment_tests = { λ x j s. balances_of (sample value128 x.quick.problem.now) j s };
+
+    ghost segment_given = { λ x j s. IsSmall x.quick.problem.now × IsTabled x.quick };
+
+    fn decide_segment(
+        self,
+        alloc: Global,
+        index: u32,
+        segment: &Segment<Frac128>,
+    ) -> Result<(), Halt> {
+        if self.quick.duals_balance(segment) {
+            return Ok(());
+        }
+        let problem = self.quick.problem;
+        let columns = problem.columns;
+        let low = EndView {
+            problem,
+            theta: segment.lo,
+            vertex: &segment.vertex,
+            basic: &segment.basic_lo,
+        };
+        let high = EndView {
+            problem,
+            theta: segment.hi,
+            vertex: &segment.vertex,
+            basic: &segment.basic_hi,
+        };
+        Then {
+            first: Columns {
+                problem,
+                of: BalanceColumns {
+                    index,
+                    before: 0,
+                    end: low,
+                },
+            },
+            rest: Columns {
+                problem,
+                of: BalanceColumns {
+                    index,
+                    before: columns,
+                    end: high,
+                },
+            },
+        }
+        .decide(alloc)
+    }
+}
+
+/// Condition 7, where condition 6 is true.
+#[derive(Clone, Copy)]
+pub(crate) struct Losses<'a> {
+    pub(crate) quick: Quick<'a>,
+}
+
+impl SegmentTests for Losses<'_> {
+    ghost segment_tests = { λ x j s. losses_of (sample value128 x.quick.problem.now) j s };
+
+    ghost segment_given = { λ x j s. IsSmall x.quick.problem.now × IsTabled x.quick × AreTrue (balances_of (sample value128 x.quick.problem.now) j s) };
+
+    fn decide_segment(
+        self,
+        alloc: Global,
+        index: u32,
+        segment: &Segment<Frac128>,
+    ) -> Result<(), Halt> {
+        if self.quick.losses_hold(index, segment) {
+            return Ok(());
+        }
+        let low = LossAt {
+            index,
+            inner: 1,
+            end: EndView {
+                problem: self.quick.problem,
+                theta: segment.lo,
+                vertex: &segment.vertex,
+                basic: &segment.basic_lo,
+            },
+            stated: segment.loss_lo,
+        };
+        let high = LossAt {
+            index,
+            inner: 3,
+            end: EndView {
+                problem: self.quick.problem,
+                theta: segment.hi,
+                vertex: &segment.vertex,
+                basic: &segment.basic_hi,
+            },
+            stated: segment.loss_hi,
+        };
+        Then {
+            first: low,
+            rest: high,
+        }
+        .decide(alloc)
+    }
+}
+
+/// Condition 8.
+#[derive(Clone, Copy)]
+pub(crate) struct Joints<'a> {
+    pub(crate) quick: Quick<'a>,
+    pub(crate) list: &'a List<Segment<Frac128>>,
+}
+
+// The tests of a segment and the next one.
+fn decide_joint(
+    quick: Quick<'_>,
+    index: u32,
+    segment: &Segment<Frac128>,
+    next: &Segment<Frac128>,
+) -> Result<(), Halt>
+    requires few { length quick.problem.now.rows ≤ 16384 }
+    requires table { IsTabled quick }
+    ensures { Settles (joint_tests (sample value128 quick.entry.problem.now) index segment.now next.now) result }
+{
+    if quick.duals_meet(segment, next) {
+        return Ok(());
+    }
+    let problem = quick.problem;
+    let high = EndView {
+        problem,
+        theta: segment.hi,
+        vertex: &segment.vertex,
+        basic: &segment.basic_hi,
+    };
+    let low = EndView {
+        problem,
+        theta: next.lo,
+        vertex: &next.vertex,
+        basic: &next.basic_lo,
+    };
+    Rows {
+        problem,
+        of: JointRows { index, high, low },
+    }
+    .decide(quick.alloc)
+}
+
+impl SegmentTests for Joints<'_> {
+    ghost segment_tests = { λ x j s. joints (sample value128 x.quick.problem.now) x.list.now j s };
+
+    ghost segment_given = { λ x j s. (length x.quick.problem.now.rows ≤ 16384) × IsTabled x.quick };
+
+    fn decide_segment(
+        self,
+        alloc: Global,
+        index: u32,
+        segment: &Segment<Frac128>,
+    ) -> Result<(), Halt> {
+        match self.list.as_slice().get(index as usize) {
+            Some(next) => decide_joint(self.quick, index, segment, next),
+            None => Ok(()),
+        }
+    }
+}
+
+/// Conditions 6 to 8, segment by segment.
+#[derive(Clone, Copy)]
+pub(crate) struct Together<'a> {
+    pub(crate) quick: Quick<'a>,
+    pub(crate) list: &'a List<Segment<Frac128>>,
+}
+
+impl SegmentTests for Together<'_> {
+    ghost segment_tests = { λ x j s. sum_tests x.quick.problem.now x.list.now j s };
+
+    ghost segment_given = { λ x j s. IsSumGiven x.quick x.list.now j s };
+
+    fn decide_segment(
+        self,
+        alloc: Global,
+        index: u32,
+        segment: &Segment<Frac128>,
+    ) -> Result<(), Halt> {
+        let quick = self.quick;
+        let list = self.list;
+        Balances { quick }.decide_segment(alloc, index, segment)?;
+        Losses { quick }.decide_segment(alloc, index, segment)?;
+        Joints { quick, list }.decide_segment(alloc, index, segment)
+    }
+
+    fn decide_part(
+        self,
+        alloc: Global,
+        list: &List<Segment<Frac128>>,
+        first: usize,
+    ) -> Result<(), Halt> {
+        match list.as_slice().get(first) {
+            Some(_) => self.decide_run(alloc, list, first),
+            None => decide_from(alloc, self, list, first),
+        }
+    }
+}
+
+impl Together<'_> {
+    // A run of segments, as one where sums of whole numbers show all of it.
+    fn decide_run(
+        self,
+        alloc: Global,
+        list: &List<Segment<Frac128>>,
+        first: usize,
+    ) -> Result<(), Halt>
+        requires within { first + 64 ≤ 2 ^ 20 }
+        requires table { IsTabled self.quick }
+        requires given { AllGiven list.now (IsSumGiven self.quick self.list.now) }
+        ensures { Settles (upto 64 (λ i. item_tests list.now (sum_tests self.entry.quick.problem.now self.entry.list.now) (first + i))) result }
+    {
+        if self.quick.run_holds(self.list, first, first + PER_JOB) {
+            return Ok(());
+        }
+        decide_from(alloc, self, list, first)
     }
 }

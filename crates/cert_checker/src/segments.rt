@@ -8,21 +8,21 @@ ghost use Rattle.loss_model.specs.declared.process.Segment.{Segment as Piece};
 ghost use Rattle.loss_model.specs.Problem.{sample};
 ghost use Rattle.cert_checker.specs.Places.{value128};
 ghost use Rattle.cert_checker.specs.Formulas.{given};
-ghost use Rattle.cert_checker.specs.Tests.{AreTrue, Test, one, upto};
-ghost use Rattle.cert_checker.specs.Conditions.{each, zero_formula, low_of, high_of, side_in, dual_at_row, balance, bound_parts, bound_test, bounds, balances as balance_tests_of, losses as losses_of, loss_tests, cost_tests, row_costs, lo_at, hi_at, first_end, order_of_ends, joint_end, joint_tests, joints};
+ghost use Rattle.cert_checker.specs.Tests.{Test, one, upto};
+ghost use Rattle.cert_checker.specs.Conditions.{each, item_tests, zero_formula, low_of, high_of, side_in, dual_at_row, balance, bound_parts, bound_test, bounds, loss_tests, cost_tests, row_costs, lo_at, hi_at, first_end, order_of_ends, joint_end};
 ghost use Rattle.cert_checker.specs.Given.{AllGiven};
 ghost use Rattle.cert_checker.specs.Settled.{Settles};
-ghost use Rattle.cert_checker.specs.Views.{IsSmall, IsTabled, end_of};
+ghost use Rattle.cert_checker.specs.Views.{IsSmall, end_of};
 ghost use Rattle.cert_checker.specs.declared.relation.Relation.TheVariants.{AtMost, Below, Equal};
 ghost use Rattle.loss_model.specs.declared.vertex.Side.TheVariants.{Basic};
 
 use crate::exact::widened;
 use crate::formula::{Count, Expression, Negation, Number};
+use crate::jobs::decide_from;
 use crate::leaves::{
     BalanceTerms, DownCost, DualValue, EndView, LossTerms, ObjectiveTerms, RowSum, UpCost, rows,
 };
 use crate::place::{Place, Progress};
-use crate::quick::Quick;
 use crate::relation::Relation;
 use crate::tests::{Both, Comparison, One, Parts, Tests, TestsOf, Then, decide_each};
 use crate::verdict::{Failure, Halt};
@@ -389,6 +389,20 @@ pub(crate) trait SegmentTests: Copy {
     ) -> Result<(), Halt>
         requires { segment_given self index segment.now }
         ensures { Settles (segment_tests self index segment.now) result };
+
+    /// The tests of 64 segments of a list from one of them on, or of those that are left: nothing where all are true.
+    fn decide_part(
+        self,
+        alloc: Global,
+        list: &List<Segment<Frac128>>,
+        first: usize,
+    ) -> Result<(), Halt>
+        requires within { first + 64 ≤ 2 ^ 20 }
+        requires given { AllGiven list.now (segment_given self) }
+        ensures { Settles (upto 64 (λ i. item_tests list.now (segment_tests self) (first + i))) result }
+    {
+        decide_from(alloc, self, list, first)
+    }
 }
 
 /// The tests of all segments, one after the other.
@@ -507,171 +521,6 @@ impl SegmentTests for Bounds<'_> {
             },
         }
         .decide(alloc)
-    }
-}
-
-/// Condition 6.
-#[derive(Clone, Copy)]
-pub(crate) struct Balances<'a> {
-    pub(crate) quick: Quick<'a>,
-}
-
-impl SegmentTests for Balances<'_> {
-    ghost segment_tests = { λ x j s. balance_tests_of (sample value128 x.quick.problem.now) j s };
-
-    ghost segment_given = { λ x j s. IsSmall x.quick.problem.now × IsTabled x.quick };
-
-    fn decide_segment(
-        self,
-        alloc: Global,
-        index: u32,
-        segment: &Segment<Frac128>,
-    ) -> Result<(), Halt> {
-        if self.quick.duals_balance(segment) {
-            return Ok(());
-        }
-        let problem = self.quick.problem;
-        let columns = problem.columns;
-        let low = EndView {
-            problem,
-            theta: segment.lo,
-            vertex: &segment.vertex,
-            basic: &segment.basic_lo,
-        };
-        let high = EndView {
-            problem,
-            theta: segment.hi,
-            vertex: &segment.vertex,
-            basic: &segment.basic_hi,
-        };
-        Then {
-            first: Columns {
-                problem,
-                of: BalanceColumns {
-                    index,
-                    before: 0,
-                    end: low,
-                },
-            },
-            rest: Columns {
-                problem,
-                of: BalanceColumns {
-                    index,
-                    before: columns,
-                    end: high,
-                },
-            },
-        }
-        .decide(alloc)
-    }
-}
-
-/// Condition 7, where condition 6 is true.
-#[derive(Clone, Copy)]
-pub(crate) struct Losses<'a> {
-    pub(crate) quick: Quick<'a>,
-}
-
-impl SegmentTests for Losses<'_> {
-    ghost segment_tests = { λ x j s. losses_of (sample value128 x.quick.problem.now) j s };
-
-    ghost segment_given = { λ x j s. IsSmall x.quick.problem.now × IsTabled x.quick × AreTrue (balance_tests_of (sample value128 x.quick.problem.now) j s) };
-
-    fn decide_segment(
-        self,
-        alloc: Global,
-        index: u32,
-        segment: &Segment<Frac128>,
-    ) -> Result<(), Halt> {
-        if self.quick.losses_hold(index, segment) {
-            return Ok(());
-        }
-        let low = LossAt {
-            index,
-            inner: 1,
-            end: EndView {
-                problem: self.quick.problem,
-                theta: segment.lo,
-                vertex: &segment.vertex,
-                basic: &segment.basic_lo,
-            },
-            stated: segment.loss_lo,
-        };
-        let high = LossAt {
-            index,
-            inner: 3,
-            end: EndView {
-                problem: self.quick.problem,
-                theta: segment.hi,
-                vertex: &segment.vertex,
-                basic: &segment.basic_hi,
-            },
-            stated: segment.loss_hi,
-        };
-        Then {
-            first: low,
-            rest: high,
-        }
-        .decide(alloc)
-    }
-}
-
-/// Condition 8.
-#[derive(Clone, Copy)]
-pub(crate) struct Joints<'a> {
-    pub(crate) quick: Quick<'a>,
-    pub(crate) list: &'a List<Segment<Frac128>>,
-}
-
-// The tests of a segment and the next one.
-fn decide_joint(
-    quick: Quick<'_>,
-    index: u32,
-    segment: &Segment<Frac128>,
-    next: &Segment<Frac128>,
-) -> Result<(), Halt>
-    requires few { length quick.problem.now.rows ≤ 16384 }
-    requires table { IsTabled quick }
-    ensures { Settles (joint_tests (sample value128 quick.entry.problem.now) index segment.now next.now) result }
-{
-    if quick.duals_meet(segment, next) {
-        return Ok(());
-    }
-    let problem = quick.problem;
-    let high = EndView {
-        problem,
-        theta: segment.hi,
-        vertex: &segment.vertex,
-        basic: &segment.basic_hi,
-    };
-    let low = EndView {
-        problem,
-        theta: next.lo,
-        vertex: &next.vertex,
-        basic: &next.basic_lo,
-    };
-    Rows {
-        problem,
-        of: JointRows { index, high, low },
-    }
-    .decide(quick.alloc)
-}
-
-impl SegmentTests for Joints<'_> {
-    ghost segment_tests = { λ x j s. joints (sample value128 x.quick.problem.now) x.list.now j s };
-
-    ghost segment_given = { λ x j s. (length x.quick.problem.now.rows ≤ 16384) × IsTabled x.quick };
-
-    fn decide_segment(
-        self,
-        alloc: Global,
-        index: u32,
-        segment: &Segment<Frac128>,
-    ) -> Result<(), Halt> {
-        match self.list.as_slice().get(index as usize) {
-            Some(next) => decide_joint(self.quick, index, segment, next),
-            None => Ok(()),
-        }
     }
 }
 
