@@ -15,7 +15,7 @@ use gram_matrix::gram_problem;
 use loss_model::{Basis, Problem, Short, Stop, Trail};
 use rank_law::laws;
 use std::alloc::Global;
-use whole_start::greedy_start;
+use whole_rows::greedy_start;
 
 /// The inverse of the Gram matrix of the weighted columns of a problem, by which every column is projected
 /// on the others; and the greedy start of its rows, by position.

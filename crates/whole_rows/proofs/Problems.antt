@@ -13,7 +13,7 @@ use Rattle.scaled_model.specs.Scaled.{IsScaled}
 use Rattle.whole_rows.specs.declared.factor.Factor.{Factor}
 use Rattle.whole_rows.specs.declared.rows.WholeRow.{WholeRow}
 use Rattle.whole_rows.specs.Wholes.{factor_value, factor_at, IsPositive, IsWholeRow, ArePaired, sample_of_rows}
-use Rattle.whole_rows.proofs.Values.{positive_share, positive_some}
+use Rattle.whole_rows.proofs.WholeValues.{positive_share, positive_some}
 use Rattle.whole_rows.proofs.Pairs.{paired_read}
 
 pub factor_positive : (f : Factor) → IsPositive f → ¬ (factor_value f ≤ℚ whole (pos 0))

@@ -12,7 +12,7 @@ use basis_model::Part;
 use frac_core::Exact;
 use fraction_tableau::Breakpoint;
 use pivot_rule::Direction;
-use whole_fractions::value_over;
+use whole_rows::value_over;
 use whole_inverse::Obstacle;
 use wide_int::Natural;
 

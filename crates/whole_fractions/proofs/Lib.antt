@@ -1,2 +1,0 @@
-mod ValueLists
-pub mod Inverses
