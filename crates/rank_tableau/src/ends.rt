@@ -11,8 +11,8 @@ use crate::course::Course;
 use crate::numbers::{dual_number, scale_number, speed_number};
 use frac_core::{Exact, List};
 use whole_descent::Quantile;
-use whole_rows::{Factor, value_over};
 use whole_inverse::Obstacle;
+use whole_rows::{Factor, value_over};
 use whole_tableau::{Reading, WholeTableau};
 use wide_int::Wide;
 

@@ -12,8 +12,8 @@ use basis_model::Part;
 use frac_core::Exact;
 use fraction_tableau::Breakpoint;
 use pivot_rule::Direction;
-use whole_rows::value_over;
 use whole_inverse::Obstacle;
+use whole_rows::value_over;
 use wide_int::Natural;
 
 /// The quotient `over / under`.
