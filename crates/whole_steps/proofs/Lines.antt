@@ -62,8 +62,8 @@ unfolding HasNumbers
 full_line s j d numbers f line are residuals coords =
     let held : HasNumbers s.basis.now j numbers.residuals numbers.coords = (are.size, are.residuals, are.all_coords, are.coords) in
     let moved : HasNumbers f.line.basis.now f.line.position f.residuals.now f.coords.now =
-        along (λ b k e. HasNumbers b k f.residuals.now f.coords.now) s j d f.line line
-        (subst (λ xs. HasNumbers s.basis.now j xs f.coords.now) (sym residuals) (subst (λ xs. HasNumbers s.basis.now j numbers.residuals xs) (sym coords) held)) in
+    along (λ b k e. HasNumbers b k f.residuals.now f.coords.now) s j d f.line line
+    (subst (λ xs. HasNumbers s.basis.now j xs f.coords.now) (sym residuals) (subst (λ xs. HasNumbers s.basis.now j numbers.residuals xs) (sym coords) held)) in
     record { line = line.line; size = moved.0; residuals = moved.1; all_coords = moved.2; coords = moved.3 }
 
 -- the coefficients and near rows of a basis with these rows on these sides
@@ -84,7 +84,7 @@ near_line s h j d n line coef near =
     let there = h.solution in
     let held : HasNear s.basis.now s.solution.now.sides s.solution.now.coef s.solution.now.near = (there.columns, there.coef, there.near, there.far) in
     let moved : HasNear n.line.basis.now n.line.sides.now n.coef.now n.near.now =
-        subst (λ b. HasNear b n.line.sides.now n.coef.now n.near.now) (sym line.basis)
-        (subst (λ xs. HasNear s.basis.now xs n.coef.now n.near.now) (sym line.sides)
-        (subst (λ xs. HasNear s.basis.now s.solution.now.sides xs n.near.now) (sym coef) (subst (λ x. HasNear s.basis.now s.solution.now.sides s.solution.now.coef x) (sym near) held))) in
+    subst (λ b. HasNear b n.line.sides.now n.coef.now n.near.now) (sym line.basis)
+    (subst (λ xs. HasNear s.basis.now xs n.coef.now n.near.now) (sym line.sides)
+    (subst (λ xs. HasNear s.basis.now s.solution.now.sides xs n.near.now) (sym coef) (subst (λ x. HasNear s.basis.now s.solution.now.sides s.solution.now.coef x) (sym near) held))) in
     record { line = line.line; columns = moved.0; coef = moved.1; near = moved.2; far = moved.3 }
