@@ -21,6 +21,8 @@ mod inverses;
 #[cfg(test)]
 mod least_loss;
 #[cfg(test)]
+mod near;
+#[cfg(test)]
 mod pivots;
 #[cfg(test)]
 mod ties;
