@@ -21,7 +21,11 @@ mod inverses;
 #[cfg(test)]
 mod least_loss;
 #[cfg(test)]
+<<<<<<< HEAD
 mod limits;
+=======
+mod near;
+>>>>>>> near3/main
 #[cfg(test)]
 mod pivots;
 #[cfg(test)]
