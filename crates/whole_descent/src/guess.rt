@@ -23,8 +23,8 @@ impl<'a> Descent<'a> {
         requires descent { IsDescent self.now }
     {
         let mut found = List::new(alloc);
-        for row in 0..self.line.sides.len() as u32 {
-            if self.line.mover_at(row).is_some() {
+        for row in 0..self.full.line.sides.len() as u32 {
+            if self.full.mover_at(row).is_some() {
                 found.add(row)?;
             }
         }
@@ -34,20 +34,20 @@ impl<'a> Descent<'a> {
     /// A row as a mover, if it is one.
     fn mover(&self, row: u32) -> Option<Mover>
         requires descent { IsDescent self.now }
-        ensures { IfSome result (λ m. IsMover self.now.line.now m) }
+        ensures { IfSome result (λ m. IsMover self.now.full.line m) }
     {
-        let line = self.line;
-        if row as usize >= line.sides.len() {
+        let full = self.full;
+        if row as usize >= full.line.sides.len() {
             return None;
         }
-        line.mover_at(row)
+        full.mover_at(row)
     }
 
     /// What passing a row adds to the slope.
     fn adding(&self, row: u32) -> Result<i128, Obstacle>
         requires descent { IsDescent self.now }
     {
-        if row as usize >= self.line.sides.len() {
+        if row as usize >= self.full.line.sides.len() {
             return Err(Obstacle::TooWide);
         }
         let more = self.passing(row)?;
@@ -57,9 +57,9 @@ impl<'a> Descent<'a> {
     /// Puts a row on its side of another one.
     fn put(&self, parts: &mut Parts, row: u32, pivot: Mover) -> Result<(), Obstacle>
         requires descent { IsDescent self.now }
-        requires pivot { IsMover self.now.line.now pivot }
+        requires pivot { IsMover self.now.full.line pivot }
     {
-        if row as usize >= self.line.sides.len() || row == pivot.row {
+        if row as usize >= self.full.line.sides.len() || row == pivot.row {
             return Ok(());
         }
         if self.is_passed(row, pivot)? {
@@ -74,7 +74,7 @@ impl<'a> Descent<'a> {
     /// Rows parted by one of them.
     fn parted(&self, alloc: Global, rows: &[u32], pivot: Mover) -> Result<Parts, Obstacle>
         requires descent { IsDescent self.now }
-        requires pivot { IsMover self.now.line.now pivot }
+        requires pivot { IsMover self.now.full.line pivot }
     {
         let mut parts = Parts {
             before: List::new(alloc),
@@ -94,7 +94,7 @@ impl<'a> Descent<'a> {
     {
         let mut left = self.movers(alloc)?;
         let mut slope = start;
-        for _ in 0..self.line.sides.len() {
+        for _ in 0..self.full.line.sides.len() {
             let rows = left.as_slice();
             if rows.is_empty() {
                 return Err(Obstacle::TooWide);

@@ -7,12 +7,12 @@ ghost use Rattle.whole_descent.specs.Passing.{IsDescent, number_value, first_slo
 
 use crate::quantile::Quantile;
 use whole_inverse::Obstacle;
-use whole_ratio::{Line, Mover};
+use whole_ratio::{FullLine, Mover};
 
-/// A line along which the loss falls, and the quantile.
+/// A line along which the loss falls, with the numbers of all rows, and the quantile.
 #[derive(Clone, Copy)]
 pub struct Descent<'a> {
-    pub line: &'a Line<'a>,
+    pub full: FullLine<'a>,
     pub theta: Quantile,
 }
 
@@ -53,17 +53,17 @@ impl<'a> Descent<'a> {
     /// What passing a row adds to the slope.
     pub(crate) fn passing(&self, row: u32) -> Result<i128, Obstacle>
         requires descent { IsDescent self.now }
-        requires row { row < length self.now.line.now.basis.now.rows.now }
+        requires row { row < length self.now.full.line.basis.now.rows.now }
         ensures { IfOk result (λ n. rational (number_value self.now n) ≡ passing_of self.now row) }
     {
-        let line = self.line;
-        let basis = line.basis;
+        let full = self.full;
+        let basis = full.line.basis;
         let rows = basis.rows;
         let chosen = &rows[row as usize];
         let constant = cost_sum(chosen.up0, chosen.down0)?;
         let linear = cost_sum(chosen.up1, chosen.down1)?;
         let weight = self.theta.number(constant, linear)?;
-        let coords = line.coords;
+        let coords = full.coords;
         let number = size_times(coords[row as usize], weight)?;
         Ok(number)
     }
@@ -71,18 +71,18 @@ impl<'a> Descent<'a> {
     /// Whether a row moves, and is passed before another one.
     pub(crate) fn is_passed(&self, row: u32, target: Mover) -> Result<bool, Obstacle>
         requires descent { IsDescent self.now }
-        requires row { row < length self.now.line.now.basis.now.rows.now }
-        requires target { IsMover self.now.line.now target }
-        ensures { IfOk result (λ b. b ≡ (is_moving self.now.line.now row && comes_before self.now.line.now row target.row)) }
+        requires row { row < length self.now.full.line.basis.now.rows.now }
+        requires target { IsMover self.now.full.line target }
+        ensures { IfOk result (λ b. b ≡ (is_moving self.now.full.line row && comes_before self.now.full.line row target.row)) }
     {
-        let line = self.line;
-        match line.mover_at(row) {
+        let full = self.full;
+        match full.mover_at(row) {
             None => Ok(false),
             Some(mover) => {
                 if mover.row == target.row {
                     return Ok(false);
                 }
-                let before = line.precedes(mover, target)?;
+                let before = full.line.precedes(mover, target)?;
                 Ok(before)
             }
         }
@@ -91,8 +91,8 @@ impl<'a> Descent<'a> {
     /// The slope after a row, where it is passed before another one.
     fn after(&self, row: u32, target: Mover, slope: i128) -> Result<i128, Obstacle>
         requires descent { IsDescent self.now }
-        requires row { row < length self.now.line.now.basis.now.rows.now }
-        requires target { IsMover self.now.line.now target }
+        requires row { row < length self.now.full.line.basis.now.rows.now }
+        requires target { IsMover self.now.full.line target }
         ensures { IfOk result (λ n. rational (number_value self.now n) ≡ rational (number_value self.now slope) +ℚ passed_by self.now target.row row) }
     {
         if self.is_passed(row, target)? {
@@ -106,12 +106,12 @@ impl<'a> Descent<'a> {
     /// The slope after all rows that are passed before a row.
     fn slope_before(&self, target: Mover, start: i128) -> Result<i128, Obstacle>
         requires descent { IsDescent self.now }
-        requires target { IsMover self.now.line.now target }
+        requires target { IsMover self.now.full.line target }
         requires start { rational (number_value self.now start) ≡ first_slope self.now }
         ensures { IfOk result (λ n. rational (number_value self.now n) ≡ slope_until self.now target.row) }
     {
         let mut slope = start;
-        for row in 0..self.line.sides.len() as u32 {
+        for row in 0..self.full.line.sides.len() as u32 {
             match self.after(row, target, slope) {
                 Ok(next) => slope = next,
                 Err(obstacle) => return Err(obstacle),
@@ -123,7 +123,7 @@ impl<'a> Descent<'a> {
     /// Whether passing a row takes the slope from below 0.
     fn turns(&self, target: Mover, start: i128) -> Result<bool, Obstacle>
         requires descent { IsDescent self.now }
-        requires target { IsMover self.now.line.now target }
+        requires target { IsMover self.now.full.line target }
         requires start { rational (number_value self.now start) ≡ first_slope self.now }
         ensures { IfOk result (λ b. IsTrue b → Enters self.now target.row) }
     {
@@ -145,11 +145,11 @@ impl<'a> Descent<'a> {
         requires start { rational (number_value self.now start) ≡ first_slope self.now }
         ensures { IfOk result (Enters self.now) }
     {
-        let line = self.line;
-        if guess as usize >= line.sides.len() {
+        let full = self.full;
+        if guess as usize >= full.line.sides.len() {
             return Err(Obstacle::TooWide);
         }
-        match line.mover_at(guess) {
+        match full.mover_at(guess) {
             Some(target) => {
                 if self.turns(target, start)? {
                     Ok(target.row)

@@ -10,8 +10,7 @@ use crate::quantile::Quantile;
 use std::alloc::Global;
 use tableau_model::Step;
 use whole_inverse::Obstacle;
-use whole_ratio::Line;
-use whole_solution::row_products;
+use whole_ratio::FullLine;
 use whole_steps::Station;
 
 /// The row that enters where a position leaves.
@@ -26,19 +25,13 @@ fn entering(
     requires leave { IsLeavingAt station.now theta leave }
     ensures { IfOk result (IsEnteringAt station.now theta leave) }
 {
-    let basis = station.basis;
-    let solution = station.solution;
-    let column = basis.inverse.numerators(leave.position);
-    let coords = row_products(alloc, basis.rows, column, basis.limit)?;
-    let line = Line {
-        basis,
-        residuals: solution.residuals.as_slice(),
-        sides: solution.sides.as_slice(),
-        coords: coords.as_slice(),
-        position: leave.position,
-        direction: leave.direction,
+    let numbers = station.row_numbers(alloc, leave.position)?;
+    let full = FullLine {
+        line: station.line(leave.position, leave.direction),
+        residuals: numbers.residuals.as_slice(),
+        coords: numbers.coords.as_slice(),
     };
-    let descent = Descent { line: &line, theta };
+    let descent = Descent { full, theta };
     let guess = descent.guess(alloc, leave.slope)?;
     let row = descent.tested(guess, leave.slope)?;
     Ok(row)

@@ -3,5 +3,8 @@ pub mod Movers
 pub mod Ties
 pub mod Held
 pub mod Leading
+pub mod Bounded
 pub mod FirstLaws
+pub mod Coordinates
+pub mod FarRows
 pub mod Passed

@@ -30,8 +30,8 @@ use Rattle.whole_solution.proofs.Numbers.{share-neg}
 use Rattle.whole_ratio.specs.declared.line.Line.{Line}
 use Rattle.whole_ratio.specs.declared.line.Mover.{Mover}
 use Rattle.whole_ratio.specs.declared.tie.Tied.{Tied}
-use Rattle.whole_ratio.specs.Lines.{model, at_of, inverse_at, over_of, IsLine, IsMover, is_moving, comes_before}
-use Rattle.whole_ratio.specs.Ties.{ratio_of, entry_on, IsTied, HoldsNone, IsLeastHeld}
+use Rattle.whole_ratio.specs.Lines.{model, at_of, inverse_at, over_of, IsLine, IsMover, is_moving, comes_before, ratio_of}
+use Rattle.whole_ratio.specs.Ties.{entry_on, IsTied, HoldsNone, IsLeastHeld}
 use Rattle.whole_ratio.proofs.Signs.{cross_compare, share_below, share_not_below, neg_order}
 
 bool_is : (b : Bool) (o : Ordering) → (IsTrue b ↔ (o ≡ Less)) → b ≡ is_lt o

@@ -4,17 +4,13 @@ use Rattle.exact_algebra.specs.Rational.{ℚ, neg_ℚ}
 use Rattle.loss_model.specs.declared.vertex.Side.{Side}
 use Rattle.loss_model.specs.declared.vertex.Side.TheVariants.{Up, Down, Basic}
 use Rattle.loss_model.specs.Spill.{abs_ℚ}
-use Rattle.basis_model.specs.Perturbed.{ratio, perturbed_side}
+use Rattle.basis_model.specs.Perturbed.{perturbed_side}
 use Rattle.basis_model.specs.Basis.{coord, outside_row}
 use Rattle.whole_inverse.specs.Shares.{share}
 use Rattle.whole_ratio.specs.declared.line.Line.{Line}
 use Rattle.whole_ratio.specs.declared.tie.Tied.{Tied}
 use Rattle.whole_ratio.specs.declared.tie.Entry.{Entry}
-use Rattle.whole_ratio.specs.Lines.{model, at_of, inverse_at, over_of, is_moving}
-
--- the perturbed ratio of row i
-abbrev pub ratio_of : Line → ℕ → ℕ → ℚ
-ratio_of l i = ratio (model l).rows (model l).columns (at_of l) l.position (outside_row (model l) (at_of l) (inverse_at l) i)
+use Rattle.whole_ratio.specs.Lines.{model, at_of, inverse_at, over_of, ratio_of, is_moving}
 
 -- the negated coordinate, which is negated again below the fit
 abbrev pub entry_on : Side → ℚ → ℚ

@@ -1,24 +1,23 @@
 //! The line along which a position leaves, and the rows that move on it.
-ghost use Rattle.std.specs.Prelude.{◌≡◌, ℕ, ℤ, ◌<◌, ◌≤ℤ◌, length, pos};
+ghost use Rattle.std.specs.Prelude.{◌≡◌, ℤ, ◌≤ℤ◌, IfOk, IfSome, pos};
 ghost use Rattle.std.specs.Ordering.{is_lt, is_gt};
 ghost use Rattle.exact_algebra.specs.Rational.{whole};
 ghost use Rattle.exact_algebra.specs.Order.{cmp_ℚ};
 ghost use Rattle.pivot_rule.specs.Steps.{is_towards};
 ghost use Rattle.whole_inverse.specs.Shares.{share};
-ghost use Rattle.whole_ratio.specs.Lines.{IsLine, IsMoverAt, turned_by};
+ghost use Rattle.whole_ratio.specs.Lines.{IsLine, IsMover, IsEarlierMover, IsJoined, turned_by};
 
+use crate::less::is_surely_less;
 use loss_model::Side;
 use pivot_rule::Direction;
+use whole_inverse::Obstacle;
 use whole_solution::WholeBasis;
 
-/// The line along which the row at a position leaves the basis: the residuals and the sides of all rows where it begins,
-/// their coordinates at the position, and the direction. All numbers are numerators over the determinant.
+/// The line along which the row at a position leaves the basis: the sides of all rows where it begins, and the direction.
 #[derive(Clone, Copy)]
 pub struct Line<'a> {
     pub basis: &'a WholeBasis<'a>,
-    pub residuals: &'a [i128],
     pub sides: &'a [Side],
-    pub coords: &'a [i128],
     pub position: u32,
     pub direction: Direction,
 }
@@ -85,25 +84,39 @@ pub(crate) fn goes_towards(side: Side, direction: Direction, coord: i128) -> boo
 }
 
 impl<'a> Line<'a> {
-    /// A row as a mover, where it moves.
-    pub fn mover_at(&self, row: u32) -> Option<Mover>
+    /// The one of two movers that comes first. Both may be the same row.
+    fn earlier(&self, first: Mover, second: Mover) -> Result<Mover, Obstacle>
         requires line { IsLine self.now }
-        requires row { row < length self.now.basis.now.rows.now }
-        ensures { IsMoverAt self.now row result }
+        requires first { IsMover self.now first }
+        requires second { IsMover self.now second }
+        ensures { IfOk result (IsEarlierMover self.now first second) }
     {
-        let sides = self.sides;
-        let coords = self.coords;
-        let residuals = self.residuals;
-        let side = sides[row as usize];
-        let coord = coords[row as usize];
-        if !goes_towards(side, self.direction, coord) {
-            return None;
+        if first.row == second.row {
+            return Ok(first);
         }
-        let residual = residuals[row as usize];
-        Some(Mover {
-            row,
-            residual: residual.unsigned_abs(),
-            coord: coord.unsigned_abs(),
-        })
+        if is_surely_less(first, second) {
+            return Ok(first);
+        }
+        if self.precedes(second, first)? {
+            Ok(second)
+        } else {
+            Ok(first)
+        }
+    }
+
+    /// The first of some movers, the first of which is known, and one more.
+    pub(crate) fn joined(&self, best: Option<Mover>, mover: Mover) -> Result<Mover, Obstacle>
+        requires line { IsLine self.now }
+        requires best { IfSome best (IsMover self.now) }
+        requires mover { IsMover self.now mover }
+        ensures { IfOk result (IsJoined self.now best mover) }
+    {
+        match best {
+            None => Ok(mover),
+            Some(first) => {
+                let next = self.earlier(first, mover)?;
+                Ok(next)
+            }
+        }
     }
 }

@@ -9,8 +9,8 @@ ghost use Rattle.exact_algebra.specs.Order.{cmp_ℚ};
 ghost use Rattle.loss_model.specs.declared.vertex.Side.TheVariants.{Down};
 ghost use Rattle.basis_model.specs.Lexicographic.{lex_cmp};
 ghost use Rattle.whole_inverse.specs.Shares.{share};
-ghost use Rattle.whole_ratio.specs.Lines.{IsLine, IsMover, at_of, comes_before};
-ghost use Rattle.whole_ratio.specs.Ties.{ratio_of, entry_on, IsTied, IsEntryAt, IsNextHeld};
+ghost use Rattle.whole_ratio.specs.Lines.{IsLine, IsMover, at_of, comes_before, ratio_of};
+ghost use Rattle.whole_ratio.specs.Ties.{entry_on, IsTied, IsEntryAt, IsNextHeld};
 
 use crate::line::{Line, Mover};
 use loss_model::Side;
@@ -103,13 +103,10 @@ impl<'a> Line<'a> {
         ensures row { result.row ≡ mover.row }
     {
         let sides = self.sides;
-        let coords = self.coords;
-        let row = mover.row;
-        let coord = coords[row as usize];
         Tied {
-            row,
-            side: sides[row as usize],
-            size: coord.unsigned_abs(),
+            row: mover.row,
+            side: sides[mover.row as usize],
+            size: mover.coord,
         }
     }
 

@@ -2,7 +2,7 @@
 use Rattle.std.specs.Prelude.{◌≡◌, ℕ, ◌<◌, List, [], ◌∷◌, length, get_or, pos}
 use Rattle.std.proofs.Common.{refl, sym, ap, ◌∙◌}
 use Rattle.exact_algebra.specs.Solver.{number, negated, ◌⊞◌, ◌⊟◌, v0, v1}
-use Rattle.exact_algebra.specs.Rational.{ℚ, ◌+ℚ◌, ◌-ℚ◌, neg_ℚ, whole}
+use Rattle.exact_algebra.specs.Rational.{ℚ, ◌+ℚ◌, ◌-ℚ◌, whole}
 use Rattle.exact_algebra.proofs.RationalLaws.{ring_ℚ}
 use Rattle.loss_model.specs.Sample.{Sample}
 use Rattle.basis_model.specs.declared.part.Part.{Part}

@@ -1,2 +1,3 @@
 pub mod Stations
 pub mod Crossings
+pub mod Entering

@@ -23,4 +23,5 @@ mod slopes;
 mod station;
 
 pub use crossings::{Quotient, fraction_of};
+pub use entering::RowNumbers;
 pub use station::Station;

@@ -7,7 +7,7 @@ use Rattle.whole_descent.proofs.passing.Descent.is_passed.Goals as goal
 pub returns-then-mover-target : goal.returns-then-mover-target
 returns-then-mover-target c =
     let d = c.args.self.now in
-    let l = d.line.now in
+    let l = d.full.line in
     let row = c.args.row in
     let mover = c.in-Some.mover in
     let made : IsMover l mover × (mover.row ≡ row) = subst (IsMoverAt l row) c.in-Some.is c.mover_at.ensures in

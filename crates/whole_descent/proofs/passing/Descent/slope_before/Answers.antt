@@ -23,5 +23,5 @@ loop-row-preserved c =
 pub returns : goal.returns
 returns c =
     let d = c.args.self.now in
-    let all : c.loop-row.row ≡ length d.line.now.basis.now.rows.now = omega (arith, c.loop-row-test.false, c.loop-row.auto.row-end, c.requires.descent.line.all_sides) in
+    let all : c.loop-row.row ≡ length d.full.line.basis.now.rows.now = omega (arith, c.loop-row-test.false, c.loop-row.auto.row-end, c.requires.descent.full.line.all_sides) in
     sum_all d c.requires.descent c.args.target.row c.loop-row.row (rational (number_value d (to_z w128 c.loop-row.slope-bits))) all c.loop-row.invariant

@@ -1,8 +1,7 @@
 -- By the first entry that differs, or by the lesser of both rows.
 use Rattle.std.proofs.Common.{◌≡◌, ◌<◌, arith, sym, ap, ap₂, ◌∙◌, true, false}
 use Rattle.std.specs.Ordering.{is_ne}
-use Rattle.whole_ratio.specs.Lines.{comes_before}
-use Rattle.whole_ratio.specs.Ties.{ratio_of}
+use Rattle.whole_ratio.specs.Lines.{comes_before, ratio_of}
 use Rattle.whole_ratio.proofs.Ties.{first_agrees, order_decides, left_first, right_first}
 use Rattle.whole_ratio.proofs.line.Line.break_tie.Goals as goal
 

@@ -1,6 +1,6 @@
 -- All entries before that of row `from` agree.
 use Rattle.std.specs.Prelude.{◌≡◌, ℕ, suc, ◌<◌, ◌≤◌, ◌-◌}
-use Rattle.whole_ratio.specs.Ties.{ratio_of}
+use Rattle.whole_ratio.specs.Lines.{ratio_of}
 use Rattle.whole_ratio.proofs.line.Line.order_before.Given as goal
 
 abbrev pub invariant-rows : goal.invariant-rows

@@ -1,0 +1,17 @@
+-- By the bound of the coordinates.
+use Rattle.std.proofs.Common.{rules, ◌≡◌, length, unsigned_abs}
+use Rattle.whole_ratio.specs.Bounds.{IsMost}
+use Rattle.whole_ratio.specs.Lines.{over_of}
+use Rattle.whole_ratio.proofs.FarRows.{far_after}
+use Rattle.whole_ratio.proofs.near_line.NearLine.precedes_far.Goals as goal
+
+pub returns : goal.returns
+returns c =
+    let n = c.args.self.now in
+    let numbers = c.numerators-column.result.now in
+    let most = c.in-Some.most in
+    let bound : IsMost n.near.now.tops numbers (length numbers) most = rw (c.as_slice.ensures) at (c.in-Some.ensures {u = tt}) in
+    let ed : c.unsigned_abs.result ≡ unsigned_abs n.near.now.determinant = search rules in
+    let eo : c.unsigned_abs-2.result ≡ unsigned_abs (over_of n.line) = search rules in
+    let less = rw (ed, eo) at c.is_product_less.ensures in
+    λ t. far_after n c.requires.near numbers c.numerators-column.ensures c.args.first c.requires.first most bound (less t)
