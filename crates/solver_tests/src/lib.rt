@@ -21,11 +21,9 @@ mod inverses;
 #[cfg(test)]
 mod least_loss;
 #[cfg(test)]
-<<<<<<< HEAD
 mod limits;
-=======
+#[cfg(test)]
 mod near;
->>>>>>> near3/main
 #[cfg(test)]
 mod pivots;
 #[cfg(test)]

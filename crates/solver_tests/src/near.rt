@@ -8,12 +8,13 @@ ghost use Rattle.tableau.specs.Bodies.{place_of};
 ghost use Rattle.tableau.specs.Solving.{IsBegun};
 
 use crate::bodies::in_wholes;
-use crate::helpers::{Plain, draw, fraction, has_costs, is_shaped, make_problem, push};
+use crate::helpers::{Plain, fraction, make_problem, push};
 use frac_core::{Exact, Frac128};
 use loss_model::Problem;
 use std::alloc::Global;
 use std::process::Abort;
 use tableau::{Progress, Tableau, solve_over};
+use test_kit::{draw, has_costs, is_shaped};
 use whole_steps::Station;
 use whole_tableau::{WholeTableau, setting_of};
 
@@ -171,7 +172,10 @@ fn paired_table(rt: &impl Abort, alloc: Global) -> Problem<Frac128> {
 fn far_rows_are_not_looked_at(rt: HostRuntime) {
     let problem = paired_table(&rt, rt.alloc());
     let range = (fraction(&rt, (1, 2)), fraction(&rt, (3, 5)));
-    let walked = in_wholes(&rt, rt.alloc(), &problem, range).expect(&rt, "a start in whole numbers");
+    let walked = in_wholes(&rt, rt.alloc(), &problem, range).expect(
+        &rt,
+        "a start in whole numbers",
+    );
     let steps = walked.trail.steps.as_slice().len();
     assert!(rt; steps >= 4, "only {steps} steps");
     drop(walked);
