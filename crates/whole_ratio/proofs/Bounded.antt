@@ -18,7 +18,7 @@ use Rattle.whole_solution.proofs.Numbers.{share_none}
 use Rattle.whole_ratio.specs.declared.bound.Pair.{Pair}
 use Rattle.whole_ratio.specs.Bounds.{IsReduced, IsMost}
 use Rattle.whole_ratio.proofs.Signs.{abs_share}
-use Rattle.whole_ratio.proofs.Sizes.{sum_within, product_within}
+use Rattle.whole_solution.proofs.Sizes.{sum_within, product_within}
 
 -- ---- products of three
 

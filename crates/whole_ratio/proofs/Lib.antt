@@ -3,7 +3,6 @@ pub mod Movers
 pub mod Ties
 pub mod Held
 pub mod Leading
-pub mod Sizes
 pub mod Bounded
 pub mod FirstLaws
 pub mod Coordinates

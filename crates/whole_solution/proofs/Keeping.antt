@@ -1,12 +1,12 @@
 -- Residuals that are far from 0, and how far the coefficients can take them.
-use Rattle.std.specs.Prelude.{◌≡◌, ◌⊎◌, ℕ, ℤ, ◌<◌, ◌≤◌, ◌+◌, ◌*◌, ◌≤ℤ◌, neg_ℤ, unsigned_abs, [], ◌∷◌, false, pos}
-use Rattle.std.proofs.Common.{arith, refl, sym, ap, subst, ◌∙◌, inl, inr}
+use Rattle.std.specs.Prelude.{◌≡◌, ℕ, ℤ, ◌<◌, ◌≤◌, ◌+◌, ◌*◌, ◌≤ℤ◌, neg_ℤ, unsigned_abs, [], ◌∷◌, false, pos}
+use Rattle.std.proofs.Common.{arith, refl, sym, ap, subst, ◌∙◌}
 use Rattle.std.proofs.lemmas.Int.{ints}
 use Rattle.exact_algebra.specs.Solver.{number, negated, ◌⊞◌, ◌⊟◌, ◌⊠◌, v0, v1, v2}
 use Rattle.exact_algebra.specs.Rational.{ℚ, ◌+ℚ◌, ◌-ℚ◌, ◌*ℚ◌, neg_ℚ, whole, inverse, ◌≤ℚ◌}
 use Rattle.exact_algebra.specs.Order.{cmp_ℚ}
 use Rattle.exact_algebra.proofs.RationalLaws.{ring_ℚ, ≤ℚ_refl, ≤ℚ_trans, ≤ℚ_mul, whole-add}
-use Rattle.exact_algebra.proofs.OrderLaws.{cmp_ℚ-Greater, cmp_ℚ-not_Greater, inverse_not_negative, le_from_not}
+use Rattle.exact_algebra.proofs.OrderLaws.{cmp_ℚ-Greater, cmp_ℚ-not_Greater, inverse_not_negative}
 use Rattle.exact_algebra.proofs.WholeNumbers.{whole-le}
 use Rattle.exact_algebra.specs.RationalSums.{sum_ℚ}
 use Rattle.exact_algebra.proofs.RationalSumLaws.{sum_ℚ-same, sum_ℚ-le, sum_ℚ-mix, sum_ℚ-scale}
@@ -18,81 +18,12 @@ use Rattle.loss_model.specs.Spill.{abs_ℚ}
 use Rattle.basis_model.specs.Perturbed.{side_of}
 use Rattle.basis_model.specs.Basis.{coefficient, outside_row, side_at}
 use Rattle.basis_model.proofs.Signs.{side-residual}
-use Rattle.pivot_rule.proofs.Entering.{abs_above, abs_below}
-use Rattle.walk_rule.proofs.Lines.{decide, le_by}
+use Rattle.walk_rule.proofs.Lines.{le_by}
 use Rattle.whole_inverse.specs.Shares.{share}
 use Rattle.whole_solution.specs.Far.{room, FarRowsKeep, IsFarOn}
 use Rattle.whole_solution.proofs.Made.{outside_by}
+use Rattle.whole_solution.proofs.Sizes.{not_above, product_below, product_above}
 use Rattle.whole_solution.proofs.Numbers.{share-neg, not_greater}
-
--- ---- a product by the sizes of its factors
-
-not_above : (x : ℚ) → ¬ (whole (pos 0) ≤ℚ x) → x ≤ℚ whole (pos 0)
-not_above x h = le_from_not x (whole (pos 0)) h
-
-negated_up : (x : ℚ) → x ≤ℚ whole (pos 0) → whole (pos 0) ≤ℚ neg_ℚ x
-negated_up x h = le_by x (whole (pos 0)) (whole (pos 0)) (neg_ℚ x) h (ring_ℚ (x ∷ []) (number (pos 0) ⊟ v0) (negated v0 ⊟ number (pos 0)) refl)
-
--- a size is one of both
-pub size_by : (x : ℚ) (P : ℚ → Type 0) → P x → P (neg_ℚ x) → P (abs_ℚ x)
-size_by x P up down = by (decide (whole (pos 0)) x)
-  where
-    by : (whole (pos 0) ≤ℚ x) ⊎ ¬ (whole (pos 0) ≤ℚ x) → P (abs_ℚ x)
-    by (inl h) = subst P (sym (abs_above x h)) up
-    by (inr h) = subst P (sym (abs_below x (not_above x h))) down
-
-own_size : (x : ℚ) → x ≤ℚ abs_ℚ x
-own_size x = by (decide (whole (pos 0)) x)
-  where
-    by : (whole (pos 0) ≤ℚ x) ⊎ ¬ (whole (pos 0) ≤ℚ x) → x ≤ℚ abs_ℚ x
-    by (inl h) = subst (λ z. x ≤ℚ z) (sym (abs_above x h)) (≤ℚ_refl x)
-    by (inr h) =
-        let down = not_above x h in
-        subst (λ z. x ≤ℚ z) (sym (abs_below x down)) (≤ℚ_trans x (whole (pos 0)) (neg_ℚ x) down (negated_up x down))
-
-negated_size : (x : ℚ) → neg_ℚ x ≤ℚ abs_ℚ x
-negated_size x = by (decide (whole (pos 0)) x)
-  where
-    by : (whole (pos 0) ≤ℚ x) ⊎ ¬ (whole (pos 0) ≤ℚ x) → neg_ℚ x ≤ℚ abs_ℚ x
-    by (inl h) =
-        let down : neg_ℚ x ≤ℚ whole (pos 0) = le_by (whole (pos 0)) x (neg_ℚ x) (whole (pos 0)) h (ring_ℚ (x ∷ []) (v0 ⊟ number (pos 0)) (number (pos 0) ⊟ negated v0) refl) in
-        subst (λ z. neg_ℚ x ≤ℚ z) (sym (abs_above x h)) (≤ℚ_trans (neg_ℚ x) (whole (pos 0)) x down h)
-    by (inr h) = subst (λ z. neg_ℚ x ≤ℚ z) (sym (abs_below x (not_above x h))) (≤ℚ_refl (neg_ℚ x))
-
-module _ (x y t : ℚ) (small : abs_ℚ x ≤ℚ t) where
-  below : x ≤ℚ t
-  below = ≤ℚ_trans x (abs_ℚ x) t (own_size x) small
-
-  negated_below : neg_ℚ x ≤ℚ t
-  negated_below = ≤ℚ_trans (neg_ℚ x) (abs_ℚ x) t (negated_size x) small
-
-  -- by a factor of either sign
-  above_by : (u z : ℚ) → u ≤ℚ t → whole (pos 0) ≤ℚ z → (u *ℚ z) ≤ℚ (t *ℚ z)
-  above_by u z h p =
-      subst (λ w. w ≤ℚ (t *ℚ z)) (ring_ℚ (z ∷ u ∷ []) (v0 ⊠ v1) (v1 ⊠ v0) refl)
-      (subst (λ w. (z *ℚ u) ≤ℚ w) (ring_ℚ (z ∷ t ∷ []) (v0 ⊠ v1) (v1 ⊠ v0) refl) (≤ℚ_mul u t z p h))
-
-  product_below : (x *ℚ y) ≤ℚ (t *ℚ abs_ℚ y)
-  product_below = by (decide (whole (pos 0)) y)
-    where
-      by : (whole (pos 0) ≤ℚ y) ⊎ ¬ (whole (pos 0) ≤ℚ y) → (x *ℚ y) ≤ℚ (t *ℚ abs_ℚ y)
-      by (inl h) = subst (λ z. (x *ℚ y) ≤ℚ (t *ℚ z)) (sym (abs_above y h)) (above_by x y below h)
-      by (inr h) =
-          let down = not_above y h in
-          subst (λ z. (x *ℚ y) ≤ℚ (t *ℚ z)) (sym (abs_below y down))
-          (subst (λ z. z ≤ℚ (t *ℚ neg_ℚ y)) (ring_ℚ (x ∷ y ∷ []) (negated v0 ⊠ negated v1) (v0 ⊠ v1) refl) (above_by (neg_ℚ x) (neg_ℚ y) negated_below (negated_up y down)))
-
-  product_above : (neg_ℚ (whole (pos 1)) *ℚ (x *ℚ y)) ≤ℚ (t *ℚ abs_ℚ y)
-  product_above = by (decide (whole (pos 0)) y)
-    where
-      by : (whole (pos 0) ≤ℚ y) ⊎ ¬ (whole (pos 0) ≤ℚ y) → (neg_ℚ (whole (pos 1)) *ℚ (x *ℚ y)) ≤ℚ (t *ℚ abs_ℚ y)
-      by (inl h) =
-          subst (λ z. (neg_ℚ (whole (pos 1)) *ℚ (x *ℚ y)) ≤ℚ (t *ℚ z)) (sym (abs_above y h))
-          (subst (λ z. z ≤ℚ (t *ℚ y)) (ring_ℚ (x ∷ y ∷ []) (negated v0 ⊠ v1) (negated (number (pos 1)) ⊠ (v0 ⊠ v1)) refl) (above_by (neg_ℚ x) y negated_below h))
-      by (inr h) =
-          let down = not_above y h in
-          subst (λ z. (neg_ℚ (whole (pos 1)) *ℚ (x *ℚ y)) ≤ℚ (t *ℚ z)) (sym (abs_below y down))
-          (subst (λ z. z ≤ℚ (t *ℚ neg_ℚ y)) (ring_ℚ (x ∷ y ∷ []) (v0 ⊠ negated v1) (negated (number (pos 1)) ⊠ (v0 ⊠ v1)) refl) (above_by x (neg_ℚ y) below (negated_up y down)))
 
 -- ---- a row
 

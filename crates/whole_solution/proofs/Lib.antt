@@ -7,6 +7,7 @@ pub mod Balanced
 pub mod Same
 pub mod Basics
 pub mod Moved
+pub mod Sizes
 pub mod Keeping
 pub mod Moves
 pub mod Listed

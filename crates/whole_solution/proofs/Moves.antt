@@ -13,7 +13,7 @@ use Rattle.loss_model.specs.Spill.{abs_ℚ}
 use Rattle.whole_inverse.specs.Shares.{share, share_at}
 use Rattle.whole_inverse.proofs.Lists.{share_read}
 use Rattle.whole_solution.specs.Far.{room, top_at}
-use Rattle.whole_solution.proofs.Keeping.{size_by}
+use Rattle.whole_solution.proofs.Sizes.{size_by}
 use Rattle.whole_solution.proofs.Numbers.{above, times}
 
 own_abs : (z : ℤ) → whole z ≤ℚ whole (pos (unsigned_abs z))

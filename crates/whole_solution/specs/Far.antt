@@ -53,6 +53,10 @@ pub record AreTops (p : Sample) (tops : List ℕ) : Type 0 where
 abbrev pub shift_of : Near → ℕ → ℤ → ℤ → ℕ
 shift_of n k number d = unsigned_abs (number *ℤ n.determinant +ℤ neg_ℤ (get_or n.coef k (pos 0) *ℤ d)) * slice_index n.tops k
 
+-- the same of the first n coefficients together
+abbrev pub shifts : Near → List ℤ → ℤ → ℕ → ℚ
+shifts near coef d n = sum_ℚ n (λ k. whole (pos (shift_of near k (get_or coef k (pos 0)) d)))
+
 -- at the earlier fit all rows but these were at least twice the reach from it, on these sides
 pub record IsNear (p : Sample) (side : ℕ → Side) (n : Near) : Type 0 where
   pub columns : length n.coef ≡ p.columns
@@ -61,10 +65,6 @@ pub record IsNear (p : Sample) (side : ℕ → Side) (n : Near) : Type 0 where
   pub rows : All (λ i. i < p.rows) n.rows
   pub tops : AreTops p n.tops
   pub others : AreOthersFar p side n.rows (share (pos (2 * n.reach)) n.determinant) (share_at n.determinant n.coef)
-
--- the same of the first n coefficients together
-abbrev pub shifts : Near → List ℤ → ℤ → ℕ → ℚ
-shifts near coef d n = sum_ℚ n (λ k. whole (pos (shift_of near k (get_or coef k (pos 0)) d)))
 
 -- the rows near the fit of these coefficients over d, where all rows have these residuals and sides
 pub record IsChosen (side : ℕ → Side) (residuals coefs : List ℤ) (d : ℤ) (sizes : List ℕ) (n : Near) : Type 0 where

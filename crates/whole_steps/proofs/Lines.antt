@@ -1,20 +1,14 @@
 -- The line along which a position leaves a station.
-use Rattle.std.specs.Prelude.{◌≡◌, ℕ, ℤ, ◌<◌, Bool, List, length, slice_get, slice_index, Option, Some, pos}
-use Rattle.std.specs.Option.{option_map_or}
+use Rattle.std.specs.Prelude.{◌≡◌, ℕ, ℤ, ◌<◌, Bool, List, length, slice_index, pos}
 use Rattle.std.proofs.Common.{sym, ap, subst, ◌∙◌}
-use Rattle.std.proofs.lemmas.Option.{get_or_from_slice_get}
-use Rattle.exact_algebra.specs.Rational.{ℚ, ◌*ℚ◌, whole}
-use Rattle.exact_algebra.specs.RationalSums.{sum_ℚ}
-use Rattle.exact_algebra.proofs.RationalSumLaws.{sum_ℚ-same}
 use Rattle.loss_model.specs.declared.vertex.Side.{Side}
 use Rattle.loss_model.specs.Sample.{residual}
 use Rattle.basis_model.specs.Basis.{coord, coefficient}
 use Rattle.pivot_rule.specs.declared.direction.Direction.{Direction}
 use Rattle.pivot_rule.specs.Steps.{moves}
-use Rattle.whole_inverse.specs.Shares.{share, share_at, whole_at}
-use Rattle.whole_inverse.specs.Squares.{WholeSquare, IsWholeSquare, inverse_of}
-use Rattle.whole_rows.specs.declared.rows.WholeRow.{WholeRow}
-use Rattle.whole_rows.specs.Wholes.{of_whole, sample_of_rows}
+use Rattle.whole_inverse.specs.Shares.{share, share_at}
+use Rattle.whole_inverse.specs.Squares.{inverse_of}
+use Rattle.whole_rows.specs.Wholes.{sample_of_rows}
 use Rattle.whole_solution.specs.declared.basis.WholeBasis.{WholeBasis}
 use Rattle.whole_solution.specs.declared.near.Near.{Near}
 use Rattle.whole_solution.specs.Far.{AreOthersFar, IsNear}
@@ -88,15 +82,3 @@ near_line s h j d n line coef near =
     (subst (λ xs. HasNear s.basis.now xs n.coef.now n.near.now) (sym line.sides)
     (subst (λ xs. HasNear s.basis.now s.solution.now.sides xs n.near.now) (sym coef) (subst (λ x. HasNear s.basis.now s.solution.now.sides s.solution.now.coef x) (sym near) held))) in
     record { line = line.line; columns = moved.0; coef = moved.1; near = moved.2; far = moved.3 }
-
--- the numerators at a position are as many as there are columns
-pub column_size : (s : WholeSquare) → IsWholeSquare s → (j : ℕ) (column : List ℤ) → j < length s.columns → slice_get s.columns j ≡ Some column → length column ≡ length s.columns
-column_size s h j column lj is = subst (λ xs. length xs ≡ length s.columns) (get_or_from_slice_get s.columns j column column is) (h.square j column lj)
-
--- the products with them are the coordinates there
-pub coordinates_by : (s : WholeSquare) → IsWholeSquare s → (rows : List WholeRow) (i j : ℕ) (column : List ℤ) (made : ℚ) → j < length s.columns → slice_get s.columns j ≡ Some column
-    → made ≡ sum_ℚ (length column) (λ k. of_whole rows (λ r. whole_at r.x k) i *ℚ share_at s.determinant column k) → made ≡ coord (sample_of_rows (length s.columns) rows) (inverse_of s) i j
-coordinates_by s h rows i j column made lj is e =
-    e ∙ ap (λ n. sum_ℚ n (λ k. of_whole rows (λ r. whole_at r.x k) i *ℚ share_at s.determinant column k)) (column_size s h j column lj is)
-    ∙ sum_ℚ-same (length s.columns) (λ k. of_whole rows (λ r. whole_at r.x k) i *ℚ share_at s.determinant column k) (λ k. of_whole rows (λ r. whole_at r.x k) i *ℚ inverse_of s k j)
-    (λ k lk. ap (λ (o : Option (List ℤ)). of_whole rows (λ r. whole_at r.x k) i *ℚ option_map_or (λ xs. share_at s.determinant xs k) o (whole (pos 0))) (sym is))

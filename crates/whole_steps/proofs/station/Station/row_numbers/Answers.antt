@@ -3,8 +3,8 @@ use Rattle.std.proofs.Common.{◌∙◌}
 use Rattle.basis_model.specs.Basis.{coefficient}
 use Rattle.whole_inverse.specs.Shares.{share_at}
 use Rattle.whole_solution.proofs.Same.{residual_same}
+use Rattle.whole_ratio.proofs.Coordinates.{coordinates_by}
 use Rattle.whole_steps.specs.Stations.{model, at_of, inverse_at, over_of}
-use Rattle.whole_steps.proofs.Lines.{coordinates_by}
 use Rattle.whole_steps.proofs.station.Station.row_numbers.Goals as goal
 
 pub returns : goal.returns

@@ -1,0 +1,103 @@
+-- Absolute values of sums and products.
+use Rattle.std.specs.Prelude.{◌≡◌, ◌⊎◌, [], ◌∷◌, pos}
+use Rattle.std.proofs.Common.{refl, sym, ap, subst, ◌∙◌, inl, inr}
+use Rattle.exact_algebra.specs.Solver.{number, negated, ◌⊞◌, ◌⊟◌, ◌⊠◌, v0, v1}
+use Rattle.exact_algebra.specs.Rational.{ℚ, ◌+ℚ◌, ◌*ℚ◌, neg_ℚ, whole, ◌≤ℚ◌}
+use Rattle.exact_algebra.proofs.RationalLaws.{ring_ℚ, ≤ℚ_refl, ≤ℚ_trans, ≤ℚ_mul}
+use Rattle.exact_algebra.proofs.RationalSumLaws.{≤ℚ_add2}
+use Rattle.exact_algebra.proofs.OrderLaws.{le_from_not}
+use Rattle.loss_model.specs.Spill.{abs_ℚ}
+use Rattle.pivot_rule.proofs.Entering.{abs_above, abs_below}
+use Rattle.walk_rule.proofs.Lines.{decide, le_by}
+
+pub not_above : (x : ℚ) → ¬ (whole (pos 0) ≤ℚ x) → x ≤ℚ whole (pos 0)
+not_above x h = le_from_not x (whole (pos 0)) h
+
+negated_up : (x : ℚ) → x ≤ℚ whole (pos 0) → whole (pos 0) ≤ℚ neg_ℚ x
+negated_up x h = le_by x (whole (pos 0)) (whole (pos 0)) (neg_ℚ x) h (ring_ℚ (x ∷ []) (number (pos 0) ⊟ v0) (negated v0 ⊟ number (pos 0)) refl)
+
+-- a size is one of both
+pub size_by : (x : ℚ) (P : ℚ → Type 0) → P x → P (neg_ℚ x) → P (abs_ℚ x)
+size_by x P up down = by (decide (whole (pos 0)) x)
+  where
+    by : (whole (pos 0) ≤ℚ x) ⊎ ¬ (whole (pos 0) ≤ℚ x) → P (abs_ℚ x)
+    by (inl h) = subst P (sym (abs_above x h)) up
+    by (inr h) = subst P (sym (abs_below x (not_above x h))) down
+
+own_size : (x : ℚ) → x ≤ℚ abs_ℚ x
+own_size x = by (decide (whole (pos 0)) x)
+  where
+    by : (whole (pos 0) ≤ℚ x) ⊎ ¬ (whole (pos 0) ≤ℚ x) → x ≤ℚ abs_ℚ x
+    by (inl h) = subst (λ z. x ≤ℚ z) (sym (abs_above x h)) (≤ℚ_refl x)
+    by (inr h) =
+        let down = not_above x h in
+        subst (λ z. x ≤ℚ z) (sym (abs_below x down)) (≤ℚ_trans x (whole (pos 0)) (neg_ℚ x) down (negated_up x down))
+
+negated_size : (x : ℚ) → neg_ℚ x ≤ℚ abs_ℚ x
+negated_size x = by (decide (whole (pos 0)) x)
+  where
+    by : (whole (pos 0) ≤ℚ x) ⊎ ¬ (whole (pos 0) ≤ℚ x) → neg_ℚ x ≤ℚ abs_ℚ x
+    by (inl h) =
+        let down : neg_ℚ x ≤ℚ whole (pos 0) = le_by (whole (pos 0)) x (neg_ℚ x) (whole (pos 0)) h (ring_ℚ (x ∷ []) (v0 ⊟ number (pos 0)) (number (pos 0) ⊟ negated v0) refl) in
+        subst (λ z. neg_ℚ x ≤ℚ z) (sym (abs_above x h)) (≤ℚ_trans (neg_ℚ x) (whole (pos 0)) x down h)
+    by (inr h) = subst (λ z. neg_ℚ x ≤ℚ z) (sym (abs_below x (not_above x h))) (≤ℚ_refl (neg_ℚ x))
+
+pub size_not_negative : (x : ℚ) → whole (pos 0) ≤ℚ abs_ℚ x
+size_not_negative x = by (decide (whole (pos 0)) x)
+  where
+    by : (whole (pos 0) ≤ℚ x) ⊎ ¬ (whole (pos 0) ≤ℚ x) → whole (pos 0) ≤ℚ abs_ℚ x
+    by (inl up) = ≤ℚ_trans (whole (pos 0)) x (abs_ℚ x) up (own_size x)
+    by (inr down) = ≤ℚ_trans (whole (pos 0)) (neg_ℚ x) (abs_ℚ x) (negated_up x (not_above x down)) (negated_size x)
+
+-- a number that has no size is 0
+pub none_from : (x : ℚ) → abs_ℚ x ≡ whole (pos 0) → x ≡ whole (pos 0)
+none_from x = size_by x (λ s. s ≡ whole (pos 0) → x ≡ whole (pos 0)) (λ e. e) (λ e. ring_ℚ (x ∷ []) v0 (negated (negated v0)) refl ∙ ap neg_ℚ e ∙ ring_ℚ [] (negated (number (pos 0))) (number (pos 0)) refl)
+
+pub sum_within : (x y t u : ℚ) → abs_ℚ x ≤ℚ t → abs_ℚ y ≤ℚ u → abs_ℚ (x +ℚ y) ≤ℚ (t +ℚ u)
+sum_within x y t u h k =
+    size_by (x +ℚ y) (λ s. s ≤ℚ (t +ℚ u))
+    (≤ℚ_add2 x t y u (≤ℚ_trans x (abs_ℚ x) t (own_size x) h) (≤ℚ_trans y (abs_ℚ y) u (own_size y) k))
+    (subst (λ z. z ≤ℚ (t +ℚ u)) (ring_ℚ (x ∷ y ∷ []) (negated v0 ⊞ negated v1) (negated (v0 ⊞ v1)) refl)
+    (≤ℚ_add2 (neg_ℚ x) t (neg_ℚ y) u (≤ℚ_trans (neg_ℚ x) (abs_ℚ x) t (negated_size x) h) (≤ℚ_trans (neg_ℚ y) (abs_ℚ y) u (negated_size y) k)))
+
+-- an order times a number that isn't negative
+pub scaled_up : (u t z : ℚ) → u ≤ℚ t → whole (pos 0) ≤ℚ z → (u *ℚ z) ≤ℚ (t *ℚ z)
+scaled_up u t z h p =
+    subst (λ w. w ≤ℚ (t *ℚ z)) (ring_ℚ (z ∷ u ∷ []) (v0 ⊠ v1) (v1 ⊠ v0) refl)
+    (subst (λ w. (z *ℚ u) ≤ℚ w) (ring_ℚ (z ∷ t ∷ []) (v0 ⊠ v1) (v1 ⊠ v0) refl) (≤ℚ_mul u t z p h))
+
+-- a product, by a bound of one factor
+module _ (x y t : ℚ) (small : abs_ℚ x ≤ℚ t) where
+  below : x ≤ℚ t
+  below = ≤ℚ_trans x (abs_ℚ x) t (own_size x) small
+
+  negated_below : neg_ℚ x ≤ℚ t
+  negated_below = ≤ℚ_trans (neg_ℚ x) (abs_ℚ x) t (negated_size x) small
+
+  -- by a factor of either sign
+  pub product_below : (x *ℚ y) ≤ℚ (t *ℚ abs_ℚ y)
+  product_below = by (decide (whole (pos 0)) y)
+    where
+      by : (whole (pos 0) ≤ℚ y) ⊎ ¬ (whole (pos 0) ≤ℚ y) → (x *ℚ y) ≤ℚ (t *ℚ abs_ℚ y)
+      by (inl h) = subst (λ z. (x *ℚ y) ≤ℚ (t *ℚ z)) (sym (abs_above y h)) (scaled_up x t y below h)
+      by (inr h) =
+          let down = not_above y h in
+          subst (λ z. (x *ℚ y) ≤ℚ (t *ℚ z)) (sym (abs_below y down))
+          (subst (λ z. z ≤ℚ (t *ℚ neg_ℚ y)) (ring_ℚ (x ∷ y ∷ []) (negated v0 ⊠ negated v1) (v0 ⊠ v1) refl) (scaled_up (neg_ℚ x) t (neg_ℚ y) negated_below (negated_up y down)))
+
+  pub product_above : (neg_ℚ (whole (pos 1)) *ℚ (x *ℚ y)) ≤ℚ (t *ℚ abs_ℚ y)
+  product_above = by (decide (whole (pos 0)) y)
+    where
+      by : (whole (pos 0) ≤ℚ y) ⊎ ¬ (whole (pos 0) ≤ℚ y) → (neg_ℚ (whole (pos 1)) *ℚ (x *ℚ y)) ≤ℚ (t *ℚ abs_ℚ y)
+      by (inl h) =
+          subst (λ z. (neg_ℚ (whole (pos 1)) *ℚ (x *ℚ y)) ≤ℚ (t *ℚ z)) (sym (abs_above y h))
+          (subst (λ z. z ≤ℚ (t *ℚ y)) (ring_ℚ (x ∷ y ∷ []) (negated v0 ⊠ v1) (negated (number (pos 1)) ⊠ (v0 ⊠ v1)) refl) (scaled_up (neg_ℚ x) t y negated_below h))
+      by (inr h) =
+          let down = not_above y h in
+          subst (λ z. (neg_ℚ (whole (pos 1)) *ℚ (x *ℚ y)) ≤ℚ (t *ℚ z)) (sym (abs_below y down))
+          (subst (λ z. z ≤ℚ (t *ℚ neg_ℚ y)) (ring_ℚ (x ∷ y ∷ []) (v0 ⊠ negated v1) (negated (number (pos 1)) ⊠ (v0 ⊠ v1)) refl) (scaled_up x t (neg_ℚ y) below (negated_up y down)))
+
+  pub product_within : abs_ℚ (x *ℚ y) ≤ℚ (t *ℚ abs_ℚ y)
+  product_within =
+      size_by (x *ℚ y) (λ s. s ≤ℚ (t *ℚ abs_ℚ y)) product_below
+      (subst (λ z. z ≤ℚ (t *ℚ abs_ℚ y)) (ring_ℚ (x ∷ y ∷ []) (negated (number (pos 1)) ⊠ (v0 ⊠ v1)) (negated (v0 ⊠ v1)) refl) product_above)
