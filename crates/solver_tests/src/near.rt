@@ -100,7 +100,7 @@ fn drawn_table(rt: &impl Abort, alloc: Global, state: &mut u32) -> Problem<Frac1
     make_problem(rt, alloc, 3, 1, rows.as_slice())
 }
 
-/// Of 49 bases of solves near rows tell the next row that enters at nine of ten or more, and were chosen at an earlier basis at half of them or more.
+/// At 45 or more of 49 bases of solves near rows tell which row enters next, and at half of these bases they are those of an earlier one.
 #[test]
 fn near_rows_tell_nine_of_ten_steps(rt: HostRuntime) {
     let mut state = 7;
@@ -171,7 +171,10 @@ fn paired_table(rt: &impl Abort, alloc: Global) -> Problem<Frac128> {
 fn far_rows_are_not_looked_at(rt: HostRuntime) {
     let problem = paired_table(&rt, rt.alloc());
     let range = (fraction(&rt, (1, 2)), fraction(&rt, (3, 5)));
-    let walked = in_wholes(&rt, rt.alloc(), &problem, range).expect(&rt, "a start in whole numbers");
+    let walked = in_wholes(&rt, rt.alloc(), &problem, range).expect(
+        &rt,
+        "a start in whole numbers",
+    );
     let steps = walked.trail.steps.as_slice().len();
     assert!(rt; steps >= 4, "only {steps} steps");
     drop(walked);
