@@ -3,8 +3,8 @@
 //! The one contract for the layers above: `first_crossing` gives the first crossing of all positions, as it is defined in ℚ for
 //! the problem in whole numbers, or refuses. What a dual value misses to its bound is a number over the determinant and the
 //! quantile's second part, and its speed is a numerator of the inverse, so a crossing is a quotient of two whole numbers from
-//! which the determinant has gone; crossings are compared by cross products. It stands on `whole_descent` for what stands at
-//! the basis, and on `rank_walk` for the walks.
+//! which the determinant has gone; crossings are compared by cross products. `entering_row` asks the rows near the
+//! fit first. It stands on `whole_descent` for what stands at the basis, and on `rank_walk` for the walks.
 //!
 //! `rank_tableau` calls both so:
 //! ```text

@@ -101,7 +101,7 @@ fn drawn_table(rt: &impl Abort, alloc: Global, state: &mut u32) -> Problem<Frac1
     make_problem(rt, alloc, 3, 1, rows.as_slice())
 }
 
-/// Of 49 bases of solves near rows tell the next row that enters at nine of ten or more, and were chosen at an earlier basis at half of them or more.
+/// At 45 or more of 49 bases of solves near rows tell which row enters next, and at half of these bases they are those of an earlier one.
 #[test]
 fn near_rows_tell_nine_of_ten_steps(rt: HostRuntime) {
     let mut state = 7;

@@ -21,6 +21,8 @@ pub record IsLineOf (s : Station) (j : ℕ) (d : Direction) (l : Line) : Type 0 
 -- the numerators of the residuals of all rows, and of their coordinates at position j
 pub record AreRowNumbers (s : Station) (j : ℕ) (n : RowNumbers) : Type 0 where
   pub size : length n.residuals ≡ length s.basis.now.rows.now
-  pub residuals : (i : ℕ) → i < length s.basis.now.rows.now → share_at (over_of s) n.residuals i ≡ residual (model s) (coefficient (model s) (at_of s) (inverse_at s)) i
+  pub residuals :
+      (i : ℕ) → i < length s.basis.now.rows.now
+      → share_at (over_of s) n.residuals i ≡ residual (model s) (coefficient (model s) (at_of s) (inverse_at s)) i
   pub all_coords : length n.coords ≡ length s.basis.now.rows.now
   pub coords : (i : ℕ) → i < length s.basis.now.rows.now → share_at (over_of s) n.coords i ≡ coord (model s) (inverse_at s) i j
