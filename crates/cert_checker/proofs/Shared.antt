@@ -1,7 +1,7 @@
 -- What a run of segments shares, and the tests of all segments condition by condition.
-use Rattle.std.specs.Prelude.{◌≡◌, ℕ, ◌+◌, ◌<◌, ◌≤◌, ◌++◌, List, [], length, slice_get, Option, Some, None}
+use Rattle.std.specs.Prelude.{◌≡◌, ℕ, ◌+◌, ◌<◌, ◌≤◌, ◌++◌, List, [], length, slice_get, Option, Some, None, Result, Err, ⊤}
 use Rattle.std.specs.Option.{option_map_or}
-use Rattle.std.proofs.Common.{arith, refl}
+use Rattle.std.proofs.Common.{arith, refl, subst}
 use Rattle.std.proofs.lemmas.Option.{slice_get_within}
 use Rattle.frac_core.specs.declared.frac128.Frac128.{Frac128}
 use Rattle.loss_model.specs.declared.problem.Problem.{Problem}
@@ -12,9 +12,13 @@ use Rattle.cert_checker.specs.Places.{value128}
 use Rattle.cert_checker.specs.Tests.{Test, AreTrue, upto}
 use Rattle.cert_checker.specs.Conditions.{each, item_tests, balances, losses, joint_tests, joints}
 use Rattle.cert_checker.specs.Given.{AllGiven}
+use Rattle.cert_checker.specs.Settled.{Settles}
+use Rattle.cert_checker.specs.Views.{IsSmall, IsTabled}
+use Rattle.cert_checker.specs.declared.verdict.Halt.{Halt}
 use Rattle.cert_checker.specs.Runs.{sum_tests, all_sum_tests, IsSumGiven}
 use Rattle.cert_checker.specs.declared.quick.Quick.{Quick}
 use Rattle.cert_checker.proofs.Decided.{joined}
+use Rattle.cert_checker.proofs.Settlements.{front, behind}
 use Rattle.cert_checker.proofs.Extracts.{split, at}
 use Rattle.cert_checker.proofs.Wholes.{true_upto, balanced_segment, lost_segment, met_segment}
 
@@ -60,3 +64,48 @@ run_true q own list first given held = true_upto 64 _ (λ i l. item i l (slice_g
     item i l (Some s) e =
         let here = (given (first + i) s e).2 (first + i) refl in
         held_item q.problem.now own (first + i) s here (held (first + i) (omega (arith, l)) (slice_get_within own (first + i) s here) (omega arith))
+
+-- ---- conditions 6 to 8, one after the other
+
+module _ (p : Problem Frac128) (segments : List (Segment Frac128)) where
+  abbrev balanced : List Test
+  balanced = each segments (balances (sample value128 p))
+
+  abbrev lost : List Test
+  lost = each segments (losses (sample value128 p))
+
+  abbrev jointed : List Test
+  jointed = each segments (joints (sample value128 p) segments)
+
+  pub at_balances : (halt : Halt) → Settles balanced (Err halt) → Settles (all_sum_tests p segments) (Err halt)
+  at_balances halt h = front balanced (lost ++ jointed) halt h
+
+  pub at_losses : AreTrue balanced → (halt : Halt) → Settles lost (Err halt) → Settles (all_sum_tests p segments) (Err halt)
+  at_losses k halt h = behind balanced (lost ++ jointed) k (Err halt) (front lost jointed halt h)
+
+  pub at_joints : AreTrue balanced → AreTrue lost → (r : Result ⊤ Halt) → Settles jointed r → Settles (all_sum_tests p segments) r
+  at_joints k l r h = behind balanced (lost ++ jointed) k r (behind lost jointed l r h)
+
+  -- and all of them of one segment after the other
+  pub all_apart : AreTrue (each segments (sum_tests p segments)) → AreTrue (all_sum_tests p segments)
+  all_apart h = apart (balances (sample value128 p)) (losses (sample value128 p)) (joints (sample value128 p) segments) segments h
+
+  -- a list's segments are those at their places
+  pub all_given : (q : Quick) → IsSmall q.problem.now → IsTabled q → AllGiven segments (IsSumGiven q segments)
+  all_given q small table j s e = (small, table, λ k f. let same : j ≡ k = omega (arith, f) in subst (λ k. slice_get segments k ≡ Some s) same e)
+
+-- ---- and of a segment
+
+module _ (p : Problem Frac128) (segments : List (Segment Frac128)) (j : ℕ) (s : Segment Frac128) where
+  pub of_balances : (halt : Halt) → Settles (balances (sample value128 p) j s) (Err halt) → Settles (sum_tests p segments j s) (Err halt)
+  of_balances halt h = front (balances (sample value128 p) j s) (losses (sample value128 p) j s ++ joints (sample value128 p) segments j s) halt h
+
+  pub of_losses : AreTrue (balances (sample value128 p) j s) → (halt : Halt) → Settles (losses (sample value128 p) j s) (Err halt) → Settles (sum_tests p segments j s) (Err halt)
+  of_losses k halt h =
+      behind (balances (sample value128 p) j s) (losses (sample value128 p) j s ++ joints (sample value128 p) segments j s) k (Err halt)
+      (front (losses (sample value128 p) j s) (joints (sample value128 p) segments j s) halt h)
+
+  pub of_joints : AreTrue (balances (sample value128 p) j s) → AreTrue (losses (sample value128 p) j s) → (r : Result ⊤ Halt) → Settles (joints (sample value128 p) segments j s) r → Settles (sum_tests p segments j s) r
+  of_joints k l r h =
+      behind (balances (sample value128 p) j s) (losses (sample value128 p) j s ++ joints (sample value128 p) segments j s) k r
+      (behind (losses (sample value128 p) j s) (joints (sample value128 p) segments j s) l r h)

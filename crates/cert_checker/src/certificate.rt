@@ -11,7 +11,7 @@ use crate::form::{RowForm, SegmentCount, SegmentForm};
 use crate::formula::{Count, Number};
 use crate::interval_form::{IntervalForm, Intervals};
 use crate::intervals::IntervalConditions;
-use crate::jobs::SegmentJobs;
+use crate::jobs::{InTurn, SegmentJobs};
 use crate::place::Place;
 use crate::quick::{Balances, Joints, Losses, Quick, Together};
 use crate::relation::Relation;
@@ -112,9 +112,9 @@ fn decide_apart<R: Threads + Sync, G: Gate>(
     ensures { Settles (all_sum_tests quick.entry.problem.now jobs.now.list.now) result }
 {
     let list = jobs.list;
-    jobs.decide(rt, Balances { quick })?;
-    jobs.decide(rt, Losses { quick })?;
-    jobs.decide(rt, Joints { quick, list })
+    jobs.decide(rt, InTurn(Balances { quick }))?;
+    jobs.decide(rt, InTurn(Losses { quick }))?;
+    jobs.decide(rt, InTurn(Joints { quick, list }))
 }
 
 // The same, of all segments at once first: where one of their tests isn't found to be true, the first such is looked for
@@ -165,8 +165,8 @@ fn decide_quickly<R: Threads + Sync, G: Gate>(
         problem,
         high: true,
     };
-    jobs.decide(rt, low)?;
-    jobs.decide(rt, high)?;
+    jobs.decide(rt, InTurn(low))?;
+    jobs.decide(rt, InTurn(high))?;
     decide_sums(rt, &jobs, quick)?;
     let intervals = Intervals {
         list: &cert.intervals,

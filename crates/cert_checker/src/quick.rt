@@ -13,10 +13,10 @@ ghost use Rattle.cert_checker.specs.Settled.{Settles};
 ghost use Rattle.cert_checker.specs.Tests.{AreTrue, upto};
 ghost use Rattle.cert_checker.specs.Views.{IsSmall, IsTabled};
 
-use crate::jobs::{PER_JOB, decide_from};
+use crate::jobs::{PER_JOB, RunTests};
 use crate::leaves::EndView;
 use crate::segments::{BalanceColumns, Columns, JointRows, LossAt, Rows, SegmentTests};
-use crate::tests::{Tests, Then};
+use crate::tests::{Tests, TestsOf, Then, decide_each};
 use crate::verdict::Halt;
 use cert_sums::{Table, WholeProblem, duals_balance, duals_meet, losses_hold, run_holds};
 use frac_core::{Frac128, List};
@@ -280,17 +280,30 @@ pub(crate) struct Together<'a> {
     pub(crate) list: &'a List<Segment<Frac128>>,
 }
 
-impl SegmentTests for Together<'_> {
-    ghost segment_tests = { λ x j s. sum_tests x.quick.problem.now x.list.now j s };
+impl RunTests for Together<'_> {
+    ghost run_tests = { λ x j s. sum_tests x.quick.problem.now x.list.now j s };
 
-    ghost segment_given = { λ x j s. IsSumGiven x.quick x.list.now j s };
+    ghost run_given = { λ x j s. IsSumGiven x.quick x.list.now j s };
 
-    fn decide_segment(
+    fn decide_run(
         self,
         alloc: Global,
-        index: u32,
-        segment: &Segment<Frac128>,
+        list: &List<Segment<Frac128>>,
+        first: usize,
     ) -> Result<(), Halt> {
+        match list.as_slice().get(first) {
+            Some(_) => self.decide_shared(alloc, list, first),
+            None => self.decide_in_turn(alloc, list, first),
+        }
+    }
+}
+
+impl Together<'_> {
+    // The conditions on a segment, one after the other.
+    fn decide_apart(self, alloc: Global, index: u32, segment: &Segment<Frac128>) -> Result<(), Halt>
+        requires { IsSumGiven self.quick self.list.now index segment.now }
+        ensures { Settles (sum_tests self.entry.quick.problem.now self.entry.list.now index segment.now) result }
+    {
         let quick = self.quick;
         let list = self.list;
         Balances { quick }.decide_segment(alloc, index, segment)?;
@@ -298,22 +311,8 @@ impl SegmentTests for Together<'_> {
         Joints { quick, list }.decide_segment(alloc, index, segment)
     }
 
-    fn decide_part(
-        self,
-        alloc: Global,
-        list: &List<Segment<Frac128>>,
-        first: usize,
-    ) -> Result<(), Halt> {
-        match list.as_slice().get(first) {
-            Some(_) => self.decide_run(alloc, list, first),
-            None => decide_from(alloc, self, list, first),
-        }
-    }
-}
-
-impl Together<'_> {
     // A run of segments, as one where sums of whole numbers show all of it.
-    fn decide_run(
+    fn decide_shared(
         self,
         alloc: Global,
         list: &List<Segment<Frac128>>,
@@ -324,9 +323,51 @@ impl Together<'_> {
         requires given { AllGiven list.now (IsSumGiven self.quick self.list.now) }
         ensures { Settles (upto 64 (λ i. item_tests list.now (sum_tests self.entry.quick.problem.now self.entry.list.now) (first + i))) result }
     {
-        if self.quick.run_holds(self.list, first, first + PER_JOB) {
+        let past = first + PER_JOB;
+        if self.quick.run_holds(self.list, first, past) {
             return Ok(());
         }
-        decide_from(alloc, self, list, first)
+        self.decide_in_turn(alloc, list, first)
+    }
+
+    // The same, one segment after the other.
+    fn decide_in_turn(
+        self,
+        alloc: Global,
+        list: &List<Segment<Frac128>>,
+        first: usize,
+    ) -> Result<(), Halt>
+        requires within { first + 64 ≤ 2 ^ 20 }
+        requires given { AllGiven list.now (IsSumGiven self.quick self.list.now) }
+        ensures { Settles (upto 64 (λ i. item_tests list.now (sum_tests self.entry.quick.problem.now self.entry.list.now) (first + i))) result }
+    {
+        let run = Run {
+            together: self,
+            list,
+            first,
+        };
+        decide_each(alloc, PER_JOB, run)
+    }
+}
+
+/// The segments of a list from one of them on.
+#[derive(Clone, Copy)]
+struct Run<'a> {
+    together: Together<'a>,
+    list: &'a List<Segment<Frac128>>,
+    first: usize,
+}
+
+impl TestsOf for Run<'_> {
+    ghost tests_of = { λ x i. item_tests x.list.now (sum_tests x.together.quick.problem.now x.together.list.now) (x.first + i) };
+
+    ghost given_of = { λ x i. (x.first + i < 2 ^ 20) × AllGiven x.list.now (IsSumGiven x.together.quick x.together.list.now) };
+
+    fn decide_of(self, alloc: Global, i: usize) -> Result<(), Halt> {
+        let place = self.first + i;
+        match self.list.as_slice().get(place) {
+            Some(segment) => self.together.decide_apart(alloc, place as u32 + 1, segment),
+            None => Ok(()),
+        }
     }
 }

@@ -9,7 +9,7 @@ ghost use Rattle.loss_model.specs.Problem.{sample};
 ghost use Rattle.cert_checker.specs.Places.{value128};
 ghost use Rattle.cert_checker.specs.Formulas.{given};
 ghost use Rattle.cert_checker.specs.Tests.{Test, one, upto};
-ghost use Rattle.cert_checker.specs.Conditions.{each, item_tests, zero_formula, low_of, high_of, side_in, dual_at_row, balance, bound_parts, bound_test, bounds, loss_tests, cost_tests, row_costs, lo_at, hi_at, first_end, order_of_ends, joint_end};
+ghost use Rattle.cert_checker.specs.Conditions.{each, zero_formula, low_of, high_of, side_in, dual_at_row, balance, bound_parts, bound_test, bounds, loss_tests, cost_tests, row_costs, lo_at, hi_at, first_end, order_of_ends, joint_end};
 ghost use Rattle.cert_checker.specs.Given.{AllGiven};
 ghost use Rattle.cert_checker.specs.Settled.{Settles};
 ghost use Rattle.cert_checker.specs.Views.{IsSmall, end_of};
@@ -18,7 +18,6 @@ ghost use Rattle.loss_model.specs.declared.vertex.Side.TheVariants.{Basic};
 
 use crate::exact::widened;
 use crate::formula::{Count, Expression, Negation, Number};
-use crate::jobs::decide_from;
 use crate::leaves::{
     BalanceTerms, DownCost, DualValue, EndView, LossTerms, ObjectiveTerms, RowSum, UpCost, rows,
 };
@@ -389,20 +388,6 @@ pub(crate) trait SegmentTests: Copy {
     ) -> Result<(), Halt>
         requires { segment_given self index segment.now }
         ensures { Settles (segment_tests self index segment.now) result };
-
-    /// The tests of 64 segments of a list from one of them on, or of those that are left: nothing where all are true.
-    fn decide_part(
-        self,
-        alloc: Global,
-        list: &List<Segment<Frac128>>,
-        first: usize,
-    ) -> Result<(), Halt>
-        requires within { first + 64 ≤ 2 ^ 20 }
-        requires given { AllGiven list.now (segment_given self) }
-        ensures { Settles (upto 64 (λ i. item_tests list.now (segment_tests self) (first + i))) result }
-    {
-        decide_from(alloc, self, list, first)
-    }
 }
 
 /// The tests of all segments, one after the other.

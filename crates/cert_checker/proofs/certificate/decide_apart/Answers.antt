@@ -1,0 +1,25 @@
+use Rattle.std.proofs.lemmas.Result.{err_from_is_err_and}
+use Rattle.loss_model.specs.Problem.{sample}
+use Rattle.cert_checker.specs.Places.{value128}
+use Rattle.cert_checker.specs.Conditions.{balances}
+use Rattle.cert_checker.proofs.Extracts.{of_item}
+use Rattle.cert_checker.proofs.Shared.{at_balances, at_losses, at_joints}
+use Rattle.cert_checker.proofs.certificate.decide_apart.Goals as goal
+
+pub returns-in_err-decide : goal.returns-in_err-decide
+returns-in_err-decide g c =
+    let p = err_from_is_err_and c.from_residual.result c.from_residual.ensures.1 in
+    rw (p.1, p.2) (at_balances c.args.quick.problem.now c.args.jobs.now.list.now c.in_err-decide.field-0.0 c.in_err-decide.ensures)
+
+pub returns-in_err-decide-2 : goal.returns-in_err-decide-2
+returns-in_err-decide-2 g c =
+    let p = err_from_is_err_and c.from_residual-in_err-decide-2.result c.from_residual-in_err-decide-2.ensures.1 in
+    rw (p.1, p.2) (at_losses c.args.quick.problem.now c.args.jobs.now.list.now c.in_ok-decide.ensures c.in_err-decide-2.field-0.0 c.in_err-decide-2.ensures)
+
+pub returns : goal.returns
+returns g c = at_joints c.args.quick.problem.now c.args.jobs.now.list.now c.in_ok-decide.ensures c.in_ok-decide-2.ensures c.decide-3.result c.decide-3.ensures
+
+-- condition 7 is tested where condition 6 is true
+pub decide-requires-2-clause-given : goal.decide-requires-2-clause-given
+decide-requires-2-clause-given g c κs κt =
+    λ j s e. (c.requires.small, c.requires.table, of_item c.args.jobs.now.list.now (balances (sample value128 c.args.quick.problem.now)) c.in_ok-decide.ensures j s e)
