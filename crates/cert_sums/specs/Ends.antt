@@ -1,5 +1,5 @@
 -- Inner. The dual values that are stated at the ends of segments, and the losses there.
-use Rattle.std.specs.Prelude.{◌≡◌, ℕ}
+use Rattle.std.specs.Prelude.{◌≡◌, ℕ, ◌<◌, ◌+◌, List, length, slice_get, Some}
 use Rattle.exact_algebra.specs.Fraction.{rational}
 use Rattle.exact_algebra.specs.Rational.{ℚ}
 use Rattle.frac_core.specs.declared.frac128.Frac128.{Frac128}
@@ -11,6 +11,7 @@ use Rattle.loss_model.specs.Sample.{loss}
 use Rattle.loss_model.specs.Dual.{dual_objective}
 use Rattle.cert_sums.specs.Numbers.{value128}
 use Rattle.cert_sums.specs.Duals.{dual_of}
+use Rattle.cert_sums.specs.Sums.{IsBalanced}
 
 -- the dual value of row i at the low end of a segment, and at its high end
 abbrev pub low_dual : Problem Frac128 → Segment Frac128 → ℕ → ℚ
@@ -23,3 +24,29 @@ high_dual p s i = dual_of (sample value128 p) (rational (value128 s.hi)) s.verte
 pub record IsLossAt (p : Problem Frac128) (v : Vertex Frac128) (theta : ℚ) (e : ℕ → ℚ) (stated : ℚ) : Type 0 where
   pub lost : stated ≡ loss (sample value128 p) theta (value_at value128 v.coef)
   pub objective : stated ≡ dual_objective (sample value128 p) e
+
+-- each row has one dual value where two segments meet
+abbrev pub DoMeet : Problem Frac128 → Segment Frac128 → Segment Frac128 → Type 0
+DoMeet p s next = (i : ℕ) → i < length p.rows → high_dual p s i ≡ low_dual p next i
+
+-- at the low end of a segment the dual values are orthogonal to the columns, and come to the loss that is stated
+pub record IsBegun (p : Problem Frac128) (s : Segment Frac128) : Type 0 where
+  pub balanced : IsBalanced (sample value128 p) (low_dual p s)
+  pub objective : rational (value128 s.loss_lo) ≡ dual_objective (sample value128 p) (low_dual p s)
+
+-- and at its high end
+pub record IsEnded (p : Problem Frac128) (s : Segment Frac128) : Type 0 where
+  pub balanced : IsBalanced (sample value128 p) (high_dual p s)
+  pub objective : rational (value128 s.loss_hi) ≡ dual_objective (sample value128 p) (high_dual p s)
+
+-- all that is asked of both ends of a segment
+pub record IsHeld (p : Problem Frac128) (s : Segment Frac128) : Type 0 where
+  pub low_balanced : IsBalanced (sample value128 p) (low_dual p s)
+  pub high_balanced : IsBalanced (sample value128 p) (high_dual p s)
+  pub low_loss : IsLossAt p s.vertex (rational (value128 s.lo)) (low_dual p s) (rational (value128 s.loss_lo))
+  pub high_loss : IsLossAt p s.vertex (rational (value128 s.hi)) (high_dual p s) (rational (value128 s.loss_hi))
+
+-- of the segment at a place of a list, and that it meets the next one
+pub record IsHeldAt (p : Problem Frac128) (segments : List (Segment Frac128)) (place : ℕ) : Type 0 where
+  pub held : (s : Segment Frac128) → slice_get segments place ≡ Some s → IsHeld p s
+  pub joint : (s next : Segment Frac128) → slice_get segments place ≡ Some s → slice_get segments (place + 1) ≡ Some next → DoMeet p s next

@@ -27,6 +27,6 @@ mod table;
 mod totals;
 mod vertices;
 
-pub use ends::{WholeProblem, duals_balance, duals_meet, losses_hold};
+pub use ends::{WholeProblem, duals_balance, duals_meet, losses_hold, run_holds};
 pub use table::{Line, Table, WholeRow, whole_table};
 pub use vertices::{basic_number, item_at, side};

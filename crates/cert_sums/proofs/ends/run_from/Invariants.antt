@@ -1,0 +1,13 @@
+-- All before hold, and the one that stands next begins as it should.
+use Rattle.std.proofs.Common.{◌≡◌, ℕ, ◌<◌, ◌≤◌}
+use Rattle.std.specs.Prelude.{slice_get, Some}
+use Rattle.frac_core.specs.declared.frac128.Frac128.{Frac128}
+use Rattle.loss_model.specs.declared.process.Segment.{Segment}
+use Rattle.cert_sums.specs.Ends.{IsBegun, IsHeldAt}
+use Rattle.cert_sums.proofs.ends.run_from.Given as goal
+
+abbrev pub invariant-loop-place : goal.invariant-loop-place
+invariant-loop-place l = record {
+  held : (j : ℕ) → j < l.place → l.fn.first ≤ j → IsHeldAt l.whole.problem.now l.segments j;
+  begun : (s : Segment Frac128) → slice_get l.segments l.place ≡ Some s → IsBegun l.whole.problem.now s;
+}
