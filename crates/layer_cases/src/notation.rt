@@ -15,7 +15,7 @@ fn digit_of(letter: u8) -> Option<u8> {
 fn byte_of(digits: &[u8]) -> Option<u8> {
     let high = digit_of(*digits.get(0)?)?;
     let low = digit_of(*digits.get(1)?)?;
-    Some(high * 16 + low)
+    Some(high.wrapping_mul(16).wrapping_add(low))
 }
 
 fn put(bytes: &mut Vec<u8>, byte: u8, rest: &[u8]) -> Option<()> {
