@@ -1,30 +1,24 @@
-//! Tests of what reads input: words (`rq_words`), tables (`data_frame`), formulas (`formula_grammar`
-//! and `formula_parser`), the designs of a table and a formula (`design_matrix`),
-//! and what smooths add to them (`tv_penalty`).
+//! Tests of what reads input that are no cases of `layer_cases`: the largest tables (`data_frame`), formulas (`formula_grammar` and
+//! `formula_parser`) and certificates (`cert_text`), what a certificate is read as, penalty rows of single coefficients (`tv_penalty`),
+//! and that jobs (`rq_words`) may cross threads.
 //!
 //! What is tested is that the definitions say what was meant: each answer was worked out apart from
 //! the program.
 #![tactic(auto)]
 
 #[cfg(test)]
-mod arith_designs;
+mod certificates;
 #[cfg(test)]
-mod arithmetics;
-#[cfg(test)]
-mod designs;
+mod columns;
 #[cfg(test)]
 mod formulas;
 #[cfg(test)]
 mod helpers;
 #[cfg(test)]
-mod models;
+mod jobs;
 #[cfg(test)]
-mod predicted;
+mod penalties;
 #[cfg(test)]
 mod readings;
 #[cfg(test)]
-mod smooths;
-#[cfg(test)]
-mod tables;
-#[cfg(test)]
-mod words;
+mod records;

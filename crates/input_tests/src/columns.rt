@@ -1,0 +1,67 @@
+//! As many columns as a table may have, and more.
+
+use crate::helpers::{expect_fault, put, repeated};
+use data_frame::{Column, Frame, TableFault, read_table};
+use frac_core::Exact;
+use std::alloc::Global;
+use std::process::Abort;
+
+// The names n0, n1 and so on, so many, and others behind them, over one record of so many sevens.
+fn table(rt: &impl Abort, alloc: Global, count: usize, behind: &str) -> String {
+    let mut text = String::new(alloc);
+    let mut mark = "n";
+    for i in 0..count {
+        put(rt, &mut text, mark);
+        let number = i.to_string(alloc).ok().expect(rt, "memory");
+        put(rt, &mut text, number.as_str());
+        mark = ",n";
+    }
+    put(rt, &mut text, behind);
+    let sevens = repeated(rt, alloc, "\n7", (",7", count.saturating_sub(1)), "\n");
+    put(rt, &mut text, sevens.as_str());
+    text
+}
+
+fn read(rt: &impl Abort, alloc: Global, count: usize, behind: &str) -> Result<Frame, TableFault> {
+    let text = table(rt, alloc, count, behind);
+    assert!(rt; text.len() <= 1 << 26);
+    read_table(alloc, text.as_bytes())
+}
+
+// Whether a column has just the number 7.
+fn is_seven(frame: &Frame, name: &str) -> bool {
+    match frame.column(name) {
+        Some(Column::Numbers([Some(cell)])) => cell.numerator() == 7 && cell.denominator() == 1,
+        _ => false,
+    }
+}
+
+#[test]
+fn as_many_columns_as_there_may_be(rt: HostRuntime) {
+    let frame = read(&rt, rt.alloc(), 1_024, "").ok().expect(&rt, "a table");
+    assert!(&rt; frame.records() == 1);
+    assert!(&rt; frame.names().len() == 1_024);
+    for name in ["n0", "n1", "n1023"] {
+        assert!(&rt; is_seven(&frame, name), "{name}");
+    }
+    drop(frame);
+}
+
+/// How many names stand in the header, the piece behind them, and the fault.
+static COLUMNS: [(usize, &str, &str); 5] = [
+    (1_025, "", "TooManyColumns"),
+    (1_023, ",", "EmptyName { column: 1023 }"),
+    (1_024, ",", "TooManyColumns"),
+    (1_024, ",n0", "TooManyColumns"),
+    (1_023, ",n0", "DoubleName { column: 1023 }"),
+];
+
+#[test]
+fn too_many_columns(rt: HostRuntime) {
+    for (count, behind, want) in &COLUMNS {
+        let fault = read(&rt, rt.alloc(), *count, behind)
+            .err()
+            .expect(&rt, "a fault");
+        expect_fault(&rt, rt.alloc(), &fault, want);
+    }
+}
