@@ -52,7 +52,25 @@ fn try_case<R: Threads + Sync + Print>(
     println!(rt; "{asked} => {found}")
 }
 
-// Tries the cases of a text, and prints how many there are.
+// Tries the cases among some lines, beside what they share. Gives how many there are.
+fn try_group<R: Threads + Sync + Print>(
+    rt: &R,
+    alloc: Global,
+    kind: Kind,
+    shared: &str,
+    lines: &str,
+) -> io::Result<u32> {
+    let mut tried = 0u32;
+    for line in lines.lines() {
+        if let Some(case) = line.strip_prefix("> ") {
+            try_case(rt, Told::new(alloc), kind, shared, case)?;
+            tried = tried.saturating_add(1);
+        }
+    }
+    Ok(tried)
+}
+
+// Tries the cases of a text, those before the first line of what is shared too, and prints how many there are.
 fn try_cases<R: Threads + Sync + Print>(
     rt: &R,
     alloc: Global,
@@ -60,16 +78,11 @@ fn try_cases<R: Threads + Sync + Print>(
     name: &str,
     text: &str,
 ) -> io::Result<()> {
-    let mut shared = "";
-    let mut tried = 0u32;
-    for line in text.lines() {
-        if let Some(rest) = line.strip_prefix("= ") {
-            shared = rest;
-        }
-        if let Some(rest) = line.strip_prefix("> ") {
-            try_case(rt, Told::new(alloc), kind, shared, rest)?;
-            tried = tried.saturating_add(1);
-        }
+    let (first, others) = text.split_once("\n= ").unwrap_or((text, ""));
+    let mut tried = try_group(rt, alloc, kind, "", first)?;
+    for group in others.split("\n= ") {
+        let (shared, lines) = group.split_once('\n').unwrap_or((group, ""));
+        tried = tried.saturating_add(try_group(rt, alloc, kind, shared, lines)?);
     }
     println!(rt; "{name}: {tried} cases")
 }
