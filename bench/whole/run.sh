@@ -98,3 +98,8 @@ for table in plain leverage; do
   timed "$work/$table" test --formula "y ~ ." --tested 5
   tell "$table, 5 columns, test" "$(longest)"
 done
+
+# A factor of 120 levels with three records of each, one of whose columns is tested.
+awk 'BEGIN { print "y,x"; for (i = 0; i < 360; i++) printf "%d,level%d\n", (i * i * 31 + i * 7) % 997, i % 120 }' > "$work/levels"
+timed "$work/levels" test --formula "y ~ factor(x)" --tested 5
+tell "a factor of 120 levels, test" "$(longest)"

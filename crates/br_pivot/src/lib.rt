@@ -8,7 +8,7 @@
 //! of `tableau` for the pivots.
 //! Its tests stand in the crate `solver_tests`.
 //!
-//! `interval_jobs` calls it so:
+//! `rank_inversion` calls it so:
 //! ```text
 //! match solve_at(alloc, self.problem, tau, self.limit) {
 //!     Ok(solved) => Ok(SolvedAt { tau, solved }),

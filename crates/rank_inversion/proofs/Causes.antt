@@ -1,5 +1,5 @@
 -- Why an interval stops, by the part that stopped.
-use Rattle.std.specs.Prelude.{◌≡◌, ◌<◌, ℕ}
+use Rattle.std.specs.Prelude.{◌<◌, ℕ}
 use Rattle.std.proofs.Common.{refl, inl, inr}
 use Rattle.exact_algebra.specs.Fraction.{Fraction}
 use Rattle.exact_algebra.specs.Rational.{ℚ}

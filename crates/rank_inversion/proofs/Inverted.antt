@@ -1,12 +1,11 @@
 -- The interval of both walks, and why it stops.
-use Rattle.std.specs.Prelude.{◌≡◌, ◌⊎◌, ◌+◌, ◌≤◌, ◌<◌, ℕ, List, [], length, slice_index, Some, pos}
-use Rattle.std.proofs.Common.{Result, Err, arith, refl, sym, ap, subst, ◌∙◌, inl, inr}
+use Rattle.std.specs.Prelude.{◌≡◌, ◌⊎◌, ◌+◌, ◌≤◌, ◌<◌, ℕ, List, [], length, Some, pos}
+use Rattle.std.proofs.Common.{Err, arith, refl, sym, ap, subst, ◌∙◌, inl, inr}
 use Rattle.exact_algebra.specs.Fraction.{Fraction, rational}
 use Rattle.exact_algebra.specs.Rational.{ℚ, whole, ◌≤ℚ◌}
 use Rattle.loss_model.specs.declared.interval.Interval.{Interval}
 use Rattle.loss_model.specs.declared.problem.Problem.{Problem}
 use Rattle.loss_model.specs.declared.process.Exchange.{Exchange}
-use Rattle.loss_model.specs.declared.process.Trail.{Trail}
 use Rattle.loss_model.specs.declared.spill.Spill.{Spill}
 use Rattle.loss_model.specs.declared.stop.Stop.{Stop}
 use Rattle.loss_model.specs.declared.stop.Stop.TheVariants.{OutOfMemory, PivotLimit, Overflow, Dependent}
@@ -14,7 +13,7 @@ use Rattle.loss_model.specs.Problem.{value_at, sample}
 use Rattle.loss_model.specs.Sample.{Sample}
 use Rattle.loss_model.specs.StartStop.{IsDependent}
 use Rattle.basis_inverse.specs.Square.{inverse_entry}
-use Rattle.pivot_rule.specs.Duals.{HasCosts, ◌<ℚ◌}
+use Rattle.pivot_rule.specs.Duals.{HasCosts}
 use Rattle.pivot_rule.specs.Trails.{IsOptimalBasis}
 use Rattle.pivot_rule.proofs.Solved.{full_rank}
 use Rattle.walk_rule.specs.WalkTrails.{AreWalkingSteps, IsIntervalTrail, HasRisen, ReachesIntervalLimit, is_within}
@@ -30,10 +29,9 @@ use Rattle.rank_steps.specs.declared.way.Way.TheVariants.{Rise, Fall}
 use Rattle.rank_inversion.specs.declared.inversion.Inversion.{Inversion}
 use Rattle.rank_inversion.specs.declared.column_test.Asked.{Asked}
 use Rattle.rank_tableau.specs.declared.walking.Arrival.{Arrival}
-use Rattle.rank_inversion.specs.declared.walking.WalkHalt.{WalkHalt}
 use Rattle.rank_inversion.specs.Intervals.{IsExactInterval, IsRankInterval}
 use Rattle.rank_inversion.specs.Inversions.{IsAskable, course_of, trail_with, IsReady, IsStopHere, IsRisen, IsFallen}
-use Rattle.rank_inversion.specs.Stops.{IsBound, IsLimited, IsIntervalStop, IsWalkSpillAfter, IsRankSpillAfter}
+use Rattle.rank_inversion.specs.Stops.{IsBound, IsLimited, IsIntervalStop}
 use Rattle.rank_inversion.specs.Tests.{IsTested}
 use Rattle.rank_inversion.specs.Walks.{AreSteps, IsAtLimit, IsSpilled}
 use Rattle.rank_inversion.proofs.Joined.{at_most, asked_costs, lawful_walks, walked_is_risen, interval_is}

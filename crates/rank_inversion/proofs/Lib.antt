@@ -13,3 +13,7 @@ mod Causes
 mod Joined
 mod WholeIntervals
 mod Inverted
+mod FirstStops
+mod Listed
+mod RankIntervals
+mod Untils

@@ -8,7 +8,7 @@ use Rattle.loss_model.specs.declared.spill.Spill.{Spill}
 use Rattle.loss_model.specs.Problem.{value_at, sample}
 use Rattle.loss_model.specs.Quantities.{IsShortOf}
 use Rattle.basis_inverse.specs.Square.{inverse_entry}
-use Rattle.basis_model.specs.declared.part.Part.TheVariants.{Constant, Linear}
+use Rattle.basis_model.specs.declared.part.Part.TheVariants.{Linear}
 use Rattle.basis_model.specs.Basis.{basic_dual}
 use Rattle.basis_model.specs.BasisSpills.{IsBasisSpill, IsDualValueSpill}
 use Rattle.basic_solution.specs.declared.solution.BasicSolution.{BasicSolution}

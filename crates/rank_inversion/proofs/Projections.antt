@@ -1,7 +1,6 @@
 -- What the inverse of the Gram matrix gives.
 use Rattle.std.specs.Prelude.{◌≡◌, ◌≢◌, ℕ, ◌<◌, pos}
 use Rattle.std.proofs.Common.{sym, subst, ◌∙◌}
-use Rattle.exact_algebra.specs.Fraction.{Fraction, rational}
 use Rattle.exact_algebra.specs.Rational.{ℚ, inverse, whole, ◌≤ℚ◌}
 use Rattle.exact_algebra.proofs.RationalLaws.{≤ℚ_refl}
 use Rattle.exact_matrices.specs.Matrices.{AreInverse}

@@ -1,22 +1,19 @@
 -- The operations of a walk where one overflows, as they are found.
-use Rattle.std.specs.Prelude.{◌≡◌, ◌≢◌, ℕ, ◌<◌, true, false, [], ◌∷◌, pos}
+use Rattle.std.specs.Prelude.{◌≡◌, ℕ, ◌<◌, true, [], ◌∷◌, pos}
 use Rattle.std.proofs.Common.{refl, sym, ap, subst, ◌∙◌, inl, inr}
-use Rattle.exact_algebra.specs.Fraction.{Fraction, rational}
+use Rattle.exact_algebra.specs.Fraction.{Fraction}
 use Rattle.exact_algebra.specs.Solver.{number, ◌⊟◌, v0}
-use Rattle.exact_algebra.specs.Rational.{ℚ, ◌-ℚ◌, ◌*ℚ◌, whole, ◌≤ℚ◌}
+use Rattle.exact_algebra.specs.Rational.{ℚ, ◌-ℚ◌, whole}
 use Rattle.exact_algebra.proofs.RationalLaws.{ring_ℚ}
-use Rattle.frac_core.specs.declared.exact.OpKind.{OpKind}
 use Rattle.frac_core.specs.declared.exact.OpKind.TheVariants.{Sub, Div}
-use Rattle.frac_core.specs.Overflow.{Overflows}
 use Rattle.loss_model.specs.declared.spill.Quantity.TheVariants.{DualValue}
-use Rattle.loss_model.specs.declared.spill.Site.{Site}
 use Rattle.loss_model.specs.declared.spill.Spill.{Spill}
 use Rattle.loss_model.specs.Sample.{Sample}
-use Rattle.loss_model.specs.Spill.{IsOperation, IsTermSpill, site_of}
+use Rattle.loss_model.specs.Spill.{IsTermSpill, site_of}
 use Rattle.loss_model.specs.Quantities.{IsExchangeSpill}
 use Rattle.loss_model.specs.Vertex.{value_of_side}
 use Rattle.basis_model.specs.declared.part.Part.TheVariants.{Constant, Linear}
-use Rattle.basis_model.specs.Basis.{IsBasis, basic_dual, dual_value}
+use Rattle.basis_model.specs.Basis.{basic_dual, dual_value}
 use Rattle.basis_model.specs.BasisSpills.{IsBasisSpill, IsDualValueSpill}
 use Rattle.pivot_rule.specs.declared.direction.Direction.{Direction}
 use Rattle.pivot_rule.specs.declared.direction.Direction.TheVariants.{Upward, Downward}

@@ -1,8 +1,7 @@
 -- What stands at a basis on a walk, and what is found and handed out there.
-use Rattle.std.specs.Prelude.{◌≡◌, ◌≢◌, ◌⊎◌, ◌↔◌, ℕ, ◌+◌, ◌<◌, ◌≤◌, ◌++◌, Bool, true, false, List, [], ◌∷◌, length, slice_index, Contains, get_or, Option, Some, None, pos}
+use Rattle.std.specs.Prelude.{◌≡◌, ◌≢◌, ◌⊎◌, ◌↔◌, ℕ, ◌+◌, ◌<◌, ◌≤◌, ◌++◌, Bool, true, false, List, [], ◌∷◌, length, slice_index, Contains, get_or, Some, None, pos}
 use Rattle.std.specs.List.Sorted.{IsStrictlyIncreasing}
 use Rattle.std.specs.Ordering.{is_gt}
-use Rattle.std.specs.declared.cmp.Ordering.{Ordering}
 use Rattle.std.proofs.Common.{refl, sym, ap, ap₂, subst, ◌∙◌, inl, inr, arith}
 use Rattle.std.proofs.lemmas.Bool.{cases_lt}
 use Rattle.exact_algebra.specs.Fraction.{Fraction, rational}
@@ -12,12 +11,10 @@ use Rattle.exact_algebra.specs.Order.{cmp_ℚ}
 use Rattle.exact_algebra.proofs.RationalLaws.{ring_ℚ, ≤ℚ_refl}
 use Rattle.loss_model.specs.declared.interval.Beyond.TheVariants.{Outside, Ray}
 use Rattle.loss_model.specs.declared.interval.Bound.TheVariants.{Finite, Infinite}
-use Rattle.loss_model.specs.declared.process.Exchange.{Exchange}
 use Rattle.loss_model.specs.declared.spill.Spill.{Spill}
-use Rattle.loss_model.specs.declared.vertex.Side.{Side}
 use Rattle.loss_model.specs.declared.vertex.Vertex.{Vertex}
 use Rattle.loss_model.specs.Sample.{Sample}
-use Rattle.loss_model.specs.Problem.{value_at, sample}
+use Rattle.loss_model.specs.Problem.{value_at}
 use Rattle.loss_model.specs.Spill.{IsOperation, IsTermSpill, AtSome, site_of}
 use Rattle.frac_core.specs.declared.exact.OpKind.TheVariants.{Sub, Div}
 use Rattle.frac_core.specs.Overflow.{Overflows}
@@ -27,20 +24,16 @@ use Rattle.pivot_rule.specs.declared.direction.Direction.{Direction}
 use Rattle.pivot_rule.specs.Duals.{◌<ℚ◌}
 use Rattle.pivot_rule.specs.Results.{IsVertexAt}
 use Rattle.pivot_rule.specs.Spills.{direction_number}
-use Rattle.pivot_rule.specs.Steps.{moves}
 use Rattle.walk_rule.specs.Families.{IsOptimalIn, dual_in}
 use Rattle.walk_rule.specs.Walks.{IsFirstMover, IsNextBreak, IsWalkingStep}
 use Rattle.walk_rule.specs.WalkTrails.{is_within}
 use Rattle.walk_rule.proofs.Lines.{decide}
-use Rattle.tableau_model.specs.Places.{IsPlace}
 use Rattle.fraction_tableau.specs.declared.crossings.Breakpoint.{Breakpoint}
-use Rattle.fraction_tableau.specs.declared.standing.Standing.{Standing}
 use Rattle.fraction_tableau.specs.Crossings.{IsCrossingAt, IsFirstOf}
 use Rattle.fraction_tableau.specs.Inverses.{HasValueAt}
 use Rattle.fraction_tableau.specs.Kept.{place}
 use Rattle.fraction_tableau.specs.LeastRatio.{IsFirstMoverOrNone}
 use Rattle.fraction_tableau.specs.Lines.{IsOrderSpill}
-use Rattle.fraction_tableau.specs.Standing.{Stands}
 use Rattle.fraction_tableau.proofs.Crossed.{above_test}
 use Rattle.fraction_tableau.proofs.Inverses.{basis_of}
 use Rattle.fraction_tableau.proofs.Lists.{value_front, value_end, value_read}

@@ -1,5 +1,5 @@
 -- The walking step of a tested value, as it is made.
-use Rattle.std.specs.Prelude.{◌≡◌, ◌≢◌, ℕ, ◌<◌, Bool, List, length, slice_index, pos}
+use Rattle.std.specs.Prelude.{◌≢◌, ℕ, ◌<◌, Bool, length, slice_index, pos}
 use Rattle.exact_algebra.specs.Fraction.{Fraction}
 use Rattle.exact_algebra.specs.Rational.{ℚ, whole}
 use Rattle.loss_model.specs.declared.process.Exchange.{Exchange}

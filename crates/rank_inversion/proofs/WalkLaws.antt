@@ -31,12 +31,11 @@ use Rattle.rank_walk.proofs.Loops as loop
 use Rattle.rank_inversion.specs.declared.course.Course.{Course}
 use Rattle.rank_inversion.specs.declared.walking.Walk.{Walk}
 use Rattle.rank_inversion.specs.declared.walking.WalkHalt.{WalkHalt}
-use Rattle.rank_inversion.specs.declared.walking.WalkHalt.TheVariants.{OutOfMemory, Overflow}
 use Rattle.rank_steps.specs.Ways.{way_of}
 use Rattle.rank_inversion.specs.Courses.{tau_of, bound_of, parameter_at, family_of}
 use Rattle.rank_inversion.specs.Looks.{IsStepAt, IsEndOf, IsSpillAt}
 use Rattle.rank_inversion.specs.Stops.{IsRankSpill}
-use Rattle.rank_inversion.specs.Walks.{IsHaltOf, IsBegun, IsAdvanced, IsAlong, AreSteps, IsEnded, IsAtLimit, IsSpilled, IsHalted}
+use Rattle.rank_inversion.specs.Walks.{IsHaltOf, IsBegun, IsAdvanced, IsAlong, IsEnded, IsAtLimit, IsSpilled, IsHalted}
 
 -- the parameter is 0 where the column weighs nothing
 nothing_at : (way : Way) (x : ℚ) → x ≡ whole (pos 0) → parameter_of way x ≡ whole (pos 0)

@@ -1,5 +1,5 @@
 -- The interval of both walks in whole numbers.
-use Rattle.std.specs.Prelude.{◌≡◌, ◌-◌, ◌+◌, ◌≤◌, ℕ, length}
+use Rattle.std.specs.Prelude.{◌-◌, ◌+◌, ◌≤◌, ℕ, length}
 use Rattle.std.proofs.Common.{arith, sym, subst}
 use Rattle.exact_algebra.specs.Fraction.{Fraction, rational}
 use Rattle.loss_model.specs.declared.interval.Interval.{Interval}

@@ -12,6 +12,10 @@ pub mod Wholes
 pub mod Inversions
 pub mod Intervals
 pub mod Jobs
+pub mod Answers
+pub mod AllIntervals
+pub mod RankProblems
+pub mod Until
 pub use Rattle.br_pivot.specs.Reached
 pub use Rattle.br_pivot.specs.Solutions
 pub use Rattle.br_pivot.specs.Solves

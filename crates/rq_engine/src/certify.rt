@@ -12,8 +12,8 @@ ghost use Rattle.rq_engine.specs.Certifying.{HasCertifiedCause, IsKept, IsLength
 
 use cert_text::{Cert, write_cert};
 use frac_core::{Exact, Frac128, List, OutOfMemory};
-use interval_jobs::Purpose;
 use loss_model::{Interval, IntervalProof};
+use rank_inversion::Purpose;
 use report_text::{Fit, Halt, Refusal};
 use rq_fan::Gate;
 use rq_fit::fit_input;

@@ -5,7 +5,7 @@ ghost use Rattle.report_text.specs.declared.report.Report.TheVariants as reports
 ghost use Rattle.rq_fit.specs.Asks.{IsFitAsk};
 ghost use Rattle.rq_engine.specs.Answers.{HasFitCause, IsFitOfBytes};
 
-use interval_jobs::Purpose;
+use rank_inversion::Purpose;
 use report_text::{Fit, Halt};
 use rq_fan::Gate;
 use rq_fit::fit_input;

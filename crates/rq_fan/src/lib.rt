@@ -8,7 +8,7 @@
 //!
 //! It stands on `frac_core` for `OutOfMemory` alone.
 //!
-//! `interval_jobs` states and runs its jobs so:
+//! `rank_inversion` states and runs its jobs so:
 //! ```text
 //! impl<'a> Work for SolveJob<'a, Frac128> {
 //!     type Answer = Result<SolvedAt<Frac128>, IntervalStop<Frac128>>;

@@ -47,8 +47,8 @@ use Rattle.rq_fit.specs.Fit.{IsOptimalAt, IsOptimalWithin, IsRightFit, IsRightPr
 use Rattle.rq_fit.specs.Halts.{interval_halt, short_halt, stop_halt}
 use Rattle.rq_fit.specs.Intervals.{AreRightIntervals, asked_by, asked_over, IsFirstStop}
 use Rattle.rq_fit.specs.RankProblems.{HasIntervalCause}
-use Rattle.interval_jobs.specs.declared.asks.IntervalStop.{IntervalStop}
-use Rattle.interval_jobs.specs.Asked.{Asked}
+use Rattle.rank_inversion.specs.declared.asks.IntervalStop.{IntervalStop}
+use Rattle.rank_inversion.specs.declared.column_test.Asked.{Asked}
 use Rattle.report_text.specs.ReportText.{value}
 use Rattle.rq_fit.specs.Stops.{IsSegmentSpill, HasProblemCause, most}
 

@@ -9,7 +9,7 @@ use Rattle.rq_words.specs.declared.job.TestJob.{TestJob}
 use Rattle.rq_words.specs.Requests.{given_number}
 use Rattle.rq_words.specs.Words.{ascends}
 use Rattle.report_text.specs.ReportText.{value}
-pub use Rattle.interval_jobs.specs.RankProblems.{IsInner}
+pub use Rattle.rank_inversion.specs.RankProblems.{IsInner}
 
 -- the critical value is at least 0, and the quantiles lie strictly between 0 and 1
 pub record IsRankAsk (rank : RankAsk) : Type 0 where

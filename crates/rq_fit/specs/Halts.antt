@@ -13,7 +13,7 @@ use Rattle.report_text.specs.declared.report.Place.{Place}
 use Rattle.report_text.specs.declared.report.Place.TheVariants.{Interval, Path}
 use Rattle.report_text.specs.declared.report.Halt.{Halt}
 use Rattle.report_text.specs.declared.report.Halt.TheVariants.{Refused, OutOfMemory, PivotLimit, Overflow}
-use Rattle.interval_jobs.specs.declared.asks.IntervalStop.{IntervalStop}
+use Rattle.rank_inversion.specs.declared.asks.IntervalStop.{IntervalStop}
 use Rattle.rq_fit.specs.Stops.{no_trail}
 
 -- the halt of a stop of the solver at a place

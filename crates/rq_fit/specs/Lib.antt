@@ -9,4 +9,4 @@ pub mod RankProblems
 pub mod Ranks
 pub mod Stops
 pub mod Tested
-pub use Rattle.interval_jobs.specs.Asked
+pub use Rattle.rank_inversion.specs.declared.column_test.Asked

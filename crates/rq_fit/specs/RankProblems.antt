@@ -11,7 +11,7 @@ use Rattle.report_text.specs.declared.report.Halt.{Halt}
 use Rattle.report_text.specs.declared.report.Halt.TheVariants.{Refused, OutOfMemory, PivotLimit, Overflow}
 use Rattle.loss_model.specs.StartStop.{IsDependent}
 use Rattle.rq_fit.specs.Stops.{HasStoppedInterval}
-pub use Rattle.interval_jobs.specs.RankProblems.{IsRankable}
+pub use Rattle.rank_inversion.specs.RankProblems.{IsRankable}
 
 abbrev pub HasIntervalCause : FitJob → Problem Frac128 → Halt → Type 0
 HasIntervalCause job p (Refused (Dependent combination)) = IsDependent value p combination

@@ -18,8 +18,8 @@ ghost use Rattle.rq_fit.specs.Stops.{HasProblemCause, IsSegmentSpill};
 
 use crate::halt::{interval_halt, short_halt, stop_halt};
 use frac_core::{Exact, Frac128, List, OutOfMemory};
-use interval_jobs::{Purpose, RankAsks, all_intervals};
 use loss_model::{Interval, Problem, Process, Segment, Short};
+use rank_inversion::{Purpose, RankAsks, all_intervals};
 use rankscores::{ScorePair, scores};
 use report_text::{Fit, Halt, Place};
 use rq_fan::Gate;

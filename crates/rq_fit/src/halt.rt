@@ -3,9 +3,9 @@ ghost use Rattle.std.specs.Prelude.{◌≡◌};
 ghost use Rattle.rq_fit.specs.Halts.{interval_halt as interval_halt_of, path_halt as path_halt_of, short_halt as short_halt_of, stop_halt as stop_halt_of};
 
 use frac_core::{Frac128, List};
-use interval_jobs::IntervalStop;
 use lambda_path::PathFault;
 use loss_model::{Short, Stop, Trail};
+use rank_inversion::IntervalStop;
 use report_text::{Halt, Place, Refusal};
 use rq_program::ProgramFault;
 use std::alloc::Global;

@@ -7,7 +7,7 @@
 //! what its report or its certificate is made of stands above.
 //!
 //! It stands on `rq_input` for the input, on `tau_process` for the segments and the trail, on `rankscores`
-//! and `nested_test`, on `interval_jobs` for rank intervals, and on `report_text` for the types that it answers with.
+//! and `nested_test`, on `rank_inversion` for rank intervals, and on `report_text` for the types that it answers with.
 //! Its tests are those of whole runs, in the crate `run_tests`.
 //!
 //! `rq_engine` calls it so:

@@ -7,7 +7,7 @@ ghost use Rattle.rq_fit.specs.Stops.{HasProblemCause};
 
 use crate::fit::fit_input;
 use frac_core::OutOfMemory;
-use interval_jobs::Purpose;
+use rank_inversion::Purpose;
 use rankscores::wilcoxon;
 use report_text::{Halt, RanksFit};
 use rq_fan::Gate;

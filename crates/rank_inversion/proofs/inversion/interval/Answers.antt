@@ -1,4 +1,3 @@
-use Rattle.rank_inversion.specs.Inversions.{IsAskable}
 use Rattle.rank_inversion.proofs.inversion.interval.Goals as goal
 
 pub or_by_parts-requires-clause-asked : goal.or_by_parts-requires-clause-asked

@@ -1,4 +1,3 @@
-use Rattle.rank_inversion.specs.Inversions.{IsAskable}
 use Rattle.rank_inversion.proofs.Joined.{asked_costs}
 use Rattle.rank_inversion.proofs.inversion.interval_in_wholes.Goals as goal
 

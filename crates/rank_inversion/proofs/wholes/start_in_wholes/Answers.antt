@@ -1,4 +1,4 @@
-use Rattle.std.proofs.Common.{◌≡◌, length, sym, subst}
+use Rattle.std.proofs.Common.{sym, subst}
 use Rattle.gram_check.specs.Sizes.{IsSquare}
 use Rattle.rank_inversion.proofs.wholes.start_in_wholes.Goals as goal
 

@@ -1,4 +1,4 @@
-use Rattle.std.proofs.Common.{◌≡◌, ◌≤◌, ◌-◌, ℕ, length, ap, arith}
+use Rattle.std.proofs.Common.{◌≡◌, ◌≤◌, ◌-◌, length, ap, arith}
 use Rattle.rank_inversion.proofs.inversion.Inversion.interval.Goals as goal
 
 pub rise_stop-requires-clause-halted : goal.rise_stop-requires-clause-halted

@@ -1,4 +1,4 @@
-use Rattle.std.proofs.Common.{slice_index, sym, ◌∙◌}
+use Rattle.std.proofs.Common.{slice_index}
 use Rattle.std.proofs.lemmas.Result.{err_from_is_err_and}
 use Rattle.loss_model.specs.Spill.{AtSome}
 use Rattle.fraction_tableau.proofs.Vertices.{itself}

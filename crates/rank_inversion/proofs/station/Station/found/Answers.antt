@@ -1,7 +1,6 @@
 use Rattle.std.specs.Ordering.{is_gt}
 use Rattle.std.proofs.Common.{refl, ap, ◌∙◌}
 use Rattle.std.proofs.lemmas.Result.{err_from_is_err_and}
-use Rattle.exact_algebra.specs.Fraction.{rational}
 use Rattle.frac_core.specs.declared.exact.OpKind.TheVariants.{Mul}
 use Rattle.loss_model.specs.declared.spill.Quantity.TheVariants.{Statistic}
 use Rattle.loss_model.specs.Spill.{site_of}

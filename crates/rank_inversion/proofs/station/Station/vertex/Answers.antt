@@ -1,4 +1,4 @@
-use Rattle.std.proofs.Common.{◌≡◌, length, List, sym, subst, ◌∙◌}
+use Rattle.std.proofs.Common.{◌∙◌}
 use Rattle.fraction_tableau.specs.Kept.{place}
 use Rattle.fraction_tableau.proofs.Places.{kept_is_place}
 use Rattle.fraction_tableau.proofs.Vertices.{distinct_rows}

@@ -1,4 +1,3 @@
-use Rattle.std.proofs.Common.{ap}
 use Rattle.rank_inversion.proofs.Joined.{asked_costs}
 use Rattle.rank_inversion.proofs.wholes.Started.sides.Goals as goal
 

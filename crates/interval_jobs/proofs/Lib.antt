@@ -1,4 +1,0 @@
-mod Ends
-mod Listed
-mod RankIntervals
-mod Untils

@@ -1,4 +1,0 @@
-use Rattle.interval_jobs.proofs.jobs.ColumnJobFrac128Work.work.Goals as goal
-
-pub returns : goal.returns
-returns g c = rw (← c.self.view_is) c.interval.ensures

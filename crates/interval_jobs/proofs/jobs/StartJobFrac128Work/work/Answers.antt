@@ -1,4 +1,0 @@
-use Rattle.interval_jobs.proofs.jobs.StartJobFrac128Work.work.Goals as goal
-
-pub returns : goal.returns
-returns c = rw (← c.self.view_is) c.start.ensures

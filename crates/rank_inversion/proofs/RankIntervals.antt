@@ -1,0 +1,41 @@
+-- What the work for one quantile and for one column needs.
+use Rattle.std.proofs.Common.{◌<◌, pos}
+use Rattle.exact_algebra.specs.Fraction.{Fraction, rational}
+use Rattle.exact_algebra.specs.Rational.{whole}
+use Rattle.exact_algebra.proofs.OrderLaws.{le_from_not}
+use Rattle.loss_model.specs.declared.interval.Interval.{Interval}
+use Rattle.loss_model.specs.declared.problem.Problem.{Problem}
+use Rattle.loss_model.specs.Problem.{sample}
+use Rattle.pivot_rule.specs.Duals.{HasCosts}
+use Rattle.rank_inversion.specs.Inversions.{IsAskable}
+use Rattle.rank_inversion.specs.declared.column_test.Asked.{Asked}
+use Rattle.rank_inversion.proofs.Costs.{data_costs}
+use Rattle.rank_inversion.specs.Intervals.{HasFactors}
+use Rattle.rank_inversion.specs.AllIntervals.{IsFor}
+use Rattle.rank_inversion.specs.RankProblems.{IsInner, IsRankable}
+use Rattle.rank_inversion.specs.declared.asks.Purpose.{Purpose}
+use Rattle.rank_inversion.specs.declared.asks.Purpose.TheVariants.{Report, Certificate}
+
+module _ {F : Type 0} (value : F → Fraction) (p : Problem F) where
+  -- what is asked of a problem such as intervals are asked of
+  pub askable : (asked : Asked F) → IsRankable value p asked.crit → IsInner (rational (value asked.tau)) → asked.column < p.columns → IsAskable value p asked
+  askable asked rankable inner within =
+      record {
+        shaped = rankable.shaped;
+        column = within;
+        tau_above = inner.0;
+        tau_below = inner.1;
+        crit = rankable.crit_sign;
+        data_rows = rankable.data_rows;
+      }
+
+  -- its rows have costs at the quantile
+  pub inner_costs : (crit tau : F) → IsRankable value p crit → IsInner (rational (value tau)) → HasCosts (sample value p) (rational (value tau))
+  inner_costs crit tau rankable inner =
+      data_costs (sample value p) (rational (value tau)) (le_from_not (whole (pos 0)) (rational (value tau)) inner.0)
+      (le_from_not (rational (value tau)) (whole (pos 1)) inner.1) rankable.data_rows
+
+-- an interval that lists its factors is what it is for
+pub listed_for : {F : Type 0} (purpose : Purpose) (r : Interval F) → HasFactors r → IsFor purpose r
+listed_for Report r h = tt
+listed_for Certificate r h = h

@@ -1,0 +1,4 @@
+use Rattle.rank_inversion.proofs.jobs.ColumnJobFrac128Work.work.Goals as goal
+
+pub returns : goal.returns
+returns g c = rw (← c.self.view_is) c.interval.ensures
