@@ -2,7 +2,7 @@
 
 use crate::helpers::{expect_fault, put, repeated};
 use data_frame::{Column, Frame, TableFault, read_table};
-use frac_core::Exact;
+use frac_core::{Exact, Frac128};
 use std::alloc::Global;
 use std::process::Abort;
 
@@ -28,11 +28,23 @@ fn read(rt: &impl Abort, alloc: Global, count: usize, behind: &str) -> Result<Fr
     read_table(alloc, text.as_bytes())
 }
 
+// Whether cells are just the number 7.
+fn are_seven(cells: &[Option<Frac128>]) -> bool {
+    if cells.len() != 1 {
+        return false;
+    }
+    match cells[0] {
+        Some(cell) => cell.numerator() == 7 && cell.denominator() == 1,
+        None => false,
+    }
+}
+
 // Whether a column has just the number 7.
 fn is_seven(frame: &Frame, name: &str) -> bool {
     match frame.column(name) {
-        Some(Column::Numbers([Some(cell)])) => cell.numerator() == 7 && cell.denominator() == 1,
-        _ => false,
+        Some(Column::Numbers(cells)) => are_seven(cells),
+        Some(Column::Factor(_)) | Some(Column::TooWide { .. }) => false,
+        None => false,
     }
 }
 
