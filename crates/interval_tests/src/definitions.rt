@@ -5,6 +5,7 @@
 //! polytope of the restricted problem, and the ends from the least losses of the fits that keep the tested
 //! coefficient.
 
+use crate::worked::{FIVE, LINE};
 use loss_model::Bound;
 use slow_ranks::{
     CRITICAL, Data, Ends, Parts, QUANTILES, RankTest, Ratio, Vertex, after, before, draw,
@@ -24,18 +25,11 @@ struct Case {
     high: Option<Parts>,
 }
 
-/// Five responses, an intercept. The squared length is 5. Up to a tested value of 1 all five dual values
+/// Of the five responses, whose squared length is 5. Up to a tested value of 1 all five dual values
 /// are 1/2, and their sum is 5/2. It falls by 1 at each response, to 3/2 between 1 and 2, to 1/2 between
 /// 2 and 3, and so on to -5/2; at a response it has all values between. The bound of its square is
 /// crit * 1/4 * 5.
-static FIVE: [Data; 5] = [
-    ([1, 0, 0], 1, 1),
-    ([1, 0, 0], 2, 1),
-    ([1, 0, 0], 3, 1),
-    ([1, 0, 0], 4, 1),
-    ([1, 0, 0], 5, 1),
-];
-
+///
 /// With 1 the bound is 5/4: 1/4 is within it, and 9/4 is not. With 9/5 it is 9/4, a tie. With 5 it is
 /// 25/4, a tie with the greatest square that there is. With 0 the sum must be 0, as it can be at 3 alone.
 static OF_FIVE: [Case; 4] = [
@@ -64,9 +58,6 @@ static OF_FIVE: [Case; 4] = [
         high: Some([3, 1]),
     },
 ];
-
-/// A line through three points.
-static LINE: [Data; 3] = [([1, 0, 0], 0, 1), ([1, 1, 0], 2, 1), ([1, 3, 0], 3, 1)];
 
 /// Of the intercept, beside x: the ones less 2/5 of x leave 1, 3/5 and -1/5, of squared length 7/5, so
 /// the bound is 6/7 * 1/4 * 7/5 = 3/10. Dual values balance x: e2 + 3 e3 = 0. The third row, of the

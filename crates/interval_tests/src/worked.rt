@@ -38,7 +38,7 @@ struct Case {
 /// As the wanted sum s falls, the dual value of the fit falls with it to -1/2, and the next row enters with the
 /// value 1/2: at s = -1/2 the one of 4, at -3/2 that of 5, and at -5/2 no row is left. As s rises, it is the
 /// rows of 2 and 1.
-static FIVE: [Data; 5] = [
+pub(crate) static FIVE: [Data; 5] = [
     ([1, 0, 0], 1, 1),
     ([1, 0, 0], 2, 1),
     ([1, 0, 0], 3, 1),
@@ -149,7 +149,7 @@ static OF_FIVE: [Case; 4] = [
 
 /// A line through three points: the third row takes the position of the second, so the fit goes through the first
 /// and the last, and the dual values are -1/3, 1/2 and -1/6.
-static LINE: [Data; 3] = [([1, 0, 0], 0, 1), ([1, 1, 0], 2, 1), ([1, 3, 0], 3, 1)];
+pub(crate) static LINE: [Data; 3] = [([1, 0, 0], 0, 1), ([1, 1, 0], 2, 1), ([1, 3, 0], 3, 1)];
 
 /// Of the intercept: 2/5 of x are taken from it, and the bound is 6/7 * 1/4 * 7/5 = 3/10. The values of the
 /// basis are -1/3 + s and -1/6. As s falls the first meets -1/2 at -1/6, within, and the second row enters
