@@ -268,6 +268,29 @@ fn expect_stop<F: Exact>(rt: &impl Abort, shown: u32, trail: &Trail<F>, limit: u
     );
 }
 
+/// An answer within the limit has so many pivots.
+fn expect_pivots<F: Exact>(rt: &impl Abort, trail: &Trail<F>, limit: u32, needed: u32) {
+    assert!(rt; needed <= limit, "the limit is enough");
+    assert!(rt;
+        trail.steps.as_slice().len() == needed as usize,
+        "the pivots of the rule"
+    );
+}
+
+/// What stops an answer that needs so many pivots is the limit, and it is too low.
+fn expect_limit<F: Exact>(rt: &impl Abort, stop: Stop<F>, limit: u32, needed: u32) {
+    match stop {
+        Stop::PivotLimit {
+            limit: shown,
+            trail,
+        } => {
+            assert!(rt; limit < needed, "the limit is too low");
+            expect_stop(rt, shown, &trail, limit);
+        }
+        _ => panic!(rt; "no other stop"),
+    }
+}
+
 /// The solve needs so many pivots where the limit allows them.
 fn expect_solve<F: Exact>(
     rt: &impl Abort,
@@ -277,23 +300,8 @@ fn expect_solve<F: Exact>(
     needed: u32,
 ) {
     match solve(rt, alloc, problem, fraction(rt, (1, 3)), limit) {
-        Ok(solved) => {
-            assert!(rt; needed <= limit, "the limit is enough");
-            assert!(rt;
-                solved.trail.steps.as_slice().len() == needed as usize,
-                "the pivots of the rule"
-            );
-        }
-        Err(
-            Stop::PivotLimit {
-                limit: shown,
-                trail,
-            },
-        ) => {
-            assert!(rt; limit < needed, "the limit is too low");
-            expect_stop(rt, shown, &trail, limit);
-        }
-        Err(_) => panic!(rt; "no other stop"),
+        Ok(solved) => expect_pivots(rt, &solved.trail, limit, needed),
+        Err(stop) => expect_limit(rt, stop, limit, needed),
     }
 }
 
@@ -306,23 +314,8 @@ fn expect_process<F: Exact>(
     needed: u32,
 ) {
     match walk(rt, alloc, problem, (F::zero(), F::one()), limit) {
-        Ok(walked) => {
-            assert!(rt; needed <= limit, "the limit is enough");
-            assert!(rt;
-                walked.trail.steps.as_slice().len() == needed as usize,
-                "the pivots of the rule"
-            );
-        }
-        Err(
-            Stop::PivotLimit {
-                limit: shown,
-                trail,
-            },
-        ) => {
-            assert!(rt; limit < needed, "the limit is too low");
-            expect_stop(rt, shown, &trail, limit);
-        }
-        Err(_) => panic!(rt; "no other stop"),
+        Ok(walked) => expect_pivots(rt, &walked.trail, limit, needed),
+        Err(stop) => expect_limit(rt, stop, limit, needed),
     }
 }
 
