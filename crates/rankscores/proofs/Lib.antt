@@ -3,6 +3,7 @@ pub mod Halving
 pub mod Integrals
 pub mod Rankscores
 pub mod Runs
+pub mod Shares
 pub mod Stretches
 pub mod Surveyed
 pub mod WilcoxonLaws

@@ -53,6 +53,12 @@ stretch_cross value e =
     (((rational (value e.hi) *ℚ rational (value e.at_lo)) -ℚ (rational (value e.lo) *ℚ rational (value e.at_hi))) *ℚ inverse (rational (value e.weight)))
     +ℚ (rational (value e.hi) -ℚ rational (value e.lo))
 
+-- the same over the weight as a whole
+abbrev pub raised_cross : {F : Type 0} → (F → Fraction) → Stretch F → ℚ
+raised_cross value e =
+    ((rational (value e.hi) *ℚ (rational (value e.at_lo) +ℚ rational (value e.weight)))
+    -ℚ (rational (value e.lo) *ℚ (rational (value e.at_hi) +ℚ rational (value e.weight)))) *ℚ inverse (rational (value e.weight))
+
 -- e is basic row i along a segment: its dual values over its weight make its scores at both ends
 pub record IsStretch {F : Type 0} (value : F → Fraction) (p : Problem F) (s : Segment F) (i : ℕ) (e : Stretch F) : Type 0 where
   pub weighted : rational (value e.weight) ≢ whole (pos 0)

@@ -19,11 +19,12 @@ ghost use Rattle.rankscores.specs.Rows.{area_to, cross_to, last_score, run_lengt
 ghost use Rattle.rankscores.specs.Scores.{score, IsScorable};
 ghost use Rattle.rankscores.specs.Wilcoxon.{half as half_of, AreWilcoxon};
 
-use crate::score::{basic_cross, basic_score, gap, halved};
+use crate::score::{basic_cross, basic_score, gap};
+use crate::unreduced::half_sum;
 use frac_core::{Exact, List, OutOfMemory};
 use loss_model::laws::rankscores_outside;
 use loss_model::{Problem, Process, Segment, Side};
-use ratio::{Ratio, sum};
+use ratio::Ratio;
 use std::alloc::Global;
 
 /// The Wilcoxon score of each row: the integral of its rankscore over 0 to 1, minus 1/2
@@ -211,7 +212,6 @@ fn wilcoxon_of<F: Exact>(
 {
     let mut terms = crosses(alloc, problem, segments, row)?;
     put_end(alloc, problem, segments, row, &mut terms)?;
-    let twice = sum(alloc, terms.as_slice())?;
-    let score = halved(alloc, &twice)?;
+    let score = half_sum(alloc, terms.as_slice())?;
     Ok(score)
 }

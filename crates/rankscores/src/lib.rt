@@ -22,6 +22,7 @@ pub mod laws;
 mod pair;
 mod score;
 mod segment;
+mod unreduced;
 
 pub use integral::wilcoxon;
 pub use pair::ScorePair;

@@ -14,4 +14,4 @@ returns g c =
     let p = c.args.problem.now in
     score_by_crosses (sample value p) (segments_of value p c.args.segments.now) c.args.row c.requires.covers c.requires.inside (rational c.in_ok-score.score) (total c.in_ok-terms.terms) (total c.put_end.new.terms)
     (c.in_ok-terms.ensures {u = tt}) (c.in_ok-put_end.ensures {u = tt})
-    ((c.in_ok-score.ensures {u = tt}) ∙ ap (λ z. z *ℚ h) ((c.in_ok-twice.ensures {u = tt}) ∙ ap total c.as_slice.ensures))
+    ((c.in_ok-score.ensures {u = tt}) ∙ ap (λ z. total z *ℚ h) c.as_slice.ensures)
