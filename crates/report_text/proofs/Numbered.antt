@@ -6,7 +6,7 @@ use Rattle.std.specs.List.{zip}
 use Rattle.std.proofs.lemmas.List.{take_more}
 use Rattle.report_text.specs.ReportText.{numbered}
 
-numbered-append : {X : Type 0} (text : ℕ → X → List ℕ) (i : ℕ) (xs ys : List X) → numbered text i (xs ++ ys) ≡ numbered text i xs ++ numbered text (i + length xs) ys
+pub numbered-append : {X : Type 0} (text : ℕ → X → List ℕ) (i : ℕ) (xs ys : List X) → numbered text i (xs ++ ys) ≡ numbered text i xs ++ numbered text (i + length xs) ys
 numbered-append text i [] ys = ap (λ n. numbered text n ys) (omega arith)
 numbered-append text i (x ∷ xs) ys =
     ap (λ rest. text i x ++ rest) (numbered-append text (i + 1) xs ys ∙ ap (λ n. numbered text (i + 1) xs ++ numbered text n ys) (omega arith))

@@ -2,6 +2,7 @@
 ghost use Rattle.std.specs.Prelude.{◌≡◌, List, ℕ};
 ghost use Rattle.std.specs.Borrow.{ftrue};
 
+use loss_model::Side;
 use ratio::Ratio;
 use std::marker::Model;
 
@@ -15,12 +16,14 @@ impl Model for GhostText {
     ghost also_owns = { λ _. ftrue };
 }
 
-/// What a text is said to be: nothing, or an earlier one and behind it bytes, or a fraction of any size, which stands for its text.
+/// What a text is said to be: nothing, or an earlier one and behind it bytes, or a fraction of any size, which stands for its text, or
+/// the sides of rows, which stand for their marks, those before a row as data rows.
 #[derive(Clone, Copy, Drop)]
 pub(crate) enum Said<'a> {
     Nothing,
     Bytes(&'a GhostText, &'a [u8]),
     Fraction(&'a GhostText, &'a Ratio),
+    Marks(&'a GhostText, u32, &'a [Side]),
 }
 
 impl GhostText {

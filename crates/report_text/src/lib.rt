@@ -34,6 +34,7 @@ mod quantity;
 mod ranks;
 mod report;
 mod sample;
+mod sides;
 mod test;
 
 pub use fault::{MEMORY_LINE, SINK_LINE, SOURCE_LINE, fault_line};

@@ -1,6 +1,6 @@
 //! The lines of a report.
 ghost use Rattle.std.specs.Prelude.{◌≡◌, ◌++◌, ◌+◌, ◌≤◌, length, IfOk};
-ghost use Rattle.report_text.specs.ReportText.{records_line, column_line, data_line, pivots_line, segment_line, coef_line, loss_line, basic_line, score_mark, row_mark, scores_line, segment_text, fit_size, fit_head, fit_text, report_text, IsPrintable, numbered};
+ghost use Rattle.report_text.specs.ReportText.{records_line, column_line, data_line, pivots_line, segment_line, coef_line, loss_line, basic_line, scores_line, segment_text, fit_size, fit_head, fit_text, report_text, IsPrintable, numbered};
 ghost use Rattle.std.specs.List.{flat_map, zip};
 
 use crate::page::Page;
@@ -122,26 +122,12 @@ impl Page {
         }
     }
 
-    pub(crate) fn row_marks(&mut self, data_rows: u32, sides: &[Side])
-        ensures { self.new ≡ self.old ++ numbered (row_mark data_rows) 0 sides.now }
-    {
-        for (row, side) in sides.iter().enumerate() {
-            self.row_mark(data_rows, row, *side);
-        }
-    }
-
-    fn row_mark(&mut self, data_rows: u32, row: usize, side: Side)
-        ensures { self.new ≡ self.old ++ row_mark data_rows row side }
-    {
-        self.put(&[score_mark(row < data_rows as usize, side)]);
-    }
-
     #[tactic(auto, unfolding(crate::specs::ReportText::scores_line))]
     fn scores_line(&mut self, data_rows: u32, sides: &[Side])
         ensures { self.new ≡ self.old ++ scores_line data_rows sides.now }
     {
         self.put(b"scores ");
-        self.row_marks(data_rows, sides);
+        self.put_marks(data_rows, sides);
         self.put(b"\n");
     }
 
@@ -241,17 +227,4 @@ pub fn report_bytes(alloc: Global, report: &Report) -> Result<Vec<u8>, OutOfMemo
         Report::Path(fit) => page.path(fit),
     }
     page.finish()
-}
-
-// The mark of a row's side.
-fn score_mark(is_data: bool, side: Side) -> u8
-    ensures { result ≡ score_mark is_data side }
-{
-    match (is_data, side) {
-        (_, Side::Basic) => b'*',
-        (true, Side::Up) => b'1',
-        (true, Side::Down) => b'0',
-        (false, Side::Up) => b'+',
-        (false, Side::Down) => b'-',
-    }
 }

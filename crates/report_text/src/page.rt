@@ -3,10 +3,13 @@ ghost use Rattle.std.specs.Prelude.{◌≡◌, ◌++◌, ◌<◌, [], ◌∷◌,
 ghost use Rattle.frac_core.specs.NumberText.{number_text_of};
 ghost use Rattle.ratio.specs.Text.{ratio_text};
 ghost use Rattle.report_text.specs.Names.{name_bytes, name_byte, hexadecimal};
+ghost use Rattle.report_text.specs.ReportText.{numbered, row_mark};
 
 use crate::ghost_text::{GhostText, Said};
+use crate::sides::marks_of;
 use frac_core::{Exact, OutOfMemory, Text};
 use itoa::Buffer;
+use loss_model::Side;
 use ratio::Ratio;
 use std::alloc::Global;
 use std::marker::Model;
@@ -62,6 +65,19 @@ impl Page {
             self.is_short = value.write(self.alloc, &mut self.bytes).is_err();
         }
         self.text = GhostText::of(&Said::Fraction(&self.text, value));
+    }
+
+    /// Adds a mark for each row, of which those below `data_rows` are data rows.
+    pub(crate) fn put_marks(&mut self, data_rows: u32, sides: &[Side])
+        ensures { self.new ≡ self.old ++ numbered (row_mark data_rows) 0 sides.now }
+    {
+        if !self.is_short {
+            self.is_short = match marks_of(self.alloc, data_rows, sides) {
+                Ok(line) => self.bytes.extend_from_slice(line.as_slice()).is_err(),
+                Err(_) => true,
+            };
+        }
+        self.text = GhostText::of(&Said::Marks(&self.text, data_rows, sides));
     }
 
     /// The bytes of the text. It refuses only for memory, where that was wanting for a piece.

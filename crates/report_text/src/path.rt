@@ -13,7 +13,7 @@ impl Page {
         ensures { self.new ≡ self.old ++ sides_line sides.now }
     {
         self.put(b"sides ");
-        self.row_marks(0, sides);
+        self.put_marks(0, sides);
         self.put(b"\n");
     }
 
