@@ -2,8 +2,9 @@
 //!
 //! The one contract for the layers above: `solving_step` gives the position that leaves at a quantile and the row that takes its
 //! place, as they are defined in ℚ for the problem in whole numbers, or that no slope is negative, or refuses. Slopes at a
-//! quantile are numbers over the determinant and the quantile's second part. The residuals of all rows are made where a position
-//! leaves. The row is found by halving those that are left (Hoare 1961), of which nothing is promised: it is then tested in one
+//! quantile are numbers over the determinant and the quantile's second part. Where a position leaves, the residuals of all rows and
+//! their coordinates are looked at. The row is found by halving those that are left (Hoare 1961), by the leading bits of their
+//! ratios, and in full where these don't lead to it. Nothing is promised of either: the row is then tested in one
 //! pass over all rows, and that test is the whole proof. It stands on `whole_steps` for the slopes, and on `whole_ratio` for the
 //! order of the rows that move.
 //!
@@ -19,6 +20,7 @@ mod guess;
 mod leaving;
 mod passing;
 mod quantile;
+mod sights;
 mod solving;
 
 pub use quantile::Quantile;

@@ -6,6 +6,7 @@ ghost use Rattle.whole_ratio.specs.Lines.{IsMover, is_moving, comes_before};
 ghost use Rattle.whole_descent.specs.Passing.{IsDescent, number_value, first_slope, passing_of, passed_by, slope_until, Enters};
 
 use crate::quantile::Quantile;
+use std::alloc::Global;
 use whole_inverse::Obstacle;
 use whole_ratio::{FullLine, Mover};
 
@@ -159,5 +160,20 @@ impl<'a> Descent<'a> {
             }
             None => Err(Obstacle::TooWide),
         }
+    }
+    /// The row that enters, from a guess by leading bits, or from one in full where that doesn't stand the test.
+    pub(crate) fn entering_row(&self, alloc: Global, start: i128) -> Result<u32, Obstacle>
+        requires descent { IsDescent self.now }
+        requires start { rational (number_value self.now start) ≡ first_slope self.now }
+        ensures { IfOk result (Enters self.now) }
+    {
+        if let Ok(guess) = self.first_guess(alloc, start) {
+            if let Ok(row) = self.tested(guess, start) {
+                return Ok(row);
+            }
+        }
+        let guess = self.guess(alloc, start)?;
+        let row = self.tested(guess, start)?;
+        Ok(row)
     }
 }

@@ -32,8 +32,7 @@ fn entering(
         coords: numbers.coords.as_slice(),
     };
     let descent = Descent { full, theta };
-    let guess = descent.guess(alloc, leave.slope)?;
-    let row = descent.tested(guess, leave.slope)?;
+    let row = descent.entering_row(alloc, leave.slope)?;
     Ok(row)
 }
 

@@ -14,3 +14,4 @@ pub mod Listed
 pub mod Nearby
 pub mod Tops
 pub mod Chosen
+pub mod Turning

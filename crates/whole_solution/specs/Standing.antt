@@ -1,10 +1,10 @@
 -- Inner. A basis of rows in whole numbers, and what stands there.
-use Rattle.std.specs.Prelude.{◌≡◌, ℕ, ℤ, ◌<◌, ◌≤◌, ◌^◌, List, All, length, pos, slice_get, slice_index, unwrap_or, unsigned_abs}
+use Rattle.std.specs.Prelude.{◌≡◌, ℕ, ℤ, ◌<◌, ◌≤◌, ◌^◌, List, All, IfSome, length, pos, slice_get, slice_index, unwrap_or, unsigned_abs}
 use Rattle.exact_algebra.specs.Rational.{ℚ}
 use Rattle.exact_matrices.specs.Selections.{AreDistinct}
 use Rattle.loss_model.specs.declared.vertex.Side.{Side}
 use Rattle.loss_model.specs.declared.vertex.Side.TheVariants.{Basic}
-use Rattle.loss_model.specs.Sample.{Sample}
+use Rattle.loss_model.specs.Sample.{Sample, residual}
 use Rattle.basis_model.specs.declared.part.Part.TheVariants.{Constant, Linear}
 use Rattle.basis_model.specs.Basis.{coefficient, side_at, basic_dual}
 use Rattle.whole_inverse.specs.Shares.{share, share_at}
@@ -34,7 +34,13 @@ pub record HasWeights (p : Sample) (s : WholeSolution) : Type 0 where
   pub near : IsNear p (side_in s.sides) s.near
   pub weights : AreWeights p (side_in s.sides) s.weights
 
--- the numerators over d are those of the coefficients, the sides are those of the rows, and rows that aren't near are far
+-- the numerators over d are those of the residuals of all rows
+pub record AreResiduals (p : Sample) (at : ℕ → ℕ) (a : ℕ → ℕ → ℚ) (d : ℤ) (residuals : List ℤ) : Type 0 where
+  pub size : length residuals ≡ p.rows
+  pub each : (i : ℕ) → i < p.rows → share_at d residuals i ≡ residual p (coefficient p at a) i
+
+-- the numerators over d are those of the coefficients, and of the residuals where these stand there, the sides are those of the
+-- rows, the weights are theirs on these, and rows that aren't near are far
 pub record IsSided (p : Sample) (at : ℕ → ℕ) (a : ℕ → ℕ → ℚ) (d : ℤ) (s : Sided) : Type 0 where
   pub columns : length s.coef ≡ p.columns
   pub coef : (k : ℕ) → k < p.columns → share_at d s.coef k ≡ coefficient p at a k
@@ -42,9 +48,10 @@ pub record IsSided (p : Sample) (at : ℕ → ℕ) (a : ℕ → ℕ → ℚ) (d 
   pub sides : (i : ℕ) → i < p.rows → side_in s.sides i ≡ side_at p at a i
   pub near : IsNear p (side_in s.sides) s.near
   pub far : AreOthersFar p (side_in s.sides) s.near.rows (share (pos s.near.reach) s.near.determinant) (coefficient p at a)
+  pub weights : AreWeights p (side_in s.sides) s.weights
+  pub residuals : IfSome s.residuals (AreResiduals p at a d)
 
--- the numerators over d are those of the coefficients and both parts of the basic dual values, the sides are those of
--- the rows, the weights are theirs on these, and rows that aren't near are far
+-- the same, and those of both parts of the basic dual values
 pub record IsWholeSolution (p : Sample) (at : ℕ → ℕ) (a : ℕ → ℕ → ℚ) (d : ℤ) (s : WholeSolution) : Type 0 where
   pub columns : length s.coef ≡ p.columns
   pub coef : (k : ℕ) → k < p.columns → share_at d s.coef k ≡ coefficient p at a k
@@ -53,6 +60,7 @@ pub record IsWholeSolution (p : Sample) (at : ℕ → ℕ) (a : ℕ → ℕ → 
   pub near : IsNear p (side_in s.sides) s.near
   pub far : AreOthersFar p (side_in s.sides) s.near.rows (share (pos s.near.reach) s.near.determinant) (coefficient p at a)
   pub weights : AreWeights p (side_in s.sides) s.weights
+  pub residuals : IfSome s.residuals (AreResiduals p at a d)
   pub constants : length s.constant ≡ p.columns
   pub constant : (j : ℕ) → j < p.columns → share_at d s.constant j ≡ basic_dual p at a Constant j
   pub linears : length s.linear ≡ p.columns

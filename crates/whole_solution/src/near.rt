@@ -101,19 +101,43 @@ fn near_count(rows: usize, columns: usize) -> u64 {
         .saturating_add(2 << (bits / 2))
 }
 
-/// How many residuals have sizes below a bound.
-fn count_below(residuals: &[i128], bound: u128) -> u64 {
+/// About so many residuals are looked at to choose a reach.
+const SAMPLE: usize = 512;
+
+/// How many residuals stand from one that is looked at to the next.
+fn stride_of(residuals: usize) -> usize
+    ensures { 1 ≤ result }
+{
+    (residuals / SAMPLE).max(1)
+}
+
+/// The sizes of every so many residuals.
+fn sizes_of(alloc: Global, residuals: &[i128], stride: usize) -> Result<List<u128>, Obstacle> {
+    let mut sizes = List::new(alloc);
+    let mut next: usize = 0;
+    for _ in 0..residuals.len() {
+        if next >= residuals.len() {
+            return Ok(sizes);
+        }
+        sizes.add(residuals[next].unsigned_abs())?;
+        next = next.saturating_add(stride);
+    }
+    Ok(sizes)
+}
+
+/// How many sizes are below a bound.
+fn count_below(sizes: &[u128], bound: u128) -> u64 {
     let mut count: u64 = 0;
-    for i in 0..residuals.len() {
-        if residuals[i].unsigned_abs() < bound {
+    for i in 0..sizes.len() {
+        if sizes[i] < bound {
             count += 1;
         }
     }
     count
 }
 
-/// Half the least power of 2 below which so many residuals are. Any number is lawful: this one leaves few rows near.
-fn reach_of(residuals: &[i128], few: u64) -> u128
+/// Half the least power of 2 below which so many sizes are. Any number is lawful: this one leaves few rows near.
+fn reach_of(sizes: &[u128], few: u64) -> u128
     ensures some { 1 ≤ result }
     ensures room { result < 2 ^ 126 }
 {
@@ -121,7 +145,7 @@ fn reach_of(residuals: &[i128], few: u64) -> u128
     let mut high: u32 = 125;
     while low < high {
         let bits = (low + high) / 2;
-        if count_below(residuals, 2 << bits) < few {
+        if count_below(sizes, 2 << bits) < few {
             low = bits + 1;
         } else {
             high = bits;
@@ -155,8 +179,10 @@ impl Near {
         requires some { pos 1 ≤ℤ determinant }
         ensures { IfOk result (IsChosen (side_in sides.now) residuals.now coef.now determinant tops) }
     {
-        let few = near_count(residuals.len(), coef.len());
-        let reach = reach_of(residuals, few);
+        let stride = stride_of(residuals.len());
+        let sizes = sizes_of(alloc, residuals, stride)?;
+        let few = near_count(residuals.len(), coef.len()) / stride as u64;
+        let reach = reach_of(sizes.as_slice(), few);
         let rows = near_rows(alloc, residuals, sides, reach + reach)?;
         let coef = List::copy(alloc, coef)?;
         Ok(Near {

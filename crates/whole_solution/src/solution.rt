@@ -7,7 +7,7 @@ ghost use Rattle.basis_model.specs.Basis.{coefficient, side_at};
 ghost use Rattle.whole_inverse.specs.Shares.{share, share_at};
 ghost use Rattle.whole_inverse.specs.Squares.{inverse_of};
 ghost use Rattle.whole_rows.specs.Wholes.{sample_of_rows};
-ghost use Rattle.whole_solution.specs.Standing.{side_in, HasWeights, IsSided, IsWholeBasis, IsWholeSolution};
+ghost use Rattle.whole_solution.specs.Standing.{side_in, AreResiduals, HasWeights, IsSided, IsWholeBasis, IsWholeSolution};
 ghost use Rattle.whole_solution.specs.Columns.{IsColumn};
 ghost use Rattle.whole_solution.specs.Far.{AreTops, IsListed};
 ghost use Rattle.whole_solution.specs.Weighing.{AreWeights};
@@ -19,7 +19,7 @@ use crate::near::{Near, tops_of};
 use crate::primal::{coefficients, residual_of, residuals};
 use crate::products::row_products;
 use crate::sides::basic_sides;
-use crate::totals::Weights;
+use crate::totals::{Turn, Weights};
 use frac_core::List;
 use loss_model::Side;
 use std::alloc::Global;
@@ -34,16 +34,26 @@ pub struct WholeSolution {
     pub sides: List<Side>,
     pub near: Near,
     pub weights: Weights,
+    pub residuals: Option<List<i128>>,
     pub constant: List<i128>,
     pub linear: List<i128>,
 }
 
-/// The coefficients at a basis, the sides of all rows, and the rows near the fit.
+/// The same without the dual values.
 #[derive(Drop)]
 pub struct Sided {
     pub coef: List<i128>,
     pub sides: List<Side>,
     pub near: Near,
+    pub weights: Weights,
+    pub residuals: Option<List<i128>>,
+}
+
+/// The sides of all rows, and what these weigh on them.
+#[derive(Drop)]
+pub struct Turned {
+    pub sides: List<Side>,
+    pub weights: Weights,
 }
 
 impl<'a> WholeBasis<'a> {
@@ -92,18 +102,52 @@ impl<'a> WholeBasis<'a> {
         )
     }
 
-    /// The sides of all rows by their residuals, and the rows near this fit.
-    fn sided(&self, alloc: Global, coef: List<i128>, tops: List<u64>) -> Result<Sided, Obstacle>
+    /// The residuals of all rows at the basis, of which a copy is made where what stands there has them.
+    pub fn all_residuals(
+        &self,
+        alloc: Global,
+        solution: &WholeSolution,
+    ) -> Result<List<i128>, Obstacle>
+        requires basis { IsWholeBasis self.now }
+        requires solution { let s = self.now.inverse.now in let p = sample_of_rows (length s.columns) self.now.rows.now in let at = slice_index self.now.basis.now.rows in
+            IsWholeSolution p at (inverse_of s) s.determinant solution.now }
+        ensures { let s = self.now.inverse.now in let p = sample_of_rows (length s.columns) self.now.rows.now in let at = slice_index self.now.basis.now.rows in
+            IfOk result (AreResiduals p at (inverse_of s) s.determinant) }
+    {
+        match &solution.residuals {
+            Some(kept) => {
+                let copy = List::copy(alloc, kept.as_slice())?;
+                Ok(copy)
+            }
+            None => {
+                let made = self.residuals(alloc, solution.coef.as_slice())?;
+                Ok(made)
+            }
+        }
+    }
+
+    /// The sides of all rows by their residuals, what these weigh, and the rows near this fit.
+    fn sided(
+        &self,
+        alloc: Global,
+        coef: List<i128>,
+        tops: List<u64>,
+        old: &[Side],
+        before: &Weights,
+    ) -> Result<Sided, Obstacle>
         requires basis { IsWholeBasis self.now }
         requires size { length coef ≡ length self.now.inverse.now.columns }
         requires each { let s = self.now.inverse.now in let p = sample_of_rows (length s.columns) self.now.rows.now in let at = slice_index self.now.basis.now.rows in
             (k : ℕ) → k < p.columns → share_at s.determinant coef k ≡ coefficient p at (inverse_of s) k }
         requires tops { AreTops (sample_of_rows (length self.now.inverse.now.columns) self.now.rows.now) tops }
+        requires old { length old.now ≡ length self.now.rows.now }
+        requires before { AreWeights (sample_of_rows (length self.now.inverse.now.columns) self.now.rows.now) (side_in old.now) before.now }
         ensures { let s = self.now.inverse.now in let p = sample_of_rows (length s.columns) self.now.rows.now in let at = slice_index self.now.basis.now.rows in
             IfOk result (IsSided p at (inverse_of s) s.determinant) }
     {
         let residuals = self.residuals(alloc, coef.as_slice())?;
         let sides = self.sides(alloc, residuals.as_slice())?;
+        let weights = before.after(alloc, self.rows, old, sides.as_slice())?;
         let near = Near::chosen(
             alloc,
             residuals.as_slice(),
@@ -112,36 +156,72 @@ impl<'a> WholeBasis<'a> {
             self.inverse.determinant(),
             tops,
         )?;
-        Ok(Sided { coef, sides, near })
+        Ok(Sided {
+            coef,
+            sides,
+            near,
+            weights,
+            residuals: Some(residuals),
+        })
     }
 
-    /// The sides of the near rows at this basis beside the earlier ones of all others.
+    /// The side of a row at this basis, where it is outside this.
+    fn near_side(&self, coef: &Column, row: u32) -> Result<Side, Obstacle>
+        requires basis { IsWholeBasis self.now }
+        requires column { IsColumn coef.now.numbers.now self.now.limit coef.now }
+        requires size { length coef.now.numbers.now ≡ length self.now.inverse.now.columns }
+        requires each { let s = self.now.inverse.now in let p = sample_of_rows (length s.columns) self.now.rows.now in let at = slice_index self.now.basis.now.rows in
+            (k : ℕ) → k < p.columns → share_at s.determinant coef.now.numbers.now k ≡ coefficient p at (inverse_of s) k }
+        requires row { row < length self.now.rows.now }
+        ensures { let s = self.now.inverse.now in let p = sample_of_rows (length s.columns) self.now.rows.now in let at = slice_index self.now.basis.now.rows in
+            IfOk result (λ o. is_among at p.columns row ≡ false → o ≡ side_at p at (inverse_of s) row) }
+    {
+        let number = self.residual_at(coef, row)?;
+        let side = self.free_side(row, number)?;
+        Ok(side)
+    }
+
+    /// The sides of the near rows at this basis beside the earlier ones of all others, and what rows weigh on these.
     fn near_sides(
         &self,
         alloc: Global,
         coef: &[i128],
         old: &[Side],
+        before: &Weights,
         near: &[u32],
-    ) -> Result<List<Side>, Obstacle>
+    ) -> Result<Turned, Obstacle>
         requires basis { IsWholeBasis self.now }
         requires size { length coef.now ≡ length self.now.inverse.now.columns }
         requires each { let s = self.now.inverse.now in let p = sample_of_rows (length s.columns) self.now.rows.now in let at = slice_index self.now.basis.now.rows in
             (k : ℕ) → k < p.columns → share_at s.determinant coef.now k ≡ coefficient p at (inverse_of s) k }
         requires old { length old.now ≡ length self.now.rows.now }
+        requires before { AreWeights (sample_of_rows (length self.now.inverse.now.columns) self.now.rows.now) (side_in old.now) before.now }
         requires near { All (λ i. i < length self.now.rows.now) near.now }
-        ensures size { IfOk result (λ made. length made ≡ length self.now.rows.now) }
-        ensures each { IfOk result (λ made. (i : ℕ) → IsListed near.now i ⊎ (side_in made i ≡ side_in old.now i)) }
+        ensures size { IfOk result (λ made. length made.sides ≡ length self.now.rows.now) }
+        ensures each { IfOk result (λ made. (i : ℕ) → IsListed near.now i ⊎ (side_in made.sides i ≡ side_in old.now i)) }
         ensures near { let s = self.now.inverse.now in let p = sample_of_rows (length s.columns) self.now.rows.now in let at = slice_index self.now.basis.now.rows in
-            IfOk result (λ made. (i : ℕ) → IsListed near.now i → is_among at p.columns i ≡ false → side_in made i ≡ side_at p at (inverse_of s) i) }
+            IfOk result (λ made. (i : ℕ) → IsListed near.now i → is_among at p.columns i ≡ false → side_in made.sides i ≡ side_at p at (inverse_of s) i) }
+        ensures weights { IfOk result (λ made. AreWeights (sample_of_rows (length self.now.inverse.now.columns) self.now.rows.now) (side_in made.sides) made.weights) }
     {
+        let rows = self.rows;
         let coef = Column::of(coef, self.limit);
         let mut sides = List::copy(alloc, old)?;
+        let mut weights = before.copy(alloc)?;
         for k in 0..near.len() {
-            let number = self.residual_at(&coef, near[k])?;
-            let side = self.free_side(near[k], number)?;
-            sides.replace(near[k], side);
+            let row = near[k];
+            let chosen = &rows[row as usize];
+            let from = sides.as_slice()[row as usize];
+            let side = self.near_side(&coef, row)?;
+            let turn = Turn { from, to: side };
+            sides.replace(row, side);
+            if !turn.stays() {
+                match weights.turned(alloc, chosen, turn) {
+                    Ok(next) => weights = next,
+                    Err(obstacle) => return Err(obstacle),
+                }
+            }
         }
-        Ok(sides)
+        Ok(Turned { sides, weights })
     }
 
     /// Whether the rows of the basis are on no side.
@@ -172,38 +252,37 @@ impl<'a> WholeBasis<'a> {
             .near
             .serves(coef.as_slice(), self.inverse.determinant())
         {
-            let sides = self.near_sides(
+            let turned = self.near_sides(
                 alloc,
                 coef.as_slice(),
                 before.sides.as_slice(),
+                &before.weights,
                 before.near.rows.as_slice(),
             )?;
-            if self.holds_basis(sides.as_slice()) {
+            if self.holds_basis(turned.sides.as_slice()) {
                 let near = before.near.copy(alloc)?;
-                return Ok(Sided { coef, sides, near });
+                return Ok(Sided {
+                    coef,
+                    sides: turned.sides,
+                    near,
+                    weights: turned.weights,
+                    residuals: None,
+                });
             }
         }
         let tops = List::copy(alloc, before.near.tops.as_slice())?;
-        self.sided(alloc, coef, tops)
+        self.sided(alloc, coef, tops, before.sides.as_slice(), &before.weights)
     }
 
-    /// What stands at a basis, from what its rows weigh on other sides.
-    fn standing(
-        &self,
-        alloc: Global,
-        sided: Sided,
-        old: &[Side],
-        before: &Weights,
-    ) -> Result<WholeSolution, Obstacle>
+    /// What stands at a basis, with the dual values.
+    fn standing(&self, alloc: Global, sided: Sided) -> Result<WholeSolution, Obstacle>
         requires basis { IsWholeBasis self.now }
         requires sided { let s = self.now.inverse.now in let p = sample_of_rows (length s.columns) self.now.rows.now in let at = slice_index self.now.basis.now.rows in
             IsSided p at (inverse_of s) s.determinant sided }
-        requires old { length old.now ≡ length self.now.rows.now }
-        requires before { AreWeights (sample_of_rows (length self.now.inverse.now.columns) self.now.rows.now) (side_in old.now) before.now }
         ensures { let s = self.now.inverse.now in let p = sample_of_rows (length s.columns) self.now.rows.now in let at = slice_index self.now.basis.now.rows in
             IfOk result (IsWholeSolution p at (inverse_of s) s.determinant) }
     {
-        let weights = before.after(alloc, self.rows, old, sided.sides.as_slice())?;
+        let weights = sided.weights;
         let constant = balancing_numbers(alloc, self.inverse, weights.constant.columns.as_slice())?;
         let linear = balancing_numbers(alloc, self.inverse, weights.linear.columns.as_slice())?;
         Ok(WholeSolution {
@@ -211,6 +290,7 @@ impl<'a> WholeBasis<'a> {
             sides: sided.sides,
             near: sided.near,
             weights,
+            residuals: sided.residuals,
             constant,
             linear,
         })
@@ -225,10 +305,10 @@ impl<'a> WholeBasis<'a> {
         let n = self.basis.rows.as_slice().len() as u32;
         let coef = self.coefficients(alloc)?;
         let tops = tops_of(alloc, self.rows, n)?;
-        let sided = self.sided(alloc, coef, tops)?;
         let uncounted = basic_sides(alloc, self.rows.len())?;
         let weights = Weights::none(alloc, n)?;
-        let solution = self.standing(alloc, sided, uncounted.as_slice(), &weights)?;
+        let sided = self.sided(alloc, coef, tops, uncounted.as_slice(), &weights)?;
+        let solution = self.standing(alloc, sided)?;
         Ok(solution)
     }
 
@@ -244,7 +324,7 @@ impl<'a> WholeBasis<'a> {
             IfOk result (IsWholeSolution p at (inverse_of s) s.determinant) }
     {
         let sided = self.sided_after(alloc, before)?;
-        let solution = self.standing(alloc, sided, before.sides.as_slice(), &before.weights)?;
+        let solution = self.standing(alloc, sided)?;
         Ok(solution)
     }
 }

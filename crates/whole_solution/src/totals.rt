@@ -13,6 +13,7 @@ ghost use Rattle.whole_solution.specs.Standing.{side_in};
 ghost use Rattle.whole_solution.specs.Weighing.{bound_of, AreRaised, AreTurned, AreWeights};
 
 use crate::bounds::bound;
+use crate::room::room_for;
 use basis_model::Part;
 use frac_core::List;
 use loss_model::Side;
@@ -38,14 +39,14 @@ pub struct Weights {
 
 /// A row's change of sides.
 #[derive(Clone, Copy)]
-struct Turn {
-    from: Side,
-    to: Side,
+pub struct Turn {
+    pub from: Side,
+    pub to: Side,
 }
 
 impl Turn {
     /// Whether the side stays.
-    fn stays(self) -> bool
+    pub(crate) fn stays(self) -> bool
         ensures { IsTrue result → self.to ≡ self.from }
     {
         self.to == self.from
@@ -96,7 +97,7 @@ fn raised_columns(
     ensures size { IfOk result (λ made. length made ≡ length totals.now) }
     ensures each { IfOk result (λ made. (k : ℕ) → k < length totals.now → whole_at made k ≡ whole_at totals.now k +ℚ (whole_at x.now k *ℚ whole weight)) }
 {
-    let mut made = List::new(alloc);
+    let mut made = room_for(alloc, totals.len())?;
     for k in 0..totals.len() {
         let total = raised(totals[k], weight, x[k])?;
         if made.push(total).is_err() {
@@ -190,7 +191,7 @@ impl Weights {
     }
 
     /// The same weights in lists of their own.
-    fn copy(&self, alloc: Global) -> Result<Weights, Obstacle>
+    pub(crate) fn copy(&self, alloc: Global) -> Result<Weights, Obstacle>
         ensures { IfOk result (λ w. w ≡ self.now) }
     {
         let constant = self.constant.copy(alloc)?;
@@ -199,7 +200,12 @@ impl Weights {
     }
 
     /// The weights after a row has changed sides.
-    fn turned(&self, alloc: Global, chosen: &WholeRow, turn: Turn) -> Result<Weights, Obstacle>
+    pub(crate) fn turned(
+        &self,
+        alloc: Global,
+        chosen: &WholeRow,
+        turn: Turn,
+    ) -> Result<Weights, Obstacle>
         requires constant { length chosen.now.x ≡ length self.now.constant.columns }
         requires linear { length chosen.now.x ≡ length self.now.linear.columns }
         ensures { IfOk result (AreTurned chosen.now turn.from turn.to self.now) }

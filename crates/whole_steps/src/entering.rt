@@ -46,8 +46,7 @@ impl<'a> Station<'a> {
         ensures { IfOk result (AreRowNumbers self.now position) }
     {
         let basis = self.basis;
-        let solution = self.solution;
-        let residuals = basis.residuals(alloc, solution.coef.as_slice())?;
+        let residuals = basis.all_residuals(alloc, self.solution)?;
         let column = basis.inverse.numerators(position);
         let coords = row_products(alloc, basis.rows, column, basis.limit)?;
         Ok(RowNumbers { residuals, coords })

@@ -5,26 +5,16 @@ use Rattle.whole_steps.proofs.Lines.{full_line}
 use Rattle.whole_descent.proofs.Passed.{first_is, entering_is, slope_there, entering_there}
 use Rattle.whole_descent.proofs.solving.entering.Goals as goal
 
-pub guess-requires : goal.guess-requires
-guess-requires c =
-    let leave = c.args.leave in
-    record {
-      descent = record {
-        full = full_line c.args.station.now leave.position leave.direction c.in_ok-numbers.numbers _ c.line.ensures (c.in_ok-numbers.ensures {u = tt}) c.as_slice.ensures c.as_slice-2.ensures;
-        theta = c.requires.theta;
-      };
-    }
-
-pub tested-requires-clause-descent : goal.tested-requires-clause-descent
-tested-requires-clause-descent c =
+pub entering_row-requires-clause-descent : goal.entering_row-requires-clause-descent
+entering_row-requires-clause-descent c =
     let leave = c.args.leave in
     record {
       full = full_line c.args.station.now leave.position leave.direction c.in_ok-numbers.numbers _ c.line.ensures (c.in_ok-numbers.ensures {u = tt}) c.as_slice.ensures c.as_slice-2.ensures;
       theta = c.requires.theta;
     }
 
-pub tested-requires-clause-start : goal.tested-requires-clause-start
-tested-requires-clause-start c =
+pub entering_row-requires-clause-start : goal.entering_row-requires-clause-start
+entering_row-requires-clause-start c =
     let leave = c.args.leave in
     let plain : to_z w128 (of_z w128 leave.slope) ≡ leave.slope = search rules in
     rw (plain) (first_is _ _ (slope_there c.args.station.now c.args.theta leave.slope leave.position leave.direction c.line.result c.line.ensures c.requires.leave.slope))

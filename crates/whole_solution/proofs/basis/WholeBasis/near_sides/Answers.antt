@@ -1,45 +1,61 @@
--- The side of a near row more.
-use Rattle.std.proofs.Common.{rules, ◌≡◌, ◌<◌, length, slice_index, slice_set, to_z, of_z, arith, ◌∙◌}
-use mir.Syntax.{w128}
-use Rattle.basis_model.specs.Basis.{coefficient}
-use Rattle.whole_inverse.specs.Shares.{share_at}
+-- The side of a near row more, and what it weighs there.
+use Rattle.std.proofs.Common.{rules, ◌≡◌, ◌<◌, ℕ, length, get_or, slice_index, slice_set, arith, sym, ◌∙◌}
+use Rattle.loss_model.specs.declared.vertex.Side.{Side}
+use Rattle.loss_model.specs.declared.vertex.Side.TheVariants.{Up}
+use Rattle.basis_model.specs.declared.part.Part.{Part}
+use Rattle.basis_model.specs.Basis.{bound_part}
+use Rattle.exact_algebra.specs.Rational.{whole}
+use Rattle.whole_inverse.specs.Shares.{whole_at}
 use Rattle.whole_inverse.specs.Squares.{inverse_of}
 use Rattle.whole_rows.specs.Wholes.{sample_of_rows}
+use Rattle.whole_solution.specs.Standing.{side_in}
+use Rattle.whole_solution.specs.Weighing.{bound_of}
 use Rattle.whole_solution.proofs.Nearby.{put_none, put_more, put_all}
-use Rattle.whole_solution.proofs.Same.{residual_same}
+use Rattle.whole_solution.proofs.Reading.{row_read, bound_read, side_read}
+use Rattle.whole_solution.proofs.Turning.{weights_put, weights_kept}
 use Rattle.whole_solution.proofs.basis.WholeBasis.near_sides.Goals as goal
+use Rattle.whole_solution.proofs.basis.WholeBasis.near_sides.Goals.{then-not-stays+in-Ok, else-not-stays}
 
 pub loop-k-init : goal.loop-k-init
 loop-k-init c =
     let b = c.args.self.now in
     let s = b.inverse.now in
-    rw (c.in_ok-sides.ensures) (put_none (sample_of_rows (length s.columns) b.rows.now) (slice_index b.basis.now.rows) (inverse_of s) c.args.near.now c.args.old.now c.requires.old)
-
-pub free_side-requires-clause-residual : goal.free_side-requires-clause-residual
-free_side-requires-clause-residual c =
-    let b = c.args.self.now in
-    let s = b.inverse.now in
-    let p = sample_of_rows (length s.columns) b.rows.now in
-    let d = s.determinant in
-    let row = slice_index c.args.near.now c.loop-k.k in
-    let plain : to_z w128 (of_z w128 c.in_ok-number.number) ≡ c.in_ok-number.number = search rules in
-    let made = rw (c.of-coef.ensures.numbers) at c.in_ok-number.ensures in
-    rw (plain) (made ∙ residual_same p (share_at d c.args.coef.now) (coefficient p (slice_index b.basis.now.rows) (inverse_of s)) c.requires.each row)
+    rw (c.in_ok-sides.ensures, c.in_ok-weights.ensures {u = tt}) (record {
+      put = put_none (sample_of_rows (length s.columns) b.rows.now) (slice_index b.basis.now.rows) (inverse_of s) c.args.near.now c.args.old.now c.requires.old;
+      weights = c.requires.before;
+    })
 
 pub loop-k-preserved : goal.loop-k-preserved
 loop-k-preserved c =
     let b = c.args.self.now in
+    let rows = b.rows.now in
     let s = b.inverse.now in
-    let p = sample_of_rows (length s.columns) b.rows.now in
+    let n = length s.columns in
+    let p = sample_of_rows n rows in
     let at = slice_index b.basis.now.rows in
     let near = c.args.near.now in
     let k = c.loop-k.k in
     let sides = c.loop-k.sides in
+    let weights = c.loop-k.weights in
+    let m = c.loop-k.invariant in
     let side = c.in_ok-side.side in
+    let i = slice_index near k in
     let here : k < length near = search rules in
-    let within : slice_index near k < length b.rows.now = search rules in
-    let put : c.replace.new.self ≡ slice_set sides (slice_index near k) side = search rules in
-    rw (put) (put_more p at (inverse_of s) near c.args.old.now sides k side c.loop-k.invariant here within (c.in_ok-side.ensures {u = tt}))
+    let within : i < length rows = search rules in
+    let in_sides : i < length sides = omega (arith, within, m.put.size) in
+    let was : get_or c.as_slice.result.now i Up ≡ side_in sides i = rw (c.as_slice.ensures) (side_read sides i Up in_sides) in
+    let put : c.replace.new.self ≡ slice_set sides i side = search rules in
+    let made = put_more p at (inverse_of s) near c.args.old.now sides k side m.put here within (c.in_ok-side.ensures {u = tt}) in
+    rw (put) (elim c.if-not-stays.branch [
+      | then-not-stays+in-Ok w ↦
+          let r = c.index-rows-row.result in
+          let x : (k : ℕ) → whole_at r.x k ≡ p.x i k = λ k. sym (row_read rows i r (λ r. whole_at r.x k) within c.index-rows-row.is) in
+          let y : whole r.y ≡ p.y i = sym (row_read rows i r (λ r. whole r.y) within c.index-rows-row.is) in
+          let bound : (part : Part) (side : Side) → bound_of r part side ≡ bound_part p part i side = λ part side. bound_read n rows i r part side within c.index-rows-row.is in
+          rw (w.weights-is) (record { put = made; weights = weights_put p sides i side r _ weights w.in-Ok.next m.put.size within was x y bound w.in-Ok.ensures m.weights })
+      | else-not-stays w ↦
+          rw (w.weights-is) (record { put = made; weights = weights_kept p sides i side weights m.put.size within (c.stays.ensures w.if-not-stays.false ∙ was) m.weights })
+    ])
 
 pub returns : goal.returns
 returns c =
@@ -48,9 +64,10 @@ returns c =
     let p = sample_of_rows (length s.columns) b.rows.now in
     let near = c.args.near.now in
     let end : c.loop-k.k ≡ length near = omega (arith, c.loop-k-test.false, c.loop-k.auto.k-end) in
-    let all = rw (end) at c.loop-k.invariant in
+    let all = rw (end) at c.loop-k.invariant.put in
     record {
       size = all.size;
       each = all.each;
       near = put_all p (slice_index b.basis.now.rows) (inverse_of s) near c.args.old.now c.loop-k.sides all;
+      weights = c.loop-k.invariant.weights;
     }

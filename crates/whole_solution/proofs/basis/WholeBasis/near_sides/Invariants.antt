@@ -1,10 +1,16 @@
 use Rattle.std.specs.Prelude.{length, slice_index}
 use Rattle.whole_inverse.specs.Squares.{inverse_of}
 use Rattle.whole_rows.specs.Wholes.{sample_of_rows}
+use Rattle.whole_solution.specs.Standing.{side_in}
+use Rattle.whole_solution.specs.Weighing.{AreWeights}
 use Rattle.whole_solution.proofs.Nearby.{ArePut}
 use Rattle.whole_solution.proofs.basis.WholeBasis.near_sides.Given as goal
 
 abbrev pub invariant-loop-k : goal.invariant-loop-k
 invariant-loop-k l =
     let s = l.self.inverse.now in
-    ArePut (sample_of_rows (length s.columns) l.self.rows.now) (slice_index l.self.basis.now.rows) (inverse_of s) l.near l.old l.sides l.k
+    let p = sample_of_rows (length s.columns) l.self.rows.now in
+    record {
+      put : ArePut p (slice_index l.self.basis.now.rows) (inverse_of s) l.near l.old l.sides l.k;
+      weights : AreWeights p (side_in l.sides) l.weights;
+    }

@@ -27,7 +27,7 @@ returns c =
     let near = c.in_ok-near.near in
     let det : to_z w128 (of_z w128 c.determinant.result) ≡ c.determinant.result = search rules in
     let made = rw (c.as_slice.ensures) at c.in_ok-residuals.ensures.each in
-    let chosen = rw (c.as_slice-3.ensures, c.as_slice-4.ensures, c.as_slice-5.ensures, det, c.determinant.ensures.value) at (c.in_ok-near.ensures {u = tt}) in
+    let chosen = rw (c.as_slice-4.ensures, c.as_slice-5.ensures, c.as_slice-6.ensures, det, c.determinant.ensures.value) at (c.in_ok-near.ensures {u = tt}) in
     let size = c.in_ok-residuals.ensures.size in
     let positive = c.requires.basis.shape.positive in
     record {
@@ -38,4 +38,9 @@ returns c =
       near = near_from_chosen p (side_in sides) residuals c.args.coef d c.args.tops near chosen size c.requires.size positive c.requires.tops made;
       far = far_from_chosen p (side_in sides) residuals c.args.coef d c.args.tops near chosen size c.requires.size positive c.requires.tops made
           (coefficient p (slice_index c.args.self.now.basis.now.rows) (inverse_of s)) c.requires.each;
+      weights = rw (c.as_slice-3.ensures, c.requires.before.constant.size) at (c.in_ok-weights.ensures {u = tt});
+      residuals = record {
+        size = size;
+        each = λ i li. made i li ∙ residual_same p (share_at d c.args.coef) (coefficient p (slice_index c.args.self.now.basis.now.rows) (inverse_of s)) c.requires.each i;
+      };
     }

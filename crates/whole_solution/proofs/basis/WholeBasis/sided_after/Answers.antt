@@ -1,5 +1,5 @@
 -- Far rows keep their sides, or all residuals are made.
-use Rattle.std.proofs.Common.{rules, ◌≡◌, length, slice_index, to_z, of_z, sym, subst}
+use Rattle.std.proofs.Common.{None, rules, ◌≡◌, length, slice_index, to_z, of_z, sym, subst}
 use mir.Syntax.{w128}
 use Rattle.whole_inverse.specs.Squares.{inverse_of}
 use Rattle.whole_rows.specs.Wholes.{sample_of_rows}
@@ -20,22 +20,25 @@ returns-then-holds_basis c =
     let n = before.near in
     let old = before.sides in
     let coef = c.in_ok-coef.coef in
-    let made = c.in_ok-sides.sides in
+    let made = c.in_ok-turned.turned.sides in
+    let weights = c.in_ok-turned.turned.weights in
     let size = c.in_ok-coef.ensures.size in
     let same = c.in_ok-coef.ensures.each in
     let is_near = c.requires.before.near in
     let det : to_z w128 (of_z w128 c.determinant.result) ≡ c.determinant.result = search rules in
     let serves = rw (c.as_slice.ensures, det, c.determinant.ensures.value) at (c.serves.ensures c.if-serves.true) in
-    let each = rw (c.as_slice-then-serves-2.ensures, c.as_slice-then-serves-3.ensures) at c.in_ok-sides.ensures.each in
-    let near = rw (c.as_slice-then-serves-3.ensures) at c.in_ok-sides.ensures.near in
+    let each = rw (c.as_slice-then-serves-2.ensures, c.as_slice-then-serves-3.ensures) at c.in_ok-turned.ensures.each in
+    let near = rw (c.as_slice-then-serves-3.ensures) at c.in_ok-turned.ensures.near in
     let held = rw (c.as_slice-then-serves-4.ensures, c.requires.basis.size) at (c.holds_basis.ensures c.if-holds_basis.true) in
-    let sided : IsSided p at a d (record { coef = coef; sides = made; near = n }) =
+    let sided : IsSided p at a d (record { coef = coef; sides = made; near = n; weights = weights; residuals = None }) =
     record {
       columns = size;
       coef = same;
-      all_sides = c.in_ok-sides.ensures.size;
+      all_sides = c.in_ok-turned.ensures.size;
       sides = sides_now p at a d coef n old made size same is_near serves each near held;
       near = near_now p at a d coef n old made size same is_near serves each;
       far = far_now p at a d coef n old made size same is_near serves each;
+      weights = c.in_ok-turned.ensures.weights;
+      residuals = tt;
     } in
-    subst (λ (n : Near). IsSided p at a d (record { coef = coef; sides = made; near = n })) (sym (c.in_ok-near.ensures {u = tt})) sided
+    subst (λ (n : Near). IsSided p at a d (record { coef = coef; sides = made; near = n; weights = weights; residuals = None })) (sym (c.in_ok-near.ensures {u = tt})) sided

@@ -6,8 +6,8 @@ use Rattle.whole_solution.specs.Standing.{side_in}
 use Rattle.whole_solution.proofs.Same.{weights-same}
 use Rattle.whole_solution.proofs.basis.WholeBasis.solution.Goals as goal
 
-pub standing-requires-clause-before : goal.standing-requires-clause-before
-standing-requires-clause-before c =
+pub sided-requires-clause-before : goal.sided-requires-clause-before
+sided-requires-clause-before c =
     let rows = c.args.self.now.rows.now in
     let p = sample_of_rows (length c.args.self.now.inverse.now.columns) rows in
     let none = rw (c.as_slice.ensures, c.requires.basis.size) at (c.in_ok-weights.ensures {u = tt} rows) in

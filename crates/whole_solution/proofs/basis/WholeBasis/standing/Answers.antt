@@ -14,9 +14,9 @@ returns c =
     let at = slice_index c.args.self.now.basis.now.rows in
     let sided = c.requires.sided in
     let sides = c.args.sided.sides in
-    let weights = rw (c.as_slice.ensures, c.requires.before.constant.size) at (c.in_ok-weights.ensures {u = tt}) in
-    let constant = rw (c.as_slice-2.ensures, weights.constant.size) at c.in_ok-constant.ensures in
-    let linear = rw (c.as_slice-3.ensures, weights.linear.size) at c.in_ok-linear.ensures in
+    let weights = sided.weights in
+    let constant = rw (c.as_slice.ensures, weights.constant.size) at c.in_ok-constant.ensures in
+    let linear = rw (c.as_slice-2.ensures, weights.linear.size) at c.in_ok-linear.ensures in
     record {
       columns = sided.columns;
       coef = sided.coef;
@@ -25,8 +25,9 @@ returns c =
       near = sided.near;
       far = sided.far;
       weights = weights;
+      residuals = sided.residuals;
       constants = constant.size;
-      constant = λ j lj. constant.each s.determinant j lj ∙ duals_from p at (inverse_of s) (side_in sides) Constant c.in_ok-weights.weights.constant sided.sides weights.constant j;
+      constant = λ j lj. constant.each s.determinant j lj ∙ duals_from p at (inverse_of s) (side_in sides) Constant c.args.sided.weights.constant sided.sides weights.constant j;
       linears = linear.size;
-      linear = λ j lj. linear.each s.determinant j lj ∙ duals_from p at (inverse_of s) (side_in sides) Linear c.in_ok-weights.weights.linear sided.sides weights.linear j;
+      linear = λ j lj. linear.each s.determinant j lj ∙ duals_from p at (inverse_of s) (side_in sides) Linear c.args.sided.weights.linear sided.sides weights.linear j;
     }
