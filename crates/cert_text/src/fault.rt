@@ -1,3 +1,4 @@
+//! Why bytes are no certificate.
 ghost use Rattle.std.specs.Prelude.{◌≡◌};
 ghost use Rattle.cert_text.specs.declared.fault.CertFault.TheVariants.{OutOfMemory};
 

@@ -1,3 +1,4 @@
+//! Why bytes are no table.
 ghost use Rattle.std.specs.Prelude.{◌≡◌};
 ghost use Rattle.data_frame.specs.declared.fault.TableFault.TheVariants.{OutOfMemory};
 

@@ -1,3 +1,4 @@
+//! A whole table, read from the bytes of a CSV file.
 ghost use Rattle.std.specs.Prelude.{◌≡◌, ◌⊎◌, ◌+◌, ◌-◌, ◌^◌, ◌<◌, All, Ok, Err, length, map, option_map, IfOk, IfErr, IfNone, OnOk, OnSome, Contains};
 ghost use Rattle.csv.specs.Records.{fields_of};
 ghost use Rattle.data_frame.specs.Cells.{column_of};

@@ -1,3 +1,4 @@
+//! The names of the columns, and the first column where it only names rows.
 ghost use Rattle.std.specs.Prelude.{◌≡◌, ◌≢◌, ◌⊎◌, ◌++◌, ◌∷◌, [], None, Some, true, map, position, string_bytes, Contains, IfNone, MatchResult, OnSome};
 ghost use Rattle.std.specs.Str.{bytes_eq};
 ghost use Rattle.csv.specs.Records.{fields_of};

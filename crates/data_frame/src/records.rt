@@ -1,3 +1,4 @@
+//! The records of the bytes one after the other, as the crate `csv` finds them.
 ghost use Rattle.std.specs.Prelude.{◌≡◌, ◌≢◌, ◌⊎◌, ◌+◌, ◌^◌, ◌<◌, ◌≤◌, ◌∷◌, [], Some, None, length, IfOk, IfErr, MatchBool, MatchResult};
 ghost use Rattle.csv.specs.Records.{fields_of};
 ghost use Rattle.data_frame.specs.Columns.{cell_at};

@@ -1,3 +1,4 @@
+//! The cells under a header, column by column.
 ghost use Rattle.std.specs.Prelude.{◌≡◌, ◌⊎◌, ◌+◌, ◌-◌, ◌^◌, ◌<◌, ◌≤◌, None, Some, [], length, map, replicate, vec_len, IfOk, OnOk, MatchResult};
 ghost use Rattle.csv.specs.Records.{fields_of};
 ghost use Rattle.data_frame.specs.Columns.{columns_from, with_row};

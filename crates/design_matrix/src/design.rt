@@ -1,3 +1,4 @@
+//! What a design is: the names of its columns, and a row for each record that is kept or predicted.
 use frac_core::{Frac128, List, Text};
 
 /// A kept record as a row of a regression.

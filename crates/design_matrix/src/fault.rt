@@ -1,3 +1,4 @@
+//! Why a table and a formula have no design.
 ghost use Rattle.std.specs.Prelude.{◌≡◌};
 ghost use Rattle.design_matrix.specs.declared.fault.DesignFault.TheVariants.{OutOfMemory, Overflow};
 

@@ -1,3 +1,4 @@
+//! The columns that one variable brings into a term.
 ghost use Rattle.std.specs.Prelude.{◌<◌, ◌≤◌};
 ghost use Rattle.frac_core.specs.Limits.{most_rows};
 ghost use Rattle.design_matrix.specs.Widths.{levels_held, width_held};

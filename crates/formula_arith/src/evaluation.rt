@@ -1,3 +1,4 @@
+//! The value of an arithmetic, by its code over a stack.
 ghost use Rattle.std.specs.Prelude.{◌≡◌, ◌<◌, ◌^◌, [], map, IfErr, IfOk, OnOk};
 ghost use Rattle.formula_arith.specs.Codes.{numbered_in};
 ghost use Rattle.formula_arith.specs.Evaluations.{IsCause, IsValue, NoneOverflows};

@@ -1,3 +1,4 @@
+//! Why an arithmetic has no value.
 use frac_core::{Frac128, Op};
 
 /// Why an arithmetic has no value.

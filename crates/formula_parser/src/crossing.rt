@@ -1,3 +1,4 @@
+//! The terms of `A : B`: the unions of a term of each side.
 ghost use Rattle.std.specs.Prelude.{◌≡◌, ◌<◌, length, map, IfOk, MatchOption};
 ghost use Rattle.formula_parser.specs.Terms.{plus, size, union, unions};
 

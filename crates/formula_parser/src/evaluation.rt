@@ -1,3 +1,4 @@
+//! The terms of a formula, by its code over a stack of lists of terms.
 ghost use Rattle.std.specs.Prelude.{◌≡◌, ◌∷◌, [], Ok, IfErr, IfOk, OnOk};
 ghost use Rattle.formula_parser.specs.Terms.{Terms, cross, minus, plus, raised, times};
 ghost use Rattle.formula_parser.specs.Meaning.{limited};

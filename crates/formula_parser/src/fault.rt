@@ -1,3 +1,4 @@
+//! Why a text is no formula over a table's columns.
 ghost use Rattle.std.specs.Prelude.{◌≡◌};
 ghost use Rattle.formula_parser.specs.Widened.{halt_fault, read_fault};
 ghost use Rattle.formula_parser.specs.declared.fault.FormulaFault.TheVariants.{OutOfMemory};

@@ -1,3 +1,4 @@
+//! What a formula says, by the columns of its table.
 use frac_core::{Arith, Frac128, List, Text};
 
 /// A column of the table as a formula names it, or an arithmetic of columns.

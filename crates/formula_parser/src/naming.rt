@@ -1,3 +1,4 @@
+//! The names in a formula as columns of the table.
 ghost use Rattle.std.specs.Prelude.{◌≡◌, map, option_map, IfOk};
 ghost use Rattle.formula_parser.specs.Scope.{name_at};
 ghost use Rattle.formula_parser.specs.Parsed.{arith_of_column, computed_name, is_unknown, meant_smooth, members, spoken_term, spoken_variable, told_smooth, unknown_name};

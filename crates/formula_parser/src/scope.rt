@@ -1,3 +1,4 @@
+//! What the names of a formula stand for, among them `.`, which is all columns but the response.
 ghost use Rattle.std.specs.Prelude.{◌≡◌, false, map, IfOk};
 ghost use Rattle.std.specs.List.{list_any};
 ghost use Rattle.formula_parser.specs.Scope.{column_at, column_of, computed, dot_terms, each_once, loaded, only_term, other_columns, piece, same, variable, variables_of, with_variable};

@@ -1,3 +1,4 @@
+//! Lists of terms without a term twice.
 ghost use Rattle.std.specs.Prelude.{◌≡◌, ◌++◌, ◌∷◌, [], length, IfOk};
 ghost use Rattle.formula_parser.specs.Terms.{is_in, minus, plus, with_term};
 

@@ -1,3 +1,4 @@
+//! Counters of calls, and which calls of those in memory are to fail.
 ghost use Rattle.std.specs.Prelude.{◌≡◌, ◌↔◌, ◌≤◌, IsTrue, Contains};
 ghost use Rattle.port_io.specs.Counts.{Rose, next_count};
 

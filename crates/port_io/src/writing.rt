@@ -1,3 +1,4 @@
+//! All of some bytes to a sink.
 ghost use Rattle.std.specs.Prelude.{OnOk, OnErr};
 ghost use Rattle.std.specs.Io.KnownBytes.{Appends};
 ghost use Rattle.port_io.specs.Counts.{CountsFaults};

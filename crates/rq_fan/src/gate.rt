@@ -1,3 +1,4 @@
+//! What holds jobs up, or watches them, and changes no answer.
 /// A place that each job passes before it works. It is told the job's place in the list of jobs, counted from
 /// 0, and changes no answer: it may note that a job is under way, or hold it up.
 pub trait Gate: Sync {

@@ -1,3 +1,4 @@
+//! What a job is.
 /// A job that may be done in a thread of its own.
 pub trait Work: Send + Drop {
     /// What the job comes to.

@@ -1,3 +1,4 @@
+//! Why a design has no problem.
 ghost use Rattle.std.specs.Prelude.{◌≡◌};
 ghost use Rattle.rq_program.specs.declared.fault.ProgramFault.TheVariants.{OutOfMemory};
 

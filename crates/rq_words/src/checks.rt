@@ -1,3 +1,4 @@
+//! The checks on the numbers of a command, in their order.
 ghost use Rattle.std.specs.Prelude.{◌≡◌};
 ghost use Rattle.std.specs.List.{list_any};
 ghost use Rattle.exact_algebra.specs.Rational.{le_ℚ};

@@ -1,3 +1,4 @@
+//! The commands and their options, as `clap` reads them.
 ghost use Rattle.std.specs.Prelude.{◌≡◌, ◌⊎◌, Some, None, [], IfOk, MatchResult, codes, false, map, string_bytes};
 ghost use Rattle.clap.specs.Words.{app_of, rows_of, found_of, rule_of};
 ghost use Rattle.rq_words.specs.Commands.{option_rule, command_of, kind_of, options_of, read_by, with_rules};

@@ -1,3 +1,4 @@
+//! What a command asks for.
 use contrasts::Coding;
 use frac_core::{Frac128, List, Text};
 

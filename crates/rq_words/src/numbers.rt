@@ -1,3 +1,4 @@
+//! The numbers of a command's options.
 ghost use Rattle.std.specs.Prelude.{◌≡◌, ◌⊎◌, ◌≤◌, true, false, [], Err, Some, None, IfOk, IfNone, IfSome, OnSome, option_map, map};
 ghost use Rattle.std.specs.Result.{result_map_both, result_ok};
 ghost use Rattle.std.specs.Char.{is_ascii_digit};

@@ -1,3 +1,4 @@
+//! The options that stand in the words, by name.
 ghost use Rattle.std.specs.Prelude.{◌≡◌, ◌⊎◌, Some, None, MatchResult, map, option_map, string_bytes};
 ghost use Rattle.clap.specs.Words.{first_of};
 ghost use Rattle.rq_words.specs.Commands.{found_in};

@@ -1,3 +1,4 @@
+//! The job that a command's options ask for.
 ghost use Rattle.std.specs.Prelude.{◌≡◌, ◌⊎◌, Err, IfOk, codes, map, option_map};
 ghost use Rattle.std.specs.Result.{result_map_both};
 ghost use Rattle.rq_words.specs.Requests.{fit_request, option_numbers, path_request, request_or_fault, sample_request, test_request};

@@ -1,3 +1,4 @@
+//! Why the smooths of a formula add nothing to a design.
 ghost use Rattle.std.specs.Prelude.{◌≡◌};
 ghost use Rattle.tv_penalty.specs.declared.fault.PenaltyFault.TheVariants.{OutOfMemory, Overflow};
 
