@@ -2,7 +2,7 @@
 """Whether the quick ways are taken: jobs of the program beside a peer in the same run, which fails where one takes too long.
 
 No clause tells a quick way from the slow one behind it, so these ratios do. A limit stands between what the program takes and what it took
-before it had that way, both in README.md. R is the peer of the first two; where it doesn't stand with its package quantreg they are skipped.
+before it had that way, both in README.md. R is the peer of the rows near the fit; where it doesn't stand with its package quantreg they are skipped.
 
 usage: ratios.py PROGRAM
 """
@@ -65,11 +65,17 @@ def main(program):
         room = Path(made)
         table = generated(room, 5000, 3)
         tell("near rows in a process", spent([program, "process", *WHOLE], table, turns=3), r_seconds("rq.fit.br(x, t[[1]], tau = -1)", table), 0.3)
+        table = generated(room, 5000, 1)
+        fitted = spent([program, "sample", "--number", "1", "--rows", "5000", "--columns", "1", "--lo", "0", "--hi", "1"], table)
+        tell("marks of rows in one piece", spent([program, "process", *WHOLE], table), fitted, 1.6)
         table = generated(room, 16384, 4)
         tell("near rows in rank walks", spent([program, "process", *MEDIAN], table), r_seconds("rq.fit.br(x, t[[1]], tau = 0.5, ci = TRUE)", table), 0.25)
         table, text = generated(room, 2000, 9), room / "certificate.json"
         wrote = spent([program, "certify", *WHOLE], table, text, turns=3)
         tell("a run of segments as one", spent([program, "check"], text, turns=3), wrote, 1.4)
+        table = generated(room, 1000, 4)
+        whole = spent([program, "process", *WHOLE], table, turns=20)
+        tell("Wilcoxon scores reduced once", spent([program, "ranks", "--formula", "y ~ ."], table, turns=20), whole, 2.45)
         table = room / "levels.csv"
         table.write_text("y,x\n" + "".join(f"{(i * i * 31 + i * 7) % 997},level{i % 120}\n" for i in range(360)), encoding="utf-8")
         factor = ["--formula", "y ~ factor(x)"]
