@@ -72,24 +72,12 @@ fn part_of(part: Part, line: Line) -> i64
     }
 }
 
-// Whether a row keeps its line.
+// Whether a row keeps its line, as most do.
 #[inline]
 fn is_settled(old: Side, new: Side) -> bool
     ensures { result ≡ is_settled old new }
 {
-    match old {
-        Side::Up => match new {
-            Side::Up => true,
-            Side::Down => false,
-            Side::Basic => false,
-        },
-        Side::Down => match new {
-            Side::Up => false,
-            Side::Down => true,
-            Side::Basic => false,
-        },
-        Side::Basic => false,
-    }
+    (old == new) & (old != Side::Basic)
 }
 
 /// The rows that may have another line.
