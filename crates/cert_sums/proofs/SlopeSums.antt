@@ -28,7 +28,7 @@ use Rattle.cert_sums.specs.declared.reach.Reach.{Reach}
 use Rattle.cert_sums.specs.Tables.{IsTable}
 use Rattle.cert_sums.specs.Duals.{at_line, side_in, dual_of}
 use Rattle.cert_sums.specs.Sums.{cell_at}
-use Rattle.cert_sums.specs.Slopes.{part_of, line_on, part_at, line_total, is_settled, unsettled_rows, sum_over, basic_part, basic_total, sum_at, IsTally, IsReach, IsSummed}
+use Rattle.cert_sums.specs.Slopes.{part_of, line_on, part_at, is_settled, unsettled_rows, sum_over, basic_part, basic_total, sum_at, IsTally, IsReach, IsSummed}
 use Rattle.cert_sums.specs.Ends.{low_dual, high_dual, DoMeet}
 use Rattle.cert_sums.proofs.RowsOf.{there, row_value}
 use Rattle.cert_sums.proofs.Balanced.{balanced_from, objective_from}

@@ -1,22 +1,22 @@
 -- Totals of lines as rows pass from side to side.
-use Rattle.std.specs.Prelude.{◌≡◌, ℕ, zero, suc, ◌+◌, ◌<◌, ℤ, pos, ◌+ℤ◌, ◌-ℤ◌, ◌*ℤ◌, neg_ℤ, List, [], ◌∷◌, ◌++◌, length, get_or, slice_get, Bool, true, false, cond, Option, Some, None, All}
+use Rattle.std.specs.Prelude.{◌≡◌, ℕ, zero, suc, ◌+◌, ◌<◌, ℤ, pos, ◌+ℤ◌, ◌*ℤ◌, List, [], ◌∷◌, ◌++◌, length, get_or, slice_get, Bool, true, false, cond, Option, Some, None, All}
 use Rattle.std.specs.Option.{option_map_or}
 use Rattle.std.proofs.Common.{arith, refl, sym, ap, ap₂, subst, ◌∙◌, add-one, below_more}
-use Rattle.std.proofs.lemmas.Int.{ints}
 use Rattle.std.proofs.lemmas.List.{get_or_append_left}
 use Rattle.std.proofs.Math.Seq.{get_or-append_seam}
-use Rattle.exact_algebra.specs.Solver.{number, negated, ◌⊞◌, ◌⊟◌, ◌⊠◌, v0, v1, v2, v3}
+use Rattle.exact_algebra.specs.Solver.{number, negated, ◌⊞◌, ◌⊟◌, ◌⊠◌, v0, v1, v2}
 use Rattle.exact_algebra.specs.Rational.{ℚ, ◌+ℚ◌, ◌-ℚ◌, ◌*ℚ◌, neg_ℚ, whole}
 use Rattle.exact_algebra.specs.RationalSums.{sum_ℚ}
 use Rattle.exact_algebra.proofs.RationalLaws.{whole-add, whole-mul, ring_ℚ}
 use Rattle.exact_algebra.proofs.RationalSumLaws.{sum_ℚ-next, sum_ℚ-same, sum_ℚ-mix, sum_ℚ-zero}
 use Rattle.loss_model.specs.declared.vertex.Side.{Side}
 use Rattle.loss_model.specs.declared.vertex.Side.TheVariants.{Up, Down, Basic}
+use Rattle.cert_sums.specs.Numbers.{whole_at}
 use Rattle.cert_sums.specs.Sums.{cell_at}
 use Rattle.cert_sums.specs.declared.table.WholeRow.{WholeRow}
 use Rattle.cert_sums.specs.declared.slopes.Part.{Part}
 use Rattle.cert_sums.specs.declared.slopes.Part.TheVariants.{Start, Slope}
-use Rattle.cert_sums.specs.Slopes.{side_of, part_of, line_on, part_at, line_total, line_change, is_settled, unsettled_rows, sum_over, basic_part}
+use Rattle.cert_sums.specs.Slopes.{side_of, part_of, line_on, part_at, line_total, part_change, is_settled, unsettled_rows, sum_over, basic_part, basic_total}
 use Rattle.cert_sums.proofs.Lists.{length_pushed}
 
 -- a term more of a sum that is added to something
@@ -40,12 +40,10 @@ line_sum a b f g l scale at x y ef eg e hx hy =
     ∙ ap₂ ◌+ℚ◌ (ap whole ef ∙ whole-mul a (pos scale) ∙ ap (λ z. z *ℚ whole (pos scale)) hx ∙ ring_ℚ (x ∷ whole (pos scale) ∷ []) (v0 ⊠ v1) (v1 ⊠ v0) refl)
     (ap whole eg ∙ whole-mul b at ∙ ap (λ z. z *ℚ whole at) hy ∙ ring_ℚ (y ∷ whole at ∷ []) (v0 ⊠ v1) (v1 ⊠ v0) refl)
 
--- one product in the place of another
-pub exchanged : (t x m k r s : ℤ) (c a b : ℚ) → s ≡ t +ℤ x *ℤ m → s ≡ r +ℤ x *ℤ k → whole x ≡ c → whole m ≡ a → whole k ≡ b → whole r ≡ whole t +ℚ (c *ℚ (a -ℚ b))
-exchanged t x m k r s c a b e f hx hm hk =
-    ring_ℚ (whole r ∷ (c *ℚ b) ∷ []) v0 ((v0 ⊞ v1) ⊟ v1) refl
-    ∙ ap (λ z. z -ℚ (c *ℚ b)) (sym (whole-add r (x *ℤ k) ∙ ap (λ z. whole r +ℚ z) (whole-mul x k ∙ ap₂ ◌*ℚ◌ hx hk)) ∙ ap whole (sym f ∙ e) ∙ whole-add t (x *ℤ m) ∙ ap (λ z. whole t +ℚ z) (whole-mul x m ∙ ap₂ ◌*ℚ◌ hx hm))
-    ∙ ring_ℚ (whole t ∷ c ∷ a ∷ b ∷ []) ((v0 ⊞ v1 ⊠ v2) ⊟ (v1 ⊠ v3)) (v0 ⊞ v1 ⊠ (v2 ⊟ v3)) refl
+-- a difference
+pub difference : (d m k : ℤ) (a b : ℚ) → m ≡ d +ℤ k → whole m ≡ a → whole k ≡ b → whole d ≡ a -ℚ b
+difference d m k a b e hm hk =
+    ring_ℚ (whole d ∷ b ∷ []) v0 ((v0 ⊞ v1) ⊟ v1) refl ∙ ap (λ z. z -ℚ b) (ap (λ z. whole d +ℚ z) (sym hk) ∙ sym (whole-add d k) ∙ ap whole (sym e) ∙ hm)
 
 pub settled_same : (old new : Side) → is_settled old new ≡ true → old ≡ new
 settled_same Up Up e = refl
@@ -107,27 +105,34 @@ module _ (old new : List Side) where
       e ∙ ap (λ t. cond t (unsettled_rows old new n) (unsettled_rows old new n ++ n ∷ [])) (sym f) ∙ ap (unsettled_rows old new) (sym (add-one n))
 
   module _ (part : Part) (rows : List WholeRow) (place : ℕ) where
+    abbrev change : ℕ → ℚ
+    change i = cell_at rows place i *ℚ part_change part rows old new i
+
     -- a settled row changes nothing
-    same_line : (i : ℕ) → is_settled (side_of old i) (side_of new i) ≡ true → line_change part rows old new place i ≡ whole (pos 0)
+    same_line : (i : ℕ) → is_settled (side_of old i) (side_of new i) ≡ true → change i ≡ whole (pos 0)
     same_line i e =
         let at = λ (s : Side). option_map_or (λ w. whole (part_of part (line_on s w))) (slice_get rows i) (whole (pos 0)) in
         ap (λ s. cell_at rows place i *ℚ (part_at part rows new i -ℚ at s)) (settled_same (side_of old i) (side_of new i) e)
         ∙ ring_ℚ (cell_at rows place i ∷ part_at part rows new i ∷ []) (v0 ⊠ (v1 ⊟ v1)) (number (pos 0)) refl
 
-    -- a total that has changed by the unsettled rows
-    pub turned_line : (list : List ℕ) (t r : ℚ) → list ≡ unsettled_rows old new (length rows) → t ≡ line_total part rows old place → r ≡ t +ℚ sum_over list (line_change part rows old new place) → r ≡ line_total part rows new place
-    turned_line list t r e before made =
-        let n = length rows in
+    -- the changes of all rows
+    all_changes : sum_ℚ (length rows) change ≡ (whole (pos 1) *ℚ line_total part rows new place) +ℚ (neg_ℚ (whole (pos 1)) *ℚ line_total part rows old place)
+    all_changes =
         let f = λ (i : ℕ). cell_at rows place i *ℚ part_at part rows old i in
         let g = λ (i : ℕ). cell_at rows place i *ℚ part_at part rows new i in
-        let change = line_change part rows old new place in
-        let all : sum_over list change ≡ sum_ℚ n change = ap (λ xs. sum_over xs change) e ∙ sym (unsettled_sum n change (λ i l. same_line i)) in
-        let split : sum_ℚ n change ≡ (whole (pos 1) *ℚ sum_ℚ n g) +ℚ (neg_ℚ (whole (pos 1)) *ℚ sum_ℚ n f)
-        = sum_ℚ-same n change (λ i. (whole (pos 1) *ℚ g i) +ℚ (neg_ℚ (whole (pos 1)) *ℚ f i))
+        sum_ℚ-same (length rows) change (λ i. (whole (pos 1) *ℚ g i) +ℚ (neg_ℚ (whole (pos 1)) *ℚ f i))
         (λ i l. ring_ℚ (cell_at rows place i ∷ part_at part rows new i ∷ part_at part rows old i ∷ []) (v0 ⊠ (v1 ⊟ v2)) (number (pos 1) ⊠ (v0 ⊠ v1) ⊞ negated (number (pos 1)) ⊠ (v0 ⊠ v2)) refl)
-        ∙ sum_ℚ-mix n (whole (pos 1)) (neg_ℚ (whole (pos 1))) g f in
-        made ∙ ap₂ ◌+ℚ◌ before (all ∙ split)
-        ∙ ring_ℚ (sum_ℚ n f ∷ sum_ℚ n g ∷ []) (v0 ⊞ (number (pos 1) ⊠ v1 ⊞ negated (number (pos 1)) ⊠ v0)) v1 refl
+        ∙ sum_ℚ-mix (length rows) (whole (pos 1)) (neg_ℚ (whole (pos 1))) g f
+
+    -- a total that has changed by the unsettled rows
+    pub turned_line : (list : List ℕ) (changes : List ℤ) (t r : ℚ) → list ≡ unsettled_rows old new (length rows) → ((j : ℕ) → j < length list → whole_at changes j ≡ part_change part rows old new (get_or list j 0))
+        → t ≡ line_total part rows old place → r ≡ t +ℚ basic_total rows place list changes → r ≡ line_total part rows new place
+    turned_line list changes t r e each before made =
+        let those : basic_total rows place list changes ≡ sum_over list change
+        = sum_ℚ-same (length list) (λ j. cell_at rows place (get_or list j 0) *ℚ whole_at changes j) (λ j. change (get_or list j 0)) (λ j l. ap (λ z. cell_at rows place (get_or list j 0) *ℚ z) (each j l)) in
+        let all : sum_over list change ≡ sum_ℚ (length rows) change = ap (λ xs. sum_over xs change) e ∙ sym (unsettled_sum (length rows) change (λ i l. same_line i)) in
+        made ∙ ap₂ ◌+ℚ◌ before (those ∙ all ∙ all_changes)
+        ∙ ring_ℚ (line_total part rows old place ∷ line_total part rows new place ∷ []) (v0 ⊞ (number (pos 1) ⊠ v1 ⊞ negated (number (pos 1)) ⊠ v0)) v1 refl
 
 -- without sides there is nothing to sum
 pub no_lines : (part : Part) (rows : List WholeRow) (place : ℕ) → whole (pos 0) ≡ line_total part rows [] place

@@ -40,13 +40,13 @@ part_of Slope l = l.slope
 abbrev pub part_at : Part → List WholeRow → List Side → ℕ → ℚ
 part_at part rows sides i = option_map_or (λ w. whole (part_of part (line_on (side_of sides i) w))) (slice_get rows i) (whole (pos 0))
 
+-- by how much that changes, where row i passes from its old side to the new one
+abbrev pub part_change : Part → List WholeRow → List Side → List Side → ℕ → ℚ
+part_change part rows old new i = part_at part rows new i -ℚ part_at part rows old i
+
 -- the sum over all rows of the cell at a place times that part
 abbrev pub line_total : Part → List WholeRow → List Side → ℕ → ℚ
 line_total part rows sides place = sum_ℚ (length rows) (λ i. cell_at rows place i *ℚ part_at part rows sides i)
-
--- by how much row i changes that sum, where it passes from its old side to the new one
-abbrev pub line_change : Part → List WholeRow → List Side → List Side → ℕ → ℕ → ℚ
-line_change part rows old new place i = cell_at rows place i *ℚ (part_at part rows new i -ℚ part_at part rows old i)
 
 -- the totals are these sums, place by place
 abbrev pub AreTotals : Part → List WholeRow → ℕ → List Side → List ℤ → Type 0

@@ -1,19 +1,18 @@
 //! What the sums of a tally come to at an end of a segment, and rows that have the same dual value at two ends.
 ghost use Rattle.std.specs.Prelude.{◌≡◌, ◌<◌, ◌+◌, ◌*◌, ℕ, pos, All, IfSome, IsTrue, length, get_or};
 ghost use Rattle.exact_algebra.specs.Fraction.{rational};
-ghost use Rattle.exact_algebra.specs.Rational.{◌+ℚ◌, ◌*ℚ◌, whole, inverse};
+ghost use Rattle.exact_algebra.specs.Rational.{◌*ℚ◌, whole, inverse};
 ghost use Rattle.loss_model.specs.Problem.{sample};
 ghost use Rattle.loss_model.specs.Vertex.{basic_value};
 ghost use Rattle.cert_sums.specs.Numbers.{value128, whole_at};
-ghost use Rattle.cert_sums.specs.Sums.{cell_at};
 ghost use Rattle.cert_sums.specs.Tables.{IsTable};
 ghost use Rattle.cert_sums.specs.Duals.{side_in, dual_of};
-ghost use Rattle.cert_sums.specs.Slopes.{basic_part, basic_total, sum_at, IsTally, IsReach, IsSummed};
+ghost use Rattle.cert_sums.specs.Slopes.{basic_part, sum_at, IsTally, IsReach, IsSummed};
 
 use crate::duals::{End, basic_dual, row_dual};
 use crate::reach::Reach;
 use crate::scale::product;
-use crate::slopes::{Tally, cell, number_at};
+use crate::slopes::{Tally, number_at, with_rows};
 use crate::table::{Table, WholeRow};
 use crate::totals::over_scales;
 use crate::vertices::{basic_number, side};
@@ -62,28 +61,6 @@ fn basic_values(
     Some(made)
 }
 
-// A sum with the product of a row's cell more.
-fn with_row(rows: &[WholeRow], row: usize, place: usize, value: i128, sum: i128) -> Option<i128>
-    ensures { IfSome result (λ r. whole r ≡ whole sum +ℚ (cell_at rows.now place row *ℚ whole value)) }
-{
-    let x = cell(rows, row, place)?;
-    let more = value.checked_mul(x as i128)?;
-    let made = sum.checked_add(more)?;
-    Some(made)
-}
-
-// The same, of all rows of a list.
-fn with_rows(view: View<'_>, place: usize, first: i128) -> Option<i128>
-    ensures { IfSome result (λ r. whole r ≡ whole first +ℚ basic_total view.entry.rows.now place view.entry.tally.now.unsettled view.entry.values.now) }
-{
-    let list = view.tally.unsettled.as_slice();
-    let mut sum = first;
-    for j in 0..list.len() {
-        sum = with_row(view.rows, list[j], place, number_at(view.values, j), sum)?;
-    }
-    Some(sum)
-}
-
 // The sum over all rows of the cells at a place times the dual values, times both scales.
 fn sum_at(view: View<'_>, place: usize) -> Option<i128>
     ensures { IfSome result (λ r. whole r ≡ sum_at view.entry.rows.now view.entry.tally.now view.entry.values.now view.entry.reach.now place) }
@@ -92,7 +69,13 @@ fn sum_at(view: View<'_>, place: usize) -> Option<i128>
     let first = product(number_at(tally.starts.as_slice(), place), view.reach.scale)?;
     let second = number_at(tally.slopes.as_slice(), place).checked_mul(view.reach.at)?;
     let lines = first.checked_add(second)?;
-    let made = with_rows(view, place, lines)?;
+    let made = with_rows(
+        view.rows,
+        tally.unsettled.as_slice(),
+        view.values,
+        place,
+        lines,
+    )?;
     Some(made)
 }
 

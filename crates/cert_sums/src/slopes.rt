@@ -3,11 +3,11 @@
 //! Outside the basis a row's dual value is a line, which only its side chooses. So the sums of a column over these rows are
 //! a line too, which serves both ends of a segment, and from one segment to the next it changes by the few rows that pass
 //! to another side.
-ghost use Rattle.std.specs.Prelude.{◌≡◌, ◌≤◌, ◌<◌, ◌+◌, ◌*ℤ◌, ℕ, IfSome, IsTrue, length};
-ghost use Rattle.exact_algebra.specs.Rational.{◌+ℚ◌, whole};
+ghost use Rattle.std.specs.Prelude.{◌≡◌, ◌≤◌, ◌<◌, ◌+◌, ◌*ℤ◌, ℕ, IfSome, length, get_or};
+ghost use Rattle.exact_algebra.specs.Rational.{◌+ℚ◌, ◌*ℚ◌, whole};
 ghost use Rattle.cert_sums.specs.Numbers.{whole_at};
 ghost use Rattle.cert_sums.specs.Sums.{cell_at};
-ghost use Rattle.cert_sums.specs.Slopes.{side_of, line_on, part_of, part_at, line_change, AreTotals, is_settled, unsettled_rows, sum_over, IsTally};
+ghost use Rattle.cert_sums.specs.Slopes.{side_of, line_on, part_of, part_at, part_change, AreTotals, is_settled, unsettled_rows, basic_total, IsTally};
 ghost use Rattle.cert_sums.specs.declared.slopes.Part.TheVariants.{Start, Slope};
 
 use crate::table::{Line, WholeRow};
@@ -100,8 +100,8 @@ pub(crate) fn unsettled_rows(
     Some(made)
 }
 
-/// The cell of a row at a place, where there is one.
-pub(crate) fn cell(rows: &[WholeRow], row: usize, place: usize) -> Option<i64>
+// The cell of a row at a place, where there is one.
+fn cell(rows: &[WholeRow], row: usize, place: usize) -> Option<i64>
     ensures { IfSome result (λ x. whole x ≡ cell_at rows.now place row) }
 {
     if row >= rows.len() {
@@ -124,38 +124,70 @@ fn part_on(rows: &[WholeRow], sides: &[Side], row: usize, part: Part) -> Option<
     Some(part_of(part, line_on(side_at(sides, row), &rows[row])))
 }
 
-/// A product of two numbers of 64 bits.
-#[inline]
-fn narrow_product(x: i64, m: i64) -> i128
-    ensures { result ≡ x *ℤ m }
+// By how much that changes, where the row passes to its new side.
+fn change_of(turn: Turn<'_>, part: Part, row: usize) -> Option<i128>
+    ensures { IfSome result (λ d. whole d ≡ part_change part turn.entry.rows.now turn.entry.old.now turn.entry.new.now row) }
 {
-    x as i128 * m as i128
-}
-
-// A total, after a row has passed to its new side.
-fn changed(turn: Turn<'_>, part: Part, place: usize, row: usize, total: i128) -> Option<i128>
-    ensures { IfSome result (λ r. whole r ≡ whole total +ℚ line_change part turn.entry.rows.now turn.entry.old.now turn.entry.new.now place row) }
-{
-    let x = cell(turn.rows, row, place)?;
     let new = part_on(turn.rows, turn.new, row, part)?;
     let old = part_on(turn.rows, turn.old, row, part)?;
-    let more = total.checked_add(narrow_product(x, new))?;
-    let made = more.checked_sub(narrow_product(x, old))?;
+    let made = (new as i128).checked_sub(old as i128)?;
     Some(made)
 }
 
-// The same, after all unsettled rows have.
-fn turned_total(turn: Turn<'_>, part: Part, place: usize, total: i128) -> Option<i128>
-    ensures { IfSome result (λ r. whole r ≡ whole total +ℚ sum_over turn.entry.unsettled.now (line_change part turn.entry.rows.now turn.entry.old.now turn.entry.new.now place)) }
+// The same, of all unsettled rows.
+fn changes_of(alloc: Global, turn: Turn<'_>, part: Part) -> Option<List<i128>>
+    ensures { IfSome result (λ made. (j : ℕ) → j < length turn.entry.unsettled.now → whole_at made j ≡ part_change part turn.entry.rows.now turn.entry.old.now turn.entry.new.now (get_or turn.entry.unsettled.now j 0)) }
 {
-    let mut sum = total;
+    let mut made = List::new(alloc);
     for j in 0..turn.unsettled.len() {
-        sum = changed(turn, part, place, turn.unsettled[j], sum)?;
+        let change = change_of(turn, part, turn.unsettled[j])?;
+        if made.push(change).is_err() {
+            return None;
+        }
+    }
+    Some(made)
+}
+
+// A product, which is no call where both numbers have 64 bits.
+#[inline]
+fn product_of(x: i64, value: i128) -> Option<i128>
+    ensures { IfSome result (λ y. y ≡ value *ℤ x) }
+{
+    match i64::try_from(value) {
+        Ok(narrow) => Some(narrow as i128 * x as i128),
+        Err(_) => value.checked_mul(x as i128),
+    }
+}
+
+// A sum with the product of a row's cell more.
+fn with_row(rows: &[WholeRow], row: usize, place: usize, value: i128, sum: i128) -> Option<i128>
+    ensures { IfSome result (λ r. whole r ≡ whole sum +ℚ (cell_at rows.now place row *ℚ whole value)) }
+{
+    let x = cell(rows, row, place)?;
+    let more = product_of(x, value)?;
+    let made = sum.checked_add(more)?;
+    Some(made)
+}
+
+/// A sum with the products of the cells of the rows of a list and their values more.
+pub(crate) fn with_rows(
+    rows: &[WholeRow],
+    list: &[usize],
+    values: &[i128],
+    place: usize,
+    first: i128,
+) -> Option<i128>
+    ensures { IfSome result (λ r. whole r ≡ whole first +ℚ basic_total rows.now place list.now values.now) }
+{
+    let mut sum = first;
+    for j in 0..list.len() {
+        sum = with_row(rows, list[j], place, number_at(values, j), sum)?;
     }
     Some(sum)
 }
 
 /// The number at a place, and 0 beyond the end.
+#[inline]
 pub(crate) fn number_at(numbers: &[i128], place: usize) -> i128
     ensures { whole result ≡ whole_at numbers.now place }
 {
@@ -177,9 +209,16 @@ fn turned_totals(
     requires totals { AreTotals part turn.rows.now width turn.old.now totals.now }
     ensures { IfSome result (AreTotals part turn.entry.rows.now width turn.entry.new.now) }
 {
+    let changes = changes_of(alloc, turn, part)?;
     let mut made = List::new(alloc);
     for k in 0..width {
-        let total = turned_total(turn, part, k, number_at(totals, k))?;
+        let total = with_rows(
+            turn.rows,
+            turn.unsettled,
+            changes.as_slice(),
+            k,
+            number_at(totals, k),
+        )?;
         if made.push(total).is_err() {
             return None;
         }

@@ -1,7 +1,7 @@
 -- Both parts of the line, and the basic rows.
 use Rattle.std.proofs.Common.{rules, ◌≡◌, ◌+ℤ◌, ◌*ℤ◌, pos, to_z, of_z, ap, ◌∙◌}
 use mir.Syntax.{w128}
-use Rattle.exact_algebra.specs.Rational.{◌+ℚ◌, ◌*ℚ◌, whole}
+use Rattle.exact_algebra.specs.Rational.{◌+ℚ◌, whole}
 use Rattle.cert_sums.specs.Numbers.{whole_at}
 use Rattle.cert_sums.specs.Slopes.{basic_total}
 use Rattle.cert_sums.proofs.Unsettled.{line_sum}
@@ -24,5 +24,5 @@ returns c =
     let lines : l ≡ c.in_ok-first.first +ℤ c.in_ok-second.second = search rules in
     let plain : to_z w128 (of_z w128 c.in_ok-made.made) ≡ c.in_ok-made.made = search rules in
     let plain_lines : to_z w128 (of_z w128 l) ≡ l = search rules in
-    let made : whole c.in_ok-made.made ≡ whole l +ℚ basic = rw (plain_lines) at (c.in_ok-made.ensures {u = tt}) in
+    let made : whole c.in_ok-made.made ≡ whole l +ℚ basic = rw (plain_lines, c.as_slice-3.ensures) at (c.in_ok-made.ensures {u = tt}) in
     rw (plain) (made ∙ ap (λ z. z +ℚ basic) (line_sum a b c.in_ok-first.first c.in_ok-second.second l r.scale r.at (whole_at t.starts place) (whole_at t.slopes place) first second lines start slope))

@@ -6,5 +6,5 @@ use Rattle.cert_sums.proofs.slopes.turned_totals.Given as goal
 abbrev pub invariant-loop-k : goal.invariant-loop-k
 invariant-loop-k l = record {
   size : length l.made ≡ l.k;
-  each : (k : ℕ) → k < l.k → whole_at l.made k ≡ line_total l.part l.turn.rows.now l.turn.new.now k;
+  each : (k : ℕ) → k < l.k → whole_at l.made k ≡ line_total l.fn.part l.turn.rows.now l.turn.new.now k;
 }

@@ -1,9 +1,6 @@
 -- The sum of whole numbers, divided out.
 use Rattle.std.proofs.Common.{rules, ◌≡◌, ◌*◌, pos, to_z, of_z}
 use mir.Syntax.{w128}
-use Rattle.exact_algebra.specs.Fraction.{rational}
-use Rattle.exact_algebra.specs.Rational.{◌*ℚ◌, whole, inverse}
-use Rattle.cert_sums.specs.Numbers.{value128}
 use Rattle.cert_sums.proofs.totals.over_scales.Goals as goal
 
 pub returns-in_ok-found-in-Ok : goal.returns-in_ok-found-in-Ok

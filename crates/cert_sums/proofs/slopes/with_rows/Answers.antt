@@ -5,16 +5,16 @@ use Rattle.exact_algebra.specs.Rational.{◌+ℚ◌, ◌*ℚ◌, whole}
 use Rattle.cert_sums.specs.Numbers.{whole_at}
 use Rattle.cert_sums.specs.Sums.{cell_at}
 use Rattle.cert_sums.proofs.Unsettled.{added_next, added_none}
-use Rattle.cert_sums.proofs.segment_sums.with_rows.Goals as goal
+use Rattle.cert_sums.proofs.slopes.with_rows.Goals as goal
 
 pub loop-j-init : goal.loop-j-init
 loop-j-init c = added_none _
 
 pub loop-j-preserved : goal.loop-j-preserved
 loop-j-preserved c =
-    let rows = c.args.view.rows.now in
-    let values = c.args.view.values.now in
-    let list = c.as_slice-list.result.now in
+    let rows = c.args.rows.now in
+    let values = c.args.values.now in
+    let list = c.args.list.now in
     let j = c.loop-j.j in
     let sum = c.in_ok-sum.sum in
     let s = to_z w128 c.loop-j.sum-bits in

@@ -3,7 +3,7 @@ use mir.Syntax.{w128}
 use Rattle.exact_algebra.specs.Rational.{whole}
 use Rattle.cert_sums.specs.Sums.{cell_at}
 use Rattle.cert_sums.proofs.Unsettled.{product_more}
-use Rattle.cert_sums.proofs.segment_sums.with_row.Goals as goal
+use Rattle.cert_sums.proofs.slopes.with_row.Goals as goal
 
 pub returns : goal.returns
 returns c =
