@@ -1,21 +1,19 @@
 //! What is tested of the ends of segments: that the dual values are orthogonal to the columns, that both sides of a loss
 //! come to what is stated, and that two ends have the same dual values.
-ghost use Rattle.std.specs.Prelude.{◌≡◌, ◌<◌, ◌≤◌, ◌+◌, ℕ, IfSome, IsTrue, length, slice_get, Some};
+ghost use Rattle.std.specs.Prelude.{◌≡◌, IfSome, IsTrue};
 ghost use Rattle.exact_algebra.specs.Fraction.{rational};
-ghost use Rattle.loss_model.specs.declared.process.Segment.{Segment as Piece};
-ghost use Rattle.frac_core.specs.declared.frac128.Frac128.{Frac128 as Fraction128};
 ghost use Rattle.loss_model.specs.Problem.{sample};
 ghost use Rattle.cert_sums.specs.Numbers.{value128};
 ghost use Rattle.cert_sums.specs.Tables.{IsTable};
 ghost use Rattle.cert_sums.specs.Duals.{IsDuals};
 ghost use Rattle.cert_sums.specs.Sums.{IsBalanced};
-ghost use Rattle.cert_sums.specs.Ends.{low_dual, high_dual, IsLossAt, DoMeet, IsBegun, IsEnded, IsHeld, IsHeldAt};
+ghost use Rattle.cert_sums.specs.Ends.{low_dual, high_dual, IsLossAt, DoMeet};
 
 use crate::duals::{Duals, End, duals_of};
 use crate::residuals::follow_sides;
 use crate::table::Table;
 use crate::totals::{balances, comes_to};
-use frac_core::{Exact, Frac128};
+use frac_core::Frac128;
 use loss_model::{Problem, Segment};
 use std::alloc::Global;
 

@@ -3,7 +3,7 @@
 //! Outside the basis a row's dual value is a line, which only its side chooses. So the sums of a column over these rows are
 //! a line too, which serves both ends of a segment, and from one segment to the next it changes by the few rows that pass
 //! to another side.
-ghost use Rattle.std.specs.Prelude.{◌≡◌, ◌≤◌, ◌<◌, ◌+◌, ◌*ℤ◌, ℕ, IfSome, length, get_or};
+ghost use Rattle.std.specs.Prelude.{◌≡◌, ◌<◌, ◌*ℤ◌, ℕ, IfSome, length, get_or};
 ghost use Rattle.exact_algebra.specs.Rational.{◌+ℚ◌, ◌*ℚ◌, whole};
 ghost use Rattle.cert_sums.specs.Numbers.{whole_at};
 ghost use Rattle.cert_sums.specs.Sums.{cell_at};
