@@ -32,8 +32,8 @@ pub(crate) struct Duals {
     pub(crate) values: List<i128>,
 }
 
-// Whether a line of numbers up to a limit can be read at a quantile times a scale.
-fn has_reach(limit: u64, scale: u128, at: i128) -> bool
+/// Whether a line of numbers up to a limit can be read at a quantile times a scale.
+pub(crate) fn has_reach(limit: u64, scale: u128, at: i128) -> bool
     ensures scale { IsTrue result → scale < 2 ^ 127 }
     ensures room { IsTrue result → limit * (scale + unsigned_abs at) < 2 ^ 127 }
 {
@@ -59,8 +59,8 @@ fn line_at(line: Line, scale: u128, at: i128) -> i128
     grown(grown(0, line.start, scale as i128), line.slope, at)
 }
 
-// A fraction times both scales.
-fn basic_dual(v: Frac128, scale: u128, cost_scale: u128) -> Option<i128>
+/// A fraction times both scales.
+pub(crate) fn basic_dual(v: Frac128, scale: u128, cost_scale: u128) -> Option<i128>
     ensures { IfSome result (λ e. whole e ≡ (whole (pos scale) *ℚ whole (pos cost_scale)) *ℚ rational (value128 v)) }
 {
     let number = scaled(v, scale)?;
@@ -68,9 +68,9 @@ fn basic_dual(v: Frac128, scale: u128, cost_scale: u128) -> Option<i128>
     Some(made)
 }
 
-// The dual value of a row by its side, times both scales.
+/// The dual value of a row by its side, times both scales.
 #[inline]
-fn row_dual(
+pub(crate) fn row_dual(
     table: &Table,
     row: &WholeRow,
     i: usize,

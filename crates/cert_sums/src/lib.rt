@@ -21,12 +21,17 @@
 mod duals;
 mod ends;
 mod products;
+mod reach;
 mod residuals;
+mod run;
 mod scale;
+mod segment_sums;
+mod slopes;
 mod table;
 mod totals;
 mod vertices;
 
-pub use ends::{WholeProblem, duals_balance, duals_meet, losses_hold, run_holds};
+pub use ends::{WholeProblem, duals_balance, duals_meet, losses_hold};
+pub use run::run_holds;
 pub use table::{Line, Table, WholeRow, whole_table};
 pub use vertices::{basic_number, item_at, side};

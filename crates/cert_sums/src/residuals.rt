@@ -9,7 +9,7 @@ ghost use Rattle.cert_sums.specs.Tables.{IsTable};
 ghost use Rattle.cert_sums.specs.Duals.{side_in};
 ghost use Rattle.cert_sums.specs.Residuals.{IsWholeOn, AreMultipliers, RowsFollow};
 
-use crate::products::{has_room, row_product};
+use crate::products::{has_room, narrow_row_product, narrowed, row_product};
 use crate::scale::{common_scale, scaled};
 use crate::table::Table;
 use crate::vertices::side;
@@ -58,16 +58,12 @@ fn multipliers_of(alloc: Global, coef: &[Frac128]) -> Option<Multipliers>
     Some(Multipliers { scale, numbers })
 }
 
-// Whether a residual times a positive number lies on a side.
+// Whether a residual times a positive number lies on a side: one test for all sides, since which it is no processor guesses.
 #[inline]
 fn is_on(side: Side, number: i128) -> bool
     ensures { IsTrue result → IsWholeOn side number }
 {
-    match side {
-        Side::Up => number >= 0,
-        Side::Down => number <= 0,
-        Side::Basic => number == 0,
-    }
+    ((number <= 0) | (side == Side::Up)) & ((number >= 0) | (side == Side::Down))
 }
 
 /// Whether each residual lies on the side of its row.
@@ -90,13 +86,26 @@ pub(crate) fn follow_sides(
             if !has_room(numbers, table.limit) {
                 return false;
             }
-            rows_follow(table, numbers, vertex)
+            all_follow(alloc, table, numbers, vertex)
         }
         None => false,
     }
 }
 
 // Whether the sums of the cells of each row times these numbers lie on the side of the row.
+fn all_follow(alloc: Global, table: &Table, numbers: &[i128], vertex: &Vertex<Frac128>) -> bool
+    requires same { All (λ w. length w.cells ≡ length numbers.now) table.now.rows }
+    requires small { All (λ w. All (λ e. unsigned_abs e ≤ table.now.limit) w.cells) table.now.rows }
+    requires bound { table.now.limit * sizes numbers.now < 2 ^ 127 }
+    ensures { IsTrue result → RowsFollow table.now.rows numbers.now vertex.now }
+{
+    match narrowed(alloc, numbers) {
+        Some(narrow) => narrow_rows_follow(table, narrow.as_slice(), vertex),
+        None => rows_follow(table, numbers, vertex),
+    }
+}
+
+// The same, of numbers of any width.
 fn rows_follow(table: &Table, numbers: &[i128], vertex: &Vertex<Frac128>) -> bool
     requires same { All (λ w. length w.cells ≡ length numbers.now) table.now.rows }
     requires small { All (λ w. All (λ e. unsigned_abs e ≤ table.now.limit) w.cells) table.now.rows }
@@ -106,6 +115,23 @@ fn rows_follow(table: &Table, numbers: &[i128], vertex: &Vertex<Frac128>) -> boo
     let rows = table.rows.as_slice();
     for i in 0..rows.len() {
         let number = row_product(rows[i].cells.as_slice(), numbers, table.limit);
+        if !is_on(side(vertex, i), number) {
+            return false;
+        }
+    }
+    true
+}
+
+// The same, of numbers of 64 bits.
+fn narrow_rows_follow(table: &Table, numbers: &[i64], vertex: &Vertex<Frac128>) -> bool
+    requires same { All (λ w. length w.cells ≡ length numbers.now) table.now.rows }
+    requires small { All (λ w. All (λ e. unsigned_abs e ≤ table.now.limit) w.cells) table.now.rows }
+    requires bound { table.now.limit * sizes numbers.now < 2 ^ 127 }
+    ensures { IsTrue result → RowsFollow table.now.rows numbers.now vertex.now }
+{
+    let rows = table.rows.as_slice();
+    for i in 0..rows.len() {
+        let number = narrow_row_product(rows[i].cells.as_slice(), numbers, table.limit);
         if !is_on(side(vertex, i), number) {
             return false;
         }

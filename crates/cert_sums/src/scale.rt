@@ -9,12 +9,12 @@ use frac_core::{Exact, Frac128};
 /// A multiple of a number and of the denominator of a fraction. Nothing is promised of it: who uses it divides and
 /// multiplies back.
 pub(crate) fn multiple(scale: u128, v: Frac128) -> Option<u128> {
-    let den = v.denominator();
-    let reduced = Frac128::from_parts(i128::try_from(scale).ok()?, den)?;
-    reduced
-        .numerator()
-        .unsigned_abs()
-        .checked_mul(den.unsigned_abs())
+    let den = v.denominator().unsigned_abs();
+    if scale.checked_rem(den)? == 0 {
+        return Some(scale);
+    }
+    let reduced = Frac128::from_parts(i128::try_from(scale).ok()?, v.denominator())?;
+    reduced.numerator().unsigned_abs().checked_mul(den)
 }
 
 /// The same, of all fractions of a list.

@@ -1,0 +1,23 @@
+-- A value more.
+use Rattle.std.proofs.Common.{rules, ◌≡◌, ℕ, ◌++◌, ◌∷◌, [], pos, get_or}
+use Rattle.exact_algebra.specs.Rational.{◌*ℚ◌, whole}
+use Rattle.loss_model.specs.Vertex.{basic_value}
+use Rattle.cert_sums.specs.Numbers.{value128}
+use Rattle.cert_sums.specs.Duals.{side_in}
+use Rattle.cert_sums.specs.Slopes.{basic_part}
+use Rattle.cert_sums.proofs.Lists.{length_pushed, whole_pushed}
+use Rattle.cert_sums.proofs.segment_sums.basic_values.Goals as goal
+
+pub loop-j-preserved : goal.loop-j-preserved
+loop-j-preserved c =
+    let v = c.args.end.vertex.now in
+    let made = c.loop-j.made in
+    let e = c.in_ok-value.value in
+    let j = c.loop-j.j in
+    let f = λ (j : ℕ). let row = get_or c.args.list.now j 0 in basic_part (side_in v row) ((whole (pos c.args.scale) *ℚ whole (pos c.args.cost_scale)) *ℚ basic_value value128 v c.args.end.basic.now row) in
+    let grown : c.push.new.self ≡ made ++ e ∷ [] = search rules in
+    let is : whole e ≡ f j = search rules in
+    rw (grown) (record {
+      size = length_pushed made e j c.loop-j.invariant.size;
+      each = whole_pushed made e j f c.loop-j.invariant.size c.loop-j.invariant.each is;
+    })
