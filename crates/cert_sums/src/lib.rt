@@ -20,7 +20,10 @@
 
 mod duals;
 mod ends;
+mod fractions;
 mod products;
+mod projection;
+mod ranks;
 mod residuals;
 mod scale;
 mod table;
@@ -28,5 +31,7 @@ mod totals;
 mod vertices;
 
 pub use ends::{WholeProblem, duals_balance, duals_meet, losses_hold, run_holds};
+pub use projection::projects;
+pub use ranks::{beyond_bound, lies_inside};
 pub use table::{Line, Table, WholeRow, whole_table};
 pub use vertices::{basic_number, item_at, side};
