@@ -1,14 +1,14 @@
 -- What comparisons of fractions show.
-use Rattle.std.specs.Prelude.{◌≡◌, ◌≢◌, [], ◌∷◌, IsTrue, pos}
+use Rattle.std.specs.Prelude.{◌≡◌, ◌≢◌, ℤ, ◌<ℤ◌, [], ◌∷◌, IsTrue, pos}
 use Rattle.std.specs.declared.cmp.Ordering.{Ordering}
 use Rattle.std.specs.declared.cmp.Ordering.TheVariants.{Less, Equal, Greater}
 use Rattle.std.specs.Ordering.{is_le, is_gt}
 use Rattle.std.proofs.Common.{refl, sym, ap, subst, ◌∙◌}
 use Rattle.exact_algebra.specs.Solver.{number, ◌⊠◌, v0, v1, v2}
 use Rattle.exact_algebra.specs.Rational.{ℚ, ◌*ℚ◌, whole, inverse, ◌≤ℚ◌}
-use Rattle.exact_algebra.specs.Order.{cmp_ℚ}
+use Rattle.exact_algebra.specs.Order.{cmp_ℚ, sign_ℚ}
 use Rattle.exact_algebra.proofs.RationalLaws.{*ℚ-inverse, ring_by_ℚ, ≤ℚ_refl}
-use Rattle.exact_algebra.proofs.OrderLaws.{by_cmp, cmp_ℚ-Less, cmp_ℚ-Equal, cmp_ℚ-Greater, cmp_ℚ-not_Greater, ≤ℚ-from_mul}
+use Rattle.exact_algebra.proofs.OrderLaws.{by_cmp, cmp_ℚ-Less, cmp_ℚ-Equal, cmp_ℚ-Greater, cmp_ℚ-not_Greater, sign_ℚ-above, ≤ℚ-from_mul}
 
 not_greater : (o : Ordering) → o ≡ Greater → ¬ (IsTrue (is_le o))
 not_greater o e h = cc (subst (λ z. IsTrue (is_le z)) e h)
@@ -23,6 +23,9 @@ most_from x y o e h = (cmp_ℚ-not_Greater x y).0 (λ g. not_greater o (e ∙ g)
 
 pub beyond_from : (x y : ℚ) (o : Ordering) → o ≡ cmp_ℚ x y → IsTrue (is_gt o) → ¬ (x ≤ℚ y)
 beyond_from x y o e h = (cmp_ℚ-Greater x y).0 (sym e ∙ is_greater o h)
+
+pub above_zero : (x : ℚ) (n : ℤ) → n ≡ sign_ℚ x → pos 0 <ℤ n → ¬ (x ≤ℚ whole (pos 0))
+above_zero x n e l = (sign_ℚ-above x).0 (subst (λ z. pos 0 <ℤ z) e l)
 
 module _ (s b q : ℚ) (positive : ¬ (b ≤ℚ whole (pos 0))) where
   pub not_zero : b ≢ whole (pos 0)

@@ -14,7 +14,7 @@ use Rattle.loss_model.specs.declared.vertex.Vertex.{Vertex}
 use Rattle.loss_model.specs.Problem.{value_at}
 use Rattle.loss_model.specs.Sample.{Sample, up_cost, down_cost}
 use Rattle.loss_model.specs.Strict.{◌<ℚ◌}
-use Rattle.rank_law.specs.Restricted.{column_sum, squared_length, rank_bound}
+use Rattle.rank_law.specs.Restricted.{column_sum, IsProjection, squared_length, rank_bound}
 use Rattle.cert_sums.specs.Numbers.{value128, total}
 use Rattle.cert_sums.specs.Duals.{side_in, dual_of}
 use Rattle.cert_sums.specs.Sums.{IsBalancedBut}
@@ -24,6 +24,10 @@ use Rattle.cert_sums.specs.declared.table.WholeRow.{WholeRow}
 -- what some numbers leave of row i, times the square of its weight, or 0 beyond the last row
 abbrev pub left_at : List WholeRow → List ℤ → ℕ → ℚ
 left_at rows numbers i = option_map_or (λ w. whole ((total w.cells numbers *ℤ w.up.slope) *ℤ w.up.slope)) (slice_get rows i) (whole (pos 0))
+
+-- a number is above 0
+abbrev pub IsPositive : ℚ → Type 0
+IsPositive x = whole (pos 0) <ℚ x
 
 -- a value is within the costs of a row
 pub record IsBetween (r : Row Frac128) (theta e : ℚ) : Type 0 where
@@ -60,14 +64,26 @@ module _ (p : Sample) (t : IntervalProof Frac128) (v : Vertex Frac128) (basic : 
   abbrev pub IsHeld : Type 0
   IsHeld = IsHeldWithout p t.column (rational (value128 t.tau)) (side_in v) values_at
 
+  -- the factors of the interval are a projection
+  abbrev pub IsProjected : Type 0
+  IsProjected = IsProjection p t.column (value_at value128 t.projection)
+
   -- a statistic, and how its square stands to the bound
   pub record IsStanding (found : Standing) : Type 0 where
     pub held : IsHeld
+    pub projection : IsProjected
     pub value : rational (value128 found.statistic) ≡ statistic
     pub order : found.order ≡ cmp_ℚ square bound
+
+  -- the square of the statistic is within the bound
+  pub record IsInsideBound : Type 0 where
+    pub held : IsHeld
+    pub projection : IsProjected
+    pub within : square ≤ℚ bound
 
   -- a statistic whose square is beyond the bound
   pub record IsBeyondBound (z : Frac128) : Type 0 where
     pub held : IsHeld
+    pub projection : IsProjected
     pub value : rational (value128 z) ≡ statistic
     pub beyond : bound <ℚ square

@@ -7,12 +7,11 @@ ghost use Rattle.exact_algebra.specs.Fraction.{rational};
 ghost use Rattle.exact_algebra.specs.Rational.{◌-ℚ◌, ◌*ℚ◌, whole};
 ghost use Rattle.exact_matrices.specs.Terms.{delta};
 ghost use Rattle.loss_model.specs.Problem.{sample, value_at};
-ghost use Rattle.loss_model.specs.Strict.{◌<ℚ◌};
 ghost use Rattle.rank_law.specs.Restricted.{projected, IsProjection, squared_length};
 ghost use Rattle.cert_sums.specs.Numbers.{value128, whole_at, sizes};
 ghost use Rattle.cert_sums.specs.Tables.{IsTable};
 ghost use Rattle.cert_sums.specs.Duals.{IsDuals};
-ghost use Rattle.cert_sums.specs.Ranks.{left_at};
+ghost use Rattle.cert_sums.specs.Ranks.{left_at, IsPositive};
 
 use crate::duals::Duals;
 use crate::ends::WholeProblem;
@@ -80,8 +79,9 @@ fn left_values(alloc: Global, table: &Table, numbers: &[i128]) -> Option<List<i1
     let rows = table.rows.as_slice();
     let mut made = List::new(alloc);
     for i in 0..rows.len() {
-        let left = row_product(rows[i].cells.as_slice(), numbers, table.limit);
-        let value = weighted(left, rows[i].up.slope)?;
+        let row = &rows[i];
+        let left = row_product(row.cells.as_slice(), numbers, table.limit);
+        let value = weighted(left, row.up.slope)?;
         if made.push(value).is_err() {
             return None;
         }
@@ -136,6 +136,9 @@ pub(crate) fn length_of(
     ensures length { IfSome result (λ q. rational (value128 q) ≡ squared_length (sample value128 whole.entry.problem.now) interval.now.column (value_at value128 interval.now.projection)) }
 {
     let column = interval.column;
+    if column >= whole.problem.columns {
+        return None;
+    }
     if !item_at(interval.projection.as_slice(), column as usize).is_zero() {
         return None;
     }
@@ -155,7 +158,7 @@ pub fn projects(
 ) -> bool
     requires { IsTable whole.problem.now whole.table.now }
     ensures projection { IsTrue result → IsProjection (sample value128 whole.entry.problem.now) interval.now.column (value_at value128 interval.now.projection) }
-    ensures some { IsTrue result → whole (pos 0) <ℚ squared_length (sample value128 whole.entry.problem.now) interval.now.column (value_at value128 interval.now.projection) }
+    ensures some { IsTrue result → IsPositive (squared_length (sample value128 whole.entry.problem.now) interval.now.column (value_at value128 interval.now.projection)) }
 {
     match length_of(alloc, whole, interval) {
         Some(length) => length.sign() > 0,

@@ -6,14 +6,13 @@ ghost use Rattle.exact_algebra.specs.Order.{cmp_ℚ};
 ghost use Rattle.exact_algebra.specs.Rational.{◌-ℚ◌, ◌+ℚ◌, ◌*ℚ◌, whole, ◌≤ℚ◌};
 ghost use Rattle.loss_model.specs.Problem.{sample, value_at};
 ghost use Rattle.loss_model.specs.Sample.{residual};
-ghost use Rattle.loss_model.specs.Strict.{◌<ℚ◌};
 ghost use Rattle.loss_model.specs.Vertex.{IsOn, basic_value};
 ghost use Rattle.loss_model.specs.declared.vertex.Side.TheVariants.{Basic as BasicRow};
 ghost use Rattle.rank_law.specs.Restricted.{column_sum, squared_length, rank_bound};
 ghost use Rattle.cert_sums.specs.Numbers.{value128};
 ghost use Rattle.cert_sums.specs.Tables.{IsTable};
 ghost use Rattle.cert_sums.specs.Duals.{side_in, dual_of};
-ghost use Rattle.cert_sums.specs.Ranks.{IsBetween, IsWithinCosts, IsHeldWithout, IsHeld, IsStanding, IsBeyondBound, bound, square};
+ghost use Rattle.cert_sums.specs.Ranks.{IsBetween, IsWithinCosts, IsHeldWithout, IsStanding, IsInsideBound, IsBeyondBound};
 
 use crate::duals::{End, duals_of};
 use crate::ends::WholeProblem;
@@ -177,8 +176,7 @@ pub fn lies_inside(
 ) -> bool
     requires { IsTable whole.problem.now whole.table.now }
     ensures sides { IsTrue result → (i : ℕ) → i < length whole.entry.problem.now.rows → IsOn (side_in vertex.now i) (residual (sample value128 whole.entry.problem.now) (value_at value128 vertex.now.coef) i) }
-    ensures held { IsTrue result → IsHeld (sample value128 whole.entry.problem.now) interval.now vertex.now basic.now }
-    ensures within { IsTrue result → square (sample value128 whole.entry.problem.now) interval.now vertex.now basic.now ≤ℚ bound (sample value128 whole.entry.problem.now) interval.now vertex.now basic.now }
+    ensures bound { IsTrue result → IsInsideBound (sample value128 whole.entry.problem.now) interval.now vertex.now basic.now }
 {
     if !follow_sides(alloc, whole.problem, whole.table, vertex) {
         return false;
