@@ -47,11 +47,7 @@ pub(crate) fn at_most(left: Frac128, right: Frac128) -> bool
 
 /// How a fraction compares with the product of two others, of which the first has to be above 0: that divides it, so that
 /// neither side of the comparison is a product.
-pub(crate) fn against_product(
-    number: Frac128,
-    factor: Frac128,
-    other: Frac128,
-) -> Option<Ordering>
+pub(crate) fn against_product(number: Frac128, factor: Frac128, other: Frac128) -> Option<Ordering>
     ensures { IfSome result (λ order. order ≡ cmp_ℚ (rational (value128 number)) (rational (value128 factor) *ℚ rational (value128 other))) }
 {
     if factor.sign() <= 0 {

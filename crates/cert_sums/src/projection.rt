@@ -151,11 +151,7 @@ pub(crate) fn length_of(
 }
 
 /// Whether the factors of an interval project its column on the other ones, and leave some of it.
-pub fn projects(
-    alloc: Global,
-    whole: WholeProblem<'_>,
-    interval: &IntervalProof<Frac128>,
-) -> bool
+pub fn projects(alloc: Global, whole: WholeProblem<'_>, interval: &IntervalProof<Frac128>) -> bool
     requires { IsTable whole.problem.now whole.table.now }
     ensures projection { IsTrue result → IsProjection (sample value128 whole.entry.problem.now) interval.now.column (value_at value128 interval.now.projection) }
     ensures some { IsTrue result → IsPositive (squared_length (sample value128 whole.entry.problem.now) interval.now.column (value_at value128 interval.now.projection)) }

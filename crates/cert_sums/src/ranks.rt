@@ -72,9 +72,7 @@ fn row_within(row: &Row<Frac128>, end: End<'_>, i: usize) -> bool
     match side(end.vertex, i) {
         Side::Up => true,
         Side::Down => true,
-        Side::Basic => {
-            is_between(row, end.theta, basic_number(end.vertex, end.basic, i))
-        }
+        Side::Basic => { is_between(row, end.theta, basic_number(end.vertex, end.basic, i)) }
     }
 }
 
@@ -123,12 +121,7 @@ fn level_of(tau: Frac128, crit: Frac128) -> Option<Frac128>
 }
 
 // How the square of a statistic stands to the bound for a squared length.
-fn order_of(
-    statistic: Frac128,
-    tau: Frac128,
-    crit: Frac128,
-    length: Frac128,
-) -> Option<Ordering>
+fn order_of(statistic: Frac128, tau: Frac128, crit: Frac128, length: Frac128) -> Option<Ordering>
     ensures { IfSome result (λ order. order ≡ cmp_ℚ (rational (value128 statistic) *ℚ rational (value128 statistic)) (rank_bound (rational (value128 tau)) (rational (value128 crit)) (rational (value128 length)))) }
 {
     let square = times(statistic, statistic)?;

@@ -1,5 +1,5 @@
 -- One segment more.
-use Rattle.std.proofs.Common.{ℕ, ◌≤◌, below_more}
+use Rattle.std.proofs.Common.{◌≤◌, below_more}
 use Rattle.cert_sums.specs.Ends.{IsHeldAt}
 use Rattle.cert_sums.proofs.ends.run_from.Goals as goal
 
