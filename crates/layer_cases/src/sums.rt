@@ -144,7 +144,11 @@ fn tell_end(told: &mut Told, shown: ShownEnd) {
 pub(crate) fn tell_interval(told: &mut Told, shared: &str, asked: &str) {
     match interval_of(told.alloc(), shared, asked) {
         Some(shown) => {
-            told.put(if shown.projection { "projection" } else { "none" });
+            told.put(if shown.projection {
+                "projection"
+            } else {
+                "none"
+            });
             told.put(", low");
             tell_end(told, shown.low);
             told.put(", high");
