@@ -17,4 +17,5 @@ mod Wholes
 mod Shared
 mod Later
 mod Ranks
+mod Held
 mod All

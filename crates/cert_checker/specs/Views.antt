@@ -1,12 +1,16 @@
 -- Inner. What the code looks at, as the conditions have it.
-use Rattle.std.specs.Prelude.{◌≤◌, length, Option, Some, None, ⊤}
+use Rattle.std.specs.Prelude.{ℕ, ◌≤◌, ◌+◌, ◌++◌, List, length, Option, Some, None, ⊤}
 use Rattle.exact_algebra.specs.Fraction.{rational}
 use Rattle.frac_core.specs.declared.frac128.Frac128.{Frac128}
 use Rattle.loss_model.specs.declared.problem.Problem.{Problem}
 use Rattle.loss_model.specs.Problem.{sample}
 use Rattle.cert_checker.specs.Places.{value128}
-use Rattle.cert_checker.specs.Conditions.{End}
-use Rattle.cert_checker.specs.Intervals.{Question, question_of}
+use Rattle.cert_checker.specs.Formulas.{times}
+use Rattle.cert_checker.specs.Tests.{Test, part, test, one}
+use Rattle.cert_checker.specs.Conditions.{End, zero_formula}
+use Rattle.cert_checker.specs.Intervals.{Question, question_of, first_of, sign_of, others, orthogonal_formula, square_formula, within_parts, balance_parts, statistic, rank_bound_formula}
+use Rattle.cert_checker.specs.declared.relation.Relation.TheVariants.{Above, Equal}
+use Rattle.cert_checker.specs.declared.way.Way.{Way}
 use Rattle.cert_checker.specs.declared.leaves.EndView.{EndView}
 use Rattle.cert_checker.specs.declared.projection.IntervalView.{IntervalView}
 use Rattle.cert_checker.specs.declared.quick.Quick.{Quick}
@@ -31,3 +35,21 @@ IsTableOf p (Some t) = IsTable p t
 
 abbrev pub IsTabled : Quick → Type 0
 IsTabled q = IsTableOf q.problem.now q.table.now
+
+-- an interval's problem is small enough, and in whole numbers where there is a table
+abbrev pub IsAsked : IntervalView → Type 0
+IsAsked v = IsSmall v.problem.now × IsTableOf v.problem.now v.table.now
+
+module _ (a : Question) where
+  -- the tests of a projection: what it leaves is orthogonal to the other columns, and isn't 0
+  abbrev pub projection_tests : ℕ → List Test
+  projection_tests m =
+      test 9 m 4 (others a.column a.problem.columns (λ k. part (orthogonal_formula a.problem a.column a.factors k) Equal zero_formula))
+      ++ one 9 m 5 (square_formula a.problem a.column a.factors) Above zero_formula
+
+  -- the tests of dual values outside of a finite end
+  abbrev pub outside_tests : Way → ℕ → End → List Test
+  outside_tests way m f =
+      test 9 m (first_of way + 6) (within_parts a f ++ balance_parts a f)
+      ++ test 9 m (first_of way + 7)
+      (part (statistic a f) (sign_of way) zero_formula ++ part (times (statistic a f) (statistic a f)) Above (rank_bound_formula a))

@@ -170,7 +170,7 @@ fn decide_quickly<R: Threads + Sync, G: Gate>(
     decide_sums(rt, &jobs, quick)?;
     let intervals = Intervals {
         list: &cert.intervals,
-        of: IntervalConditions { problem },
+        of: IntervalConditions { problem, table },
     };
     intervals.decide(alloc)
 }
@@ -214,8 +214,9 @@ fn decide_all<R: Threads + Sync, G: Gate>(
 /// answer counts in the order of the segments. A job enters the gate with its place among those of its condition
 /// before it works.
 ///
-/// Of a segment the tests of balances, losses and joints are shown by sums of whole numbers first. Where one is false, or a
-/// number is too wide for these, the tests are made one by one, in fractions.
+/// Of a segment the tests of balances, losses and joints, and of an interval those of sums over all rows, are shown by sums
+/// of whole numbers first. Where one is false, or a number is too wide for these, the tests are made one by one, in
+/// fractions.
 ///
 /// `Accepted` says that all of them hold, and that so, whoever wrote the certificate, the segments cover the
 /// range, with dual values of equal cost at both ends of each, so that the coefficients of a segment

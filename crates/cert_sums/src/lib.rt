@@ -1,11 +1,13 @@
 //! Sums over the rows of a problem in whole numbers, for the checker of certificates.
 //!
-//! The one contract: each test answers `true` only where what it is named after holds of the numbers of a segment, and
-//! `false` says nothing. Entries and responses stand times one common denominator, costs times another, and the dual values
-//! of an end times a third, so that a sum over all rows is one of products of whole numbers (Koenker 2005, chapter 6, has
-//! the conditions). Where a number is too wide for that, or memory is wanting, the answer is `false` too.
+//! The one contract: each test answers `true` only where what it is named after holds of the numbers of a segment or of
+//! a rank interval, and `false` says nothing. Entries and responses stand times one common denominator, costs times
+//! another, and the dual values of an end, or what a projection leaves, times a third, so that a sum over all rows is
+//! one of products of whole numbers (Koenker 2005, section 3.5 and chapter 6, has the conditions). Where a number is
+//! too wide for that, or memory is wanting, the answer is `false` too.
 //!
-//! It stands on the definitions of `loss_model` and the fractions of `frac_core`, and shares nothing with the solver.
+//! It stands on the definitions of `loss_model` and `rank_law` and the fractions of `frac_core`, and shares nothing with the
+//! solver.
 //!
 //! `cert_checker` calls it so:
 //! ```text
@@ -20,7 +22,10 @@
 
 mod duals;
 mod ends;
+mod fractions;
 mod products;
+mod projection;
+mod ranks;
 mod reach;
 mod residuals;
 mod run;
@@ -32,6 +37,8 @@ mod totals;
 mod vertices;
 
 pub use ends::{WholeProblem, duals_balance, duals_meet, losses_hold};
+pub use projection::projects;
+pub use ranks::{beyond_bound, lies_inside};
 pub use run::run_holds;
 pub use table::{Line, Table, WholeRow, whole_table};
 pub use vertices::{basic_number, item_at, side};

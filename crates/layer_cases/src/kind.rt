@@ -28,6 +28,7 @@ pub(crate) enum Kind {
     Verdicts,
     Writings,
     Sums,
+    Ranks,
 }
 
 /// The kind of the cases of a file, by its name.
@@ -51,6 +52,7 @@ pub(crate) fn kind_of(name: &str) -> Option<Kind> {
         "verdicts" => Kind::Verdicts,
         "writings" => Kind::Writings,
         "sums" => Kind::Sums,
+        "ranks" => Kind::Ranks,
         _ => return None,
     };
     Some(kind)
@@ -83,5 +85,6 @@ pub(crate) fn tell<R: Threads + Sync>(
         Kind::Verdicts => verdicts::tell(rt, told, shared, asked),
         Kind::Writings => certificates::tell_written(told, shared, asked),
         Kind::Sums => sums::tell(told, shared, asked),
+        Kind::Ranks => sums::tell_interval(told, shared, asked),
     }
 }

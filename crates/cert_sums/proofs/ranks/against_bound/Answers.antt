@@ -1,0 +1,20 @@
+-- The order is that of the statistic and the length.
+use Rattle.std.proofs.Common.{ap₂, ◌∙◌}
+use Rattle.exact_algebra.specs.Fraction.{rational}
+use Rattle.exact_algebra.specs.Order.{cmp_ℚ}
+use Rattle.exact_algebra.specs.Rational.{◌*ℚ◌}
+use Rattle.rank_law.specs.Restricted.{rank_bound}
+use Rattle.cert_sums.specs.Numbers.{value128}
+use Rattle.cert_sums.proofs.ranks.against_bound.Goals as goal
+
+pub returns : goal.returns
+returns c =
+    let t = c.args.interval.now in
+    let found = c.in_ok-statistic.ensures {u = tt} in
+    record {
+      held = found.held;
+      projection = (c.in_ok-length.ensures {u = tt}).projection;
+      value = found.value;
+      order = c.in_ok-order.ensures {u = tt}
+          ∙ ap₂ (λ z q. cmp_ℚ (z *ℚ z) (rank_bound (rational (value128 t.tau)) (rational (value128 t.crit)) q)) found.value (c.in_ok-length.ensures {u = tt}).length;
+    }

@@ -1,0 +1,12 @@
+use Rattle.std.proofs.Common.{ℕ, ◌<◌}
+use Rattle.exact_algebra.specs.Fraction.{rational}
+use Rattle.loss_model.specs.Problem.{sample}
+use Rattle.loss_model.specs.Vertex.{basic_value}
+use Rattle.cert_sums.specs.Numbers.{value128}
+use Rattle.cert_sums.specs.Duals.{side_in}
+use Rattle.cert_sums.specs.Ranks.{IsWithinCosts}
+use Rattle.cert_sums.proofs.ranks.rows_within.Given as goal
+
+abbrev pub invariant-loop-i : goal.invariant-loop-i
+invariant-loop-i l =
+    (i : ℕ) → i < l.i → IsWithinCosts (sample value128 l.problem) (rational (value128 l.end.theta)) (side_in l.end.vertex.now i) (basic_value value128 l.end.vertex.now l.end.basic.now i) i

@@ -1,0 +1,88 @@
+-- Inner. What is shown of the projection of a rank interval, and of the dual values at its ends.
+use Rattle.std.specs.Prelude.{◌≡◌, ℕ, ℤ, ◌<◌, ◌*ℤ◌, List, slice_get, pos}
+use Rattle.std.specs.Option.{option_map_or}
+use Rattle.exact_algebra.specs.Fraction.{rational}
+use Rattle.exact_algebra.specs.Order.{cmp_ℚ}
+use Rattle.exact_algebra.specs.Rational.{ℚ, ◌+ℚ◌, ◌*ℚ◌, neg_ℚ, whole, ◌≤ℚ◌}
+use Rattle.frac_core.specs.declared.frac128.Frac128.{Frac128}
+use Rattle.loss_model.specs.declared.interval.IntervalProof.{IntervalProof}
+use Rattle.loss_model.specs.declared.problem.Row.{Row}
+use Rattle.loss_model.specs.declared.vertex.Side.{Side}
+use Rattle.loss_model.specs.declared.vertex.Side.TheVariants.{Basic}
+use Rattle.loss_model.specs.declared.vertex.Vertex.{Vertex}
+use Rattle.loss_model.specs.Problem.{value_at}
+use Rattle.loss_model.specs.Sample.{Sample, up_cost, down_cost}
+use Rattle.loss_model.specs.Strict.{◌<ℚ◌}
+use Rattle.rank_law.specs.Restricted.{column_sum, IsProjection, squared_length, rank_bound}
+use Rattle.cert_sums.specs.Numbers.{value128, total}
+use Rattle.cert_sums.specs.Duals.{side_in, dual_of}
+use Rattle.cert_sums.specs.Sums.{IsBalancedBut}
+use Rattle.cert_sums.specs.declared.ranks.Standing.{Standing}
+use Rattle.cert_sums.specs.declared.table.WholeRow.{WholeRow}
+
+-- what some numbers leave of row i, times the square of its weight, or 0 beyond the last row
+abbrev pub left_at : List WholeRow → List ℤ → ℕ → ℚ
+left_at rows numbers i = option_map_or (λ w. whole ((total w.cells numbers *ℤ w.up.slope) *ℤ w.up.slope)) (slice_get rows i) (whole (pos 0))
+
+-- a number is above 0
+abbrev pub IsPositive : ℚ → Type 0
+IsPositive x = whole (pos 0) <ℚ x
+
+-- a value is within the costs of a row
+pub record IsBetween (r : Row Frac128) (theta e : ℚ) : Type 0 where
+  pub upper : e ≤ℚ (rational (value128 r.up0) +ℚ (rational (value128 r.up1) *ℚ theta))
+  pub lower : neg_ℚ (rational (value128 r.down0) +ℚ (rational (value128 r.down1) *ℚ theta)) ≤ℚ e
+
+-- a value of row i is within its costs, where the row is a basic one
+pub record IsWithinCosts (p : Sample) (theta : ℚ) (side : Side) (e : ℚ) (i : ℕ) : Type 0 where
+  pub upper : side ≡ Basic → e ≤ℚ up_cost p theta i
+  pub lower : side ≡ Basic → neg_ℚ (down_cost p theta i) ≤ℚ e
+
+-- the values of basic rows are within their costs, and those of all rows orthogonal to each column but j
+pub record IsHeldWithout (p : Sample) (j : ℕ) (theta : ℚ) (side : ℕ → Side) (e : ℕ → ℚ) : Type 0 where
+  pub within : (i : ℕ) → i < p.rows → IsWithinCosts p theta (side i) (e i) i
+  pub balanced : IsBalancedBut p j e
+
+module _ (p : Sample) (t : IntervalProof Frac128) (v : Vertex Frac128) (basic : List Frac128) where
+  -- the dual values of a vertex at the quantile of an interval
+  abbrev pub values_at : ℕ → ℚ
+  values_at i = dual_of p (rational (value128 t.tau)) v basic i
+
+  -- their statistic, and the square of it
+  abbrev pub statistic : ℚ
+  statistic = column_sum p values_at t.column
+
+  abbrev pub square : ℚ
+  square = statistic *ℚ statistic
+
+  -- the bound of that
+  abbrev pub bound : ℚ
+  bound = rank_bound (rational (value128 t.tau)) (rational (value128 t.crit)) (squared_length p t.column (value_at value128 t.projection))
+
+  -- the values are within their costs in the basic rows, and orthogonal to the other columns
+  abbrev pub IsHeld : Type 0
+  IsHeld = IsHeldWithout p t.column (rational (value128 t.tau)) (side_in v) values_at
+
+  -- the factors of the interval are a projection
+  abbrev pub IsProjected : Type 0
+  IsProjected = IsProjection p t.column (value_at value128 t.projection)
+
+  -- a statistic, and how its square stands to the bound
+  pub record IsStanding (found : Standing) : Type 0 where
+    pub held : IsHeld
+    pub projection : IsProjected
+    pub value : rational (value128 found.statistic) ≡ statistic
+    pub order : found.order ≡ cmp_ℚ square bound
+
+  -- the square of the statistic is within the bound
+  pub record IsInsideBound : Type 0 where
+    pub held : IsHeld
+    pub projection : IsProjected
+    pub within : square ≤ℚ bound
+
+  -- a statistic whose square is beyond the bound
+  pub record IsBeyondBound (z : Frac128) : Type 0 where
+    pub held : IsHeld
+    pub projection : IsProjected
+    pub value : rational (value128 z) ≡ statistic
+    pub beyond : bound <ℚ square

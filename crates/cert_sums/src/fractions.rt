@@ -1,0 +1,60 @@
+//! Operations on fractions, with no answer where one overflows.
+ghost use Rattle.std.specs.Prelude.{◌≡◌, pos, IfSome, IsTrue};
+ghost use Rattle.exact_algebra.specs.Fraction.{rational};
+ghost use Rattle.exact_algebra.specs.Order.{cmp_ℚ};
+ghost use Rattle.exact_algebra.specs.Rational.{◌+ℚ◌, ◌-ℚ◌, ◌*ℚ◌, whole, ◌≤ℚ◌};
+ghost use Rattle.cert_sums.specs.Numbers.{value128};
+
+use frac_core::{Exact, Frac128};
+use std::cmp::Ordering;
+
+/// The sum.
+pub(crate) fn plus(left: Frac128, right: Frac128) -> Option<Frac128>
+    ensures { IfSome result (λ r. rational (value128 r) ≡ rational (value128 left) +ℚ rational (value128 right)) }
+{
+    match left.try_add(right) {
+        Ok(sum) => Some(sum),
+        Err(_) => None,
+    }
+}
+
+/// The difference.
+pub(crate) fn minus(left: Frac128, right: Frac128) -> Option<Frac128>
+    ensures { IfSome result (λ r. rational (value128 r) ≡ rational (value128 left) -ℚ rational (value128 right)) }
+{
+    match left.try_sub(right) {
+        Ok(difference) => Some(difference),
+        Err(_) => None,
+    }
+}
+
+/// The product.
+pub(crate) fn times(left: Frac128, right: Frac128) -> Option<Frac128>
+    ensures { IfSome result (λ r. rational (value128 r) ≡ rational (value128 left) *ℚ rational (value128 right)) }
+{
+    match left.try_mul(right) {
+        Ok(product) => Some(product),
+        Err(_) => None,
+    }
+}
+
+/// Whether one is at most the other.
+pub(crate) fn at_most(left: Frac128, right: Frac128) -> bool
+    ensures { IsTrue result → rational (value128 left) ≤ℚ rational (value128 right) }
+{
+    left.compare(right).is_le()
+}
+
+/// How a fraction compares with the product of two others, of which the first has to be above 0: that divides it, so that
+/// neither side of the comparison is a product.
+pub(crate) fn against_product(number: Frac128, factor: Frac128, other: Frac128) -> Option<Ordering>
+    ensures { IfSome result (λ order. order ≡ cmp_ℚ (rational (value128 number)) (rational (value128 factor) *ℚ rational (value128 other))) }
+{
+    if factor.sign() <= 0 {
+        return None;
+    }
+    match number.try_div(factor) {
+        Ok(quotient) => Some(quotient.compare(other)),
+        Err(_) => None,
+    }
+}
