@@ -1,6 +1,6 @@
 -- What sums of whole numbers show of the conditions on an interval.
-use Rattle.std.specs.Prelude.{◌≡◌, ◌≢◌, ℕ, zero, suc, ◌<◌, ◌++◌, Bool, true, false, List, [], length, eqb, pos, if◌then◌else◌}
-use Rattle.std.proofs.Common.{arith, refl, sym, ap, ap₂, subst, ◌∙◌}
+use Rattle.std.specs.Prelude.{◌≡◌, ◌≢◌, ℕ, zero, suc, ◌<◌, Bool, true, false, List, [], length, eqb, pos, if◌then◌else◌}
+use Rattle.std.proofs.Common.{arith, refl, sym, ap, subst, ◌∙◌}
 use borrow.Author.Tests.{eqb-false}
 use Rattle.exact_algebra.specs.Fraction.{rational}
 use Rattle.exact_algebra.specs.Rational.{ℚ, ◌*ℚ◌, neg_ℚ, whole, ◌≤ℚ◌}
@@ -23,7 +23,7 @@ use Rattle.cert_checker.specs.Formulas as formula
 use Rattle.cert_checker.specs.Formulas.{given, worth}
 use Rattle.cert_checker.specs.Tests.{Part, Holds, ArePartsTrue, AreTrue, upto, part}
 use Rattle.cert_checker.specs.Conditions.{End, side_in, dual_at_row, balance, bound_parts, zero_formula}
-use Rattle.cert_checker.specs.Intervals.{Question, question_of, others, orthogonal_formula, basic_parts, side_parts, within_parts, balance_parts, statistic, rank_bound_formula, inside_tests, sign_of, values_of}
+use Rattle.cert_checker.specs.Intervals.{Question, question_of, others, orthogonal_formula, basic_parts, side_parts, within_parts, balance_parts, statistic, inside_tests, sign_of}
 use Rattle.cert_checker.specs.Views.{projection_tests, outside_tests}
 use Rattle.cert_checker.specs.declared.relation.Relation.TheVariants.{Equal}
 use Rattle.cert_checker.specs.declared.way.Way.{Way}
