@@ -1,10 +1,10 @@
 -- What the sums of a tally stand for, and where two segments meet.
-use Rattle.std.specs.Prelude.{◌≡◌, ℕ, ◌+◌, ◌*◌, ◌<◌, ℤ, pos, ◌*ℤ◌, List, [], ◌∷◌, length, get_or, slice_get, Option, Some, true, All}
+use Rattle.std.specs.Prelude.{◌≡◌, ℕ, ◌+◌, ◌<◌, ℤ, pos, ◌*ℤ◌, List, [], ◌∷◌, length, get_or, slice_get, Option, Some, true, All}
 use Rattle.std.specs.Option.{option_map_or}
 use Rattle.std.proofs.Common.{arith, refl, sym, ap, ap₂, ◌∙◌}
 use Rattle.exact_algebra.specs.Fraction.{rational}
 use Rattle.exact_algebra.specs.Solver.{number, ◌⊞◌, ◌⊠◌, v0, v1, v2, v3, v4, v5}
-use Rattle.exact_algebra.specs.Rational.{ℚ, ◌+ℚ◌, ◌*ℚ◌, neg_ℚ, whole, inverse}
+use Rattle.exact_algebra.specs.Rational.{ℚ, ◌+ℚ◌, ◌*ℚ◌, neg_ℚ, whole}
 use Rattle.exact_algebra.specs.RationalSums.{sum_ℚ}
 use Rattle.exact_algebra.proofs.RationalLaws.{whole-add, whole-mul, ring_ℚ}
 use Rattle.exact_algebra.proofs.RationalSumLaws.{sum_ℚ-same, sum_ℚ-mix, sum_ℚ-add}
@@ -28,11 +28,11 @@ use Rattle.cert_sums.specs.declared.reach.Reach.{Reach}
 use Rattle.cert_sums.specs.Tables.{IsTable}
 use Rattle.cert_sums.specs.Duals.{at_line, side_in, dual_of}
 use Rattle.cert_sums.specs.Sums.{cell_at}
-use Rattle.cert_sums.specs.Slopes.{part_of, line_on, part_at, is_settled, unsettled_rows, sum_over, basic_part, basic_total, sum_at, IsTally, IsReach, IsSummed}
+use Rattle.cert_sums.specs.Slopes.{part_of, line_on, part_at, is_settled, unsettled_rows, basic_part, basic_at, over_scales, listed_total, sum_at, IsTally, IsReach, IsSummed}
 use Rattle.cert_sums.specs.Ends.{low_dual, high_dual, DoMeet}
 use Rattle.cert_sums.proofs.RowsOf.{there, row_value}
 use Rattle.cert_sums.proofs.Balanced.{balanced_from, objective_from}
-use Rattle.cert_sums.proofs.Unsettled.{settled_outside, unsettled_sum, unsettled_all}
+use Rattle.cert_sums.proofs.Unsettled.{sum_over, settled_outside, unsettled_sum, unsettled_all}
 
 line_split : (l : Line) (scale : ℕ) (at : ℤ) → whole (at_line l scale at) ≡ ((whole (pos scale) *ℚ whole l.start) +ℚ (whole at *ℚ whole l.slope)) +ℚ whole (pos 0)
 line_split l scale at =
@@ -71,16 +71,17 @@ module _ (p : Problem Frac128) (t : Table) (h : IsTable p t) (theta : ℚ) (v : 
       side_split i w.0 w.1 (side_in v i)
       ∙ ap₂ (λ x y. ((V *ℚ x) +ℚ (At *ℚ y)) +ℚ basic_part (side_in v i) (F *ℚ b i)) (sym (part_is Start i w.0 w.1)) (sym (part_is Slope i w.0 w.1))
 
-  module _ (tally : Tally) (values : List ℤ) (is : IsTally t.rows (p.columns + 1) v.sides tally) (each : (j : ℕ) → j < length tally.unsettled → whole_at values j ≡ basic_part (side_in v (get_or tally.unsettled j 0)) ((whole (pos r.scale) *ℚ whole (pos t.cost_scale)) *ℚ basic_value value128 v basic (get_or tally.unsettled j 0))) where
+  module _ (tally : Tally) (values : List ℤ) (is : IsTally t.rows (p.columns + 1) v.sides tally) (each : (j : ℕ) → j < length tally.unsettled → whole_at values j ≡ basic_at r.scale t.cost_scale v basic (get_or tally.unsettled j 0)) where
     -- what the basic rows add
-    basic_sum : (place : ℕ) → sum_ℚ (length t.rows) (λ i. cell_at t.rows place i *ℚ basic_part (side_in v i) (F *ℚ b i)) ≡ basic_total t.rows place tally.unsettled values
+    basic_sum : (place : ℕ) → sum_ℚ (length t.rows) (λ i. cell_at t.rows place i *ℚ basic_part (side_in v i) (F *ℚ b i)) ≡ listed_total t.rows place tally.unsettled values
     basic_sum place =
         let g = λ (i : ℕ). cell_at t.rows place i *ℚ basic_part (side_in v i) (F *ℚ b i) in
         let list = tally.unsettled in
         unsettled_sum is.before v.sides (length t.rows) g
         (λ i l s. ap (λ z. cell_at t.rows place i *ℚ z) (settled_outside _ (side_in v i) (F *ℚ b i) s) ∙ ring_ℚ (cell_at t.rows place i ∷ []) (v0 ⊠ number (pos 0)) (number (pos 0)) refl)
         ∙ ap (λ xs. sum_over xs g) (sym is.unsettled_is)
-        ∙ sum_ℚ-same (length list) (λ j. g (get_or list j 0)) (λ j. cell_at t.rows place (get_or list j 0) *ℚ whole_at values j) (λ j l. ap (λ z. cell_at t.rows place (get_or list j 0) *ℚ z) (sym (each j l)))
+        ∙ sum_ℚ-same (length list) (λ j. g (get_or list j 0)) (λ j. cell_at t.rows place (get_or list j 0) *ℚ whole_at values j)
+        (λ j l. ap (λ z. cell_at t.rows place (get_or list j 0) *ℚ z) (sym (each j l)))
 
     -- the sum over all rows of the cells at a place times the dual values
     sum_is : (place : ℕ) → place < p.columns + 1 → sum_ℚ (length t.rows) (λ i. cell_at t.rows place i *ℚ (F *ℚ e i)) ≡ sum_at t.rows tally values r place
@@ -91,16 +92,17 @@ module _ (p : Problem Frac128) (t : Table) (h : IsTable p t) (theta : ℚ) (v : 
         let rest = λ (i : ℕ). cell_at t.rows place i *ℚ basic_part (side_in v i) (F *ℚ b i) in
         sum_ℚ-same n (λ i. cell_at t.rows place i *ℚ (F *ℚ e i)) (λ i. ((V *ℚ f i) +ℚ (At *ℚ g i)) +ℚ rest i)
         (λ i m. ap (λ z. cell_at t.rows place i *ℚ z) (row_split i m)
-        ∙ ring_ℚ (cell_at t.rows place i ∷ V ∷ part_at Start t.rows v.sides i ∷ At ∷ part_at Slope t.rows v.sides i ∷ basic_part (side_in v i) (F *ℚ b i) ∷ []) (v0 ⊠ ((v1 ⊠ v2 ⊞ v3 ⊠ v4) ⊞ v5)) ((v1 ⊠ (v0 ⊠ v2) ⊞ v3 ⊠ (v0 ⊠ v4)) ⊞ v0 ⊠ v5) refl)
+        ∙ ring_ℚ (cell_at t.rows place i ∷ V ∷ part_at Start t.rows v.sides i ∷ At ∷ part_at Slope t.rows v.sides i ∷ basic_part (side_in v i) (F *ℚ b i) ∷ [])
+        (v0 ⊠ ((v1 ⊠ v2 ⊞ v3 ⊠ v4) ⊞ v5)) ((v1 ⊠ (v0 ⊠ v2) ⊞ v3 ⊠ (v0 ⊠ v4)) ⊞ v0 ⊠ v5) refl)
         ∙ sum_ℚ-add n (λ i. (V *ℚ f i) +ℚ (At *ℚ g i)) rest
         ∙ ap₂ ◌+ℚ◌ (sum_ℚ-mix n V At f g ∙ ap₂ (λ x y. (V *ℚ x) +ℚ (At *ℚ y)) (sym (is.starts place l)) (sym (is.slopes place l))) (basic_sum place)
 
     -- sums that are 0, and one that comes to what is stated
-    pub summed : (stated : ℚ) → ((j : ℕ) → j < p.columns → sum_at t.rows tally values r j ≡ whole (pos 0)) → stated ≡ sum_at t.rows tally values r p.columns *ℚ inverse (whole (pos (r.scale * t.cost_scale * t.scale)))
+    pub summed : (stated : ℚ) → ((j : ℕ) → j < p.columns → sum_at t.rows tally values r j ≡ whole (pos 0)) → stated ≡ over_scales t r.scale (sum_at t.rows tally values r p.columns)
         → IsSummed p (dual_of (sample value128 p) theta v basic) stated
     summed stated zero made = record {
       balanced = balanced_from p t h e r.scale k.some (λ i. F *ℚ e i) (λ i l. refl) (λ j l. sum_is j (omega (arith, l)) ∙ zero j l);
-      objective = objective_from p t h e r.scale k.some (λ i. F *ℚ e i) (λ i l. refl) stated (made ∙ ap (λ z. z *ℚ inverse (whole (pos (r.scale * t.cost_scale * t.scale)))) (sym (sum_is p.columns (omega arith))));
+      objective = objective_from p t h e r.scale k.some (λ i. F *ℚ e i) (λ i l. refl) stated (made ∙ ap (over_scales t r.scale) (sym (sum_is p.columns (omega arith))));
     }
 
 settled_value : (p : Sample) (theta eta : ℚ) (b c : ℕ → ℚ) (i : ℕ) → theta ≡ eta → (old new : Side) → is_settled old new ≡ true → value_of_side p theta b i old ≡ value_of_side p eta c i new
@@ -117,4 +119,5 @@ pub met : (p : Problem Frac128) (s next : Segment Frac128) → rational (value12
     → All (λ i. high_dual p s i ≡ low_dual p next i) (unsettled_rows s.vertex.sides next.vertex.sides (length p.rows)) → DoMeet p s next
 met p s next e all =
     unsettled_all s.vertex.sides next.vertex.sides (λ i. high_dual p s i ≡ low_dual p next i) (length p.rows) all
-    (λ i l h. settled_value (sample value128 p) (rational (value128 s.hi)) (rational (value128 next.lo)) (basic_value value128 s.vertex s.basic_hi) (basic_value value128 next.vertex next.basic_lo) i e (side_in s.vertex i) (side_in next.vertex i) h)
+    (λ i l h. settled_value (sample value128 p) (rational (value128 s.hi)) (rational (value128 next.lo))
+    (basic_value value128 s.vertex s.basic_hi) (basic_value value128 next.vertex next.basic_lo) i e (side_in s.vertex i) (side_in next.vertex i) h)

@@ -1,7 +1,7 @@
 -- Totals of lines as rows pass from side to side.
 use Rattle.std.specs.Prelude.{◌≡◌, ℕ, zero, suc, ◌+◌, ◌<◌, ℤ, pos, ◌+ℤ◌, ◌*ℤ◌, List, [], ◌∷◌, ◌++◌, length, get_or, slice_get, Bool, true, false, cond, Option, Some, None, All}
 use Rattle.std.specs.Option.{option_map_or}
-use Rattle.std.proofs.Common.{arith, refl, sym, ap, ap₂, subst, ◌∙◌, add-one, below_more}
+use Rattle.std.proofs.Common.{arith, refl, sym, ap, ap₂, subst, ◌∙◌, below_more}
 use Rattle.std.proofs.lemmas.List.{get_or_append_left}
 use Rattle.std.proofs.Math.Seq.{get_or-append_seam}
 use Rattle.exact_algebra.specs.Solver.{number, negated, ◌⊞◌, ◌⊟◌, ◌⊠◌, v0, v1, v2}
@@ -16,8 +16,12 @@ use Rattle.cert_sums.specs.Sums.{cell_at}
 use Rattle.cert_sums.specs.declared.table.WholeRow.{WholeRow}
 use Rattle.cert_sums.specs.declared.slopes.Part.{Part}
 use Rattle.cert_sums.specs.declared.slopes.Part.TheVariants.{Start, Slope}
-use Rattle.cert_sums.specs.Slopes.{side_of, part_of, line_on, part_at, line_total, part_change, is_settled, unsettled_rows, sum_over, basic_part, basic_total}
+use Rattle.cert_sums.specs.Slopes.{side_of, part_of, line_on, part_at, line_total, part_change, is_settled, unsettled_rows, basic_part, listed_total}
 use Rattle.cert_sums.proofs.Lists.{length_pushed}
+
+-- the sum of a number of each row of a list
+abbrev pub sum_over : List ℕ → (ℕ → ℚ) → ℚ
+sum_over rows f = sum_ℚ (length rows) (λ j. f (get_or rows j 0))
 
 -- a term more of a sum that is added to something
 pub added_next : (n : ℕ) (f : ℕ → ℚ) (a s r : ℚ) → s ≡ a +ℚ sum_ℚ n f → r ≡ s +ℚ f n → r ≡ a +ℚ sum_ℚ (n + 1) f
@@ -95,15 +99,6 @@ module _ (old new : List Side) where
       let both = all_more P (unsettled_rows old new n) n (is_settled (side_of old n) (side_of new n)) (h n (omega arith)) all in
       below_more P n (unsettled_all P n both.0 (λ i l. h i (omega arith))) both.1 i (omega arith)
 
-  -- the rows up to the next one
-  pub unsettled_more : (n : ℕ) (made : List ℕ) → made ≡ unsettled_rows old new n → is_settled (side_of old n) (side_of new n) ≡ false → made ++ n ∷ [] ≡ unsettled_rows old new (n + 1)
-  unsettled_more n made e f =
-      ap (λ xs. xs ++ n ∷ []) e ∙ ap (λ t. cond t (unsettled_rows old new n) (unsettled_rows old new n ++ n ∷ [])) (sym f) ∙ ap (unsettled_rows old new) (sym (add-one n))
-
-  pub settled_more : (n : ℕ) (made : List ℕ) → made ≡ unsettled_rows old new n → is_settled (side_of old n) (side_of new n) ≡ true → made ≡ unsettled_rows old new (n + 1)
-  settled_more n made e f =
-      e ∙ ap (λ t. cond t (unsettled_rows old new n) (unsettled_rows old new n ++ n ∷ [])) (sym f) ∙ ap (unsettled_rows old new) (sym (add-one n))
-
   module _ (part : Part) (rows : List WholeRow) (place : ℕ) where
     abbrev change : ℕ → ℚ
     change i = cell_at rows place i *ℚ part_change part rows old new i
@@ -126,10 +121,11 @@ module _ (old new : List Side) where
 
     -- a total that has changed by the unsettled rows
     pub turned_line : (list : List ℕ) (changes : List ℤ) (t r : ℚ) → list ≡ unsettled_rows old new (length rows) → ((j : ℕ) → j < length list → whole_at changes j ≡ part_change part rows old new (get_or list j 0))
-        → t ≡ line_total part rows old place → r ≡ t +ℚ basic_total rows place list changes → r ≡ line_total part rows new place
+        → t ≡ line_total part rows old place → r ≡ t +ℚ listed_total rows place list changes → r ≡ line_total part rows new place
     turned_line list changes t r e each before made =
-        let those : basic_total rows place list changes ≡ sum_over list change
-        = sum_ℚ-same (length list) (λ j. cell_at rows place (get_or list j 0) *ℚ whole_at changes j) (λ j. change (get_or list j 0)) (λ j l. ap (λ z. cell_at rows place (get_or list j 0) *ℚ z) (each j l)) in
+        let those : listed_total rows place list changes ≡ sum_over list change
+        = sum_ℚ-same (length list) (λ j. cell_at rows place (get_or list j 0) *ℚ whole_at changes j) (λ j. change (get_or list j 0))
+        (λ j l. ap (λ z. cell_at rows place (get_or list j 0) *ℚ z) (each j l)) in
         let all : sum_over list change ≡ sum_ℚ (length rows) change = ap (λ xs. sum_over xs change) e ∙ sym (unsettled_sum (length rows) change (λ i l. same_line i)) in
         made ∙ ap₂ ◌+ℚ◌ before (those ∙ all ∙ all_changes)
         ∙ ring_ℚ (line_total part rows old place ∷ line_total part rows new place ∷ []) (v0 ⊞ (number (pos 1) ⊠ v1 ⊞ negated (number (pos 1)) ⊠ v0)) v1 refl
@@ -137,7 +133,8 @@ module _ (old new : List Side) where
 -- without sides there is nothing to sum
 pub no_lines : (part : Part) (rows : List WholeRow) (place : ℕ) → whole (pos 0) ≡ line_total part rows [] place
 no_lines part rows place =
-    sym (sum_ℚ-same (length rows) (λ i. cell_at rows place i *ℚ part_at part rows [] i) (λ i. whole (pos 0)) (λ i l. ap (λ z. cell_at rows place i *ℚ z) (zero_line part (slice_get rows i)) ∙ ring_ℚ (cell_at rows place i ∷ []) (v0 ⊠ number (pos 0)) (number (pos 0)) refl)
+    sym (sum_ℚ-same (length rows) (λ i. cell_at rows place i *ℚ part_at part rows [] i) (λ i. whole (pos 0))
+    (λ i l. ap (λ z. cell_at rows place i *ℚ z) (zero_line part (slice_get rows i)) ∙ ring_ℚ (cell_at rows place i ∷ []) (v0 ⊠ number (pos 0)) (number (pos 0)) refl)
     ∙ sum_ℚ-zero (length rows))
   where
     zero_line : (part : Part) (o : Option WholeRow) → option_map_or (λ w. whole (part_of part (line_on Basic w))) o (whole (pos 0)) ≡ whole (pos 0)

@@ -1,16 +1,21 @@
 -- Inner. Dual values of the rows outside a basis as lines in the quantile, and sums over all rows of cells times these.
-use Rattle.std.specs.Prelude.{◌≡◌, ℕ, zero, suc, ℤ, ◌<◌, ◌+◌, ◌*◌, ◌≤◌, ◌^◌, List, [], ◌∷◌, ◌++◌, length, get_or, slice_get, pos, unsigned_abs, Bool, true, false, cond}
+use Rattle.std.specs.Prelude.{◌≡◌, ℕ, zero, suc, ℤ, ◌<◌, ◌+◌, ◌*◌, ◌≤◌, ◌^◌, List, [], ◌∷◌, ◌++◌, length, get_or, slice_get}
+use Rattle.std.specs.Prelude.{pos, unsigned_abs, Bool, true, false, cond}
 use Rattle.std.specs.Option.{option_map_or}
-use Rattle.exact_algebra.specs.Rational.{ℚ, ◌+ℚ◌, ◌-ℚ◌, ◌*ℚ◌, whole}
+use Rattle.exact_algebra.specs.Fraction.{rational}
+use Rattle.exact_algebra.specs.Rational.{ℚ, ◌+ℚ◌, ◌-ℚ◌, ◌*ℚ◌, whole, inverse}
 use Rattle.exact_algebra.specs.RationalSums.{sum_ℚ}
 use Rattle.frac_core.specs.declared.frac128.Frac128.{Frac128}
 use Rattle.loss_model.specs.declared.problem.Problem.{Problem}
 use Rattle.loss_model.specs.declared.process.Segment.{Segment}
 use Rattle.loss_model.specs.declared.vertex.Side.{Side}
 use Rattle.loss_model.specs.declared.vertex.Side.TheVariants.{Up, Down, Basic}
+use Rattle.loss_model.specs.declared.vertex.Vertex.{Vertex}
 use Rattle.loss_model.specs.Problem.{sample}
+use Rattle.loss_model.specs.Vertex.{basic_value}
 use Rattle.loss_model.specs.Dual.{dual_objective}
 use Rattle.cert_sums.specs.Numbers.{value128, whole_at}
+use Rattle.cert_sums.specs.Duals.{side_in, dual_of}
 use Rattle.cert_sums.specs.Sums.{cell_at, IsBalanced}
 use Rattle.cert_sums.specs.Ends.{IsBegun}
 use Rattle.cert_sums.specs.declared.table.Line.{Line}
@@ -67,10 +72,6 @@ abbrev pub unsettled_rows : List Side → List Side → ℕ → List ℕ
 unsettled_rows old new zero = []
 unsettled_rows old new (suc n) = cond (is_settled (side_of old n) (side_of new n)) (unsettled_rows old new n) (unsettled_rows old new n ++ n ∷ [])
 
--- the sum of a number of each row of a list
-abbrev pub sum_over : List ℕ → (ℕ → ℚ) → ℚ
-sum_over rows f = sum_ℚ (length rows) (λ j. f (get_or rows j 0))
-
 -- both totals, and rows among which all basic ones are
 pub record IsTally (rows : List WholeRow) (width : ℕ) (sides : List Side) (t : Tally) : Type 0 where
   pub starts : AreTotals Start rows width sides t.starts
@@ -84,14 +85,26 @@ basic_part Up b = whole (pos 0)
 basic_part Down b = whole (pos 0)
 basic_part Basic b = b
 
--- the sum of the cells at a place of the rows of a list times the values
-abbrev pub basic_total : List WholeRow → ℕ → List ℕ → List ℤ → ℚ
-basic_total rows place list values = sum_ℚ (length list) (λ j. cell_at rows place (get_or list j 0) *ℚ whole_at values j)
+-- the basic value of a row at an end, times both scales, or 0 for a row outside the basis
+abbrev pub basic_at : ℕ → ℕ → Vertex Frac128 → List Frac128 → ℕ → ℚ
+basic_at scale cost v basic i = basic_part (side_in v i) ((whole (pos scale) *ℚ whole (pos cost)) *ℚ basic_value value128 v basic i)
+
+-- the dual value of row i at an end
+abbrev pub end_dual : Problem Frac128 → Frac128 → Vertex Frac128 → List Frac128 → ℕ → ℚ
+end_dual p theta v basic i = dual_of (sample value128 p) (rational (value128 theta)) v basic i
+
+-- a sum of responses over what these and the dual values are multiplied by
+abbrev pub over_scales : Table → ℕ → ℚ → ℚ
+over_scales t scale x = x *ℚ inverse (whole (pos (scale * t.cost_scale * t.scale)))
+
+-- the sum of the cells at a place of the rows of a list times the values beside these
+abbrev pub listed_total : List WholeRow → ℕ → List ℕ → List ℤ → ℚ
+listed_total rows place list values = sum_ℚ (length list) (λ j. cell_at rows place (get_or list j 0) *ℚ whole_at values j)
 
 -- what a sum comes to at a quantile: its starts times the scale, its slopes times the quantile, and the basic rows
 abbrev pub sum_at : List WholeRow → Tally → List ℤ → Reach → ℕ → ℚ
 sum_at rows t values r place =
-    ((whole (pos r.scale) *ℚ whole_at t.starts place) +ℚ (whole r.at *ℚ whole_at t.slopes place)) +ℚ basic_total rows place t.unsettled values
+    ((whole (pos r.scale) *ℚ whole_at t.starts place) +ℚ (whole r.at *ℚ whole_at t.slopes place)) +ℚ listed_total rows place t.unsettled values
 
 -- the dual values are orthogonal to the columns, and come to what is stated
 pub record IsSummed (p : Problem Frac128) (e : ℕ → ℚ) (stated : ℚ) : Type 0 where

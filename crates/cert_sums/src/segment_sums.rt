@@ -1,13 +1,10 @@
 //! What the sums of a tally come to at an end of a segment, and rows that have the same dual value at two ends.
-ghost use Rattle.std.specs.Prelude.{◌≡◌, ◌<◌, ◌+◌, ◌*◌, ℕ, pos, All, IfSome, IsTrue, length, get_or};
+ghost use Rattle.std.specs.Prelude.{◌≡◌, ◌<◌, ◌+◌, ℕ, pos, All, IfSome, IsTrue, length, get_or};
 ghost use Rattle.exact_algebra.specs.Fraction.{rational};
-ghost use Rattle.exact_algebra.specs.Rational.{◌*ℚ◌, whole, inverse};
-ghost use Rattle.loss_model.specs.Problem.{sample};
-ghost use Rattle.loss_model.specs.Vertex.{basic_value};
+ghost use Rattle.exact_algebra.specs.Rational.{◌*ℚ◌, whole};
 ghost use Rattle.cert_sums.specs.Numbers.{value128, whole_at};
 ghost use Rattle.cert_sums.specs.Tables.{IsTable};
-ghost use Rattle.cert_sums.specs.Duals.{side_in, dual_of};
-ghost use Rattle.cert_sums.specs.Slopes.{basic_part, sum_at, IsTally, IsReach, IsSummed};
+ghost use Rattle.cert_sums.specs.Slopes.{basic_at, end_dual, over_scales, sum_at, IsTally, IsReach, IsSummed};
 
 use crate::duals::{End, basic_dual, row_dual};
 use crate::reach::Reach;
@@ -31,8 +28,8 @@ struct View<'a> {
 }
 
 // The dual value of a basic row times both scales, or 0 for a row outside the basis.
-fn basic_part(end: End<'_>, row: usize, scale: u128, cost_scale: u128) -> Option<i128>
-    ensures { IfSome result (λ e. whole e ≡ basic_part (side_in end.entry.vertex.now row) ((whole (pos scale) *ℚ whole (pos cost_scale)) *ℚ basic_value value128 end.entry.vertex.now end.entry.basic.now row)) }
+fn basic_at(end: End<'_>, row: usize, scale: u128, cost_scale: u128) -> Option<i128>
+    ensures { IfSome result (λ e. whole e ≡ basic_at scale cost_scale end.entry.vertex.now end.entry.basic.now row) }
 {
     match side(end.vertex, row) {
         Side::Up => Some(0),
@@ -49,11 +46,11 @@ fn basic_values(
     scale: u128,
     cost_scale: u128,
 ) -> Option<List<i128>>
-    ensures { IfSome result (λ made. (j : ℕ) → j < length list.now → whole_at made j ≡ basic_part (side_in end.entry.vertex.now (get_or list.now j 0)) ((whole (pos scale) *ℚ whole (pos cost_scale)) *ℚ basic_value value128 end.entry.vertex.now end.entry.basic.now (get_or list.now j 0))) }
+    ensures { IfSome result (λ made. (j : ℕ) → j < length list.now → whole_at made j ≡ basic_at scale cost_scale end.entry.vertex.now end.entry.basic.now (get_or list.now j 0)) }
 {
     let mut made = List::new(alloc);
     for j in 0..list.len() {
-        let value = basic_part(end, list[j], scale, cost_scale)?;
+        let value = basic_at(end, list[j], scale, cost_scale)?;
         if made.push(value).is_err() {
             return None;
         }
@@ -103,7 +100,7 @@ fn all_vanish(view: View<'_>, columns: u32) -> bool
 
 // The sum of the responses, over what it is multiplied by.
 fn objective(view: View<'_>, table: &Table, columns: u32) -> Option<Frac128>
-    ensures { IfSome result (λ r. rational (value128 r) ≡ sum_at view.entry.rows.now view.entry.tally.now view.entry.values.now view.entry.reach.now columns *ℚ inverse (whole (pos (view.entry.reach.now.scale * table.now.cost_scale * table.now.scale)))) }
+    ensures { IfSome result (λ r. rational (value128 r) ≡ over_scales table.now view.entry.reach.now.scale (sum_at view.entry.rows.now view.entry.tally.now view.entry.values.now view.entry.reach.now columns)) }
 {
     let total = sum_at(view, columns as usize)?;
     let found = over_scales(total, view.reach.scale, table)?;
@@ -112,7 +109,7 @@ fn objective(view: View<'_>, table: &Table, columns: u32) -> Option<Frac128>
 
 // Whether that is a number.
 fn comes_to(view: View<'_>, table: &Table, columns: u32, stated: Frac128) -> bool
-    ensures { IsTrue result → rational (value128 stated) ≡ sum_at view.entry.rows.now view.entry.tally.now view.entry.values.now view.entry.reach.now columns *ℚ inverse (whole (pos (view.entry.reach.now.scale * table.now.cost_scale * table.now.scale))) }
+    ensures { IsTrue result → rational (value128 stated) ≡ over_scales table.now view.entry.reach.now.scale (sum_at view.entry.rows.now view.entry.tally.now view.entry.values.now view.entry.reach.now columns) }
 {
     match objective(view, table, columns) {
         Some(found) => stated.compare(found).is_eq(),
@@ -133,7 +130,7 @@ pub(crate) fn is_summed(
     requires table { IsTable problem.now table.now }
     requires tally { IsTally table.now.rows (problem.now.columns + 1) end.vertex.now.sides tally.now }
     requires reach { IsReach table.now.cost_limit (rational (value128 end.theta)) reach.now }
-    ensures { IsTrue result → IsSummed problem.now (dual_of (sample value128 problem.now) (rational (value128 end.entry.theta)) end.entry.vertex.now end.entry.basic.now) (rational (value128 stated)) }
+    ensures { IsTrue result → IsSummed problem.now (end_dual problem.now end.entry.theta end.entry.vertex.now end.entry.basic.now) (rational (value128 stated)) }
 {
     let list = tally.unsettled.as_slice();
     match basic_values(alloc, list, end, reach.scale, table.cost_scale) {
@@ -165,7 +162,7 @@ fn dual_at(
 ) -> Option<i128>
     requires table { IsTable problem.now table.now }
     requires reach { IsReach table.now.cost_limit (rational (value128 end.theta)) reach.now }
-    ensures { IfSome result (λ e. whole e ≡ (whole (pos reach.now.scale) *ℚ whole (pos table.now.cost_scale)) *ℚ dual_of (sample value128 problem.now) (rational (value128 end.entry.theta)) end.entry.vertex.now end.entry.basic.now row) }
+    ensures { IfSome result (λ e. whole e ≡ (whole (pos reach.now.scale) *ℚ whole (pos table.now.cost_scale)) *ℚ end_dual problem.now end.entry.theta end.entry.vertex.now end.entry.basic.now row) }
 {
     let rows = table.rows.as_slice();
     if row >= rows.len() {
@@ -187,7 +184,7 @@ fn shares(
     requires table { IsTable problem.now table.now }
     requires left { IsReach table.now.cost_limit (rational (value128 left.theta)) reach.now }
     requires right { IsReach table.now.cost_limit (rational (value128 right.theta)) reach.now }
-    ensures { IsTrue result → dual_of (sample value128 problem.now) (rational (value128 left.entry.theta)) left.entry.vertex.now left.entry.basic.now row ≡ dual_of (sample value128 problem.now) (rational (value128 right.entry.theta)) right.entry.vertex.now right.entry.basic.now row }
+    ensures { IsTrue result → end_dual problem.now left.entry.theta left.entry.vertex.now left.entry.basic.now row ≡ end_dual problem.now right.entry.theta right.entry.vertex.now right.entry.basic.now row }
 {
     match dual_at(problem, table, row, left, reach) {
         Some(before) => match dual_at(problem, table, row, right, reach) {
@@ -215,7 +212,7 @@ pub(crate) fn all_share(
     requires table { IsTable problem.now table.now }
     requires left { IsReach table.now.cost_limit (rational (value128 left.theta)) reach.now }
     requires right { IsReach table.now.cost_limit (rational (value128 right.theta)) reach.now }
-    ensures { IsTrue result → All (λ i. dual_of (sample value128 problem.now) (rational (value128 left.entry.theta)) left.entry.vertex.now left.entry.basic.now i ≡ dual_of (sample value128 problem.now) (rational (value128 right.entry.theta)) right.entry.vertex.now right.entry.basic.now i) list.now }
+    ensures { IsTrue result → All (λ i. end_dual problem.now left.entry.theta left.entry.vertex.now left.entry.basic.now i ≡ end_dual problem.now right.entry.theta right.entry.vertex.now right.entry.basic.now i) list.now }
 {
     for j in 0..list.len() {
         if !shares(problem, table, list[j], left, right, reach) {

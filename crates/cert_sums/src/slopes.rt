@@ -7,7 +7,7 @@ ghost use Rattle.std.specs.Prelude.{◌≡◌, ◌<◌, ◌*ℤ◌, ℕ, IfSome,
 ghost use Rattle.exact_algebra.specs.Rational.{◌+ℚ◌, ◌*ℚ◌, whole};
 ghost use Rattle.cert_sums.specs.Numbers.{whole_at};
 ghost use Rattle.cert_sums.specs.Sums.{cell_at};
-ghost use Rattle.cert_sums.specs.Slopes.{side_of, line_on, part_of, part_at, part_change, AreTotals, is_settled, unsettled_rows, basic_total, IsTally};
+ghost use Rattle.cert_sums.specs.Slopes.{side_of, line_on, part_of, part_at, part_change, AreTotals, is_settled, unsettled_rows, listed_total, IsTally};
 ghost use Rattle.cert_sums.specs.declared.slopes.Part.TheVariants.{Start, Slope};
 
 use crate::table::{Line, WholeRow};
@@ -177,7 +177,7 @@ pub(crate) fn with_rows(
     place: usize,
     first: i128,
 ) -> Option<i128>
-    ensures { IfSome result (λ r. whole r ≡ whole first +ℚ basic_total rows.now place list.now values.now) }
+    ensures { IfSome result (λ r. whole r ≡ whole first +ℚ listed_total rows.now place list.now values.now) }
 {
     let mut sum = first;
     for j in 0..list.len() {

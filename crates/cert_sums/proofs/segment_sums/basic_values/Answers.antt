@@ -1,10 +1,7 @@
 -- A value more.
-use Rattle.std.proofs.Common.{rules, ◌≡◌, ℕ, ◌++◌, ◌∷◌, [], pos, get_or}
-use Rattle.exact_algebra.specs.Rational.{◌*ℚ◌, whole}
-use Rattle.loss_model.specs.Vertex.{basic_value}
-use Rattle.cert_sums.specs.Numbers.{value128}
-use Rattle.cert_sums.specs.Duals.{side_in}
-use Rattle.cert_sums.specs.Slopes.{basic_part}
+use Rattle.std.proofs.Common.{rules, ◌≡◌, ℕ, ◌++◌, ◌∷◌, [], get_or}
+use Rattle.exact_algebra.specs.Rational.{whole}
+use Rattle.cert_sums.specs.Slopes.{basic_at}
 use Rattle.cert_sums.proofs.Lists.{length_pushed, whole_pushed}
 use Rattle.cert_sums.proofs.segment_sums.basic_values.Goals as goal
 
@@ -14,7 +11,7 @@ loop-j-preserved c =
     let made = c.loop-j.made in
     let e = c.in_ok-value.value in
     let j = c.loop-j.j in
-    let f = λ (j : ℕ). let row = get_or c.args.list.now j 0 in basic_part (side_in v row) ((whole (pos c.args.scale) *ℚ whole (pos c.args.cost_scale)) *ℚ basic_value value128 v c.args.end.basic.now row) in
+    let f = λ (j : ℕ). basic_at c.args.scale c.args.cost_scale v c.args.end.basic.now (get_or c.args.list.now j 0) in
     let grown : c.push.new.self ≡ made ++ e ∷ [] = search rules in
     let is : whole e ≡ f j = search rules in
     rw (grown) (record {

@@ -3,7 +3,7 @@ use Rattle.std.proofs.Common.{rules, ◌≡◌, ◌+ℤ◌, ◌*ℤ◌, pos, to_
 use mir.Syntax.{w128}
 use Rattle.exact_algebra.specs.Rational.{◌+ℚ◌, whole}
 use Rattle.cert_sums.specs.Numbers.{whole_at}
-use Rattle.cert_sums.specs.Slopes.{basic_total}
+use Rattle.cert_sums.specs.Slopes.{listed_total}
 use Rattle.cert_sums.proofs.Unsettled.{line_sum}
 use Rattle.cert_sums.proofs.segment_sums.sum_at.Goals as goal
 
@@ -16,7 +16,7 @@ returns c =
     let a = c.number_at.result in
     let b = c.number_at-2.result in
     let l = c.in_ok-lines.lines in
-    let basic = basic_total view.rows.now place t.unsettled view.values.now in
+    let basic = listed_total view.rows.now place t.unsettled view.values.now in
     let start : whole a ≡ whole_at t.starts place = rw (c.as_slice.ensures) at c.number_at.ensures in
     let slope : whole b ≡ whole_at t.slopes place = rw (c.as_slice-2.ensures) at c.number_at-2.ensures in
     let first : c.in_ok-first.first ≡ a *ℤ pos r.scale = search rules in

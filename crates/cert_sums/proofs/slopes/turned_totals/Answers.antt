@@ -2,7 +2,7 @@
 use Rattle.std.proofs.Common.{rules, ◌≡◌, ◌++◌, ◌∷◌, [], to_z, of_z, ◌∙◌}
 use mir.Syntax.{w128}
 use Rattle.exact_algebra.specs.Rational.{◌+ℚ◌, whole}
-use Rattle.cert_sums.specs.Slopes.{line_total, basic_total}
+use Rattle.cert_sums.specs.Slopes.{line_total, listed_total}
 use Rattle.cert_sums.proofs.Lists.{length_pushed, whole_pushed}
 use Rattle.cert_sums.proofs.Unsettled.{turned_line}
 use Rattle.cert_sums.proofs.slopes.turned_totals.Goals as goal
@@ -21,7 +21,7 @@ loop-k-preserved c =
     let grown : c.push.new.self ≡ made ++ total ∷ [] = search rules in
     let plain : to_z w128 (of_z w128 t) ≡ t = search rules in
     let changes = c.in_ok-changes.changes in
-    let turned : whole total ≡ whole t +ℚ basic_total rows k turn.unsettled.now changes = rw (plain, c.as_slice.ensures) at (c.in_ok-total.ensures {u = tt}) in
+    let turned : whole total ≡ whole t +ℚ listed_total rows k turn.unsettled.now changes = rw (plain, c.as_slice.ensures) at (c.in_ok-total.ensures {u = tt}) in
     let before : whole t ≡ line_total part rows old k = c.number_at.ensures ∙ c.requires.totals k c.loop-k-test.true in
     rw (grown) (record {
       size = length_pushed made total k c.loop-k.invariant.size;
