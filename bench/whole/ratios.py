@@ -17,6 +17,7 @@ from pathlib import Path
 HERE = Path(__file__).resolve().parent
 WHOLE = ["--formula", "y ~ .", "--lo", "0", "--hi", "1"]
 MEDIAN = ["--formula", "y ~ .", "--lo", "1/2", "--hi", "1/2", "--crit", "2.7055", "--rank-at", "1/2"]
+QUARTILES = ["--formula", "y ~ .", "--lo", "1/4", "--hi", "3/4", "--crit", "2.7055", "--rank-at", "1/4,1/2,3/4"]
 
 
 def spent(words, table, out=None, turns=5):
@@ -75,6 +76,11 @@ def main(program):
         tell("a run of segments as one", spent([program, "check"], text, turns=3), wrote, 1.4)
         table = generated(room, 1000, 4)
         whole = spent([program, "process", *WHOLE], table, turns=20)
+        spent([program, "certify", *WHOLE], table, text, turns=1)
+        tell("a run of segments by slopes", spent([program, "check"], text, turns=20), whole, 2)
+        ranked = spent([program, "process", *QUARTILES], table)
+        spent([program, "certify", *QUARTILES], table, text, turns=1)
+        tell("rank intervals by whole numbers", spent([program, "check"], text), ranked, 3)
         tell("Wilcoxon scores reduced once", spent([program, "ranks", "--formula", "y ~ ."], table, turns=20), whole, 2.45)
         table = room / "levels.csv"
         table.write_text("y,x\n" + "".join(f"{(i * i * 31 + i * 7) % 997},level{i % 120}\n" for i in range(360)), encoding="utf-8")
