@@ -58,7 +58,7 @@ fn multipliers_of(alloc: Global, coef: &[Frac128]) -> Option<Multipliers>
     Some(Multipliers { scale, numbers })
 }
 
-// Whether a residual times a positive number lies on a side: one test for all sides, since which it is no processor guesses.
+// Whether a residual times a positive number lies on a side. No branch is on the side, which is as good as random.
 #[inline]
 fn is_on(side: Side, number: i128) -> bool
     ensures { IsTrue result → IsWholeOn side number }
