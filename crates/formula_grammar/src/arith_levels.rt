@@ -1,3 +1,4 @@
+//! The operators of an arithmetic that wait for their right operand, sum by sum.
 ghost use Rattle.std.specs.Prelude.{◌≡◌, ◌∷◌, [], length, MatchOption, OnOk, ◌==◌};
 
 use crate::token::Sign;

@@ -1,3 +1,4 @@
+//! Why tokens are no formula.
 ghost use Rattle.std.specs.Prelude.{◌≡◌};
 ghost use Rattle.formula_grammar.specs.declared.fault.ReadFault.TheVariants.{OutOfMemory};
 

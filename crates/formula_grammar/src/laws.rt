@@ -1,3 +1,4 @@
+//! Laws of the grammar: a formula has one reading, tokens are a formula or have one first fault, and limits are kept.
 ghost use Rattle.formula_grammar.specs.Grammar.{OneFormula};
 ghost use Rattle.formula_grammar.specs.Faults.{FormulaOrFault, FormulasKeepLimits, NoFormulaHasFaults, OneFault};
 

@@ -1,3 +1,4 @@
+//! The operators of a formula that wait for their right operand, sum by sum.
 ghost use Rattle.std.specs.Prelude.{◌≡◌, ◌∷◌, [], length, MatchOption, OnOk, ◌==◌};
 
 use frac_core::OutOfMemory;

@@ -1,3 +1,4 @@
+//! Tokens from the bytes of a text.
 ghost use Rattle.std.specs.Prelude.{◌≡◌, ◌<◌, ◌≤◌, ◌+◌, ◌^◌, ◌∷◌, codes, length, drop, position, slice_index, IfOk, IfSome};
 ghost use Rattle.std.specs.List.{prefix_len};
 ghost use Rattle.formula_grammar.specs.Faults.{EndText};

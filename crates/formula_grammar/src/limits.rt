@@ -1,3 +1,4 @@
+//! The limits that tokens keep, whatever the grammar says of them: open parentheses, exponents and the widths of numbers.
 ghost use Rattle.std.specs.Prelude.{◌≡◌, ◌≤◌, IfNone};
 ghost use Rattle.formula_grammar.specs.Faults.{depth_behind, is_power, limit_fault, number_fault};
 

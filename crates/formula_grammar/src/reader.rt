@@ -1,3 +1,4 @@
+//! Formulas, from tokens to code: a machine whose phase tells which tokens may follow.
 ghost use Rattle.std.specs.Prelude.{◌≡◌, ◌++◌, ◌∷◌, [], true, false, None, IfErr, IfOk, OnOk};
 ghost use Rattle.formula_grammar.specs.ArithMachine.{arith_fresh, arith_part};
 ghost use Rattle.formula_grammar.specs.Codes.{signed_step};

@@ -1,3 +1,4 @@
+//! What a formula is read as: steps in postfix order, the intercept, the smooths and the offsets.
 use crate::token::{Numeral, Span, Token};
 use frac_core::List;
 

@@ -1,3 +1,4 @@
+//! Tokens, and where they stand.
 ghost use Rattle.std.specs.Prelude.{◌≡◌, pos};
 ghost use Rattle.exact_algebra.specs.Rational.{whole};
 ghost use Rattle.formula_grammar.specs.Numerals.{exact, fraction_of, fraction_or_zero, is_wide, one_fraction, power_of, value_of, value_or_zero, zero_fraction};

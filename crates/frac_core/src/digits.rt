@@ -1,3 +1,4 @@
+//! Digits as they are taken in, with the zeros at their end counted apart.
 ghost use Rattle.std.specs.Prelude.{◌≡◌, ◌<◌, ◌≤◌, ◌+◌, ◌*◌, ◌^◌, MatchOption};
 ghost use Rattle.std.specs.Option.{ForSome};
 

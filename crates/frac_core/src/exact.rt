@@ -1,3 +1,4 @@
+//! The trait of exact fractions of a bounded size, and the operations that these may refuse.
 ghost use Rattle.std.specs.Prelude.{◌≡◌, ◌≢◌, ◌↔◌, ◌-◌, ◌^◌, ◌≤◌, ◌⊎◌, pos, ℕ, ℤ, unsigned_abs, IfOk, IfErr, IsErr, IfSome, IsNone, IsTrue};
 ghost use Rattle.exact_algebra.specs.Fraction.{Fraction, rational};
 ghost use Rattle.exact_algebra.specs.Rational.{◌+ℚ◌, ◌-ℚ◌, ◌*ℚ◌, neg_ℚ, inverse, whole};

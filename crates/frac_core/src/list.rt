@@ -1,3 +1,4 @@
+//! Lists that contracts see as their items.
 ghost use Rattle.std.specs.Prelude.{◌≡◌, ◌<◌, ◌++◌, ◌∷◌, [], length, slice_index_or, slice_set, IfErr, IfOk, OnErr, OnOk};
 
 use crate::OutOfMemory;

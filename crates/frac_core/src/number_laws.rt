@@ -1,3 +1,4 @@
+//! Laws of number text.
 ghost use Rattle.frac_core.specs.NumberLaws.{AreTooWide, HaveSignificand, ReadsBack};
 
 /// Laws of number text: `read_number` reads what `number_text` writes; digits write `m * 10^k` with

@@ -1,3 +1,4 @@
+//! Number text, from bytes to a fraction.
 ghost use Rattle.std.specs.Prelude.{◌≡◌, ◌<◌, ◌≤◌, ◌+◌, ◌^◌, ◌++◌, true, Ok, Err, Some, IfSome, MatchOption, MatchResult, IfOk, length, ℕ, pos, neg_ℤ, if◌then◌else◌};
 ghost use Rattle.std.specs.Str.{all_ascii_digits};
 ghost use Rattle.std.specs.Str.Parse.{digits_value, starts_with_minus, without_leading_sign};

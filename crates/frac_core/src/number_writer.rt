@@ -1,3 +1,4 @@
+//! Number text, from a fraction to bytes.
 ghost use Rattle.std.specs.Prelude.{◌≡◌, ◌++◌, ◌∷◌, IfOk, decimal, string_bytes};
 ghost use Rattle.std.specs.Fmt.{signed_decimal};
 ghost use Rattle.frac_core.specs.NumberText.{number_text_of};

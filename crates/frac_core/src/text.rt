@@ -1,3 +1,4 @@
+//! Texts that contracts see as their bytes.
 ghost use Rattle.std.specs.Prelude.{◌≡◌, IfOk};
 
 use crate::OutOfMemory;
