@@ -1,6 +1,6 @@
 //! Conditions 6 to 8, by sums of whole numbers first: that these are `true` says that the tests are, and `false` says
-//! nothing. A run of segments is tested as one, with two lists of dual values a segment; where that isn't enough, each
-//! condition is tested apart, segment by segment.
+//! nothing. A run of segments is tested as one, by sums that go on from each segment to the next; where that isn't enough,
+//! each condition is tested apart, segment by segment.
 
 ghost use Rattle.std.specs.Prelude.{◌≤◌, ◌<◌, ◌+◌, ◌^◌, ℕ, IsTrue, length};
 ghost use Rattle.loss_model.specs.Problem.{sample};
