@@ -1,6 +1,7 @@
 pub mod Paths
 pub mod Reading
 pub mod Kept
+pub mod Keys
 pub mod Contents
 pub mod Chains
 pub mod Certificates

@@ -1,6 +1,6 @@
 //! Rank intervals and their ends.
 
-ghost use Rattle.std.specs.Prelude.{◌≡◌, ◌≢◌, ◌<◌, ◌^◌, Bool, Ok, Err, true, false, map, option_and_then, IfOk, IfErr};
+ghost use Rattle.std.specs.Prelude.{◌≡◌, ◌≢◌, ◌<◌, ◌^◌, ℕ, Bool, List, Ok, Err, true, false, map, option_and_then, IfOk, IfErr};
 ghost use Rattle.exact_algebra.specs.Rational.{ℚ};
 ghost use Rattle.loss_model.specs.declared.interval.Bound.TheVariants.{Finite, Infinite};
 ghost use Rattle.loss_model.specs.declared.interval.Beyond.TheVariants.{Outside, Ray};
@@ -10,14 +10,15 @@ ghost use Rattle.serde_json.specs.View.{view, members_view};
 ghost use Rattle.cert_text.specs.Contents.{exact, exact_end, exact_interval};
 ghost use Rattle.cert_text.specs.Kept.{IsKeptEnd, IsKeptInterval, is_finite, is_outside};
 ghost use Rattle.cert_text.specs.Certificates.{end_kind, finite_members, infinite_members, end_members, end_of, interval_members, projected_members, interval};
+ghost use Rattle.cert_text.specs.Keys.{finite_end, infinite_end, interval_with};
 ghost use Rattle.cert_text.specs.Trees.{end_tree, interval_tree};
 
 use crate::fault::CertFault;
 use crate::keys::{field, members, no_more_keys};
 use crate::parts::{FromJson, Name, ToJson, put};
 use crate::path::wrong_kind;
-use crate::vertex::{Signs, vertex};
-use frac_core::{Frac128, List};
+use crate::vertex::{Sides, Signs, vertex};
+use frac_core::{Frac128, List, OutOfMemory};
 use loss_model::{Beyond, Bound, End, IntervalProof};
 use serde_json::{Map, Value};
 use std::alloc::{AllocError, Global};
@@ -58,8 +59,87 @@ struct Solution {
     inside: List<Frac128>,
 }
 
+// The keys of a finite end behind its kind.
+#[derive(Drop)]
+struct FiniteKeys {
+    outside: List<Frac128>,
+    sides: Sides,
+    value: Frac128,
+}
+
 #[tactic(auto, unfolding(crate::specs::Certificates::finite_members))]
-fn finite_end(
+fn finite_keys(
+    alloc: Global,
+    rest: &mut Iter<'_, String, Value>,
+) -> Result<FiniteKeys, CertFault>
+    ensures ok { IfOk result (λ k. (coef inside : List ℚ) → finite_members coef inside (members_view rest.old) ≡ Ok (finite_end coef inside k)) }
+    ensures err { IfErr result (λ e. e ≢ CertFault.OutOfMemory → (coef inside : List ℚ) → finite_members coef inside (members_view rest.old) ≡ Err e) }
+{
+    let outside = field(alloc, "outside", rest)?;
+    let sides = field(alloc, "sides", rest)?;
+    let value = field(alloc, "value", rest)?;
+    no_more_keys(alloc, rest)?;
+    Ok(FiniteKeys {
+        outside,
+        sides,
+        value,
+    })
+}
+
+impl FiniteKeys {
+    // The end with this solution.
+    fn end(self, alloc: Global, solution: Solution) -> Result<End<Frac128>, OutOfMemory>
+        ensures end { IfOk result (λ e. exact_end e ≡ finite_end (map exact solution.coef) (map exact solution.inside) self) }
+        ensures kept { IfOk result IsKeptEnd }
+    {
+        let vertex = vertex(alloc, self.sides, solution.coef)?;
+        Ok(End {
+            bound: Bound::Finite(self.value),
+            vertex,
+            inside: solution.inside,
+            beyond: Beyond::Outside(self.outside),
+        })
+    }
+}
+
+// The keys of an infinite end behind its kind.
+#[derive(Drop)]
+struct InfiniteKeys {
+    ray: List<Frac128>,
+    sides: Sides,
+}
+
+#[tactic(auto, unfolding(crate::specs::Certificates::infinite_members))]
+fn infinite_keys(
+    alloc: Global,
+    rest: &mut Iter<'_, String, Value>,
+) -> Result<InfiniteKeys, CertFault>
+    ensures ok { IfOk result (λ k. (coef inside : List ℚ) → infinite_members coef inside (members_view rest.old) ≡ Ok (infinite_end coef inside k)) }
+    ensures err { IfErr result (λ e. e ≢ CertFault.OutOfMemory → (coef inside : List ℚ) → infinite_members coef inside (members_view rest.old) ≡ Err e) }
+{
+    let ray = field(alloc, "ray", rest)?;
+    let sides = field(alloc, "sides", rest)?;
+    no_more_keys(alloc, rest)?;
+    Ok(InfiniteKeys { ray, sides })
+}
+
+impl InfiniteKeys {
+    // The end with this solution.
+    fn end(self, alloc: Global, solution: Solution) -> Result<End<Frac128>, OutOfMemory>
+        ensures end { IfOk result (λ e. exact_end e ≡ infinite_end (map exact solution.coef) (map exact solution.inside) self) }
+        ensures kept { IfOk result IsKeptEnd }
+    {
+        let vertex = vertex(alloc, self.sides, solution.coef)?;
+        Ok(End {
+            bound: Bound::Infinite,
+            vertex,
+            inside: solution.inside,
+            beyond: Beyond::Ray(self.ray),
+        })
+    }
+}
+
+fn finite_of(
     alloc: Global,
     solution: Solution,
     rest: &mut Iter<'_, String, Value>,
@@ -70,20 +150,16 @@ fn finite_end(
     ensures err { let coef = map exact solution.coef in let inside = map exact solution.inside in
         IfErr result (λ e. e ≢ CertFault.OutOfMemory → finite_members coef inside (members_view rest.old) ≡ Err e) }
 {
-    let outside = field(alloc, "outside", rest)?;
-    let sides = field(alloc, "sides", rest)?;
-    let value = field(alloc, "value", rest)?;
-    no_more_keys(alloc, rest)?;
-    Ok(End {
-        bound: Bound::Finite(value),
-        vertex: vertex(alloc, sides, solution.coef)?,
-        inside: solution.inside,
-        beyond: Beyond::Outside(outside),
-    })
+    match finite_keys(alloc, rest) {
+        Ok(keys) => Ok(keys.end(alloc, solution)?),
+        Err(fault) => {
+            drop(solution);
+            Err(fault)
+        }
+    }
 }
 
-#[tactic(auto, unfolding(crate::specs::Certificates::infinite_members))]
-fn infinite_end(
+fn infinite_of(
     alloc: Global,
     solution: Solution,
     rest: &mut Iter<'_, String, Value>,
@@ -94,15 +170,13 @@ fn infinite_end(
     ensures err { let coef = map exact solution.coef in let inside = map exact solution.inside in
         IfErr result (λ e. e ≢ CertFault.OutOfMemory → infinite_members coef inside (members_view rest.old) ≡ Err e) }
 {
-    let ray = field(alloc, "ray", rest)?;
-    let sides = field(alloc, "sides", rest)?;
-    no_more_keys(alloc, rest)?;
-    Ok(End {
-        bound: Bound::Infinite,
-        vertex: vertex(alloc, sides, solution.coef)?,
-        inside: solution.inside,
-        beyond: Beyond::Ray(ray),
-    })
+    match infinite_keys(alloc, rest) {
+        Ok(keys) => Ok(keys.end(alloc, solution)?),
+        Err(fault) => {
+            drop(solution);
+            Err(fault)
+        }
+    }
 }
 
 #[tactic(auto, unfolding(crate::specs::Certificates::end_members))]
@@ -116,9 +190,9 @@ fn end_of(alloc: Global, rest: &mut Iter<'_, String, Value>) -> Result<End<Frac1
     let kind: EndKind = field(alloc, "kind", rest)?;
     let solution = Solution { coef, inside };
     if kind.is_finite {
-        return finite_end(alloc, solution, rest);
+        return finite_of(alloc, solution, rest);
     }
-    infinite_end(alloc, solution, rest)
+    infinite_of(alloc, solution, rest)
 }
 
 impl FromJson for End<Frac128> {
@@ -146,7 +220,27 @@ struct IntervalHead {
     high: End<Frac128>,
 }
 
+// The keys of an interval behind its ends.
+#[derive(Drop)]
+struct ProjectionKeys {
+    projection: List<Frac128>,
+    tau: Frac128,
+}
+
 #[tactic(auto, unfolding(crate::specs::Certificates::projected_members))]
+fn projection_keys(
+    alloc: Global,
+    rest: &mut Iter<'_, String, Value>,
+) -> Result<ProjectionKeys, CertFault>
+    ensures ok { IfOk result (λ k. (column : ℕ) (crit : ℚ) (high low : end_type ℚ) → projected_members column crit high low (members_view rest.old) ≡ Ok (interval_with column crit high low k)) }
+    ensures err { IfErr result (λ e. e ≢ CertFault.OutOfMemory → (column : ℕ) (crit : ℚ) (high low : end_type ℚ) → projected_members column crit high low (members_view rest.old) ≡ Err e) }
+{
+    let projection = field(alloc, "projection", rest)?;
+    let tau = field(alloc, "tau", rest)?;
+    no_more_keys(alloc, rest)?;
+    Ok(ProjectionKeys { projection, tau })
+}
+
 fn projected(
     alloc: Global,
     t: IntervalHead,
@@ -159,17 +253,20 @@ fn projected(
     ensures err { let read = projected_members t.column (exact t.crit) (exact_end t.high) (exact_end t.low) in
         IfErr result (λ e. e ≢ CertFault.OutOfMemory → read (members_view rest.old) ≡ Err e) }
 {
-    let projection = field(alloc, "projection", rest)?;
-    let tau = field(alloc, "tau", rest)?;
-    no_more_keys(alloc, rest)?;
-    Ok(IntervalProof {
-        column: t.column,
-        tau,
-        crit: t.crit,
-        low: t.low,
-        high: t.high,
-        projection,
-    })
+    match projection_keys(alloc, rest) {
+        Ok(keys) => Ok(IntervalProof {
+            column: t.column,
+            tau: keys.tau,
+            crit: t.crit,
+            low: t.low,
+            high: t.high,
+            projection: keys.projection,
+        }),
+        Err(fault) => {
+            drop(t);
+            Err(fault)
+        }
+    }
 }
 
 #[tactic(auto, unfolding(crate::specs::Certificates::interval_members))]

@@ -1,12 +1,15 @@
 //! Segments of which only what changes is written.
 
-ghost use Rattle.std.specs.Prelude.{◌≡◌, ◌≢◌, Ok, Err, ℕ, codes, map, IfOk, IfErr};
+ghost use Rattle.std.specs.Prelude.{◌≡◌, ◌≢◌, Ok, Err, codes, map, IfOk, IfErr};
+ghost use Rattle.exact_algebra.specs.Rational.{ℚ};
+ghost use Rattle.loss_model.specs.declared.process.Segment.{Segment as segment_type};
 ghost use Rattle.serde_json.specs.View.{view, members_view};
 ghost use Rattle.cert_text.specs.Chains.{high_places, low_places, moves_between, moved};
 ghost use Rattle.cert_text.specs.Contents.{exact, exact_place, exact_move, exact_segment};
 ghost use Rattle.cert_text.specs.Kept.{IsKeptSegment};
 ghost use Rattle.cert_text.specs.Certificates.{if_as_many, later_members, later_segment};
-ghost use Rattle.cert_text.specs.Reading.{fitting};
+ghost use Rattle.cert_text.specs.Keys.{later_behind, later_from};
+ghost use Rattle.cert_text.specs.Reading.{fitting, no_more_keys, on_read};
 ghost use Rattle.cert_text.specs.Trees.{later_tree};
 
 use crate::fault::CertFault;
@@ -81,7 +84,89 @@ fn as_many(alloc: Global, rows: &List<u32>, values: &List<Frac128>) -> Result<()
     }
 }
 
+// The keys of a segment behind another one.
+#[derive(Drop)]
+struct LaterKeys {
+    basic_hi: List<Frac128>,
+    coef: List<Frac128>,
+    hi: Frac128,
+    loss_hi: Frac128,
+    moves: List<Move<Frac128>>,
+}
+
 #[tactic(auto, unfolding(crate::specs::Certificates::later_members))]
+fn later_keys(
+    alloc: Global,
+    rest: &mut Iter<'_, String, Value>,
+) -> Result<LaterKeys, CertFault>
+    ensures ok { IfOk result (λ k. (before : segment_type ℚ) → later_members before (members_view rest.old) ≡ later_behind before k (members_view rest.new)) }
+    ensures err { IfErr result (λ e. e ≢ CertFault.OutOfMemory → (before : segment_type ℚ) → later_members before (members_view rest.old) ≡ Err e) }
+{
+    let basic_hi = field(alloc, "basic_hi", rest)?;
+    let coef = field(alloc, "coef", rest)?;
+    let hi = field(alloc, "hi", rest)?;
+    let loss_hi = field(alloc, "loss_hi", rest)?;
+    let moves = field(alloc, "moves", rest)?;
+    Ok(LaterKeys {
+        basic_hi,
+        coef,
+        hi,
+        loss_hi,
+        moves,
+    })
+}
+
+// The rows on the fit are as many as the dual values, and no key is left.
+fn whole_later(
+    alloc: Global,
+    segment: &Segment<Frac128>,
+    rest: &mut Iter<'_, String, Value>,
+) -> Result<(), CertFault>
+    ensures ok { let counted = fitting (codes "moves") (if_as_many segment.now.vertex.basis.rows (map exact segment.now.basic_hi)) in
+        IfOk result (λ _. (counted ≡ Ok tt) × (no_more_keys (members_view rest.old) ≡ Ok tt)) }
+    ensures err { let counted = fitting (codes "moves") (if_as_many segment.now.vertex.basis.rows (map exact segment.now.basic_hi)) in
+        IfErr result (λ e. e ≢ CertFault.OutOfMemory → on_read counted (λ _. no_more_keys (members_view rest.old)) ≡ Err e) }
+{
+    as_many(alloc, &segment.vertex.basis.rows, &segment.basic_hi)?;
+    no_more_keys(alloc, rest)?;
+    Ok(())
+}
+
+impl LaterKeys {
+    // The segment behind another one, with the rows at its low end where they are told to lie.
+    fn segment(
+        self,
+        alloc: Global,
+        before: &Segment<Frac128>,
+        low: &List<Place<Frac128>>,
+    ) -> Result<Segment<Frac128>, CertFault>
+        ensures segment { IfOk result (λ s. exact_segment s ≡ later_from (exact_segment before.now) self (map exact_place low.now)) }
+        ensures kept { IfOk result IsKeptSegment }
+        ensures memory { IfErr result (λ e. e ≡ CertFault.OutOfMemory) }
+    {
+        let LaterKeys {
+            basic_hi,
+            coef,
+            hi,
+            loss_hi,
+            moves,
+        } = self;
+        drop(moves);
+        let sides = Sides(sides(alloc, low)?);
+        let vertex = vertex(alloc, sides, coef)?;
+        let basic_lo = values(alloc, low)?;
+        Ok(Segment {
+            lo: before.hi,
+            hi,
+            vertex,
+            basic_lo,
+            basic_hi,
+            loss_lo: before.loss_hi,
+            loss_hi,
+        })
+    }
+}
+
 fn later_of(
     alloc: Global,
     before: &Segment<Frac128>,
@@ -91,24 +176,22 @@ fn later_of(
     ensures kept { IfOk result IsKeptSegment }
     ensures err { IfErr result (λ e. e ≢ CertFault.OutOfMemory → later_members (exact_segment before.now) (members_view rest.old) ≡ Err e) }
 {
-    let basic_hi: List<Frac128> = field(alloc, "basic_hi", rest)?;
-    let coef = field(alloc, "coef", rest)?;
-    let hi = field(alloc, "hi", rest)?;
-    let loss_hi = field(alloc, "loss_hi", rest)?;
-    let moves: List<Move<Frac128>> = field(alloc, "moves", rest)?;
-    let low = low_end(alloc, before, &moves)?;
-    let segment = Segment {
-        lo: before.hi,
-        hi,
-        vertex: vertex(alloc, Sides(sides(alloc, &low)?), coef)?,
-        basic_lo: values(alloc, &low)?,
-        basic_hi,
-        loss_lo: before.loss_hi,
-        loss_hi,
+    let keys = later_keys(alloc, rest)?;
+    let low = match low_end(alloc, before, &keys.moves) {
+        Ok(low) => low,
+        Err(fault) => {
+            drop(keys);
+            return Err(fault);
+        }
     };
-    as_many(alloc, &segment.vertex.basis.rows, &segment.basic_hi)?;
-    no_more_keys(alloc, rest)?;
-    Ok(segment)
+    let segment = keys.segment(alloc, before, &low)?;
+    match whole_later(alloc, &segment, rest) {
+        Ok(()) => Ok(segment),
+        Err(fault) => {
+            drop(segment);
+            Err(fault)
+        }
+    }
 }
 
 /// A segment behind another one.

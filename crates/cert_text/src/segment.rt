@@ -1,6 +1,6 @@
 //! Segments of a process.
 
-ghost use Rattle.std.specs.Prelude.{◌≡◌, ◌≢◌, Ok, Err, Some, None, map, if◌then◌else◌, IfOk, IfErr};
+ghost use Rattle.std.specs.Prelude.{◌≡◌, ◌≢◌, ℕ, Option, Ok, Err, Some, None, map, if◌then◌else◌, IfOk, IfErr};
 ghost use Rattle.exact_algebra.specs.Rational.{ℚ};
 ghost use Rattle.loss_model.specs.declared.process.Segment.{Segment as segment_type};
 ghost use Rattle.serde_json.specs.View.{view, members_view};
@@ -8,28 +8,40 @@ ghost use Rattle.cert_text.specs.Chains.{is_filled};
 ghost use Rattle.cert_text.specs.Contents.{exact, exact_segment};
 ghost use Rattle.cert_text.specs.Kept.{IsKeptSegment};
 ghost use Rattle.cert_text.specs.Certificates.{if_filled, segment_members, segment};
+ghost use Rattle.cert_text.specs.Keys.{segment_behind};
 ghost use Rattle.cert_text.specs.Trees.{segment_tree};
 
 use crate::fault::CertFault;
 use crate::keys::{field, members, no_more_keys};
 use crate::parts::{FromJson, ToJson, put};
 use crate::path::{under_key, wrong_kind};
-use crate::vertex::{Signs, vertex};
-use frac_core::Frac128;
+use crate::vertex::{Sides, Signs, vertex};
+use frac_core::{Frac128, List};
 use loss_model::Segment;
 use serde_json::{Map, Value};
 use std::alloc::{AllocError, Global};
 use std::collections::btree_map::Iter;
 
+// The keys of a segment in full.
+#[derive(Drop)]
+struct SegmentKeys {
+    basic_hi: List<Frac128>,
+    basic_lo: List<Frac128>,
+    coef: List<Frac128>,
+    hi: Frac128,
+    lo: Frac128,
+    loss_hi: Frac128,
+    loss_lo: Frac128,
+    sides: Sides,
+}
+
 #[tactic(auto, unfolding(crate::specs::Certificates::segment_members))]
-fn segment_of(
+fn segment_keys(
     alloc: Global,
-    rows: Option<usize>,
     rest: &mut Iter<'_, String, Value>,
-) -> Result<Segment<Frac128>, CertFault>
-    ensures ok { IfOk result (λ segment. segment_members rows (members_view rest.old) ≡ Ok (exact_segment segment)) }
-    ensures kept { IfOk result IsKeptSegment }
-    ensures err { IfErr result (λ e. e ≢ CertFault.OutOfMemory → segment_members rows (members_view rest.old) ≡ Err e) }
+) -> Result<SegmentKeys, CertFault>
+    ensures ok { IfOk result (λ k. (rows : Option ℕ) → segment_members rows (members_view rest.old) ≡ segment_behind rows k (members_view rest.new)) }
+    ensures err { IfErr result (λ e. e ≢ CertFault.OutOfMemory → (rows : Option ℕ) → segment_members rows (members_view rest.old) ≡ Err e) }
 {
     let basic_hi = field(alloc, "basic_hi", rest)?;
     let basic_lo = field(alloc, "basic_lo", rest)?;
@@ -39,20 +51,48 @@ fn segment_of(
     let loss_hi = field(alloc, "loss_hi", rest)?;
     let loss_lo = field(alloc, "loss_lo", rest)?;
     let sides = field(alloc, "sides", rest)?;
-    let segment = Segment {
-        lo,
-        hi,
-        vertex: vertex(alloc, sides, coef)?,
-        basic_lo,
+    Ok(SegmentKeys {
         basic_hi,
-        loss_lo,
+        basic_lo,
+        coef,
+        hi,
+        lo,
         loss_hi,
+        loss_lo,
+        sides,
+    })
+}
+
+fn segment_of(
+    alloc: Global,
+    rows: Option<usize>,
+    rest: &mut Iter<'_, String, Value>,
+) -> Result<Segment<Frac128>, CertFault>
+    ensures ok { IfOk result (λ segment. segment_members rows (members_view rest.old) ≡ Ok (exact_segment segment)) }
+    ensures kept { IfOk result IsKeptSegment }
+    ensures err { IfErr result (λ e. e ≢ CertFault.OutOfMemory → segment_members rows (members_view rest.old) ≡ Err e) }
+{
+    let keys = segment_keys(alloc, rest)?;
+    let segment = Segment {
+        lo: keys.lo,
+        hi: keys.hi,
+        vertex: vertex(alloc, keys.sides, keys.coef)?,
+        basic_lo: keys.basic_lo,
+        basic_hi: keys.basic_hi,
+        loss_lo: keys.loss_lo,
+        loss_hi: keys.loss_hi,
     };
     if !is_filled_if_told(rows, &segment) {
+        drop(segment);
         return Err(under_key(alloc, "sides", wrong_kind(alloc)));
     }
-    no_more_keys(alloc, rest)?;
-    Ok(segment)
+    match no_more_keys(alloc, rest) {
+        Ok(()) => Ok(segment),
+        Err(fault) => {
+            drop(segment);
+            Err(fault)
+        }
+    }
 }
 
 /// One side per row, and as many dual values at either end as rows that are basic.

@@ -267,15 +267,28 @@ fn by_parts<F: Exact>(
     };
     let test = match rank_test(alloc, problem, &gram, asked) {
         Ok(test) => test,
-        Err(stop) => return Err(stop),
+        Err(stop) => {
+            drop(gram);
+            return Err(stop);
+        }
     };
+    drop(gram);
     let solved = match solve_at(alloc, problem, asked.tau, limit) {
         Ok(solved) => solved,
-        Err(stop) => return Err(stop),
+        Err(stop) => {
+            drop(test);
+            return Err(stop);
+        }
     };
     match interval_from(alloc, problem, &solved, test, limit) {
-        Ok(interval) => Ok(interval),
-        Err(stop) => Err(stop),
+        Ok(interval) => {
+            drop(solved);
+            Ok(interval)
+        }
+        Err(stop) => {
+            drop(solved);
+            Err(stop)
+        }
     }
 }
 

@@ -87,6 +87,15 @@ impl<'a, F: Exact> Walk<'a, F> {
             Err(short) => Err(short),
         }
     }
+
+    /// Lets the basis go.
+    fn into_steps(self) -> List<Exchange<F>>
+        ensures { result ≡ self.entry.steps }
+    {
+        let Walk { tableau, steps, .. } = self;
+        drop(tableau);
+        steps
+    }
 }
 
 /// Walks from the solved basis to the end, within a limit of steps.
@@ -106,20 +115,21 @@ pub fn walk_to_end<'a, F: Exact>(
         match walk.advance(course) {
             Ok(None) => {}
             Ok(Some(end)) => {
-                return Ok(Arrival {
-                    steps: walk.steps,
-                    end,
-                });
+                let steps = walk.into_steps();
+                return Ok(Arrival { steps, end });
             }
-            Err(short) => return Err(halted(short, walk.steps)),
+            Err(short) => return Err(halted(short, walk.into_steps())),
         }
     }
     match look(&walk.tableau, course, walk.now) {
-        Ok(Next::End(end)) => Ok(Arrival {
-            steps: walk.steps,
-            end,
-        }),
-        Ok(Next::Step(_)) => Err(WalkHalt::PivotLimit { steps: walk.steps }),
-        Err(short) => Err(halted(short, walk.steps)),
+        Ok(Next::End(end)) => {
+            let steps = walk.into_steps();
+            Ok(Arrival { steps, end })
+        }
+        Ok(Next::Step(_)) => {
+            let steps = walk.into_steps();
+            Err(WalkHalt::PivotLimit { steps })
+        }
+        Err(short) => Err(halted(short, walk.into_steps())),
     }
 }

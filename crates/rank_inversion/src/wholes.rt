@@ -45,7 +45,10 @@ pub fn start_in_wholes<'a, F: Exact>(
     let rows = reached.tableau.setting().wholes.rows.as_slice();
     match whole_gram(alloc, rows, reached.tableau.problem().columns) {
         Ok(gram) => Some(Started { reached, gram }),
-        Err(_) => None,
+        Err(_) => {
+            drop(reached);
+            None
+        }
     }
 }
 

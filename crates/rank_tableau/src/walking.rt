@@ -63,7 +63,7 @@ impl<'s, 'a, F: Exact> Walk<'s, 'a, F> {
             row: step.row,
         };
         match self.here().after(exchanged) {
-            Ok(tableau) => self.own = Some(tableau),
+            Ok(tableau) => drop(self.own.replace(tableau)),
             Err(obstacle) => return Err(obstacle),
         }
         match self.steps.push(step) {
@@ -90,6 +90,16 @@ impl<'s, 'a, F: Exact> Walk<'s, 'a, F> {
             Err(obstacle) => Err(obstacle),
         }
     }
+
+    /// Ends the walk: the basis is let go, and the steps go on.
+    fn arrive(self, end: End<F>) -> Arrival<F>
+        ensures steps { result.steps ≡ self.entry.steps }
+        ensures end { result.end ≡ end }
+    {
+        let Walk { own, steps, .. } = self;
+        drop(own);
+        Arrival { steps, end }
+    }
 }
 
 /// Walks from the solved basis to the end, within a limit of steps. It refuses too where that is reached.
@@ -115,21 +125,22 @@ pub fn walk_to_end<F: Exact>(
     for _ in 0..limit {
         match walk.advance(course, reach) {
             Ok(None) => {}
-            Ok(Some(end)) => {
-                return Ok(Arrival {
-                    steps: walk.steps,
-                    end,
-                });
+            Ok(Some(end)) => return Ok(walk.arrive(end)),
+            Err(obstacle) => {
+                drop(walk);
+                return Err(obstacle);
             }
-            Err(obstacle) => return Err(obstacle),
         }
     }
     match left_at(walk.here(), course, reach, walk.weight) {
-        Ok(Next::End(end)) => Ok(Arrival {
-            steps: walk.steps,
-            end,
-        }),
-        Ok(Next::Step(_)) => Err(Obstacle::TooWide),
-        Err(obstacle) => Err(obstacle),
+        Ok(Next::End(end)) => Ok(walk.arrive(end)),
+        Ok(Next::Step(_)) => {
+            drop(walk);
+            Err(Obstacle::TooWide)
+        }
+        Err(obstacle) => {
+            drop(walk);
+            Err(obstacle)
+        }
     }
 }

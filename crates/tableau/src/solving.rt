@@ -92,16 +92,20 @@ impl<'a, F: Exact> Progress<'a, F> {
         requires greedy { IsGreedyBasis (sample_of F.value (place_of F.value tableau)) (place_of F.value tableau).rows }
         ensures begun { IfOk result (IsBegun F.value (place_of F.value tableau.entry).task) }
     {
-        let start = full_start(alloc, tableau.basis().rows.as_slice())?;
-        Ok(Progress {
-            tableau,
-            trail: Trail {
-                start,
-                steps: List::new(alloc),
-                rise: List::new(alloc),
-                fall: List::new(alloc),
-            },
-        })
+        let start = match full_start(alloc, tableau.basis().rows.as_slice()) {
+            Ok(start) => start,
+            Err(memory) => {
+                drop(tableau);
+                return Err(memory);
+            }
+        };
+        let trail = Trail {
+            start,
+            steps: List::new(alloc),
+            rise: List::new(alloc),
+            fall: List::new(alloc),
+        };
+        Ok(Progress { tableau, trail })
     }
 
     /// The greedy start of a problem, in fractions.
@@ -134,14 +138,18 @@ impl<'a, F: Exact> Progress<'a, F> {
     pub(crate) fn halt(self, refused: Failure<F>) -> Halt<F>
         ensures { IsHaltOf refused self.entry.trail result }
     {
-        halt_of(refused, self.trail)
+        let Progress { tableau, trail } = self;
+        drop(tableau);
+        halt_of(refused, trail)
     }
 
     /// Halts at the limit.
     pub(crate) fn halt_at_limit(self) -> Halt<F>
         ensures { result ≡ PivotLimit self.entry.trail }
     {
-        Halt::PivotLimit { trail: self.trail }
+        let Progress { tableau, trail } = self;
+        drop(tableau);
+        Halt::PivotLimit { trail }
     }
 
     /// Makes the solving step. After a refusal the trail is as before.

@@ -1,0 +1,70 @@
+-- Inner. What is left of a reading where the keys of an object are read that have values of their own.
+use Rattle.std.specs.Prelude.{ℕ, List, Option, Ok, codes, map}
+use Rattle.exact_algebra.specs.Rational.{ℚ}
+use Rattle.loss_model.specs.declared.process.Segment.{Segment}
+use Rattle.loss_model.specs.declared.interval.Bound.TheVariants.{Finite, Infinite}
+use Rattle.loss_model.specs.declared.interval.Beyond.TheVariants.{Outside, Ray}
+use Rattle.loss_model.specs.declared.interval.End.{End}
+use Rattle.loss_model.specs.declared.interval.IntervalProof.{IntervalProof}
+use Rattle.serde_json.specs.Data.{Members}
+use Rattle.cert_text.specs.Kept.{basic_rows}
+use Rattle.cert_text.specs.Chains.{high_places, side_at, values_at, moved}
+use Rattle.cert_text.specs.Contents.{exact, exact_move}
+use Rattle.cert_text.specs.Certificates.{vertex_of, if_filled, if_as_many}
+use Rattle.cert_text.specs.Reading.{Reading, on_read, fitting, no_more_keys}
+use Rattle.cert_text.specs.declared.place.Place.{Place}
+use Rattle.cert_text.specs.declared.segment.SegmentKeys.{SegmentKeys}
+use Rattle.cert_text.specs.declared.later.LaterKeys.{LaterKeys}
+use Rattle.cert_text.specs.declared.interval.FiniteKeys.{FiniteKeys}
+use Rattle.cert_text.specs.declared.interval.InfiniteKeys.{InfiniteKeys}
+use Rattle.cert_text.specs.declared.interval.ProjectionKeys.{ProjectionKeys}
+
+-- a segment of these keys, with these members behind them
+abbrev pub segment_behind : Option ℕ → SegmentKeys → Members → Reading (Segment ℚ)
+segment_behind rows k ms =
+    on_read (fitting (codes "sides") (if_filled rows k.sides.0 (map exact k.basic_lo) (map exact k.basic_hi))) (λ _.
+    on_read (no_more_keys ms) (λ _.
+    Ok (record {
+      lo = exact k.lo;
+      hi = exact k.hi;
+      vertex = vertex_of k.sides.0 (map exact k.coef);
+      basic_lo = map exact k.basic_lo;
+      basic_hi = map exact k.basic_hi;
+      loss_lo = exact k.loss_lo;
+      loss_hi = exact k.loss_hi;
+    })))
+
+-- the segment of these keys behind another one, whose rows lie here at its low end
+abbrev pub later_from : Segment ℚ → LaterKeys → List (Place ℚ) → Segment ℚ
+later_from before k low = record {
+  lo = before.hi;
+  hi = exact k.hi;
+  vertex = vertex_of (map side_at low) (map exact k.coef);
+  basic_lo = values_at low;
+  basic_hi = map exact k.basic_hi;
+  loss_lo = before.loss_hi;
+  loss_hi = exact k.loss_hi;
+}
+
+-- a segment of these keys behind another one, with these members behind them
+abbrev pub later_behind : Segment ℚ → LaterKeys → Members → Reading (Segment ℚ)
+later_behind before k ms =
+    on_read (fitting (codes "moves") (moved 0 (high_places before) (map exact_move k.moves))) (λ low.
+    on_read (fitting (codes "moves") (if_as_many (basic_rows (map side_at low)) (map exact k.basic_hi))) (λ _.
+    on_read (no_more_keys ms) (λ _.
+    Ok (later_from before k low))))
+
+-- a finite end of these keys
+abbrev pub finite_end : List ℚ → List ℚ → FiniteKeys → End ℚ
+finite_end coef inside k =
+    record { bound = Finite (exact k.value); vertex = vertex_of k.sides.0 coef; inside = inside; beyond = Outside (map exact k.outside) }
+
+-- an infinite end of these keys
+abbrev pub infinite_end : List ℚ → List ℚ → InfiniteKeys → End ℚ
+infinite_end coef inside k =
+    record { bound = Infinite; vertex = vertex_of k.sides.0 coef; inside = inside; beyond = Ray (map exact k.ray) }
+
+-- an interval of these ends and keys
+abbrev pub interval_with : ℕ → ℚ → End ℚ → End ℚ → ProjectionKeys → IntervalProof ℚ
+interval_with column crit high low k =
+    record { column = column; tau = exact k.tau; crit = crit; low = low; high = high; projection = map exact k.projection }
