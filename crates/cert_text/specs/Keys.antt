@@ -9,10 +9,12 @@ use Rattle.loss_model.specs.declared.interval.IntervalProof.{IntervalProof}
 use Rattle.serde_json.specs.Data.{Members}
 use Rattle.cert_text.specs.Kept.{basic_rows}
 use Rattle.cert_text.specs.Chains.{high_places, side_at, values_at, moved}
-use Rattle.cert_text.specs.Contents.{exact, exact_move}
-use Rattle.cert_text.specs.Certificates.{vertex_of, if_filled, if_as_many}
-use Rattle.cert_text.specs.Reading.{Reading, on_read, fitting, no_more_keys}
+use Rattle.cert_text.specs.Contents.{Content, exact, exact_row, exact_move, exact_interval}
+use Rattle.cert_text.specs.Certificates.{anything, segments, vertex_of, if_filled, if_as_many}
+use Rattle.cert_text.specs.Reading.{Reading, on_read, field, fitting, no_more_keys}
+use Rattle.cert_text.specs.declared.layout.Layout.{Layout}
 use Rattle.cert_text.specs.declared.place.Place.{Place}
+use Rattle.cert_text.specs.declared.read.TopKeys.{TopKeys}
 use Rattle.cert_text.specs.declared.segment.SegmentKeys.{SegmentKeys}
 use Rattle.cert_text.specs.declared.later.LaterKeys.{LaterKeys}
 use Rattle.cert_text.specs.declared.interval.FiniteKeys.{FiniteKeys}
@@ -68,3 +70,21 @@ infinite_end coef inside k =
 abbrev pub interval_with : ℕ → ℚ → End ℚ → End ℚ → ProjectionKeys → IntervalProof ℚ
 interval_with column crit high low k =
     record { column = column; tau = exact k.tau; crit = crit; low = low; high = high; projection = map exact k.projection }
+
+-- what a certificate says by these keys and segments
+abbrev pub top_with : TopKeys → List (Segment ℚ) → Content
+top_with k segments = record {
+  problem = record { columns = k.columns; rows = map exact_row k.rows };
+  lo = exact k.lo;
+  hi = exact k.hi;
+  segments = segments;
+  intervals = map exact_interval k.intervals;
+}
+
+-- a certificate of these keys and of so many rows, with these members behind them
+abbrev pub top_behind : Layout → ℕ → TopKeys → Members → Reading Content
+top_behind layout rows k ms =
+    on_read (field (codes "segments") (segments layout rows) ms) (λ segments.
+    on_read (field (codes "version") anything segments.1) (λ version.
+    on_read (no_more_keys version.1) (λ _.
+    Ok (top_with k segments.0))))

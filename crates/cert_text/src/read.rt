@@ -1,13 +1,16 @@
 //! From bytes to the certificate that they are.
 
-ghost use Rattle.std.specs.Prelude.{◌≡◌, ◌≢◌, Ok, Err, Some, None, All, ⊤, codes, map, option_and_then, IfOk, IfErr};
+ghost use Rattle.std.specs.Prelude.{◌≡◌, ◌≢◌, Ok, Err, Some, None, All, ⊤, codes, length, map, option_and_then, IfOk, IfErr};
 ghost use Rattle.serde_json.specs.Find.{get, as_number, as_u64};
 ghost use Rattle.serde_json.specs.View.{view, members_view};
 ghost use Rattle.cert_text.specs.Certificates.{kind, anything, segments, top_members, within_limits, version_of, layout_of, or_version, cert_of_data, json_of, cert_of};
-ghost use Rattle.cert_text.specs.Contents.{Content, exact_segment, content};
-ghost use Rattle.cert_text.specs.Kept.{IsKeptSegment};
+ghost use Rattle.cert_text.specs.Contents.{Content, exact_row, exact_segment, content};
+ghost use Rattle.cert_text.specs.Kept.{IsKeptInterval, IsKeptSegment};
+ghost use Rattle.cert_text.specs.Keys.{top_behind, top_with};
 ghost use Rattle.cert_text.specs.Reading.{field};
 ghost use Rattle.cert_text.specs.Limits.{IsWithinLimits};
+ghost use Rattle.cert_text.specs.declared.layout.Layout.{Layout as layout_type};
+ghost use Rattle.cert_text.specs.declared.read.TopKeys.{TopKeys as keys_type};
 ghost use Rattle.cert_text.specs.declared.fault.CertFault.TheVariants.{NotJson};
 
 use crate::cert::Cert;
@@ -82,7 +85,55 @@ fn segments_field(
     }
 }
 
+// The keys of the top before the segments.
+#[derive(Drop)]
+struct TopKeys {
+    columns: u32,
+    hi: Frac128,
+    intervals: List<IntervalProof<Frac128>>,
+    lo: Frac128,
+    rows: List<Row<Frac128>>,
+}
+
 #[tactic(auto, unfolding(crate::specs::Certificates::top_members))]
+fn top_keys(alloc: Global, rest: &mut Iter<'_, String, Value>) -> Result<TopKeys, CertFault>
+    ensures ok { IfOk result (λ k. (layout : layout_type) → top_members layout (members_view rest.old)
+        ≡ top_behind layout (length (map exact_row k.rows)) k (members_view rest.new)) }
+    ensures kept { IfOk result (λ k. All IsKeptInterval k.intervals) }
+    ensures err { IfErr result (λ e. e ≢ CertFault.OutOfMemory → (layout : layout_type) → top_members layout (members_view rest.old) ≡ Err e) }
+{
+    let columns = field(alloc, "columns", rest)?;
+    let hi = field(alloc, "hi", rest)?;
+    let intervals = field(alloc, "intervals", rest)?;
+    let _kind: Kind = field(alloc, "kind", rest)?;
+    let lo = field(alloc, "lo", rest)?;
+    let rows = field(alloc, "rows", rest)?;
+    Ok(TopKeys {
+        columns,
+        hi,
+        intervals,
+        lo,
+        rows,
+    })
+}
+
+// The segments of so many rows, behind which the version stands and nothing else.
+fn last_segments(
+    alloc: Global,
+    layout: Layout,
+    rows: usize,
+    rest: &mut Iter<'_, String, Value>,
+) -> Result<List<Segment<Frac128>>, CertFault>
+    ensures ok { IfOk result (λ xs. (k : keys_type) → top_behind layout rows k (members_view rest.old) ≡ Ok (top_with k (map exact_segment xs))) }
+    ensures kept { IfOk result (λ xs. All IsKeptSegment xs) }
+    ensures err { IfErr result (λ e. e ≢ CertFault.OutOfMemory → (k : keys_type) → top_behind layout rows k (members_view rest.old) ≡ Err e) }
+{
+    let segments = segments_field(alloc, layout, rows, rest)?;
+    let _version: AnyValue = field(alloc, "version", rest)?;
+    no_more_keys(alloc, rest)?;
+    Ok(segments)
+}
+
 fn top_of(
     alloc: Global,
     layout: Layout,
@@ -91,22 +142,23 @@ fn top_of(
     ensures ok { IfOk result (λ cert. top_members layout (members_view rest.old) ≡ Ok (content cert)) }
     ensures err { IfErr result (λ e. e ≢ CertFault.OutOfMemory → top_members layout (members_view rest.old) ≡ Err e) }
 {
-    let columns = field(alloc, "columns", rest)?;
-    let hi = field(alloc, "hi", rest)?;
-    let intervals = field(alloc, "intervals", rest)?;
-    let _kind: Kind = field(alloc, "kind", rest)?;
-    let lo = field(alloc, "lo", rest)?;
-    let rows: List<Row<Frac128>> = field(alloc, "rows", rest)?;
-    let segments = segments_field(alloc, layout, rows.as_slice().len(), rest)?;
-    let _version: AnyValue = field(alloc, "version", rest)?;
-    no_more_keys(alloc, rest)?;
-    Ok(Cert {
-        problem: Problem { columns, rows },
-        lo,
-        hi,
-        segments,
-        intervals,
-    })
+    let keys = top_keys(alloc, rest)?;
+    match last_segments(alloc, layout, keys.rows.as_slice().len(), rest) {
+        Ok(segments) => Ok(Cert {
+            problem: Problem {
+                columns: keys.columns,
+                rows: keys.rows,
+            },
+            lo: keys.lo,
+            hi: keys.hi,
+            segments,
+            intervals: keys.intervals,
+        }),
+        Err(fault) => {
+            drop(keys);
+            Err(fault)
+        }
+    }
 }
 
 const MOST_SEGMENTS: usize = 1 << 20;
