@@ -134,22 +134,29 @@ impl<'a, F: Exact> Progress<'a, F> {
         Ok(begun)
     }
 
+    /// Lets the tableau go.
+    pub(crate) fn into_trail(self) -> Trail<F>
+        ensures { result ≡ self.entry.trail }
+    {
+        let Progress { tableau, trail } = self;
+        drop(tableau);
+        trail
+    }
+
     /// Halts for what refused the next step. The tableau goes, and the trail goes on.
     pub(crate) fn halt(self, refused: Failure<F>) -> Halt<F>
         ensures { IsHaltOf refused self.entry.trail result }
     {
-        let Progress { tableau, trail } = self;
-        drop(tableau);
-        halt_of(refused, trail)
+        halt_of(refused, self.into_trail())
     }
 
     /// Halts at the limit.
     pub(crate) fn halt_at_limit(self) -> Halt<F>
         ensures { result ≡ PivotLimit self.entry.trail }
     {
-        let Progress { tableau, trail } = self;
-        drop(tableau);
-        Halt::PivotLimit { trail }
+        Halt::PivotLimit {
+            trail: self.into_trail(),
+        }
     }
 
     /// Makes the solving step. After a refusal the trail is as before.

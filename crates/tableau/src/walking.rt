@@ -40,7 +40,10 @@ fn push_segment<F: Exact>(
 {
     match segments.push(segment) {
         Ok(()) => Ok(()),
-        Err(_) => Err(Failure::OutOfMemory),
+        Err(failed) => {
+            drop(failed);
+            Err(Failure::OutOfMemory)
+        }
     }
 }
 
@@ -188,11 +191,18 @@ fn end_walk<'a, F: Exact>(
     let mut all = segments;
     match reached.tableau.segment(now, hi) {
         Ok(segment) => match all.push(segment) {
-            Ok(()) => Ok(Process {
-                segments: all,
-                trail: reached.trail,
-            }),
-            Err(_) => Err(Halt::OutOfMemory),
+            Ok(()) => {
+                let trail = reached.into_trail();
+                Ok(Process {
+                    segments: all,
+                    trail,
+                })
+            }
+            Err(failed) => {
+                drop(failed);
+                drop(reached);
+                Err(Halt::OutOfMemory)
+            }
         },
         Err(refused) => Err(reached.halt(refused)),
     }
