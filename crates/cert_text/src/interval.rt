@@ -68,10 +68,7 @@ struct FiniteKeys {
 }
 
 #[tactic(auto, unfolding(crate::specs::Certificates::finite_members))]
-fn finite_keys(
-    alloc: Global,
-    rest: &mut Iter<'_, String, Value>,
-) -> Result<FiniteKeys, CertFault>
+fn finite_keys(alloc: Global, rest: &mut Iter<'_, String, Value>) -> Result<FiniteKeys, CertFault>
     ensures ok { IfOk result (λ k. (coef inside : List ℚ) → finite_members coef inside (members_view rest.old) ≡ Ok (finite_end coef inside k)) }
     ensures err { IfErr result (λ e. e ≢ CertFault.OutOfMemory → (coef inside : List ℚ) → finite_members coef inside (members_view rest.old) ≡ Err e) }
 {

@@ -95,10 +95,7 @@ struct LaterKeys {
 }
 
 #[tactic(auto, unfolding(crate::specs::Certificates::later_members))]
-fn later_keys(
-    alloc: Global,
-    rest: &mut Iter<'_, String, Value>,
-) -> Result<LaterKeys, CertFault>
+fn later_keys(alloc: Global, rest: &mut Iter<'_, String, Value>) -> Result<LaterKeys, CertFault>
     ensures ok { IfOk result (λ k. (before : segment_type ℚ) → later_members before (members_view rest.old) ≡ later_behind before k (members_view rest.new)) }
     ensures err { IfErr result (λ e. e ≢ CertFault.OutOfMemory → (before : segment_type ℚ) → later_members before (members_view rest.old) ≡ Err e) }
 {

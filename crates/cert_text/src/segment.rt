@@ -36,10 +36,7 @@ struct SegmentKeys {
 }
 
 #[tactic(auto, unfolding(crate::specs::Certificates::segment_members))]
-fn segment_keys(
-    alloc: Global,
-    rest: &mut Iter<'_, String, Value>,
-) -> Result<SegmentKeys, CertFault>
+fn segment_keys(alloc: Global, rest: &mut Iter<'_, String, Value>) -> Result<SegmentKeys, CertFault>
     ensures ok { IfOk result (λ k. (rows : Option ℕ) → segment_members rows (members_view rest.old) ≡ segment_behind rows k (members_view rest.new)) }
     ensures err { IfErr result (λ e. e ≢ CertFault.OutOfMemory → (rows : Option ℕ) → segment_members rows (members_view rest.old) ≡ Err e) }
 {

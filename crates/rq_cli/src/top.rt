@@ -84,11 +84,20 @@ fn work<R: Threads + Sync, S: Source, G: Gate>(
     };
     let bytes = match read_source(alloc, &job, source) {
         Ok(bytes) => bytes,
-        Err(trouble) => return Err(trouble),
+        Err(trouble) => {
+            drop(job);
+            return Err(trouble);
+        }
     };
     match written(rt, alloc, &job, &bytes, gate) {
-        Ok(done) => Ok(done),
-        Err(halt) => Err(Trouble::Halt(halt)),
+        Ok(done) => {
+            drop(job);
+            Ok(done)
+        }
+        Err(halt) => {
+            drop(job);
+            Err(Trouble::Halt(halt))
+        }
     }
 }
 
@@ -112,7 +121,10 @@ fn written<R: Threads + Sync, G: Gate>(
     };
     match report_bytes(alloc, &report) {
         Ok(text) => Ok((report, text)),
-        Err(_) => Err(Halt::OutOfMemory),
+        Err(_) => {
+            drop(report);
+            Err(Halt::OutOfMemory)
+        }
     }
 }
 
@@ -192,11 +204,15 @@ fn tell<E: Sink>(alloc: Global, trouble: Trouble, err: &mut E) -> Outcome
         WasTold (outcome_of trouble) result before now ⊎ ((trouble ≢ Trouble.Source) × WasTold Outcome.OutOfMemory result before now) }
 {
     if let Trouble::Source = trouble {
+        drop(trouble);
         return write_line(err, SOURCE_LINE, Outcome::SourceFault);
     }
     match trouble.line(alloc) {
         Ok(line) => write_line(err, &line, trouble.outcome()),
-        Err(_) => write_line(err, MEMORY_LINE, Outcome::OutOfMemory),
+        Err(_) => {
+            drop(trouble);
+            write_line(err, MEMORY_LINE, Outcome::OutOfMemory)
+        }
     }
 }
 
@@ -207,6 +223,9 @@ fn write_line<E: Sink>(err: &mut E, line: &[u8], fault: Outcome) -> Outcome
 {
     match write_all(err, line) {
         Ok(()) => fault,
-        Err(Failed) => Outcome::SinkFault,
+        Err(Failed) => {
+            drop(fault);
+            Outcome::SinkFault
+        }
     }
 }
