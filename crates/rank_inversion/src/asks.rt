@@ -148,6 +148,7 @@ impl<'a, F: Exact> RankProblem<'a, F> {
         if self.purpose.is_met(&found) {
             return Ok(found);
         }
+        drop(found);
         match interval_by_parts(alloc, self.problem, asked, self.limit) {
             Ok(interval) => Ok(interval),
             Err(stop) => Err(stop),

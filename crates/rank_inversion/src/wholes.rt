@@ -94,7 +94,11 @@ impl<'a, F: Exact> Started<'a, F> {
         } = fall;
         let trail = match with_walks(alloc, &self.reached.trail, up, down) {
             Ok(trail) => trail,
-            Err(_) => return None,
+            Err(_) => {
+                drop(low);
+                drop(high);
+                return None;
+            }
         };
         Some(Interval {
             column: asked.column,
