@@ -1,8 +1,8 @@
-use Rattle.std.proofs.Common.{sym, ◌∙◌}
+use Rattle.std.proofs.Common.{refl, sym, ◌∙◌}
 use Rattle.exact_algebra.specs.Fraction.{rational}
 use Rattle.loss_model.specs.Problem.{sample, value_at}
 use Rattle.cert_checker.specs.Formulas.{worth}
-use Rattle.cert_checker.specs.Conditions.{residual_formula}
+use Rattle.cert_checker.specs.Conditions.{up_formula, down_formula, residual_formula}
 use Rattle.cert_checker.specs.Places.{value128}
 use Rattle.cert_checker.proofs.Wide.{above_is, below_is, below_zero, negated_is, not_below_zero}
 use Rattle.cert_checker.proofs.leaves.LossTermsTerms.exact_term.Goals as goal
@@ -13,15 +13,15 @@ returns-then-is_lt c =
     let p = sample value128 t.problem.now in
     let b = value_at value128 t.coef.now in
     let r = worth (residual_formula p b c.args.i) in
-    below_is p (rational (value128 t.theta)) b c.args.i (rational c.in_ok-price.price) (rational c.neg.result) (rational c.in_ok-loss.loss)
+    below_is p (rational (value128 t.theta)) b c.args.i (worth (down_formula p (rational (value128 t.theta)) c.args.i)) (rational c.neg.result) (rational c.in_ok-loss.loss)
     (below_zero (rational c.in_ok-size.size) r c.in_ok-exact_sign.field-0 c.in_ok-size.ensures c.in_ok-exact_sign.ensures (sym c.is_lt.ensures ∙ c.if-is_lt.true))
-    c.in_ok-price.ensures (negated_is (rational c.in_ok-size.size) (rational c.neg.result) r c.in_ok-size.ensures c.neg.ensures) c.in_ok-loss.ensures
+    refl (negated_is (rational c.in_ok-size.size) (rational c.neg.result) r c.in_ok-size.ensures c.neg.ensures) c.in_ok-loss.ensures
 
 pub returns : goal.returns
 returns c =
     let t = c.args.self in
     let p = sample value128 t.problem.now in
     let b = value_at value128 t.coef.now in
-    above_is p (rational (value128 t.theta)) b c.args.i (rational c.in_ok-price-2.price) (rational c.in_ok-size.size) (rational c.in_ok-loss-2.loss)
+    above_is p (rational (value128 t.theta)) b c.args.i (worth (up_formula p (rational (value128 t.theta)) c.args.i)) (rational c.in_ok-size.size) (rational c.in_ok-loss-2.loss)
     (not_below_zero (rational c.in_ok-size.size) (worth (residual_formula p b c.args.i)) c.in_ok-exact_sign.field-0 c.in_ok-size.ensures c.in_ok-exact_sign.ensures (sym c.is_lt.ensures ∙ c.if-is_lt.false))
-    c.in_ok-price-2.ensures c.in_ok-size.ensures c.in_ok-loss-2.ensures
+    refl c.in_ok-size.ensures c.in_ok-loss-2.ensures
