@@ -9,7 +9,7 @@ use Rattle.cert_checker.specs.Formulas.{times}
 use Rattle.cert_checker.specs.Tests.{Test, part, test, one}
 use Rattle.cert_checker.specs.Conditions.{End, zero_formula}
 use Rattle.cert_checker.specs.Intervals.{Question, question_of, first_of, sign_of, others, orthogonal_formula, square_formula, within_parts, balance_parts, statistic, rank_bound_formula}
-use Rattle.cert_checker.specs.declared.relation.Relation.TheVariants.{Above, Equal}
+use Rattle.cert_checker.specs.declared.relation.Relation.TheVariants.{Above, AtMost, Equal}
 use Rattle.cert_checker.specs.declared.way.Way.{Way}
 use Rattle.cert_checker.specs.declared.leaves.EndView.{EndView}
 use Rattle.cert_checker.specs.declared.projection.IntervalView.{IntervalView}
@@ -46,6 +46,13 @@ module _ (a : Question) where
   projection_tests m =
       test 9 m 4 (others a.column a.problem.columns (λ k. part (orthogonal_formula a.problem a.column a.factors k) Equal zero_formula))
       ++ one 9 m 5 (square_formula a.problem a.column a.factors) Above zero_formula
+
+  -- the tests of the dual values inside an end, behind those of its vertex
+  abbrev pub value_tests : ℕ → ℕ → End → List Test
+  value_tests m n e =
+      test 9 m (n + 2) (within_parts a e)
+      ++ (test 9 m (n + 3) (balance_parts a e)
+      ++ one 9 m (n + 4) (times (statistic a e) (statistic a e)) AtMost (rank_bound_formula a))
 
   -- the tests of dual values outside of a finite end
   abbrev pub outside_tests : Way → ℕ → End → List Test
