@@ -5,6 +5,5 @@ use Rattle.cert_checker.proofs.projection.RankBoundExpression.exact.Goals as goa
 
 pub returns : goal.returns
 returns c =
-    bound_is (question c.args.self.of) (rational c.in_ok-level.level) (rational c.in_ok-tau.tau) (rational c.in_ok-whole.field-0) (rational c.in_ok-against.against)
-    (rational c.in_ok-spread.spread) (rational c.in_ok-square.square) (rational c.in_ok-bound.bound)
-    c.in_ok-level.ensures c.in_ok-tau.ensures c.in_ok-whole.ensures c.in_ok-against.ensures c.in_ok-spread.ensures c.in_ok-square.ensures c.in_ok-bound.ensures
+    bound_is (question c.args.self.of) (rational c.in_ok-spread.spread) (rational c.in_ok-square.square) (rational c.in_ok-bound.bound)
+    c.in_ok-spread.ensures c.in_ok-square.ensures c.in_ok-bound.ensures

@@ -9,8 +9,8 @@ pub returns : goal.returns
 returns g c =
     let value = g.F.Exact.value in
     let h = place_of value c.args.tableau in
-    let start = rw (c.as_slice.ensures, c.basis.ensures.rows) at (c.in_ok-start.ensures {u = tt}) in
-    let trail : Trail _ = record { start = c.in_ok-start.start; steps = c.new.result; rise = c.new-2.result; fall = c.new-3.result } in
+    let start = rw (c.as_slice.ensures, c.basis.ensures.rows) at (c.in-Ok.ensures {u = tt}) in
+    let trail : Trail _ = record { start = c.in-Ok.start; steps = c.new.result; rise = c.new-2.result; fall = c.new-3.result } in
     record {
       begun = record {
         same = refl;
