@@ -93,8 +93,7 @@ impl<'s, 'a, F: Exact> Walk<'s, 'a, F> {
 
     /// Ends the walk: the basis is let go, and the steps go on.
     fn arrive(self, end: End<F>) -> Arrival<F>
-        ensures steps { result.steps ≡ self.entry.steps }
-        ensures end { result.end ≡ end }
+        ensures { result ≡ record { steps = self.entry.steps; end = end } }
     {
         let Walk { own, steps, .. } = self;
         drop(own);
