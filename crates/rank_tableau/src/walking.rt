@@ -1,5 +1,5 @@
 //! A walk of a tested value in whole numbers, from the solved basis to its end.
-ghost use Rattle.std.specs.Prelude.{◌<◌, ◌≤◌, ◌≡◌, ℕ, length, slice_index, IfOk, OnOk};
+ghost use Rattle.std.specs.Prelude.{◌<◌, ◌≤◌, ◌≡◌, ℕ, [], length, slice_index, IfOk, OnOk};
 ghost use Rattle.exact_algebra.specs.Fraction.{rational};
 ghost use Rattle.loss_model.specs.Problem.{sample};
 ghost use Rattle.pivot_rule.specs.Duals.{HasCosts};
@@ -7,7 +7,7 @@ ghost use Rattle.pivot_rule.specs.Steps.{HasNoNegativeSlope};
 ghost use Rattle.walk_rule.specs.Families.{IsOptimalIn};
 ghost use Rattle.whole_tableau.specs.Kept.{IsKept, place};
 ghost use Rattle.rank_tableau.specs.Founds.{family_of, parameter_at, bound_by};
-ghost use Rattle.rank_tableau.specs.Walks.{here_of, IsStepAt, IsAdvanced, IsAdvancedOrEnded, IsEnded};
+ghost use Rattle.rank_tableau.specs.Walks.{here_of, IsAlong, IsStepAt, IsAdvanced, IsAdvancedOrEnded, IsEnded};
 
 use crate::course::Course;
 use crate::outcome::{Next, left_at};
@@ -91,6 +91,29 @@ impl<'s, 'a, F: Exact> Walk<'s, 'a, F> {
         }
     }
 
+    /// Makes the walking steps up to the end, within a limit of them. It refuses too where that is reached.
+    fn run(&mut self, course: &Course<F>, reach: &Square, limit: u32) -> Result<End<F>, Obstacle>
+        requires begun { IsAlong F.value self.old.start.now.problem course.now (bound_by self.old.start.now course.now.column reach.now) self.old.start.now.rows reach.now self.old }
+        requires none { self.old.steps ≡ [] }
+        requires column { course.now.column < self.old.start.now.problem.columns }
+        requires reach { 1 ≤ reach.now.under }
+        requires costs { HasCosts (sample F.value self.old.start.now.problem) (rational (F.value course.now.tau)) }
+        ensures { IfOk result (λ end. IsEnded F.value self.old.start.now.problem course.now (bound_by self.old.start.now course.now.column reach.now) self.old.start.now.rows limit (record { steps = self.new.steps; end = end })) }
+    {
+        for _ in 0..limit {
+            match self.advance(course, reach) {
+                Ok(None) => {}
+                Ok(Some(end)) => return Ok(end),
+                Err(obstacle) => return Err(obstacle),
+            }
+        }
+        match left_at(self.here(), course, reach, self.weight) {
+            Ok(Next::End(end)) => Ok(end),
+            Ok(Next::Step(_)) => Err(Obstacle::TooWide),
+            Err(obstacle) => Err(obstacle),
+        }
+    }
+
     /// Ends the walk: the basis is let go, and the steps go on.
     fn arrive(self, end: End<F>) -> Arrival<F>
         ensures { result ≡ record { steps = self.entry.steps; end = end } }
@@ -121,22 +144,8 @@ pub fn walk_to_end<F: Exact>(
         steps: List::new(start.alloc()),
         weight: F::zero(),
     };
-    for _ in 0..limit {
-        match walk.advance(course, reach) {
-            Ok(None) => {}
-            Ok(Some(end)) => return Ok(walk.arrive(end)),
-            Err(obstacle) => {
-                drop(walk);
-                return Err(obstacle);
-            }
-        }
-    }
-    match left_at(walk.here(), course, reach, walk.weight) {
-        Ok(Next::End(end)) => Ok(walk.arrive(end)),
-        Ok(Next::Step(_)) => {
-            drop(walk);
-            Err(Obstacle::TooWide)
-        }
+    match walk.run(course, reach, limit) {
+        Ok(end) => Ok(walk.arrive(end)),
         Err(obstacle) => {
             drop(walk);
             Err(obstacle)
