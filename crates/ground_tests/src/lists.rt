@@ -1,7 +1,7 @@
 //! What may be handed to another thread or shared with it.
 
-use crate::helpers::crosses;
 use frac_core::{Frac64, Frac128, List, Op, Text};
+use loss_model::{Problem, Process, Short};
 
 fn is_send<T: Send>() {}
 
@@ -15,6 +15,16 @@ fn list_is_sync<T: Sync>() {
     is_sync::<List<T>>();
 }
 
+// Compiles where values of the type may be handed to another thread and shared with it.
+fn crosses<T: Send + Sync>() {}
+
+// What is made of fractions may be handed to another thread where they may.
+fn all_cross<F: Send + Sync>() {
+    crosses::<Problem<F>>();
+    crosses::<Process<F>>();
+    crosses::<Short<F>>();
+}
+
 #[test]
 fn values_cross_threads() {
     crosses::<Text>();
@@ -22,4 +32,5 @@ fn values_cross_threads() {
     list_is_sync::<Text>();
     crosses::<Frac64>();
     crosses::<Op<Frac128>>();
+    all_cross::<Frac128>();
 }

@@ -1,125 +1,16 @@
-//! Fractions in 64 bits and back, and problems and answers so.
+//! Answers of 64 bits in 128.
 
 use crate::helpers::{Ratio, fraction, list, push};
-use frac_core::{Exact, Frac64, Frac128, List, narrow, widen};
+use frac_core::{Exact, Frac64, Frac128, List};
 use loss_model::{
-    Basis, Exchange, Problem, Process, Row, Segment, Side, Stop, Trail, Vertex, narrow_problem,
-    widen_process, widen_stop,
+    Basis, Exchange, Process, Segment, Side, Stop, Trail, Vertex, widen_process, widen_stop,
 };
 use std::alloc::Global;
 use std::process::Abort;
-use test_kit::{is_shaped, ratio};
+use test_kit::ratio;
 
 /// The widest number of 64 bits.
 const L: i128 = Frac64::RANGE;
-
-// A fraction of 128 bits, and whether it has 64.
-static NUMBERS: [(Ratio, bool); 11] = [
-    ((9_223_372_036_854_775_808, 1), false),
-    ((-1, 3), true),
-    ((0, 1), true),
-    ((L, 1), true),
-    ((-L, 1), true),
-    ((-L - 1, 1), false),
-    ((1, L), true),
-    ((-1, L), true),
-    ((1, L + 1), false),
-    ((L, L - 1), true),
-    ((L + 1, L), false),
-];
-
-#[test]
-fn numbers_in_64_bits_and_back(rt: HostRuntime) {
-    for (number, fits) in &NUMBERS {
-        match narrow(fraction(&rt, *number)) {
-            Some(made) => {
-                assert!(rt; *fits && ratio(made) == *number, "{number:?}");
-                assert!(rt; ratio(widen(made)) == *number, "{number:?}");
-            }
-            None => assert!(rt; !*fits, "{number:?}"),
-        }
-    }
-}
-
-// The numbers of a row of one entry: that entry, its response and its costs.
-type Numbers = [Ratio; 6];
-
-// Rows, and whether they have 64 bits.
-static ROWS: [(&Numbers, bool); 5] = [
-    (&[(1, L), (2, 1), (0, 1), (1, 1), (-1, L), (-L, 1)], true),
-    (
-        &[(L + 1, 1), (2, 1), (0, 1), (1, 1), (1, 1), (-1, 1)],
-        false,
-    ),
-    (
-        &[(1, 1), (1, L + 1), (0, 1), (1, 1), (1, 1), (-1, 1)],
-        false,
-    ),
-    (
-        &[(1, 1), (2, 1), (L + 1, 1), (1, 1), (1, 1), (-1, 1)],
-        false,
-    ),
-    (
-        &[(1, 1), (2, 1), (0, 1), (1, 1), (1, 1), (-L - 1, 1)],
-        false,
-    ),
-];
-
-fn row(rt: &impl Abort, alloc: Global, numbers: &Numbers) -> Row<Frac128> {
-    Row {
-        x: list(rt, alloc, &[numbers[0]]),
-        y: fraction(rt, numbers[1]),
-        up0: fraction(rt, numbers[2]),
-        up1: fraction(rt, numbers[3]),
-        down0: fraction(rt, numbers[4]),
-        down1: fraction(rt, numbers[5]),
-    }
-}
-
-// The row in 64 bits, where it fits.
-fn narrow_row(rt: &impl Abort, alloc: Global, numbers: &Numbers) -> Option<Row<Frac64>> {
-    let mut rows = Vec::new(alloc);
-    push(rt, &mut rows, row(rt, alloc, numbers));
-    let problem = Problem {
-        columns: 1,
-        rows: List::from(rows),
-    };
-    assert!(rt; is_shaped(&problem));
-    let made = narrow_problem(alloc, &problem).ok().expect(rt, "memory");
-    drop(problem);
-    let narrow = made?;
-    assert!(rt; narrow.columns == 1);
-    narrow.rows.into_vec().pop()
-}
-
-// Whether a row has one entry, and these are its numbers.
-fn has_numbers(row: &Row<Frac64>, numbers: &Numbers) -> bool {
-    let [x, y, up0, up1, down0, down1] = *numbers;
-    let x_is = match row.x.as_slice() {
-        [entry] => ratio(*entry) == x,
-        _ => false
-    };
-    let sides = [
-        (row.y, y),
-        (row.up0, up0),
-        (row.up1, up1),
-        (row.down0, down0),
-        (row.down1, down1),
-    ];
-    x_is && sides.iter().all(|side| ratio(side.0) == side.1)
-}
-
-#[test]
-fn problems_in_64_bits(rt: HostRuntime) {
-    for (numbers, fits) in &ROWS {
-        let narrow = narrow_row(&rt, rt.alloc(), numbers);
-        match &narrow {
-            Some(made) => assert!(rt; *fits && has_numbers(made, numbers), "{numbers:?}"),
-            None => assert!(rt; !*fits, "{numbers:?}"),
-        }
-        drop(narrow);
-    }
-}
 
 // A list of one item.
 fn one<T: Drop>(rt: &impl Abort, alloc: Global, item: T) -> List<T> {

@@ -1,9 +1,10 @@
 //! What the cases of a file are about.
 
+use crate::ground::{Ground, ground_of};
 use crate::told::Told;
 use crate::{
-    arithmetics, certificates, designs, formulas, predictions, readings, smooths, sums, tables,
-    verdicts, words,
+    arithmetics, certificates, designs, formulas, ground, predictions, readings, smooths, sums,
+    tables, verdicts, words,
 };
 use std::thread::Threads;
 
@@ -29,11 +30,13 @@ pub(crate) enum Kind {
     Writings,
     Sums,
     Ranks,
+    Ground(Ground),
 }
 
 /// The kind of the cases of a file, by its name.
 pub(crate) fn kind_of(name: &str) -> Option<Kind> {
-    let kind = match name.strip_suffix(".txt")? {
+    let name = name.strip_suffix(".txt")?;
+    let kind = match name {
         "words" => Kind::Words,
         "tables" => Kind::Tables,
         "columns" => Kind::Columns,
@@ -53,7 +56,7 @@ pub(crate) fn kind_of(name: &str) -> Option<Kind> {
         "writings" => Kind::Writings,
         "sums" => Kind::Sums,
         "ranks" => Kind::Ranks,
-        _ => return None,
+        _ => Kind::Ground(ground_of(name)?),
     };
     Some(kind)
 }
@@ -86,5 +89,6 @@ pub(crate) fn tell<R: Threads + Sync>(
         Kind::Writings => certificates::tell_written(told, shared, asked),
         Kind::Sums => sums::tell(told, shared, asked),
         Kind::Ranks => sums::tell_interval(told, shared, asked),
+        Kind::Ground(ground) => ground::tell(told, ground, shared, asked),
     }
 }

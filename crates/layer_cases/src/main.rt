@@ -1,5 +1,5 @@
-//! What one layer answers, as data: words, tables, formulas, designs, smooths and certificates go in, and what is read or found is told
-//! as a text, which is held to what a case wants.
+//! What one layer answers, as data: numbers, words, tables, formulas, designs, smooths, certificates and problems go in, and what is read or
+//! found is told as a text, which is held to what a case wants.
 //!
 //! The words of this program are names of files with cases; the name of a file says what its cases are about. Of each file it prints how
 //! many of its cases were tried, and before that each case of which something else was told, with that. So the gate, which compares what
@@ -8,19 +8,29 @@
 //! A line of a file is a case, `> what is asked => what is wanted`; or what the cases below it share, `= a table or a certificate, say`;
 //! or a remark. In each text `\n`, `\r` and `\t` stand for those letters, `\\` for a backslash, and `\x` with two hexadecimal digits for
 //! a byte. What each answer should be was worked out apart from the program. The largest inputs stand in `input_tests`. The crate
-//! stands on `rq_words`, `tv_penalty` and `cert_checker`.
+//! stands on `rq_words`, `tv_penalty` and `cert_checker`, and on `formula_arith`, `predict_steps` and `table_maker`.
 #![tactic(auto)]
 
 mod arithmetics;
 mod certificates;
+mod codings;
 mod designs;
+mod evaluations;
 mod formulas;
+mod fractions;
+mod generated;
+mod ground;
 mod kind;
+mod losses;
 mod models;
+mod naturals;
 mod notation;
+mod numbers;
 mod predictions;
+mod ratios;
 mod readings;
 mod smooths;
+mod steps;
 mod sums;
 mod tables;
 mod told;

@@ -2,8 +2,8 @@
 
 use crate::notation::bytes_of;
 use data_frame::{Frame, read_table};
-use frac_core::{Frac128, Text, number_text};
-use loss_model::Site;
+use frac_core::{Exact, Frac128, Op, Text, number_text};
+use loss_model::{Site, Spill};
 use std::alloc::Global;
 use std::fmt::Debug;
 
@@ -47,11 +47,32 @@ impl Told {
         }
     }
 
-    pub(crate) fn put_number(&mut self, value: Frac128) {
+    /// What was told apart, behind a mark, where it is something else.
+    pub(crate) fn put_other(&mut self, other: &Told) {
+        if self.text.as_str() != other.text.as_str() {
+            self.put(" | ");
+            self.put(other.text.as_str());
+        }
+        self.whole = self.whole && other.whole;
+    }
+
+    /// Bytes that are a text.
+    pub(crate) fn put_bytes(&mut self, bytes: &[u8]) {
+        match std::str::from_utf8(bytes) {
+            Ok(text) => self.put(text),
+            Err(_) => self.whole = false,
+        }
+    }
+
+    pub(crate) fn put_fraction<F: Exact>(&mut self, value: F) {
         match number_text(self.alloc, value) {
             Ok(text) => self.put(text.as_str()),
             Err(_) => self.whole = false,
         }
+    }
+
+    pub(crate) fn put_number(&mut self, value: Frac128) {
+        self.put_fraction(value);
     }
 
     pub(crate) fn put_count(&mut self, count: usize) {
@@ -74,6 +95,31 @@ impl Told {
         self.put_named(" ", site.term);
     }
 
+    /// The kind of an operation, and its operands.
+    pub(crate) fn put_op<F: Exact>(&mut self, op: Op<F>) {
+        self.put_debug(&op.kind);
+        self.put(" ");
+        self.put_fraction(op.left);
+        self.put(" ");
+        self.put_fraction(op.right);
+    }
+
+    /// The site of an operation that overflows, its kind and its operands.
+    pub(crate) fn put_spill<F: Exact>(&mut self, spill: Spill<F>) {
+        let site = spill.site;
+        self.put_debug(&site.quantity);
+        self.put_named(" ", site.first);
+        self.put_named(" ", site.second);
+        self.put_named(" ", site.third);
+        self.put_named(" ", site.term);
+        self.put(" ");
+        self.put_op(Op {
+            kind: site.kind,
+            left: spill.left,
+            right: spill.right,
+        });
+    }
+
     /// What `Debug` writes.
     pub(crate) fn put_debug(&mut self, value: &impl Debug) {
         match format!(in self.alloc; "{value:?}") {
@@ -83,13 +129,17 @@ impl Told {
     }
 
     /// Numbers with a space between them.
-    pub(crate) fn put_numbers(&mut self, numbers: &[Frac128]) {
+    pub(crate) fn put_fractions<F: Exact>(&mut self, numbers: &[F]) {
         let mut mark = "";
         for number in numbers {
             self.put(mark);
-            self.put_number(*number);
+            self.put_fraction(*number);
             mark = " ";
         }
+    }
+
+    pub(crate) fn put_numbers(&mut self, numbers: &[Frac128]) {
+        self.put_fractions(numbers);
     }
 
     /// Names with a mark between them.
