@@ -8,6 +8,8 @@
 #[cfg(test)]
 mod breakpoints;
 #[cfg(test)]
+mod helpers;
+#[cfg(test)]
 mod projections;
 #[cfg(test)]
 mod segments;

@@ -42,14 +42,6 @@ fn integer(rt: &impl Abort, alloc: Global, n: i128) -> Integer {
     Integer::new(alloc, n).ok().expect(rt, "memory")
 }
 
-fn product(rt: &impl Abort, alloc: Global, a: &Integer, b: &Integer) -> Integer {
-    a.mul(alloc, b).ok().expect(rt, "memory")
-}
-
-fn is_same(a: &Integer, b: &Integer) -> bool {
-    a.is_negative() == b.is_negative() && a.size().compare(b.size()).is_eq()
-}
-
 // Whether a number over the factors' denominator is a quotient.
 fn is_share(
     rt: &impl Abort,
@@ -58,12 +50,14 @@ fn is_share(
     factors: &Factors,
     (over, under): (&Integer, &Integer),
 ) -> bool {
-    let left = product(rt, alloc, number, under);
-    let right = over
-        .times(alloc, &factors.denominator)
-        .ok()
-        .expect(rt, "memory");
-    is_same(&left, &right)
+    let left = number.mul(alloc, under).ok().expect(rt, "memory");
+    let right = over.times(alloc, &factors.denominator);
+    let right = right.ok().expect(rt, "memory");
+    let is_same = left.is_negative() == right.is_negative();
+    let is_same = is_same && left.size().compare(right.size()).is_eq();
+    drop(left);
+    drop(right);
+    is_same
 }
 
 fn expect_factors(rt: &impl Abort, alloc: Global, found: &Factors, n: i128) {
@@ -75,36 +69,43 @@ fn expect_factors(rt: &impl Abort, alloc: Global, found: &Factors, n: i128) {
     for k in 1..3 {
         assert!(rt; is_share(rt, alloc, &numerators[k], found, (&one, &under)));
     }
+    drop(one);
+    drop(under);
 }
 
+// What is left is (n - 1)(n + 2) over n + 1.
 fn expect_length(rt: &impl Abort, alloc: Global, left: &Integer, found: &Factors, n: i128) {
-    assert!(rt; n < 1 << 120);
+    assert!(rt; n > 0 && n < 1 << 120);
+    let less = integer(rt, alloc, n - 1);
+    let more = integer(rt, alloc, n + 2);
+    let over = less.mul(alloc, &more).ok().expect(rt, "memory");
     let under = integer(rt, alloc, n + 1);
-    let whole = product(rt, alloc, &integer(rt, alloc, n), &under);
-    let over = whole
-        .add(alloc, &integer(rt, alloc, -2))
-        .ok()
-        .expect(rt, "memory");
     assert!(rt; is_share(rt, alloc, left, found, (&over, &under)));
+    drop(less);
+    drop(more);
+    drop(over);
+    drop(under);
+}
+
+fn expect_projection(rt: &impl Abort, alloc: Global, gram: &[List<i128>], n: i128) {
+    assert!(rt; gram.len() == 3);
+    assert!(rt; is_square(gram));
+    let found = factors_of(alloc, gram, 0).ok().expect(rt, "a projection");
+    expect_factors(rt, alloc, &found, n);
+    assert!(rt; found.numerators.as_slice().len() == gram.len());
+    assert!(rt; !found.denominator.is_zero());
+    let left = length_of(alloc, gram, 0, &found).ok().expect(rt, "memory");
+    expect_length(rt, alloc, &left, &found, n);
+    drop(left);
+    drop(found);
 }
 
 #[test]
 fn factors_past_128_bits_are_those_worked_by_hand(rt: HostRuntime) {
     for n in &LENGTHS {
         let gram = gram(&rt, rt.alloc(), *n);
-        let rows = gram.as_slice();
-        assert!(rt; rows.len() == 3);
-        assert!(rt; is_square(rows));
-        let Ok(found) = factors_of(rt.alloc(), rows, 0) else {
-            panic!(rt; "the projection must not be refused");
-        };
-        expect_factors(&rt, rt.alloc(), &found, *n);
-        assert!(rt; found.numerators.as_slice().len() == rows.len());
-        assert!(rt; !found.denominator.is_zero());
-        let Ok(left) = length_of(rt.alloc(), rows, 0, &found) else {
-            panic!(rt; "there must be memory");
-        };
-        expect_length(&rt, rt.alloc(), &left, &found, *n);
+        expect_projection(&rt, rt.alloc(), gram.as_slice(), *n);
+        drop(gram);
     }
 }
 
@@ -115,6 +116,6 @@ fn dependent_columns_have_no_factors(rt: HostRuntime) {
     let rows = gram.as_slice();
     assert!(rt; rows.len() == 3);
     assert!(rt; is_square(rows));
-    let refused = factors_of(rt.alloc(), rows, 0).err();
-    assert!(rt; refused == Some(Obstacle::TooWide));
+    assert!(rt; factors_of(rt.alloc(), rows, 0).err() == Some(Obstacle::TooWide));
+    drop(gram);
 }

@@ -1,0 +1,75 @@
+//! Fractions, data rows, and segments of starts in whole numbers.
+
+use frac_core::{Exact, Frac128, List};
+use loss_model::{Problem, Row, Segment};
+use std::alloc::Global;
+use std::process::Abort;
+use test_kit::{is_shaped, ratio};
+use whole_tableau::{WholeTableau, setting_of};
+
+/// A numerator and a denominator.
+pub(crate) type Ratio = (i128, i128);
+
+fn fraction(rt: &impl Abort, (n, d): Ratio) -> Frac128 {
+    Frac128::from_parts(n, d).expect(rt, "a fraction in range")
+}
+
+/// The numbers of a list are these.
+pub(crate) fn expect(rt: &impl Abort, found: &List<Frac128>, want: &[Ratio]) {
+    let found = found.as_slice();
+    assert!(rt; found.len() == want.len());
+    for (value, want) in found.iter().zip(want) {
+        assert!(rt; ratio(*value) == *want);
+    }
+}
+
+/// Adds an item. A test has the memory that it needs, so that nothing that makes a list owes a `?`.
+pub(crate) fn push<T: Drop>(rt: &impl Abort, items: &mut Vec<T>, item: T) {
+    if items.push(item).is_err() {
+        panic!(rt; "no memory");
+    }
+}
+
+/// A row of the check loss.
+pub(crate) fn data_row(
+    rt: &impl Abort,
+    alloc: Global,
+    entries: &[Ratio],
+    y: Ratio,
+    weight: Ratio,
+) -> Row<Frac128> {
+    let mut x = Vec::new(alloc);
+    for entry in entries {
+        push(rt, &mut x, fraction(rt, *entry));
+    }
+    let weight = fraction(rt, weight);
+    Row {
+        x: List::from(x),
+        y: fraction(rt, y),
+        up0: Frac128::zero(),
+        up1: weight,
+        down0: weight,
+        down1: weight.neg(),
+    }
+}
+
+/// The segment of the start between two quantiles. Who takes it lets it go by `drop`: what a function itself lets go of so
+/// many lists costs much to prove.
+pub(crate) fn segment_of(
+    rt: &impl Abort,
+    alloc: Global,
+    problem: &Problem<Frac128>,
+    (lo, hi): (Ratio, Ratio),
+) -> Segment<Frac128> {
+    assert!(rt; is_shaped(problem));
+    let setting = setting_of(alloc, problem)
+        .ok()
+        .expect(rt, "numbers of 64 bits");
+    let tableau = WholeTableau::begin(alloc, problem, &setting)
+        .ok()
+        .expect(rt, "a start");
+    let segment = tableau.segment(fraction(rt, lo), fraction(rt, hi));
+    drop(tableau);
+    drop(setting);
+    segment.ok().expect(rt, "a segment")
+}
