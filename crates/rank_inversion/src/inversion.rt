@@ -405,7 +405,10 @@ pub fn interval_in_wholes<F: Exact>(
         Err(_) => return None,
     };
     let started = start_in_wholes(alloc, problem, &setting, asked.tau, limit);
-    interval_by(alloc, problem, &started, asked, limit)
+    let interval = interval_by(alloc, problem, &started, asked, limit);
+    drop(started);
+    drop(setting);
+    interval
 }
 
 /// The rank interval of a column at the quantile tau for a critical value: the tested values for which some

@@ -51,8 +51,8 @@ returns-in-Ok-interval_from-clause-interval g c =
     subst (λ (a : Asked _). IsRankInterval g.F.Exact.value c.args.problem.now a.column a.tau a.crit c.args.limit c.in-Ok-interval_from.interval) (c.in-Ok-rank_test.ensures {u = tt}).tested.same
     (c.in-Ok-interval_from.ensures {u = tt}).interval
 
-pub returns-clause-stopped : goal.returns-clause-stopped
-returns-clause-stopped g c =
+pub returns-in-Err-interval_from-clause-stopped : goal.returns-in-Err-interval_from-clause-stopped
+returns-in-Err-interval_from-clause-stopped g c =
     let value = g.F.Exact.value in
     let asked = c.args.asked in
     by_walks value c.args.problem.now asked.column (rational (value asked.tau)) (rational (value asked.crit)) g.F.Exact.range c.args.limit c.in-Err-interval_from.stop

@@ -38,8 +38,9 @@ returns-in-Ok-Some-clause-ended g c =
     let start = c.args.from.tableau in
     let found = rw c.in-Ok-Some.field-0-is at (c.in-Ok-Some.ensures {u = tt}).next in
     let short : length c.loop.walk.steps ≤ c.args.limit = omega (arith, c.loop.invariant.counted, c.loop-test.true) in
-    subst (λ (w : Walk _). IsEnded value start.problem c.args.course.now start.rows c.args.limit (record { steps = w.steps; end = c.in-Ok-Some.end })) (sym found.0)
-    (along_ended value start.problem c.args.course.now start.rows c.loop.walk c.loop.invariant.along c.args.limit c.in-Ok-Some.end found.1 short)
+    rw (c.into_steps-steps.ensures)
+    (subst (λ (w : Walk _). IsEnded value start.problem c.args.course.now start.rows c.args.limit (record { steps = w.steps; end = c.in-Ok-Some.end })) (sym found.0)
+    (along_ended value start.problem c.args.course.now start.rows c.loop.walk c.loop.invariant.along c.args.limit c.in-Ok-Some.end found.1 short))
 
 pub returns-in-Err-clause-halted : goal.returns-in-Err-clause-halted
 returns-in-Err-clause-halted g c =
@@ -47,7 +48,7 @@ returns-in-Err-clause-halted g c =
     let start = c.args.from.tableau in
     let refused = (c.in-Err.ensures {u = tt}).refused in
     along_halted value start.problem c.args.course.now start.rows c.loop.walk c.loop.invariant.along c.args.limit g.F.Exact.range c.in-Err.short c.advance.new.self.steps c.halted.result
-    refused.kept refused.spill (omega (arith, c.loop.invariant.counted, c.loop-test.true)) c.halted.ensures
+    refused.kept refused.spill (omega (arith, c.loop.invariant.counted, c.loop-test.true)) (rw (c.into_steps.ensures) at c.halted.ensures)
 
 pub look-requires-clause-column : goal.look-requires-clause-column
 look-requires-clause-column g c κs within =
@@ -64,19 +65,21 @@ returns-in-Ok-End-clause-ended g c =
     let start = c.args.from.tableau in
     let end = rw c.in-Ok-End.field-0-is at (c.in-Ok-End.ensures {u = tt}).next in
     let short : length c.loop.walk.steps ≤ c.args.limit = omega (arith, c.loop.invariant.counted, c.loop.auto.counter-end) in
-    along_ended g.F.Exact.value start.problem c.args.course.now start.rows c.loop.walk c.loop.invariant.along c.args.limit c.in-Ok-End.end end short
+    rw (c.into_steps-steps-in-Ok-End.ensures)
+    (along_ended g.F.Exact.value start.problem c.args.course.now start.rows c.loop.walk c.loop.invariant.along c.args.limit c.in-Ok-End.end end short)
 
 pub returns-in-Ok-Step-clause-halted : goal.returns-in-Ok-Step-clause-halted
 returns-in-Ok-Step-clause-halted g c =
     let start = c.args.from.tableau in
     let step = rw c.in-Ok-Step.field-0-is at (c.in-Ok-Step.ensures {u = tt}).next in
     let count : length c.loop.walk.steps ≡ c.args.limit = omega (arith, c.loop.invariant.counted, c.loop-test.false, c.loop.auto.counter-end) in
-    along_limit g.F.Exact.value start.problem c.args.course.now start.rows c.loop.walk c.loop.invariant.along c.args.limit c.in-Ok-Step.field-0-0 step count
+    rw (c.into_steps-steps-in-Ok-Step.ensures)
+    (along_limit g.F.Exact.value start.problem c.args.course.now start.rows c.loop.walk c.loop.invariant.along c.args.limit c.in-Ok-Step.field-0-0 step count)
 
-pub returns-clause-halted : goal.returns-clause-halted
-returns-clause-halted g c =
+pub returns-in-Err-look-clause-halted : goal.returns-in-Err-look-clause-halted
+returns-in-Err-look-clause-halted g c =
     let value = g.F.Exact.value in
     let start = c.args.from.tableau in
     let short : length c.loop.walk.steps ≤ c.args.limit = omega (arith, c.loop.invariant.counted, c.loop.auto.counter-end) in
     along_halted value start.problem c.args.course.now start.rows c.loop.walk c.loop.invariant.along c.args.limit g.F.Exact.range c.in-Err-look.short c.loop.walk.steps c.halted-in-Err-look.result
-    refl (c.in-Err-look.ensures {u = tt}).spill short c.halted-in-Err-look.ensures
+    refl (c.in-Err-look.ensures {u = tt}).spill short (rw (c.into_steps-in-Err-look.ensures) at c.halted-in-Err-look.ensures)
