@@ -1,5 +1,5 @@
 -- Inner. The line search: along a line on which the loss falls, rows are passed until it does so no longer.
-use Rattle.std.specs.Prelude.{◌≡◌, ℕ, ◌<◌, Bool, true, ◌&&◌, List, length}
+use Rattle.std.specs.Prelude.{ℕ, ◌&&◌, length}
 use Rattle.exact_algebra.specs.Fraction.{Fraction, rational}
 use Rattle.exact_algebra.specs.Rational.{ℚ}
 use Rattle.loss_model.specs.declared.spill.Spill.{Spill}

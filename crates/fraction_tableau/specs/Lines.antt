@@ -1,11 +1,11 @@
 -- Inner. The line along which a position leaves, and the rows that move on it.
-use Rattle.std.specs.Prelude.{◌≡◌, ◌≢◌, ℕ, ◌<◌, Bool, true, ◌&&◌, List, length, slice_get, slice_index, Some}
+use Rattle.std.specs.Prelude.{◌≡◌, ◌≢◌, ℕ, ◌<◌, Bool, true, List, length, slice_get, slice_index, Some}
 use Rattle.std.specs.Option.{option_map_or}
 use Rattle.exact_algebra.specs.Fraction.{Fraction, rational}
 use Rattle.exact_algebra.specs.Rational.{ℚ, neg_ℚ}
 use Rattle.loss_model.specs.declared.spill.Spill.{Spill}
 use Rattle.loss_model.specs.Sample.{Sample, residual}
-use Rattle.loss_model.specs.Problem.{value_at, sample, IsWellShaped}
+use Rattle.loss_model.specs.Problem.{value_at, sample}
 use Rattle.loss_model.specs.Spill.{abs_ℚ}
 use Rattle.basis_model.specs.Perturbed.{ratio}
 use Rattle.basis_inverse.specs.Square.{inverse_entry}
@@ -16,9 +16,7 @@ use Rattle.basic_solution.specs.Bases.{side_in}
 use Rattle.loss_model.specs.declared.vertex.Side.{Side}
 use Rattle.pivot_rule.specs.declared.direction.Direction.{Direction}
 use Rattle.pivot_rule.specs.declared.direction.Direction.TheVariants.{Upward, Downward}
-use Rattle.pivot_rule.specs.Duals.{HasCosts}
-use Rattle.pivot_rule.specs.Steps.{slope, moves, is_before, passing, slope_before, IsLeaving, IsEntering}
-use Rattle.pivot_rule.specs.Spills.{IsStepSpill, count}
+use Rattle.pivot_rule.specs.Steps.{moves, is_before}
 use Rattle.loss_model.specs.Quantities.{IsCoordinatesSpill}
 use Rattle.basis_model.specs.RatioSpill.{IsRatioEntrySpill, IsRatioSpill}
 use Rattle.fraction_tableau.specs.declared.line.Line.{Line}

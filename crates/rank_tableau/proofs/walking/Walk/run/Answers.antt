@@ -1,5 +1,5 @@
 -- The walk goes on by a step, up to its end.
-use Rattle.std.proofs.Common.{◌≡◌, ◌+◌, ◌≤◌, length, sym, ap, subst, ◌∙◌, arith}
+use Rattle.std.proofs.Common.{◌+◌, ◌≤◌, length, sym, ap, subst, ◌∙◌, arith}
 use Rattle.std.proofs.lemmas.List.{length_push}
 use Rattle.rank_tableau.specs.declared.walking.Walk.{Walk}
 use Rattle.rank_tableau.specs.Founds.{bound_by}
