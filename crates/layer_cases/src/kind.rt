@@ -1,10 +1,11 @@
 //! What the cases of a file are about.
 
+use crate::derived::{Derived, derived_of};
 use crate::ground::{Ground, ground_of};
 use crate::told::Told;
 use crate::{
-    arithmetics, certificates, designs, formulas, ground, predictions, readings, smooths, sums,
-    tables, verdicts, words,
+    arithmetics, certificates, derived, designs, formulas, ground, predictions, readings, smooths,
+    sums, tables, verdicts, words,
 };
 use std::thread::Threads;
 
@@ -31,6 +32,15 @@ pub(crate) enum Kind {
     Sums,
     Ranks,
     Ground(Ground),
+    Derived(Derived),
+}
+
+// The kind of cases of lower crates.
+fn lower_kind(name: &str) -> Option<Kind> {
+    match ground_of(name) {
+        Some(ground) => Some(Kind::Ground(ground)),
+        None => Some(Kind::Derived(derived_of(name)?)),
+    }
 }
 
 /// The kind of the cases of a file, by its name.
@@ -56,7 +66,7 @@ pub(crate) fn kind_of(name: &str) -> Option<Kind> {
         "writings" => Kind::Writings,
         "sums" => Kind::Sums,
         "ranks" => Kind::Ranks,
-        _ => Kind::Ground(ground_of(name)?),
+        _ => return lower_kind(name),
     };
     Some(kind)
 }
@@ -90,5 +100,6 @@ pub(crate) fn tell<R: Threads + Sync>(
         Kind::Sums => sums::tell(told, shared, asked),
         Kind::Ranks => sums::tell_interval(told, shared, asked),
         Kind::Ground(ground) => ground::tell(told, ground, shared, asked),
+        Kind::Derived(derived) => derived::tell(told, derived, shared, asked),
     }
 }

@@ -126,11 +126,18 @@ pub(crate) fn tell_operation(told: &mut Told, asked: &str) {
 
 // ---- problems in 64 bits
 
+// A number and a blank.
+fn tell_number<F: Exact>(told: &mut Told, value: F) {
+    told.put_fraction(value);
+    told.put(" ");
+}
+
 fn tell_row<F: Exact>(told: &mut Told, row: &Row<F>) {
-    for number in [row.y, row.up0, row.up1, row.down0, row.down1] {
-        told.put_fraction(number);
-        told.put(" ");
-    }
+    tell_number(told, row.y);
+    tell_number(told, row.up0);
+    tell_number(told, row.up1);
+    tell_number(told, row.down0);
+    tell_number(told, row.down1);
     told.put_fractions(row.x.as_slice());
 }
 

@@ -8,24 +8,29 @@
 //! A line of a file is a case, `> what is asked => what is wanted`; or what the cases below it share, `= a table or a certificate, say`;
 //! or a remark. In each text `\n`, `\r` and `\t` stand for those letters, `\\` for a backslash, and `\x` with two hexadecimal digits for
 //! a byte. What each answer should be was worked out apart from the program. The largest inputs stand in `input_tests`. The crate
-//! stands on `rq_words`, `tv_penalty` and `cert_checker`, and on `formula_arith`, `predict_steps` and `table_maker`.
+//! stands on `rq_words`, `tv_penalty` and `cert_checker`; on `formula_arith`, `predict_steps` and `table_maker`; and on `lambda_path`,
+//! `nested_test` and `tau_process`.
 #![tactic(auto)]
 
 mod arithmetics;
 mod certificates;
 mod codings;
+mod derived;
 mod designs;
 mod evaluations;
 mod formulas;
 mod fractions;
 mod generated;
+mod grams;
 mod ground;
 mod kind;
 mod losses;
 mod models;
 mod naturals;
+mod nested;
 mod notation;
 mod numbers;
+mod paths;
 mod predictions;
 mod ratios;
 mod readings;

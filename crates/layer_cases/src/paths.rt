@@ -1,0 +1,214 @@
+//! Path problems, and the processes of these.
+//!
+//! Of the rows behind `=` are asked the first column that is penalised, the quantile, and for a process the range of lambda; behind ` at `
+//! lambdas, at which the loss of the segment there is told.
+
+ghost use Rattle.std.specs.Prelude.{◌≤◌};
+
+use crate::losses::{problem_of, row_of, tell_loss, tell_problem};
+use crate::numbers::numbers_of;
+use crate::told::Told;
+use frac_core::{Exact, Frac128, List};
+use lambda_path::{PathFault, path_problem};
+use loss_model::{Problem, Process, Segment, Stop};
+use std::alloc::Global;
+use tau_process::process;
+use test_kit::{has_costs, is_ordered, is_shaped};
+
+// What `path_problem` answers where its conditions are met.
+fn path_of(
+    alloc: Global,
+    rows: &Problem<Frac128>,
+    first: u32,
+    tau: Frac128,
+) -> Option<Result<Problem<Frac128>, PathFault>> {
+    if !is_shaped(rows) {
+        return None;
+    }
+    if first > rows.columns {
+        return None;
+    }
+    Some(path_problem(alloc, rows, first, tau))
+}
+
+// What `process` answers where its conditions are met.
+fn walked(
+    alloc: Global,
+    path: &Problem<Frac128>,
+    lo: Frac128,
+    hi: Frac128,
+) -> Option<Result<Process<Frac128>, Stop<Frac128>>> {
+    if !is_shaped(path) {
+        return None;
+    }
+    if !is_ordered(lo, hi) {
+        return None;
+    }
+    if !has_costs(path, lo) {
+        return None;
+    }
+    if !has_costs(path, hi) {
+        return None;
+    }
+    Some(process(alloc, path, lo, hi, 100))
+}
+
+fn tell_fault(told: &mut Told, fault: &PathFault) {
+    match fault {
+        PathFault::OutOfMemory => told.put("no memory"),
+        PathFault::TooManyRows => told.put("TooManyRows"),
+        PathFault::Overflow(spill) => told.put_spill(*spill),
+    }
+}
+
+// Both ends, the losses there, and the coefficients.
+fn tell_segment(told: &mut Told, segment: &Segment<Frac128>) {
+    told.put_numbers(&[segment.lo, segment.hi, segment.loss_lo, segment.loss_hi]);
+    told.put(" ");
+    told.put_numbers(segment.vertex.coef.as_slice());
+}
+
+fn tell_segments(told: &mut Told, segments: &[Segment<Frac128>]) {
+    let mut mark = "";
+    for segment in segments {
+        told.put(mark);
+        tell_segment(told, segment);
+        mark = "; ";
+    }
+}
+
+fn holds(segment: &Segment<Frac128>, lambda: Frac128) -> bool {
+    segment.lo.compare(lambda).is_le() && lambda.compare(segment.hi).is_le()
+}
+
+// The loss at a lambda of the coefficients of the segment that holds it.
+fn tell_least(
+    told: &mut Told,
+    path: &Problem<Frac128>,
+    segments: &[Segment<Frac128>],
+    lambda: Frac128,
+) {
+    told.put(" | ");
+    match segments.iter().find(|segment| holds(segment, lambda)) {
+        Some(segment) => tell_loss(told, path, segment.vertex.coef.as_slice(), lambda),
+        None => told.put("no segment"),
+    }
+}
+
+fn tell_process(
+    told: &mut Told,
+    path: &Problem<Frac128>,
+    process: &Process<Frac128>,
+    lambdas: &[Frac128],
+) {
+    let segments = process.segments.as_slice();
+    tell_segments(told, segments);
+    for lambda in lambdas {
+        tell_least(told, path, segments, *lambda);
+    }
+}
+
+fn tell_walk(
+    told: &mut Told,
+    path: &Problem<Frac128>,
+    lo: Frac128,
+    hi: Frac128,
+    lambdas: &[Frac128],
+) {
+    let answer = walked(told.alloc(), path, lo, hi);
+    match &answer {
+        Some(Ok(process)) => tell_process(told, path, process, lambdas),
+        Some(Err(_)) => told.put("stopped"),
+        None => told.put("no path"),
+    }
+    drop(answer);
+}
+
+// The path problem, or its process where there are ends.
+fn tell_path(told: &mut Told, path: &Problem<Frac128>, ends: &[Frac128], lambdas: &[Frac128]) {
+    match ends {
+        [lo, hi] => tell_walk(told, path, *lo, *hi, lambdas),
+        _ => tell_problem(told, path),
+    }
+}
+
+fn tell_asked(
+    told: &mut Told,
+    rows: &Problem<Frac128>,
+    first: u32,
+    numbers: &[Frac128],
+    lambdas: &[Frac128],
+) {
+    let [tau, ends @ ..] = numbers else {
+        return told.put("no quantile");
+    };
+    let answer = path_of(told.alloc(), rows, first, *tau);
+    match &answer {
+        Some(Ok(path)) => tell_path(told, path, ends, lambdas),
+        Some(Err(fault)) => tell_fault(told, fault),
+        None => told.put("no columns"),
+    }
+    drop(answer);
+}
+
+fn tell_of(told: &mut Told, rows: &Problem<Frac128>, asked: &str) {
+    let (asked, lambdas) = asked.split_once(" at ").unwrap_or((asked, ""));
+    let (first, numbers) = asked.split_once(' ').unwrap_or((asked, ""));
+    let numbers = numbers_of(told.alloc(), numbers);
+    let lambdas = numbers_of(told.alloc(), lambdas);
+    match (first.parse::<u32>(), &numbers, &lambdas) {
+        (Ok(first), Some(numbers), Some(lambdas)) => {
+            tell_asked(told, rows, first, numbers.as_slice(), lambdas.as_slice());
+        }
+        _ => told.put("no number"),
+    }
+}
+
+/// Tells a path problem or its process.
+pub(crate) fn tell(told: &mut Told, shared: &str, asked: &str) {
+    match problem_of(told.alloc(), shared) {
+        Some(rows) => {
+            tell_of(told, &rows, asked);
+            drop(rows);
+        }
+        None => told.put("no problem"),
+    }
+}
+
+// ---- the largest problems
+
+// A problem of so many equal rows of one column.
+fn many_rows(alloc: Global, count: u32) -> Option<Problem<Frac128>> {
+    let mut rows = Vec::new(alloc);
+    for _ in 0..count {
+        rows.push(row_of(alloc, "0 0 1 1 -1 1")?).ok()?;
+    }
+    Some(Problem {
+        columns: 1,
+        rows: List::from(rows),
+    })
+}
+
+fn tell_count(told: &mut Told, rows: &Problem<Frac128>, first: u32) {
+    let answer = path_of(told.alloc(), rows, first, Frac128::one());
+    match &answer {
+        Some(Ok(path)) => told.put_count(path.rows.as_slice().len()),
+        Some(Err(fault)) => tell_fault(told, fault),
+        None => told.put("no columns"),
+    }
+    drop(answer);
+}
+
+/// Tells how many rows the path problem of so many equal rows has, by the first column that is penalised.
+pub(crate) fn tell_size(told: &mut Told, asked: &str) {
+    let (count, first) = asked.split_once(' ').unwrap_or((asked, ""));
+    let count = count.parse::<u32>().unwrap_or(0);
+    let first = first.parse::<u32>().unwrap_or(0);
+    match many_rows(told.alloc(), count) {
+        Some(rows) => {
+            tell_count(told, &rows, first);
+            drop(rows);
+        }
+        None => told.put("no memory"),
+    }
+}
