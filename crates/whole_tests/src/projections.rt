@@ -3,6 +3,7 @@
 ghost use Rattle.std.specs.Prelude.{◌≡◌, length, IsTrue};
 ghost use Rattle.gram_check.specs.Sizes.{IsSquare};
 
+use crate::helpers::push;
 use frac_core::List;
 use gram_check::{Factors, factors_of, length_of};
 use ratio::Integer;
@@ -15,20 +16,19 @@ use whole_inverse::Obstacle;
 static LENGTHS: [i128; 3] = [3, 1 << 40, 1 << 100];
 
 fn row(rt: &impl Abort, alloc: Global, own: usize, n: i128) -> List<i128> {
-    let mut row = List::new(alloc);
+    let mut row = Vec::new(alloc);
     for k in 0..3 {
-        let entry = if k == own { n } else { 1 };
-        assert!(rt; row.push(entry).is_ok());
+        push(rt, &mut row, if k == own { n } else { 1 });
     }
-    row
+    List::from(row)
 }
 
 fn gram(rt: &impl Abort, alloc: Global, n: i128) -> List<List<i128>> {
-    let mut rows = List::new(alloc);
+    let mut rows = Vec::new(alloc);
     for own in 0..3 {
-        assert!(rt; rows.push(row(rt, alloc, own, n)).is_ok());
+        push(rt, &mut rows, row(rt, alloc, own, n));
     }
-    rows
+    List::from(rows)
 }
 
 fn is_square(gram: &[List<i128>]) -> bool
@@ -42,16 +42,29 @@ fn integer(rt: &impl Abort, alloc: Global, n: i128) -> Integer {
     Integer::new(alloc, n).ok().expect(rt, "memory")
 }
 
-// Whether a number over the factors' denominator is a quotient.
+fn product(rt: &impl Abort, alloc: Global, (a, b): (i128, i128)) -> Integer {
+    let first = integer(rt, alloc, a);
+    let second = integer(rt, alloc, b);
+    let product = first.mul(alloc, &second);
+    drop(first);
+    drop(second);
+    product.ok().expect(rt, "memory")
+}
+
+// Whether a number over the factors' denominator is the quotient of a product by a number.
 fn is_share(
     rt: &impl Abort,
     alloc: Global,
     number: &Integer,
     factors: &Factors,
-    (over, under): (&Integer, &Integer),
+    (over, under): ((i128, i128), i128),
 ) -> bool {
-    let left = number.mul(alloc, under).ok().expect(rt, "memory");
+    let under = integer(rt, alloc, under);
+    let left = number.mul(alloc, &under).ok().expect(rt, "memory");
+    drop(under);
+    let over = product(rt, alloc, over);
     let right = over.times(alloc, &factors.denominator);
+    drop(over);
     let right = right.ok().expect(rt, "memory");
     let is_same = left.is_negative() == right.is_negative();
     let is_same = is_same && left.size().compare(right.size()).is_eq();
@@ -64,27 +77,15 @@ fn expect_factors(rt: &impl Abort, alloc: Global, found: &Factors, n: i128) {
     let numerators = found.numerators.as_slice();
     assert!(rt; numerators.len() == 3 && n < 1 << 120);
     assert!(rt; numerators[0].size().is_zero());
-    let one = integer(rt, alloc, 1);
-    let under = integer(rt, alloc, n + 1);
     for k in 1..3 {
-        assert!(rt; is_share(rt, alloc, &numerators[k], found, (&one, &under)));
+        assert!(rt; is_share(rt, alloc, &numerators[k], found, ((1, 1), n + 1)));
     }
-    drop(one);
-    drop(under);
 }
 
 // What is left is (n - 1)(n + 2) over n + 1.
 fn expect_length(rt: &impl Abort, alloc: Global, left: &Integer, found: &Factors, n: i128) {
     assert!(rt; n > 0 && n < 1 << 120);
-    let less = integer(rt, alloc, n - 1);
-    let more = integer(rt, alloc, n + 2);
-    let over = less.mul(alloc, &more).ok().expect(rt, "memory");
-    let under = integer(rt, alloc, n + 1);
-    assert!(rt; is_share(rt, alloc, left, found, (&over, &under)));
-    drop(less);
-    drop(more);
-    drop(over);
-    drop(under);
+    assert!(rt; is_share(rt, alloc, left, found, ((n - 1, n + 2), n + 1)));
 }
 
 fn expect_projection(rt: &impl Abort, alloc: Global, gram: &[List<i128>], n: i128) {
