@@ -8,5 +8,6 @@ pub mod Grammar
 pub mod Codes
 pub mod Faults
 pub mod Machine
+pub mod Readers
 pub mod Numbers
 pub mod Tokens

@@ -1,9 +1,10 @@
 //! Formulas, from tokens to code: a machine whose phase tells which tokens may follow.
-ghost use Rattle.std.specs.Prelude.{◌≡◌, ◌++◌, ◌∷◌, [], true, false, None, IfErr, IfOk, OnOk};
+ghost use Rattle.std.specs.Prelude.{◌≡◌, ◌++◌, ◌∷◌, [], None, IfErr, IfOk, OnOk};
 ghost use Rattle.formula_grammar.specs.ArithMachine.{arith_fresh, arith_part};
 ghost use Rattle.formula_grammar.specs.Codes.{signed_step};
 ghost use Rattle.formula_grammar.specs.Faults.{EndText, IsFault, IsReading};
-ghost use Rattle.formula_grammar.specs.Machine.{atom_read, bare, close_read, end_read, exponent_read, factor_read, first_step, inter_end, intercept_read, item_read, inside_read, next_phase, offset_read, opening_read, operand_read, operator_sign, phase_read, power_read, product_end, response_read, sign_read, smooth_end_read, part_read, sum_end, token_read, with_sign, Reads};
+ghost use Rattle.formula_grammar.specs.Machine.{atom_read, close_read, end_read, exponent_read, factor_read, first_step, inter_end, intercept_read, item_read, inside_read, next_phase, offset_read, opening_read, operand_read, operator_sign, phase_read, power_read, product_end, response_read, sign_read, smooth_end_read, part_read, sum_end, token_read, with_sign, Reads};
+ghost use Rattle.formula_grammar.specs.Readers.{fresh, reading_in};
 
 use crate::arith_reader::ArithReader;
 use crate::fault::ReadFault;
@@ -116,17 +117,7 @@ fn next_phase(phase: Phase, kind: Kind) -> Option<Phase>
 impl Reader {
     /// Nothing is read yet.
     pub(crate) fn new(alloc: Global) -> Reader
-        ensures { result ≡ record {
-          response = record { start = 0; len = 0 };
-          intercept = true;
-          smooths = [];
-          offsets = [];
-          steps = [];
-          arith = arith_fresh;
-          level = bare;
-          outer = [];
-          phase = Phase.Response;
-        } }
+        ensures { result ≡ fresh }
     {
         Reader {
             response: Span { start: 0, len: 0 },
@@ -144,10 +135,7 @@ impl Reader {
     fn emit(&mut self, step: Step) -> Result<(), OutOfMemory>
         ensures { OnOk result (self.new ≡ record self.old { steps = self.old.steps ++ step ∷ [] }) }
     {
-        match self.steps.push(step) {
-            Ok(()) => Ok(()),
-            Err(_) => Err(OutOfMemory),
-        }
+        self.steps.add(step)
     }
 
     fn end_inter(&mut self) -> Result<(), OutOfMemory>
@@ -513,6 +501,41 @@ impl Reader {
             _ => Ok(self.take_other(kind)),
         }
     }
+
+    // Reads the tokens of a text up to their first fault. It stands apart from the reader's maker for the check's
+    // sake: each way out of a function that owns a reader lets all parts of it go.
+    fn scan(&mut self, alloc: Global, tokens: &[Token]) -> Result<(), ReadFault>
+        requires end { EndText tokens.now }
+        requires fresh { self.old ≡ fresh }
+        ensures read { OnOk result (IsReading tokens.now (reading_in self.new)) }
+        ensures fault { IfErr result (IsFault tokens.now) }
+    {
+        let mut limits = Limits::new();
+        for token in tokens {
+            let can_stand = self.take(alloc, *token)?;
+            if !can_stand {
+                return Err(ReadFault::Syntax { offset: token.at });
+            }
+            match limits.pass(*token) {
+                None => {}
+                Some(fault) => return Err(fault),
+            }
+        }
+        Ok(())
+    }
+
+    // What was read.
+    fn into_reading(self) -> Reading
+        ensures { result ≡ reading_in self }
+    {
+        Reading {
+            response: self.response,
+            intercept: self.intercept,
+            steps: self.steps,
+            smooths: self.smooths,
+            offsets: self.offsets,
+        }
+    }
 }
 
 /// Reads the tokens of a text as a formula.
@@ -530,22 +553,11 @@ pub fn read(alloc: Global, tokens: &[Token]) -> Result<Reading, ReadFault>
     ensures fault { IfErr result (IsFault tokens.now) }
 {
     let mut reader = Reader::new(alloc);
-    let mut limits = Limits::new();
-    for token in tokens {
-        let can_stand = reader.take(alloc, *token)?;
-        if !can_stand {
-            return Err(ReadFault::Syntax { offset: token.at });
-        }
-        match limits.pass(*token) {
-            None => {}
-            Some(fault) => return Err(fault),
+    match reader.scan(alloc, tokens) {
+        Ok(()) => Ok(reader.into_reading()),
+        Err(fault) => {
+            drop(reader);
+            Err(fault)
         }
     }
-    Ok(Reading {
-        response: reader.response,
-        intercept: reader.intercept,
-        steps: reader.steps,
-        smooths: reader.smooths,
-        offsets: reader.offsets,
-    })
 }

@@ -318,17 +318,23 @@ pub(crate) fn spoken_offsets(
     Ok(all)
 }
 
+// The same texts in memory of their own.
+fn texts_copied(alloc: Global, texts: &[Text]) -> Result<List<Text>, OutOfMemory>
+    ensures { IfOk result (λ copies. copies ≡ texts.now) }
+{
+    let mut copies = List::new(alloc);
+    for text in texts {
+        copies.add(Text::new(alloc, text.as_str())?)?;
+    }
+    Ok(copies)
+}
+
 /// The same arithmetic in memory of its own.
 pub(crate) fn copied(alloc: Global, arith: &Arith) -> Result<Arith, OutOfMemory>
     ensures { IfOk result (λ a. a ≡ arith.now) }
 {
-    let mut names = List::new(alloc);
-    for name in arith.names.as_slice() {
-        names.add(Text::new(alloc, name.as_str())?)?;
-    }
-    Ok(Arith {
-        text: Text::new(alloc, arith.text.as_str())?,
-        names,
-        code: List::copy(alloc, arith.code.as_slice())?,
-    })
+    let text = Text::new(alloc, arith.text.as_str())?;
+    let names = texts_copied(alloc, arith.names.as_slice())?;
+    let code = List::copy(alloc, arith.code.as_slice())?;
+    Ok(Arith { text, names, code })
 }

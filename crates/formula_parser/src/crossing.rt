@@ -28,9 +28,16 @@ fn add_unions(
 {
     let mut found = found;
     for second in right {
-        let both = union_of(alloc, first, second.as_slice())?;
+        let both = match union_of(alloc, first, second.as_slice()) {
+            Ok(both) => both,
+            Err(error) => {
+                drop(found);
+                return Err(error);
+            }
+        };
         found = found.with(alloc, both)?;
         if found.as_slice().len() > MOST_TERMS {
+            drop(found);
             return Ok(None);
         }
     }

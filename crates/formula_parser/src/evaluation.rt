@@ -2,7 +2,7 @@
 ghost use Rattle.std.specs.Prelude.{◌≡◌, ◌∷◌, [], Ok, IfErr, IfOk, OnOk};
 ghost use Rattle.formula_parser.specs.Terms.{Terms, cross, minus, plus, raised, times};
 ghost use Rattle.formula_parser.specs.Meaning.{limited};
-ghost use Rattle.formula_parser.specs.Scope.{arith_term, dot_terms, named_term};
+ghost use Rattle.formula_parser.specs.Scope.{arith_term, dot_terms, named_term, only_term};
 ghost use Rattle.formula_parser.specs.Stack.{Halts, act, below, operated, run_steps, top};
 ghost use Rattle.formula_parser.specs.declared.evaluation.Halt.TheVariants.{OutOfMemory};
 
@@ -176,7 +176,25 @@ fn removed(alloc: Global, left: TermSet, right: &TermSet, at: u32) -> Result<Ter
     limited(left.minus(alloc, right)?, at)
 }
 
-// An operator of two operands, the right one on top.
+// What an operator makes of two operands.
+fn combined(alloc: Global, left: TermSet, right: &TermSet, step: &Step) -> Result<TermSet, Halt>
+    ensures ok { IfOk result (λ s. operated step.now left right.now ≡ Ok s) }
+    ensures err { IfErr result (Halts (operated step.now left right.now)) }
+{
+    match step {
+        Step::Add { at } => added(alloc, left, right, *at),
+        Step::Remove { at } => removed(alloc, left, right, *at),
+        Step::Multiply { at } => multiplied(alloc, left, right, *at),
+        Step::Interact { at } => {
+            let terms = crossed(alloc, &left, right, *at);
+            drop(left);
+            terms
+        }
+        _ => Ok(left),
+    }
+}
+
+// An operator of two operands, the right one on top. What it lets go stands apart from its kinds for the check's sake.
 fn operate(alloc: Global, stack: &mut Stack, step: &Step) -> Result<TermSet, Halt>
     ensures stack { OnOk result (stack.new ≡ below (below stack.old)) }
     ensures ok { IfOk result (λ s.
@@ -186,13 +204,17 @@ fn operate(alloc: Global, stack: &mut Stack, step: &Step) -> Result<TermSet, Hal
 {
     let right = stack.pop(alloc);
     let left = stack.pop(alloc);
-    match step {
-        Step::Add { at } => added(alloc, left, &right, *at),
-        Step::Remove { at } => removed(alloc, left, &right, *at),
-        Step::Multiply { at } => multiplied(alloc, left, &right, *at),
-        Step::Interact { at } => crossed(alloc, &left, &right, *at),
-        _ => Ok(left),
-    }
+    let terms = combined(alloc, left, &right, step);
+    drop(right);
+    terms
+}
+
+// The list of the term of one variable.
+fn term_alone(alloc: Global, variables: &[Mention], one: Mention) -> Result<TermSet, AllocError>
+    ensures { IfOk result (λ s. s ≡ only_term variables.now one ∷ []) }
+{
+    let term = only_term(alloc, variables, one)?;
+    TermSet::new(alloc).push(alloc, term)
 }
 
 // What a step puts on the stack, in place of its operands.
@@ -213,12 +235,11 @@ fn act(
         Step::Load { name, as_factor } => {
             let column = column_at(scope.text, scope.names, *name);
             let as_factor = *as_factor;
-            let term = only_term(alloc, variables, Mention { column, as_factor })?;
-            TermSet::new(alloc).push(alloc, term)?
+            term_alone(alloc, variables, Mention { column, as_factor })?
         }
         Step::LoadArith { part } => {
-            let term = only_term(alloc, variables, scope.computed(alloc, part)?)?;
-            TermSet::new(alloc).push(alloc, term)?
+            let one = scope.computed(alloc, part)?;
+            term_alone(alloc, variables, one)?
         }
         Step::LoadAll => dot_terms(alloc, variables, scope.others)?,
         Step::Nothing => TermSet::new(alloc),

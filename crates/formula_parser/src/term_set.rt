@@ -63,11 +63,23 @@ impl TermSet {
             mut terms,
             mut seen,
         } = self;
-        let key = Vec::from_slice(alloc, term.as_slice())?;
-        seen.insert(key)?;
+        let key = match Vec::from_slice(alloc, term.as_slice()) {
+            Ok(key) => key,
+            Err(error) => {
+                drop(seen);
+                return Err(error);
+            }
+        };
+        let Ok(_) = seen.insert(key) else {
+            drop(seen);
+            return Err(AllocError);
+        };
         match terms.push(List::from(term)) {
             Ok(()) => Ok(TermSet { terms, seen }),
-            Err(_) => Err(AllocError),
+            Err(_) => {
+                drop(seen);
+                Err(AllocError)
+            }
         }
     }
 

@@ -49,7 +49,8 @@ pub fn read_input(alloc: Global, job: &FitJob, ranked: bool, bytes: &[u8]) -> Re
     }
 }
 
-// The input of a table.
+// The input of a table. What has many parts is let go by its type, also in the other modules: what a function lets go of so
+// many parts by itself takes long to prove, and does so at each way out.
 fn table_input(alloc: Global, job: &FitJob, ranked: bool, frame: &Frame) -> Result<Input, Halt>
     requires long { length job.now.formula < 2 ^ 31 }
     requires few { length frame.now.names ≤ 1024 }
@@ -63,11 +64,18 @@ fn table_input(alloc: Global, job: &FitJob, ranked: bool, frame: &Frame) -> Resu
         Err(fault) => return Err(formula_halt(fault)),
     };
     if ranked && !model.smooths.as_slice().is_empty() {
+        drop(model);
         return Err(Halt::Refused(Refusal::RankWithPenalty));
     }
     match model_input(alloc, job, frame, &model) {
-        Ok(input) => Ok(input),
-        Err(halt) => Err(halt),
+        Ok(input) => {
+            drop(model);
+            Ok(input)
+        }
+        Err(halt) => {
+            drop(model);
+            Err(halt)
+        }
     }
 }
 

@@ -39,10 +39,11 @@ pub fn read_plain(alloc: Global, job: &FitJob, bytes: &[u8]) -> Result<PlainInpu
         Err(fault) => return Err(table_halt(fault)),
     };
     match plain_model(alloc, job, &frame) {
-        Ok((model, input)) => Ok(PlainInput {
-            input,
-            intercept: model.intercept,
-        }),
+        Ok((model, input)) => {
+            let intercept = model.intercept;
+            drop(model);
+            Ok(PlainInput { input, intercept })
+        }
         Err(halt) => Err(halt),
     }
 }
@@ -70,10 +71,14 @@ pub(crate) fn plain_model(
         Err(fault) => return Err(formula_halt(fault)),
     };
     if !model.smooths.as_slice().is_empty() {
+        drop(model);
         return Err(Halt::Refused(Refusal::SmoothNotTaken));
     }
     match model_input(alloc, job, frame, &model) {
         Ok(input) => Ok((model, input)),
-        Err(halt) => Err(halt),
+        Err(halt) => {
+            drop(model);
+            Err(halt)
+        }
     }
 }

@@ -123,7 +123,14 @@ pub fn read_predictions(alloc: Global, job: &FitJob, bytes: &[u8]) -> Result<Pre
         design: &input.design,
     };
     match predicting.rows(alloc) {
-        Ok(rows) => Ok(PredictionInput { input, rows }),
-        Err(halt) => Err(halt),
+        Ok(rows) => {
+            drop(model);
+            Ok(PredictionInput { input, rows })
+        }
+        Err(halt) => {
+            drop(input);
+            drop(model);
+            Err(halt)
+        }
     }
 }

@@ -50,9 +50,11 @@ pub fn read_tested(alloc: Global, job: &TestJob, bytes: &[u8]) -> Result<Input, 
     let columns = input.problem.columns;
     let tested = job.tested.as_slice();
     if let Some(column) = first_missing(columns, tested) {
+        drop(input);
         return Err(Halt::Refused(Refusal::NoSuchColumn { column }));
     }
     if tested.len() == columns as usize {
+        drop(input);
         return Err(Halt::Refused(Refusal::AllTested));
     }
     Ok(input)

@@ -1,10 +1,10 @@
 use Rattle.std.proofs.Common.{ap, lit≤}
 use Rattle.formula_grammar.proofs.Outcomes.{clean_next, clean_none, depth_next, first_is_fault, goes, last_next, nothing_held, passed, reading_held, wrong}
-use Rattle.formula_grammar.proofs.reader.read.Goals as goal
+use Rattle.formula_grammar.proofs.reader.Reader.scan.Goals as goal
 
 pub loop-token-init : goal.loop-token-init
 loop-token-init c = record {
-  held = nothing_held c.new-reader.result c.new-reader.ensures;
+  held = nothing_held _ c.requires.fresh;
   clean = clean_none c.args.tokens.now;
   opened = ap (λ l. l.opened) c.new-limits.ensures;
   last = ap (λ l. l.last) c.new-limits.ensures;
@@ -38,4 +38,4 @@ loop-token-preserved c =
 pub returns-clause-read : goal.returns-clause-read
 returns-clause-read c =
     let i = c.loop-token.invariant in
-    reading_held _ _ _ c.requires c.loop-token-test.false i.held i.clean
+    reading_held _ _ _ c.requires.end c.loop-token-test.false i.held i.clean
