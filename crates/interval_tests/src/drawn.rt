@@ -1,6 +1,5 @@
 //! Intervals of drawn tables, compared with those of a slow program: of a drawn critical value, and of those at, just
-//! below and just above the statistic of a breakpoint. Of the 79 tables 66 have full rank. The least losses and the dual vertices
-//! agree on the drawn value and at the breakpoint.
+//! below and just above the statistic of a breakpoint. Of the 79 tables 66 have full rank.
 
 use crate::definitions::{Tested, whole};
 use crate::helpers::{Question, answered, problem, whole_numbers_answer};
@@ -49,10 +48,11 @@ impl Counts {
 }
 
 impl Column {
-    /// The interval of a critical value is that of the least losses.
+    /// The interval of a critical value is that of the least losses, and holds what the dual vertices say.
     fn compare(&mut self, rt: &impl Abort, alloc: Global, crit: Ratio, counts: &mut Counts) {
         self.slow.test.crit = crit;
         let want = self.slow.ends();
+        assert!(rt; self.slow.agrees(&want));
         let question = Question {
             column: self.column,
             tau: (self.slow.test.tau[0], self.slow.test.tau[1]),
@@ -64,12 +64,6 @@ impl Column {
         drop(found);
         let is_whole = whole_numbers_answer(rt, alloc, &self.problem, question, 1000);
         counts.add(&want, is_whole);
-    }
-
-    /// So it is, and it holds what the dual vertices say.
-    fn compare_both(&mut self, rt: &impl Abort, alloc: Global, crit: Ratio, counts: &mut Counts) {
-        self.compare(rt, alloc, crit, counts);
-        assert!(rt; self.slow.agrees(&self.slow.ends()));
     }
 
     /// The intervals of a drawn critical value, and of those beside the statistic above a drawn coefficient; none
@@ -86,14 +80,14 @@ impl Column {
             return;
         }
         let [n, d] = CRITICAL[draw(state, 6) as usize];
-        self.compare_both(rt, alloc, whole((n, d)), counts);
+        self.compare(rt, alloc, whole((n, d)), counts);
         let place = draw(state, 1000) as usize % count;
         assert!(rt; place < self.slow.values.len());
         let values = self.slow.values.as_slice();
         let tie = self.slow.test.tie(values, values[place]);
-        self.compare_both(rt, alloc, tie, counts);
-        self.compare(rt, alloc, tie.times(whole((999, 1000))), counts);
-        self.compare(rt, alloc, tie.times(whole((1001, 1000))), counts);
+        for n in [999, 1000, 1001] {
+            self.compare(rt, alloc, tie.times(whole((n, 1000))), counts);
+        }
     }
 }
 
