@@ -55,7 +55,8 @@ module _ (p : Sample) (side other : ℕ → Side) (same : (i : ℕ) → i < p.ro
           (
             sym (ap is_basic (same i l)) ∙ h.at_row.2.0,
             subst P (before-same i (λ m lm. omega (arith, l, lm)))
-                (same_term value range (site_of NonbasicTotal k (part_number part) (outside_before side i)) s (partial_sum (total_products p side part k) i) (partial_sum (total_products p other part k) i) (p.x i k) (p.x i k) (bound_part p part i (side i)) (bound_part p part i (other i))
+                (same_term value range (site_of NonbasicTotal k (part_number part) (outside_before side i)) s (partial_sum (total_products p side part k) i) (partial_sum (total_products p other part k) i) (p.x i k) (p.x i k)
+                (bound_part p part i (side i)) (bound_part p part i (other i))
                 (partial_sum-same (total_products p side part k) (total_products p other part k) refl refl (λ i l. refl) bound-same i (λ m lm. omega (arith, l, lm))) refl (bound-same i l) h.at_row.2.1),
           ),
         );

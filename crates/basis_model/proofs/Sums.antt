@@ -43,6 +43,7 @@ module _ (t u : Products) (count : t.count ≡ u.count) (first : t.first ≡ u.f
         at_product = (
           k,
           omega (arith, l, count),
-          same_term value range (record site { term = site.term + k }) s (partial_sum t k) (partial_sum u k) (t.left k) (u.left k) (t.right k) (u.right k) (partial_sum-same k (λ i m. omega (arith, l, m))) (left k l) (right k l) h.at_product.2,
+          same_term value range (record site { term = site.term + k }) s (partial_sum t k) (partial_sum u k) (t.left k) (u.left k) (t.right k) (u.right k) (partial_sum-same k (λ i m. omega (arith, l, m))) (left k l)
+              (right k l) h.at_product.2,
         );
       }

@@ -20,7 +20,8 @@ IsRatioEntrySpill value range n at j u m s =
     IsOperation value range (ratio_site u.row j m) (perturbed n at u m) (abs_ℚ (u.coord j)) s
 
 -- an entry of one of two ratios on these sides overflows, and they agree at every entry before it
-pub record IsSpillOn {F : Type 0} (value : F → Fraction) (range rows n : ℕ) (at : ℕ → ℕ) (j : ℕ) (left right : Side) (u v : Nonbasic) (s : Spill F) : Type 0 where
+pub record IsSpillOn {F : Type 0} (value : F → Fraction) (range rows n : ℕ) (at : ℕ → ℕ) (j : ℕ) (left right : Side) (u v : Nonbasic)
+    (s : Spill F) : Type 0 where
   pub entry : ℕ
   pub within : entry ≤ rows
   pub agree : (m : ℕ) → m < entry → ratio_on left n at j u m ≡ ratio_on right n at j v m

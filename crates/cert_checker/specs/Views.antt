@@ -8,7 +8,8 @@ use Rattle.cert_checker.specs.Places.{value128}
 use Rattle.cert_checker.specs.Formulas.{times}
 use Rattle.cert_checker.specs.Tests.{Test, part, test, one}
 use Rattle.cert_checker.specs.Conditions.{End, zero_formula}
-use Rattle.cert_checker.specs.Intervals.{Question, question_of, first_of, sign_of, others, orthogonal_formula, square_formula, within_parts, balance_parts, statistic, rank_bound_formula}
+use Rattle.cert_checker.specs.Intervals.{Question, question_of, first_of, sign_of, others, orthogonal_formula}
+use Rattle.cert_checker.specs.Intervals.{square_formula, within_parts, balance_parts, statistic, rank_bound_formula}
 use Rattle.cert_checker.specs.declared.relation.Relation.TheVariants.{Above, AtMost, Equal}
 use Rattle.cert_checker.specs.declared.way.Way.{Way}
 use Rattle.cert_checker.specs.declared.leaves.EndView.{EndView}

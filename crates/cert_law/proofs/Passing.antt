@@ -28,7 +28,8 @@ use Rattle.cert_checker.specs.Formulas as formula
 use Rattle.cert_checker.specs.Formulas.{given, worth}
 use Rattle.cert_checker.specs.Tests.{Holds, Test, AreTrue, one}
 use Rattle.cert_checker.specs.declared.relation.Relation.TheVariants.{AtMost, Below, Equal}
-use Rattle.cert_checker.specs.Conditions.{each, End, low_of, high_of, side_in, dual_at_row, bound_test, bounds, balance, balance_tests, balances, objective, loss_tests, losses, costs, ends, first_end, order_of_ends, joint_end, joint_tests, joints, lo_at, hi_at, row_costs, row_form, segment_form}
+use Rattle.cert_checker.specs.Conditions.{each, End, low_of, high_of, side_in, dual_at_row, bound_test, bounds, balance, balance_tests, balances, objective, loss_tests}
+use Rattle.cert_checker.specs.Conditions.{losses, costs, ends, first_end, order_of_ends, joint_end, joint_tests, joints, lo_at, hi_at, row_costs, row_form, segment_form}
 use Rattle.cert_checker.proofs.Decided.{joined}
 use Rattle.cert_checker.proofs.Shown.{row_dual}
 use Rattle.cert_checker.proofs.Worths.{worth-sum, worth-loss}

@@ -41,7 +41,9 @@ use Rattle.cert_checker.specs.declared.relation.Relation.TheVariants.{Equal}
 use Rattle.cert_checker.specs.declared.way.Way.{Way}
 use Rattle.cert_checker.specs.declared.way.Way.TheVariants.{Low, High}
 use Rattle.cert_checker.specs.Conditions.{End, side_in, dual_at_row, balance, bound_parts, residual_formula}
-use Rattle.cert_checker.specs.Intervals.{along_formula, balance_parts, basic_parts, beyond_tests, data_parts, end_form, end_tests, finite_tests, infinite_tests, inside_tests, interval_form, interval_tests, order_tests, orthogonal_formula, others, projected_formula, question_of, Question, rank_bound_formula, ray_parts, ray_parts_by, side_parts, sign_of, square_formula, unit_of, values_of, weighted, whole_tests, within_parts}
+use Rattle.cert_checker.specs.Intervals.{along_formula, balance_parts, basic_parts, beyond_tests, data_parts, end_form, end_tests, finite_tests, infinite_tests, inside_tests}
+use Rattle.cert_checker.specs.Intervals.{interval_form, interval_tests, order_tests, orthogonal_formula, others, projected_formula, question_of, Question, rank_bound_formula, ray_parts}
+use Rattle.cert_checker.specs.Intervals.{ray_parts_by, side_parts, sign_of, square_formula, unit_of, values_of, weighted, whole_tests, within_parts}
 use Rattle.cert_law.specs.Sound.{IsSoundEnding, IsSoundInterval}
 use Rattle.cert_checker.proofs.Decided.{joined, parts_joined}
 use Rattle.cert_checker.proofs.Shown.{row_dual}
@@ -207,7 +209,8 @@ module _ (p : Problem Frac128) (a : IntervalProof Frac128) (meets : MeetsConditi
     on_side i l = h.on i (side_in v i) (side_is v i (omega (arith, h.sides, l)))
 
     within_bound : (worth (balance (sample value128 p) (values_of asked v inside) a.column) *ℚ worth (balance (sample value128 p) (values_of asked v inside) a.column)) ≤ℚ worth (rank_bound_formula asked)
-    within_bound = subst (λ z. z ≤ℚ worth (rank_bound_formula asked)) (sym (square_at v inside h.sides)) (subst (λ z. (rank_statistic (sample value128 p) a.column (dual_value value128 p v inside tau) *ℚ rank_statistic (sample value128 p) a.column (dual_value value128 p v inside tau)) ≤ℚ z) (sym bound_is) h.within)
+    within_bound = subst (λ z. z ≤ℚ worth (rank_bound_formula asked)) (sym (square_at v inside h.sides))
+        (subst (λ z. (rank_statistic (sample value128 p) a.column (dual_value value128 p v inside tau) *ℚ rank_statistic (sample value128 p) a.column (dual_value value128 p v inside tau)) ≤ℚ z) (sym bound_is) h.within)
 
     inside_true : (m n : ℕ) → AreTrue (inside_tests asked m n (values_of asked v inside))
     inside_true m n = (

@@ -15,7 +15,8 @@ use Rattle.serde_json.specs.Find.{as_object}
 use Rattle.cert_text.specs.Reading.{Reading, on_read, or_shape, fraction, count, list, no_more_keys}
 use Rattle.cert_text.specs.Contents.{Content, exact, exact_row, exact_segment, exact_end, exact_interval, content}
 use Rattle.cert_text.specs.Kept.{IsListed, IsKeptSegment, IsKeptEnd, IsKeptInterval, is_finite, is_outside}
-use Rattle.cert_text.specs.Certificates.{fractions, row, sides, segment, end_kind, finite_members, infinite_members, end_members, end_of, interval_members, projected_members, interval, kind, anything, top_members, is_too_large, within_limits, version_of, cert_of_data}
+use Rattle.cert_text.specs.Certificates.{fractions, row, sides, segment, end_kind, finite_members, infinite_members, end_members, end_of, interval_members}
+use Rattle.cert_text.specs.Certificates.{projected_members, interval, kind, anything, top_members, is_too_large, within_limits, version_of, cert_of_data}
 use Rattle.cert_text.specs.Limits.{IsWithinLimits}
 use Rattle.cert_text.specs.Trees.{row_tree, segment_tree, end_tree, interval_tree, cert_tree}
 use Rattle.cert_text.specs.declared.fault.CertFault.TheVariants.{TooLarge}

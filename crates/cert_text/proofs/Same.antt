@@ -106,4 +106,12 @@ same a b e =
     let hi = same_number a.hi b.hi (ap (λ c. c.hi) e) in
     let segments = same_lists exact_segment same_segment a.segments b.segments (ap (λ c. c.segments) e) in
     let intervals = same_lists exact_interval same_interval a.intervals b.intervals (ap (λ c. c.intervals) e) in
-    λ i. record { problem = record { columns = (e i).problem.columns; rows = rows i }; lo = lo i; hi = hi i; segments = segments i; intervals = intervals i; listed = listed-along segments a.listed b.listed i; ended = ended-along intervals a.ended b.ended i }
+    λ i. record {
+      problem = record { columns = (e i).problem.columns; rows = rows i };
+      lo = lo i;
+      hi = hi i;
+      segments = segments i;
+      intervals = intervals i;
+      listed = listed-along segments a.listed b.listed i;
+      ended = ended-along intervals a.ended b.ended i;
+    }

@@ -16,7 +16,8 @@ use Rattle.loss_model.specs.declared.interval.IntervalProof.{IntervalProof}
 use Rattle.serde_json.specs.Data.{Data, number, unsigned, Members, member, depth, items_depth, members_depth}
 use Rattle.serde_json.specs.View.{items_of}
 use Rattle.serde_json.specs.Written.{outline, items_outline, members_outline}
-use Rattle.cert_text.specs.Trees.{fraction_tree, fractions_tree, sides_tree, row_tree, segment_tree, move_tree, later_tree, linked_tree, linked_trees, segments_tree, layout, version, value_member, beyond_members, end_tree, interval_tree, cert_tree}
+use Rattle.cert_text.specs.Trees.{fraction_tree, fractions_tree, sides_tree, row_tree, segment_tree, move_tree, later_tree, linked_tree, linked_trees}
+use Rattle.cert_text.specs.Trees.{segments_tree, layout, version, value_member, beyond_members, end_tree, interval_tree, cert_tree}
 use Rattle.cert_text.specs.declared.cert.Cert.{Cert}
 use Rattle.cert_text.specs.Chains.{high_places, low_places, moves_between, are_chained, is_chained}
 use Rattle.cert_text.specs.declared.place.Place.{Place}

@@ -1,5 +1,6 @@
 -- Stated. The certificate that bytes are, or their first fault.
-use Rattle.std.specs.Prelude.{ℕ, List, [], ◌∷◌, ◌==◌, ◌||◌, ◌*◌, Bool, true, false, Option, Some, None, Ok, Err, codes, length, map, nat_lt, option_and_then, option_map, ⊤, if◌then◌else◌}
+use Rattle.std.specs.Prelude.{ℕ, List, [], ◌∷◌, ◌==◌, ◌||◌, ◌*◌, Bool, true, false, Option, Some}
+use Rattle.std.specs.Prelude.{None, Ok, Err, codes, length, map, nat_lt, option_and_then, option_map, ⊤, if◌then◌else◌}
 use Rattle.std.specs.Str.{is_utf8, bytes_eq}
 use Rattle.exact_algebra.specs.Rational.{ℚ}
 use Rattle.frac_core.specs.Limits.{most_rows, most_columns}
@@ -103,7 +104,8 @@ segment rows = object_of (segment_members rows)
 -- ---- segments that say what changes
 
 abbrev pub side_by_name : List ℕ → Option Side
-side_by_name s = if bytes_eq s (codes "+") then Some Up else (if bytes_eq s (codes "-") then Some Down else (if bytes_eq s (codes "*") then Some Basic else None))
+side_by_name s = if bytes_eq s (codes "+") then Some Up else (if bytes_eq s (codes "-") then Some Down
+    else (if bytes_eq s (codes "*") then Some Basic else None))
 
 -- one sign
 unfoldable pub side : Reader Side

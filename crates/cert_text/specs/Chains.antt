@@ -1,5 +1,6 @@
 -- Stated. How a segment follows the one before it: where each row lies, which rows move, and what stays as it was.
-use Rattle.std.specs.Prelude.{◌≡◌, ℕ, ◌+◌, List, [], ◌∷◌, ◌==◌, ◌&&◌, Bool, true, false, not, Option, Some, None, length, nat_le, slice_get, slice_set, if◌then◌else◌}
+use Rattle.std.specs.Prelude.{◌≡◌, ℕ, ◌+◌, List, [], ◌∷◌, ◌==◌, ◌&&◌, Bool, true}
+use Rattle.std.specs.Prelude.{false, not, Option, Some, None, length, nat_le, slice_get, slice_set, if◌then◌else◌}
 use Rattle.std.specs.Ordering.{match_ordering}
 use Rattle.exact_algebra.specs.Rational.{ℚ}
 use Rattle.exact_algebra.specs.Order.{cmp_ℚ}

@@ -1,5 +1,6 @@
 -- On cells that fit a column of numbers, and cells that don't.
-use Rattle.std.proofs.Common.{◌≡◌, ◌∙◌, ◌<◌, ◌+◌, ◌-◌, ◌^◌, ◌&&◌, ◌||◌, ℕ, zero, suc, Bool, true, false, List, [], ◌∷◌, Option, Some, None, Result, Ok, Err, is_some, length, drop, take, get_or, map, refl, sym, ap, add-one, arith, nat_le, unsigned_abs, if◌then◌else◌}
+use Rattle.std.proofs.Common.{◌≡◌, ◌∙◌, ◌<◌, ◌+◌, ◌-◌, ◌^◌, ◌&&◌, ◌||◌, ℕ, zero, suc, Bool, true, false, List, [], ◌∷◌, Option, Some}
+use Rattle.std.proofs.Common.{None, Result, Ok, Err, is_some, length, drop, take, get_or, map, refl, sym, ap, add-one, arith, nat_le, unsigned_abs, if◌then◌else◌}
 use Rattle.std.specs.List.{list_all, position_from}
 use Rattle.std.specs.Result.{is_ok}
 use Rattle.exact_algebra.specs.Fraction.{Fraction, rational}

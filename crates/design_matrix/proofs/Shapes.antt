@@ -1,5 +1,6 @@
 -- What the rows and columns of a design are like whose table and formula have no fault.
-use Rattle.std.proofs.Common.{◌≡◌, ◌==◌, ◌&&◌, ◌≤◌, ℕ, zero, suc, ◌+◌, ◌*◌, not, Bool, true, false, cond, List, [], ◌∷◌, Option, Some, None, All, filter, length, map, option_and_then, nat_lt, get_or, pos, arith, refl, sym, ap, subst, ◌∙◌, length-append}
+use Rattle.std.proofs.Common.{◌≡◌, ◌==◌, ◌&&◌, ◌≤◌, ℕ, zero, suc, ◌+◌, ◌*◌, not, Bool, true, false, cond, List, [], ◌∷◌, Option}
+use Rattle.std.proofs.Common.{Some, None, All, filter, length, map, option_and_then, nat_lt, get_or, pos, arith, refl, sym, ap, subst, ◌∙◌, length-append}
 use Rattle.std.specs.List.{flat_map, range_with_len}
 use Rattle.std.specs.Option.{option_or}
 use Rattle.std.specs.Ordering.{is_lt, is_ne, ordering_reverse}
@@ -21,7 +22,8 @@ use Rattle.design_matrix.specs.Cells.{Column, Table, column_of, is_complete, is_
 use Rattle.design_matrix.specs.CodedVariable.{CodedVariable, coded_term, coded_terms, width}
 use Rattle.design_matrix.specs.Designs.{design_of, exact_row, row_of}
 use Rattle.formula_parser.specs.Held.{ariths_of}
-use Rattle.design_matrix.specs.Faults.{ariths_fault, IsDesign, columns_fault, empty_fault, factor_fault, fault_of, lacks_columns, late_fault, level_fault, levels_fault, name_fault, rows_fault, terms_fault, used_fault, weight_fault, weights_fault, widths_fault}
+use Rattle.design_matrix.specs.Faults.{ariths_fault, IsDesign, columns_fault, empty_fault, factor_fault, fault_of, lacks_columns, late_fault, level_fault}
+use Rattle.design_matrix.specs.Faults.{levels_fault, name_fault, rows_fault, terms_fault, used_fault, weight_fault, weights_fault, widths_fault}
 use Rattle.design_matrix.specs.Lists.{each, first_some}
 use Rattle.design_matrix.specs.Parts.{column_name, columns_in, columns_of, count, factors, term_columns}
 use Rattle.design_matrix.specs.Products.{product}
@@ -163,7 +165,8 @@ unfolding columns_of coded_terms
 columns_some table model coding records sound empty smooths =
     by model.intercept model.terms refl (λ off none. terms_there model empty smooths off none) sound
   where
-    by : (b : Bool) (terms : List _) → model.intercept ≡ b → (model.intercept ≡ false → length terms ≡ 0 → ⊥) → terms_fault (each (coded_term table model coding records) 0 terms) ≡ None → 1 ≤ length (columns_in b (each (coded_term table model coding records) 0 terms))
+    by : (b : Bool) (terms : List _) → model.intercept ≡ b → (model.intercept ≡ false → length terms ≡ 0 → ⊥) → terms_fault (each (coded_term table model coding records) 0 terms) ≡ None
+        → 1 ≤ length (columns_in b (each (coded_term table model coding records) 0 terms))
     by true terms on there sound = omega arith
     by false [] off there sound = absurd (there off refl)
     by false (t ∷ ts) off there sound = term_some (coded_term table model coding records 0 t) (each (coded_term table model coding records) 1 ts) sound

@@ -1,5 +1,6 @@
 -- One item more.
-use Rattle.std.proofs.Common.{◌≡◌, ◌<◌, ◌&&◌, ◌||◌, ℕ, ◌+◌, Bool, true, false, cond, List, [], ◌∷◌, ◌++◌, Option, take, length, map, filter, get_or, refl, sym, ap, ◌∙◌, append_assoc, arith, nat_eq, eq-eqb, drop, take_all, length-drop, ◌-◌, ◌≤◌, All, subst}
+use Rattle.std.proofs.Common.{◌≡◌, ◌<◌, ◌&&◌, ◌||◌, ℕ, ◌+◌, Bool, true, false, cond, List, [], ◌∷◌, ◌++◌, Option, take, length, map}
+use Rattle.std.proofs.Common.{filter, get_or, refl, sym, ap, ◌∙◌, append_assoc, arith, nat_eq, eq-eqb, drop, take_all, length-drop, ◌-◌, ◌≤◌, All, subst}
 use Rattle.std.proofs.lemmas.Bool.{eqb-true}
 use Rattle.std.specs.declared.cmp.Ordering.{Ordering}
 use Rattle.std.specs.List.{flat_map, list_all, list_any, range_with_len}

@@ -1,5 +1,6 @@
 -- Stated. The columns that a formula and weights use, and the records that are kept. Records are counted from 0 here.
-use Rattle.std.specs.Prelude.{ℕ, ◌++◌, ◌&&◌, Bool, false, List, [], ◌∷◌, Option, Some, None, is_some, map, option_map, option_to_list, pos, filter, slice_index_or, unwrap_or}
+use Rattle.std.specs.Prelude.{ℕ, ◌++◌, ◌&&◌, Bool, false, List, [], ◌∷◌, Option, Some}
+use Rattle.std.specs.Prelude.{None, is_some, map, option_map, option_to_list, pos, filter, slice_index_or, unwrap_or}
 use Rattle.std.specs.List.{filter_map, flat_map, list_all, range_with_len}
 use Rattle.std.specs.Option.{option_map_or}
 use Rattle.std.specs.Ordering.{is_ne}

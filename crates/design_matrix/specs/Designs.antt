@@ -80,7 +80,8 @@ pub record OverflowsInColumn (parts : List Part) (place rec column : ℕ) (spill
   pub some : 1 ≤ term
   pub more : term < length (factors parts place)
   pub first : FitUpTo (factors parts place) term
-  pub operation : IsOperation value (2 ^ 127 - 1) (entry_site rec column term) (product (take term (factors parts place))) (slice_index_or (factors parts place) term (whole (pos 0))) spill
+  pub operation : IsOperation value (2 ^ 127 - 1) (entry_site rec column term) (product (take term (factors parts place)))
+      (slice_index_or (factors parts place) term (whole (pos 0))) spill
 
 -- a product of the row at a place overflows, and it is of the first such column
 pub record OverflowsInRow (columns : List (List Part)) (place rec : ℕ) (spill : Spill Frac128) : Type 0 where

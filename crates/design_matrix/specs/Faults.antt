@@ -17,7 +17,9 @@ use Rattle.formula_parser.specs.Held.{ariths_of}
 use Rattle.formula_parser.specs.declared.formula.Formula.{Formula}
 use Rattle.design_matrix.specs.declared.design.Design.{Design}
 use Rattle.design_matrix.specs.declared.fault.DesignFault.{DesignFault}
-use Rattle.design_matrix.specs.declared.fault.DesignFault.TheVariants.{OutOfMemory, UnknownWeights, ResponseNotNumeric, WeightNotNumeric, ArithNotNumeric, NumberTooWide, NegativeWeight, NoRows, OneLevel, NoColumns, TooManyColumns, Overflow}
+use Rattle.design_matrix.specs.declared.fault.DesignFault.TheVariants.{OutOfMemory, UnknownWeights, ResponseNotNumeric, WeightNotNumeric}
+use Rattle.design_matrix.specs.declared.fault.DesignFault.TheVariants.{ArithNotNumeric, NumberTooWide, NegativeWeight, NoRows}
+use Rattle.design_matrix.specs.declared.fault.DesignFault.TheVariants.{OneLevel, NoColumns, TooManyColumns, Overflow}
 use Rattle.design_matrix.specs.Cells.{Column, Table, column_of, kept, used_names, weight_sign, weights_in}
 use Rattle.design_matrix.specs.CodedVariable.{CodedVariable, coded_terms, is_text, width}
 use Rattle.design_matrix.specs.Designs.{AllFit, OverflowsFirst, arith_site, design_of, exact_design}

@@ -74,9 +74,11 @@ module _ {A : Type 0} (add mul : A → A → A) (neg : A → A) (embed : ℤ →
     minus_one : (x : A) → mul (embed (negsuc 0)) x ≡ neg x
     minus_one x =
         cancel x (mul (embed (negsuc 0)) x) (neg x)
-        (ap (λ w. add w (mul (embed (negsuc 0)) x)) (sym (r.one_mul x)) ∙ sym (add_mul (embed (pos 1)) (embed (negsuc 0)) x) ∙ ap (λ w. mul w x) (sym (r.embed_add (pos 1) (negsuc 0))) ∙ r.mul_comm (embed (pos 0)) x ∙ mul_zero x ∙ sym (r.add_neg x))
+        (ap (λ w. add w (mul (embed (negsuc 0)) x)) (sym (r.one_mul x)) ∙ sym (add_mul (embed (pos 1)) (embed (negsuc 0)) x) ∙ ap (λ w. mul w x) (sym (r.embed_add (pos 1) (negsuc 0))) ∙ r.mul_comm (embed (pos 0)) x ∙ mul_zero x
+        ∙ sym (r.add_neg x))
 
-    put_at : (vs : List A) (i j : ℕ) (js : List ℕ) (t : Bool) → power vs (put i js) ≡ mul (get_or vs i (embed (pos 0))) (power vs js) → power vs (cond t (j ∷ put i js) (i ∷ j ∷ js)) ≡ mul (get_or vs i (embed (pos 0))) (mul (get_or vs j (embed (pos 0))) (power vs js))
+    put_at : (vs : List A) (i j : ℕ) (js : List ℕ) (t : Bool) → power vs (put i js) ≡ mul (get_or vs i (embed (pos 0))) (power vs js)
+        → power vs (cond t (j ∷ put i js) (i ∷ j ∷ js)) ≡ mul (get_or vs i (embed (pos 0))) (mul (get_or vs j (embed (pos 0))) (power vs js))
     put_at vs i j js true h = ap (mul (get_or vs j (embed (pos 0)))) h ∙ mul_left (get_or vs j (embed (pos 0))) (get_or vs i (embed (pos 0))) (power vs js)
     put_at vs i j js false h = refl
 
@@ -90,7 +92,8 @@ module _ {A : Type 0} (add mul : A → A → A) (neg : A → A) (embed : ℤ →
         power-put vs i (merge is js) ∙ ap (mul (get_or vs i (embed (pos 0)))) (power-merge vs is js)
         ∙ sym (r.mul_assoc (get_or vs i (embed (pos 0))) (power vs is) (power vs js))
 
-    insert_at : (vs : List A) (m n : Monomial) (ns : List Monomial) (s b : Bool) → same m.vars n.vars ≡ s → sum vs (insert m ns) ≡ add (mul (embed m.factor) (power vs m.vars)) (sum vs ns) → sum vs (cond s (record { factor = m.factor +ℤ n.factor; vars = n.vars } ∷ ns) (cond b (m ∷ n ∷ ns) (n ∷ insert m ns))) ≡ add (mul (embed m.factor) (power vs m.vars)) (add (mul (embed n.factor) (power vs n.vars)) (sum vs ns))
+    insert_at : (vs : List A) (m n : Monomial) (ns : List Monomial) (s b : Bool) → same m.vars n.vars ≡ s → sum vs (insert m ns) ≡ add (mul (embed m.factor) (power vs m.vars)) (sum vs ns)
+        → sum vs (cond s (record { factor = m.factor +ℤ n.factor; vars = n.vars } ∷ ns) (cond b (m ∷ n ∷ ns) (n ∷ insert m ns))) ≡ add (mul (embed m.factor) (power vs m.vars)) (add (mul (embed n.factor) (power vs n.vars)) (sum vs ns))
     insert_at vs m n ns true b e h =
         ap (λ w. add (mul w (power vs n.vars)) (sum vs ns)) (r.embed_add m.factor n.factor)
         ∙ ap (λ w. add w (sum vs ns)) (add_mul (embed m.factor) (embed n.factor) (power vs n.vars))

@@ -47,7 +47,8 @@ RespectsLeft f = (a a' b : Pair) → Same a a' → Same (f a b) (f a' b)
 abbrev pub lift1 : (f : Pair → Pair → Pair) → RespectsRight f → Pair → ℚ → ℚ
 lift1 f right a y = lift ℚ_set (λ b. mk (f a b)) (λ b b' s. sound (right a b b' s)) y
 
-pub lift1_same : (f : Pair → Pair → Pair) (left : RespectsLeft f) (right : RespectsRight f) (a a' : Pair) → Same a a' → (y : ℚ) → lift1 f right a y ≡ lift1 f right a' y
+pub lift1_same : (f : Pair → Pair → Pair) (left : RespectsLeft f) (right : RespectsRight f) (a a' : Pair) → Same a a' → (y : ℚ)
+    → lift1 f right a y ≡ lift1 f right a' y
 lift1_same f left right a a' s =
     ind {β = λ y. lift1 f right a y ≡ lift1 f right a' y} (λ y. ℚ_set _ _) (λ b. sound (left a a' b s))
 
@@ -189,10 +190,13 @@ inverse_respects (pos zero) (pos (suc k)) d d' p q s = absurd (omega (arith, int
 inverse_respects (pos zero) (negsuc k) d d' p q s = absurd (omega (arith, ints, mul_positive (pos (suc k)) d (suc_positive k) p))
 inverse_respects (pos (suc j)) (pos zero) d d' p q s = absurd (omega (arith, ints, mul_positive (pos (suc j)) d' (suc_positive j) q))
 inverse_respects (pos (suc j)) (pos (suc k)) d d' p q s = omega (arith, ints)
-inverse_respects (pos (suc j)) (negsuc k) d d' p q s = absurd (omega (arith, ints, mul_positive (pos (suc j)) d' (suc_positive j) q, mul_positive (pos (suc k)) d (suc_positive k) p))
+inverse_respects (pos (suc j)) (negsuc k) d d' p q s = absurd (omega
+    (arith, ints, mul_positive (pos (suc j)) d' (suc_positive j) q, mul_positive (pos (suc k)) d (suc_positive k) p))
 inverse_respects (negsuc j) (pos zero) d d' p q s = absurd (omega (arith, ints, mul_positive (pos (suc j)) d' (suc_positive j) q))
-inverse_respects (negsuc j) (pos (suc k)) d d' p q s = absurd (omega (arith, ints, mul_positive (pos (suc j)) d' (suc_positive j) q, mul_positive (pos (suc k)) d (suc_positive k) p))
-inverse_respects (negsuc j) (negsuc k) d d' p q s = from1 (d ∷ d' ∷ pos (suc j) ∷ pos (suc k) ∷ []) (negated v0 ⊠ v3) (negated v1 ⊠ v2) (number (negsuc 0)) (negated v2 ⊠ v1) (negated v3 ⊠ v0) refl s
+inverse_respects (negsuc j) (pos (suc k)) d d' p q s = absurd (omega
+    (arith, ints, mul_positive (pos (suc j)) d' (suc_positive j) q, mul_positive (pos (suc k)) d (suc_positive k) p))
+inverse_respects (negsuc j) (negsuc k) d d' p q s = from1 (d ∷ d' ∷ pos (suc j) ∷ pos (suc k) ∷ []) (negated v0 ⊠ v3) (negated v1 ⊠ v2) (number (negsuc 0))
+    (negated v2 ⊠ v1) (negated v3 ⊠ v0) refl s
 
 pub inverse_same : (a b : Pair) → Same a b → Same (pair_inverse a) (pair_inverse b)
 inverse_same a b s = inverse_respects a.n b.n a.d b.d a.positive b.positive s

@@ -131,7 +131,8 @@ vanishes (m ∷ ms) = is_zero m.factor && vanishes ms
 turn3 : (x y z : ℤ) → y *ℤ (x *ℤ z) ≡ x *ℤ (y *ℤ z)
 turn3 x y z = rw (← is_diff x, ← is_diff y, ← is_diff z) (simp diffs (same_diff _ _ _ _ (omega arith)))
 
-put_at : (vs : List ℤ) (i j : ℕ) (js : List ℕ) (t : Bool) → power vs (put i js) ≡ get_or vs i (pos 0) *ℤ power vs js → power vs (cond t (j ∷ put i js) (i ∷ j ∷ js)) ≡ get_or vs i (pos 0) *ℤ (get_or vs j (pos 0) *ℤ power vs js)
+put_at : (vs : List ℤ) (i j : ℕ) (js : List ℕ) (t : Bool) → power vs (put i js) ≡ get_or vs i (pos 0) *ℤ power vs js
+    → power vs (cond t (j ∷ put i js) (i ∷ j ∷ js)) ≡ get_or vs i (pos 0) *ℤ (get_or vs j (pos 0) *ℤ power vs js)
 put_at vs i j js true h = ap (λ z. get_or vs j (pos 0) *ℤ z) h ∙ turn3 (get_or vs i (pos 0)) (get_or vs j (pos 0)) (power vs js)
 put_at vs i j js false h = refl
 
@@ -159,7 +160,10 @@ same-true (i ∷ is) (j ∷ js) h =
     let b : is ≡ js = same-true is js two.1 in
     cc
 
-insert_at : (vs : List ℤ) (m n : Monomial) (ns : List Monomial) (s b : Bool) → same m.vars n.vars ≡ s → total vs (insert m ns) ≡ (m.factor *ℤ power vs m.vars) +ℤ total vs ns → total vs (cond s (record { factor = m.factor +ℤ n.factor; vars = n.vars } ∷ ns) (cond b (m ∷ n ∷ ns) (n ∷ insert m ns))) ≡ (m.factor *ℤ power vs m.vars) +ℤ ((n.factor *ℤ power vs n.vars) +ℤ total vs ns)
+insert_at : (vs : List ℤ) (m n : Monomial) (ns : List Monomial) (s b : Bool) → same m.vars n.vars ≡ s
+    → total vs (insert m ns) ≡ (m.factor *ℤ power vs m.vars) +ℤ total vs ns
+    → total vs (cond s (record { factor = m.factor +ℤ n.factor; vars = n.vars } ∷ ns) (cond b (m ∷ n ∷ ns) (n ∷ insert m ns))) ≡ (m.factor *ℤ power vs m.vars)
+    +ℤ ((n.factor *ℤ power vs n.vars) +ℤ total vs ns)
 insert_at vs m n ns true b e h = rw (same-true m.vars n.vars e) (omega (arith, ints, add-mul m.factor n.factor (power vs n.vars)))
 insert_at vs m n ns false true e h = refl
 insert_at vs m n ns false false e h = omega (arith, ints)
@@ -174,7 +178,13 @@ total-joined vs (m ∷ ms) ns = omega (arith, ints, total-insert vs m (joined ms
 
 total-scaled : (vs : List ℤ) (z : ℤ) (ms : List Monomial) → total vs (scaled z ms) ≡ z *ℤ total vs ms
 total-scaled vs z [] = omega (arith, ints)
-total-scaled vs z (m ∷ ms) = omega (arith, ints, total-scaled vs z ms, mul_assoc z m.factor (power vs m.vars), mul-add z (m.factor *ℤ power vs m.vars) (total vs ms))
+total-scaled vs z (m ∷ ms) = omega (
+  arith,
+  ints,
+  total-scaled vs z ms,
+  mul_assoc z m.factor (power vs m.vars),
+  mul-add z (m.factor *ℤ power vs m.vars) (total vs ms),
+)
 
 total-spread : (vs : List ℤ) (m : Monomial) (ns : List Monomial) → total vs (spread m ns) ≡ (m.factor *ℤ power vs m.vars) *ℤ total vs ns
 total-spread vs m [] = omega (arith, ints)
@@ -190,13 +200,27 @@ total-spread vs m (n ∷ ns) =
 total-multiplied : (vs : List ℤ) (ms ns : List Monomial) → total vs (multiplied ms ns) ≡ total vs ms *ℤ total vs ns
 total-multiplied vs [] ns = omega (arith, ints)
 total-multiplied vs (m ∷ ms) ns =
-    omega (arith, ints, total-joined vs (spread m ns) (multiplied ms ns), total-spread vs m ns, total-multiplied vs ms ns, add-mul (m.factor *ℤ power vs m.vars) (total vs ms) (total vs ns))
+    omega (
+      arith,
+      ints,
+      total-joined vs (spread m ns) (multiplied ms ns),
+      total-spread vs m ns,
+      total-multiplied vs ms ns,
+      add-mul (m.factor *ℤ power vs m.vars) (total vs ms) (total vs ns),
+    )
 
 total-normal : (vs : List ℤ) (t : Term) → total vs (normal t) ≡ value vs t
 total-normal vs (var i) = omega (arith, ints)
 total-normal vs (number z) = omega (arith, ints)
 total-normal vs (plus a b) = omega (arith, ints, total-joined vs (normal a) (normal b), total-normal vs a, total-normal vs b)
-total-normal vs (minus a b) = omega (arith, ints, total-joined vs (normal a) (scaled (negsuc 0) (normal b)), total-scaled vs (negsuc 0) (normal b), total-normal vs a, total-normal vs b)
+total-normal vs (minus a b) = omega (
+  arith,
+  ints,
+  total-joined vs (normal a) (scaled (negsuc 0) (normal b)),
+  total-scaled vs (negsuc 0) (normal b),
+  total-normal vs a,
+  total-normal vs b,
+)
 total-normal vs (times a b) = rw (← total-normal vs a, ← total-normal vs b) (total-multiplied vs (normal a) (normal b))
 total-normal vs (negated a) = omega (arith, ints, total-scaled vs (negsuc 0) (normal a), total-normal vs a)
 
@@ -215,7 +239,8 @@ pub identity : (vs : List ℤ) (a b : Term) → vanishes (normal (minus a b)) �
 identity vs a b h = omega (arith, ints, total-vanishes vs (normal (minus a b)) h, total-normal vs (minus a b))
 
 -- and where their difference is a multiple of that of two equal terms
-pub from1 : (vs : List ℤ) (a b k l r : Term) → vanishes (normal (minus (minus a b) (times k (minus l r)))) ≡ true → value vs l ≡ value vs r → value vs a ≡ value vs b
+pub from1 : (vs : List ℤ) (a b k l r : Term) → vanishes (normal (minus (minus a b) (times k (minus l r)))) ≡ true → value vs l ≡ value vs r
+    → value vs a ≡ value vs b
 from1 vs a b k l r h e =
     let same : value vs a -ℤ value vs b ≡ value vs k *ℤ (value vs l -ℤ value vs r) = identity vs (minus a b) (times k (minus l r)) h in
     let gone : value vs l -ℤ value vs r ≡ pos 0 = omega (arith, ints, e) in
@@ -223,9 +248,11 @@ from1 vs a b k l r h e =
     omega (arith, ints, same, zero)
 
 -- the same with two pairs of equal terms
-pub from2 : (vs : List ℤ) (a b k l r k' l' r' : Term) → vanishes (normal (minus (minus a b) (plus (times k (minus l r)) (times k' (minus l' r'))))) ≡ true → value vs l ≡ value vs r → value vs l' ≡ value vs r' → value vs a ≡ value vs b
+pub from2 : (vs : List ℤ) (a b k l r k' l' r' : Term) → vanishes (normal (minus (minus a b) (plus (times k (minus l r)) (times k' (minus l' r'))))) ≡ true
+    → value vs l ≡ value vs r → value vs l' ≡ value vs r' → value vs a ≡ value vs b
 from2 vs a b k l r k' l' r' h e f =
-    let same : value vs a -ℤ value vs b ≡ (value vs k *ℤ (value vs l -ℤ value vs r)) +ℤ (value vs k' *ℤ (value vs l' -ℤ value vs r')) = identity vs (minus a b) (plus (times k (minus l r)) (times k' (minus l' r'))) h in
+    let same : value vs a -ℤ value vs b ≡ (value vs k *ℤ (value vs l -ℤ value vs r)) +ℤ (value vs k' *ℤ (value vs l' -ℤ value vs r')) =
+    identity vs (minus a b) (plus (times k (minus l r)) (times k' (minus l' r'))) h in
     let gone : value vs l -ℤ value vs r ≡ pos 0 = omega (arith, ints, e) in
     let gone' : value vs l' -ℤ value vs r' ≡ pos 0 = omega (arith, ints, f) in
     let zero : value vs k *ℤ (value vs l -ℤ value vs r) ≡ pos 0 = ap (λ z. value vs k *ℤ z) gone ∙ omega (arith, ints) in

@@ -1,5 +1,6 @@
 -- Code that was followed up to a place: what is left does with the stack what the whole does with none.
-use Rattle.std.proofs.Common.{◌≡◌, ◌<◌, ◌≤◌, ◌+◌, ◌-◌, ◌^◌, ℕ, List, [], ◌∷◌, ◌++◌, add-one, append-nil, append_assoc, ap, arith, drop, drop-cons, get_or, length, length-append, map, refl, subst, sym, ◌∙◌, Result, Ok, Err, IfErr, IfOk, OnOk, true, false, nat_lt}
+use Rattle.std.proofs.Common.{◌≡◌, ◌<◌, ◌≤◌, ◌+◌, ◌-◌, ◌^◌, ℕ, List, [], ◌∷◌, ◌++◌, add-one, append-nil, append_assoc, ap, arith, drop, drop-cons}
+use Rattle.std.proofs.Common.{get_or, length, length-append, map, refl, subst, sym, ◌∙◌, Result, Ok, Err, IfErr, IfOk, OnOk, true, false, nat_lt}
 use Rattle.std.proofs.lemmas.Bool.{le-ltb, lt-ltb}
 use Rattle.std.proofs.lemmas.List.{drop_all}
 use Rattle.exact_algebra.specs.Rational.{ℚ}

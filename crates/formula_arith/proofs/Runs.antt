@@ -6,7 +6,8 @@ use Rattle.frac_core.specs.declared.arith.ArithOp.TheVariants.{Negate, Mul}
 use Rattle.frac_core.specs.declared.arith.ArithOp.TheVariants.{Power as Raise}
 use Rattle.formula_arith.specs.Arithmetics.{Text, Sign, Plus, Minus, Bare, Led, Arithmetic, First, More, Product, One, Times, Power, Plain, Raised, Atom, Named, Number, Group}
 use Rattle.formula_arith.specs.Codes.{arithmetic_code, atom_code, power_code, product_code, signed_op}
-use Rattle.formula_arith.specs.Values.{Operation, arithmetic_operations, arithmetic_value, atom_operations, atom_value, combined, multiplication, power_multiplications, power_operations, power_value, product_operations, product_value, raised_by, signed_operation}
+use Rattle.formula_arith.specs.Values.{Operation, arithmetic_operations, arithmetic_value, atom_operations, atom_value, combined, multiplication}
+use Rattle.formula_arith.specs.Values.{power_multiplications, power_operations, power_value, product_operations, product_value, raised_by, signed_operation}
 use Rattle.formula_arith.specs.Evaluations.{given_by}
 use Rattle.formula_arith.specs.Machine.{act, code_operations, exec, step_operations}
 

@@ -5,7 +5,8 @@ use Rattle.std.specs.List.{position_or_len}
 use Rattle.frac_core.specs.declared.arith.ArithOp.{ArithOp}
 use Rattle.frac_core.specs.declared.arith.ArithOp.TheVariants.{Load, Constant, Negate, Add, Sub, Mul}
 use Rattle.frac_core.specs.declared.arith.ArithOp.TheVariants.{Power as Raise}
-use Rattle.formula_arith.specs.Arithmetics.{Text, Sign, Plus, Minus, Lead, Led, Arithmetic, First, More, Product, One, Times, Power, Plain, Raised, Atom, Named, Number, Group}
+use Rattle.formula_arith.specs.Arithmetics.{Text, Sign, Plus, Minus, Lead, Led, Arithmetic, First, More, Product}
+use Rattle.formula_arith.specs.Arithmetics.{One, Times, Power, Plain, Raised, Atom, Named, Number, Group}
 
 -- the place of a name among the distinct ones
 abbrev pub name_index : List Text → Text → ℕ

@@ -2,7 +2,8 @@
 -- and no other spaces. A name stands in backticks where it was written so, and each number is its number text.
 use Rattle.std.specs.Prelude.{Bool, true, false, [], ◌++◌, codes, decimal}
 use Rattle.frac_core.specs.NumberText.{number_text_of}
-use Rattle.formula_arith.specs.Arithmetics.{Text, Sign, Plus, Minus, Lead, Bare, Led, Arithmetic, First, More, Product, One, Times, Power, Plain, Raised, Atom, Named, Number, Group}
+use Rattle.formula_arith.specs.Arithmetics.{Text, Sign, Plus, Minus, Lead, Bare, Led, Arithmetic, First, More}
+use Rattle.formula_arith.specs.Arithmetics.{Product, One, Times, Power, Plain, Raised, Atom, Named, Number, Group}
 
 -- the byte of a sign
 abbrev pub sign_text : Sign → Text

@@ -6,7 +6,8 @@ use Rattle.exact_algebra.specs.Rational.{ℚ, ◌+ℚ◌, ◌-ℚ◌, ◌*ℚ◌
 use Rattle.frac_core.specs.declared.exact.OpKind.{OpKind}
 use Rattle.frac_core.specs.declared.exact.OpKind.TheVariants.{Add, Sub, Mul}
 use Rattle.frac_core.specs.declared.frac128.Frac128.{Frac128}
-use Rattle.formula_arith.specs.Arithmetics.{Text, Sign, Plus, Minus, Lead, Led, Arithmetic, First, More, Product, One, Times, Power, Plain, Raised, Atom, Named, Number, Group}
+use Rattle.formula_arith.specs.Arithmetics.{Text, Sign, Plus, Minus, Lead, Led, Arithmetic, First, More, Product}
+use Rattle.formula_arith.specs.Arithmetics.{One, Times, Power, Plain, Raised, Atom, Named, Number, Group}
 
 -- the value of a fraction
 abbrev pub exact : Frac128 → ℚ

@@ -2,7 +2,8 @@
 use Rattle.std.proofs.Common.{◌≡◌, ℕ, List, [], ◌∷◌, ◌++◌, Option, Some, None, refl, sym, ◌∙◌, ap, append_assoc, append-nil}
 use Rattle.formula_grammar.specs.Words.{Sign, Digits, Kind, Name, Number, Signed, Star, Caret, Open, Close, Token}
 use Rattle.formula_grammar.specs.Arithmetics.{token, Bare, Arith, Aprod, Apow, Plain, Raised, Group, lead_tokens, arith_tokens, aprod_tokens, apow_tokens, aatom_tokens}
-use Rattle.formula_grammar.proofs.ArithAutomaton.{ArithLeft, ArithFront, ArithLeads, ArithAfter, Hole, Top, Within, ArithState, Begins, Needs, Holds, Raises, onto_aprod, onto_arith, arith_so_far, arith_operand, arith_behind, arith_step, arith_ending}
+use Rattle.formula_grammar.proofs.ArithAutomaton.{ArithLeft, ArithFront, ArithLeads, ArithAfter, Hole, Top, Within, ArithState, Begins, Needs}
+use Rattle.formula_grammar.proofs.ArithAutomaton.{Holds, Raises, onto_aprod, onto_arith, arith_so_far, arith_operand, arith_behind, arith_step, arith_ending}
 
 abbrev left_tokens : Option ArithLeft → List Token
 left_tokens None = []

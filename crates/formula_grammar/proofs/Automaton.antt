@@ -1,7 +1,8 @@
 -- Reading tokens one by one: what has been read of a formula as partial trees, and what comes of the next token.
 use Rattle.std.specs.Prelude.{ℕ, List, [], ◌∷◌, Option, Some, None, option_and_then, option_map}
 use Rattle.formula_grammar.specs.Words.{Span, Sign, Plus, Minus, Zero, Unity, Numeral, Digits, Kind, Name, FactorWord, QssWord, ArithWord, OffsetWord, Number, Signed, Tilde, Star, Colon, Caret, Open, Close, Comma, Point, End, Token}
-use Rattle.formula_grammar.specs.Grammar.{Lead, Bare, Led, Sum, First, More, Product, One, Times, Inter, Lone, Cross, Power, Plain, Raised, Atom, Leaf, Factor, Computed, Dot, Group, Part, Smoothing, Offsetting, Item, Nil, Intercept, Term, Items, Start, StartPart, StartPlus, Then, ThenPart, Head, Formula}
+use Rattle.formula_grammar.specs.Grammar.{Lead, Bare, Led, Sum, First, More, Product, One, Times, Inter, Lone, Cross, Power, Plain, Raised, Atom, Leaf, Factor}
+use Rattle.formula_grammar.specs.Grammar.{Computed, Dot, Group, Part, Smoothing, Offsetting, Item, Nil, Intercept, Term, Items, Start, StartPart, StartPlus, Then, ThenPart, Head, Formula}
 use Rattle.formula_grammar.specs.Arithmetics.{Arith}
 use Rattle.formula_grammar.proofs.ArithAutomaton.{Top, ArithState, Begins, arith_step, arith_ending}
 

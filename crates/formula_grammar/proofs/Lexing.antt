@@ -1,5 +1,6 @@
 -- The tokens of a text, one at a time.
-use Rattle.std.proofs.Common.{ne_eqb, ◌≡◌, ◌<◌, ◌≤◌, ◌+◌, ◌-◌, ◌++◌, ◌∷◌, [], ℕ, zero, suc, true, false, List, length, take, drop, drop-cons, get_or, get_or-drop, subst, position, slice_range, add-one, refl, sym, ◌∙◌, ap, append_assoc, arith, length-drop}
+use Rattle.std.proofs.Common.{ne_eqb, ◌≡◌, ◌<◌, ◌≤◌, ◌+◌, ◌-◌, ◌++◌, ◌∷◌, [], ℕ, zero, suc, true, false, List, length}
+use Rattle.std.proofs.Common.{take, drop, drop-cons, get_or, get_or-drop, subst, position, slice_range, add-one, refl, sym, ◌∙◌, ap, append_assoc, arith, length-drop}
 use Rattle.std.proofs.lemmas.List.{drop-drop, take_all}
 use Rattle.std.specs.List.{prefix_len}
 use Rattle.std.specs.Str.{IsCharBoundary, IsUtf8}

@@ -1,5 +1,6 @@
 -- A number text byte by byte, and the longest one at the front of a text.
-use Rattle.std.proofs.Common.{◌≡◌, ◌<◌, ◌≤◌, ◌+◌, ◌-◌, ◌*◌, ◌==◌, ◌&&◌, ◌||◌, ◌++◌, ◌∷◌, [], ℕ, zero, suc, Bool, true, false, List, Option, Some, None, option_map, option_and_then, is_some, cond, codes, length, take, drop, get_or, nat_lt, refl, sym, ◌∙◌, ap, append_assoc, append-nil, arith, lit<, add-one, if◌then◌else◌}
+use Rattle.std.proofs.Common.{◌≡◌, ◌<◌, ◌≤◌, ◌+◌, ◌-◌, ◌*◌, ◌==◌, ◌&&◌, ◌||◌, ◌++◌, ◌∷◌, [], ℕ, zero, suc, Bool, true, false, List, Option, Some}
+use Rattle.std.proofs.Common.{None, option_map, option_and_then, is_some, cond, codes, length, take, drop, get_or, nat_lt, refl, sym, ◌∙◌, ap, append_assoc, append-nil, arith, lit<, add-one, if◌then◌else◌}
 use Rattle.std.specs.Char.{digit_value, is_ascii_digit}
 use Rattle.std.specs.Str.{all_ascii_digits}
 use Rattle.std.specs.Str.Parse.{digits_value, digits_value_after, starts_with_minus, without_leading_sign}

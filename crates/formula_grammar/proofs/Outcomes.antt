@@ -1,8 +1,10 @@
 -- What a reader holds behind some tokens, and what the next token does.
-use Rattle.std.proofs.Common.{◌≡◌, ◌<◌, ◌≤◌, ◌⊎◌, ℕ, ◌+◌, zero, suc, Bool, true, false, List, [], ◌∷◌, ◌++◌, Option, Some, None, IfSome, option_map, option_and_then, inl, inr, nat_le, refl, sym, ◌∙◌, ap, arith, below_more, cond, drop, get_or, length, subst, take}
+use Rattle.std.proofs.Common.{◌≡◌, ◌<◌, ◌≤◌, ◌⊎◌, ℕ, ◌+◌, zero, suc, Bool, true, false, List, [], ◌∷◌, ◌++◌, Option, Some, None}
+use Rattle.std.proofs.Common.{IfSome, option_map, option_and_then, inl, inr, nat_le, refl, sym, ◌∙◌, ap, arith, below_more, cond, drop, get_or, length, subst, take}
 use Rattle.std.proofs.lemmas.List.{get_or_default, take-append-drop, take_more, take_all}
 use Rattle.formula_grammar.specs.Words.{Kind, Number, Caret, Open, End, Numeral, Digits, Token, Reading}
-use Rattle.formula_grammar.specs.Faults.{ReadFault, OutOfMemory, Syntax, TooDeep, PowerRange, NumberTooWide, token_at, depth_behind, depth_from, depth, is_power, number_fault, last_from, last_kind, limit_fault, limit_at, IsFaultAt, IsCleanBelow, IsFirstFault, IsFormula, IsReading, IsFault, EndText, OneFault, NoFormulaHasFaults, FormulaOrFault, FormulasKeepLimits}
+use Rattle.formula_grammar.specs.Faults.{ReadFault, OutOfMemory, Syntax, TooDeep, PowerRange, NumberTooWide, token_at, depth_behind, depth_from, depth, is_power, number_fault, last_from, last_kind}
+use Rattle.formula_grammar.specs.Faults.{limit_fault, limit_at, IsFaultAt, IsCleanBelow, IsFirstFault, IsFormula, IsReading, IsFault, EndText, OneFault, NoFormulaHasFaults, FormulaOrFault, FormulasKeepLimits}
 use Rattle.formula_grammar.specs.Machine.{Reader, token_read, Reads}
 use Rattle.formula_grammar.specs.Numerals.{is_wide}
 use Rattle.formula_grammar.specs.Grammar.{Formula, Plain, token, formula_tokens, Begins}

@@ -1,8 +1,11 @@
 -- The reader of the code holds what was read of a formula.
 use Rattle.std.proofs.Common.{◌==◌, arith, cond, is_some, length, ◌≡◌, ℕ, Bool, true, false, List, [], ◌∷◌, ◌++◌, Option, Some, None, option_map, refl, sym, ◌∙◌, ap, append_assoc, append-nil}
 use Rattle.std.proofs.lemmas.Bool.Decides.{nat_tests}
-use Rattle.formula_grammar.specs.Words.{Span, Sign, Plus, Minus, Zero, Unity, Numeral, Digits, Kind, Name, FactorWord, QssWord, ArithWord, OffsetWord, Number, Signed, Tilde, Star, Colon, Caret, Open, Close, Comma, Point, End, Step, Load, LoadAll, LoadArith, Nothing, Multiply, Interact, SmoothPart, ArithPart}
-use Rattle.formula_grammar.specs.Machine.{Operator, Level, Phase, Response, BeforeTilde, Opening, Operand, FactorOpen, FactorName, FactorClose, BehindAtom, Exponent, BehindPower, SmoothOpen, SmoothName, SmoothComma, SmoothLambda, SmoothClose, BehindItem, ArithOpen, ArithInside, OffsetOpen, OffsetInside, Ended, Reader, step_of, sum_step, inter_end, sum_end, bare, operand_read, sign_read, intercept_read, part_read, power_read, token_read, with_arith}
+use Rattle.formula_grammar.specs.Words.{Span, Sign, Plus, Minus, Zero, Unity, Numeral, Digits, Kind, Name, FactorWord, QssWord, ArithWord, OffsetWord, Number, Signed, Tilde}
+use Rattle.formula_grammar.specs.Words.{Star, Colon, Caret, Open, Close, Comma, Point, End, Step, Load, LoadAll, LoadArith, Nothing, Multiply, Interact, SmoothPart, ArithPart}
+use Rattle.formula_grammar.specs.Machine.{Operator, Level, Phase, Response, BeforeTilde, Opening, Operand, FactorOpen, FactorName, FactorClose, BehindAtom, Exponent, BehindPower}
+use Rattle.formula_grammar.specs.Machine.{SmoothOpen, SmoothName, SmoothComma, SmoothLambda, SmoothClose, BehindItem, ArithOpen, ArithInside, OffsetOpen, OffsetInside, Ended, Reader, step_of}
+use Rattle.formula_grammar.specs.Machine.{sum_step, inter_end, sum_end, bare, operand_read, sign_read, intercept_read, part_read, power_read, token_read, with_arith}
 use Rattle.formula_grammar.specs.Grammar.{token, Bare, Led, Sum, Product, Inter, Power, Plain, Raised, Group, Nil, Intercept, Term, Items, Then, ThenPart, Offsetting, Smoothing, Head}
 use Rattle.formula_grammar.specs.Codes.{sum_code, product_code, inter_code, power_code, atom_code, items_code, has_intercept, smooths_of, offsets_of}
 use Rattle.formula_grammar.specs.ArithCodes.{part_of}
@@ -10,7 +13,9 @@ use Rattle.formula_grammar.specs.ArithMachine.{arith_ends_at, arith_fresh, arith
 use Rattle.formula_grammar.specs.Arithmetics.{Arith}
 use Rattle.formula_grammar.proofs.ArithAutomaton.{ArithState, arith_ending, arith_step}
 use Rattle.formula_grammar.proofs.ArithShapes.{arith_commutes, arith_ends, arith_part_is, arith_shape}
-use Rattle.formula_grammar.proofs.Automaton.{Left, Lefts, no_lefts, Front, Leads, After, PartFront, Nowhere, BehindPlus, BehindItems, Around, Bottom, Inside, Slot, TermSlot, OffsetSlot, State, Arith1, Offset1, Computing, Begin, Named, Fresh, Wants, Factor1, Factor2, Factor3, Has, Raising, Smooth1, Smooth2, Smooth3, Smooth4, Smooth5, HasItems, Done, onto_inter, onto_product, product_of, onto_sum, onto_items, led, item, part, behind, slot_end, slot_step, step_at}
+use Rattle.formula_grammar.proofs.Automaton.{Left, Lefts, no_lefts, Front, Leads, After, PartFront, Nowhere, BehindPlus, BehindItems, Around, Bottom, Inside, Slot, TermSlot, OffsetSlot}
+use Rattle.formula_grammar.proofs.Automaton.{State, Arith1, Offset1, Computing, Begin, Named, Fresh, Wants, Factor1, Factor2, Factor3, Has, Raising, Smooth1, Smooth2, Smooth3}
+use Rattle.formula_grammar.proofs.Automaton.{Smooth4, Smooth5, HasItems, Done, onto_inter, onto_product, product_of, onto_sum, onto_items, led, item, part, behind, slot_end, slot_step, step_at}
 
 abbrev place_of : {T : Type 0} → Option (Left T) → Option ℕ
 place_of None = None
@@ -322,7 +327,8 @@ behind_commutes p l o n k q = refl
 smooth_end_commutes : (w p : ℕ) (x : Span) (m c : ℕ) (v : Numeral) (q : ℕ) (h : Head) (f : PartFront) (n : ℕ) → Commutes (Smooth5 w p x m c v q h f) n Close
 smooth_end_commutes w p x m c v q h Nowhere n = refl
 smooth_end_commutes w p x m c v q h (BehindPlus k) n = refl
-smooth_end_commutes w p x m c v q h (BehindItems j k) n = ap (λ (x' : List ArithPart). let r : Reader = record (items_held h (ThenPart j k (Smoothing (record { word = w; opened = p; name = x; place = m; comma = c; lambda = v; at = q; closed = n }))) BehindItem) { offsets = x' } in Some r) (sym (append-nil (offsets_of j)))
+smooth_end_commutes w p x m c v q h (BehindItems j k) n = ap (λ (x' : List ArithPart). let r : Reader =
+    record (items_held h (ThenPart j k (Smoothing (record { word = w; opened = p; name = x; place = m; comma = c; lambda = v; at = q; closed = n }))) BehindItem) { offsets = x' } in Some r) (sym (append-nil (offsets_of j)))
 
 -- ---- inside an arithmetic
 
@@ -340,7 +346,8 @@ slot_ended : (c : Slot) (a : Arith) (n : ℕ) → slot_behind c (part_of a) ≡ 
 slot_ended (TermSlot w p l o) a n = ap (λ (x : List Step). held o l x BehindAtom) (append_assoc (outside o) (before l) (LoadArith (part_of a) ∷ []))
 slot_ended (OffsetSlot w p h Nowhere) a n = refl
 slot_ended (OffsetSlot w p h (BehindPlus m)) a n = refl
-slot_ended (OffsetSlot w p h (BehindItems j m)) a n = ap (λ (x : List SmoothPart). record (items_held h (ThenPart j m (Offsetting (record { word = w; opened = p; arith = a; closed = n }))) BehindItem) { smooths = x }) (sym (append-nil (smooths_of j)))
+slot_ended (OffsetSlot w p h (BehindItems j m)) a n = ap (λ (x : List SmoothPart). record (items_held h (ThenPart j m (Offsetting (record { word = w; opened = p; arith = a; closed = n }))) BehindItem) { smooths = x })
+    (sym (append-nil (smooths_of j)))
 
 with_arith_is : (c : Slot) (s : ArithState) (q : Option ArithState) → with_arith (shape (Computing c s)) (option_map arith_shape q) ≡ option_map shape (slot_step c 0 None q)
 with_arith_is c s None = refl

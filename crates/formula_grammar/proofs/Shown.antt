@@ -1,8 +1,11 @@
 -- What is read is a formula, and what is half read can be completed.
 use Rattle.std.proofs.Common.{◌≡◌, ℕ, List, [], ◌∷◌, ◌++◌, Option, Some, None, option_and_then, refl, sym, ◌∙◌, ap, append_assoc, append-nil}
 use Rattle.formula_grammar.specs.Words.{Span, Sign, Plus, Zero, Unity, Numeral, Digits, Kind, Name, FactorWord, QssWord, ArithWord, OffsetWord, Number, Signed, Tilde, Star, Colon, Caret, Open, Close, Comma, Point, End, Token}
-use Rattle.formula_grammar.specs.Grammar.{token, Bare, Led, Sum, Product, Inter, Power, Plain, Raised, Factor, Computed, Dot, Group, Part, Offsetting, Item, Term, Items, Head, Formula, lead_tokens, sum_tokens, product_tokens, inter_tokens, power_tokens, atom_tokens, part_tokens, item_tokens, items_tokens, head_tokens, formula_tokens, Begins}
-use Rattle.formula_grammar.proofs.Automaton.{Left, Lefts, no_lefts, Front, Leads, After, PartFront, Nowhere, BehindPlus, BehindItems, Around, Bottom, Inside, Slot, TermSlot, OffsetSlot, State, Arith1, Offset1, Computing, Begin, Named, Fresh, Wants, Factor1, Factor2, Factor3, Has, Raising, Smooth1, Smooth2, Smooth3, Smooth4, Smooth5, HasItems, Done, onto_inter, onto_product, product_of, onto_sum, onto_items, onto_part, operand, led, part, fresh, behind, slot_end, slot_step, step_at, step, run}
+use Rattle.formula_grammar.specs.Grammar.{token, Bare, Led, Sum, Product, Inter, Power, Plain, Raised, Factor, Computed, Dot, Group, Part, Offsetting, Item}
+use Rattle.formula_grammar.specs.Grammar.{Term, Items, Head, Formula, lead_tokens, sum_tokens, product_tokens, inter_tokens, power_tokens, atom_tokens, part_tokens, item_tokens, items_tokens, head_tokens, formula_tokens, Begins}
+use Rattle.formula_grammar.proofs.Automaton.{Left, Lefts, no_lefts, Front, Leads, After, PartFront, Nowhere, BehindPlus, BehindItems, Around, Bottom, Inside, Slot, TermSlot, OffsetSlot, State, Arith1}
+use Rattle.formula_grammar.proofs.Automaton.{Offset1, Computing, Begin, Named, Fresh, Wants, Factor1, Factor2, Factor3, Has, Raising, Smooth1, Smooth2, Smooth3, Smooth4, Smooth5, HasItems, Done}
+use Rattle.formula_grammar.proofs.Automaton.{onto_inter, onto_product, product_of, onto_sum, onto_items, onto_part, operand, led, part, fresh, behind, slot_end, slot_step, step_at, step, run}
 use Rattle.formula_grammar.specs.Arithmetics.{Arith, arith_tokens}
 use Rattle.formula_grammar.specs.Arithmetics.{Plain as PlainApow, Raised as RaisedApow, Leaf as ArithLeaf, Group as ArithGroup, Apow}
 use Rattle.formula_grammar.proofs.ArithAutomaton.{ArithLeft, ArithFront, ArithLeads, Hole, Top, Within, ArithState, Begins as ArithBegins, Needs, Holds, Raises, arith_so_far, arith_step, arith_ending}

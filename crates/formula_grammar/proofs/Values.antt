@@ -1,5 +1,6 @@
 -- A number text without a sign is read as its magnitude.
-use Rattle.std.proofs.Common.{◌≡◌, ◌≤◌, ◌/◌, ◌∷◌, [], ℕ, Bool, true, false, List, Option, Some, None, Result, Ok, Err, IfSome, option_and_then, option_map, nat_le, pos, refl, sym, ap, subst, ◌∙◌, arith, leb-true, unsigned_abs, if◌then◌else◌, ◌&&◌}
+use Rattle.std.proofs.Common.{◌≡◌, ◌≤◌, ◌/◌, ◌∷◌, [], ℕ, Bool, true, false, List, Option, Some, None, Result, Ok, Err}
+use Rattle.std.proofs.Common.{IfSome, option_and_then, option_map, nat_le, pos, refl, sym, ap, subst, ◌∙◌, arith, leb-true, unsigned_abs, if◌then◌else◌, ◌&&◌}
 use Rattle.std.proofs.Math.IntN.{ℤ_set}
 use Rattle.std.proofs.Math.Nat.{div-mul_cancel}
 use Rattle.std.specs.Str.Parse.{starts_with_minus}

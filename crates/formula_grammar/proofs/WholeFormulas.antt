@@ -1,8 +1,11 @@
 -- Every formula is read.
 use Rattle.std.proofs.Common.{◌≡◌, ℕ, List, [], ◌∷◌, ◌++◌, Option, Some, None, option_and_then, refl, sym, ◌∙◌, ap, append_assoc}
 use Rattle.formula_grammar.specs.Words.{Sign, Plus, Digits, Kind, Number, Signed, Star, Colon, Caret, Close, End, Token}
-use Rattle.formula_grammar.specs.Grammar.{token, Bare, Led, Sum, First, More, Product, One, Times, Inter, Lone, Cross, Power, Plain, Raised, Atom, Leaf, Factor, Computed, Dot, Group, Offset, Part, Smoothing, Offsetting, Item, Nil, Intercept, Term, Items, Start, StartPart, StartPlus, Then, ThenPart, Head, Formula, sum_tokens, product_tokens, inter_tokens, power_tokens, atom_tokens, part_tokens, offset_tokens, item_tokens, items_tokens, formula_tokens, OneFormula}
-use Rattle.formula_grammar.proofs.Automaton.{Left, Lefts, no_lefts, Front, Leads, After, PartFront, Nowhere, BehindPlus, BehindItems, Around, Bottom, Inside, Slot, TermSlot, OffsetSlot, State, Begin, Computing, Fresh, Wants, Has, HasItems, Done, onto_inter, onto_product, product_of, onto_sum, onto_items, signed, closing, ending, behind, behind_items, onto_part, slot_end, slot_step, step_at, run}
+use Rattle.formula_grammar.specs.Grammar.{token, Bare, Led, Sum, First, More, Product, One, Times, Inter, Lone, Cross, Power, Plain, Raised, Atom}
+use Rattle.formula_grammar.specs.Grammar.{Leaf, Factor, Computed, Dot, Group, Offset, Part, Smoothing, Offsetting, Item, Nil, Intercept, Term, Items, Start, StartPart}
+use Rattle.formula_grammar.specs.Grammar.{StartPlus, Then, ThenPart, Head, Formula, sum_tokens, product_tokens, inter_tokens, power_tokens, atom_tokens, part_tokens, offset_tokens, item_tokens, items_tokens, formula_tokens, OneFormula}
+use Rattle.formula_grammar.proofs.Automaton.{Left, Lefts, no_lefts, Front, Leads, After, PartFront, Nowhere, BehindPlus, BehindItems, Around, Bottom, Inside, Slot, TermSlot, OffsetSlot, State, Begin, Computing, Fresh}
+use Rattle.formula_grammar.proofs.Automaton.{Wants, Has, HasItems, Done, onto_inter, onto_product, product_of, onto_sum, onto_items, signed, closing, ending, behind, behind_items, onto_part, slot_end, slot_step, step_at, run}
 use Rattle.formula_grammar.specs.Arithmetics.{Arith, arith_tokens}
 use Rattle.formula_grammar.proofs.ArithAutomaton.{Top, ArithState, Begins, arith_run, arith_step}
 use Rattle.formula_grammar.proofs.ArithShown.{no_ending}
@@ -214,7 +217,8 @@ fronted Nowhere = Leads Bare
 fronted (BehindPlus n) = Leads (Led Plus n)
 fronted (BehindItems j n) = After j Plus n
 
-offset_opens : (f : PartFront) (g : Offset) (h : Head) (rest : List Token) → run (Fresh (Bottom h (fronted f))) (offset_tokens g ++ rest) ≡ run (Computing (OffsetSlot g.word g.opened h f) (Begins Top)) ((arith_tokens g.arith ++ (token Close g.closed ∷ [])) ++ rest)
+offset_opens : (f : PartFront) (g : Offset) (h : Head) (rest : List Token) → run (Fresh (Bottom h (fronted f))) (offset_tokens g ++ rest)
+    ≡ run (Computing (OffsetSlot g.word g.opened h f) (Begins Top)) ((arith_tokens g.arith ++ (token Close g.closed ∷ [])) ++ rest)
 offset_opens Nowhere g h rest = refl
 offset_opens (BehindPlus n) g h rest = refl
 offset_opens (BehindItems j n) g h rest = refl

@@ -59,8 +59,16 @@ arith_close_read r (w ∷ ws) = Some (record r { steps = r.steps ++ arith_sum_en
 
 -- behind a power
 abbrev pub arith_power_read : ArithReader → Kind → Option ArithReader
-arith_power_read r Star = Some (record r { steps = r.steps ++ product_step r.level.product; level = record { sum = r.level.sum; product = true }; phase = arith_phase.Operand })
-arith_power_read r (Signed s) = Some (record r { steps = r.steps ++ arith_sum_end r.level; level = record { sum = Some (Between s); product = false }; phase = arith_phase.Operand })
+arith_power_read r Star = Some (record r {
+  steps = r.steps ++ product_step r.level.product;
+  level = record { sum = r.level.sum; product = true };
+  phase = arith_phase.Operand;
+})
+arith_power_read r (Signed s) = Some (record r {
+  steps = r.steps ++ arith_sum_end r.level;
+  level = record { sum = Some (Between s); product = false };
+  phase = arith_phase.Operand;
+})
 arith_power_read r Close = arith_close_read r r.outer
 arith_power_read r k = None
 

@@ -1,8 +1,11 @@
 -- Stated. The code of a formula: its operands, left first, and then its operator.
 use Rattle.std.specs.Prelude.{ℕ, Bool, true, false, List, [], ◌∷◌, ◌++◌}
-use Rattle.formula_grammar.specs.Words.{Sign, Plus, Minus, Step, Load, LoadAll, LoadArith, Nothing, Add, Remove, Multiply, Interact, Raise, SmoothPart, ArithPart, Reading}
+use Rattle.formula_grammar.specs.Words.{Sign, Plus, Minus, Step, Load, LoadAll, LoadArith, Nothing}
+use Rattle.formula_grammar.specs.Words.{Add, Remove, Multiply, Interact, Raise, SmoothPart, ArithPart, Reading}
 use Rattle.formula_grammar.specs.Numerals.{power_of}
-use Rattle.formula_grammar.specs.Grammar.{Lead, Bare, Led, Sum, First, More, Product, One, Times, Inter, Lone, Cross, Power, Plain, Raised, Atom, Leaf, Factor, Computed, Dot, Group, Smooth, Part, Smoothing, Offsetting, Item, Nil, Intercept, Term, Items, Start, StartPart, StartPlus, Then, ThenPart, Formula}
+use Rattle.formula_grammar.specs.Grammar.{Lead, Bare, Led, Sum, First, More, Product, One, Times, Inter, Lone, Cross}
+use Rattle.formula_grammar.specs.Grammar.{Power, Plain, Raised, Atom, Leaf, Factor, Computed, Dot, Group, Smooth, Part, Smoothing}
+use Rattle.formula_grammar.specs.Grammar.{Offsetting, Item, Nil, Intercept, Term, Items, Start, StartPart, StartPlus, Then, ThenPart, Formula}
 use Rattle.formula_grammar.specs.ArithCodes.{part_of}
 
 -- a plus adds terms, and a minus removes them

@@ -1,5 +1,6 @@
 -- Stated. The formula of some tokens, or their first fault.
-use Rattle.std.specs.Prelude.{◌≡◌, ◌⊎◌, ◌++◌, ◌<◌, ◌+◌, ◌-◌, ◌&&◌, ℕ, Bool, nat_le, List, [], ◌∷◌, length, take, slice_index_or, Option, Some, None, if◌then◌else◌}
+use Rattle.std.specs.Prelude.{◌≡◌, ◌⊎◌, ◌++◌, ◌<◌, ◌+◌, ◌-◌, ◌&&◌, ℕ, Bool, nat_le}
+use Rattle.std.specs.Prelude.{List, [], ◌∷◌, length, take, slice_index_or, Option, Some, None, if◌then◌else◌}
 use Rattle.formula_grammar.specs.Words.{Kind, Number, Caret, Open, Close, End, Whole, Numeral, Digits, Token, Reading}
 pub use Rattle.formula_grammar.specs.declared.fault.ReadFault.{ReadFault}
 pub use Rattle.formula_grammar.specs.declared.fault.ReadFault.TheVariants.{OutOfMemory, Syntax, TooDeep, PowerRange, NumberTooWide}

@@ -9,7 +9,8 @@
 --   power   = atom [ "^" DIGITS ]
 --   atom    = NAME | "factor" "(" NAME ")" | "I" "(" arith ")" | "." | "(" sum ")"
 use Rattle.std.specs.Prelude.{◌≡◌, ℕ, List, [], ◌∷◌, ◌++◌}
-use Rattle.formula_grammar.specs.Words.{Span, Sign, Plus, Whole, Zero, Unity, Numeral, Digits, Name, FactorWord, QssWord, ArithWord, OffsetWord, Number, Signed, Tilde, Star, Colon, Caret, Open, Close, Comma, Point, End, Token}
+use Rattle.formula_grammar.specs.Words.{Span, Sign, Plus, Whole, Zero, Unity, Numeral, Digits, Name, FactorWord, QssWord, ArithWord, OffsetWord}
+use Rattle.formula_grammar.specs.Words.{Number, Signed, Tilde, Star, Colon, Caret, Open, Close, Comma, Point, End, Token}
 pub use Rattle.formula_grammar.specs.Arithmetics.{token, Lead, Bare, Led, lead_tokens}
 use Rattle.formula_grammar.specs.Arithmetics.{Arith, arith_tokens}
 

@@ -1,10 +1,14 @@
 -- Inner. What a token does to a half read formula: the formula then, or none where it can't stand there.
 use Rattle.std.specs.Prelude.{ℕ, ◌==◌, Bool, true, false, not, List, [], ◌∷◌, ◌++◌, length, Option, Some, None, if◌then◌else◌}
-use Rattle.formula_grammar.specs.Words.{Span, Sign, Plus, Minus, Zero, Unity, Digits, Kind, Name, FactorWord, QssWord, ArithWord, OffsetWord, Number, Signed, Tilde, Star, Colon, Caret, Open, Close, Comma, Point, End, Token, Step, Load, LoadAll, LoadArith, Nothing, Multiply, Interact, Raise, SmoothPart}
+use Rattle.formula_grammar.specs.Words.{Span, Sign, Plus, Minus, Zero, Unity, Digits, Kind, Name, FactorWord, QssWord, ArithWord}
+use Rattle.formula_grammar.specs.Words.{OffsetWord, Number, Signed, Tilde, Star, Colon, Caret, Open, Close, Comma, Point, End}
+use Rattle.formula_grammar.specs.Words.{Token, Step, Load, LoadAll, LoadArith, Nothing, Multiply, Interact, Raise, SmoothPart}
 pub use Rattle.formula_grammar.specs.declared.levels.Operator.{Operator}
 pub use Rattle.formula_grammar.specs.declared.levels.Level.{Level}
 pub use Rattle.formula_grammar.specs.declared.reader.Phase.{Phase}
-pub use Rattle.formula_grammar.specs.declared.reader.Phase.TheVariants.{Response, BeforeTilde, Opening, Operand, FactorOpen, FactorName, FactorClose, BehindAtom, Exponent, BehindPower, SmoothOpen, SmoothName, SmoothComma, SmoothLambda, SmoothClose, BehindItem, ArithOpen, ArithInside, OffsetOpen, OffsetInside, Ended}
+pub use Rattle.formula_grammar.specs.declared.reader.Phase.TheVariants.{Response, BeforeTilde, Opening, Operand, FactorOpen, FactorName, FactorClose}
+pub use Rattle.formula_grammar.specs.declared.reader.Phase.TheVariants.{BehindAtom, Exponent, BehindPower, SmoothOpen, SmoothName, SmoothComma, SmoothLambda}
+pub use Rattle.formula_grammar.specs.declared.reader.Phase.TheVariants.{SmoothClose, BehindItem, ArithOpen, ArithInside, OffsetOpen, OffsetInside, Ended}
 pub use Rattle.formula_grammar.specs.declared.reader.Reader.{Reader}
 use Rattle.formula_grammar.specs.Numerals.{power_of}
 use Rattle.formula_grammar.specs.Codes.{signed_step}
@@ -63,7 +67,11 @@ operand_read r k = None
 
 -- a sign that leads a sum
 abbrev pub sign_read : Reader → Option Operator → Sign → ℕ → Option Reader
-sign_read r None x n = Some (record r { steps = r.steps ++ (Nothing ∷ []); level = record { sum = Some (record { sign = x; at = n }); product = None; inter = None }; phase = Opening })
+sign_read r None x n = Some (record r {
+  steps = r.steps ++ (Nothing ∷ []);
+  level = record { sum = Some (record { sign = x; at = n }); product = None; inter = None };
+  phase = Opening;
+})
 sign_read r (Some o) x n = None
 
 -- the item `1` or `0`, which no parentheses may hold
@@ -102,9 +110,21 @@ end_read r = if length r.outer == 0 then Some (record r { steps = r.steps ++ sum
 
 -- behind a power
 abbrev pub power_read : Reader → ℕ → Kind → Option Reader
-power_read r n Colon = Some (record r { steps = r.steps ++ inter_end r.level; level = record { sum = r.level.sum; product = r.level.product; inter = Some n }; phase = Operand })
-power_read r n Star = Some (record r { steps = r.steps ++ product_end r.level; level = record { sum = r.level.sum; product = Some n; inter = None }; phase = Operand })
-power_read r n (Signed x) = Some (record r { steps = r.steps ++ sum_end r.level; level = record { sum = Some (record { sign = x; at = n }); product = None; inter = None }; phase = Opening })
+power_read r n Colon = Some (record r {
+  steps = r.steps ++ inter_end r.level;
+  level = record { sum = r.level.sum; product = r.level.product; inter = Some n };
+  phase = Operand;
+})
+power_read r n Star = Some (record r {
+  steps = r.steps ++ product_end r.level;
+  level = record { sum = r.level.sum; product = Some n; inter = None };
+  phase = Operand;
+})
+power_read r n (Signed x) = Some (record r {
+  steps = r.steps ++ sum_end r.level;
+  level = record { sum = Some (record { sign = x; at = n }); product = None; inter = None };
+  phase = Opening;
+})
 power_read r n Close = close_read r r.outer
 power_read r n End = end_read r
 power_read r n k = None

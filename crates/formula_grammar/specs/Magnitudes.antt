@@ -17,12 +17,17 @@ range = 2 ^ 127 - 1
 pub lowest_within : (n d : ℕ) → 1 ≤ d → n ≤ range → d ≤ range → IsWithin range (record { num = pos (n / gcd n d); den = d / gcd n d })
 lowest_within n d some num den =
     let fits = reduces range (pos n) d num den in
-    (reduced_is range (pos n) (pos (n / gcd n d)) d (gcd n d) (d / gcd n d) some refl (ap pos (div-mul_cancel (gcd n d) (gcd-is n d).0)) refl fits.num fits.den).within
+    (reduced_is range (pos n) (pos (n / gcd n d)) d (gcd n d) (d / gcd n d) some refl
+    (ap pos (div-mul_cancel (gcd n d) (gcd-is n d).0)) refl fits.num fits.den).within
 
 -- n/d in lowest terms where the three tests are passed
 abbrev pub magnitude_if : (n d : ℕ) (a b c : Bool) → nat_le 1 d ≡ a → nat_le n range ≡ b → nat_le d range ≡ c → Option Magnitude
 magnitude_if n d true true true some num den = Some (record {
-  fraction = record { num = pos (n / gcd n d); den = d / gcd n d; within = lowest_within n d (leb-true 1 d some) (leb-true n range num) (leb-true d range den) };
+  fraction = record {
+    num = pos (n / gcd n d);
+    den = d / gcd n d;
+    within = lowest_within n d (leb-true 1 d some) (leb-true n range num) (leb-true d range den);
+  };
   unsigned = refl;
 })
 magnitude_if n d a b c some num den = None

@@ -1,12 +1,14 @@
 -- Stated. The number at the front of a text.
-use Rattle.std.specs.Prelude.{ℕ, zero, suc, ◌==◌, ◌||◌, Bool, true, false, List, [], ◌∷◌, Option, Some, None, option_and_then, bytes_eq, codes, length, take, if◌then◌else◌}
+use Rattle.std.specs.Prelude.{ℕ, zero, suc, ◌==◌, ◌||◌, Bool, true, false, List, []}
+use Rattle.std.specs.Prelude.{◌∷◌, Option, Some, None, option_and_then, bytes_eq, codes, length, take, if◌then◌else◌}
 use Rattle.std.specs.Char.{is_ascii_digit}
 use Rattle.std.specs.List.{list_all}
 use Rattle.frac_core.specs.NumberText.{is_exponent_mark, is_number_text, is_point, is_slash, is_zero_digit}
 use Rattle.formula_grammar.specs.Magnitudes.{magnitude_of}
 use Rattle.formula_grammar.specs.Words.{Whole, Zero, Unity, Longer, Numeral, Digits, Written}
 pub use Rattle.formula_grammar.specs.declared.number.NumberPart.{NumberPart}
-pub use Rattle.formula_grammar.specs.declared.number.NumberPart.TheVariants.{Empty, Integer, LonePoint, Decimals, ExponentMark, ExponentSign, Exponent, Slash, Denominator}
+pub use Rattle.formula_grammar.specs.declared.number.NumberPart.TheVariants.{Empty, Integer, LonePoint, Decimals, ExponentMark}
+pub use Rattle.formula_grammar.specs.declared.number.NumberPart.TheVariants.{ExponentSign, Exponent, Slash, Denominator}
 
 -- a sign stands in front
 abbrev pub is_signed : List ℕ → Bool

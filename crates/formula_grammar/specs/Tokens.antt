@@ -1,8 +1,10 @@
 -- Stated. The tokens of a text.
-use Rattle.std.specs.Prelude.{ℕ, zero, suc, ◌+◌, ◌-◌, ◌==◌, ◌&&◌, ◌||◌, Bool, false, nat_le, bytes_eq, codes, List, [], ◌∷◌, Option, Some, None, length, take, drop, position, if◌then◌else◌}
+use Rattle.std.specs.Prelude.{ℕ, zero, suc, ◌+◌, ◌-◌, ◌==◌, ◌&&◌, ◌||◌, Bool, false, nat_le, bytes_eq}
+use Rattle.std.specs.Prelude.{codes, List, [], ◌∷◌, Option, Some, None, length, take, drop, position, if◌then◌else◌}
 use Rattle.std.specs.List.{prefix_len}
 use Rattle.std.specs.Char.{is_ascii_digit}
-use Rattle.formula_grammar.specs.Words.{Plus, Minus, Kind, Name, FactorWord, QssWord, ArithWord, OffsetWord, Number, Signed, Tilde, Star, Colon, Caret, Open, Close, Comma, Point, End, Stray, Token}
+use Rattle.formula_grammar.specs.Words.{Plus, Minus, Kind, Name, FactorWord, QssWord, ArithWord, OffsetWord, Number, Signed, Tilde}
+use Rattle.formula_grammar.specs.Words.{Star, Colon, Caret, Open, Close, Comma, Point, End, Stray, Token}
 pub use Rattle.formula_grammar.specs.declared.lexer.Lexeme.{Lexeme}
 use Rattle.formula_grammar.specs.Numbers.{number_len, numeral_of}
 

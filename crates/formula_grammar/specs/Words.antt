@@ -7,7 +7,8 @@ pub use Rattle.formula_grammar.specs.declared.token.Whole.TheVariants.{Zero, Uni
 pub use Rattle.formula_grammar.specs.declared.token.Numeral.{Numeral}
 pub use Rattle.formula_grammar.specs.declared.token.Numeral.TheVariants.{Digits, Written}
 pub use Rattle.formula_grammar.specs.declared.token.Kind.{Kind}
-pub use Rattle.formula_grammar.specs.declared.token.Kind.TheVariants.{Name, FactorWord, QssWord, ArithWord, OffsetWord, Number, Signed, Tilde, Star, Colon, Caret, Open, Close, Comma, Point, End, Stray}
+pub use Rattle.formula_grammar.specs.declared.token.Kind.TheVariants.{Name, FactorWord, QssWord, ArithWord, OffsetWord, Number, Signed, Tilde, Star}
+pub use Rattle.formula_grammar.specs.declared.token.Kind.TheVariants.{Colon, Caret, Open, Close, Comma, Point, End, Stray}
 pub use Rattle.formula_grammar.specs.declared.token.Token.{Token}
 pub use Rattle.formula_grammar.specs.declared.reading.Step.{Step}
 pub use Rattle.formula_grammar.specs.declared.reading.Step.TheVariants.{Load, LoadAll, LoadArith, Nothing, Add, Remove, Multiply, Interact, Raise}

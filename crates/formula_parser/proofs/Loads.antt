@@ -4,7 +4,9 @@ use Rattle.std.specs.Prelude.{cond, nat_lt}
 use Rattle.std.proofs.lemmas.List.{length-append}
 use Rattle.frac_core.specs.declared.arith.Arith.{Arith}
 use Rattle.formula_grammar.specs.Numerals.{power_of}
-use Rattle.formula_grammar.specs.Grammar.{Sum, First, More, Product, One, Times, Inter, Lone, Cross, Power, Plain, Raised, Atom, Leaf, Factor, Computed, Dot, Group, Nil, Intercept, Term, Items, Start, StartPart, StartPlus, Then, ThenPart, Part, Smoothing, Offsetting, sum_tokens, product_tokens, inter_tokens, power_tokens, atom_tokens, part_tokens, items_tokens, item_tokens}
+use Rattle.formula_grammar.specs.Grammar.{Sum, First, More, Product, One, Times, Inter, Lone, Cross, Power, Plain, Raised, Atom}
+use Rattle.formula_grammar.specs.Grammar.{Leaf, Factor, Computed, Dot, Group, Nil, Intercept, Term, Items, Start, StartPart, StartPlus, Then}
+use Rattle.formula_grammar.specs.Grammar.{ThenPart, Part, Smoothing, Offsetting, sum_tokens, product_tokens, inter_tokens, power_tokens, atom_tokens, part_tokens, items_tokens, item_tokens}
 use Rattle.formula_grammar.specs.Codes.{signed_step, sum_code, product_code, inter_code, power_code, atom_code, items_code, offsets_in, offsets_of}
 use Rattle.formula_grammar.specs.Arithmetics.{token, Bare, Led, arith_tokens}
 use Rattle.formula_parser.specs.Words.{Sign, Plus, Minus, Number, Digits, Signed, Star, Colon, Caret, Close, Step, LoadArith, Multiply, Interact, Raise}

@@ -54,12 +54,14 @@ module _ (only : Span → Bool → Term) (computed : ArithPart → Term) (all : 
     sum_runs (First (Led x n) p) rest stack =
         ends (product_code p) (signed_step x n) (product_meaning only computed all p) (λ b. limited n (combined x [] b)) rest ([] ∷ stack) stack (λ r k. product_runs p r k) (λ y. signed_acts x n [] y stack)
     sum_runs (More s x n p) rest stack =
-        two (sum_code s) (product_code p) (signed_step x n) (sum_meaning only computed all s) (product_meaning only computed all p) (λ a b. limited n (combined x a b)) (λ r k. sum_runs s r k) (λ r k. product_runs p r k) (λ a b k. signed_acts x n a b k) rest stack
+        two (sum_code s) (product_code p) (signed_step x n) (sum_meaning only computed all s) (product_meaning only computed all p) (λ a b. limited n (combined x a b)) (λ r k. sum_runs s r k) (λ r k. product_runs p r k)
+        (λ a b k. signed_acts x n a b k) rest stack
 
     product_runs : (p : Product) → Does (product_code p) (product_meaning only computed all p)
     product_runs (One i) rest stack = inter_runs i rest stack
     product_runs (Times p n i) rest stack =
-        two (product_code p) (inter_code i) (Multiply n) (product_meaning only computed all p) (inter_meaning only computed all i) (λ a b. limited n (times a b)) (λ r k. product_runs p r k) (λ r k. inter_runs i r k) (λ a b k. refl) rest stack
+        two (product_code p) (inter_code i) (Multiply n) (product_meaning only computed all p) (inter_meaning only computed all i) (λ a b. limited n (times a b)) (λ r k. product_runs p r k) (λ r k. inter_runs i r k)
+        (λ a b k. refl) rest stack
 
     inter_runs : (i : Inter) → Does (inter_code i) (inter_meaning only computed all i)
     inter_runs (Lone p) rest stack = power_runs p rest stack
@@ -79,7 +81,8 @@ module _ (only : Span → Bool → Term) (computed : ArithPart → Term) (all : 
   items_runs (Start Bare (TermItem p)) rest stack = product_runs p rest stack
   items_runs (Start (Led x n) (TermItem p)) rest stack = sum_runs (First (Led x n) p) rest stack
   items_runs (Then j x n (TermItem p)) rest stack =
-      two (items_code j) (product_code p) (signed_step x n) (items_meaning only computed all j) (product_meaning only computed all p) (λ a b. limited n (combined x a b)) (λ r k. items_runs j r k) (λ r k. product_runs p r k) (λ a b k. signed_acts x n a b k) rest stack
+      two (items_code j) (product_code p) (signed_step x n) (items_meaning only computed all j) (product_meaning only computed all p) (λ a b. limited n (combined x a b)) (λ r k. items_runs j r k) (λ r k. product_runs p r k)
+      (λ a b k. signed_acts x n a b k) rest stack
   items_runs (Then j x n i) rest stack = items_runs j rest stack
   items_runs (ThenPart j n s) rest stack = items_runs j rest stack
   items_runs j rest stack = refl

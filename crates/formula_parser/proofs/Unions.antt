@@ -1,5 +1,6 @@
 -- Lists of terms that grow.
-use Rattle.std.proofs.Common.{◌≡◌, ◌<◌, ◌≤◌, ◌+◌, ◌∷◌, ◌++◌, [], ℕ, zero, suc, ◌-◌, Bool, true, false, List, cond, length, length-append, map, drop, drop-cons, get_or, add-one, refl, sym, ◌∙◌, ap, arith, append_assoc, not, ◌||◌, if◌then◌else◌}
+use Rattle.std.proofs.Common.{◌≡◌, ◌<◌, ◌≤◌, ◌+◌, ◌∷◌, ◌++◌, [], ℕ, zero, suc, ◌-◌, Bool, true, false, List, cond}
+use Rattle.std.proofs.Common.{length, length-append, map, drop, drop-cons, get_or, add-one, refl, sym, ◌∙◌, ap, arith, append_assoc, not, ◌||◌, if◌then◌else◌}
 use mathlib.Core.Bool.{beq}
 use Rattle.std.specs.Cmp.Lexicographic.{pointwise}
 use Rattle.formula_parser.specs.Terms.{Term, Terms, is_in, plus, minus, cross, union, unions, with_term, raised, raised_by, times}

@@ -3,12 +3,15 @@ use Rattle.std.proofs.Common.{◌≡◌, ◌≤◌, ◌<◌, ◌+◌, ℕ, suc, 
 use Rattle.std.specs.Prelude.{cond}
 use Rattle.std.proofs.lemmas.List.{length-append}
 use Rattle.std.proofs.lemmas.List.Elements.{All-append, All-cons, All-nil}
-use Rattle.formula_parser.specs.Words.{Sign, Plus, Minus, Kind, Name, ArithWord, OffsetWord, Number, Digits, Signed, Tilde, Star, Colon, Caret, Open, Close, End, Token, ArithPart, Step, Load, LoadAll, LoadArith, Nothing, Multiply, Interact, Raise}
+use Rattle.formula_parser.specs.Words.{Sign, Plus, Minus, Kind, Name, ArithWord, OffsetWord, Number, Digits, Signed, Tilde, Star, Colon, Caret}
+use Rattle.formula_parser.specs.Words.{Open, Close, End, Token, ArithPart, Step, Load, LoadAll, LoadArith, Nothing, Multiply, Interact, Raise}
 use Rattle.formula_grammar.specs.Numerals.{power_of}
 use Rattle.formula_grammar.specs.declared.fault.ReadFault.{ReadFault}
 use Rattle.formula_grammar.specs.declared.fault.ReadFault.TheVariants.{PowerRange}
 use Rattle.formula_grammar.specs.Faults.{IsFormula, depth_behind, depth_from, is_power, last_from, limit_fault, token_at}
-use Rattle.formula_grammar.specs.Grammar.{Sum, First, More, Product, One, Times, Inter, Lone, Cross, Power, Plain, Raised, Atom, Leaf, Factor, Computed, Dot, Group, Part, Smoothing, Offsetting, Nil, Intercept, Term, Items, Start, StartPart, StartPlus, Then, ThenPart, Formula, sum_tokens, product_tokens, inter_tokens, power_tokens, atom_tokens, part_tokens, items_tokens, formula_tokens}
+use Rattle.formula_grammar.specs.Grammar.{Sum, First, More, Product, One, Times, Inter, Lone, Cross, Power, Plain, Raised, Atom}
+use Rattle.formula_grammar.specs.Grammar.{Leaf, Factor, Computed, Dot, Group, Part, Smoothing, Offsetting, Nil, Intercept, Term, Items, Start}
+use Rattle.formula_grammar.specs.Grammar.{StartPart, StartPlus, Then, ThenPart, Formula, sum_tokens, product_tokens, inter_tokens, power_tokens, atom_tokens, part_tokens, items_tokens, formula_tokens}
 use Rattle.formula_grammar.specs.Codes.{signed_step, sum_code, product_code, inter_code, power_code, atom_code, items_code, offsets_in, offsets_of}
 use Rattle.formula_grammar.specs.Arithmetics.{token, Bare, Led, arith_tokens}
 use Rattle.formula_grammar.specs.Arithmetics.{Arith as Tree}

@@ -4,7 +4,8 @@ use Rattle.std.specs.Prelude.{ℕ, Bool, true, false, [], ◌∷◌, length, Res
 use Rattle.formula_parser.specs.Words.{ArithPart, Span, Sign, Plus, Minus}
 use Rattle.formula_grammar.specs.Numerals.{power_of}
 use Rattle.formula_grammar.specs.Arithmetics.{Bare, Led}
-use Rattle.formula_grammar.specs.Grammar.{Sum, First, More, Product, One, Times, Inter, Lone, Cross, Power, Plain, Raised, Atom, Leaf, Factor, Computed, Dot, Group, Nil, Intercept, Items, Start, StartPart, StartPlus, Then, ThenPart}
+use Rattle.formula_grammar.specs.Grammar.{Sum, First, More, Product, One, Times, Inter, Lone, Cross, Power, Plain, Raised, Atom}
+use Rattle.formula_grammar.specs.Grammar.{Leaf, Factor, Computed, Dot, Group, Nil, Intercept, Items, Start, StartPart, StartPlus, Then, ThenPart}
 use Rattle.formula_grammar.specs.ArithCodes.{part_of}
 use Rattle.formula_grammar.specs.Grammar.{Term as TermItem}
 use Rattle.formula_parser.specs.Terms.{Term, Terms, plus, minus, cross, times, raised}

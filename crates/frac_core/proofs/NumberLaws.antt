@@ -1,5 +1,6 @@
 -- The laws of number text.
-use Rattle.std.proofs.Common.{◌≡◌, ◌∙◌, ℕ, ◌+◌, ◌-◌, ◌*◌, ◌%◌, ◌^◌, ◌<◌, ◌≤◌, ◌++◌, ◌==◌, ◌⊎◌, inl, inr, suc, Bool, true, false, List, [], ◌∷◌, Option, Some, Err, ℤ, pos, negsuc, length, reverse, decimal, arith, refl, sym, ap, subst, nat_le, if◌then◌else◌, codes, unsigned_abs, option_map}
+use Rattle.std.proofs.Common.{◌≡◌, ◌∙◌, ℕ, ◌+◌, ◌-◌, ◌*◌, ◌%◌, ◌^◌, ◌<◌, ◌≤◌, ◌++◌, ◌==◌, ◌⊎◌, inl, inr, suc, Bool, true, false, List, []}
+use Rattle.std.proofs.Common.{◌∷◌, Option, Some, Err, ℤ, pos, negsuc, length, reverse, decimal, arith, refl, sym, ap, subst, nat_le, if◌then◌else◌, codes, unsigned_abs, option_map}
 use Rattle.std.specs.Fmt.{signed_decimal}
 use Rattle.std.specs.List.{suffix_len}
 use Rattle.std.specs.Char.{is_ascii_digit}

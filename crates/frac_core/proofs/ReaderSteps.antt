@@ -1,5 +1,6 @@
 -- The steps of the reader of number text.
-use Rattle.std.proofs.Common.{Result, IfOk, IfSome, option_map, IsSome, IsNone, ◌⊎◌, inl, inr, ℤ, pos, negsuc, neg_ℤ, unsigned_abs, codes, if◌then◌else◌, ◌≡◌, ◌∙◌, ℕ, ◌+◌, ◌-◌, ◌*◌, ◌^◌, ◌<◌, ◌≤◌, ◌++◌, ◌==◌, ◌&&◌, zero, suc, Bool, true, false, List, [], ◌∷◌, Option, Some, None, Ok, Err, length, take, drop, get_or, nat_lt, nat_le, arith, refl, sym, ap}
+use Rattle.std.proofs.Common.{Result, IfOk, IfSome, option_map, IsSome, IsNone, ◌⊎◌, inl, inr, ℤ, pos, negsuc, neg_ℤ, unsigned_abs, codes, if◌then◌else◌, ◌≡◌, ◌∙◌, ℕ, ◌+◌, ◌-◌, ◌*◌, ◌^◌, ◌<◌, ◌≤◌, ◌++◌}
+use Rattle.std.proofs.Common.{◌==◌, ◌&&◌, zero, suc, Bool, true, false, List, [], ◌∷◌, Option, Some, None, Ok, Err, length, take, drop, get_or, nat_lt, nat_le, arith, refl, sym, ap}
 use mir.Syntax.{w128}
 use mir.Val.{SFits, of_z, to_z}
 use Rattle.std.proofs.lemmas.Int.{to_z-of_z}
@@ -15,7 +16,8 @@ use Rattle.std.proofs.lemmas.List.{append-nil, length-append, take_all}
 use Rattle.std.proofs.lemmas.List.Sums.{suffix_len-le-length}
 use Rattle.exact_algebra.specs.Rational.{ℚ, ◌*ℚ◌, inverse, whole}
 use Rattle.exact_algebra.specs.Fraction.{Fraction, rational}
-use Rattle.frac_core.specs.NumberText.{are_digits, number_of, written, decimal_form, decimal_of, in_range, is_exponent_mark, with_sign, written_decimal, is_point, is_slash, is_zero_digit, scaled, significand, with_exponent, written_body, written_fraction}
+use Rattle.frac_core.specs.NumberText.{are_digits, number_of, written, decimal_form, decimal_of, in_range, is_exponent_mark, with_sign, written_decimal}
+use Rattle.frac_core.specs.NumberText.{is_point, is_slash, is_zero_digit, scaled, significand, with_exponent, written_body, written_fraction}
 use Rattle.frac_core.specs.NumberReading.{front, rest, within, fraction_of, IsWithin, HasRead, scan_decimal, scan_from}
 use Rattle.frac_core.specs.declared.digits.Digits.{Digits}
 use Rattle.frac_core.specs.Gcd.{gcd}

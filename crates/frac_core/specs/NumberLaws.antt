@@ -17,7 +17,8 @@ abbrev pub HaveSignificand : Type 0
 HaveSignificand = (digits : List ℕ) → all_ascii_digits digits ≡ true
     → (digits_value 10 digits ≡ significand digits * 10 ^ suffix_len is_zero_digit digits) × ((significand digits ≡ 0) ⊎ ¬ (significand digits % 10 ≡ 0))
 
--- With z the greatest number for which 10 ^ z is in range, m * 10 ^ k is too wide exactly where m is beyond the range, where k isn't negative and m * 10 ^ k is, or where k is below -z.
+-- With z the greatest number for which 10 ^ z is in range, m * 10 ^ k is too wide exactly where m is beyond the range, where k isn't negative and m * 10 ^ k
+-- is, or where k is below -z.
 abbrev pub AreTooWide : Type 0
 AreTooWide = (range z m up down : ℕ) → 10 ^ z ≤ range → range < 10 ^ (z + 1)
     → (in_range range (Some (scaled m up down)) ≡ Err TooWide) ↔ ((range < m) ⊎ (((down ≤ up) × (range < m * 10 ^ (up - down))) ⊎ (up + z < down)))

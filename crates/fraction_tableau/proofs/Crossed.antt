@@ -85,7 +85,8 @@ gains_by Downward g h = h
 -- ---- at one position
 
 -- a part of the bound of a row that was read
-pub bound_read : {F : Type 0} (value : F → Fraction) (p : Problem F) (i : ℕ) (r : Row F) (part : Part) (d : Direction) → slice_get p.rows i ≡ Some r → bound_of value r part (side_towards d) ≡ bound_part (sample value p) part i (side_towards d)
+pub bound_read : {F : Type 0} (value : F → Fraction) (p : Problem F) (i : ℕ) (r : Row F) (part : Part) (d : Direction) → slice_get p.rows i ≡ Some r
+    → bound_of value r part (side_towards d) ≡ bound_part (sample value p) part i (side_towards d)
 bound_read {F} value p i r Constant Upward is = sym (ap (λ (o : Option (Row F)). option_map_or (λ r. rational (value r.up0)) o (whole (pos 0))) is)
 bound_read {F} value p i r Constant Downward is = ap neg_ℚ (sym (ap (λ (o : Option (Row F)). option_map_or (λ r. rational (value r.down0)) o (whole (pos 0))) is))
 bound_read {F} value p i r Linear Upward is = sym (ap (λ (o : Option (Row F)). option_map_or (λ r. rational (value r.up1)) o (whole (pos 0))) is)

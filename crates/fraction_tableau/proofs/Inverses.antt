@@ -44,12 +44,14 @@ at_read {F} value p i r xs read P h =
     at_row value p i r read.there (λ f. P p.columns f)
     (subst (λ n. P n (value_at value r.x)) read.wide (subst (λ xs. P (length xs) (value_at value xs)) read.same h))
 
-pub coordinate_read : {F : Type 0} (value : F → Fraction) (p : Problem F) (i : ℕ) (r : Row F) (xs : List F) → IsRead p i r xs → (a : ℕ → ℕ → ℚ) (j : ℕ) → coordinate (length xs) a (value_at value xs) j ≡ coordinate p.columns a ((sample value p).x i) j
+pub coordinate_read : {F : Type 0} (value : F → Fraction) (p : Problem F) (i : ℕ) (r : Row F) (xs : List F) → IsRead p i r xs → (a : ℕ → ℕ → ℚ) (j : ℕ)
+    → coordinate (length xs) a (value_at value xs) j ≡ coordinate p.columns a ((sample value p).x i) j
 coordinate_read {F} value p i r xs read a j =
     at_read value p i r xs read (λ n f. coordinate (length xs) a (value_at value xs) j ≡ coordinate n a f j) refl
 
 -- the inverse after the exchange is that of the basis after it
-pub inverse_after : {F : Type 0} (value : F → Fraction) (p : Problem F) (basis : List ℕ) (s t : Square F) (j i : ℕ) (r : Row F) (xs : List F) → IsRead p i r xs → IsInverseOf value p basis s → t.rows ≡ slice_set s.rows j xs → IsInverse value t → length t.columns ≡ length s.columns → IsInverseOf value p (slice_set basis j i) t
+pub inverse_after : {F : Type 0} (value : F → Fraction) (p : Problem F) (basis : List ℕ) (s t : Square F) (j i : ℕ) (r : Row F) (xs : List F) → IsRead p i r xs → IsInverseOf value p basis s → t.rows ≡ slice_set s.rows j xs
+    → IsInverse value t → length t.columns ≡ length s.columns → IsInverseOf value p (slice_set basis j i) t
 inverse_after {F} value p basis s t j i r xs read h rows inv size =
     record {
       inverse = inv;

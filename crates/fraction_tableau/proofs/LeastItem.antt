@@ -96,6 +96,7 @@ module _ {F : Type 0} (value : F → Fraction) (l : Line F) where
           absurd none
 
 -- a coordinate of a row at the position overflows
-pub column_fault : {F : Type 0} (value : F → Fraction) (range : ℕ) (p : Sample) (at : ℕ → ℕ) (a : ℕ → ℕ → ℚ) (j : ℕ) (d : Direction) (e : Short F) → j < p.columns → IsShortOf (IsColumnSpill value range p a j) e → IsShortOf (IsOrderSpill value range p at a j d) e
+pub column_fault : {F : Type 0} (value : F → Fraction) (range : ℕ) (p : Sample) (at : ℕ → ℕ) (a : ℕ → ℕ → ℚ) (j : ℕ) (d : Direction) (e : Short F) → j < p.columns → IsShortOf (IsColumnSpill value range p a j) e
+    → IsShortOf (IsOrderSpill value range p at a j d) e
 column_fault value range p at a j d e lj k =
     short_weaker (IsColumnSpill value range p a j) (IsOrderSpill value range p at a j d) (λ s (i, li, h). at_coordinates i li (j, lj, h)) e k

@@ -62,7 +62,8 @@ module _ {F : Type 0} (value : F → Fraction) (l : Line F) where
       abs_nonzero (coord (model value l) (inverse_of value l) i l.position) (moving_some i h) (sym (is ∙ ap abs_ℚ here) ∙ none)
 
   -- the side of a row that moves is that of its perturbed residual
-  moving_side : (i : ℕ) → is_moving value l i ≡ true → side_at (model value l) (at_of value l) (inverse_of value l) i ≡ perturbed_side (model value l).rows (model value l).columns (at_of value l) (outside_row (model value l) (at_of value l) (inverse_of value l) i)
+  moving_side : (i : ℕ) → is_moving value l i ≡ true → side_at (model value l) (at_of value l) (inverse_of value l) i
+      ≡ perturbed_side (model value l).rows (model value l).columns (at_of value l) (outside_row (model value l) (at_of value l) (inverse_of value l) i)
   unfolding is_moving
   moving_side i h = side_outside (model value l) (at_of value l) (inverse_of value l) i (mover_outside (model value l) (at_of value l) (inverse_of value l) l.position l.direction i h)
 

@@ -57,7 +57,8 @@ module _ {F : Type 0} (value : F → Fraction) (h : Place F) (theta : ℚ) (sol 
 
 -- ---- what overflows
 
-pub dual_fault : {F : Type 0} (value : F → Fraction) (h : Place F) (theta : ℚ) (sol : BasicSolution F) → IsSolution value (sample_of value h) (places h) h.inverse sol → (range : ℕ) (e : Short F) → IsShortOf (IsDualFault value range (length sol.constant) (value_at value sol.constant) (value_at value sol.linear) theta) e → IsShortOf (IsStepSpill value range (sample_of value h) (places h) h.inverse theta) e
+pub dual_fault : {F : Type 0} (value : F → Fraction) (h : Place F) (theta : ℚ) (sol : BasicSolution F) → IsSolution value (sample_of value h) (places h) h.inverse sol → (range : ℕ) (e : Short F)
+    → IsShortOf (IsDualFault value range (length sol.constant) (value_at value sol.constant) (value_at value sol.linear) theta) e → IsShortOf (IsStepSpill value range (sample_of value h) (places h) h.inverse theta) e
 dual_fault {F} value h theta sol is range e k =
     short_weaker (IsDualFault value range (length sol.constant) (value_at value sol.constant) (value_at value sol.linear) theta) (IsStepSpill value range (sample_of value h) (places h) h.inverse theta) by e k
   where
@@ -71,14 +72,16 @@ dual_fault {F} value h theta sol is range e k =
 pub basis_fault : {F : Type 0} (value : F → Fraction) (range : ℕ) (p : Sample) (at : ℕ → ℕ) (a : ℕ → ℕ → ℚ) (theta : ℚ) (e : Short F) → IsShortOf (IsBasisSpill value range p at a) e → IsShortOf (IsStepSpill value range p at a theta) e
 basis_fault value range p at a theta e k = short_weaker (IsBasisSpill value range p at a) (IsStepSpill value range p at a theta) (λ s h. of_basis h) e k
 
-pub column_fault : {F : Type 0} (value : F → Fraction) (range : ℕ) (p : Sample) (at : ℕ → ℕ) (a : ℕ → ℕ → ℚ) (theta : ℚ) (j : ℕ) (e : Short F) → j < p.columns → IsShortOf (IsColumnSpill value range p a j) e → IsShortOf (IsStepSpill value range p at a theta) e
+pub column_fault : {F : Type 0} (value : F → Fraction) (range : ℕ) (p : Sample) (at : ℕ → ℕ) (a : ℕ → ℕ → ℚ) (theta : ℚ) (j : ℕ) (e : Short F) → j < p.columns → IsShortOf (IsColumnSpill value range p a j) e
+    → IsShortOf (IsStepSpill value range p at a theta) e
 column_fault value range p at a theta j e lj k =
     short_weaker (IsColumnSpill value range p a j) (IsStepSpill value range p at a theta) (λ s (i, li, h). of_basis (inr (inr (inl (i, li, (j, lj, h)))))) e k
 
 -- ---- the line
 
 module _ {F : Type 0} (value : F → Fraction) (l : Line F) where
-  pub line_here : (sol : BasicSolution F) → IsKept value l.tableau.now → IsSolution value (model value l) (at_of value l) (inverse_of value l) sol → l.residuals.now ≡ sol.residuals → l.position < l.tableau.now.problem.columns → IsLine value l
+  pub line_here : (sol : BasicSolution F) → IsKept value l.tableau.now → IsSolution value (model value l) (at_of value l) (inverse_of value l) sol → l.residuals.now ≡ sol.residuals → l.position < l.tableau.now.problem.columns
+      → IsLine value l
   line_here sol kept h same position =
       record {
         kept = kept;
@@ -90,7 +93,8 @@ module _ {F : Type 0} (value : F → Fraction) (l : Line F) where
   pub sides_here : (sol : BasicSolution F) (sides : List Side) → IsSolution value (model value l) (at_of value l) (inverse_of value l) sol → sides ≡ sol.sides → HasSides value l sides
   sides_here sol sides h same = record { size = ap length same ∙ h.all_sides; each = λ i li. ap (λ s. side_in s i) same ∙ h.sides i li }
 
-  pub coordinates_here : (xs coords : List F) → length coords ≡ length l.tableau.now.problem.rows → ((i : ℕ) → i < length l.tableau.now.problem.rows → value_at value coords i ≡ coord (model value l) (inverse_of value l) i l.position) → xs ≡ coords → HasCoordinates value l xs
+  pub coordinates_here : (xs coords : List F) → length coords ≡ length l.tableau.now.problem.rows → ((i : ℕ) → i < length l.tableau.now.problem.rows → value_at value coords i ≡ coord (model value l) (inverse_of value l) i l.position)
+      → xs ≡ coords → HasCoordinates value l xs
   coordinates_here xs coords size each same = record { size = ap length same ∙ size; each = λ i li. ap (λ xs. value_at value xs i) same ∙ each i li }
 
   pub first_here : (s : ℚ) → s ≡ slope (model value l) (at_of value l) (inverse_of value l) (rational (value l.theta)) l.position l.direction → s ≡ first_slope value l

@@ -185,7 +185,8 @@ module _ {F : Type 0} (value : F → Fraction) (l : Line F) where
 
       total : sum_ℚ (length l.tableau.now.problem.rows) (λ i. if is_moving value l i then passing_of value l i else whole (pos 0)) ≡ sum_ℚ (length xs - end) (λ t. passing_of value l (order_in xs t))
       total =
-          sum_ℚ-same (length l.tableau.now.problem.rows) (λ i. if is_moving value l i then passing_of value l i else whole (pos 0)) (among (order_in xs) (length xs - end) (passing_of value l)) (λ i li. ap (λ t. if t then passing_of value l i else whole (pos 0)) (same i li))
+          sum_ℚ-same (length l.tableau.now.problem.rows) (λ i. if is_moving value l i then passing_of value l i else whole (pos 0)) (among (order_in xs) (length xs - end) (passing_of value l))
+          (λ i li. ap (λ t. if t then passing_of value l i else whole (pos 0)) (same i li))
           ∙ sum_ℚ-among (order_in xs) (length xs - end) (length l.tableau.now.problem.rows) (passing_of value l) (distinct xs (length xs - end) (omega arith) h.movers)
 
   -- ---- one row
@@ -224,7 +225,8 @@ module _ {F : Type 0} (value : F → Fraction) (l : Line F) where
       let costs = up_cost (model value l) (rational (value l.theta)) m.row +ℚ down_cost (model value l) (rational (value l.theta)) m.row in
       of_search l.position l.direction descent.leaving (of_passing m.row h.row h.moves
       (subst (λ y. IsTermSpill value range (site_of Slope l.position (direction_number l.direction) (y + 1)) (slope_until value l m.row) size costs s) counted
-      (same_term value range (site_of Slope l.position (direction_number l.direction) (n + 1)) s (rational (value slope)) (slope_until value l m.row) (rational (value m.size)) size (rational (value cost)) costs is h.size_is (c ∙ ap₂ (λ y z. y +ℚ z) u d) k)))
+      (same_term value range (site_of Slope l.position (direction_number l.direction) (n + 1)) s (rational (value slope)) (slope_until value l m.row) (rational (value m.size)) size (rational (value cost)) costs is h.size_is (c
+      ∙ ap₂ (λ y z. y +ℚ z) u d) k)))
 
   -- ---- the first item as it was read
 
@@ -245,7 +247,8 @@ module _ {F : Type 0} (value : F → Fraction) (l : Line F) where
     first_enters s next e negative sum above =
         subst (Enters value l) first_read.1 (enters_here line xs end h some s next e negative (sum ∙ ap (λ r. s +ℚ passing_of value l r) (sym first_read.1)) above)
 
-    pub first_next : (ys : List (Mover F)) (last : ℕ) → length ys ≡ length xs → suc last ≡ end → IsPopped (row_at xs) (row_at ys) last → (s next : ℚ) → s ≡ slope_after xs end → next ≡ s +ℚ passing_of value l m.row → next ≡ slope_after ys last
+    pub first_next : (ys : List (Mover F)) (last : ℕ) → length ys ≡ length xs → suc last ≡ end → IsPopped (row_at xs) (row_at ys) last → (s next : ℚ) → s ≡ slope_after xs end → next ≡ s +ℚ passing_of value l m.row
+        → next ≡ slope_after ys last
     first_next ys last size before popped s next e sum =
         slope_next line xs end h some ys last size before popped s next e (sum ∙ ap (λ r. s +ℚ passing_of value l r) (sym first_read.1))
 

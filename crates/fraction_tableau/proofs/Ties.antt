@@ -86,7 +86,8 @@ module _ {F : Type 0} (value : F → Fraction) (l : Line F) (line : IsLine value
 
   pub tie_exact : (i k : ℕ) (u v : Nonbasic) (less : Bool) → i < length l.tableau.now.problem.rows → k < length l.tableau.now.problem.rows
       → u ≡ outside_row (model value l) (at_of value l) (inverse_of value l) i → v ≡ outside_row (model value l) (at_of value l) (inverse_of value l) k
-      → ((rows : ℕ) → u.row < rows → v.row < rows → (less ≡ true) ↔ (lex_cmp (suc rows) (ratio rows (length l.tableau.now.rows) (slice_index l.tableau.now.rows) l.position u) (ratio rows (length l.tableau.now.rows) (slice_index l.tableau.now.rows) l.position v) ≡ Less))
+      → ((rows : ℕ) → u.row < rows → v.row < rows → (less ≡ true) ↔ (lex_cmp (suc rows) (ratio rows (length l.tableau.now.rows) (slice_index l.tableau.now.rows) l.position u)
+      (ratio rows (length l.tableau.now.rows) (slice_index l.tableau.now.rows) l.position v) ≡ Less))
       → less ≡ comes_before value l i k
   unfolding comes_before
   tie_exact i k u v less li lk eu ev h =
@@ -97,7 +98,8 @@ module _ {F : Type 0} (value : F → Fraction) (l : Line F) (line : IsLine value
       (h (length l.tableau.now.problem.rows) (subst (λ (b : Nonbasic). b.row < length l.tableau.now.problem.rows) (sym eu) li) (subst (λ (b : Nonbasic). b.row < length l.tableau.now.problem.rows) (sym ev) lk)))))
     where
       Q : ℕ → Nonbasic → Nonbasic → Type 0
-      Q n u v = (less ≡ true) ↔ (lex_cmp (suc (length l.tableau.now.problem.rows)) (ratio (length l.tableau.now.problem.rows) n (slice_index l.tableau.now.rows) l.position u) (ratio (length l.tableau.now.problem.rows) n (slice_index l.tableau.now.rows) l.position v) ≡ Less)
+      Q n u v = (less ≡ true) ↔ (lex_cmp (suc (length l.tableau.now.problem.rows)) (ratio (length l.tableau.now.problem.rows) n (slice_index l.tableau.now.rows) l.position u)
+          (ratio (length l.tableau.now.problem.rows) n (slice_index l.tableau.now.rows) l.position v) ≡ Less)
 
   pub tie_spill : (range i k : ℕ) (u v : Nonbasic) (s : Spill F) → i ≢ k → i < length l.tableau.now.problem.rows → k < length l.tableau.now.problem.rows → is_moving value l i ≡ true → is_moving value l k ≡ true
       → u ≡ outside_row (model value l) (at_of value l) (inverse_of value l) i → v ≡ outside_row (model value l) (at_of value l) (inverse_of value l) k
@@ -126,7 +128,8 @@ module _ {F : Type 0} (value : F → Fraction) (l : Line F) (line : IsLine value
       (λ e. not_equal (cmp_ℚ (rational (value m.ratio)) (rational (value n.ratio))) differ ((cmp_ℚ-Equal (rational (value m.ratio)) (rational (value n.ratio))).1 (h.ratio_is ∙ e ∙ sym g.ratio_is)))))
 
   -- a coordinate of a row overflows
-  pub coordinates_spill : (range i : ℕ) (e : Short F) → i < length l.tableau.now.problem.rows → IsShortOf (IsCoordinatesSpill value range (model value l).columns (inverse_of value l) ((model value l).x i) i) e → IsShortOf (IsLineSpill value range l) e
+  pub coordinates_spill : (range i : ℕ) (e : Short F) → i < length l.tableau.now.problem.rows → IsShortOf (IsCoordinatesSpill value range (model value l).columns (inverse_of value l) ((model value l).x i) i) e
+      → IsShortOf (IsLineSpill value range l) e
   unfolding IsLineSpill
   coordinates_spill range i e li h =
       short_weaker (IsCoordinatesSpill value range (model value l).columns (inverse_of value l) ((model value l).x i) i) (IsLineSpill value range l)

@@ -34,10 +34,13 @@ row_at xs k = option_map_or (λ m. m.row) (slice_get xs k) 0
 
 -- where position j leaves in direction d, an operation by which the rows that move are ordered overflows: of the
 -- coordinates of a row, at the first entry of a ratio, or where the ratios of two rows are compared
-pub data IsOrderSpill {F : Type 0} (value : F → Fraction) (range : ℕ) (p : Sample) (at : ℕ → ℕ) (a : ℕ → ℕ → ℚ) (j : ℕ) (d : Direction) (s : Spill F) : Type 0 where
+pub data IsOrderSpill {F : Type 0} (value : F → Fraction) (range : ℕ) (p : Sample) (at : ℕ → ℕ) (a : ℕ → ℕ → ℚ) (j : ℕ) (d : Direction)
+    (s : Spill F) : Type 0 where
   at_coordinates : (i : ℕ) → i < p.rows → IsCoordinatesSpill value range p.columns a (p.x i) i s → IsOrderSpill value range p at a j d s
-  at_ratio : (r : ℕ) → r < p.rows → moves p at a j d r ≡ true → IsRatioEntrySpill value range p.columns at j (outside_row p at a r) 0 s → IsOrderSpill value range p at a j d s
-  at_tie : (r i : ℕ) → r ≢ i → r < p.rows → i < p.rows → moves p at a j d r ≡ true → moves p at a j d i ≡ true → IsRatioSpill value range p.rows p.columns at j (outside_row p at a r) (outside_row p at a i) s → IsOrderSpill value range p at a j d s
+  at_ratio : (r : ℕ) → r < p.rows → moves p at a j d r ≡ true → IsRatioEntrySpill value range p.columns at j (outside_row p at a r) 0 s
+      → IsOrderSpill value range p at a j d s
+  at_tie : (r i : ℕ) → r ≢ i → r < p.rows → i < p.rows → moves p at a j d r ≡ true → moves p at a j d i ≡ true
+      → IsRatioSpill value range p.rows p.columns at j (outside_row p at a r) (outside_row p at a i) s → IsOrderSpill value range p at a j d s
 
 module _ {F : Type 0} (value : F → Fraction) where
   -- the problem of a line as a sample
@@ -56,7 +59,8 @@ module _ {F : Type 0} (value : F → Fraction) where
   pub record IsLine (l : Line F) : Type 0 where
     pub kept : IsKept value l.tableau.now
     pub size : length l.residuals.now ≡ length l.tableau.now.problem.rows
-    pub residuals : (i : ℕ) → i < length l.tableau.now.problem.rows → value_at value l.residuals.now i ≡ residual (model l) (coefficient (model l) (at_of l) (inverse_of l)) i
+    pub residuals : (i : ℕ) → i < length l.tableau.now.problem.rows
+        → value_at value l.residuals.now i ≡ residual (model l) (coefficient (model l) (at_of l) (inverse_of l)) i
     pub position : l.position < l.tableau.now.problem.columns
 
   -- row i moves towards 0 on the line
@@ -75,7 +79,8 @@ module _ {F : Type 0} (value : F → Fraction) where
   pub record IsMover (l : Line F) (m : Mover F) : Type 0 where
     pub row : m.row < length l.tableau.now.problem.rows
     pub moves : is_moving l m.row ≡ true
-    pub ratio_is : rational (value m.ratio) ≡ ratio (model l).rows (model l).columns (at_of l) l.position (outside_row (model l) (at_of l) (inverse_of l) m.row) 0
+    pub ratio_is : rational (value m.ratio) ≡ ratio (model l).rows (model l).columns (at_of l) l.position
+        (outside_row (model l) (at_of l) (inverse_of l) m.row) 0
     pub size_is : rational (value m.size) ≡ abs_ℚ (coord (model l) (inverse_of l) m.row l.position)
 
   -- row i moves, and has these coordinates

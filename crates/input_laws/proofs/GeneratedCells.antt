@@ -1,5 +1,6 @@
 -- The bytes of a generated table are a table without a fault, all of whose columns are numbers in every record.
-use Rattle.std.proofs.Common.{◌≡◌, ℕ, zero, suc, ◌+◌, ◌*◌, ◌-◌, ◌^◌, ◌<◌, ◌≤◌, Bool, true, false, pos, unsigned_abs, nat_lt, is_some, List, [], ◌∷◌, ◌++◌, Option, Some, None, Ok, map, length, take, get_or, codes, decimal, arith, lit<, refl, sym, ap, subst, ◌∙◌}
+use Rattle.std.proofs.Common.{◌≡◌, ℕ, zero, suc, ◌+◌, ◌*◌, ◌-◌, ◌^◌, ◌<◌, ◌≤◌, Bool, true, false, pos, unsigned_abs, nat_lt, is_some, List, []}
+use Rattle.std.proofs.Common.{◌∷◌, ◌++◌, Option, Some, None, Ok, map, length, take, get_or, codes, decimal, arith, lit<, refl, sym, ap, subst, ◌∙◌}
 use Rattle.std.specs.List.{AllByRecursion, list_all, list_any, range_with_len}
 use Rattle.std.specs.Str.{bytes_eq, is_utf8}
 use Rattle.std.specs.Str.Parse.{AllDigits}

@@ -1,6 +1,7 @@
 -- Where all columns of a table are numbers in every record, and every term is one of them, there is nothing wrong with
 -- the design.
-use Rattle.std.proofs.Common.{◌≡◌, ◌≢◌, ℕ, zero, suc, ◌+◌, ◌/◌, ◌<◌, ◌≤◌, Bool, true, false, is_some, List, [], ◌∷◌, ◌++◌, Option, Some, None, map, length, get_or, filter, codes, option_map, option_to_list, position, slice_get, unwrap_or, flat_map, nat_lt, pos, arith, inl, inr, refl, sym, ap, subst, ◌∙◌}
+use Rattle.std.proofs.Common.{◌≡◌, ◌≢◌, ℕ, zero, suc, ◌+◌, ◌/◌, ◌<◌, ◌≤◌, Bool, true, false, is_some, List, [], ◌∷◌, ◌++◌, Option, Some, None, map}
+use Rattle.std.proofs.Common.{length, get_or, filter, codes, option_map, option_to_list, position, slice_get, unwrap_or, flat_map, nat_lt, pos, arith, inl, inr, refl, sym, ap, subst, ◌∙◌}
 use Rattle.std.specs.List.{AllByRecursion, position_or_len, range_with_len}
 use Rattle.std.specs.Ordering.{is_lt, is_ne}
 use Rattle.std.specs.Str.{bytes_eq}
@@ -310,7 +311,8 @@ module _ (table : Table) (model : Formula) (coding : Coding) (rows : ℕ) (some 
   late_sound : (records : List ℕ) → late_fault table model coding records ≡ None
   unfolding late_fault terms_fault
   late_sound records =
-      let narrow : nat_lt most_columns (length (columns_of table model coding records)) ≡ false = false_from_ne_true _ (λ e. absurd (omega (arith, columns_number records, ltb-true most_columns (length (columns_of table model coding records)) e))) in
+      let narrow : nat_lt most_columns (length (columns_of table model coding records)) ≡ false =
+      false_from_ne_true _ (λ e. absurd (omega (arith, columns_number records, ltb-true most_columns (length (columns_of table model coding records)) e))) in
       rw (all_some (coded_terms table model coding records) (coded records), narrow, said.intercept) refl
 
   pub sound : fault_of table model coding None ≡ None

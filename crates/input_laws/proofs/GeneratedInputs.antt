@@ -120,7 +120,13 @@ module _ (one : OneFormula) (none : NoFormulaHasFaults) (job : FitJob) (formula 
         row_number : length design.rows ≤ most_rows
         row_number =
             let of = designed.design_is.exact in
-            omega (arith, few, sym (length-map design.rows exact_row) ∙ ap (λ d. length d.rows) of ∙ rows_of table model job.coding None (kept table model None), kept_number table model job.coding rows some records full many first small (columns model parsed))
+            omega (
+              arith,
+              few,
+              sym (length-map design.rows exact_row) ∙ ap (λ d. length d.rows) of
+                  ∙ rows_of table model job.coding None (kept table model None),
+              kept_number table model job.coding rows some records full many first small (columns model parsed),
+            )
 
         column_number : length design.names ≤ most_columns
         column_number =

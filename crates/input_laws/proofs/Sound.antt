@@ -84,7 +84,8 @@ listed table design model smoothing is = sym (length-map smoothing.columns (map 
 least : (n : ℕ) → min n n ≡ n
 least n = omega arith
 
-row_number : (table : Table) (design : Design) (model : Formula) (smoothing : Smoothing) (problem : Problem Frac128) → IsSmoothed table model design smoothing → IsProblemOf design smoothing problem → length problem.rows ≡ row_count design smoothing
+row_number : (table : Table) (design : Design) (model : Formula) (smoothing : Smoothing) (problem : Problem Frac128) → IsSmoothed table model design smoothing → IsProblemOf design smoothing problem
+    → length problem.rows ≡ row_count design smoothing
 row_number table design model smoothing problem is of =
     sym (length-map problem.rows exact_program_row) ∙ ap length of.rows
     ∙ length-append (map data_row (zip design.rows smoothing.columns)) (map (penalty_row (length design.names)) smoothing.rows)

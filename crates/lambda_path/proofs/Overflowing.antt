@@ -31,7 +31,8 @@ fits site l r left right el er not o =
     not (subst (λ z. OverflowsAt (2 ^ 127 - 1) site.kind (value l) (value z)) b (subst (λ z. OverflowsAt (2 ^ 127 - 1) site.kind (value z) (value o.0.right)) a o.1.overflows))
 
 -- the spill of an operation on these numbers, which overflows; its site is the one before, with its kind
-pub spilt : (from site : Site) (kind : OpKind) (l r : Frac128) (left right : ℚ) (s : Spill Frac128) → from ≡ site → exact l ≡ left → exact r ≡ right → s ≡ record { site = record from { kind = kind }; left = l; right = r } → OverflowsAt (2 ^ 127 - 1) kind (value l) (value r)
+pub spilt : (from site : Site) (kind : OpKind) (l r : Frac128) (left right : ℚ) (s : Spill Frac128) → from ≡ site → exact l ≡ left → exact r ≡ right → s ≡ record { site = record from { kind = kind }; left = l; right = r }
+    → OverflowsAt (2 ^ 127 - 1) kind (value l) (value r)
     → IsSpillOf (record { site = record site { kind = kind }; left = left; right = right }) s
 spilt from site kind l r left right s same el er is over =
     subst (IsSpillOf (record { site = record site { kind = kind }; left = left; right = right })) (sym (is ∙ (λ i. record { site = record (same i) { kind = kind }; left = l; right = r })))
@@ -67,7 +68,8 @@ module _ (tau : ℚ) where
     pub fits_more : NoneOverflows (operations_from 0 tau (take k rows)) → NoneOverflows (cost_operations k (exact r.up1) tau) → NoneOverflows (operations_from 0 tau (take (k + 1) rows))
     fits_more before now =
         subst NoneOverflows
-        (sym (ap (operations_from 0 tau) (take_more rows k r within ∙ ap (λ z. take k rows ++ z ∷ []) (sym here)) ∙ operations_append 0 (take k rows) (r ∷ []) ∙ ap (λ n. operations_from 0 tau (take k rows) ++ operations_from n tau (r ∷ [])) taken))
+        (sym (ap (operations_from 0 tau) (take_more rows k r within ∙ ap (λ z. take k rows ++ z ∷ []) (sym here)) ∙ operations_append 0 (take k rows) (r ∷ [])
+        ∙ ap (λ n. operations_from 0 tau (take k rows) ++ operations_from n tau (r ∷ [])) taken))
         (fits_append (operations_from 0 tau (take k rows)) (operations_from k tau (r ∷ [])) before (fits_append (cost_operations k (exact r.up1) tau) [] now tt))
 
     split : rows ≡ take k rows ++ r ∷ drop (k + 1) rows

@@ -22,7 +22,8 @@ use Rattle.lambda_path.specs.Paths.{IsPathOf}
 use Rattle.lambda_path.specs.Rows.{exact_row, data_row, penalty_row, rows_of}
 
 -- the step of a loop that adds w, which is to g what the item at k is to f
-pub mapped_more : {W X Y : Type 0} (g : W → Y) (f : X → Y) (xs : List X) (k : ℕ) (x : X) (start : List Y) (olds news : List W) (w : W) → k < length xs → x ≡ get_or xs k x → map g olds ≡ start ++ map f (take k xs) → news ≡ olds ++ w ∷ [] → g w ≡ f x → map g news ≡ start ++ map f (take (k + 1) xs)
+pub mapped_more : {W X Y : Type 0} (g : W → Y) (f : X → Y) (xs : List X) (k : ℕ) (x : X) (start : List Y) (olds news : List W) (w : W) → k < length xs → x ≡ get_or xs k x → map g olds ≡ start ++ map f (take k xs) → news ≡ olds ++ w ∷ []
+    → g w ≡ f x → map g news ≡ start ++ map f (take (k + 1) xs)
 mapped_more g f xs k x start olds news w within here so_far more made =
     ap (map g) more ∙ map-append g olds (w ∷ []) ∙ ap (λ y. map g olds ++ y ∷ []) (made ∙ ap f here) ∙ ap (λ z. z ++ f (get_or xs k x) ∷ []) so_far
     ∙ append_assoc start (map f (take k xs)) (f (get_or xs k x) ∷ [])
@@ -34,7 +35,8 @@ map_twice f g [] = refl
 map_twice f g (x ∷ xs) = ap (λ z. f (g x) ∷ z) (map_twice f g xs)
 
 -- both kinds of rows
-pub all_rows : {X : Type 0} (p : Problem Frac128) (first : ℕ) (tau : ℚ) (see : X → PenaltyOf) (penalties : List X) (olds news : List (Row Frac128)) → map see penalties ≡ unit_rows p.columns first (whole (pos 1)) → map exact_row olds ≡ map (data_row tau) p.rows
+pub all_rows : {X : Type 0} (p : Problem Frac128) (first : ℕ) (tau : ℚ) (see : X → PenaltyOf) (penalties : List X) (olds news : List (Row Frac128)) → map see penalties ≡ unit_rows p.columns first (whole (pos 1))
+    → map exact_row olds ≡ map (data_row tau) p.rows
     → map exact_row news ≡ map exact_row olds ++ map (λ r. penalty_row (see r)) penalties → map exact_row news ≡ rows_of p first tau
 all_rows p first tau see penalties olds news units front all =
     all ∙ ap₂ (λ xs ys. xs ++ ys) front (map_twice penalty_row see penalties ∙ ap (map penalty_row) units)
@@ -130,14 +132,16 @@ module _ (p q : Problem Frac128) (first : ℕ) (tau : ℚ) (within : first ≤ p
       ∙ ap penalty_row (get_or-map-range_with_len (unit_row p.columns (whole (pos 1))) first (p.columns - first) m (first + m) unit l refl)
 
   -- the number of a data row is that of the row of p
-  from_data : (of : Row ℚ → ℚ) (see : Row Frac128 → ℚ) (i : ℕ) → ((r : Row Frac128) → see r ≡ of (exact_row r)) → (l : i < length p.rows) → option_map_or see (slice_get q.rows i) (whole (pos 0)) ≡ option_map_or (λ r. of (data_row tau r)) (slice_get p.rows i) (whole (pos 0))
+  from_data : (of : Row ℚ → ℚ) (see : Row Frac128 → ℚ) (i : ℕ) → ((r : Row Frac128) → see r ≡ of (exact_row r)) → (l : i < length p.rows)
+      → option_map_or see (slice_get q.rows i) (whole (pos 0)) ≡ option_map_or (λ r. of (data_row tau r)) (slice_get p.rows i) (whole (pos 0))
   from_data of see i sees l =
       let r = item_at p.rows i l in
       let s = item_at q.rows i (omega (arith, count, l)) in
       ap (λ o. option_map_or see o (whole (pos 0))) s.1 ∙ sees s.0 ∙ ap of (data_is i r.0 s.0 l r.2 s.2) ∙ sym (ap (λ o. option_map_or (λ r. of (data_row tau r)) o (whole (pos 0))) r.1)
 
   -- that of a penalty is its own
-  from_penalty : (of : Row ℚ → ℚ) (see : Row Frac128 → ℚ) (m : ℕ) → ((r : Row Frac128) → see r ≡ of (exact_row r)) → (l : m < p.columns - first) → option_map_or see (slice_get q.rows (length p.rows + m)) (whole (pos 0)) ≡ of (penalty_row (unit_row p.columns (whole (pos 1)) (first + m)))
+  from_penalty : (of : Row ℚ → ℚ) (see : Row Frac128 → ℚ) (m : ℕ) → ((r : Row Frac128) → see r ≡ of (exact_row r)) → (l : m < p.columns - first)
+      → option_map_or see (slice_get q.rows (length p.rows + m)) (whole (pos 0)) ≡ of (penalty_row (unit_row p.columns (whole (pos 1)) (first + m)))
   from_penalty of see m sees l =
       let s = item_at q.rows (length p.rows + m) (omega (arith, count, l)) in
       ap (λ o. option_map_or see o (whole (pos 0))) s.1 ∙ sees s.0 ∙ ap of (penalty_is m s.0 l s.2)

@@ -90,14 +90,16 @@ module _ (s t : Side) (n : ℕ) (at : ℕ → ℕ) (j : ℕ) (u v : Nonbasic) wh
   same_entry m o x y p q is e = sym p ∙ (cmp_ℚ-Equal x y).0 (sym is ∙ e) ∙ q
 
   -- where all entries before them agree, the entry of the lesser row's own decides
-  pub by_left : (rows : ℕ) → u.row < v.row → u.row < rows → IsOutside n at u.row → u.coord j ≢ whole (pos 0) → AgreeBefore (suc u.row) → lex_cmp (suc rows) (ratio_on s n at j u) (ratio_on t n at j v) ≡ cmp_ℚ (ratio_on s n at j u (suc u.row)) (whole (pos 0))
+  pub by_left : (rows : ℕ) → u.row < v.row → u.row < rows → IsOutside n at u.row → u.coord j ≢ whole (pos 0) → AgreeBefore (suc u.row)
+      → lex_cmp (suc rows) (ratio_on s n at j u) (ratio_on t n at j v) ≡ cmp_ℚ (ratio_on s n at j u (suc u.row)) (whole (pos 0))
   by_left rows less l out some agree =
       let other : u.row ≢ v.row = omega arith in
       let none : ratio_on t n at j v (suc u.row) ≡ whole (pos 0) = ratio-none t n at j v u.row other (λ k lk e. absurd (out.outside k lk e)) in
       lex_cmp-first (suc rows) (suc u.row) (ratio_on s n at j u) (ratio_on t n at j v) (omega arith) agree (λ e. ratio-own s n at j u some (e ∙ none))
       ∙ ap (cmp_ℚ (ratio_on s n at j u (suc u.row))) none
 
-  pub by_right : (rows : ℕ) → v.row < u.row → v.row < rows → IsOutside n at v.row → v.coord j ≢ whole (pos 0) → AgreeBefore (suc v.row) → lex_cmp (suc rows) (ratio_on s n at j u) (ratio_on t n at j v) ≡ cmp_ℚ (whole (pos 0)) (ratio_on t n at j v (suc v.row))
+  pub by_right : (rows : ℕ) → v.row < u.row → v.row < rows → IsOutside n at v.row → v.coord j ≢ whole (pos 0) → AgreeBefore (suc v.row)
+      → lex_cmp (suc rows) (ratio_on s n at j u) (ratio_on t n at j v) ≡ cmp_ℚ (whole (pos 0)) (ratio_on t n at j v (suc v.row))
   by_right rows less l out some agree =
       let other : v.row ≢ u.row = omega arith in
       let none : ratio_on s n at j u (suc v.row) ≡ whole (pos 0) = ratio-none s n at j u v.row other (λ k lk e. absurd (out.outside k lk e)) in
@@ -106,8 +108,10 @@ module _ (s t : Side) (n : ℕ) (at : ℕ → ℕ) (j : ℕ) (u v : Nonbasic) wh
 
 -- ---- the spill of an entry
 
-module _ {F : Type 0} (value : F → Fraction) (n : ℕ) (at : ℕ → ℕ) (j : ℕ) (u v : Nonbasic) (by and_by : Divisor F) (d : IsDivisorOf value j u by) (e : IsDivisorOf value j v and_by) (m : ℕ) (x y : F) (p : rational (value x) ≡ perturbed n at u m) (q : rational (value y) ≡ perturbed n at v m) where
-  pub spill_on : (range rows entry : ℕ) (s : Spill F) → entry ≡ m → m ≤ rows → AgreeBefore by.side and_by.side n at j u v m → IsDivisorSpill value range by entry x s ⊎ IsDivisorSpill value range and_by entry y s → IsSpillOn value range rows n at j by.side and_by.side u v s
+module _ {F : Type 0} (value : F → Fraction) (n : ℕ) (at : ℕ → ℕ) (j : ℕ) (u v : Nonbasic) (by and_by : Divisor F) (d : IsDivisorOf value j u by) (e : IsDivisorOf value j v and_by) (m : ℕ) (x y : F)
+    (p : rational (value x) ≡ perturbed n at u m) (q : rational (value y) ≡ perturbed n at v m) where
+  pub spill_on : (range rows entry : ℕ) (s : Spill F) → entry ≡ m → m ≤ rows → AgreeBefore by.side and_by.side n at j u v m → IsDivisorSpill value range by entry x s ⊎ IsDivisorSpill value range and_by entry y s
+      → IsSpillOn value range rows n at j by.side and_by.side u v s
   spill_on range rows entry s same within agree h =
       record {
         entry = m;

@@ -46,7 +46,8 @@ same_spill value range site other t u r e f h =
     subst (λ w. IfErr r (IsSpillOf value range other w)) f (subst (λ o. IfErr r (IsSpillOf value range o t)) e h)
 
 -- a spill of a term is that of one of equal parts
-pub same_term : {F : Type 0} (value : F → Fraction) (range : ℕ) (site : Site) (s : Spill F) (first next left by right of : ℚ) → first ≡ next → left ≡ by → right ≡ of → IsTermSpill value range site first left right s → IsTermSpill value range site next by of s
+pub same_term : {F : Type 0} (value : F → Fraction) (range : ℕ) (site : Site) (s : Spill F) (first next left by right of : ℚ) → first ≡ next → left ≡ by → right ≡ of → IsTermSpill value range site first left right s
+    → IsTermSpill value range site next by of s
 same_term value range site s first next left by right of e f g h =
     subst (λ z. IsTermSpill value range site z by of s) e (subst (λ z. IsTermSpill value range site first z of s) f (subst (λ z. IsTermSpill value range site first left z s) g h))
 
@@ -61,4 +62,11 @@ plus_zero_right x a b h = ring_ℚ (x ∷ a ∷ []) v0 (v0 ⊞ v1 ⊠ number (po
 pub step_spill : {F : Type 0} (value : F → Fraction) (range : ℕ) (site : Site) (t : Products) (k n : ℕ) (first left right : ℚ) (s : Spill F) → n ≡ site.term + k → k < t.count → first ≡ partial_sum t k → left ≡ t.left k → right ≡ t.right k
     → IsTermSpill value range (record site { term = n }) first left right s → IsSpillOf value range site t s
 step_spill value range site t k n first left right s terms within before l r h =
-    record { at_product = (k, within, subst (λ (o : Site). IsTermSpill value range o (partial_sum t k) (t.left k) (t.right k) s) (ap (λ m. record site { term = m }) terms) (same_term value range (record site { term = n }) s first (partial_sum t k) left (t.left k) right (t.right k) before l r h)) }
+    record {
+      at_product = (
+        k,
+        within,
+        subst (λ (o : Site). IsTermSpill value range o (partial_sum t k) (t.left k) (t.right k) s) (ap (λ m. record site { term = m }) terms)
+            (same_term value range (record site { term = n }) s first (partial_sum t k) left (t.left k) right (t.right k) before l r h),
+      );
+    }

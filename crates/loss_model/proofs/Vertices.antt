@@ -76,7 +76,8 @@ itself : (n : ℕ) → (n == n) ≡ true
 itself n = grind arith
 
 -- the basic value of the row at place j of the basis is value j of the list
-pub basic_value-at : {F : Type 0} (value : F → Fraction) (v : Vertex F) (basic : List F) → IsStrictlyIncreasing v.basis.rows → (j : ℕ) → j < length v.basis.rows → basic_value value v basic (slice_index v.basis.rows j) ≡ value_at value basic j
+pub basic_value-at : {F : Type 0} (value : F → Fraction) (v : Vertex F) (basic : List F) → IsStrictlyIncreasing v.basis.rows → (j : ℕ) → j < length v.basis.rows
+    → basic_value value v basic (slice_index v.basis.rows j) ≡ value_at value basic j
 basic_value-at value v basic h j l =
     let rows = v.basis.rows in
     ap (value_at value basic)

@@ -52,7 +52,8 @@ IsAmong value range site term (o ∷ os) s =
 -- a value plus a product: the product overflows, or its addition does, and both bear the term after the site's
 pub data IsTermSpill {F : Type 0} (value : F → Fraction) (range : ℕ) (site : Site) (first left right : ℚ) (s : Spill F) : Type 0 where
   of_product : IsOperation value range (record site { term = site.term + 1; kind = Mul }) left right s → IsTermSpill value range site first left right s
-  of_addition : IsOperation value range (record site { term = site.term + 1; kind = Add }) first (left *ℚ right) s → IsTermSpill value range site first left right s
+  of_addition : IsOperation value range (record site { term = site.term + 1; kind = Add }) first (left *ℚ right) s
+      → IsTermSpill value range site first left right s
 
 -- a value, and then the products of left k and right k, added from the left
 pub record Products : Type 0 where

@@ -94,7 +94,8 @@ module _ {F : Type 0} (value : F → Fraction) where
             ∙ sum_is r.x (spread tested 0 c) ∙ spread_fits tested 0 r.x c ∙ sym (sum_is (without tested 0 r.x) c)
             ∙ ap₂ (λ n o. sum_ℚ n (λ k. option_map_or (λ s. value_at value s.x k) o (whole (pos 0)) *ℚ c k)) left (sym here)
 
-    none_left : HasFullRank (sample value p) → ((i : ℕ) → i < length (restricted_problem tested p).rows → fitted (sample value (restricted_problem tested p)) c i ≡ whole (pos 0)) → (m : ℕ) → m < p.columns - length tested → c m ≡ whole (pos 0)
+    none_left : HasFullRank (sample value p) → ((i : ℕ) → i < length (restricted_problem tested p).rows → fitted (sample value (restricted_problem tested p)) c i ≡ whole (pos 0)) → (m : ℕ) → m < p.columns - length tested
+        → c m ≡ whole (pos 0)
     none_left full none m l =
         all_zero tested 0 p.columns c
         (full (spread tested 0 c) (λ i li. row_fits i li ∙ none i (omega (arith, li, length-map p.rows (restricted_row {F = F} tested)))))

@@ -52,7 +52,8 @@ module _ (p : Sample) (at : ℕ → ℕ) (n : ℕ) (distinct : AreDistinct at n 
       ∙ ap₂ (λ x y. x +ℚ y)
       (sum_ℚ-same p.columns (λ k. if is_among at n k then p.up1 i *ℚ (p.x i k *ℚ factors v u k) else whole (pos 0)) (among at n (λ k. scaled p i k *ℚ v k)) (λ k lk. one (is_among at n k) k)
       ∙ sum_ℚ-among at n p.columns (λ k. scaled p i k *ℚ v k) distinct)
-      (sum_ℚ-same p.columns (λ k. if is_among at n k then whole (pos 0) else p.up1 i *ℚ (p.x i k *ℚ factors v u k)) (λ k. whole (negsuc 0) *ℚ (if is_among at n k then whole (pos 0) else scaled p i k *ℚ u k)) (λ k lk. two (is_among at n k) k)
+      (sum_ℚ-same p.columns (λ k. if is_among at n k then whole (pos 0) else p.up1 i *ℚ (p.x i k *ℚ factors v u k)) (λ k. whole (negsuc 0) *ℚ (if is_among at n k then whole (pos 0) else scaled p i k *ℚ u k))
+      (λ k lk. two (is_among at n k) k)
       ∙ sum_ℚ-scale p.columns (whole (negsuc 0)) (λ k. if is_among at n k then whole (pos 0) else scaled p i k *ℚ u k))
       ∙ ring_ℚ (sum_ℚ n (λ j. scaled p i (at j) *ℚ v (at j)) ∷ sum_ℚ p.columns (λ k. if is_among at n k then whole (pos 0) else scaled p i k *ℚ u k) ∷ []) (v0 ⊞ number (negsuc 0) ⊠ v1) (v0 ⊟ v1) refl)
     where

@@ -16,7 +16,8 @@ use Rattle.basis_model.specs.PerturbedLoss.{perturbed_loss, change_list, perturb
 use Rattle.pivot_rule.specs.Duals.{HasCosts}
 use Rattle.pivot_rule.specs.Trails.{AtBasis, basis_after, AreSolvingSteps, IsSolvingTrail, HasSolvingStep, ReachesLimit}
 use Rattle.walk_rule.specs.Families.{over_quantiles, rising_value, falling_value}
-use Rattle.walk_rule.specs.WalkTrails.{AreWalkingSteps, value_after, HasWalkingStep, HasTestedStep, is_below, is_within, theta_value, negated_theta, IsProcessTrail, ReachesProcessLimit, ReachesWalkLimit, IsIntervalTrail, ReachesIntervalLimit}
+use Rattle.walk_rule.specs.WalkTrails.{AreWalkingSteps, value_after, HasWalkingStep, HasTestedStep, is_below, is_within, theta_value}
+use Rattle.walk_rule.specs.WalkTrails.{negated_theta, IsProcessTrail, ReachesProcessLimit, ReachesWalkLimit, IsIntervalTrail, ReachesIntervalLimit}
 use Rattle.walk_rule.proofs.Alike.{sum_same, coefficient_same}
 use Rattle.walk_rule.proofs.Lists.{cmp_by, lex_cmp-by}
 use Rattle.pivot_bound.specs.BoundLaws.{rows_along, NoneTwice, further_bases}
@@ -86,11 +87,13 @@ module _ {F : Type 0} (value : F → Fraction) (p : Sample) (measure : (ℕ → 
       → suc (suc (length steps)) ≤ choose p.rows p.columns
   few_more theta basis steps next first h more =
       let total : length (later basis steps (next ∷ [])) ≡ length steps + 1 = later_length basis steps (next ∷ []) in
-      let most : suc (length (later basis steps (next ∷ []))) ≤ choose p.rows p.columns = chain_few p measure alike basis first.a first.is_basis (later basis steps (next ∷ [])) (chained basis steps (next ∷ []) h (below theta (basis_after basis steps) next more, tt)) in
+      let most : suc (length (later basis steps (next ∷ []))) ≤ choose p.rows p.columns = chain_few p measure alike basis first.a first.is_basis (later basis steps (next ∷ []))
+      (chained basis steps (next ∷ []) h (below theta (basis_after basis steps) next more, tt)) in
       omega (arith, total, most)
 
 -- where steps lead to a basis they begin at one
-begins : {F : Type 0} {Q : (ℕ → ℕ → ℚ) → Type 0} (value : F → Fraction) (p : Sample) (P : Improvement) (basis : List ℕ) (steps : List (Exchange F)) → Along value p P basis steps → AtBasis p (basis_after basis steps) Q → AtBasis p basis (λ a. Unit {0})
+begins : {F : Type 0} {Q : (ℕ → ℕ → ℚ) → Type 0} (value : F → Fraction) (p : Sample) (P : Improvement) (basis : List ℕ) (steps : List (Exchange F)) → Along value p P basis steps → AtBasis p (basis_after basis steps) Q
+    → AtBasis p basis (λ a. Unit {0})
 begins value p P basis [] h last = record { size = last.size; a = last.a; is_basis = last.is_basis; ends = last.ends; holds = tt }
 begins value p P basis (s ∷ steps) h last = record { size = h.0.size; a = h.0.a; is_basis = h.0.is_basis; ends = h.0.ends; holds = tt }
 
@@ -200,7 +203,8 @@ module _ {F : Type 0} (value : F → Fraction) (p : Sample) (reach : ℚ → Boo
     rise_more_few from now basis steps first h more =
         let last : List ℕ = basis_after basis steps in
         few_more value p negated_list rising_alike (RaisesCoefficient p c) rises more.holds.0 basis steps (slice_set last more.holds.1 more.holds.2) first (rising_along value p reach tau c lc from basis steps h)
-        (walked value p (negated_theta value) (rising_value p tau c) reach (λ a b. RaisesCoefficient p c more.holds.0 (slice_index last) a (slice_index (slice_set last more.holds.1 more.holds.2)) b) now more.holds.0 last more.holds.1 more.holds.2
+        (walked value p (negated_theta value) (rising_value p tau c) reach (λ a b. RaisesCoefficient p c more.holds.0 (slice_index last) a (slice_index (slice_set last more.holds.1 more.holds.2)) b) now more.holds.0 last more.holds.1
+        more.holds.2
         (record { size = more.size; a = more.a; is_basis = more.is_basis; ends = more.ends; holds = more.holds.3 })
         (λ a b u v ex step. rise_step value p reach tau c lc now more.holds.0 (slice_index last) (slice_index (slice_set last more.holds.1 more.holds.2)) a b more.holds.1 more.holds.2 u v ex step))
 
@@ -209,7 +213,8 @@ module _ {F : Type 0} (value : F → Fraction) (p : Sample) (reach : ℚ → Boo
     fall_more_few from now basis steps first h more =
         let last : List ℕ = basis_after basis steps in
         few_more value p coefficient_list falling_alike (LowersCoefficient p c) falls more.holds.0 basis steps (slice_set last more.holds.1 more.holds.2) first (falling_along value p reach tau c lc from basis steps h)
-        (walked value p (theta_value value) (falling_value p tau c) reach (λ a b. LowersCoefficient p c more.holds.0 (slice_index last) a (slice_index (slice_set last more.holds.1 more.holds.2)) b) now more.holds.0 last more.holds.1 more.holds.2
+        (walked value p (theta_value value) (falling_value p tau c) reach (λ a b. LowersCoefficient p c more.holds.0 (slice_index last) a (slice_index (slice_set last more.holds.1 more.holds.2)) b) now more.holds.0 last more.holds.1
+        more.holds.2
         (record { size = more.size; a = more.a; is_basis = more.is_basis; ends = more.ends; holds = more.holds.3 })
         (λ a b u v ex step. fall_step value p reach tau c lc now more.holds.0 (slice_index last) (slice_index (slice_set last more.holds.1 more.holds.2)) a b more.holds.1 more.holds.2 u v ex step))
 

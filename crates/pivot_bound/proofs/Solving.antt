@@ -182,7 +182,8 @@ module _ (p : Sample) (at next : ℕ → ℕ) (a b : ℕ → ℕ → ℚ) (theta
         ∙ entries_after p at a basis j d i li mover r enters.row enters.mover next b after ex lj other m
 
     -- with prices before and after, and how far the price moves over the change
-    turned_by : (x y g : ℚ) → old i ≡ x → new i ≡ y → ((y -ℚ x) *ℚ change p at a j d i) ≡ g → (m : ℕ) → new i *ℚ R' m i ≡ ((whole (pos 1) *ℚ (old i *ℚ R m i)) +ℚ (neg_ℚ (q m) *ℚ (old i *ℚ c i))) +ℚ (whole (pos 0) +ℚ ((ρ r m *ℚ g) +ℚ (whole (negsuc 0) *ℚ (g *ℚ ρ i m))))
+    turned_by : (x y g : ℚ) → old i ≡ x → new i ≡ y → ((y -ℚ x) *ℚ change p at a j d i) ≡ g → (m : ℕ)
+        → new i *ℚ R' m i ≡ ((whole (pos 1) *ℚ (old i *ℚ R m i)) +ℚ (neg_ℚ (q m) *ℚ (old i *ℚ c i))) +ℚ (whole (pos 0) +ℚ ((ρ r m *ℚ g) +ℚ (whole (negsuc 0) *ℚ (g *ℚ ρ i m))))
     turned_by x y g ex ey eg m =
         ap (λ z. z *ℚ R' m i) ey
         ∙ ring_ℚ (x ∷ y ∷ R' m i ∷ []) (v1 ⊠ v2) (v0 ⊠ v2 ⊞ (v1 ⊟ v0) ⊠ v2) refl

@@ -36,7 +36,8 @@ NoneTwiceInProcess {F} value =
 -- none among the solving steps' bases of an interval, none in `rise`, and none in `fall`
 abbrev pub NoneTwiceInInterval : {F : Type 0} → (F → Fraction) → Type 0
 NoneTwiceInInterval {F} value =
-    (p : Sample) (tau : ℚ) (c : ℕ) (bound : ℚ) (trail : Trail F) (basis : List ℕ) → HasCosts p tau → c < p.columns → (lawful : IsIntervalTrail value p tau c bound trail basis)
+    (p : Sample) (tau : ℚ) (c : ℕ) (bound : ℚ) (trail : Trail F) (basis : List ℕ) → HasCosts p tau → c < p.columns
+    → (lawful : IsIntervalTrail value p tau c bound trail basis)
     → NoneTwice p lawful.first trail.steps
     × NoneTwice p basis trail.rise
     × NoneTwice p basis trail.fall

@@ -27,7 +27,8 @@ LossAfterStep =
     → AreExchanged p.columns at next j r → j < p.columns → IsEntering p at a theta j d r → (m : ℕ)
     → perturbed_loss p next b theta m
     ≡ (perturbed_loss p at a theta m +ℚ (slope_before p at a theta j d r *ℚ ratio p.rows p.columns at j (outside_row p at a r) m))
-    -ℚ sum_ℚ p.rows (λ i. (if moves p at a j d i && is_before p at a j i r then passing p at a theta j i else whole (pos 0)) *ℚ ratio p.rows p.columns at j (outside_row p at a i) m)
+    -ℚ sum_ℚ p.rows (λ i. (if moves p at a j d i && is_before p at a j i r then passing p at a theta j i else whole (pos 0))
+    *ℚ ratio p.rows p.columns at j (outside_row p at a i) m)
 
 -- so a solving step lowers it
 abbrev pub LossFalls : Type 0
@@ -44,7 +45,8 @@ Improvement = ℚ → (ℕ → ℕ) → (ℕ → ℕ → ℚ) → (ℕ → ℕ) 
 abbrev pub Along : {F : Type 0} → (F → Fraction) → Sample → Improvement → List ℕ → List (Exchange F) → Type 0
 Along value p P basis [] = Unit {0}
 Along value p P basis (s ∷ steps) =
-    AtBasis p basis (λ a. AtBasis p (slice_set basis s.position s.row) (λ b. P (rational (value s.theta)) (slice_index basis) a (slice_index (slice_set basis s.position s.row)) b))
+    AtBasis p basis (λ a. AtBasis p (slice_set basis s.position s.row)
+    (λ b. P (rational (value s.theta)) (slice_index basis) a (slice_index (slice_set basis s.position s.row)) b))
     × Along value p P (slice_set basis s.position s.row) steps
 
 module _ (p : Sample) where
@@ -82,7 +84,8 @@ ProcessImproves {F} value =
 -- in an interval each step of `rise` raises the perturbed coefficient of the column, and each of `fall` lowers it
 abbrev pub IntervalImproves : {F : Type 0} → (F → Fraction) → Type 0
 IntervalImproves {F} value =
-    (p : Sample) (tau : ℚ) (c : ℕ) (bound : ℚ) (trail : Trail F) (basis : List ℕ) → HasCosts p tau → c < p.columns → (lawful : IsIntervalTrail value p tau c bound trail basis)
+    (p : Sample) (tau : ℚ) (c : ℕ) (bound : ℚ) (trail : Trail F) (basis : List ℕ) → HasCosts p tau → c < p.columns
+    → (lawful : IsIntervalTrail value p tau c bound trail basis)
     → Along value p (LowersLoss p) lawful.first trail.steps
     × Along value p (RaisesCoefficient p c) basis trail.rise
     × Along value p (LowersCoefficient p c) basis trail.fall

@@ -19,7 +19,8 @@ count_sum : (n : ℕ) (test : ℕ → Bool) → whole (pos (count n test)) ≡ s
 count_sum zero test = refl
 count_sum (suc n) test = by (test n) (count_sum n test)
   where
-    by : (t : Bool) → whole (pos (count n test)) ≡ sum_ℚ n (λ i. if test i then whole (pos 1) else whole (pos 0)) → whole (pos (if t then suc (count n test) else count n test)) ≡ sum_ℚ n (λ i. if test i then whole (pos 1) else whole (pos 0)) +ℚ (if t then whole (pos 1) else whole (pos 0))
+    by : (t : Bool) → whole (pos (count n test)) ≡ sum_ℚ n (λ i. if test i then whole (pos 1) else whole (pos 0))
+        → whole (pos (if t then suc (count n test) else count n test)) ≡ sum_ℚ n (λ i. if test i then whole (pos 1) else whole (pos 0)) +ℚ (if t then whole (pos 1) else whole (pos 0))
     by true ih = next_whole (count n test) ∙ ap (λ z. z +ℚ whole (pos 1)) ih
     by false ih = ring_ℚ (whole (pos (count n test)) ∷ []) v0 (v0 ⊞ number (pos 0)) refl ∙ ap (λ z. z +ℚ whole (pos 0)) ih
 

@@ -133,7 +133,8 @@ module _ (p : Sample) (at : ℕ → ℕ) (a : ℕ → ℕ → ℚ) (theta : ℚ)
       outside Less = both_down (change p at a j d i) (up_cost p theta i) (down_cost p theta i) (costs.up i li) (costs.down i li)
       outside Equal = both_down (change p at a j d i) (up_cost p theta i) (down_cost p theta i) (costs.up i li) (costs.down i li)
 
-      by : (t : Bool) → whole (pos 0) ≤ℚ both (if t then Basic else side_of (sign p at a i)) (value_of_side p theta (λ i. whole (pos 0)) i (if t then Basic else side_of (sign p at a i))) (change p at a j d i) (up_cost p theta i) (down_cost p theta i)
+      by : (t : Bool) → whole (pos 0) ≤ℚ both (if t then Basic else side_of (sign p at a i)) (value_of_side p theta (λ i. whole (pos 0)) i (if t then Basic else side_of (sign p at a i))) (change p at a j d i) (up_cost p theta i)
+          (down_cost p theta i)
       by true = subst (λ z. whole (pos 0) ≤ℚ z) (ring_ℚ (change p at a j d i ∷ []) (number (pos 0)) (number (pos 0) ⊠ v0 ⊞ number (pos 0)) refl) (≤ℚ_refl (whole (pos 0)))
       by false = outside (sign p at a i)
 
@@ -149,7 +150,8 @@ module _ (p : Sample) (at : ℕ → ℕ) (a : ℕ → ℕ → ℚ) (theta : ℚ)
       ap (λ z. down_cost p theta (at j) +ℚ z) (dual_is p at a theta j
       ∙ ring_ℚ (sum_ℚ p.rows (λ i. bound p at a theta i *ℚ coord p a i j) ∷ []) (negated v0) (number (negsuc 0) ⊠ v0) refl
       ∙ sym (sum_ℚ-scale p.rows (whole (negsuc 0)) (λ i. bound p at a theta i *ℚ coord p a i j))
-      ∙ sum_ℚ-same p.rows (λ i. whole (negsuc 0) *ℚ (bound p at a theta i *ℚ coord p a i j)) (λ i. bound p at a theta i *ℚ neg_ℚ (coord p a i j)) (λ i li. ring_ℚ (bound p at a theta i ∷ coord p a i j ∷ []) (number (negsuc 0) ⊠ (v0 ⊠ v1)) (v0 ⊠ negated v1) refl))
+      ∙ sum_ℚ-same p.rows (λ i. whole (negsuc 0) *ℚ (bound p at a theta i *ℚ coord p a i j)) (λ i. bound p at a theta i *ℚ neg_ℚ (coord p a i j))
+      (λ i li. ring_ℚ (bound p at a theta i ∷ coord p a i j ∷ []) (number (negsuc 0) ⊠ (v0 ⊠ v1)) (v0 ⊠ negated v1) refl))
 
   cost_not_negative : (d : Direction) → at j < p.rows → whole (pos 0) ≤ℚ cost d
   unfolding cost

@@ -52,7 +52,8 @@ module _ (p : Sample) (at : ℕ → ℕ) (a : ℕ → ℕ → ℚ) (j r : ℕ) (
   unfolding ci q si sr f
   residual_after =
       ap (λ z. v i -ℚ z) (
-      sum_ℚ-same p.columns (λ k. coordinate p.columns (exchanged p.columns a j (p.x r)) (p.x i) k *ℚ v (exchanged_rows at j r k)) (λ k. if k == j then (ci *ℚ q) *ℚ v r else f k) (λ k lk. ap (λ z. z *ℚ v (exchanged_rows at j r k)) (coordinate-exchanged p.columns a j (p.x r) (p.x i) k) ∙ by k (k == j))
+      sum_ℚ-same p.columns (λ k. coordinate p.columns (exchanged p.columns a j (p.x r)) (p.x i) k *ℚ v (exchanged_rows at j r k)) (λ k. if k == j then (ci *ℚ q) *ℚ v r else f k)
+      (λ k lk. ap (λ z. z *ℚ v (exchanged_rows at j r k)) (coordinate-exchanged p.columns a j (p.x r) (p.x i) k) ∙ by k (k == j))
       ∙ sum_ℚ-replaced p.columns j f (λ k. (ci *ℚ q) *ℚ v r) lj
       ∙ ap (λ z. (z -ℚ f j) +ℚ ((ci *ℚ q) *ℚ v r)) total)
       ∙ ring_by_ℚ (v i ∷ si ∷ ci ∷ q ∷ sr ∷ v r ∷ coord p a r j ∷ v (at j) ∷ [])
@@ -66,7 +67,8 @@ held_sum (suc n) at c m apart = here (m == at n) refl (held_sum n at c m (λ j k
   where
     alone : m ≡ at n → sum_ℚ n (λ j. c j *ℚ delta m (at j)) ≡ whole (pos 0)
     alone e =
-        sum_ℚ-same n (λ j. c j *ℚ delta m (at j)) (λ j. whole (pos 0)) (λ j lj. ap (λ z. c j *ℚ z) (if-other m (at j) (whole (pos 1)) (whole (pos 0)) (λ s. apart j n lj (omega arith) (sym s ∙ e))) ∙ ring_ℚ (c j ∷ []) (v0 ⊠ number (pos 0)) (number (pos 0)) refl)
+        sum_ℚ-same n (λ j. c j *ℚ delta m (at j)) (λ j. whole (pos 0)) (λ j lj. ap (λ z. c j *ℚ z) (if-other m (at j) (whole (pos 1)) (whole (pos 0)) (λ s. apart j n lj (omega arith) (sym s ∙ e)))
+        ∙ ring_ℚ (c j ∷ []) (v0 ⊠ number (pos 0)) (number (pos 0)) refl)
         ∙ sum_ℚ-zero n
 
     here : (t : Bool) → (m == at n) ≡ t → held_coordinate n at c m ≡ sum_ℚ n (λ j. c j *ℚ delta m (at j)) → (if m == at n then c n else held_coordinate n at c m) ≡ sum_ℚ n (λ j. c j *ℚ delta m (at j)) +ℚ (c n *ℚ delta m (at n))
@@ -87,9 +89,11 @@ pub residual_fit : (p : Sample) (at : ℕ → ℕ) (a : ℕ → ℕ → ℚ) (v 
 residual_fit p at a v i =
     ap (λ z. v i -ℚ z) (sym (
     sum_ℚ-same p.columns (λ k. p.x i k *ℚ sum_ℚ p.columns (λ j. a k j *ℚ v (at j))) (λ k. sum_ℚ p.columns (λ j. v (at j) *ℚ (p.x i k *ℚ a k j)))
-    (λ k lk. sym (sum_ℚ-scale p.columns (p.x i k) (λ j. a k j *ℚ v (at j))) ∙ sum_ℚ-same p.columns (λ j. p.x i k *ℚ (a k j *ℚ v (at j))) (λ j. v (at j) *ℚ (p.x i k *ℚ a k j)) (λ j lj. ring_ℚ (p.x i k ∷ a k j ∷ v (at j) ∷ []) (v0 ⊠ (v1 ⊠ v2)) (v2 ⊠ (v0 ⊠ v1)) refl))
+    (λ k lk. sym (sum_ℚ-scale p.columns (p.x i k) (λ j. a k j *ℚ v (at j))) ∙ sum_ℚ-same p.columns (λ j. p.x i k *ℚ (a k j *ℚ v (at j))) (λ j. v (at j) *ℚ (p.x i k *ℚ a k j))
+    (λ j lj. ring_ℚ (p.x i k ∷ a k j ∷ v (at j) ∷ []) (v0 ⊠ (v1 ⊠ v2)) (v2 ⊠ (v0 ⊠ v1)) refl))
     ∙ sum_ℚ-swap p.columns p.columns (λ k j. v (at j) *ℚ (p.x i k *ℚ a k j))
-    ∙ sum_ℚ-same p.columns (λ j. sum_ℚ p.columns (λ k. v (at j) *ℚ (p.x i k *ℚ a k j))) (λ j. coord p a i j *ℚ v (at j)) (λ j lj. sum_ℚ-scale p.columns (v (at j)) (λ k. p.x i k *ℚ a k j) ∙ ring_ℚ (v (at j) ∷ coord p a i j ∷ []) (v0 ⊠ v1) (v1 ⊠ v0) refl)))
+    ∙ sum_ℚ-same p.columns (λ j. sum_ℚ p.columns (λ k. v (at j) *ℚ (p.x i k *ℚ a k j))) (λ j. coord p a i j *ℚ v (at j)) (λ j lj. sum_ℚ-scale p.columns (v (at j)) (λ k. p.x i k *ℚ a k j)
+    ∙ ring_ℚ (v (at j) ∷ coord p a i j ∷ []) (v0 ⊠ v1) (v1 ⊠ v0) refl)))
 
 module _ (p : Sample) (at : ℕ → ℕ) (a : ℕ → ℕ → ℚ) (i : ℕ) (out : IsOutside p.columns at i) where
   held_is : (m : ℕ) → held_coordinate p.columns at (coord p a i) m ≡ sum_ℚ p.columns (λ j. coord p a i j *ℚ delta m (at j))

@@ -70,7 +70,8 @@ module _ (p : Sample) (at : ℕ → ℕ) (a : ℕ → ℕ → ℚ) where
     pub fitted_for : (v : ℕ → ℚ) (j : ℕ) → j < p.columns → sum_ℚ p.columns (λ k. p.x (at j) k *ℚ sum_ℚ p.columns (λ i. a k i *ℚ v (at i))) ≡ v (at j)
     fitted_for v j lj =
         sum_ℚ-same p.columns (λ k. p.x (at j) k *ℚ sum_ℚ p.columns (λ i. a k i *ℚ v (at i))) (λ k. sum_ℚ p.columns (λ i. v (at i) *ℚ (p.x (at j) k *ℚ a k i)))
-        (λ k lk. sym (sum_ℚ-scale p.columns (p.x (at j) k) (λ i. a k i *ℚ v (at i))) ∙ sum_ℚ-same p.columns (λ i. p.x (at j) k *ℚ (a k i *ℚ v (at i))) (λ i. v (at i) *ℚ (p.x (at j) k *ℚ a k i)) (λ i li. ring_ℚ (p.x (at j) k ∷ a k i ∷ v (at i) ∷ []) (v0 ⊠ (v1 ⊠ v2)) (v2 ⊠ (v0 ⊠ v1)) refl))
+        (λ k lk. sym (sum_ℚ-scale p.columns (p.x (at j) k) (λ i. a k i *ℚ v (at i))) ∙ sum_ℚ-same p.columns (λ i. p.x (at j) k *ℚ (a k i *ℚ v (at i))) (λ i. v (at i) *ℚ (p.x (at j) k *ℚ a k i))
+        (λ i li. ring_ℚ (p.x (at j) k ∷ a k i ∷ v (at i) ∷ []) (v0 ⊠ (v1 ⊠ v2)) (v2 ⊠ (v0 ⊠ v1)) refl))
         ∙ sum_ℚ-swap p.columns p.columns (λ k i. v (at i) *ℚ (p.x (at j) k *ℚ a k i))
         ∙ sum_ℚ-same p.columns (λ i. sum_ℚ p.columns (λ k. v (at i) *ℚ (p.x (at j) k *ℚ a k i))) (λ i. v (at i) *ℚ delta i j)
         (λ i li. sum_ℚ-scale p.columns (v (at i)) (λ k. p.x (at j) k *ℚ a k i) ∙ ap (λ z. v (at i) *ℚ z) (basis.inverse.left j i lj li ∙ delta-turned j i))

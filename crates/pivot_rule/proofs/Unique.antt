@@ -89,7 +89,8 @@ module _ (p : Sample) (at : ℕ → ℕ) (a : ℕ → ℕ → ℚ) (theta : ℚ)
         let entering : IsEntering p at a theta j v.direction s = subst (λ k. IsEntering p at a theta k v.direction s) (sym e) v.entering in
         (e, same_row j r s u.direction u.entering (subst (λ d. IsEntering p at a theta j d s) (sym (same_direction j u.direction v.direction u.leaving leaving)) entering))
 
-pub one_step : (p : Sample) (at : ℕ → ℕ) (a b : ℕ → ℕ → ℚ) (theta : ℚ) (j r k s : ℕ) → IsBasis p at a → IsBasis p at b → EndsAt p.columns a → EndsAt p.columns b → HasCosts p theta → IsSolvingStep p at a theta j r → IsSolvingStep p at b theta k s → (j ≡ k) × (r ≡ s)
+pub one_step : (p : Sample) (at : ℕ → ℕ) (a b : ℕ → ℕ → ℚ) (theta : ℚ) (j r k s : ℕ) → IsBasis p at a → IsBasis p at b → EndsAt p.columns a → EndsAt p.columns b → HasCosts p theta → IsSolvingStep p at a theta j r
+    → IsSolvingStep p at b theta k s → (j ≡ k) × (r ≡ s)
 one_step p at a b theta j r k s u v e f costs step other =
     same_step p at a theta costs u j r k s step (subst (λ a. IsSolvingStep p at a theta k s) (sym (same_inverse p at a b u v e f)) other)
 
@@ -155,7 +156,8 @@ module _ {F : Type 0} (value : F → Fraction) (same : (x y : F) → rational (v
       (subst (λ b. AreSolvingSteps value p theta b other) (sym next) v.2) stop
       (subst (λ b. IsOptimalBasis p theta (basis_after b other)) (sym next) last))
 
-  pub one_ended : (trail other : Trail F) (basis last : List ℕ) → IsSolvingTrail value p theta trail basis → IsOptimalBasis p theta basis → IsSolvingTrail value p theta other last → IsOptimalBasis p theta last → (trail ≡ other) × (basis ≡ last)
+  pub one_ended : (trail other : Trail F) (basis last : List ℕ) → IsSolvingTrail value p theta trail basis → IsOptimalBasis p theta basis → IsSolvingTrail value p theta other last → IsOptimalBasis p theta last → (trail ≡ other)
+      × (basis ≡ last)
   one_ended trail other basis last u stop v end =
       let first : u.first ≡ v.first = same_items u.first v.first (one_start p p.rows (map Some u.first) (map Some v.first) u.greedy v.greedy) in
       let steps : trail.steps ≡ other.steps = same_steps u.first trail.steps other.steps u.lawful

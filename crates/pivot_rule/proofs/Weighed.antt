@@ -83,7 +83,8 @@ module _ (p : Sample) (at : ℕ → ℕ) (a : ℕ → ℕ → ℚ) (basis : IsBa
         without Less = ring_ℚ (down_cost p theta i ∷ x ∷ []) (negated v0 ⊠ v1) (number (pos 0) ⊞ negated v0 ⊠ v1) refl
         without Equal = ring_ℚ (down_cost p theta i ∷ x ∷ []) (negated v0 ⊠ v1) (number (pos 0) ⊞ negated v0 ⊠ v1) refl
 
-        by : (s : Bool) → value_of_side p theta held i (if s then Basic else side_of (sign p at a i)) *ℚ x ≡ (if s then held i *ℚ x else whole (pos 0)) +ℚ (value_of_side p theta (λ i. whole (pos 0)) i (if s then Basic else side_of (sign p at a i)) *ℚ x)
+        by : (s : Bool) → value_of_side p theta held i (if s then Basic else side_of (sign p at a i)) *ℚ x ≡ (if s then held i *ℚ x else whole (pos 0))
+            +ℚ (value_of_side p theta (λ i. whole (pos 0)) i (if s then Basic else side_of (sign p at a i)) *ℚ x)
         by true = ring_ℚ (held i ∷ x ∷ []) (v0 ⊠ v1) (v0 ⊠ v1 ⊞ number (pos 0) ⊠ v1) refl
         by false = without (sign p at a i)
 

@@ -17,6 +17,7 @@ pub record IsVertexAt {F : Type 0} (value : F → Fraction) (p : Problem F) (bas
   pub coef : (k : ℕ) → k < p.columns → value_at value v.coef k ≡ coefficient (sample value p) (slice_index basis) a k
 
 -- the list has the dual values of the basic rows at theta, ascending
-pub record AreBasicDuals {F : Type 0} (value : F → Fraction) (p : Problem F) (theta : ℚ) (basis : List ℕ) (a : ℕ → ℕ → ℚ) (v : Vertex F) (basic : List F) : Type 0 where
+pub record AreBasicDuals {F : Type 0} (value : F → Fraction) (p : Problem F) (theta : ℚ) (basis : List ℕ) (a : ℕ → ℕ → ℚ) (v : Vertex F)
+    (basic : List F) : Type 0 where
   pub size : length basic ≡ p.columns
   pub each : (j : ℕ) → j < p.columns → value_at value basic j ≡ dual (sample value p) (slice_index basis) a theta (slice_index v.basis.rows j)

@@ -49,10 +49,12 @@ module _ {F : Type 0} (value : F → Fraction) (range : ℕ) (p : Sample) (at : 
   -- where position j leaves in direction d: at the sum of the costs of a row that moves, at where it
   -- is passed, at the first entry of its ratio, or where its ratio is compared with that of another row
   pub data IsSearchSpill (j : ℕ) (d : Direction) (s : Spill F) : Type 0 where
-    of_cost_sum : (r : ℕ) → r < p.rows → moves p at a j d r ≡ true → IsCostSumSpill value range r (up_cost p theta r) (down_cost p theta r) s → IsSearchSpill j d s
+    of_cost_sum : (r : ℕ) → r < p.rows → moves p at a j d r ≡ true → IsCostSumSpill value range r (up_cost p theta r) (down_cost p theta r) s
+        → IsSearchSpill j d s
     of_passing : (r : ℕ) → r < p.rows → moves p at a j d r ≡ true → IsPassingSpill j d r s → IsSearchSpill j d s
     of_ratio : (r : ℕ) → r < p.rows → moves p at a j d r ≡ true → IsRatioEntrySpill value range p.columns at j (outside_row p at a r) 0 s → IsSearchSpill j d s
-    of_tie : (r i : ℕ) → r ≢ i → r < p.rows → i < p.rows → moves p at a j d r ≡ true → moves p at a j d i ≡ true → IsRatioSpill value range p.rows p.columns at j (outside_row p at a r) (outside_row p at a i) s → IsSearchSpill j d s
+    of_tie : (r i : ℕ) → r ≢ i → r < p.rows → i < p.rows → moves p at a j d r ≡ true → moves p at a j d i ≡ true
+        → IsRatioSpill value range p.rows p.columns at j (outside_row p at a r) (outside_row p at a i) s → IsSearchSpill j d s
 
   -- at a quantity of the basis, at a dual value at theta, at a cost, at a slope, in the line search
   -- of the position that leaves, or at an entry of the exchange of the solving step

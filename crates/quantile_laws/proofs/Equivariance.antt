@@ -14,7 +14,8 @@ use Rattle.loss_model.specs.Sample.{Sample, up_cost, down_cost, fitted, residual
 use Rattle.loss_model.specs.Dual.{IsFeasible, dual_objective}
 use Rattle.loss_model.specs.Complements.{IsComplementary}
 use Rattle.loss_model.proofs.Duality.{orthogonal, positive_when, negative_when, positive_below, negative_below, sides as by_sides, complements as shown}
-use Rattle.quantile_laws.specs.Equivariance.{scaled, negated, shifted, combined, times, ScaleEquivariance, HasMirroredCosts, DataRowsAreMirrored, SignEquivariance, NegativeEquivariance, ShiftEquivariance, DesignEquivariance, DualEquivariance, answered, ResponsesMayMove, ResidualsMayStretch}
+use Rattle.quantile_laws.specs.Equivariance.{scaled, negated, shifted, combined, times, ScaleEquivariance, HasMirroredCosts, DataRowsAreMirrored}
+use Rattle.quantile_laws.specs.Equivariance.{SignEquivariance, NegativeEquivariance, ShiftEquivariance, DesignEquivariance, DualEquivariance, answered, ResponsesMayMove, ResidualsMayStretch}
 use Rattle.quantile_laws.proofs.Slack.{by_same, complements}
 
 -- coefficients minimise where all others lose, times a factor that isn't negative, what some coefficients lose elsewhere

@@ -14,7 +14,8 @@ use Rattle.loss_model.specs.Sample.{Sample, fitted, residual, row_loss, loss, Mi
 use Rattle.loss_model.specs.Dual.{mix}
 use Rattle.loss_model.specs.Segment.{Segments, Covers}
 use Rattle.loss_model.proofs.Quotients.{inverse_of, whole_not_negative}
-use Rattle.quantile_laws.specs.Monotonicity.{LossIsAffine, LeastLossIsConcave, LeastLossIsOne, MinimiseAlong, LeastLossIsContinuous, loss_slope, LossIsLine, SlopeFalls, SlopeFallsAlong, AreObservations, centroid, at_centroid, CentroidNeverFalls, CentroidNeverFallsAlong}
+use Rattle.quantile_laws.specs.Monotonicity.{LossIsAffine, LeastLossIsConcave, LeastLossIsOne, MinimiseAlong, LeastLossIsContinuous, loss_slope, LossIsLine}
+use Rattle.quantile_laws.specs.Monotonicity.{SlopeFalls, SlopeFallsAlong, AreObservations, centroid, at_centroid, CentroidNeverFalls, CentroidNeverFallsAlong}
 use Rattle.quantile_laws.proofs.Counts.{sum_cut}
 use Rattle.quantile_laws.proofs.Uniqueness.{apart}
 

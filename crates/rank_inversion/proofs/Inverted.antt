@@ -125,7 +125,8 @@ module _ {F : Type 0} (value : F → Fraction) (v : Inversion F) (ready : IsRead
     ),
   )
 
-  pub fall_spill : (up : Arrival F) → IsRisen value v up → (steps : List (Exchange F)) (left : ℕ) (s : Spill F) (range : ℕ) → length v.solved.now.trail.steps + (length up.steps + left) ≡ v.limit → IsSpilled value p (course_of v Fall) solved range left steps s
+  pub fall_spill : (up : Arrival F) → IsRisen value v up → (steps : List (Exchange F)) (left : ℕ) (s : Spill F) (range : ℕ) → length v.solved.now.trail.steps + (length up.steps + left) ≡ v.limit
+      → IsSpilled value p (course_of v Fall) solved range left steps s
       → IsStopHere value range v (Overflow (trail_with v up.steps steps) s)
   fall_spill up h steps left s range count k = (
     bound,

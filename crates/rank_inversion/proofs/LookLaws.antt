@@ -38,7 +38,8 @@ module _ {F : Type 0} (value : F → Fraction) (k : Kept F) (c : Course F) where
         (subst (λ y. IsDualValueSpill value range y (basic_dual (sample value k.problem) (slice_index k.rows) (inverse_entry value k.square) Linear j) (tau_of value c) j s) (is.constant j within)
         (subst (λ z. IsDualValueSpill value range (value_at value sol.constant j) z (tau_of value c) j s) (is.linear j within) h))
 
-    pub dual_short : (from : F) (range : ℕ) (e : Short F) → IsShortOf (IsDualFault value range (length sol.constant) (value_at value sol.constant) (value_at value sol.linear) (tau_of value c)) e → IsShortOf (IsSpillAt value range k c from) e
+    pub dual_short : (from : F) (range : ℕ) (e : Short F) → IsShortOf (IsDualFault value range (length sol.constant) (value_at value sol.constant) (value_at value sol.linear) (tau_of value c)) e
+        → IsShortOf (IsSpillAt value range k c from) e
     dual_short from range e h =
         short_weaker (IsDualFault value range (length sol.constant) (value_at value sol.constant) (value_at value sol.linear) (tau_of value c)) (IsSpillAt value range k c from) (dual_spill from range) e h
 

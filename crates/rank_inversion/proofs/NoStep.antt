@@ -49,7 +49,8 @@ module _ (way : Way) (p : Sample) (j : ℕ) (tau bound : ℚ) (at : ℕ → ℕ)
   -- a step goes by the next breakpoint
   step_at : (u : ℚ) (k : ℕ) (d : Direction) → IsNextBreak (tested way p tau j) at a from u k d → (t : ℚ) (m r : ℕ) → (step : IsWalkingStep (tested way p tau j) at a (is_within bound) from t m r) → (m ≡ k) × (step.direction ≡ d)
   step_at u k d next t m r step =
-      let there : IsNextBreak (tested way p tau j) at a from u m step.direction = subst (λ t. IsNextBreak (tested way p tau j) at a from t m step.direction) (same_place (tested way p tau j) at a from t u m k step.direction d step.break next) step.break in
+      let there : IsNextBreak (tested way p tau j) at a from u m step.direction = subst (λ t. IsNextBreak (tested way p tau j) at a from t m step.direction)
+      (same_place (tested way p tau j) at a from t u m k step.direction d step.break next) step.break in
       let position : m ≡ k = same_position (tested way p tau j) at a from u m k step.direction d there next in
       let here : IsNextBreak (tested way p tau j) at a from u k step.direction = subst (λ m. IsNextBreak (tested way p tau j) at a from u m step.direction) position there in
       (position, one_direction way (a j k) step.direction d (crossed way p j tau at a lj u k step.direction here.crosses).0 (crossed way p j tau at a lj u k d next.crosses).0)

@@ -70,7 +70,8 @@ module _ {F : Type 0} (value : F → Fraction) (range : ℕ) (p : Sample) (j : �
             (subst (λ y. IsCrossingOperation value range k d 3 Div (bound_towards p tau (at k) d -ℚ dual_value p at a tau k) y s) (less_nothing (a j k)) h),
       ))))
 
-  pub entered_here : (way : Way) → (x : ℚ) → from ≡ parameter_of way x → (k : ℕ) → k < p.columns → IsTermSpill value range (site_of DualValue k 1 1) (dual_value p at a tau k) (a j k) x s → IsRankSpill value range way p j tau bound at a from s
+  pub entered_here : (way : Way) → (x : ℚ) → from ≡ parameter_of way x → (k : ℕ) → k < p.columns → IsTermSpill value range (site_of DualValue k 1 1) (dual_value p at a tau k) (a j k) x s
+      → IsRankSpill value range way p j tau bound at a from s
   entered_here rise x e k lk h =
       of_walk (of_entered k lk (subst (λ x. IsTermSpill value range (site_of DualValue k 1 1) (dual_value p at a tau k) (a j k) x s) (sym (ap (parameter_of rise) e ∙ turned_twice rise x)) h))
   entered_here fall x e k lk h =

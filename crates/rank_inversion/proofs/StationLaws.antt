@@ -187,11 +187,13 @@ module _ {F : Type 0} (value : F → Fraction) (v : Station F) where
 
       pub meeting_spill : (range k : ℕ) (s : Spill F) → k < v.tableau.now.problem.columns → IsMeetingSpill value range v k s → IsSpillHere value range v from s
       meeting_spill range k s lk (of_cost h) =
-          cost_here value range (sample_at value v) v.course.column (tau_of value v.course) (bound_of value v.course) (rows_at value v) (entries_at value v) (parameter_at value v.course from) s (way_of v.course.way) (rows_at value v k) (row_within k lk) h
+          cost_here value range (sample_at value v) v.course.column (tau_of value v.course) (bound_of value v.course) (rows_at value v) (entries_at value v) (parameter_at value v.course from) s (way_of v.course.way) (rows_at value v k)
+          (row_within k lk) h
       meeting_spill range k s lk (of_gap d h) =
           gap_here value range (sample_at value v) v.course.column (tau_of value v.course) (bound_of value v.course) (rows_at value v) (entries_at value v) (parameter_at value v.course from) s (way_of v.course.way) k d lk h
       meeting_spill range k s lk (of_quotient d moving h) =
-          quotient_here value range (sample_at value v) v.course.column (tau_of value v.course) (bound_of value v.course) (rows_at value v) (entries_at value v) (parameter_at value v.course from) s (way_of v.course.way) k d here.column lk moving h
+          quotient_here value range (sample_at value v) v.course.column (tau_of value v.course) (bound_of value v.course) (rows_at value v) (entries_at value v) (parameter_at value v.course from) s
+          (way_of v.course.way) k d here.column lk moving h
 
       pub crossings_spill : (range : ℕ) (s : Spill F) → AtSome v.tableau.now.problem.columns (λ j. IsMeetingSpill value range v j s) → IsSpillHere value range v from s
       crossings_spill range s (k, lk, h) = meeting_spill range k s lk h
@@ -235,7 +237,8 @@ module _ {F : Type 0} (value : F → Fraction) (v : Station F) where
           pub order_spill : test ≡ false → (range : ℕ) (s : Spill F) → IsOrderSpill value range (sample_at value v) (rows_at value v) (entries_at value v) b.position b.direction s → IsSpillHere value range v from s
           order_spill h range s k =
               order_here value range (sample_at value v) v.course.column (tau_of value v.course) (bound_of value v.course) (rows_at value v) (entries_at value v) (parameter_at value v.course from) s (way_of v.course.way)
-              (rational (value b.theta)) b.position b.direction next (within_here h).le (break_within (way_of v.course.way) (sample_at value v) v.course.column (tau_of value v.course) (rows_at value v) (entries_at value v) (parameter_at value v.course from) (rational (value b.theta)) b.position b.direction next) k
+              (rational (value b.theta)) b.position b.direction next (within_here h).le (break_within (way_of v.course.way) (sample_at value v) v.course.column (tau_of value v.course) (rows_at value v) (entries_at value v)
+              (parameter_at value v.course from) (rational (value b.theta)) b.position b.direction next) k
 
         -- ---- what is handed out
 
@@ -316,7 +319,8 @@ module _ {F : Type 0} (value : F → Fraction) (v : Station F) where
     pub value_of_row : (weight : F) (values : List F) → IsWeighed value v weight values → (sorted : List ℕ) (basic : List F) (k : ℕ)
         → HasValueAt value v.tableau.now.rows values sorted basic k → IsValueOfRow value v weight (slice_index sorted k) (value_at value basic k)
     value_of_row weight values weighed sorted basic k h =
-        let within : h.position < v.tableau.now.problem.columns = let size : length v.tableau.now.rows ≡ v.tableau.now.problem.columns = here.kept.inverse.size in let inside : h.position < length v.tableau.now.rows = h.within in omega (arith, size, inside) in
+        let within : h.position < v.tableau.now.problem.columns = let size : length v.tableau.now.rows ≡ v.tableau.now.problem.columns = here.kept.inverse.size in let inside : h.position < length v.tableau.now.rows = h.within in
+        omega (arith, size, inside) in
         record {
           position = h.position;
           within = within;

@@ -54,7 +54,8 @@ module _ {F : Type 0} (value : F → Fraction) (c : Course F) where
         problem = refl;
         kept = h.kept;
         walking =
-            subst (λ t. IsWalking value w.tableau.problem (way_of c.way) c.column (tau_of value c) (bound_of value c) w.tableau.rows w.steps t w.tableau.rows (inverse_entry value w.tableau.square)) (sym (nothing_at (way_of c.way) (rational (value w.now)) h.now))
+            subst (λ t. IsWalking value w.tableau.problem (way_of c.way) c.column (tau_of value c) (bound_of value c) w.tableau.rows w.steps t w.tableau.rows (inverse_entry value w.tableau.square))
+            (sym (nothing_at (way_of c.way) (rational (value w.now)) h.now))
             (subst (λ steps. IsWalking value w.tableau.problem (way_of c.way) c.column (tau_of value c) (bound_of value c) w.tableau.rows steps (whole (pos 0)) w.tableau.rows (inverse_entry value w.tableau.square)) (sym h.none)
             (loop.begins value w.tableau.problem (way_of c.way) c.column (tau_of value c) (bound_of value c) w.tableau.rows (inverse_entry value w.tableau.square) h.kept.inverse.size
             (basis_of value w.tableau.problem w.tableau.rows w.tableau.square h.kept.inverse) (ends_of value w.tableau.problem w.tableau.rows w.tableau.square h.kept.inverse) h.stop));
@@ -139,7 +140,8 @@ module _ {F : Type 0} (value : F → Fraction) (p : Problem F) (c : Course F) (s
     -- a step that is left here is left after the steps
     left_after : (way : Way) → (x : Exchange F)
         → IsWalking value p way c.column (tau_of value c) (bound_of value c) solved w.steps (parameter_at value c w.now) w.tableau.rows (inverse_entry value w.tableau.square)
-        → IsWalkingStep (tested way (sample value p) (tau_of value c) c.column) (slice_index w.tableau.rows) (inverse_entry value w.tableau.square) (is_within (bound_of value c)) (parameter_at value c w.now) (when_on way value x.theta) x.position x.row
+        → IsWalkingStep (tested way (sample value p) (tau_of value c) c.column) (slice_index w.tableau.rows) (inverse_entry value w.tableau.square) (is_within (bound_of value c)) (parameter_at value c w.now)
+        (when_on way value x.theta) x.position x.row
         → HasStepAfter (when_on way value) (tested way (sample value p) (tau_of value c) c.column) (is_within (bound_of value c)) (whole (pos 0)) solved w.steps
     left_after rise x k step =
         loop.at_led value p solved w.steps w.tableau.rows (inverse_entry value w.tableau.square) k.leads k.size k.is_basis k.ends
@@ -148,7 +150,8 @@ module _ {F : Type 0} (value : F → Fraction) (p : Problem F) (c : Course F) (s
           when_on rise value x.theta,
           x.position,
           x.row,
-          subst (λ from. IsWalkingStep (tested rise (sample value p) (tau_of value c) c.column) (slice_index w.tableau.rows) (inverse_entry value w.tableau.square) (is_within (bound_of value c)) from (when_on rise value x.theta) x.position x.row) (sym k.reaches) step,
+          subst (λ from. IsWalkingStep (tested rise (sample value p) (tau_of value c) c.column) (slice_index w.tableau.rows) (inverse_entry value w.tableau.square) (is_within (bound_of value c)) from
+              (when_on rise value x.theta) x.position x.row) (sym k.reaches) step,
         )
     left_after fall x k step =
         loop.at_led value p solved w.steps w.tableau.rows (inverse_entry value w.tableau.square) k.leads k.size k.is_basis k.ends
@@ -157,7 +160,8 @@ module _ {F : Type 0} (value : F → Fraction) (p : Problem F) (c : Course F) (s
           when_on fall value x.theta,
           x.position,
           x.row,
-          subst (λ from. IsWalkingStep (tested fall (sample value p) (tau_of value c) c.column) (slice_index w.tableau.rows) (inverse_entry value w.tableau.square) (is_within (bound_of value c)) from (when_on fall value x.theta) x.position x.row) (sym k.reaches) step,
+          subst (λ from. IsWalkingStep (tested fall (sample value p) (tau_of value c) c.column) (slice_index w.tableau.rows) (inverse_entry value w.tableau.square) (is_within (bound_of value c)) from
+              (when_on fall value x.theta) x.position x.row) (sym k.reaches) step,
         )
 
     pub along_limit : (x : Exchange F) → IsStepAt value w.tableau c w.now x → length w.steps ≡ limit → IsAtLimit value p c solved limit w.steps
@@ -173,7 +177,8 @@ module _ {F : Type 0} (value : F → Fraction) (p : Problem F) (c : Course F) (s
               (λ rows a. IsRankSpill value range (way_of c.way) (sample value p) c.column (tau_of value c) (bound_of value c) (slice_index rows) a
               (value_after (when_on (way_of c.way) value) (tested (way_of c.way) (sample value p) (tau_of value c) c.column) (is_within (bound_of value c)) (whole (pos 0)) w.steps) s)
               (subst (λ from. IsRankSpill value range (way_of c.way) (sample value p) c.column (tau_of value c) (bound_of value c) (slice_index w.tableau.rows) (inverse_entry value w.tableau.square) from s) (sym h.walking.reaches)
-              (subst (λ q. IsRankSpill value range (way_of c.way) (sample value q) c.column (tau_of value c) (bound_of value c) (slice_index w.tableau.rows) (inverse_entry value w.tableau.square) (parameter_at value c w.now) s) h.problem spill));
+              (subst (λ q. IsRankSpill value range (way_of c.way) (sample value q) c.column (tau_of value c) (bound_of value c) (slice_index w.tableau.rows) (inverse_entry value w.tableau.square) (parameter_at value c w.now) s) h.problem
+              spill));
         }
 
     -- what is refused halts the walk

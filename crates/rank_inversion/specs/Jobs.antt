@@ -31,5 +31,6 @@ asked_by p column tau crit limit = record { problem = p; asked = record { column
 pub record IsJobAnswer {F : Type 0} (value : F → Fraction) (range : ℕ) (ask : Ask F) (answer : Result (Interval F) (Stop F)) : Type 0 where
   pub exact : IfOk answer (IsExactInterval value ask.problem ask.asked.column (rational (value ask.asked.tau)) (rational (value ask.asked.crit)))
   pub interval : IfOk answer (IsRankInterval value ask.problem ask.asked.column ask.asked.tau ask.asked.crit ask.limit)
-  pub stopped : IfErr answer (IsIntervalStop value range ask.problem ask.asked.column (rational (value ask.asked.tau)) (rational (value ask.asked.crit)) ask.limit)
+  pub stopped : IfErr answer (IsIntervalStop value range ask.problem ask.asked.column (rational (value ask.asked.tau))
+      (rational (value ask.asked.crit)) ask.limit)
   pub limited : IsLimited value ask.problem ask.asked.column (rational (value ask.asked.tau)) (rational (value ask.asked.crit)) ask.limit → IsLimitAnswer answer

@@ -40,5 +40,8 @@ module _ {F : Type 0} (value : F → Fraction) where
   -- quotient of that by the inverse's entry
   pub data IsMeetingSpill (range : ℕ) (v : Station F) (j : ℕ) (s : Spill F) : Type 0 where
     of_cost : IsCostSpill value range (sample_at v) (rows_at v) (entries_at v) (tau_of value v.course) (rows_at v j) s → IsMeetingSpill range v j s
-    of_gap : (d : Direction) → IsCrossingOperation value range j d 1 Sub (bound_towards (sample_at v) (tau_of value v.course) (rows_at v j) d) (dual_value (sample_at v) (rows_at v) (entries_at v) (tau_of value v.course) j) s → IsMeetingSpill range v j s
-    of_quotient : (d : Direction) → Moves value v.course (entries_at v) j d → IsCrossingOperation value range j d 3 Div (bound_towards (sample_at v) (tau_of value v.course) (rows_at v j) d -ℚ dual_value (sample_at v) (rows_at v) (entries_at v) (tau_of value v.course) j) (entries_at v v.course.column j) s → IsMeetingSpill range v j s
+    of_gap : (d : Direction) → IsCrossingOperation value range j d 1 Sub (bound_towards (sample_at v) (tau_of value v.course) (rows_at v j) d)
+        (dual_value (sample_at v) (rows_at v) (entries_at v) (tau_of value v.course) j) s → IsMeetingSpill range v j s
+    of_quotient : (d : Direction) → Moves value v.course (entries_at v) j d
+        → IsCrossingOperation value range j d 3 Div (bound_towards (sample_at v) (tau_of value v.course) (rows_at v j) d -ℚ dual_value (sample_at v) (rows_at v)
+        (entries_at v) (tau_of value v.course) j) (entries_at v v.course.column j) s → IsMeetingSpill range v j s

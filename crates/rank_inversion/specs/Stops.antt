@@ -29,10 +29,14 @@ use Rattle.rank_inversion.specs.GramStops.{IsGramSpillAfter, IsTestSpillAfter}
 
 -- at a basis of a walk, which it entered at `from`: an operation of the walk of a tested value; the square of
 -- what the column weighs at the next breakpoint; or, where no row moves there, an entry of the ray
-pub data IsRankSpill {F : Type 0} (value : F → Fraction) (range : ℕ) (way : Way) (p : Sample) (j : ℕ) (tau bound : ℚ) (at : ℕ → ℕ) (a : ℕ → ℕ → ℚ) (from : ℚ) (s : Spill F) : Type 0 where
+pub data IsRankSpill {F : Type 0} (value : F → Fraction) (range : ℕ) (way : Way) (p : Sample) (j : ℕ) (tau bound : ℚ) (at : ℕ → ℕ) (a : ℕ → ℕ → ℚ) (from : ℚ)
+    (s : Spill F) : Type 0 where
   of_walk : IsTestedSpill value range (tested way p tau j) (parameter_of way) tau j at a bound from s → IsRankSpill value range way p j tau bound at a from s
-  of_square : (t : ℚ) (k : ℕ) (d : Direction) → IsNextBreak (tested way p tau j) at a from t k d → IsOperation value range (site_of Statistic 0 0 1) (parameter_of way t) (parameter_of way t) s → IsRankSpill value range way p j tau bound at a from s
-  of_ray : (t : ℚ) (k : ℕ) (d : Direction) (m : ℕ) → IsNextBreak (tested way p tau j) at a from t k d → (t *ℚ t) ≤ℚ bound → ((i : ℕ) → i < p.rows → moves p at a k d i ≡ false) → m < p.columns → IsOperation value range (record (site_of Ray m k 1) { kind = Div }) (a m k) (a j k) s → IsRankSpill value range way p j tau bound at a from s
+  of_square : (t : ℚ) (k : ℕ) (d : Direction) → IsNextBreak (tested way p tau j) at a from t k d
+      → IsOperation value range (site_of Statistic 0 0 1) (parameter_of way t) (parameter_of way t) s → IsRankSpill value range way p j tau bound at a from s
+  of_ray : (t : ℚ) (k : ℕ) (d : Direction) (m : ℕ) → IsNextBreak (tested way p tau j) at a from t k d → (t *ℚ t) ≤ℚ bound
+      → ((i : ℕ) → i < p.rows → moves p at a k d i ≡ false) → m < p.columns
+      → IsOperation value range (record (site_of Ray m k 1) { kind = Div }) (a m k) (a j k) s → IsRankSpill value range way p j tau bound at a from s
 
 module _ {F : Type 0} (value : F → Fraction) (range : ℕ) (p : Problem F) (j : ℕ) (tau bound : ℚ) where
   -- at the basis to which the steps of a walk have led from the solved one

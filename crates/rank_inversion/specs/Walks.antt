@@ -71,7 +71,8 @@ module _ {F : Type 0} (value : F → Fraction) where
     -- they are walking steps
     abbrev pub AreSteps : List (Exchange F) → Type 0
     AreSteps steps =
-        AreWalkingSteps (when_on (way_of c.way) value) (tested (way_of c.way) (sample value p) (tau_of value c) c.column) (is_within (bound_of value c)) (whole (pos 0)) solved steps
+        AreWalkingSteps (when_on (way_of c.way) value) (tested (way_of c.way) (sample value p) (tau_of value c) c.column) (is_within (bound_of value c))
+        (whole (pos 0)) solved steps
 
     -- the steps lead, within the limit, to the end that is handed out
     pub record IsEnded (limit : ℕ) (w : Arrival F) : Type 0 where
@@ -83,7 +84,8 @@ module _ {F : Type 0} (value : F → Fraction) where
     pub record IsAtLimit (limit : ℕ) (steps : List (Exchange F)) : Type 0 where
       pub walked : AreSteps steps
       pub count : length steps ≡ limit
-      pub more : HasStepAfter (when_on (way_of c.way) value) (tested (way_of c.way) (sample value p) (tau_of value c) c.column) (is_within (bound_of value c)) (whole (pos 0)) solved steps
+      pub more : HasStepAfter (when_on (way_of c.way) value) (tested (way_of c.way) (sample value p) (tau_of value c) c.column) (is_within (bound_of value c))
+          (whole (pos 0)) solved steps
 
     -- they lead to a basis at which an operation overflows
     pub record IsSpilled (range limit : ℕ) (steps : List (Exchange F)) (s : Spill F) : Type 0 where

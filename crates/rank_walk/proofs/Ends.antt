@@ -60,7 +60,8 @@ statistic_same p j e f same = sum_ℚ-same p.rows (λ i. f i *ℚ p.x i j) (λ i
 
 -- values that agree with the residuals' change along d, row by row
 ray_of : (p : Sample) (tau : ℚ) (d r e f : ℕ → ℚ) → ((m : ℕ) → m < p.columns → r m ≡ d m) → ((i : ℕ) → i < p.rows → f i ≡ e i) → IsComplementary p tau (residual_change p d) e → IsStatedRay p tau r f
-ray_of p tau d r e f same values h i li = by_sign (fitted p r i) (λ s. IsRowAlong p tau r f i) (λ falls. inr (inl (falls, values i li ∙ h.above i li (λ not. falls (back not))))) (λ flat. inl flat) (λ climbs. inr (inr (climbs, values i li ∙ h.below i li (λ not. climbs (forth not)))))
+ray_of p tau d r e f same values h i li = by_sign (fitted p r i) (λ s. IsRowAlong p tau r f i) (λ falls. inr (inl (falls, values i li ∙ h.above i li (λ not. falls (back not))))) (λ flat. inl flat)
+    (λ climbs. inr (inr (climbs, values i li ∙ h.below i li (λ not. climbs (forth not)))))
   where
     fit : fitted p r i ≡ fitted p d i
     fit = sum_ℚ-same p.columns (λ m. p.x i m *ℚ r m) (λ m. p.x i m *ℚ d m) (λ m l. ap (λ z. p.x i m *ℚ z) (same m l))

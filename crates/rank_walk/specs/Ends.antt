@@ -27,7 +27,8 @@ pub record AreValuesOf {F : Type 0} (value : F → Fraction) (v : Vertex F) (e :
   pub size : length list ≡ length v.basis.rows
   pub each : (k : ℕ) → k < length v.basis.rows → value_at value list k ≡ e (slice_index v.basis.rows k)
 
-module _ {F : Type 0} (value : F → Fraction) (p : Problem F) (way : Way) (j : ℕ) (tau bound : ℚ) (at : ℕ → ℕ) (a : ℕ → ℕ → ℚ) (t u : ℚ) (k : ℕ) (d : Direction) where
+module _ {F : Type 0} (value : F → Fraction) (p : Problem F) (way : Way) (j : ℕ) (tau bound : ℚ) (at : ℕ → ℕ) (a : ℕ → ℕ → ℚ) (t u : ℚ) (k : ℕ)
+    (d : Direction) where
   -- the next breakpoint is beyond the bound: the end is the coefficient, with the dual values at which
   -- the basis was entered, and those at the breakpoint; or it is within, and no row moves towards 0:
   -- there is no end, and the ray is that of the row that would leave
@@ -46,7 +47,8 @@ module _ {F : Type 0} (value : F → Fraction) (p : Problem F) (way : Way) (j : 
   IsHandedOut v inside _ _ = ⊥
 
 -- the end of the walk at its last basis, which it entered at t; the next breakpoint is u, at position k
-pub record IsEndAt {F : Type 0} (value : F → Fraction) (p : Problem F) (way : Way) (j : ℕ) (tau bound : ℚ) (basis : List ℕ) (a : ℕ → ℕ → ℚ) (t : ℚ) (end : End F) : Type 0 where
+pub record IsEndAt {F : Type 0} (value : F → Fraction) (p : Problem F) (way : Way) (j : ℕ) (tau bound : ℚ) (basis : List ℕ) (a : ℕ → ℕ → ℚ) (t : ℚ)
+    (end : End F) : Type 0 where
   pub size : length basis ≡ p.columns
   pub vertex : IsVertexAt value p basis a end.vertex
   pub u : ℚ

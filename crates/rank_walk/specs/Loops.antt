@@ -19,7 +19,8 @@ use Rattle.rank_walk.specs.Ends.{IsEndAt}
 use Rattle.rank_walk.specs.Intervals.{when_on, IsWalked}
 
 -- from the solved basis the steps have led to the basis, with the inverse a, which is optimal at t
-pub record IsWalking {F : Type 0} (value : F → Fraction) (p : Problem F) (way : Way) (j : ℕ) (tau bound : ℚ) (solved : List ℕ) (steps : List (Exchange F)) (t : ℚ) (basis : List ℕ) (a : ℕ → ℕ → ℚ) : Type 0 where
+pub record IsWalking {F : Type 0} (value : F → Fraction) (p : Problem F) (way : Way) (j : ℕ) (tau bound : ℚ) (solved : List ℕ) (steps : List (Exchange F))
+    (t : ℚ) (basis : List ℕ) (a : ℕ → ℕ → ℚ) : Type 0 where
   pub walked : AreWalkingSteps (when_on way value) (tested way (sample value p) tau j) (is_within bound) (whole (pos 0)) solved steps
   pub leads : basis_after solved steps ≡ basis
   pub reaches : value_after (when_on way value) (tested way (sample value p) tau j) (is_within bound) (whole (pos 0)) steps ≡ t

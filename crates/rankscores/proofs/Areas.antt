@@ -1,5 +1,6 @@
 -- Cross products of the rankscore of a row, one segment after another, and the place of a row.
-use Rattle.std.proofs.Common.{◌≡◌, ◌<◌, ◌≤◌, ◌+◌, ◌-◌, ℕ, zero, suc, Bool, true, false, nat_lt, MatchResult, List, Option, None, Some, Contains, Result, Ok, Err, IfSome, IsOk, get_or, length, slice_get, pos, arith, refl, sym, ap, ap₂, subst, ◌∙◌, []}
+use Rattle.std.proofs.Common.{◌≡◌, ◌<◌, ◌≤◌, ◌+◌, ◌-◌, ℕ, zero, suc, Bool, true, false, nat_lt, MatchResult, List, Option, None, Some, Contains}
+use Rattle.std.proofs.Common.{Result, Ok, Err, IfSome, IsOk, get_or, length, slice_get, pos, arith, refl, sym, ap, ap₂, subst, ◌∙◌, []}
 use Rattle.std.specs.List.Sorted.{IsBinarySearchResult, IsStrictlyIncreasing}
 use Rattle.std.specs.Ordering.{nat_cmp}
 use Rattle.std.specs.Option.{option_map_or}

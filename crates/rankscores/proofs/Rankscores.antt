@@ -34,7 +34,8 @@ value_read value xs i x within is = ap (λ o. option_map_or (λ x. rational (val
 row_read : {F : Type 0} (rows : List (Row F)) (number : Row F → ℚ) (i : ℕ) (r : Row F) → i < length rows → r ≡ get_or rows i r → of_row rows number i ≡ number r
 row_read rows number i r within is = ap (λ o. option_map_or number o (whole (pos 0))) (slice_get_read rows (length rows) i r refl within is)
 
-module _ {F : Type 0} (value : F → Fraction) (p : Problem F) (v : Vertex F) (basic : List F) (theta : F) (shape : IsVertexOf p v) (place row : ℕ) (within : place < length v.basis.rows) (at : row ≡ slice_index v.basis.rows place) (inside : row < length p.rows) where
+module _ {F : Type 0} (value : F → Fraction) (p : Problem F) (v : Vertex F) (basic : List F) (theta : F) (shape : IsVertexOf p v) (place row : ℕ) (within : place < length v.basis.rows) (at : row ≡ slice_index v.basis.rows place)
+    (inside : row < length p.rows) where
   there : Contains v.basis.rows row
   there = subst (Contains v.basis.rows) (sym at) (itself v.basis.rows place within)
 
@@ -76,7 +77,8 @@ module _ {F : Type 0} (value : F → Fraction) (p : Problem F) (n : ℕ) (v : Ve
   later_score h = ap told (sym (le-ltb row n h))
 
 -- the same, where the row and its dual value were read from lists
-module _ {F : Type 0} (value : F → Fraction) (p : Problem F) (n : ℕ) (v : Vertex F) (basic : List F) (theta : F) (shape : IsVertexOf p v) (place : ℕ) (row : ℕ) (rows : List ℕ) (same : rows ≡ v.basis.rows) (row_is : row ≡ slice_index rows place)
+module _ {F : Type 0} (value : F → Fraction) (p : Problem F) (n : ℕ) (v : Vertex F) (basic : List F) (theta : F) (shape : IsVertexOf p v) (place : ℕ) (row : ℕ) (rows : List ℕ) (same : rows ≡ v.basis.rows)
+    (row_is : row ≡ slice_index rows place)
     (within : place < length v.basis.rows) (inside : All (λ i. i < length p.rows) v.basis.rows) (size : length basic ≡ length v.basis.rows) (values : List F) (held : values ≡ basic) (x : F) (x_is : x ≡ get_or values place x) where
   at_read : row ≡ slice_index v.basis.rows place
   at_read = row_is ∙ ap (λ xs. slice_index xs place) same

@@ -114,7 +114,8 @@ module _ (lo hi a b theta : ℚ) (apart : lo <ℚ hi) (from : lo ≤ℚ theta) (
   unfolding i
   line_at_most_one p q =
       ≤ℚ_from (line lo hi a b theta) (whole (pos 1)) (subst (λ z. whole (pos 0) ≤ℚ z)
-      (ring_by_ℚ (lo ∷ hi ∷ a ∷ b ∷ theta ∷ i ∷ []) ((number (pos 1) ⊟ v2) ⊠ ((v1 ⊟ v4) ⊠ v5) ⊞ (number (pos 1) ⊟ v3) ⊠ ((v4 ⊟ v0) ⊠ v5)) (number (pos 1) ⊟ (v2 ⊞ ((v3 ⊟ v2) ⊠ v5) ⊠ (v4 ⊟ v0))) (number (pos 1) ⊟ v2) ((v1 ⊟ v0) ⊠ v5) (number (pos 1)) refl one)
+      (ring_by_ℚ (lo ∷ hi ∷ a ∷ b ∷ theta ∷ i ∷ []) ((number (pos 1) ⊟ v2) ⊠ ((v1 ⊟ v4) ⊠ v5) ⊞ (number (pos 1) ⊟ v3) ⊠ ((v4 ⊟ v0) ⊠ v5)) (number (pos 1) ⊟ (v2 ⊞ ((v3 ⊟ v2) ⊠ v5) ⊠ (v4 ⊟ v0))) (number (pos 1) ⊟ v2) ((v1 ⊟ v0) ⊠ v5)
+      (number (pos 1)) refl one)
       (sum_not_negative ((whole (pos 1) -ℚ a) *ℚ ((hi -ℚ theta) *ℚ i)) ((whole (pos 1) -ℚ b) *ℚ ((theta -ℚ lo) *ℚ i))
       (product_not_negative (whole (pos 1) -ℚ a) ((hi -ℚ theta) *ℚ i) ((≤ℚ-minus a (whole (pos 1))).0 p) after) (product_not_negative (whole (pos 1) -ℚ b) ((theta -ℚ lo) *ℚ i) ((≤ℚ-minus b (whole (pos 1))).0 q) before)))
 

@@ -64,8 +64,10 @@ pub record IsStretch {F : Type 0} (value : F → Fraction) (p : Problem F) (s : 
   pub weighted : rational (value e.weight) ≢ whole (pos 0)
   pub lo : e.lo ≡ s.lo
   pub hi : e.hi ≡ s.hi
-  pub at_lo : ((rational (value e.at_lo) *ℚ inverse (rational (value e.weight))) +ℚ whole (pos 1)) -ℚ rational (value s.lo) ≡ score value p s.vertex s.basic_lo s.lo i
-  pub at_hi : ((rational (value e.at_hi) *ℚ inverse (rational (value e.weight))) +ℚ whole (pos 1)) -ℚ rational (value s.hi) ≡ score value p s.vertex s.basic_hi s.hi i
+  pub at_lo : ((rational (value e.at_lo) *ℚ inverse (rational (value e.weight))) +ℚ whole (pos 1)) -ℚ rational (value s.lo)
+      ≡ score value p s.vertex s.basic_lo s.lo i
+  pub at_hi : ((rational (value e.at_hi) *ℚ inverse (rational (value e.weight))) +ℚ whole (pos 1)) -ℚ rational (value s.hi)
+      ≡ score value p s.vertex s.basic_hi s.hi i
 
 -- one of the rows, which are data rows, and segments that can be scored and cover 0 to 1
 pub record IsIntegrable {F : Type 0} (value : F → Fraction) (p : Problem F) (segments : List (Segment F)) (i : ℕ) : Type 0 where

@@ -30,7 +30,8 @@ IsScoreSpill value range site dual weight theta s = IsAmong value range site 1 (
 
 -- of the score of a basic row at an end of the segment of this number; the first n rows are data
 -- rows, and no other row has a score
-pub record IsEndSpill {F : Type 0} (value : F → Fraction) (range : ℕ) (p : Problem F) (n number end : ℕ) (v : Vertex F) (basic : List F) (theta : ℚ) (s : Spill F) : Type 0 where
+pub record IsEndSpill {F : Type 0} (value : F → Fraction) (range : ℕ) (p : Problem F) (n number end : ℕ) (v : Vertex F) (basic : List F) (theta : ℚ)
+    (s : Spill F) : Type 0 where
   pub row : ℕ
   pub basic_row : Contains v.basis.rows row
   pub data_row : row < n

@@ -9,7 +9,8 @@ use Rattle.frac_core.specs.declared.frac128.Frac128.{Frac128}
 use Rattle.report_text.specs.ReportText.{dual_line}
 
 -- the step of a loop that adds the text of the item at k
-pub flat_more : {X : Type 0} (text : X → List ℕ) (xs : List X) (k : ℕ) (d : X) (start page new : List ℕ) → k < length xs → page ≡ start ++ flat_map text (take k xs) → new ≡ page ++ text (get_or xs k d) → new ≡ start ++ flat_map text (take (k + 1) xs)
+pub flat_more : {X : Type 0} (text : X → List ℕ) (xs : List X) (k : ℕ) (d : X) (start page new : List ℕ) → k < length xs → page ≡ start ++ flat_map text (take k xs) → new ≡ page ++ text (get_or xs k d)
+    → new ≡ start ++ flat_map text (take (k + 1) xs)
 flat_more text xs k d start page new within so_far more =
     more ∙ ap (λ z. z ++ text (get_or xs k d)) so_far ∙ append_assoc start (flat_map text (take k xs)) (text (get_or xs k d))
     ∙ ap (λ z. start ++ z) (sym (ap (flat_map text) (take_more xs k d within) ∙ flat_map-append text (take k xs) (get_or xs k d ∷ []) ∙ ap (λ z. flat_map text (take k xs) ++ z) (append-nil (text (get_or xs k d)))))

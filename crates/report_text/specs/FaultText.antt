@@ -28,7 +28,9 @@ use Rattle.report_text.specs.declared.quantity.PrintedIndices.TheVariants.{One, 
 use Rattle.report_text.specs.declared.report.Place.{Place}
 use Rattle.report_text.specs.declared.report.Place.TheVariants.{Process, Interval, Check, Full, Predict, Path}
 use Rattle.report_text.specs.declared.report.Refusal.{Refusal}
-use Rattle.report_text.specs.declared.report.Refusal.TheVariants.{TooLong, Table, Formula, RankWithPenalty, Design, Penalty, Program, Dependent, CertTooLong, Certificate, NoSuchColumn, AllTested, SmoothNotTaken, NothingToPredict, TooManyPredictions}
+use Rattle.report_text.specs.declared.report.Refusal.TheVariants.{TooLong, Table, Formula, RankWithPenalty, Design}
+use Rattle.report_text.specs.declared.report.Refusal.TheVariants.{Penalty, Program, Dependent, CertTooLong, Certificate}
+use Rattle.report_text.specs.declared.report.Refusal.TheVariants.{NoSuchColumn, AllTested, SmoothNotTaken, NothingToPredict, TooManyPredictions}
 use Rattle.report_text.specs.declared.report.Halt.{Halt}
 use Rattle.report_text.specs.declared.report.Halt.TheVariants.{Refused, OutOfMemory, PivotLimit, Overflow, Rejected}
 use Rattle.report_text.specs.declared.report.Fault.{Fault}
@@ -96,7 +98,8 @@ site_text site = word (codes "quantity") (quantity_name site.quantity) ++ (key (
 
 -- an operation that overflows, and both operands
 unfoldable pub spill_text : Spill Frac128 → List ℕ
-spill_text spill = site_text spill.site ++ word (codes "op") (op_name spill.site.kind) ++ fraction (codes "left") spill.left ++ fraction (codes "right") spill.right
+spill_text spill = site_text spill.site ++ word (codes "op") (op_name spill.site.kind) ++ fraction (codes "left") spill.left ++ fraction
+    (codes "right") spill.right
 
 -- the place where a job stopped: the fit, the interval of a column, counted from 1, at a quantile, the conditions of a
 -- certificate, the start of a whole problem, the prediction of a record, or the costs of a path
@@ -214,7 +217,8 @@ refusal_line (TooManyPredictions found) = line (codes "predict") (codes "TooMany
 abbrev pub halt_line : Halt → List ℕ
 halt_line (Refused refusal) = refusal_line refusal
 halt_line OutOfMemory = memory_line
-halt_line (PivotLimit place limit trail) = line (codes "solver") (codes "PivotLimit") (word (codes "place") (place_text place) ∷ number (codes "limit") limit ∷ [])
+halt_line (PivotLimit place limit trail) = line (codes "solver") (codes "PivotLimit")
+    (word (codes "place") (place_text place) ∷ number (codes "limit") limit ∷ [])
 halt_line (Overflow place trail spill) = line (codes "solver") (codes "Overflow") (word (codes "place") (place_text place) ∷ spill_text spill ∷ [])
 halt_line (Rejected rejection) = rejection_line rejection
 

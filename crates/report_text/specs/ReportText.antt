@@ -1,6 +1,7 @@
 -- Stated. The printed text of a report: lines of words with one space between them. A type F of fractions
 -- is seen by a function into pairs.
-use Rattle.std.specs.Prelude.{All, ◌≡◌, ◌≤◌, ℕ, ◌+◌, ◌-◌, ◌==◌, Bool, true, false, if◌then◌else◌, nat_lt, List, [], ◌∷◌, ◌++◌, length, slice_get, Option, Some, codes, decimal, ⊤}
+use Rattle.std.specs.Prelude.{All, ◌≡◌, ◌≤◌, ℕ, ◌+◌, ◌-◌, ◌==◌, Bool, true, false, if◌then◌else◌, nat_lt}
+use Rattle.std.specs.Prelude.{List, [], ◌∷◌, ◌++◌, length, slice_get, Option, Some, codes, decimal, ⊤}
 use Rattle.std.specs.List.{flat_map, zip}
 use Rattle.exact_algebra.specs.Fraction.{Fraction}
 use Rattle.frac_core.specs.NumberText.{number_text_of}
@@ -79,7 +80,8 @@ module _ {F : Type 0} (value : F → Fraction) where
 
   -- the rankscores of a row of the basis at both ends, rows counted from 1
   unfoldable pub basic_line : ScorePair F → List ℕ
-  basic_line p = codes "basic " ++ decimal (p.row + 1) ++ codes " " ++ number_text_of (value p.at_lo) ++ codes " " ++ number_text_of (value p.at_hi) ++ codes "\n"
+  basic_line p = codes "basic " ++ decimal (p.row + 1) ++ codes " " ++ number_text_of (value p.at_lo) ++ codes " " ++ number_text_of
+      (value p.at_hi) ++ codes "\n"
 
   -- one segment: its range, its coefficients, its losses, its scores and its basic rows
   unfoldable pub segment_text : ℕ → ℕ → Segment F × List (ScorePair F) → List ℕ
@@ -191,7 +193,8 @@ test_text fit = test_head fit ++ flat_map score_line (zip fit.tested fit.scores)
 
 -- a step of a function of the quantile: from here, up to here, this value
 unfoldable pub step_line : Step Frac128 → List ℕ
-step_line s = codes "step " ++ number_text_of (value s.lo) ++ codes " " ++ number_text_of (value s.hi) ++ codes " " ++ number_text_of (value s.value) ++ codes "\n"
+step_line s = codes "step " ++ number_text_of (value s.lo) ++ codes " " ++ number_text_of (value s.hi) ++ codes " " ++ number_text_of
+    (value s.value) ++ codes "\n"
 
 -- the same of a rearrangement, whose steps have ends of any size
 unfoldable pub rearranged_line : RearrangedStep Frac128 → List ℕ

@@ -9,7 +9,8 @@ use Rattle.rq_engine.specs.Answers as engine
 use Rattle.rq_engine.specs.Jobs.{IsJobOf}
 use Rattle.report_text.specs.ReportText.{report_text}
 use Rattle.report_text.specs.declared.report.Report.{Report}
-use Rattle.report_text.specs.declared.report.Refusal.TheVariants.{TooLong, Table, Formula, RankWithPenalty, Design, Penalty, Program, Dependent, CertTooLong, Certificate, NoSuchColumn, AllTested, SmoothNotTaken, NothingToPredict, TooManyPredictions}
+use Rattle.report_text.specs.declared.report.Refusal.TheVariants.{TooLong, Table, Formula, RankWithPenalty, Design, Penalty, Program, Dependent}
+use Rattle.report_text.specs.declared.report.Refusal.TheVariants.{CertTooLong, Certificate, NoSuchColumn, AllTested, SmoothNotTaken, NothingToPredict, TooManyPredictions}
 use Rattle.report_text.specs.declared.report.Halt.{Halt}
 use Rattle.report_text.specs.declared.report.Halt.TheVariants as halts
 use Rattle.rq_cli.specs.Outcomes.{Stream, OnDone, OnFault, outcome_line, AskSource, Reads, WereRead, HasCause, IsAnswered, IsErrorFault, IsFault, WasTried, IsRun}
@@ -19,7 +20,8 @@ use Rattle.rq_cli.specs.declared.trouble.Trouble.TheVariants as troubles
 use Rattle.rq_cli.specs.declared.outcome.Outcome.TheVariants.{Done, Refused, Usage, SourceFault, SinkFault, OutOfMemory, PivotLimit, Overflow, Rejected}
 
 -- a write whose answer isn't looked at
-pub tried : {T E : Type 0} (r : Result T E) (before now : Stream) (line : List ℕ) → OnOk r (Appends before.bytes now.bytes line) → OnErr r (AppendsPart before.bytes now.bytes line) → CountsFaults before.faults now.faults r → WasTried before now line
+pub tried : {T E : Type 0} (r : Result T E) (before now : Stream) (line : List ℕ) → OnOk r (Appends before.bytes now.bytes line) → OnErr r (AppendsPart before.bytes now.bytes line) → CountsFaults before.faults now.faults r
+    → WasTried before now line
 tried (Ok x) before now line ok err counted = inl ok
 tried (Err e) before now line ok err counted = inr (counted.rose, err)
 
@@ -50,7 +52,8 @@ pub left_alone : (words : List (List ℕ)) (job : Job) → IsJobOf words job →
 left_alone words job asked none reads = none (record { job = job; asked = asked; reads = reads })
 
 -- the cause of a halt is that of its outcome
-pub halt_cause : (words : List (List ℕ)) (source source' : Stream) (job : Job) (bytes : List ℕ) → WereRead words source source' job bytes → (halt : Halt) → engine.HasCause job bytes halt → IsFault words source source' (outcome_of (troubles.Halt halt))
+pub halt_cause : (words : List (List ℕ)) (source source' : Stream) (job : Job) (bytes : List ℕ) → WereRead words source source' job bytes → (halt : Halt) → engine.HasCause job bytes halt
+    → IsFault words source source' (outcome_of (troubles.Halt halt))
 halt_cause words source source' job bytes read (halts.Refused TooLong) cause = absurd (never_long job bytes cause)
 halt_cause words source source' job bytes read (halts.Refused (Table fault)) cause = record { job = job; bytes = bytes; read = read; cause = cause }
 halt_cause words source source' job bytes read (halts.Refused (Formula fault)) cause = record { job = job; bytes = bytes; read = read; cause = cause }

@@ -145,7 +145,8 @@ pub record IsRun (words : List (List ℕ)) (source source' out out' err err' : S
   pub untouched : OnFault outcome (Keeps out.bytes out'.bytes)
   pub told : OnFault outcome (Appends err.bytes err'.bytes (outcome_line outcome))
   -- a failed read has no other outcome, unless its line couldn't be told
-  pub source_grew : source.faults < source'.faults → (outcome ≡ SourceFault) ⊎ ((outcome ≡ SinkFault) × IsErrorFault words source source' out out' err err' SourceFault)
+  pub source_grew : source.faults < source'.faults → (outcome ≡ SourceFault)
+      ⊎ ((outcome ≡ SinkFault) × IsErrorFault words source source' out out' err err' SourceFault)
   -- and a failed write has none
   pub out_grew : out.faults < out'.faults → outcome ≡ SinkFault
   pub err_grew : err.faults < err'.faults → outcome ≡ SinkFault

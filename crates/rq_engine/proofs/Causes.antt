@@ -40,7 +40,8 @@ input_cause job ranked bytes (Overflow place trail spill) h = absurd h.2.cause
 input_cause job ranked bytes (Rejected rejection) h = absurd h.2.cause
 
 -- and so is why the problem of an input has no fit
-pub problem_cause : (job : FitJob) (ranked : Bool) (bytes : List ℕ) (input : Input) → IsInput job ranked bytes input → HasRows input → (halt : Halt) → HasProblemCause job (length input.design.rows) input.problem halt → HasFitCause job ranked bytes halt
+pub problem_cause : (job : FitJob) (ranked : Bool) (bytes : List ℕ) (input : Input) → IsInput job ranked bytes input → HasRows input → (halt : Halt) → HasProblemCause job (length input.design.rows) input.problem halt
+    → HasFitCause job ranked bytes halt
 problem_cause job ranked bytes input is rows (Refused (Dependent combination)) h = record { input = input; is = is; rows = rows; cause = h }
 problem_cause job ranked bytes input is rows (Refused TooLong) h = h
 problem_cause job ranked bytes input is rows (Refused (refusals.Table fault)) h = absurd h

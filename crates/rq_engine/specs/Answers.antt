@@ -144,7 +144,8 @@ pub record LacksPathFit (job : PathJob) (bytes : List ℕ) (halt : Halt) : Type 
 
 -- why bytes have no path: their input has none, or they have no input
 abbrev pub HasPathFitCause : PathJob → List ℕ → Halt → Type 0
-HasPathFitCause job bytes (Refused (Program TooManyRows)) = HasPlainCause job.fit bytes (Refused (Program TooManyRows)) ⊎ LacksPathFit job bytes (Refused (Program TooManyRows))
+HasPathFitCause job bytes (Refused (Program TooManyRows)) = HasPlainCause job.fit bytes (Refused (Program TooManyRows))
+    ⊎ LacksPathFit job bytes (Refused (Program TooManyRows))
 HasPathFitCause job bytes (PivotLimit place limit trail) = LacksPathFit job bytes (PivotLimit place limit trail)
 HasPathFitCause job bytes (Overflow place trail spill) = LacksPathFit job bytes (Overflow place trail spill)
 HasPathFitCause job bytes halt = HasPlainCause job.fit bytes halt

@@ -106,7 +106,8 @@ module _ {F : Type 0} (value : F → Fraction) (p : Problem F) where
           → IsOptimalWithin value p s (rational theta)
       within low high theta positive after before =
           let parts = mixes (value s.lo) (value s.hi) theta low high positive after before in
-          let at_mix = mixed (sample value p) (rational (value s.lo)) (rational (value s.hi)) coefficients (dual_at value p s.vertex s.basic_lo s.lo) (dual_at value p s.vertex s.basic_hi s.hi) parts.0 parts.1 parts.2 optimal.at_lo optimal.at_hi in
+          let at_mix = mixed (sample value p) (rational (value s.lo)) (rational (value s.hi)) coefficients (dual_at value p s.vertex s.basic_lo s.lo)
+          (dual_at value p s.vertex s.basic_hi s.hi) parts.0 parts.1 parts.2 optimal.at_lo optimal.at_hi in
           record {
             minimises = minimum_between (sample value p) (rational (value s.lo)) (rational (value s.hi)) (rational theta) coefficients _ _ optimal.at_lo optimal.at_hi after before;
             m = parts.0;

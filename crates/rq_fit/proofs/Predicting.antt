@@ -46,14 +46,16 @@ module _ (segments : List (Segment Frac128)) (row : PredictRow) where
   lacking_at rows k within here (shorts.Overflow spill) h = record { row = row; there = (k, within, sym here); named = refl; operation = h }
 
 -- why the problem of the rows has no process is why they have no predictions
-pub predict_stop : (job : FitJob) (asked : PredictionInput) (stop : Stop Frac128) → IsProcessStop value most asked.input.problem (rational (value job.lo)) (rational (value job.hi)) job.limit stop → HasPredictedCause job asked (stop_halt places.Process stop)
+pub predict_stop : (job : FitJob) (asked : PredictionInput) (stop : Stop Frac128) → IsProcessStop value most asked.input.problem (rational (value job.lo)) (rational (value job.hi)) job.limit stop
+    → HasPredictedCause job asked (stop_halt places.Process stop)
 predict_stop job asked stops.OutOfMemory h = tt
 predict_stop job asked (stops.PivotLimit limit trail) h = h
 predict_stop job asked (stops.Overflow trail spill) h = h
 predict_stop job asked (stops.Dependent combination) h = h
 
 -- so is a row that has none, after the process
-pub predict_short : (job : FitJob) (asked : PredictionInput) (q : Process Frac128) → HasResults value asked.input.problem (rational (value job.lo)) (rational (value job.hi)) q → length q.trail.steps ≤ job.limit → (rec : ℕ) (short : Short Frac128)
+pub predict_short : (job : FitJob) (asked : PredictionInput) (q : Process Frac128) → HasResults value asked.input.problem (rational (value job.lo)) (rational (value job.hi)) q → length q.trail.steps ≤ job.limit
+    → (rec : ℕ) (short : Short Frac128)
     → IsShortOf (IsUnpredictedRow q.segments asked.rows rec) short → HasPredictedCause job asked (short_halt (places.Predict rec) short q.trail)
 predict_short job asked q results short rec shorts.OutOfMemory h = tt
 predict_short job asked q results short rec (shorts.Overflow spill) h =
@@ -61,7 +63,8 @@ predict_short job asked q results short rec (shorts.Overflow spill) h =
 
 -- the right process and the predictions along it, with what is told of the design
 pub predict_right : (job : FitJob) (asked : PredictionInput) (q : Process Frac128) (predictions : List Prediction) → IsWellShaped asked.input.problem → IsRightProcess value job asked.input.problem q
-    → AllZip (IsPredictionBy (rational (value job.lo)) (rational (value job.hi)) q.segments) asked.rows predictions → (fit : PredictFit) → fit.kept ≡ length asked.input.design.rows → fit.dropped ≡ asked.input.design.dropped → fit.names ≡ asked.input.design.names
+    → AllZip (IsPredictionBy (rational (value job.lo)) (rational (value job.hi)) q.segments) asked.rows predictions → (fit : PredictFit) → fit.kept ≡ length asked.input.design.rows → fit.dropped ≡ asked.input.design.dropped
+    → fit.names ≡ asked.input.design.names
     → fit.process ≡ q → fit.predictions ≡ predictions → IsPredictFitOf job asked fit
 predict_right job asked q predictions shaped right all fit kept dropped names process made =
     record {

@@ -63,7 +63,8 @@ module _ (p : Problem Frac128) (tested : List ℕ) (q : Problem Frac128) (is : q
       restricted_costs = record { up = λ i l. (costed i l).up; down = λ i l. (costed i l).down; some = λ i l. (costed i l).some }
 
 -- so at both ends of the range of a job over 0 to 1
-module _ (job : FitJob) (ask : IsUnitAsk job) (p : Problem Frac128) (tested : List ℕ) (q : Problem Frac128) (is : q ≡ restricted_problem tested p) (are_data : (i : ℕ) → i < length p.rows → IsDataRow (sample value p) i) (stay : RestrictedHasDataRows value p) where
+module _ (job : FitJob) (ask : IsUnitAsk job) (p : Problem Frac128) (tested : List ℕ) (q : Problem Frac128) (is : q ≡ restricted_problem tested p) (are_data : (i : ℕ) → i < length p.rows → IsDataRow (sample value p) i)
+    (stay : RestrictedHasDataRows value p) where
   abbrev fit_ask : IsFitAsk job
   fit_ask = unit_ask job ask
 

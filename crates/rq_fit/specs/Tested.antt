@@ -35,7 +35,8 @@ pub record AreScoredBy (job : FitJob) (p : Problem Frac128) (q : Process Frac128
 -- the scores of the tested columns and the statistic, by these Wilcoxon scores
 pub record IsStatisticBy (job : TestJob) (p : Problem Frac128) (wilcoxon : List Fraction) (fit : TestFit) : Type 0 where
   pub scores : AreScores value p job.tested (value_at (λ x. x) wilcoxon) fit.scores
-  pub statistic : IsNestedStatistic (sample value p) (slice_index job.tested) (length job.tested) (column_score (sample value p) (value_at (λ x. x) wilcoxon)) (rational fit.statistic)
+  pub statistic : IsNestedStatistic (sample value p) (slice_index job.tested) (length job.tested) (column_score (sample value p) (value_at (λ x. x) wilcoxon))
+      (rational fit.statistic)
 
 -- of independent columns, the right process of the problem without the tested ones, and the scores of these and the
 -- statistic by the Wilcoxon scores of that process; what is told beside is the design's and the job's

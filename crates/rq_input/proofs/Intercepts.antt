@@ -65,7 +65,8 @@ unfolding design_of columns_of
 front_of_design table model coding weights [] intercept some = absurd (omega (arith, some))
 front_of_design table model coding weights (i ∷ is) intercept some = rw intercept refl
 
-module _ (job : FitJob) (table : Table) (model : Formula) (input : Input) (designed : IsDesigned job table model input.design) (problem : map exact_row input.problem.rows ≡ rows_of input.design input.smoothing) (rows : HasRows input) (some : 1 ≤ length input.design.rows) where
+module _ (job : FitJob) (table : Table) (model : Formula) (input : Input) (designed : IsDesigned job table model input.design) (problem : map exact_row input.problem.rows ≡ rows_of input.design input.smoothing) (rows : HasRows input)
+    (some : 1 ≤ length input.design.rows) where
   design_entry : model.intercept ≡ true → design_front (map exact_design_row input.design.rows) ≡ whole (pos 1)
   design_entry intercept =
       let is = ap (λ d. d.rows) designed.design_is.exact in

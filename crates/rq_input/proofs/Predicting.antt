@@ -178,7 +178,8 @@ plain_columns job table model input by =
     let none = no_names table input.design model input.smoothing by.is.smoothed.added (by.stated.taken refl) in
     omega (arith, by.is.problem.columns, none)
 
-pub problem_entries : (job : FitJob) (table : Table) (model : Formula) (input : Input) → IsPlainModel job table model input → (rows : List PredictRow) → All (HasEntries (length input.design.names)) rows → All (HasEntries input.problem.columns) rows
+pub problem_entries : (job : FitJob) (table : Table) (model : Formula) (input : Input) → IsPlainModel job table model input → (rows : List PredictRow) → All (HasEntries (length input.design.names)) rows
+    → All (HasEntries input.problem.columns) rows
 problem_entries job table model input by rows all = subst (λ n. All (HasEntries n) rows) (plain_columns job table model input by) all
 
 -- why the records of a table's design aren't predicted is why its bytes have no predictions

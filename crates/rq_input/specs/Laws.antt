@@ -21,4 +21,5 @@ LossIsVariation =
     (job : FitJob) (ranked : Bool) (table : Table) (model : Formula) (input : Input) (theta : ℚ) (b : ℕ → ℚ)
     → IsModel job ranked table model → IsModelInput job table model input → HasRows input
     → loss (sample value input.problem) theta b
-    ≡ records_loss (zip input.design.rows input.smoothing.columns) theta b (smooth_part input.design b) +ℚ variation table input.design model (smooth_part input.design b)
+    ≡ records_loss (zip input.design.rows input.smoothing.columns) theta b (smooth_part input.design b)
+    +ℚ variation table input.design model (smooth_part input.design b)

@@ -23,14 +23,16 @@ map_replicate f zero x = refl
 map_replicate f (suc n) x = ap (λ z. f x ∷ z) (map_replicate f n x)
 
 -- the step of a loop that adds w, which is to g what the item at k is to f
-pub mapped_more : {W X Y : Type 0} (g : W → Y) (f : X → Y) (xs : List X) (k : ℕ) (x : X) (start : List Y) (olds news : List W) (w : W) → k < length xs → x ≡ get_or xs k x → map g olds ≡ start ++ map f (take k xs) → news ≡ olds ++ w ∷ [] → g w ≡ f x → map g news ≡ start ++ map f (take (k + 1) xs)
+pub mapped_more : {W X Y : Type 0} (g : W → Y) (f : X → Y) (xs : List X) (k : ℕ) (x : X) (start : List Y) (olds news : List W) (w : W) → k < length xs → x ≡ get_or xs k x → map g olds ≡ start ++ map f (take k xs) → news ≡ olds ++ w ∷ []
+    → g w ≡ f x → map g news ≡ start ++ map f (take (k + 1) xs)
 mapped_more g f xs k x start olds news w within here so_far more made =
     ap (map g) more ∙ map-append g olds (w ∷ []) ∙ ap (λ y. map g olds ++ y ∷ []) (made ∙ ap f here) ∙ ap (λ z. z ++ f (get_or xs k x) ∷ []) so_far
     ∙ append_assoc start (map f (take k xs)) (f (get_or xs k x) ∷ [])
     ∙ ap (λ z. start ++ z) (sym (map-append f (take k xs) (get_or xs k x ∷ [])) ∙ ap (map f) (sym (take_more xs k x within)))
 
 -- the same of two lists, item by item
-pub mapped_zip_more : {W X Y Z : Type 0} (g : W → Z) (f : X × Y → Z) (xs : List X) (ys : List Y) (k : ℕ) (x : X) (y : Y) (start : List Z) (olds news : List W) (w : W) → k < length xs → length ys ≡ length xs → x ≡ get_or xs k x → y ≡ get_or ys k y → map g olds ≡ start ++ map f (take k (zip xs ys)) → news ≡ olds ++ w ∷ [] → g w ≡ f (x, y) → map g news ≡ start ++ map f (take (k + 1) (zip xs ys))
+pub mapped_zip_more : {W X Y Z : Type 0} (g : W → Z) (f : X × Y → Z) (xs : List X) (ys : List Y) (k : ℕ) (x : X) (y : Y) (start : List Z) (olds news : List W) (w : W) → k < length xs → length ys ≡ length xs → x ≡ get_or xs k x
+    → y ≡ get_or ys k y → map g olds ≡ start ++ map f (take k (zip xs ys)) → news ≡ olds ++ w ∷ [] → g w ≡ f (x, y) → map g news ≡ start ++ map f (take (k + 1) (zip xs ys))
 mapped_zip_more {W} {X} {Y} g f xs ys k x y start olds news w within same here here' so_far more made =
     let within' : k < length ys = omega arith in
     mapped_more g f (zip xs ys) k (x, y) start olds news w (omega (arith, length-zip xs ys)) (pair ∙ sym (get_or-zip xs ys k (x, y) within within')) so_far more made
@@ -79,7 +81,8 @@ wide_rows_of design smoothing h =
         ∙ ap (λ n. length design.names + n) (length-map (get_or smoothing.rows k d).x exact ∙ h.penalties k d l)
 
 -- a problem of such rows is well shaped
-pub shaped : (design : Design) (smoothing : Smoothing) (p : Problem Frac128) → AreTogether design smoothing → p.columns ≡ columns_of design smoothing → map exact_row p.rows ≡ rows_of design smoothing → columns_of design smoothing ≤ 128 → row_count design smoothing ≤ 16384 → IsWellShaped p
+pub shaped : (design : Design) (smoothing : Smoothing) (p : Problem Frac128) → AreTogether design smoothing → p.columns ≡ columns_of design smoothing → map exact_row p.rows ≡ rows_of design smoothing → columns_of design smoothing ≤ 128
+    → row_count design smoothing ≤ 16384 → IsWellShaped p
 shaped design smoothing p h columns rows narrow few =
     let count : length p.rows ≡ row_count design smoothing = sym (length-map p.rows exact_row) ∙ ap length rows ∙ length-rows_of design smoothing h.lists in
     record {
@@ -100,7 +103,8 @@ shaped design smoothing p h columns rows narrow few =
         ∙ all k (exact_row d) l' ∙ sym columns
 
 -- a row that begins with as many entries of 0 as the design has columns
-pub padded_row : (width : ℕ) (penalty : PenaltyRow) (nought y up1 down1 : Frac128) (noughts after : List Frac128) → exact nought ≡ whole (pos 0) → exact y ≡ whole (pos 0) → exact up1 ≡ whole (pos 0) → exact down1 ≡ whole (pos 0) → noughts ≡ replicate width nought → after ≡ noughts ++ penalty.x → exact_row (record { x = after; y = y; up0 = penalty.lambda; up1 = up1; down0 = penalty.lambda; down1 = down1 }) ≡ penalty_row width penalty
+pub padded_row : (width : ℕ) (penalty : PenaltyRow) (nought y up1 down1 : Frac128) (noughts after : List Frac128) → exact nought ≡ whole (pos 0) → exact y ≡ whole (pos 0) → exact up1 ≡ whole (pos 0) → exact down1 ≡ whole (pos 0)
+    → noughts ≡ replicate width nought → after ≡ noughts ++ penalty.x → exact_row (record { x = after; y = y; up0 = penalty.lambda; up1 = up1; down0 = penalty.lambda; down1 = down1 }) ≡ penalty_row width penalty
 padded_row width penalty nought y up1 down1 noughts after zero_nought zero_y zero_up zero_down filled joined =
     let entries : map exact after ≡ replicate width (whole (pos 0)) ++ map exact penalty.x =
     ap (map exact) joined ∙ map-append exact noughts penalty.x
@@ -109,7 +113,8 @@ padded_row width penalty nought y up1 down1 noughts after zero_nought zero_y zer
     cc
 
 -- a row of a design with its entries of the smooths behind its own
-pub joined_row : (r : DesignRow) (smooth none own front after : List Frac128) (up0 down1 : Frac128) → exact up0 ≡ whole (pos 0) → exact down1 ≡ neg_ℚ (exact r.weight) → none ≡ [] → own ≡ r.x → front ≡ none ++ own → after ≡ front ++ smooth → exact_row (record { x = after; y = r.y; up0 = up0; up1 = r.weight; down0 = r.weight; down1 = down1 }) ≡ data_row (r, smooth)
+pub joined_row : (r : DesignRow) (smooth none own front after : List Frac128) (up0 down1 : Frac128) → exact up0 ≡ whole (pos 0) → exact down1 ≡ neg_ℚ (exact r.weight) → none ≡ [] → own ≡ r.x → front ≡ none ++ own → after ≡ front ++ smooth
+    → exact_row (record { x = after; y = r.y; up0 = up0; up1 = r.weight; down0 = r.weight; down1 = down1 }) ≡ data_row (r, smooth)
 joined_row r smooth none own front after up0 down1 zero_up negated_down empty own_is first second =
     let entries : map exact after ≡ map exact r.x ++ map exact smooth =
     ap (map exact) (second ∙ ap (λ z. z ++ smooth) (first ∙ ap (λ z. z ++ own) empty ∙ own_is)) ∙ map-append exact r.x smooth

@@ -39,4 +39,5 @@ pub record HasDataRows (design : Design) (smoothing : Smoothing) (p : Problem Fr
   pub count : length p.rows ≡ row_count design smoothing
   pub costs : (i : ℕ) (r : DesignRow) → slice_get design.rows i ≡ Some r → CostsBy (exact r.weight) (sample value p) i
   pub are_data : All (λ r. cmp_ℚ (whole (pos 0)) (exact r.weight) ≡ Less) design.rows → (i : ℕ) → i < length design.rows → IsDataRow (sample value p) i
-  pub are_penalties : All (λ r. cmp_ℚ (whole (pos 0)) (exact r.lambda) ≡ Less) smoothing.rows → (i : ℕ) → length design.rows ≤ i → i < row_count design smoothing → IsPenaltyRow (sample value p) i
+  pub are_penalties : All (λ r. cmp_ℚ (whole (pos 0)) (exact r.lambda) ≡ Less) smoothing.rows → (i : ℕ) → length design.rows ≤ i
+      → i < row_count design smoothing → IsPenaltyRow (sample value p) i

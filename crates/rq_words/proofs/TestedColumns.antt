@@ -1,5 +1,6 @@
 -- The numbers of the tested columns that words ask for ascend, and where all of them are columns, so do these.
-use Rattle.std.proofs.Common.{◌≡◌, ◌∙◌, ℕ, zero, suc, ◌+◌, ◌-◌, ◌^◌, ◌<◌, ◌≤◌, ◌==◌, ◌&&◌, Bool, true, false, List, [], ◌∷◌, Option, Some, None, Ok, refl, ap, ap₂, subst, arith, codes, drop, length, map, nat_le, ok_or, if◌then◌else◌, option_and_then, option_map}
+use Rattle.std.proofs.Common.{◌≡◌, ◌∙◌, ℕ, zero, suc, ◌+◌, ◌-◌, ◌^◌, ◌<◌, ◌≤◌, ◌==◌, ◌&&◌, Bool, true, false, List, [], ◌∷◌}
+use Rattle.std.proofs.Common.{Option, Some, None, Ok, refl, ap, ap₂, subst, arith, codes, drop, length, map, nat_le, ok_or, if◌then◌else◌, option_and_then, option_map}
 use Rattle.std.specs.List.{AllByRecursion, list_any, slice_index, slice_split}
 use Rattle.std.specs.List.Sorted.{IsStrictlyIncreasing}
 use Rattle.std.specs.Option.{option_map_or}
@@ -13,7 +14,8 @@ use Rattle.contrasts.specs.declared.Coding.TheVariants.{Treatment}
 use Rattle.rq_words.specs.Commands.{command_of, kind_of, options_of, read_by}
 use Rattle.rq_words.specs.Requests.{OptionNumbers, Request, TestRequest, given_number}
 use Rattle.rq_words.specs.Requests as request
-use Rattle.rq_words.specs.Words.{zero as nought, one, option, number_option, number_text, all_read, quantiles, column_numbers, given, count, coding, has_digits, numbers_of, ascends, ascends_from, fault_of, column_of, request_for, checked, is_long, words_of_job, words_of}
+use Rattle.rq_words.specs.Words.{zero as nought, one, option, number_option, number_text, all_read, quantiles, column_numbers, given, count, coding}
+use Rattle.rq_words.specs.Words.{has_digits, numbers_of, ascends, ascends_from, fault_of, column_of, request_for, checked, is_long, words_of_job, words_of}
 use Rattle.rq_words.specs.declared.command.Kind.{Kind}
 use Rattle.rq_words.specs.declared.command.Kind.TheVariants as kind
 use Rattle.rq_words.specs.declared.job.WordFault.{WordFault}

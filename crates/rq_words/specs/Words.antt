@@ -1,5 +1,6 @@
 -- Stated. The request of a list of words, or its first fault.
-use Rattle.std.specs.Prelude.{ℕ, ◌+◌, ◌-◌, ◌^◌, ◌==◌, ◌&&◌, ◌||◌, not, Bool, true, false, List, [], ◌∷◌, Option, Some, None, Result, Ok, Err, pos, codes, drop, length, map, nat_le, is_some, if◌then◌else◌, option_and_then, option_map, ok_or}
+use Rattle.std.specs.Prelude.{ℕ, ◌+◌, ◌-◌, ◌^◌, ◌==◌, ◌&&◌, ◌||◌, not, Bool, true, false, List, [], ◌∷◌, Option, Some}
+use Rattle.std.specs.Prelude.{None, Result, Ok, Err, pos, codes, drop, length, map, nat_le, is_some, if◌then◌else◌, option_and_then, option_map, ok_or}
 use Rattle.std.specs.List.{slice_split, list_any}
 use Rattle.std.specs.Option.{option_map_or}
 use Rattle.std.specs.Result.{result_ok}
@@ -17,7 +18,8 @@ use Rattle.rq_words.specs.Requests as request
 use Rattle.rq_words.specs.declared.command.Kind.{Kind}
 use Rattle.rq_words.specs.declared.command.Kind.TheVariants as kind
 use Rattle.rq_words.specs.declared.job.WordFault.{WordFault}
-use Rattle.rq_words.specs.declared.job.WordFault.TheVariants.{NoJob, UnknownJob, BadOption, BadNumber, BadContrasts, BadRange, RankHalf, BadTauForRank, NegativeLimit, NotAscending}
+use Rattle.rq_words.specs.declared.job.WordFault.TheVariants.{NoJob, UnknownJob, BadOption, BadNumber, BadContrasts}
+use Rattle.rq_words.specs.declared.job.WordFault.TheVariants.{BadRange, RankHalf, BadTauForRank, NegativeLimit, NotAscending}
 
 -- a step that may find a fault, and the next one
 infixl 10 ◌>>=◌

@@ -236,7 +236,8 @@ module _ (lawful : PathHasCosts) (words : List (List ℕ)) (source source' : Str
       by : (refusal : Refusal) → HasPredictCause fit other (halts.Refused refusal) → ⊥
       by (refusals.Dependent combination) h =
           dependent (sample value h.asked.input.problem) _ h.cause.dependence
-          (w.rank fit true h.asked.input (record { job = jobs.Predict fit; asked = read.asked; is = (refl, refl) }) (subst (λ b. IsInput fit true b h.asked.input) (same_bytes (jobs.Predict fit) other read) (asked_input fit other h.asked h.is)))
+          (w.rank fit true h.asked.input (record { job = jobs.Predict fit; asked = read.asked; is = (refl, refl) })
+          (subst (λ b. IsInput fit true b h.asked.input) (same_bytes (jobs.Predict fit) other read) (asked_input fit other h.asked h.is)))
       by refusals.TooLong h = none refusals.TooLong h
       by (refusals.Table fault) h = none (refusals.Table fault) h
       by (refusals.Formula fault) h = none (refusals.Formula fault) h
@@ -353,7 +354,16 @@ module _ (words : List (List ℕ)) (source source' : Stream) where
       by (jobs.Predict fit) (reports.Ranks f) read right = absurd right
       by (jobs.Predict fit) (reports.Certificate c) read right = absurd right
       by (jobs.Predict fit) (reports.Checked c) read right = absurd right
-      by (jobs.Predict fit) (reports.Predict f) read right = (fit, right.0.input, f.process, record { was = was fit right.0.input true (jobs.Predict fit) (refl, refl) read (asked_input fit h.bytes right.0 right.1); shaped = right.2.shaped; right = right.2.process })
+      by (jobs.Predict fit) (reports.Predict f) read right = (
+        fit,
+        right.0.input,
+        f.process,
+        record {
+          was = was fit right.0.input true (jobs.Predict fit) (refl, refl) read (asked_input fit h.bytes right.0 right.1);
+          shaped = right.2.shaped;
+          right = right.2.process;
+        },
+      )
       by (jobs.Predict fit) (reports.Test f) read right = absurd right
       by (jobs.Predict fit) (reports.Path f) read right = absurd right
       by (jobs.Predict fit) (reports.Sample f) read right = absurd right

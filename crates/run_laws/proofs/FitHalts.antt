@@ -106,10 +106,12 @@ module _ (words : List (List ℕ)) (source source' : Stream) where
     limit_of : (place : Place) (limit : ℕ) (trail : Trail Frac128) → IsHalted words source source' (halts.PivotLimit place limit trail) → IsFitHalt (halts.PivotLimit place limit trail) ⊎ IsPredictHalt (halts.PivotLimit place limit trail)
     limit_of place limit trail = halt_of (halts.PivotLimit place limit trail) (λ fit ranked bytes h. h) (λ fit bytes h. h) (λ fit bytes h. h)
 
-    overflow_of : (place : Place) (trail : Trail Frac128) (spill : Spill Frac128) → IsHalted words source source' (halts.Overflow place trail spill) → IsFitHalt (halts.Overflow place trail spill) ⊎ IsPredictHalt (halts.Overflow place trail spill)
+    overflow_of : (place : Place) (trail : Trail Frac128) (spill : Spill Frac128) → IsHalted words source source' (halts.Overflow place trail spill) → IsFitHalt (halts.Overflow place trail spill)
+        ⊎ IsPredictHalt (halts.Overflow place trail spill)
     overflow_of place trail spill = halt_of (halts.Overflow place trail spill) (λ fit ranked bytes h. h) (λ fit bytes h. h) (λ fit bytes h. h)
 
-    dependent_of : (combination : List Frac128) → IsHalted words source source' (halts.Refused (refusals.Dependent combination)) → IsFitHalt (halts.Refused (refusals.Dependent combination)) ⊎ IsPredictHalt (halts.Refused (refusals.Dependent combination))
+    dependent_of : (combination : List Frac128) → IsHalted words source source' (halts.Refused (refusals.Dependent combination)) → IsFitHalt (halts.Refused (refusals.Dependent combination))
+        ⊎ IsPredictHalt (halts.Refused (refusals.Dependent combination))
     dependent_of combination = halt_of (halts.Refused (refusals.Dependent combination)) (λ fit ranked bytes h. h) (λ fit bytes h. h) (λ fit bytes h. h)
 
     -- no fit is rejected

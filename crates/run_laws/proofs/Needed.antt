@@ -82,7 +82,8 @@ reached_interval fit input column tau limit trail ask rows h =
           interval_needed value most input.problem column (rational (value tau)) (rational (value h.0)) fit.limit (stops.PivotLimit limit trail) (inner_costs input (rational (value tau)) asked.1 rows) asked.0 cause;
     }
 
-reached : (fit : FitJob) (ranked : Bool) (bytes : List ℕ) (place : Place) (limit : ℕ) (trail : Trail Frac128) → IsFitAsk fit → (h : LacksFit fit ranked bytes (PivotLimit place limit trail)) → ReachesLimitAt place fit h.input.problem limit trail
+reached : (fit : FitJob) (ranked : Bool) (bytes : List ℕ) (place : Place) (limit : ℕ) (trail : Trail Frac128) → IsFitAsk fit → (h : LacksFit fit ranked bytes (PivotLimit place limit trail))
+    → ReachesLimitAt place fit h.input.problem limit trail
 reached fit ranked bytes places.Process limit trail ask h = reached_process fit h.input.problem limit trail (low_costs fit ask h.input h.rows) h.cause.0 h.cause.1
 reached fit ranked bytes (places.Interval column tau) limit trail ask h = reached_interval fit h.input column tau limit trail ask h.rows h.cause.stopped
 reached fit ranked bytes places.Check limit trail ask h = absurd h.cause
@@ -90,7 +91,8 @@ reached fit ranked bytes (places.Predict rec) limit trail ask h = absurd h.cause
 reached fit ranked bytes places.Full limit trail ask h = absurd h.cause
 reached fit ranked bytes places.Path limit trail ask h = absurd h.cause
 
-predict_reached : (fit : FitJob) (bytes : List ℕ) (place : Place) (limit : ℕ) (trail : Trail Frac128) → IsFitAsk fit → (h : LacksPredictFit fit bytes (PivotLimit place limit trail)) → ReachesLimitAt place fit h.asked.input.problem limit trail
+predict_reached : (fit : FitJob) (bytes : List ℕ) (place : Place) (limit : ℕ) (trail : Trail Frac128) → IsFitAsk fit → (h : LacksPredictFit fit bytes (PivotLimit place limit trail))
+    → ReachesLimitAt place fit h.asked.input.problem limit trail
 predict_reached fit bytes places.Process limit trail ask h = reached_process fit h.asked.input.problem limit trail (low_costs fit ask h.asked.input h.rows) h.cause.0 h.cause.1
 predict_reached fit bytes (places.Interval column tau) limit trail ask h = absurd h.cause
 predict_reached fit bytes places.Check limit trail ask h = absurd h.cause
@@ -103,7 +105,8 @@ module _ (lawful : PathHasCosts) (words : List (List ℕ)) (source source' : Str
   abbrev IsDependentInput : Type 0
   IsDependentInput = (fit : FitJob) × (input : Input) × WasWhole words source source' fit input × ¬ HasFullRank (sample value input.problem)
 
-  was : (fit : FitJob) (input : Input) (ranked : Bool) (bytes : List ℕ) (job : Job) → IsFitJob job fit ranked → WereRead words source source' job bytes → IsInput fit ranked (table_bytes job bytes) input → WasInput words source source' fit input
+  was : (fit : FitJob) (input : Input) (ranked : Bool) (bytes : List ℕ) (job : Job) → IsFitJob job fit ranked → WereRead words source source' job bytes → IsInput fit ranked (table_bytes job bytes) input
+      → WasInput words source source' fit input
   was fit input ranked bytes job is_job read is =
       record { ranked = ranked; bytes = bytes; asked = record { job = job; asked = read.asked; is = is_job }; read = (job, read); is = is }
 

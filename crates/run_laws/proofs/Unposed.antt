@@ -33,7 +33,8 @@ use Rattle.run_laws.proofs.Stopless.{unposed_without}
 module _ (law : InputsHaveNoFault) (words : List (List ℕ)) (source source' : Stream) (bytes : List ℕ) (first : FitJob) (kind : Bool) (asked : AskFit words first kind) (told : Reads asked.job → source.bytes ≡ Some bytes)
     (faulty : (fit : FitJob) (ranked : Bool) (ask : AskFit words fit ranked) → (refusal : Refusal) × HasInputCause fit ranked (table_bytes ask.job bytes) (halts.Refused refusal)) where
   -- bytes that were read for a fit are no input within the limits
-  no_input : (fit : FitJob) (ranked : Bool) (ask : AskFit words fit ranked) (job : Job) (other : List ℕ) → WereRead words source source' job other → (input : Input) → IsInput fit ranked (table_bytes ask.job other) input → IsWellShaped input.problem → ⊥
+  no_input : (fit : FitJob) (ranked : Bool) (ask : AskFit words fit ranked) (job : Job) (other : List ℕ) → WereRead words source source' job other → (input : Input) → IsInput fit ranked (table_bytes ask.job other) input
+      → IsWellShaped input.problem → ⊥
   no_input fit ranked ask job other read input there shaped =
       let fault = faulty fit ranked ask in
       law fit ranked (table_bytes ask.job bytes) input fault.0

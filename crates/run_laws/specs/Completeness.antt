@@ -60,9 +60,11 @@ pub record IsWellFormed (words : List (List ℕ)) (source : Stream) (bytes : Lis
   pub asked : AskFit words fit ranked
   pub told : Reads asked.job → source.bytes ≡ Some bytes
   pub short : Reads asked.job → length bytes ≤ most_bytes
-  pub sound : (fit : FitJob) (ranked : Bool) (asked : AskFit words fit ranked) (refusal : Refusal) → ¬ HasInputCause fit ranked (table_bytes asked.job bytes) (halts.Refused refusal)
+  pub sound : (fit : FitJob) (ranked : Bool) (asked : AskFit words fit ranked) (refusal : Refusal)
+      → ¬ HasInputCause fit ranked (table_bytes asked.job bytes) (halts.Refused refusal)
   pub predicted : (fit : FitJob) (refusal : Refusal) → IsJobOf words (jobs.Predict fit) → ¬ HasPredictionCause fit bytes (halts.Refused refusal)
-  pub rank : (fit : FitJob) (ranked : Bool) (input : Input) (asked : AskFit words fit ranked) → IsInput fit ranked (table_bytes asked.job bytes) input → HasFullRank (sample value input.problem)
+  pub rank : (fit : FitJob) (ranked : Bool) (input : Input) (asked : AskFit words fit ranked)
+      → IsInput fit ranked (table_bytes asked.job bytes) input → HasFullRank (sample value input.problem)
 
 -- the run prints the right report, or reaches its limit, or an operation overflows, or the certificate is too long; want
 -- of memory is the free answer
@@ -92,7 +94,8 @@ pub record IsGenerated (words : List (List ℕ)) : Type 0 where
   pub first : SampleJob
   pub asked : IsJobOf words (jobs.Sample first)
   pub some : (job : SampleJob) → IsJobOf words (jobs.Sample job) → 1 ≤ job.rows
-  pub rank : (job : SampleJob) (input : Input) → IsJobOf words (jobs.Sample job) → IsInput (sample_fit job) false (sample_table job) input → HasFullRank (sample value input.problem)
+  pub rank : (job : SampleJob) (input : Input) → IsJobOf words (jobs.Sample job)
+      → IsInput (sample_fit job) false (sample_table job) input → HasFullRank (sample value input.problem)
 
 -- while nothing fails, every run for a generated table is answered so: its bytes have no fault, and no certificate is too long
 abbrev pub SampleIsAnswered : Type 0
@@ -154,9 +157,11 @@ IsUnposed _ = ⊤
 -- such a fault, save for memory and for streams that fail
 abbrev pub FaultIsAnswered : Type 0
 FaultIsAnswered =
-    (words : List (List ℕ)) (source source' out out' err err' : Stream) (bytes : List ℕ) (outcome : Outcome) (first : FitJob) (kind : Bool) (asked : AskFit words first kind)
+    (words : List (List ℕ)) (source source' out out' err err' : Stream) (bytes : List ℕ) (outcome : Outcome) (first : FitJob) (kind : Bool)
+    (asked : AskFit words first kind)
     → (Reads asked.job → source.bytes ≡ Some bytes)
-    → ((fit : FitJob) (ranked : Bool) (ask : AskFit words fit ranked) → (refusal : Refusal) × HasInputCause fit ranked (table_bytes ask.job bytes) (halts.Refused refusal))
+    → ((fit : FitJob) (ranked : Bool) (ask : AskFit words fit ranked)
+    → (refusal : Refusal) × HasInputCause fit ranked (table_bytes ask.job bytes) (halts.Refused refusal))
     → IsRun words source source' out out' err err' outcome → IsUnposed outcome
 
 -- nor has it where the words ask for predictions, and the bytes have a fault as those
@@ -283,7 +288,8 @@ parts_of places.Path = 0
 abbrev pub AmpleLimitIsNeverReached : Type 0
 AmpleLimitIsNeverReached =
     (words : List (List ℕ)) (source source' out out' err err' : Stream) (place : Place) (limit : ℕ) (trail : Trail Frac128)
-    → ((fit : FitJob) (problem : Problem Frac128) → WasPosed words source source' fit problem → (parts_of place * further_bases (sample value problem)) ≤ fit.limit)
+    → ((fit : FitJob) (problem : Problem Frac128) → WasPosed words source source' fit problem
+    → (parts_of place * further_bases (sample value problem)) ≤ fit.limit)
     → ¬ IsRun words source source' out out' err err' (PivotLimit place limit trail)
 
 -- an operation in the start of the problem of a fit overflows

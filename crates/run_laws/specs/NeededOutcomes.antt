@@ -94,7 +94,8 @@ pub record WasPath (words : List (List ℕ)) (before now : Stream) (fit : FitJob
 -- the words and the bytes pose this problem: that of an input, that of one without tested columns, or that of a path
 abbrev pub WasPosed : List (List ℕ) → (before now : Stream) → FitJob → Problem Frac128 → Type 0
 WasPosed words before now fit problem =
-    ((input : Input) × WasInput words before now fit input × (input.problem ≡ problem)) ⊎ (WasRestricted words before now fit problem ⊎ WasPath words before now fit problem)
+    ((input : Input) × WasInput words before now fit input × (input.problem ≡ problem))
+    ⊎ (WasRestricted words before now fit problem ⊎ WasPath words before now fit problem)
 
 -- the lawful trail of the problem has as many pivots as the limit of the words says, with one more left; and the limit is
 -- less than twice the bases after the first

@@ -42,11 +42,13 @@ module _ (job : PathJob) (plain : PlainInput) where
   -- they lose least in each segment, and their sum never rises from one to the next
   pub record IsLeastPath (fit : PathFit) : Type 0 where
     pub least : All LosesLeast fit.process.segments
-    pub falls : (j : ℕ) → j + 1 < length fit.process.segments → sum_of (coefficients fit.process.segments (j + 1)) ≤ℚ sum_of (coefficients fit.process.segments j)
+    pub falls : (j : ℕ) → j + 1 < length fit.process.segments
+        → sum_of (coefficients fit.process.segments (j + 1)) ≤ℚ sum_of (coefficients fit.process.segments j)
 
 -- a printed path is such a one of the input that the bytes are
 abbrev pub PathIsLeast : Type 0
 PathIsLeast =
     (words : List (List ℕ)) (source source' out out' err err' : Stream) (fit : PathFit)
     → IsRun words source source' out out' err err' (Done (reports.Path fit))
-    → (job : PathJob) × (bytes : List ℕ) × (plain : PlainInput) × WereRead words source source' (jobs.Path job) bytes × IsPlain job.fit bytes plain × IsLeastPath job plain fit
+    → (job : PathJob) × (bytes : List ℕ) × (plain : PlainInput) × WereRead words source source' (jobs.Path job) bytes × IsPlain job.fit bytes plain
+    × IsLeastPath job plain fit

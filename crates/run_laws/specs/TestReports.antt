@@ -22,7 +22,8 @@ pub record IsRightTest (job : TestJob) (input : Input) (fit : TestFit) : Type 0 
   pub wilcoxon : List Fraction
   pub scored : AreScoredBy job.fit (restricted_problem job.tested input.problem) fit.process wilcoxon
   pub scores : AreScores value input.problem job.tested (value_at (λ x. x) wilcoxon) fit.scores
-  pub statistic : IsNestedStatistic (sample value input.problem) (slice_index job.tested) (length job.tested) (column_score (sample value input.problem) (value_at (λ x. x) wilcoxon)) (rational fit.statistic)
+  pub statistic : IsNestedStatistic (sample value input.problem) (slice_index job.tested) (length job.tested)
+      (column_score (sample value input.problem) (value_at (λ x. x) wilcoxon)) (rational fit.statistic)
   pub sign : whole (pos 0) ≤ℚ rational fit.statistic
 
 -- a printed test is such a one of the input that the bytes are
@@ -30,4 +31,5 @@ abbrev pub TestIsRight : Type 0
 TestIsRight =
     (words : List (List ℕ)) (source source' out out' err err' : Stream) (fit : TestFit)
     → IsRun words source source' out out' err err' (Done (reports.Test fit))
-    → (job : TestJob) × (bytes : List ℕ) × (input : Input) × WereRead words source source' (jobs.Test job) bytes × IsTested job bytes input × IsRightTest job input fit
+    → (job : TestJob) × (bytes : List ℕ) × (input : Input) × WereRead words source source' (jobs.Test job) bytes × IsTested job bytes input
+    × IsRightTest job input fit

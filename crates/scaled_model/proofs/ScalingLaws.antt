@@ -155,7 +155,8 @@ module _ (p q : Sample) (s : ℕ → ℚ) (ly lc : ℚ) (h : IsScaled p q s ly l
             ap (λ n. if is_among at n i then Basic else perturbed_side q.rows n at (outside_row q at a i)) h.columns
             ∙ ap (λ m. if is_among at p.columns i then Basic else perturbed_side m p.columns at (outside_row q at a i)) h.rows
             ∙ ap (λ (o : Side). if is_among at p.columns i then Basic else o)
-            (perturbed_side-same p.columns at (outside_row q at a i) (record { row = i; residual = ly *ℚ residual p (coefficient p at (unscaled s a)) i; coord = coord p (unscaled s a) i }) refl (residual-scaled i li) (λ j lj. coord-scaled i j li) p.rows
+            (perturbed_side-same p.columns at (outside_row q at a i) (record { row = i; residual = ly *ℚ residual p (coefficient p at (unscaled s a)) i; coord = coord p (unscaled s a) i }) refl (residual-scaled i li)
+            (λ j lj. coord-scaled i j li) p.rows
             ∙ perturbed_side-positive p.rows p.columns at ly i (residual p (coefficient p at (unscaled s a)) i) (coord p (unscaled s a) i) positive)
 
         bound-scaled : (part : Part) (i : ℕ) (side : Side) → i < p.rows → bound_part q part i side ≡ lc *ℚ bound_part p part i side

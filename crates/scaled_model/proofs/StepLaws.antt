@@ -52,7 +52,8 @@ module _ (p q : Sample) (s : ℕ → ℚ) (ly lc : ℚ) (h : IsScaled p q s ly l
   raised i = record { row = i; residual = ly *ℚ residual p (coefficient p at (unscaled s a)) i; coord = coord p (unscaled s a) i }
 
   -- a ratio of q, entry by entry: the first has the factor ly, the others are those of p
-  ratio_at : (i j m : ℕ) → i < p.rows → j < p.columns → ratio q.rows q.columns at j (outside_row q at a i) m ≡ turned (perturbed_side p.rows p.columns at (outside_row p at (unscaled s a) i)) (perturbed p.columns at (raised i) m *ℚ inverse (abs_ℚ (coord p (unscaled s a) i j)))
+  ratio_at : (i j m : ℕ) → i < p.rows → j < p.columns → ratio q.rows q.columns at j (outside_row q at a i) m
+      ≡ turned (perturbed_side p.rows p.columns at (outside_row p at (unscaled s a) i)) (perturbed p.columns at (raised i) m *ℚ inverse (abs_ℚ (coord p (unscaled s a) i j)))
   ratio_at i j m li lj =
       ap (λ n. ratio q.rows n at j (outside_row q at a i) m) h.columns
       ∙ ap (λ k. ratio k p.columns at j (outside_row q at a i) m) h.rows
@@ -66,7 +67,8 @@ module _ (p q : Sample) (s : ℕ → ℚ) (ly lc : ℚ) (h : IsScaled p q s ly l
   pub is_before-scaled : (j i r : ℕ) → j < p.columns → i < p.rows → r < p.rows → is_before q at a j i r ≡ is_before p at (unscaled s a) j i r
   is_before-scaled j i r lj li lr =
       ap is_lt (ap (λ k. lex_cmp (suc k) (ratio q.rows q.columns at j (outside_row q at a i)) (ratio q.rows q.columns at j (outside_row q at a r))) h.rows
-      ∙ lex_cmp-both (suc p.rows) (ratio q.rows q.columns at j (outside_row q at a i)) (ratio q.rows q.columns at j (outside_row q at a r)) (ratio p.rows p.columns at j (outside_row p at (unscaled s a) i)) (ratio p.rows p.columns at j (outside_row p at (unscaled s a) r)) by)
+      ∙ lex_cmp-both (suc p.rows) (ratio q.rows q.columns at j (outside_row q at a i)) (ratio q.rows q.columns at j (outside_row q at a r)) (ratio p.rows p.columns at j (outside_row p at (unscaled s a) i))
+      (ratio p.rows p.columns at j (outside_row p at (unscaled s a) r)) by)
     where
       first : (k : ℕ) → k < p.rows → ratio q.rows q.columns at j (outside_row q at a k) zero ≡ ly *ℚ ratio p.rows p.columns at j (outside_row p at (unscaled s a) k) zero
       first k lk =
@@ -75,7 +77,8 @@ module _ (p q : Sample) (s : ℕ → ℚ) (ly lc : ℚ) (h : IsScaled p q s ly l
           (ring_ℚ (ly ∷ residual p (coefficient p at (unscaled s a)) k ∷ inverse (abs_ℚ (coord p (unscaled s a) k j)) ∷ []) ((v0 ⊠ v1) ⊠ v2) (v0 ⊠ (v1 ⊠ v2)) refl)
           ∙ turned-mul (perturbed_side p.rows p.columns at (outside_row p at (unscaled s a) k)) ly (residual p (coefficient p at (unscaled s a)) k *ℚ inverse (abs_ℚ (coord p (unscaled s a) k j)))
 
-      by : (m : ℕ) → cmp_ℚ (ratio q.rows q.columns at j (outside_row q at a i) m) (ratio q.rows q.columns at j (outside_row q at a r) m) ≡ cmp_ℚ (ratio p.rows p.columns at j (outside_row p at (unscaled s a) i) m) (ratio p.rows p.columns at j (outside_row p at (unscaled s a) r) m)
+      by : (m : ℕ) → cmp_ℚ (ratio q.rows q.columns at j (outside_row q at a i) m) (ratio q.rows q.columns at j (outside_row q at a r) m)
+          ≡ cmp_ℚ (ratio p.rows p.columns at j (outside_row p at (unscaled s a) i) m) (ratio p.rows p.columns at j (outside_row p at (unscaled s a) r) m)
       by zero =
           ap₂ cmp_ℚ (first i li) (first r lr)
           ∙ cmp_both ly (ratio p.rows p.columns at j (outside_row p at (unscaled s a) i) zero) (ratio p.rows p.columns at j (outside_row p at (unscaled s a) r) zero) py
@@ -101,15 +104,18 @@ module _ (p q : Sample) (s : ℕ → ℚ) (ly lc : ℚ) (h : IsScaled p q s ly l
   slope_before-scaled theta j d r lj lr =
       ap₂ (λ x y. x +ℚ y) (slope-scaled p q s ly lc h a at within py theta j d lj)
       (ap (λ n. sum_ℚ n (λ i. if moves q at a j d i && is_before q at a j i r then passing q at a theta j i else whole (pos 0))) h.rows
-      ∙ sum_ℚ-same p.rows (λ i. if moves q at a j d i && is_before q at a j i r then passing q at a theta j i else whole (pos 0)) (λ i. lc *ℚ (if moves p at (unscaled s a) j d i && is_before p at (unscaled s a) j i r then passing p at (unscaled s a) theta j i else whole (pos 0))) each
+      ∙ sum_ℚ-same p.rows (λ i. if moves q at a j d i && is_before q at a j i r then passing q at a theta j i else whole (pos 0))
+      (λ i. lc *ℚ (if moves p at (unscaled s a) j d i && is_before p at (unscaled s a) j i r then passing p at (unscaled s a) theta j i else whole (pos 0))) each
       ∙ sum_ℚ-scale p.rows lc (λ i. if moves p at (unscaled s a) j d i && is_before p at (unscaled s a) j i r then passing p at (unscaled s a) theta j i else whole (pos 0)))
-      ∙ ring_ℚ (lc ∷ slope p at (unscaled s a) theta j d ∷ sum_ℚ p.rows (λ i. if moves p at (unscaled s a) j d i && is_before p at (unscaled s a) j i r then passing p at (unscaled s a) theta j i else whole (pos 0)) ∷ []) (v0 ⊠ v1 ⊞ v0 ⊠ v2) (v0 ⊠ (v1 ⊞ v2)) refl
+      ∙ ring_ℚ (lc ∷ slope p at (unscaled s a) theta j d ∷ sum_ℚ p.rows (λ i. if moves p at (unscaled s a) j d i && is_before p at (unscaled s a) j i r then passing p at (unscaled s a) theta j i else whole (pos 0)) ∷ []) (v0 ⊠ v1 ⊞ v0 ⊠ v2)
+      (v0 ⊠ (v1 ⊞ v2)) refl
     where
       by : (t : Bool) (x : ℚ) → (if t then lc *ℚ x else whole (pos 0)) ≡ lc *ℚ (if t then x else whole (pos 0))
       by true x = refl
       by false x = ring_ℚ (lc ∷ []) (number (pos 0)) (v0 ⊠ number (pos 0)) refl
 
-      each : (i : ℕ) → i < p.rows → (if moves q at a j d i && is_before q at a j i r then passing q at a theta j i else whole (pos 0)) ≡ lc *ℚ (if moves p at (unscaled s a) j d i && is_before p at (unscaled s a) j i r then passing p at (unscaled s a) theta j i else whole (pos 0))
+      each : (i : ℕ) → i < p.rows → (if moves q at a j d i && is_before q at a j i r then passing q at a theta j i else whole (pos 0)) ≡ lc
+          *ℚ (if moves p at (unscaled s a) j d i && is_before p at (unscaled s a) j i r then passing p at (unscaled s a) theta j i else whole (pos 0))
       each i li =
           ap₂ (λ t x. if t then x else whole (pos 0)) (ap₂ (λ m b. m && b) (moves-scaled j d i li) (is_before-scaled j i r lj li lr)) (passing-scaled theta j i li)
           ∙ by (moves p at (unscaled s a) j d i && is_before p at (unscaled s a) j i r) (passing p at (unscaled s a) theta j i)
@@ -141,15 +147,18 @@ module _ (p q : Sample) (s : ℕ → ℚ) (ly lc : ℚ) (h : IsScaled p q s ly l
         leaving = record {
           position = lj;
           negative = λ l. step.leaving.negative (forth (whole (pos 0)) (slope p at (unscaled s a) theta j d) (whole (pos 0)) (slope q at a theta j d) zero_is here l);
-          least = λ k e lk. back (slope p at (unscaled s a) theta j d) (slope p at (unscaled s a) theta k e) (slope q at a theta j d) (slope q at a theta k e) here (slope-scaled p q s ly lc h a at within py theta k e lk) (step.leaving.least k e (subst (λ n. k < n) (sym h.columns) lk));
-          first = λ k e lk l. step.leaving.first k e lk (forth (slope p at (unscaled s a) theta k e) (slope p at (unscaled s a) theta j d) (slope q at a theta k e) (slope q at a theta j d) (slope-scaled p q s ly lc h a at within py theta k e (omega (arith, lk, lj))) here l);
+          least = λ k e lk. back (slope p at (unscaled s a) theta j d) (slope p at (unscaled s a) theta k e) (slope q at a theta j d) (slope q at a theta k e) here (slope-scaled p q s ly lc h a at within py theta k e lk)
+              (step.leaving.least k e (subst (λ n. k < n) (sym h.columns) lk));
+          first = λ k e lk l. step.leaving.first k e lk (forth (slope p at (unscaled s a) theta k e) (slope p at (unscaled s a) theta j d) (slope q at a theta k e) (slope q at a theta j d)
+              (slope-scaled p q s ly lc h a at within py theta k e (omega (arith, lk, lj))) here l);
         };
         entering = record {
           row = lr;
           mover = sym (moves-scaled j d r lr) ∙ step.entering.mover;
           still = λ l. step.entering.still (forth (whole (pos 0)) (slope_before p at (unscaled s a) theta j d r) (whole (pos 0)) (slope_before q at a theta j d r) zero_is before l);
           turned = back (whole (pos 0)) (slope_before p at (unscaled s a) theta j d r +ℚ passing p at (unscaled s a) theta j r) (whole (pos 0)) (slope_before q at a theta j d r +ℚ passing q at a theta j r) zero_is
-              (ap₂ (λ x y. x +ℚ y) before (passing-scaled theta j r lr) ∙ ring_ℚ (lc ∷ slope_before p at (unscaled s a) theta j d r ∷ passing p at (unscaled s a) theta j r ∷ []) (v0 ⊠ v1 ⊞ v0 ⊠ v2) (v0 ⊠ (v1 ⊞ v2)) refl) step.entering.turned;
+              (ap₂ (λ x y. x +ℚ y) before (passing-scaled theta j r lr) ∙ ring_ℚ (lc ∷ slope_before p at (unscaled s a) theta j d r ∷ passing p at (unscaled s a) theta j r ∷ []) (v0 ⊠ v1 ⊞ v0 ⊠ v2) (v0 ⊠ (v1 ⊞ v2)) refl)
+              step.entering.turned;
         };
       }
 

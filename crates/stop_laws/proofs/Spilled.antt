@@ -22,7 +22,8 @@ use Rattle.pivot_rule.specs.declared.direction.Direction.TheVariants.{Upward, Do
 use Rattle.pivot_rule.specs.Spills.{IsCostSpill, IsFirstSlopeSpill, IsSearchSpill, of_cost_sum, of_passing, of_ratio, of_tie, IsStepSpill, of_basis, of_dual, of_cost, of_slope, of_search, of_exchange}
 use Rattle.walk_rule.specs.Families.{Family, over_quantiles}
 use Rattle.walk_rule.specs.WalkTrails.{is_below}
-use Rattle.walk_rule.specs.WalkSpills.{IsCrossingSpill, IsPivotSpill, of_ratio as at_ratio, of_tie as at_tie, of_exchange as at_exchange, IsEndSpill, of_dual as at_dual, of_cost as at_cost, of_loss as at_loss, IsStaySpill, of_basis as at_basis, of_crossing, of_lo, of_hi, of_pivot}
+use Rattle.walk_rule.specs.WalkSpills.{IsCrossingSpill, IsPivotSpill, of_ratio as at_ratio, of_tie as at_tie, of_exchange as at_exchange, IsEndSpill, of_dual as at_dual, of_cost as at_cost}
+use Rattle.walk_rule.specs.WalkSpills.{of_loss as at_loss, IsStaySpill, of_basis as at_basis, of_crossing, of_lo, of_hi, of_pivot}
 use Rattle.tau_process.specs.Solves.{IsSolveSpill}
 use Rattle.tau_process.specs.Stops.{IsProcessSpill}
 use Rattle.stop_laws.specs.NeededStops.{DoesOverflow}

@@ -78,7 +78,8 @@ module _ {F : Type 0} (limit : ℕ) (D : Halt F → Type 0) where
   by_halt Q memory reached spilled (Refused trail TooWide) s e h = absurd (cc e)
 
 -- an overflow that halts a solve stops it
-pub overflow_stops : {F : Type 0} (value : F → Fraction) (range : ℕ) (task : Task F) (theta : ℚ) (limit : ℕ) (trail : Trail F) (s : Spill F) → IsRefusedAfter value range task theta limit trail (Overflow s) → IsSolveSpill value range task.problem theta limit trail s
+pub overflow_stops : {F : Type 0} (value : F → Fraction) (range : ℕ) (task : Task F) (theta : ℚ) (limit : ℕ) (trail : Trail F) (s : Spill F) → IsRefusedAfter value range task theta limit trail (Overflow s)
+    → IsSolveSpill value range task.problem theta limit trail s
 overflow_stops {F = F} value range task theta limit trail s h =
     subst (λ (x : Task F). IsSolveSpill value range x.problem theta limit trail s) h.same
     (record {

@@ -38,7 +38,8 @@ trail_more {F} value p theta before after basis next s h e step start steps rise
     }
 
 -- the trail of a start
-pub trail_of_start : {F : Type 0} (value : F → Fraction) (p : Sample) (theta : ℚ) (trail : Trail F) (basis : List ℕ) → trail.start ≡ map Some basis → trail.steps ≡ [] → trail.rise ≡ [] → trail.fall ≡ [] → IsGreedyBasis p basis → IsSolvingTrail value p theta trail basis
+pub trail_of_start : {F : Type 0} (value : F → Fraction) (p : Sample) (theta : ℚ) (trail : Trail F) (basis : List ℕ) → trail.start ≡ map Some basis → trail.steps ≡ [] → trail.rise ≡ [] → trail.fall ≡ [] → IsGreedyBasis p basis
+    → IsSolvingTrail value p theta trail basis
 trail_of_start {F} value p theta trail basis start steps rise fall greedy =
     record {
       first = basis;

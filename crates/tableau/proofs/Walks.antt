@@ -62,7 +62,8 @@ pub step_ends : {F : Type 0} (value : F → Fraction) (h : Place F) (from hi : �
 step_ends value h from hi x step = inl (x.position, step.direction, step.break, below_from (rational (value x.theta)) hi step.within)
 
 -- an optimal basis is where a walk begins
-pub walk_begins : {F : Type 0} (value : F → Fraction) (task : Task F) (hi : ℚ) (limit : ℕ) (u : Progress F) (lo : F) → rational (value lo) ≤ℚ hi → IsSolved value task (rational (value lo)) limit u → IsWalking value task (rational (value lo)) hi (record { reached = u; segments = []; now = lo })
+pub walk_begins : {F : Type 0} (value : F → Fraction) (task : Task F) (hi : ℚ) (limit : ℕ) (u : Progress F) (lo : F) → rational (value lo) ≤ℚ hi → IsSolved value task (rational (value lo)) limit u
+    → IsWalking value task (rational (value lo)) hi (record { reached = u; segments = []; now = lo })
 walk_begins {F} value task hi limit u lo range h =
     record {
       is_place = h.underway.is_place;
@@ -157,10 +158,12 @@ module _ {F : Type 0} (value : F → Fraction) (task : Task F) (lo hi : ℚ) whe
       ends = subst (λ (t : Task F). EndsAt t.problem.columns (here_of value after).inverse) (k.same ∙ h.same) k.is_place.ends
 
       step : IsWalkingStep (over_quantiles (sample value task.problem)) (at_of (here_of value before)) (here_of value before).inverse (is_below hi) (now_of value before) (rational (value k.step.theta)) k.step.position k.step.row
-      step = at_task before h (λ p. IsWalkingStep (over_quantiles (sample value p)) (at_of (here_of value before)) (here_of value before).inverse (is_below hi) (now_of value before) (rational (value k.step.theta)) k.step.position k.step.row) k.is_step
+      step = at_task before h (λ p. IsWalkingStep (over_quantiles (sample value p)) (at_of (here_of value before)) (here_of value before).inverse (is_below hi) (now_of value before)
+          (rational (value k.step.theta)) k.step.position k.step.row) k.is_step
 
       arrived : (segments : List (Segment F)) → after.segments ≡ segments
-          → IsUnderway value task.problem lo hi (basis_after h.first h.solving) (h.walked ++ k.step ∷ []) segments (rational (value k.step.theta)) (slice_set (here_of value before).rows k.step.position k.step.row) (here_of value after).inverse
+          → IsUnderway value task.problem lo hi (basis_after h.first h.solving) (h.walked ++ k.step ∷ []) segments (rational (value k.step.theta)) (slice_set (here_of value before).rows k.step.position k.step.row)
+          (here_of value after).inverse
           → IsUnderway value task.problem lo hi (basis_after h.first h.solving) (h.walked ++ k.step ∷ []) after.segments (now_of value after) (here_of value after).rows (here_of value after).inverse
       arrived segments e u =
           subst (λ segs. IsUnderway value task.problem lo hi (basis_after h.first h.solving) (h.walked ++ k.step ∷ []) segs (now_of value after) (here_of value after).rows (here_of value after).inverse) (sym e)
@@ -197,7 +200,8 @@ module _ {F : Type 0} (value : F → Fraction) (task : Task F) (lo hi : ℚ) whe
       })
 
   -- and so does a step that is left at the limit
-  pub limit_walked : (limit : ℕ) (w : Walk F) (x : Exchange F) → IsWalking value task lo hi w → length w.reached.trail.steps ≡ limit → IsStepTo value (here_of value w) (now_of value w) hi x → ReachesWalkLimit value (sample value task.problem) lo hi limit w.reached.trail
+  pub limit_walked : (limit : ℕ) (w : Walk F) (x : Exchange F) → IsWalking value task lo hi w → length w.reached.trail.steps ≡ limit → IsStepTo value (here_of value w) (now_of value w) hi x
+      → ReachesWalkLimit value (sample value task.problem) lo hi limit w.reached.trail
   limit_walked limit w x h counted step =
       record {
         basis = (here_of value w).rows;
@@ -219,7 +223,8 @@ module _ {F : Type 0} (value : F → Fraction) (task : Task F) (lo hi : ℚ) whe
         }
 
     -- and its segment is the last one
-    pub walk_done : (s : Segment F) (segments : List (Segment F)) → IsSegmentHere value (here_of value w) (now_of value w) hi s → segments ≡ w.segments ++ s ∷ [] → IsWalkDone value task lo hi limit (record { segments = segments; trail = w.reached.trail })
+    pub walk_done : (s : Segment F) (segments : List (Segment F)) → IsSegmentHere value (here_of value w) (now_of value w) hi s → segments ≡ w.segments ++ s ∷ []
+        → IsWalkDone value task lo hi limit (record { segments = segments; trail = w.reached.trail })
     unfolding lawful_of
     walk_done s segments seg e =
         record {

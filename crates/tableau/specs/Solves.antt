@@ -15,7 +15,8 @@ use Rattle.pivot_rule.specs.Spills.{IsStepSpill}
 use Rattle.pivot_rule.specs.Trails.{AtBasis, IsSolvingTrail, ReachesLimit}
 
 -- an operation at the last basis of the lawful trail overflows
-pub record IsSolveSpill {F : Type 0} (value : F → Fraction) (range : ℕ) (p : Problem F) (theta : ℚ) (limit : ℕ) (trail : Trail F) (spill : Spill F) : Type 0 where
+pub record IsSolveSpill {F : Type 0} (value : F → Fraction) (range : ℕ) (p : Problem F) (theta : ℚ) (limit : ℕ) (trail : Trail F)
+    (spill : Spill F) : Type 0 where
   pub basis : List ℕ
   pub lawful : IsSolvingTrail value (sample value p) theta trail basis
   pub short : length trail.steps ≤ limit

@@ -90,7 +90,8 @@ module _ {F : Type 0} (value : F → Fraction) where
     pub now : ℚ
     pub lawful : IsProcessTrail value (sample value task.problem) lo hi q.trail basis now
     pub ended : IsWalkEnd (theta_value value) (over_quantiles (sample value task.problem)) (is_below hi) now basis
-    pub segments : AreSegmentsOf value task.problem (filter (is_reported lo hi) (stays (theta_value value) hi lo (basis_after lawful.first lawful.solving) lawful.walking)) q.segments
+    pub segments : AreSegmentsOf value task.problem (filter (is_reported lo hi)
+        (stays (theta_value value) hi lo (basis_after lawful.first lawful.solving) lawful.walking)) q.segments
     pub short : length q.trail.steps ≤ limit
 
   -- a lawful trail within the limit leads to a place of the task at which the question of a walk is refused

@@ -12,7 +12,8 @@ use Rattle.exact_algebra.specs.Rational.{ℚ, whole}
 use Rattle.tv_penalty.specs.Smoothings.{knot_at, placed, with_columns}
 
 -- one more item of numbers that count up from the first
-pub counted_more : {W Y : Type 0} (g : W → Y) (f : ℕ → Y) (first k j : ℕ) (olds news : List W) (w : W) → first + k ≡ j → map g olds ≡ map f (range_with_len first k) → news ≡ olds ++ w ∷ [] → g w ≡ f j → map g news ≡ map f (range_with_len first (k + 1))
+pub counted_more : {W Y : Type 0} (g : W → Y) (f : ℕ → Y) (first k j : ℕ) (olds news : List W) (w : W) → first + k ≡ j → map g olds ≡ map f (range_with_len first k) → news ≡ olds ++ w ∷ [] → g w ≡ f j
+    → map g news ≡ map f (range_with_len first (k + 1))
 counted_more g f first k j olds news w at so_far more made =
     ap (map g) more ∙ map-append g olds (w ∷ []) ∙ ap₂ (λ xs y. xs ++ y ∷ []) so_far made ∙ sym (map-range_with_len_more f first k j at)
 
@@ -31,14 +32,16 @@ columns_of_knots true [] = omega arith
 columns_of_knots true (x ∷ xs) = omega arith
 
 -- a loop's step: one more item, which is to g what f makes of the item at k
-pub mapped_more : {W X Y : Type 0} (g : W → Y) (f : X → Y) (xs : List X) (k : ℕ) (x : X) (start : List Y) (olds news : List W) (w : W) → k < length xs → x ≡ get_or xs k x → map g olds ≡ start ++ map f (take k xs) → news ≡ olds ++ w ∷ [] → g w ≡ f x → map g news ≡ start ++ map f (take (k + 1) xs)
+pub mapped_more : {W X Y : Type 0} (g : W → Y) (f : X → Y) (xs : List X) (k : ℕ) (x : X) (start : List Y) (olds news : List W) (w : W) → k < length xs → x ≡ get_or xs k x → map g olds ≡ start ++ map f (take k xs) → news ≡ olds ++ w ∷ []
+    → g w ≡ f x → map g news ≡ start ++ map f (take (k + 1) xs)
 mapped_more g f xs k x start olds news w within here so_far more made =
     ap (map g) more ∙ map-append g olds (w ∷ []) ∙ ap (λ y. map g olds ++ y ∷ []) (made ∙ ap f here) ∙ ap (λ z. z ++ f (get_or xs k x) ∷ []) so_far
     ∙ append_assoc start (map f (take k xs)) (f (get_or xs k x) ∷ [])
     ∙ ap (λ z. start ++ z) (sym (map-append f (take k xs) (get_or xs k x ∷ [])) ∙ ap (map f) (sym (take_more xs k x within)))
 
 -- the same of the items themselves
-pub pushed_more : {X Y : Type 0} (same : Y → Y) (f : X → Y) (xs : List X) (k : ℕ) (x : X) (start olds news : List Y) (w : Y) → k < length xs → x ≡ get_or xs k x → olds ≡ start ++ map f (take k xs) → news ≡ olds ++ w ∷ [] → w ≡ f x → news ≡ start ++ map f (take (k + 1) xs)
+pub pushed_more : {X Y : Type 0} (same : Y → Y) (f : X → Y) (xs : List X) (k : ℕ) (x : X) (start olds news : List Y) (w : Y) → k < length xs → x ≡ get_or xs k x → olds ≡ start ++ map f (take k xs) → news ≡ olds ++ w ∷ [] → w ≡ f x
+    → news ≡ start ++ map f (take (k + 1) xs)
 pushed_more same f xs k x start olds news w within here so_far more made =
     sym (map-id news) ∙ mapped_more (λ y. y) f xs k x start olds news w within here (map-id olds ∙ so_far) more made
 
@@ -47,7 +50,8 @@ each_more f k [] x = ap (λ n. f n x ∷ []) (omega arith)
 each_more f k (y ∷ ys) x = ap (λ z. f k y ∷ z) (each_more f (k + 1) ys x ∙ ap (λ n. each f (k + 1) ys ++ f n x ∷ []) (omega arith))
 
 -- one more item that is numbered
-pub each_pushed : {W V X Y : Type 0} (g : W → Y) (see : V → X) (f : ℕ → X → Y) (xs : List V) (k : ℕ) (x : V) (start : List Y) (olds news : List W) (w : W) → k < length xs → x ≡ get_or xs k x → map g olds ≡ start ++ each f 0 (map see (take k xs)) → news ≡ olds ++ w ∷ [] → g w ≡ f k (see x)
+pub each_pushed : {W V X Y : Type 0} (g : W → Y) (see : V → X) (f : ℕ → X → Y) (xs : List V) (k : ℕ) (x : V) (start : List Y) (olds news : List W) (w : W) → k < length xs → x ≡ get_or xs k x
+    → map g olds ≡ start ++ each f 0 (map see (take k xs)) → news ≡ olds ++ w ∷ [] → g w ≡ f k (see x)
     → map g news ≡ start ++ each f 0 (map see (take (k + 1) xs))
 each_pushed g see f xs k x start olds news w within here so_far more made =
     let n : 0 + length (map see (take k xs)) ≡ k = omega (arith, length-map (take k xs) see, length-take-le k xs (omega arith)) in

@@ -27,7 +27,8 @@ fits site l r left right el er not o =
     not (subst (λ z. OverflowsAt (2 ^ 127 - 1) site.kind (value l) (value z)) b (subst (λ z. OverflowsAt (2 ^ 127 - 1) site.kind (value z) (value o.0.right)) a o.1.overflows))
 
 -- the spill of an operation on these numbers, which overflows
-pub spilt : (site : Site) (l r : Frac128) (left right : ℚ) (s : Spill Frac128) → exact l ≡ left → exact r ≡ right → s ≡ record { site = site; left = l; right = r } → OverflowsAt (2 ^ 127 - 1) site.kind (value l) (value r) → IsSpillOf (record { site = site; left = left; right = right }) s
+pub spilt : (site : Site) (l r : Frac128) (left right : ℚ) (s : Spill Frac128) → exact l ≡ left → exact r ≡ right → s ≡ record { site = site; left = l; right = r } → OverflowsAt (2 ^ 127 - 1) site.kind (value l) (value r)
+    → IsSpillOf (record { site = site; left = left; right = right }) s
 spilt site l r left right s el er is over =
     subst (IsSpillOf (record { site = site; left = left; right = right })) (sym is)
     (record { named = refl_site; is_left = el; is_right = er; overflows = over })
@@ -75,7 +76,11 @@ first_behind (x ∷ xs) ys s h k = inr (h.0, first_behind xs ys s h.1 k)
 module _ (f : ℕ → List SitedOperation) where
   range_split : (a k n : ℕ) → k < n → flat_map f (range_with_len a n) ≡ flat_map f (range_with_len a k) ++ (f (a + k) ++ flat_map f (range_with_len (a + k + 1) (n - (k + 1))))
   range_split a zero zero l = absurd (omega arith)
-  range_split a zero (suc n) l = cc (ap f (let e : a ≡ a + zero = omega arith in e), ap (λ m. flat_map f (range_with_len m n)) (let e : a + 1 ≡ a + zero + 1 = omega arith in e), ap (λ m. flat_map f (range_with_len (a + zero + 1) m)) (let e : n ≡ suc n - (zero + 1) = omega arith in e))
+  range_split a zero (suc n) l = cc (
+    ap f (let e : a ≡ a + zero = omega arith in e),
+    ap (λ m. flat_map f (range_with_len m n)) (let e : a + 1 ≡ a + zero + 1 = omega arith in e),
+    ap (λ m. flat_map f (range_with_len (a + zero + 1) m)) (let e : n ≡ suc n - (zero + 1) = omega arith in e),
+  )
   range_split a (suc k) zero l = absurd (omega arith)
   range_split a (suc k) (suc n) l =
       ap (λ z. f a ++ z) (range_split (a + 1) k n (omega arith))

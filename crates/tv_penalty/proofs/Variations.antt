@@ -45,7 +45,8 @@ along_placed columns before xs b =
     let after = replicate (columns - (before + length xs)) (whole (pos 0)) in
     let n : length zeros ≡ before = length-replicate before (whole (pos 0)) in
     along_append zeros (xs ++ after) b
-    ∙ ap₂ ◌+ℚ◌ (along_zeros before b) (along_same (xs ++ after) (λ j. b (length zeros + j)) (λ j. b (before + j)) (λ j. ap (λ m. b (m + j)) n) ∙ along_append xs after (λ j. b (before + j)) ∙ ap (λ z. along xs (λ j. b (before + j)) +ℚ z) (along_zeros (columns - (before + length xs)) (λ j. b (before + (length xs + j)))))
+    ∙ ap₂ ◌+ℚ◌ (along_zeros before b) (along_same (xs ++ after) (λ j. b (length zeros + j)) (λ j. b (before + j)) (λ j. ap (λ m. b (m + j)) n) ∙ along_append xs after (λ j. b (before + j))
+    ∙ ap (λ z. along xs (λ j. b (before + j)) +ℚ z) (along_zeros (columns - (before + length xs)) (λ j. b (before + (length xs + j)))))
     ∙ ring_ℚ (along xs (λ j. b (before + j)) ∷ []) (number (pos 0) ⊞ (v0 ⊞ number (pos 0))) v0 refl
 
 -- the first knot's value is 0 where it has no column
@@ -115,15 +116,18 @@ module _ (table : Table) (rows : List DesignRow) (intercept : Bool) (columns : �
   nought : (x : ℚ) → whole (pos 0) ≤ℚ x → is_lt (cmp_ℚ (whole (pos 0)) x) ≡ false → x ≡ whole (pos 0)
   nought x h = by_cmp (whole (pos 0)) x (λ o. is_lt o ≡ false → x ≡ whole (pos 0)) (λ l e. absurd (cc e)) (λ s e. sym s) (λ g e. absurd (g h))
 
-  one_smooth : (before : ℕ) (s : Smooth) → whole (pos 0) ≤ℚ exact s.lambda → let p = part_of true table rows s in penalty (each (bend_row intercept columns before p) 0 p.bends) b ≡ p.lambda *ℚ total_variation p.knots (values intercept (λ j. b (before + j)))
+  one_smooth : (before : ℕ) (s : Smooth) → whole (pos 0) ≤ℚ exact s.lambda → let p = part_of true table rows s in
+      penalty (each (bend_row intercept columns before p) 0 p.bends) b ≡ p.lambda *ℚ total_variation p.knots (values intercept (λ j. b (before + j)))
   unfolding part_of
   one_smooth before s h = by (is_lt (cmp_ℚ (whole (pos 0)) (exact s.lambda))) refl
     where
-      by : (t : Bool) → is_lt (cmp_ℚ (whole (pos 0)) (exact s.lambda)) ≡ t → let p = part_of true table rows s in penalty (each (bend_row intercept columns before p) 0 p.bends) b ≡ p.lambda *ℚ total_variation p.knots (values intercept (λ j. b (before + j)))
+      by : (t : Bool) → is_lt (cmp_ℚ (whole (pos 0)) (exact s.lambda)) ≡ t → let p = part_of true table rows s in
+          penalty (each (bend_row intercept columns before p) 0 p.bends) b ≡ p.lambda *ℚ total_variation p.knots (values intercept (λ j. b (before + j)))
       by false e = smooth_free intercept columns before (part_of true table rows s) b (ap (λ t. if t then bends_of (knots_of table rows s) else []) e) (nought (exact s.lambda) h e)
       by true e = smooth_costs intercept columns before (part_of true table rows s) b (ap (λ t. if t then bends_of (knots_of table rows s) else []) e)
 
-  rows_vary : (before : ℕ) (ss : List Smooth) → All (λ s. whole (pos 0) ≤ℚ exact s.lambda) ss → penalty (rows_from intercept columns before (map (part_of true table rows) ss)) b ≡ variation_from intercept before (map (part_of true table rows) ss) b
+  rows_vary : (before : ℕ) (ss : List Smooth) → All (λ s. whole (pos 0) ≤ℚ exact s.lambda) ss → penalty (rows_from intercept columns before (map (part_of true table rows) ss)) b
+      ≡ variation_from intercept before (map (part_of true table rows) ss) b
   rows_vary before [] h = refl
   rows_vary before (s ∷ ss) h =
       let p = part_of true table rows s in

@@ -1,6 +1,7 @@
 -- The lists and rows that smooths add have an entry for each name.
 use Rattle.std.specs.Prelude.{All, IfOk, OnOk}
-use Rattle.std.proofs.Common.{◌≡◌, ◌≤◌, ◌+◌, ◌-◌, ℕ, ◌++◌, ◌&&◌, Bool, true, false, List, [], ◌∷◌, Option, Some, None, Result, Ok, Err, Less, length, get_or, map, pos, replicate, nat_lt, if◌then◌else◌, refl, sym, ap, subst, ◌∙◌, arith, length-append}
+use Rattle.std.proofs.Common.{◌≡◌, ◌≤◌, ◌+◌, ◌-◌, ℕ, ◌++◌, ◌&&◌, Bool, true, false, List, [], ◌∷◌, Option, Some, None, Result}
+use Rattle.std.proofs.Common.{Ok, Err, Less, length, get_or, map, pos, replicate, nat_lt, if◌then◌else◌, refl, sym, ap, subst, ◌∙◌, arith, length-append}
 use Rattle.std.specs.List.{flat_map}
 use Rattle.std.specs.Option.{option_or}
 use Rattle.std.specs.Ordering.{is_lt}
@@ -25,7 +26,8 @@ use Rattle.tv_penalty.specs.declared.Smoothing.{Smoothing}
 use Rattle.tv_penalty.specs.Faults.{AreSound, IsSound, Setting, columns_fault, columns_in, knots_fault, setting_of}
 use Rattle.tv_penalty.specs.Knots.{knots_of}
 use Rattle.tv_penalty.specs.Shapes.{IsShaped}
-use Rattle.tv_penalty.specs.Smoothings.{Bend, PartOf, PenaltyOf, bend_after, bend_entries, bend_row, bends_of, exact_penalty, exact_smoothing, has_rows, knot_entry, knot_name, part_entries, part_names, part_of, placed, rows_from, smoothing_by, smoothing_of, width, with_columns}
+use Rattle.tv_penalty.specs.Smoothings.{Bend, PartOf, PenaltyOf, bend_after, bend_entries, bend_row, bends_of, exact_penalty, exact_smoothing, has_rows, knot_entry}
+use Rattle.tv_penalty.specs.Smoothings.{knot_name, part_entries, part_names, part_of, placed, rows_from, smoothing_by, smoothing_of, width, with_columns}
 use Rattle.tv_penalty.proofs.Lists.{columns_of_knots}
 
 -- what holds of all that a function makes holds behind it
@@ -35,7 +37,14 @@ unmapped f P xs h k d l = subst P (get_or-map f xs k d (f d) l) (h k (f d) (omeg
 entries_wide : (b : Bool) (row : DesignRow) (ps : List PartOf) → length (flat_map (part_entries b row) ps) ≡ length (flat_map (part_names b) ps)
 entries_wide b row [] = refl
 entries_wide b row (p ∷ ps) =
-    omega (arith, length-append (part_entries b row p) (flat_map (part_entries b row) ps), length-append (part_names b p) (flat_map (part_names b) ps), entries_wide b row ps, length-map (with_columns b p.knots) (knot_entry (number_in p.cells (row.rec - 1))), length-map (with_columns b p.knots) (knot_name p.name))
+    omega (
+      arith,
+      length-append (part_entries b row p) (flat_map (part_entries b row) ps),
+      length-append (part_names b p) (flat_map (part_names b) ps),
+      entries_wide b row ps,
+      length-map (with_columns b p.knots) (knot_entry (number_in p.cells (row.rec - 1))),
+      length-map (with_columns b p.knots) (knot_name p.name),
+    )
 
 placed_wide : (columns before : ℕ) (xs : List ℚ) → before + length xs ≤ columns → length (placed columns before xs) ≡ columns
 placed_wide columns before xs l =
@@ -130,7 +139,13 @@ first_names at number before (s ∷ ss) h l =
     let ks = knots_of at.table at.rows s in
     let p = part_of at.penalised at.table at.rows s in
     let wide = many at.table at.rows s (none_left (knots_fault at.table at.rows s) (columns_fault (before + columns_in at s)) h.0.plain) in
-    omega (arith, wide, columns_of_knots at.intercept ks, length-append (part_names at.intercept p) (flat_map (part_names at.intercept) (map (part_of at.penalised at.table at.rows) ss)), length-map (with_columns at.intercept ks) (knot_name s.name))
+    omega (
+      arith,
+      wide,
+      columns_of_knots at.intercept ks,
+      length-append (part_names at.intercept p) (flat_map (part_names at.intercept) (map (part_of at.penalised at.table at.rows) ss)),
+      length-map (with_columns at.intercept ks) (knot_name s.name),
+    )
 
 -- a smoothing by its definition
 pub shaped : (pen : Bool) (table : Table) (design : Design) (model : Formula) (s : Smoothing) → exact_smoothing s ≡ smoothing_by pen table design model → IsSound pen table design model → IsShaped design model s
@@ -165,6 +180,7 @@ shaped pen table design model s is sound = record {
         (rows_wide b pen table design.rows (length (flat_map (part_names b) ps)) 0 model.smooths (omega arith)))
 
 -- the same of an answer
-pub shaped_result : (pen : Bool) (table : Table) (design : Design) (model : Formula) (r : Result Smoothing PenaltyFault) → IfOk r (λ s. exact_smoothing s ≡ smoothing_by pen table design model) → OnOk r (IsSound pen table design model) → IfOk r (IsShaped design model)
+pub shaped_result : (pen : Bool) (table : Table) (design : Design) (model : Formula) (r : Result Smoothing PenaltyFault) → IfOk r (λ s. exact_smoothing s ≡ smoothing_by pen table design model) → OnOk r (IsSound pen table design model)
+    → IfOk r (IsShaped design model)
 shaped_result pen table design model (Ok s) is sound = shaped pen table design model s is sound
 shaped_result pen table design model (Err e) is sound = tt

@@ -34,7 +34,8 @@ module _ (p : Sample) (at next : ℕ → ℕ) (a b : ℕ → ℕ → ℚ) (basis
       gone : (j : ℕ) → j < p.columns → sum_ℚ p.columns (λ k. p.x (at j) k *ℚ (coefficient_for p next b v k -ℚ coefficient_for p at a v k)) ≡ whole (pos 0)
       gone j lj =
           let place : (l : ℕ) × (l < p.columns) × (next l ≡ at j) = among_place next p.columns (at j) (same (at j) ∙ among_at at p.columns j lj) in
-          sum_ℚ-same p.columns (λ k. p.x (at j) k *ℚ (coefficient_for p next b v k -ℚ coefficient_for p at a v k)) (λ k. (whole (pos 1) *ℚ (p.x (at j) k *ℚ coefficient_for p next b v k)) +ℚ (neg_ℚ (whole (pos 1)) *ℚ (p.x (at j) k *ℚ coefficient_for p at a v k)))
+          sum_ℚ-same p.columns (λ k. p.x (at j) k *ℚ (coefficient_for p next b v k -ℚ coefficient_for p at a v k))
+          (λ k. (whole (pos 1) *ℚ (p.x (at j) k *ℚ coefficient_for p next b v k)) +ℚ (neg_ℚ (whole (pos 1)) *ℚ (p.x (at j) k *ℚ coefficient_for p at a v k)))
           (λ k lk. ring_ℚ (p.x (at j) k ∷ coefficient_for p next b v k ∷ coefficient_for p at a v k ∷ []) (v0 ⊠ (v1 ⊟ v2)) (number (pos 1) ⊠ (v0 ⊠ v1) ⊞ negated (number (pos 1)) ⊠ (v0 ⊠ v2)) refl)
           ∙ sum_ℚ-mix p.columns (whole (pos 1)) (neg_ℚ (whole (pos 1))) (λ k. p.x (at j) k *ℚ coefficient_for p next b v k) (λ k. p.x (at j) k *ℚ coefficient_for p at a v k)
           ∙ ap₂ (λ y z. (whole (pos 1) *ℚ y) +ℚ (neg_ℚ (whole (pos 1)) *ℚ z))

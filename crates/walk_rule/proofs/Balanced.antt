@@ -70,7 +70,8 @@ module _ (f : Family) (at : ℕ → ℕ) (a : ℕ → ℕ → ℚ) (basis : IsBa
     weighed : (j : ℕ) → sum_ℚ p.rows (λ i. e i *ℚ coord p a i j) ≡ coordinate p.columns a f.right j *ℚ t
     weighed j =
         sum_ℚ-same p.rows (λ i. e i *ℚ coord p a i j) (λ i. sum_ℚ p.columns (λ l. a l j *ℚ (e i *ℚ p.x i l)))
-        (λ i li. sym (sum_ℚ-scale p.columns (e i) (λ l. p.x i l *ℚ a l j)) ∙ sum_ℚ-same p.columns (λ l. e i *ℚ (p.x i l *ℚ a l j)) (λ l. a l j *ℚ (e i *ℚ p.x i l)) (λ l ll. ring_ℚ (e i ∷ p.x i l ∷ a l j ∷ []) (v0 ⊠ (v1 ⊠ v2)) (v2 ⊠ (v0 ⊠ v1)) refl))
+        (λ i li. sym (sum_ℚ-scale p.columns (e i) (λ l. p.x i l *ℚ a l j)) ∙ sum_ℚ-same p.columns (λ l. e i *ℚ (p.x i l *ℚ a l j)) (λ l. a l j *ℚ (e i *ℚ p.x i l))
+        (λ l ll. ring_ℚ (e i ∷ p.x i l ∷ a l j ∷ []) (v0 ⊠ (v1 ⊠ v2)) (v2 ⊠ (v0 ⊠ v1)) refl))
         ∙ sum_ℚ-swap p.rows p.columns (λ i l. a l j *ℚ (e i *ℚ p.x i l))
         ∙ sum_ℚ-same p.columns (λ l. sum_ℚ p.rows (λ i. a l j *ℚ (e i *ℚ p.x i l))) (λ l. t *ℚ (f.right l *ℚ a l j))
         (λ l ll. sum_ℚ-scale p.rows (a l j) (λ i. e i *ℚ p.x i l) ∙ ap (λ z. a l j *ℚ z) (weighs l ll) ∙ ring_ℚ (a l j ∷ f.right l ∷ t ∷ []) (v0 ⊠ (v1 ⊠ v2)) (v2 ⊠ (v1 ⊠ v0)) refl)

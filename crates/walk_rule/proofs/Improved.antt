@@ -101,7 +101,8 @@ module _ (p : Sample) (at next : ℕ → ℕ) (a b : ℕ → ℕ → ℚ) (j r :
   over Upward x = neg_ℚ x
   over Downward x = x
 
-  quotient_by : (e : Direction) (m : ℕ) → ratios p at a basis j d r m ≡ neg_ℚ (residual_for p at a (response p m) r *ℚ inverse (change p at a j e r)) → residual_for p at a (response p m) r *ℚ inverse cr ≡ over e (ratios p at a basis j d r m)
+  quotient_by : (e : Direction) (m : ℕ) → ratios p at a basis j d r m ≡ neg_ℚ (residual_for p at a (response p m) r *ℚ inverse (change p at a j e r))
+      → residual_for p at a (response p m) r *ℚ inverse cr ≡ over e (ratios p at a basis j d r m)
   unfolding over
   quotient_by Upward m h = ring_ℚ ((residual_for p at a (response p m) r *ℚ inverse cr) ∷ []) v0 (negated (negated v0)) refl ∙ ap neg_ℚ (sym h)
   quotient_by Downward m h =
@@ -192,7 +193,8 @@ module _ (p : Sample) (at next : ℕ → ℕ) (a b : ℕ → ℕ → ℚ) (j r :
   -- ---- over quantiles
 
   -- the prices at a quantile balance at the position
-  excess_none : (t : ℚ) (e : Direction) → slope_in (over_quantiles p) at a t j e ≡ whole (pos 0) → price p at a basis (up_cost p t) (down_cost p t) (at j) (side_towards e) +ℚ sum_ℚ p.rows (λ i. priced p at a basis (up_cost p t) (down_cost p t) i *ℚ c i) ≡ whole (pos 0)
+  excess_none : (t : ℚ) (e : Direction) → slope_in (over_quantiles p) at a t j e ≡ whole (pos 0)
+      → price p at a basis (up_cost p t) (down_cost p t) (at j) (side_towards e) +ℚ sum_ℚ p.rows (λ i. priced p at a basis (up_cost p t) (down_cost p t) i *ℚ c i) ≡ whole (pos 0)
   excess_none t e meets = ap (λ z. price p at a basis (up_cost p t) (down_cost p t) (at j) (side_towards e) +ℚ z) balance ∙ by e (sym (slope_is p at a t j e) ∙ meets)
     where
       same : (i : ℕ) (s : Side) → price p at a basis (up_cost p t) (down_cost p t) i s ≡ value_of_side p t (λ i. whole (pos 0)) i s
@@ -221,7 +223,8 @@ module _ (p : Sample) (at next : ℕ → ℕ) (a b : ℕ → ℕ → ℚ) (j r :
   linear_balance : sum_ℚ p.rows (λ i. priced p at a basis p.up1 p.down1 i *ℚ c i) ≡ neg_ℚ (basic_dual p at a Linear j)
   linear_balance =
       sum_ℚ-same p.rows (λ i. priced p at a basis p.up1 p.down1 i *ℚ c i) (λ i. sum_ℚ p.columns (λ k. a k j *ℚ (p.x i k *ℚ β i)))
-      (λ i li. ap (λ z. z *ℚ c i) (same i (side_at p at a i)) ∙ sym (sum_ℚ-scale p.columns (β i) (λ k. p.x i k *ℚ a k j)) ∙ sum_ℚ-same p.columns (λ k. β i *ℚ (p.x i k *ℚ a k j)) (λ k. a k j *ℚ (p.x i k *ℚ β i)) (λ k lk. ring_ℚ (β i ∷ p.x i k ∷ a k j ∷ []) (v0 ⊠ (v1 ⊠ v2)) (v2 ⊠ (v1 ⊠ v0)) refl))
+      (λ i li. ap (λ z. z *ℚ c i) (same i (side_at p at a i)) ∙ sym (sum_ℚ-scale p.columns (β i) (λ k. p.x i k *ℚ a k j))
+      ∙ sum_ℚ-same p.columns (λ k. β i *ℚ (p.x i k *ℚ a k j)) (λ k. a k j *ℚ (p.x i k *ℚ β i)) (λ k lk. ring_ℚ (β i ∷ p.x i k ∷ a k j ∷ []) (v0 ⊠ (v1 ⊠ v2)) (v2 ⊠ (v1 ⊠ v0)) refl))
       ∙ sum_ℚ-swap p.rows p.columns (λ i k. a k j *ℚ (p.x i k *ℚ β i))
       ∙ sum_ℚ-same p.columns (λ k. sum_ℚ p.rows (λ i. a k j *ℚ (p.x i k *ℚ β i))) (λ k. whole (negsuc 0) *ℚ (neg_ℚ (nonbasic_total p (side_at p at a) Linear k) *ℚ a k j))
       (λ k lk. sum_ℚ-scale p.rows (a k j) (λ i. p.x i k *ℚ β i) ∙ ring_ℚ (a k j ∷ nonbasic_total p (side_at p at a) Linear k ∷ []) (v0 ⊠ v1) (number (negsuc 0) ⊠ (negated v1 ⊠ v0)) refl)
@@ -280,7 +283,8 @@ module _ (p : Sample) (at next : ℕ → ℕ) (a b : ℕ → ℕ → ℚ) (j r :
         (ring_ℚ (a k j ∷ inverse cr ∷ residual_for p at a (response p m) r ∷ []) ((v0 ⊠ v1) ⊠ v2) (v0 ⊠ (v2 ⊠ v1)) refl ∙ ap (λ z. a k j *ℚ z) (quotient m))
 
     -- where the multiple of the ratio is positive it rises
-    raised : (g : ℚ) → whole (pos 0) <ℚ g → ((m : ℕ) → perturbed_coefficient p next b k m ≡ perturbed_coefficient p at a k m +ℚ (g *ℚ ratios p at a basis j d r m)) → lex_cmp (suc p.rows) (perturbed_coefficient p at a k) (perturbed_coefficient p next b k) ≡ Less
+    raised : (g : ℚ) → whole (pos 0) <ℚ g → ((m : ℕ) → perturbed_coefficient p next b k m ≡ perturbed_coefficient p at a k m +ℚ (g *ℚ ratios p at a basis j d r m))
+        → lex_cmp (suc p.rows) (perturbed_coefficient p at a k) (perturbed_coefficient p next b k) ≡ Less
     raised g above moved =
         lex_cmp-by (suc p.rows) (perturbed_coefficient p at a k) (perturbed_coefficient p next b k) zeros (λ m. g *ℚ ratios p at a basis j d r m)
         (λ m. cmp_by (perturbed_coefficient p at a k m) (perturbed_coefficient p next b k m) (whole (pos 0)) (g *ℚ ratios p at a basis j d r m)
@@ -288,7 +292,8 @@ module _ (p : Sample) (at next : ℕ → ℕ) (a b : ℕ → ℕ → ℚ) (j r :
         ∙ lex_cmp_swap (suc p.rows) (λ m. g *ℚ ratios p at a basis j d r m) zeros
         ∙ ap ordering_reverse (sign_scaled (suc p.rows) g (ratios p at a basis j d r) above ∙ ratio_positive p at a basis j d r first)
 
-    lowered : (g : ℚ) → whole (pos 0) <ℚ g → ((m : ℕ) → perturbed_coefficient p next b k m ≡ perturbed_coefficient p at a k m -ℚ (g *ℚ ratios p at a basis j d r m)) → lex_cmp (suc p.rows) (perturbed_coefficient p next b k) (perturbed_coefficient p at a k) ≡ Less
+    lowered : (g : ℚ) → whole (pos 0) <ℚ g → ((m : ℕ) → perturbed_coefficient p next b k m ≡ perturbed_coefficient p at a k m -ℚ (g *ℚ ratios p at a basis j d r m))
+        → lex_cmp (suc p.rows) (perturbed_coefficient p next b k) (perturbed_coefficient p at a k) ≡ Less
     lowered g above moved =
         lex_cmp-by (suc p.rows) (perturbed_coefficient p next b k) (perturbed_coefficient p at a k) zeros (λ m. g *ℚ ratios p at a basis j d r m)
         (λ m. cmp_by (perturbed_coefficient p next b k m) (perturbed_coefficient p at a k m) (whole (pos 0)) (g *ℚ ratios p at a basis j d r m)
@@ -303,7 +308,8 @@ module _ (p : Sample) (at next : ℕ → ℕ) (a b : ℕ → ℕ → ℚ) (j r :
     unfolding over
     rises_by tau Upward falls moved =
         raised (neg_ℚ (a k j))
-        (positive_neg (a k j) (subst (λ z. z <ℚ whole (pos 0)) (ring_ℚ (coordinate p.columns a (λ l. neg_ℚ (delta k l)) j ∷ []) (number (pos 0) ⊟ (number (pos 0) ⊞ v0)) (negated v0) refl ∙ ap neg_ℚ (negated_entry p tau k at a j lk) ∙ ring_ℚ (a k j ∷ []) (negated (negated v0)) v0 refl) falls))
+        (positive_neg (a k j) (subst (λ z. z <ℚ whole (pos 0)) (ring_ℚ (coordinate p.columns a (λ l. neg_ℚ (delta k l)) j ∷ []) (number (pos 0) ⊟ (number (pos 0) ⊞ v0)) (negated v0) refl ∙ ap neg_ℚ (negated_entry p tau k at a j lk)
+        ∙ ring_ℚ (a k j ∷ []) (negated (negated v0)) v0 refl) falls))
         (λ m. moved m ∙ ring_ℚ (perturbed_coefficient p at a k m ∷ a k j ∷ ratios p at a basis j d r m ∷ []) (v0 ⊞ v1 ⊠ negated v2) (v0 ⊞ negated v1 ⊠ v2) refl)
     rises_by tau Downward falls moved =
         raised (a k j)

@@ -59,7 +59,8 @@ filter_more : (test : Stay → Bool) (xs : List Stay) (x : Stay) → filter test
 filter_more test [] x = refl
 filter_more test (y ∷ xs) x = by (test y) (filter_more test xs x)
   where
-    by : (t : Bool) → filter test (xs ++ x ∷ []) ≡ filter test xs ++ cond (test x) (x ∷ []) [] → cond t (y ∷ filter test (xs ++ x ∷ [])) (filter test (xs ++ x ∷ [])) ≡ cond t (y ∷ filter test xs) (filter test xs) ++ cond (test x) (x ∷ []) []
+    by : (t : Bool) → filter test (xs ++ x ∷ []) ≡ filter test xs ++ cond (test x) (x ∷ []) [] → cond t (y ∷ filter test (xs ++ x ∷ [])) (filter test (xs ++ x ∷ []))
+        ≡ cond t (y ∷ filter test xs) (filter test xs) ++ cond (test x) (x ∷ []) []
     by true ih = ap (λ zs. y ∷ zs) ih
     by false ih = ih
 

@@ -43,7 +43,8 @@ module _ {F : Type 0} (when : F → ℚ) (f : Family) (reach : ℚ → Bool) (me
       (subst (λ a. IsWalkingStep f (slice_index basis) a reach from (when x.theta) x.position x.row) (same_inverse f.sample (slice_index basis) walk.0.a a walk.0.is_basis u walk.0.ends e) walk.0.holds)
   moved_on from basis x (y ∷ steps) a b size u e v g walk =
       let next : List ℕ = slice_set basis x.position x.row in
-      let step : IsWalkingStep f (slice_index basis) a reach from (when x.theta) x.position x.row = subst (λ a. IsWalkingStep f (slice_index basis) a reach from (when x.theta) x.position x.row) (same_inverse f.sample (slice_index basis) walk.0.a a walk.0.is_basis u walk.0.ends e) walk.0.holds in
+      let step : IsWalkingStep f (slice_index basis) a reach from (when x.theta) x.position x.row =
+      subst (λ a. IsWalkingStep f (slice_index basis) a reach from (when x.theta) x.position x.row) (same_inverse f.sample (slice_index basis) walk.0.a a walk.0.is_basis u walk.0.ends e) walk.0.holds in
       let ex : AreExchanged f.sample.columns (slice_index basis) (slice_index next) x.position x.row = subst (λ n. AreExchanged n (slice_index basis) (slice_index next) x.position x.row) size (list_exchanged basis x.position x.row) in
       let made : ℕ → ℕ → ℚ = exchanged f.sample.columns a x.position (f.sample.x x.row) in
       let isb : IsBasis f.sample (slice_index next) made = next_basis f.sample (slice_index basis) (slice_index next) a x.position x.row step.direction u step.break.position step.entering ex in

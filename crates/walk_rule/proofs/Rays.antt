@@ -89,7 +89,8 @@ module _ (p : Sample) (tau : ℚ) (right : ℕ → ℚ) (at : ℕ → ℕ) (a : 
     below_one x h k = k (subst (λ z. whole (pos 0) ≤ℚ z) (sym h) one_above)
 
     above_minus : (x : ℚ) → x ≡ whole (pos 1) → whole (pos 0) <ℚ neg_ℚ x → ⊥
-    above_minus x h k = k (subst (λ z. neg_ℚ z ≤ℚ whole (pos 0)) (sym h) (le_by (whole (pos 0)) (whole (pos 1)) (neg_ℚ (whole (pos 1))) (whole (pos 0)) one_above (ring_ℚ [] (number (pos 1) ⊟ number (pos 0)) (number (pos 0) ⊟ negated (number (pos 1))) refl)))
+    above_minus x h k = k (subst (λ z. neg_ℚ z ≤ℚ whole (pos 0)) (sym h) (le_by (whole (pos 0)) (whole (pos 1)) (neg_ℚ (whole (pos 1))) (whole (pos 0)) one_above
+        (ring_ℚ [] (number (pos 1) ⊟ number (pos 0)) (number (pos 0) ⊟ negated (number (pos 1))) refl)))
 
     -- the row that leaves, by its direction
     left_up : (d : Direction) → slope_in f at a t j d ≡ whole (pos 0) → whole (pos 0) <ℚ change p at a j d (at j) → basic_at f at a t j ≡ up_cost p tau (at j)
@@ -153,20 +154,24 @@ module _ (p : Sample) (tau : ℚ) (c : ℕ) (at : ℕ → ℕ) (a : ℕ → ℕ 
 
   fit_down : (i : ℕ) → fitted p (ray_down a c j) i ≡ neg_ℚ (coord p a i j *ℚ inverse (a c j))
   fit_down i =
-      sum_ℚ-same p.columns (λ k. p.x i k *ℚ neg_ℚ (a k j *ℚ inverse (a c j))) (λ k. neg_ℚ (inverse (a c j)) *ℚ (p.x i k *ℚ a k j)) (λ k lk. ring_ℚ (p.x i k ∷ a k j ∷ inverse (a c j) ∷ []) (v0 ⊠ negated (v1 ⊠ v2)) (negated v2 ⊠ (v0 ⊠ v1)) refl)
+      sum_ℚ-same p.columns (λ k. p.x i k *ℚ neg_ℚ (a k j *ℚ inverse (a c j))) (λ k. neg_ℚ (inverse (a c j)) *ℚ (p.x i k *ℚ a k j))
+      (λ k lk. ring_ℚ (p.x i k ∷ a k j ∷ inverse (a c j) ∷ []) (v0 ⊠ negated (v1 ⊠ v2)) (negated v2 ⊠ (v0 ⊠ v1)) refl)
       ∙ sum_ℚ-scale p.columns (neg_ℚ (inverse (a c j))) (λ k. p.x i k *ℚ a k j)
       ∙ ring_ℚ (inverse (a c j) ∷ coord p a i j ∷ []) (negated v0 ⊠ v1) (negated (v1 ⊠ v0)) refl
 
   rising_ray : (d : Direction) → Crosses (rising_value p tau c) at a t j d → ((i : ℕ) → i < p.rows → moves p at a j d i ≡ false) → IsComplementary p tau (residual_change p (ray_up a c j)) (dual_in (rising_value p tau c) at a t)
   rising_ray d cross stuck = by d cross stuck (((crossing (rising_value p tau c) at a j d t).0 cross).0)
     where
-      by : (d : Direction) → Crosses (rising_value p tau c) at a t j d → ((i : ℕ) → i < p.rows → moves p at a j d i ≡ false) → slope_part (rising_value p tau c) at a Linear j d <ℚ whole (pos 0) → IsComplementary p tau (residual_change p (ray_up a c j)) (dual_in (rising_value p tau c) at a t)
+      by : (d : Direction) → Crosses (rising_value p tau c) at a t j d → ((i : ℕ) → i < p.rows → moves p at a j d i ≡ false) → slope_part (rising_value p tau c) at a Linear j d <ℚ whole (pos 0)
+          → IsComplementary p tau (residual_change p (ray_up a c j)) (dual_in (rising_value p tau c) at a t)
       by Upward cross stuck falls =
-          let below : a c j <ℚ whole (pos 0) = subst (λ z. z <ℚ whole (pos 0)) (ring_ℚ (coordinate p.columns a (λ k. neg_ℚ (delta c k)) j ∷ []) (number (pos 0) ⊟ (number (pos 0) ⊞ v0)) (negated v0) refl ∙ ap neg_ℚ (negated_entry p tau c at a j lc) ∙ ring_ℚ (a c j ∷ []) (negated (negated v0)) v0 refl) falls in
+          let below : a c j <ℚ whole (pos 0) = subst (λ z. z <ℚ whole (pos 0)) (ring_ℚ (coordinate p.columns a (λ k. neg_ℚ (delta c k)) j ∷ []) (number (pos 0) ⊟ (number (pos 0) ⊞ v0)) (negated v0) refl
+          ∙ ap neg_ℚ (negated_entry p tau c at a j lc) ∙ ring_ℚ (a c j ∷ []) (negated (negated v0)) v0 refl) falls in
           ray p tau (λ k. neg_ℚ (delta c k)) at a basis t j lj Upward cross.meets stuck (ray_up a c j) (inverse (neg_ℚ (a c j))) (inverse_above (neg_ℚ (a c j)) (positive_neg (a c j) below))
           (λ i. ap neg_ℚ (fit_up i) ∙ ring_ℚ (coord p a i j ∷ inverse (a c j) ∷ []) (negated (v0 ⊠ v1)) (v0 ⊠ negated v1) refl ∙ ap (λ z. coord p a i j *ℚ z) (sym (inverse-neg (a c j))))
       by Downward cross stuck falls =
-          let above : whole (pos 0) <ℚ a c j = negative_neg (a c j) (subst (λ z. z <ℚ whole (pos 0)) (ring_ℚ (coordinate p.columns a (λ k. neg_ℚ (delta c k)) j ∷ []) (number (pos 0) ⊞ (number (pos 0) ⊞ v0)) v0 refl ∙ negated_entry p tau c at a j lc) falls) in
+          let above : whole (pos 0) <ℚ a c j = negative_neg (a c j) (subst (λ z. z <ℚ whole (pos 0)) (ring_ℚ (coordinate p.columns a (λ k. neg_ℚ (delta c k)) j ∷ []) (number (pos 0) ⊞ (number (pos 0) ⊞ v0)) v0 refl
+          ∙ negated_entry p tau c at a j lc) falls) in
           ray p tau (λ k. neg_ℚ (delta c k)) at a basis t j lj Downward cross.meets stuck (ray_up a c j) (inverse (a c j)) (inverse_above (a c j) above)
           (λ i. ap neg_ℚ (fit_up i) ∙ ring_ℚ (coord p a i j ∷ inverse (a c j) ∷ []) (negated (v0 ⊠ v1)) (negated v0 ⊠ v1) refl)
 
@@ -176,9 +181,11 @@ module _ (p : Sample) (tau : ℚ) (c : ℕ) (at : ℕ → ℕ) (a : ℕ → ℕ 
   pub falling_end : (d : Direction) → Crosses (falling_value p tau c) at a t j d → ((i : ℕ) → i < p.rows → moves p at a j d i ≡ false) → IsComplementary p tau (residual_change p (ray_down a c j)) (dual_in (falling_value p tau c) at a t)
   falling_end d cross stuck = by d cross stuck (((crossing (falling_value p tau c) at a j d t).0 cross).0)
     where
-      by : (d : Direction) → Crosses (falling_value p tau c) at a t j d → ((i : ℕ) → i < p.rows → moves p at a j d i ≡ false) → slope_part (falling_value p tau c) at a Linear j d <ℚ whole (pos 0) → IsComplementary p tau (residual_change p (ray_down a c j)) (dual_in (falling_value p tau c) at a t)
+      by : (d : Direction) → Crosses (falling_value p tau c) at a t j d → ((i : ℕ) → i < p.rows → moves p at a j d i ≡ false) → slope_part (falling_value p tau c) at a Linear j d <ℚ whole (pos 0)
+          → IsComplementary p tau (residual_change p (ray_down a c j)) (dual_in (falling_value p tau c) at a t)
       by Upward cross stuck falls =
-          let above : whole (pos 0) <ℚ a c j = negative_neg (a c j) (subst (λ z. z <ℚ whole (pos 0)) (ring_ℚ (coordinate p.columns a (delta c) j ∷ []) (number (pos 0) ⊟ (number (pos 0) ⊞ v0)) (negated v0) refl ∙ ap neg_ℚ (coordinate-delta p.columns a c j lc)) falls) in
+          let above : whole (pos 0) <ℚ a c j = negative_neg (a c j) (subst (λ z. z <ℚ whole (pos 0)) (ring_ℚ (coordinate p.columns a (delta c) j ∷ []) (number (pos 0) ⊟ (number (pos 0) ⊞ v0)) (negated v0) refl
+          ∙ ap neg_ℚ (coordinate-delta p.columns a c j lc)) falls) in
           ray p tau (delta c) at a basis t j lj Upward cross.meets stuck (ray_down a c j) (inverse (a c j)) (inverse_above (a c j) above)
           (λ i. ap neg_ℚ (fit_down i) ∙ ring_ℚ (coord p a i j ∷ inverse (a c j) ∷ []) (negated (negated (v0 ⊠ v1))) (v0 ⊠ v1) refl)
       by Downward cross stuck falls =

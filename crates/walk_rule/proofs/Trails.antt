@@ -22,7 +22,8 @@ use Rattle.pivot_rule.proofs.Unique.{same_inverse, one_step, no_step, one_trail,
 use Rattle.pivot_rule.proofs.Passing.{less_from}
 use Rattle.walk_rule.specs.Families.{Family, theta_of, over_quantiles, rising_value, falling_value}
 use Rattle.walk_rule.specs.Walks.{AreExchanged, IsWalkingStep}
-use Rattle.walk_rule.specs.WalkTrails.{AreWalkingSteps, value_after, HasWalkingStep, IsWalkEnd, is_below, is_within, IsProcessTrail, ReachesProcessLimit, negated_theta, theta_value, IsIntervalTrail, HasRisen, HasFallen, HasTestedStep, ReachesIntervalLimit}
+use Rattle.walk_rule.specs.WalkTrails.{AreWalkingSteps, value_after, HasWalkingStep, IsWalkEnd, is_below, is_within, IsProcessTrail, ReachesProcessLimit}
+use Rattle.walk_rule.specs.WalkTrails.{negated_theta, theta_value, IsIntervalTrail, HasRisen, HasFallen, HasTestedStep, ReachesIntervalLimit}
 use Rattle.walk_rule.proofs.Slopes.{costs_between}
 use Rattle.walk_rule.proofs.Unique.{one_walking_step}
 
@@ -57,7 +58,8 @@ module _ {F : Type 0} (when : F → ℚ) (f : Family) (reach : ℚ → Bool) (st
   ended from basis (s ∷ steps) [] lf u v l stop more = absurd (omega arith)
   ended from basis (s ∷ steps) (t ∷ other) lf u v l stop more =
       let after : start ≤ℚ when s.theta = ≤ℚ_trans start from (when s.theta) lf u.0.holds.break.after in
-      let same : (when s.theta ≡ when t.theta) × (s.position ≡ t.position) × (s.row ≡ t.row) = one_walking_step f (slice_index basis) u.0.a v.0.a reach from (when s.theta) (when t.theta) s.position s.row t.position t.row u.0.is_basis v.0.is_basis u.0.ends v.0.ends (costs (when s.theta) after u.0.holds.within) u.0.holds v.0.holds in
+      let same : (when s.theta ≡ when t.theta) × (s.position ≡ t.position) × (s.row ≡ t.row) = one_walking_step f (slice_index basis) u.0.a v.0.a reach from (when s.theta)
+      (when t.theta) s.position s.row t.position t.row u.0.is_basis v.0.is_basis u.0.ends v.0.ends (costs (when s.theta) after u.0.holds.within) u.0.holds v.0.holds in
       let next : slice_set basis s.position s.row ≡ slice_set basis t.position t.row = ap₂ (λ j r. slice_set basis j r) same.1 same.2 in
       let rest : length steps ≤ length other = omega arith in
       ended (when s.theta) (slice_set basis s.position s.row) steps other after u.1
@@ -87,7 +89,8 @@ module _ {F : Type 0} (when : F → ℚ) (f : Family) (reach : ℚ → Bool) (st
       (subst (λ a. IsWalkingStep f (slice_index basis) a reach from (when s.theta) s.position s.row) (same_inverse f.sample (slice_index basis) u.0.a stop'.a u.0.is_basis stop'.is_basis u.0.ends stop'.ends) u.0.holds))
   same_length from basis (s ∷ steps) (t ∷ other) lf u v stop stop' =
       let after : start ≤ℚ when s.theta = ≤ℚ_trans start from (when s.theta) lf u.0.holds.break.after in
-      let same : (when s.theta ≡ when t.theta) × (s.position ≡ t.position) × (s.row ≡ t.row) = one_walking_step f (slice_index basis) u.0.a v.0.a reach from (when s.theta) (when t.theta) s.position s.row t.position t.row u.0.is_basis v.0.is_basis u.0.ends v.0.ends (costs (when s.theta) after u.0.holds.within) u.0.holds v.0.holds in
+      let same : (when s.theta ≡ when t.theta) × (s.position ≡ t.position) × (s.row ≡ t.row) = one_walking_step f (slice_index basis) u.0.a v.0.a reach from (when s.theta)
+      (when t.theta) s.position s.row t.position t.row u.0.is_basis v.0.is_basis u.0.ends v.0.ends (costs (when s.theta) after u.0.holds.within) u.0.holds v.0.holds in
       let next : slice_set basis s.position s.row ≡ slice_set basis t.position t.row = ap₂ (λ j r. slice_set basis j r) same.1 same.2 in
       let rest : length steps ≡ length other = same_length (when s.theta) (slice_set basis s.position s.row) steps other after u.1
       (subst (λ z. AreWalkingSteps when f reach z (slice_set basis s.position s.row) other) (sym same.0) (subst (λ b. AreWalkingSteps when f reach (when t.theta) b other) (sym next) v.1)) stop
@@ -198,12 +201,15 @@ module _ {F : Type 0} (value : F → Fraction) (p : Sample) (tau : ℚ) (c : ℕ
       by : HasTestedStep value p tau c bound other r.basis → ⊥
       by (inl (none, more)) =
           let less : length other.rise < length trail.rise = shorter (negated_theta value) (rising_value p tau c) (is_within bound) (whole (pos 0)) (λ t lower h. costs) basis trail.rise other.rise u.rose rose risen
-          (subst (λ b. HasWalkingStep (negated_theta value) (rising_value p tau c) (is_within bound) (value_after (negated_theta value) (rising_value p tau c) (is_within bound) (whole (pos 0)) other.rise) (basis_after b other.rise)) base more) in
+          (subst (λ b. HasWalkingStep (negated_theta value) (rising_value p tau c) (is_within bound) (value_after (negated_theta value) (rising_value p tau c) (is_within bound) (whole (pos 0)) other.rise) (basis_after b other.rise)) base
+          more) in
           let empty : length other.fall ≡ 0 = ap length none in
           omega (arith, less, empty, short, count, steps)
       by (inr (risen', more)) =
-          let rises : length trail.rise ≡ length other.rise = same_length (negated_theta value) (rising_value p tau c) (is_within bound) (whole (pos 0)) (λ t lower h. costs) (whole (pos 0)) basis trail.rise other.rise (≤ℚ_refl (whole (pos 0))) u.rose rose risen
+          let rises : length trail.rise ≡ length other.rise = same_length (negated_theta value) (rising_value p tau c) (is_within bound) (whole (pos 0)) (λ t lower h. costs) (whole (pos 0)) basis trail.rise other.rise
+          (≤ℚ_refl (whole (pos 0))) u.rose rose risen
           (subst (λ b. HasRisen value p tau c bound other b) base risen') in
           let less : length other.fall < length trail.fall = shorter (theta_value value) (falling_value p tau c) (is_within bound) (whole (pos 0)) (λ t lower h. costs) basis trail.fall other.fall u.fell fell fallen
-          (subst (λ b. HasWalkingStep (theta_value value) (falling_value p tau c) (is_within bound) (value_after (theta_value value) (falling_value p tau c) (is_within bound) (whole (pos 0)) other.fall) (basis_after b other.fall)) base more) in
+          (subst (λ b. HasWalkingStep (theta_value value) (falling_value p tau c) (is_within bound) (value_after (theta_value value) (falling_value p tau c) (is_within bound) (whole (pos 0)) other.fall) (basis_after b other.fall)) base
+          more) in
           omega (arith, less, rises, short, count, steps)

@@ -117,7 +117,8 @@ module _ {F : Type 0} (value : F → Fraction) (p : Problem F) where
       pub begins : (i : ℕ) → i < rows → (segments_of value p segments).at_lo 0 i ≡ dual_in f (slice_index basis) a from i
       pub optimal : AreOptimalSegments value p segments
 
-    last_one : (from : ℚ) (basis : List ℕ) (a : ℕ → ℕ → ℚ) (size : length basis ≡ p.columns) (isb : IsBasis q (slice_index basis) a) (ends : EndsAt q.columns a) → lo ≤ℚ from → (cmp_ℚ from hi ≡ Less) ⊎ (from ≡ hi) → IsOptimalIn f (slice_index basis) a from
+    last_one : (from : ℚ) (basis : List ℕ) (a : ℕ → ℕ → ℚ) (size : length basis ≡ p.columns) (isb : IsBasis q (slice_index basis) a) (ends : EndsAt q.columns a) → lo ≤ℚ from → (cmp_ℚ from hi ≡ Less) ⊎ (from ≡ hi)
+        → IsOptimalIn f (slice_index basis) a from
         → IsWalkEnd when f (is_below hi) from basis → (segments : List (Segment F)) → AreSegmentsOf value p (record { basis = basis; lo = from; hi = hi } ∷ []) segments → Follows from basis a segments
     last_one from basis a size isb ends lower within stop end [] segs = absurd segs
     last_one from basis a size isb ends lower within stop end (s ∷ t ∷ rest) segs = absurd segs.1

@@ -10,14 +10,16 @@ use Rattle.pivot_rule.specs.Duals.{HasCosts}
 use Rattle.pivot_rule.specs.Trails.{EndsAt, AtBasis, basis_after}
 use Rattle.walk_rule.specs.Families.{Family, over_quantiles, theta_of}
 use Rattle.walk_rule.specs.Walks.{IsWalkingStep}
-use Rattle.walk_rule.specs.WalkTrails.{theta_value, AreWalkingSteps, value_after, IsWalkEnd, is_below, IsProcessTrail, ReachesProcessLimit, IsIntervalTrail, HasRisen, HasFallen, ReachesIntervalLimit}
+use Rattle.walk_rule.specs.WalkTrails.{theta_value, AreWalkingSteps, value_after, IsWalkEnd, is_below, IsProcessTrail}
+use Rattle.walk_rule.specs.WalkTrails.{ReachesProcessLimit, IsIntervalTrail, HasRisen, HasFallen, ReachesIntervalLimit}
 
 -- a walk goes on with the walking step of the basis to which it has led
 abbrev pub StepsMore : Type 0 → Type 0
 StepsMore F =
     (when : F → ℚ) (f : Family) (reach : ℚ → Bool) (from : ℚ) (basis : List ℕ) (steps : List (Exchange F)) (x : Exchange F)
     → AreWalkingSteps when f reach from basis steps
-    → AtBasis f.sample (basis_after basis steps) (λ a. IsWalkingStep f (slice_index (basis_after basis steps)) a reach (value_after when f reach from steps) (when x.theta) x.position x.row)
+    → AtBasis f.sample (basis_after basis steps) (λ a. IsWalkingStep f (slice_index (basis_after basis steps)) a reach (value_after when f reach from steps)
+    (when x.theta) x.position x.row)
     → AreWalkingSteps when f reach from basis (steps ++ x ∷ [])
     × (basis_after basis (steps ++ x ∷ []) ≡ slice_set (basis_after basis steps) x.position x.row)
     × (value_after when f reach from (steps ++ x ∷ []) ≡ when x.theta)

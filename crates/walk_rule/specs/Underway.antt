@@ -14,7 +14,8 @@ use Rattle.walk_rule.specs.Stays.{is_reported, ended_stays, AreSegmentsOf}
 
 -- from an optimal basis at lo the steps have led to the basis, with the inverse a, which is optimal
 -- at `now`, and the segments are those of the stays that they have ended
-pub record IsUnderway {F : Type 0} (value : F → Fraction) (p : Problem F) (lo hi : ℚ) (start : List ℕ) (steps : List (Exchange F)) (segments : List (Segment F)) (now : ℚ) (basis : List ℕ) (a : ℕ → ℕ → ℚ) : Type 0 where
+pub record IsUnderway {F : Type 0} (value : F → Fraction) (p : Problem F) (lo hi : ℚ) (start : List ℕ) (steps : List (Exchange F)) (segments : List (Segment F))
+    (now : ℚ) (basis : List ℕ) (a : ℕ → ℕ → ℚ) : Type 0 where
   pub walked : AreWalkingSteps (theta_value value) (over_quantiles (sample value p)) (is_below hi) lo start steps
   pub leads : basis_after start steps ≡ basis
   pub reaches : value_after (theta_value value) (over_quantiles (sample value p)) (is_below hi) lo steps ≡ now

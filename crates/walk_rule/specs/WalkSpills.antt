@@ -40,8 +40,11 @@ module _ {F : Type 0} (value : F → Fraction) (range : ℕ) (f : Family) (at : 
   -- at the next breakpoint: at the first entry of the ratio of a row that moves, where two different ones are
   -- compared, or at an entry of the exchange of the step
   pub data IsPivotSpill (s : Spill F) : Type 0 where
-    of_ratio : (t : ℚ) (j : ℕ) (d : Direction) (r : ℕ) → IsNextBreak f at a from t j d → reach t ≡ true → r < f.sample.rows → moves f.sample at a j d r ≡ true → IsRatioEntrySpill value range f.sample.columns at j (outside_row f.sample at a r) 0 s → IsPivotSpill s
-    of_tie : (t : ℚ) (j : ℕ) (d : Direction) (r i : ℕ) → r ≢ i → IsNextBreak f at a from t j d → reach t ≡ true → r < f.sample.rows → i < f.sample.rows → moves f.sample at a j d r ≡ true → moves f.sample at a j d i ≡ true → IsRatioSpill value range f.sample.rows f.sample.columns at j (outside_row f.sample at a r) (outside_row f.sample at a i) s → IsPivotSpill s
+    of_ratio : (t : ℚ) (j : ℕ) (d : Direction) (r : ℕ) → IsNextBreak f at a from t j d → reach t ≡ true → r < f.sample.rows → moves f.sample at a j d r ≡ true
+        → IsRatioEntrySpill value range f.sample.columns at j (outside_row f.sample at a r) 0 s → IsPivotSpill s
+    of_tie : (t : ℚ) (j : ℕ) (d : Direction) (r i : ℕ) → r ≢ i → IsNextBreak f at a from t j d → reach t ≡ true → r < f.sample.rows → i < f.sample.rows
+        → moves f.sample at a j d r ≡ true → moves f.sample at a j d i ≡ true
+        → IsRatioSpill value range f.sample.rows f.sample.columns at j (outside_row f.sample at a r) (outside_row f.sample at a i) s → IsPivotSpill s
     of_exchange : (t : ℚ) (j r : ℕ) → IsWalkingStep f at a reach from t j r → IsEntrySpill value range f.sample.columns a (f.sample.x r) j s → IsPivotSpill s
 
 -- ---- over quantiles
@@ -68,7 +71,8 @@ module _ {F : Type 0} (value : F → Fraction) (range : ℕ) (p : Sample) (at : 
   -- at an end of a segment, which is at theta: at a dual value of the basis, at the cost of the side on which
   -- a row lies, or at the loss of this end
   pub data IsEndSpill (end : ℕ) (theta : ℚ) (s : Spill F) : Type 0 where
-    of_dual : (j : ℕ) → j < p.columns → IsDualValueSpill value range (basic_dual p at a Constant j) (basic_dual p at a Linear j) theta j s → IsEndSpill end theta s
+    of_dual : (j : ℕ) → j < p.columns → IsDualValueSpill value range (basic_dual p at a Constant j) (basic_dual p at a Linear j) theta j s
+        → IsEndSpill end theta s
     of_cost : (i : ℕ) → i < p.rows → IsSideCostSpill value range p theta (coefficient p at a) i s → IsEndSpill end theta s
     of_loss : IsSpillOf value range (site_of Loss end 0 0) (loss_products p theta (coefficient p at a)) s → IsEndSpill end theta s
 
@@ -99,7 +103,8 @@ module _ {F : Type 0} (value : F → Fraction) (range : ℕ) (f : Family) (wante
   -- basis was entered or at the next breakpoint, or at the pivot there
   pub data IsTestedSpill (s : Spill F) : Type 0 where
     of_basis : IsBasisSpill value range f.sample at a s → IsTestedSpill s
-    of_dual : (j : ℕ) → j < f.sample.columns → IsDualValueSpill value range (basic_dual f.sample at a Constant j) (basic_dual f.sample at a Linear j) tau j s → IsTestedSpill s
+    of_dual : (j : ℕ) → j < f.sample.columns → IsDualValueSpill value range (basic_dual f.sample at a Constant j) (basic_dual f.sample at a Linear j) tau j s
+        → IsTestedSpill s
     of_cost : (i : ℕ) → i < f.sample.rows → IsCostSpill value range f.sample at a tau i s → IsTestedSpill s
     of_crossing : (j : ℕ) (d : Direction) → j < f.sample.columns → IsTestedCrossingSpill j d s → IsTestedSpill s
     of_entered : (j : ℕ) → j < f.sample.columns → IsTestedValueSpill (wanted from) j s → IsTestedSpill s

@@ -37,14 +37,16 @@ module _ (d t : ℤ) (hd : pos 1 ≤ℤ d) (ht : pos 1 ≤ℤ t) where
   affine_share c l s n e =
       scaled_share n
       ∙ ap (λ z. z *ℚ (inverse (whole d) *ℚ inverse (whole t))) (ap whole e ∙ whole-add (c *ℤ t) (l *ℤ s) ∙ ap₂ (λ x y. x +ℚ y) (whole-mul c t) (whole-mul l s))
-      ∙ ring_by_ℚ (whole c ∷ whole t ∷ whole l ∷ whole s ∷ inverse (whole d) ∷ inverse (whole t) ∷ []) ((v0 ⊠ v1 ⊞ v2 ⊠ v3) ⊠ (v4 ⊠ v5)) (v0 ⊠ v4 ⊞ (v2 ⊠ v4) ⊠ (v3 ⊠ v5)) (v0 ⊠ v4) (v1 ⊠ v5) (number (pos 1)) refl (*ℚ-inverse (whole t) (nonzero t ht))
+      ∙ ring_by_ℚ (whole c ∷ whole t ∷ whole l ∷ whole s ∷ inverse (whole d) ∷ inverse (whole t) ∷ []) ((v0 ⊠ v1 ⊞ v2 ⊠ v3) ⊠ (v4 ⊠ v5)) (v0 ⊠ v4 ⊞ (v2 ⊠ v4) ⊠ (v3 ⊠ v5)) (v0 ⊠ v4) (v1 ⊠ v5) (number (pos 1)) refl
+      (*ℚ-inverse (whole t) (nonzero t ht))
 
   -- a size times a number that is affine
   pub weighed_share : (m c l s w n : ℤ) → w ≡ (c *ℤ t) +ℤ (l *ℤ s) → n ≡ m *ℤ w → share n (pos (unsigned_abs (d *ℤ t))) ≡ share m d *ℚ (whole c +ℚ (whole l *ℚ share s t))
   weighed_share m c l s w n ew en =
       scaled_share n
       ∙ ap (λ z. z *ℚ (inverse (whole d) *ℚ inverse (whole t))) (ap whole en ∙ whole-mul m w ∙ ap (λ z. whole m *ℚ z) (ap whole ew ∙ whole-add (c *ℤ t) (l *ℤ s) ∙ ap₂ (λ x y. x +ℚ y) (whole-mul c t) (whole-mul l s)))
-      ∙ ring_by_ℚ (whole m ∷ whole c ∷ whole t ∷ whole l ∷ inverse (whole d) ∷ inverse (whole t) ∷ whole s ∷ []) ((v0 ⊠ (v1 ⊠ v2 ⊞ v3 ⊠ v6)) ⊠ (v4 ⊠ v5)) ((v0 ⊠ v4) ⊠ (v1 ⊞ v3 ⊠ (v6 ⊠ v5))) ((v0 ⊠ v4) ⊠ v1) (v2 ⊠ v5) (number (pos 1)) refl (*ℚ-inverse (whole t) (nonzero t ht))
+      ∙ ring_by_ℚ (whole m ∷ whole c ∷ whole t ∷ whole l ∷ inverse (whole d) ∷ inverse (whole t) ∷ whole s ∷ []) ((v0 ⊠ (v1 ⊠ v2 ⊞ v3 ⊠ v6)) ⊠ (v4 ⊠ v5)) ((v0 ⊠ v4) ⊠ (v1 ⊞ v3 ⊠ (v6 ⊠ v5))) ((v0 ⊠ v4) ⊠ v1) (v2 ⊠ v5) (number (pos 1)) refl
+      (*ℚ-inverse (whole t) (nonzero t ht))
 
 pub share-sum : (a b e : ℤ) → share (a +ℤ b) e ≡ share a e +ℚ share b e
 share-sum a b e =

@@ -41,21 +41,26 @@ module _ (s : Station) (q : Quantile) (positive : pos 1 ≤ℤ over_of s) (is : 
   -- the lesser one of two
   pub lesser_by : (j : ℕ) (up down taken : Leaving) → number_at s q j Upward up → number_at s q j Downward down → IsSteeper (number_over (scale_of s q)) (leaving_of up) (leaving_of down) (leaving_of taken) → IsLesserAt s q j taken
   lesser_by j up down taken u d (inl h) =
-      subst (IsLesser (number_over (scale_of s q)) (model s) (at_of s) (inverse_at s) (theta_of q) j) (sym h.0) (record { position = d.position; is = d.slope ∙ ap (slope (model s) (at_of s) (inverse_at s) (theta_of q) j) (sym d.direction); least = least })
+      subst (IsLesser (number_over (scale_of s q)) (model s) (at_of s) (inverse_at s) (theta_of q) j) (sym h.0)
+      (record { position = d.position; is = d.slope ∙ ap (slope (model s) (at_of s) (inverse_at s) (theta_of q) j) (sym d.direction); least = least })
     where
       less : slope (model s) (at_of s) (inverse_at s) (theta_of q) j down.direction ≤ℚ slope (model s) (at_of s) (inverse_at s) (theta_of q) j Upward
       less =
           subst (λ e. slope (model s) (at_of s) (inverse_at s) (theta_of q) j e ≤ℚ slope (model s) (at_of s) (inverse_at s) (theta_of q) j Upward) (sym d.direction)
-          (subst (λ z. z ≤ℚ slope (model s) (at_of s) (inverse_at s) (theta_of q) j Upward) d.slope (subst (λ z. rational (number_over (scale_of s q) down.slope) ≤ℚ z) u.slope (le_from_not (rational (number_over (scale_of s q) down.slope)) (rational (number_over (scale_of s q) up.slope)) h.1)))
+          (subst (λ z. z ≤ℚ slope (model s) (at_of s) (inverse_at s) (theta_of q) j Upward) d.slope
+          (subst (λ z. rational (number_over (scale_of s q) down.slope) ≤ℚ z) u.slope (le_from_not (rational (number_over (scale_of s q) down.slope)) (rational (number_over (scale_of s q) up.slope)) h.1)))
 
       least : (e : Direction) → slope (model s) (at_of s) (inverse_at s) (theta_of q) j down.direction ≤ℚ slope (model s) (at_of s) (inverse_at s) (theta_of q) j e
       least Upward = less
-      least Downward = subst (λ e. slope (model s) (at_of s) (inverse_at s) (theta_of q) j e ≤ℚ slope (model s) (at_of s) (inverse_at s) (theta_of q) j Downward) (sym d.direction) (≤ℚ_refl (slope (model s) (at_of s) (inverse_at s) (theta_of q) j Downward))
+      least Downward = subst (λ e. slope (model s) (at_of s) (inverse_at s) (theta_of q) j e ≤ℚ slope (model s) (at_of s) (inverse_at s) (theta_of q) j Downward) (sym d.direction)
+          (≤ℚ_refl (slope (model s) (at_of s) (inverse_at s) (theta_of q) j Downward))
   lesser_by j up down taken u d (inr h) =
-      subst (IsLesser (number_over (scale_of s q)) (model s) (at_of s) (inverse_at s) (theta_of q) j) (sym h.0) (record { position = u.position; is = u.slope ∙ ap (slope (model s) (at_of s) (inverse_at s) (theta_of q) j) (sym u.direction); least = least })
+      subst (IsLesser (number_over (scale_of s q)) (model s) (at_of s) (inverse_at s) (theta_of q) j) (sym h.0)
+      (record { position = u.position; is = u.slope ∙ ap (slope (model s) (at_of s) (inverse_at s) (theta_of q) j) (sym u.direction); least = least })
     where
       least : (e : Direction) → slope (model s) (at_of s) (inverse_at s) (theta_of q) j up.direction ≤ℚ slope (model s) (at_of s) (inverse_at s) (theta_of q) j e
-      least Upward = subst (λ e. slope (model s) (at_of s) (inverse_at s) (theta_of q) j e ≤ℚ slope (model s) (at_of s) (inverse_at s) (theta_of q) j Upward) (sym u.direction) (≤ℚ_refl (slope (model s) (at_of s) (inverse_at s) (theta_of q) j Upward))
+      least Upward = subst (λ e. slope (model s) (at_of s) (inverse_at s) (theta_of q) j e ≤ℚ slope (model s) (at_of s) (inverse_at s) (theta_of q) j Upward) (sym u.direction)
+          (≤ℚ_refl (slope (model s) (at_of s) (inverse_at s) (theta_of q) j Upward))
       least Downward =
           subst (λ e. slope (model s) (at_of s) (inverse_at s) (theta_of q) j e ≤ℚ slope (model s) (at_of s) (inverse_at s) (theta_of q) j Downward) (sym u.direction)
           (subst (λ z. z ≤ℚ slope (model s) (at_of s) (inverse_at s) (theta_of q) j Downward) u.slope (subst (λ z. rational (number_over (scale_of s q) up.slope) ≤ℚ z) d.slope h.1))
@@ -68,6 +73,7 @@ module _ (s : Station) (q : Quantile) (positive : pos 1 ≤ℤ over_of s) (is : 
       (share_negative (scale_of s q) scale_some l.slope below) in
       record { leaving = made.0; slope = made.1 }
 
-  pub none_leaves : (n : ℕ) (l : Leaving) → n ≡ (model s).columns → IsLeast (number_over (scale_of s q)) (model s) (at_of s) (inverse_at s) (theta_of q) n (leaving_of l) → pos 0 ≤ℤ l.slope → HasNoNegativeSlope (model s) (at_of s) (inverse_at s) (theta_of q)
+  pub none_leaves : (n : ℕ) (l : Leaving) → n ≡ (model s).columns → IsLeast (number_over (scale_of s q)) (model s) (at_of s) (inverse_at s) (theta_of q) n (leaving_of l) → pos 0 ≤ℤ l.slope
+      → HasNoNegativeSlope (model s) (at_of s) (inverse_at s) (theta_of q)
   none_leaves n l all h up j d lj =
       none_negative (number_over (scale_of s q)) (model s) (at_of s) (inverse_at s) (theta_of q) (leaving_of l) n h (share_not_negative (scale_of s q) scale_some l.slope up) j d (subst (λ n. j < n) (sym all) lj)

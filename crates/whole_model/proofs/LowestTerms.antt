@@ -55,7 +55,8 @@ module _ (n : ℤ) (d : ℕ) (h : 1 ≤ d) (turned : ℤ → ℤ) (a : ℕ) (is 
         is =
             record {
               positive = some;
-              lowest = ap (λ m. gcd m v.den) (size (a / gcd a d)) ∙ coprime_quotients a d (a / gcd a d) (d / gcd a d) (gcd a d) (gcd_pos a d (omega arith)) refl (sym (div-mul_cancel (gcd a d) (gcd_dvd_l a d))) (sym (div-mul_cancel (gcd a d) (gcd_dvd_r a d)));
+              lowest = ap (λ m. gcd m v.den) (size (a / gcd a d)) ∙ coprime_quotients a d (a / gcd a d) (d / gcd a d) (gcd a d) (gcd_pos a d (omega arith)) refl (sym (div-mul_cancel (gcd a d) (gcd_dvd_l a d)))
+                  (sym (div-mul_cancel (gcd a d) (gcd_dvd_r a d)));
               is = same_value v (record { num = n; den = d }) some h cross;
             };
       }

@@ -19,7 +19,8 @@ restricted_objective p j xi e = sum_to p.rows (λ i. ((p.y i *ℤ pos xi.den) -�
 -- the values e/(Q*g) are feasible, and no feasible ones have a greater sum
 pub record IsOptimalAt (p : Scaled) (j : ℕ) (theta xi : Fraction) (e : ℕ → ℤ) (g : ℕ) : Type 0 where
   pub feasible : IsFeasibleWithout p j theta e g
-  pub greatest : (f : ℕ → ℤ) (h : ℕ) → 1 ≤ h → IsFeasibleWithout p j theta f h → (restricted_objective p j xi f *ℤ pos g) ≤ℤ (restricted_objective p j xi e *ℤ pos h)
+  pub greatest : (f : ℕ → ℤ) (h : ℕ) → 1 ≤ h → IsFeasibleWithout p j theta f h
+      → (restricted_objective p j xi f *ℤ pos g) ≤ℤ (restricted_objective p j xi e *ℤ pos h)
 
 -- the rank score statistic of column j
 abbrev pub rank_statistic : Scaled → ℕ → (ℕ → ℤ) → ℤ

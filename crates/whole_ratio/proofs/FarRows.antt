@@ -79,7 +79,8 @@ far_turned Basic far r h = absurd h
 
 module _ (l : Line) (line : IsLine l) where
   -- the first entry of the ratio, times the size of the coordinate
-  entry_times : (i : ℕ) → is_moving l i ≡ true → abs_ℚ (coord (model l) (inverse_at l) i l.position) *ℚ ratio_of l i 0 ≡ turned (perturbed_side (model l).rows (model l).columns (at_of l) (outside_row (model l) (at_of l) (inverse_at l) i)) (residual_of l i)
+  entry_times : (i : ℕ) → is_moving l i ≡ true → abs_ℚ (coord (model l) (inverse_at l) i l.position) *ℚ ratio_of l i 0
+      ≡ turned (perturbed_side (model l).rows (model l).columns (at_of l) (outside_row (model l) (at_of l) (inverse_at l) i)) (residual_of l i)
   entry_times i moving =
       ap (λ z. size *ℚ z) (turned-times side (residual_of l i) (inverse size))
       ∙ ring_by_ℚ (turned side (residual_of l i) ∷ size ∷ inverse size ∷ []) (v1 ⊠ (v0 ⊠ v2)) v0 v0 (v1 ⊠ v2) (number (pos 1)) refl (*ℚ-inverse size some)

@@ -118,7 +118,8 @@ module _ (l : Line) (line : IsLine l) where
 
     between : (from to : ℕ) → to ≤ left.row → to ≤ right.row → HoldsNone (model l).columns (at_of l) from to → AgreeTo (suc from) → AgreeTo (suc to)
     between from to ll lr none agree =
-        agree_between (perturbed_side (model l).rows (model l).columns (at_of l) (outside_row (model l) (at_of l) (inverse_at l) left.row)) (perturbed_side (model l).rows (model l).columns (at_of l) (outside_row (model l) (at_of l) (inverse_at l) right.row))
+        agree_between (perturbed_side (model l).rows (model l).columns (at_of l) (outside_row (model l) (at_of l) (inverse_at l) left.row))
+        (perturbed_side (model l).rows (model l).columns (at_of l) (outside_row (model l) (at_of l) (inverse_at l) right.row))
         (model l).columns (at_of l) l.position (outside_row (model l) (at_of l) (inverse_at l) left.row) (outside_row (model l) (at_of l) (inverse_at l) right.row) from to ll lr
         (λ j lj a b. absurd (none j lj a b)) agree
 
@@ -137,7 +138,8 @@ module _ (l : Line) (line : IsLine l) where
     entry_agrees from end k o ll lr next agree is same i li =
         let before = between from (at_of l k) (omega (arith, next.below)) (omega (arith, next.below)) next.least agree in
         let here = (cmp_ℚ-Equal (ratio_of l left.row (suc (at_of l k))) (ratio_of l right.row (suc (at_of l k)))).0 (sym is ∙ equal_from o same) in
-        agree_more (perturbed_side (model l).rows (model l).columns (at_of l) (outside_row (model l) (at_of l) (inverse_at l) left.row)) (perturbed_side (model l).rows (model l).columns (at_of l) (outside_row (model l) (at_of l) (inverse_at l) right.row))
+        agree_more (perturbed_side (model l).rows (model l).columns (at_of l) (outside_row (model l) (at_of l) (inverse_at l) left.row))
+        (perturbed_side (model l).rows (model l).columns (at_of l) (outside_row (model l) (at_of l) (inverse_at l) right.row))
         (model l).columns (at_of l) l.position (outside_row (model l) (at_of l) (inverse_at l) left.row) (outside_row (model l) (at_of l) (inverse_at l) right.row) (suc (at_of l k)) before here i (omega (arith, li))
 
     -- an order that isn't equal is that of all entries
@@ -147,21 +149,25 @@ module _ (l : Line) (line : IsLine l) where
         let small : end ≤ (model l).rows = omega (arith, low, h.row) in
         bool_is (is_lt o) (lex_cmp (suc (model l).rows) (ratio_of l left.row) (ratio_of l right.row)) (less_from_first (model l).rows end o (ratio_of l left.row) (ratio_of l right.row) small is ne)
 
-    pub left_first : (end : ℕ) (o : Ordering) (b : Bool) → end ≡ left.row → left.row < right.row → (IsTrue b ↔ (left.side ≡ Down)) → o ≡ lex_cmp (suc end) (ratio_of l left.row) (ratio_of l right.row) → is_ne o ≡ false → b ≡ comes_before l left.row right.row
+    pub left_first : (end : ℕ) (o : Ordering) (b : Bool) → end ≡ left.row → left.row < right.row → (IsTrue b ↔ (left.side ≡ Down)) → o ≡ lex_cmp (suc end) (ratio_of l left.row) (ratio_of l right.row) → is_ne o ≡ false
+        → b ≡ comes_before l left.row right.row
     unfolding comes_before
     left_first end o b here less test is same =
         bool_is b (lex_cmp (suc (model l).rows) (ratio_of l left.row) (ratio_of l right.row))
         (left_decides (model l).rows (model l).columns (at_of l) l.position (outside_row (model l) (at_of l) (inverse_at l) left.row) (outside_row (model l) (at_of l) (inverse_at l) right.row)
-        (perturbed_side (model l).rows (model l).columns (at_of l) (outside_row (model l) (at_of l) (inverse_at l) left.row)) (perturbed_side (model l).rows (model l).columns (at_of l) (outside_row (model l) (at_of l) (inverse_at l) right.row))
+        (perturbed_side (model l).rows (model l).columns (at_of l) (outside_row (model l) (at_of l) (inverse_at l) left.row))
+        (perturbed_side (model l).rows (model l).columns (at_of l) (outside_row (model l) (at_of l) (inverse_at l) right.row))
         b end here less h.row (moving_outside left.row h.moves) (moving_coord left.row h.moves) (subst (λ s. IsTrue b ↔ (s ≡ Down)) h.side test)
         (side_cases (lex_cmp (suc (model l).rows) (perturbed (model l).columns (at_of l) (outside_row (model l) (at_of l) (inverse_at l) left.row)) zeros)) (sym (equal_from o same) ∙ is))
 
-    pub right_first : (end : ℕ) (o : Ordering) (b : Bool) → end ≡ right.row → right.row < left.row → (IsTrue b ↔ (right.side ≡ Down)) → o ≡ lex_cmp (suc end) (ratio_of l left.row) (ratio_of l right.row) → is_ne o ≡ false → not b ≡ comes_before l left.row right.row
+    pub right_first : (end : ℕ) (o : Ordering) (b : Bool) → end ≡ right.row → right.row < left.row → (IsTrue b ↔ (right.side ≡ Down)) → o ≡ lex_cmp (suc end) (ratio_of l left.row) (ratio_of l right.row) → is_ne o ≡ false
+        → not b ≡ comes_before l left.row right.row
     unfolding comes_before
     right_first end o b here less test is same =
         bool_is (not b) (lex_cmp (suc (model l).rows) (ratio_of l left.row) (ratio_of l right.row))
         (right_decides (model l).rows (model l).columns (at_of l) l.position (outside_row (model l) (at_of l) (inverse_at l) left.row) (outside_row (model l) (at_of l) (inverse_at l) right.row)
-        (perturbed_side (model l).rows (model l).columns (at_of l) (outside_row (model l) (at_of l) (inverse_at l) left.row)) (perturbed_side (model l).rows (model l).columns (at_of l) (outside_row (model l) (at_of l) (inverse_at l) right.row))
+        (perturbed_side (model l).rows (model l).columns (at_of l) (outside_row (model l) (at_of l) (inverse_at l) left.row))
+        (perturbed_side (model l).rows (model l).columns (at_of l) (outside_row (model l) (at_of l) (inverse_at l) right.row))
         b end here less g.row (moving_outside right.row g.moves) (moving_coord right.row g.moves) (subst (λ s. IsTrue b ↔ (s ≡ Down)) g.side test)
         (side_cases (lex_cmp (suc (model l).rows) (perturbed (model l).columns (at_of l) (outside_row (model l) (at_of l) (inverse_at l) right.row)) zeros)) (sym (equal_from o same) ∙ is))
 

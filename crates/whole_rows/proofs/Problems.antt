@@ -53,7 +53,8 @@ module _ {F : Type 0} (value : F → Fraction) (p : Problem F) (fs : List Factor
   pub wide_from : IsWellShaped p → length ws ≡ length p.rows → ArePaired (IsWholeRow value fs fy fc) p.rows ws → All (λ w. length w.x ≡ p.columns) ws
   wide_from shaped size pairs i d li = by (slice_get_cases p.rows i).1 (slice_get_cases ws i).1
     where
-      by : (((r : Row F) × (i < length p.rows) × (slice_get p.rows i ≡ Some r) × (get_or p.rows i r ≡ r)) ⊎ ((length p.rows ≤ i) × (slice_get p.rows i ≡ None))) → (((w : WholeRow) × (i < length ws) × (slice_get ws i ≡ Some w) × (get_or ws i w ≡ w)) ⊎ ((length ws ≤ i) × (slice_get ws i ≡ None)))
+      by : (((r : Row F) × (i < length p.rows) × (slice_get p.rows i ≡ Some r) × (get_or p.rows i r ≡ r)) ⊎ ((length p.rows ≤ i) × (slice_get p.rows i ≡ None)))
+          → (((w : WholeRow) × (i < length ws) × (slice_get ws i ≡ Some w) × (get_or ws i w ≡ w)) ⊎ ((length ws ≤ i) × (slice_get ws i ≡ None)))
           → length (get_or ws i d).x ≡ p.columns
       by (inl r) (inl w) =
           let own : length r.0.x ≡ p.columns = subst (λ (r : Row F). length r.x ≡ p.columns) (get_or_from_slice_get p.rows i r.0 r.0 r.2) (shaped.entries i r.0 r.1) in

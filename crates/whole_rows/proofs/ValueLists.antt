@@ -5,7 +5,8 @@ use Rattle.exact_algebra.specs.Fraction.{Fraction, rational}
 use Rattle.exact_algebra.specs.Rational.{ℚ}
 use Rattle.loss_model.specs.Problem.{value_at}
 
-pub value_pushed : {F : Type 0} (value : F → Fraction) (made : List F) (x : F) (n : ℕ) (f : ℕ → ℚ) → length made ≡ n → ((k : ℕ) → k < n → value_at value made k ≡ f k) → rational (value x) ≡ f n → (k : ℕ) → k < n + 1 → value_at value (made ++ x ∷ []) k ≡ f k
+pub value_pushed : {F : Type 0} (value : F → Fraction) (made : List F) (x : F) (n : ℕ) (f : ℕ → ℚ) → length made ≡ n → ((k : ℕ) → k < n → value_at value made k ≡ f k) → rational (value x) ≡ f n → (k : ℕ) → k < n + 1
+    → value_at value (made ++ x ∷ []) k ≡ f k
 value_pushed value [] x zero f size h e zero l = e
 value_pushed value [] x zero f size h e (suc k) l = absurd (omega arith)
 value_pushed value [] x (suc n) f size h e k l = absurd (omega arith)

@@ -57,7 +57,8 @@ all_put p at a sides made h outside i li = h i ∙ by (is_among at p.columns i) 
     by false e = ap (λ t. if t then Basic else side_in sides i) e ∙ outside i li e
 
 -- one side more at the end, where it is asked for
-pub side_pushed_where : (Q : ℕ → Type 0) (made : List Side) (x : Side) (n : ℕ) (f : ℕ → Side) → length made ≡ n → ((k : ℕ) → k < n → Q k → side_in made k ≡ f k) → (Q n → x ≡ f n) → (k : ℕ) → k < n + 1 → Q k → side_in (made ++ x ∷ []) k ≡ f k
+pub side_pushed_where : (Q : ℕ → Type 0) (made : List Side) (x : Side) (n : ℕ) (f : ℕ → Side) → length made ≡ n → ((k : ℕ) → k < n → Q k → side_in made k ≡ f k) → (Q n → x ≡ f n) → (k : ℕ) → k < n + 1 → Q k
+    → side_in (made ++ x ∷ []) k ≡ f k
 side_pushed_where Q [] x zero f size h e zero l q = e q
 side_pushed_where Q [] x zero f size h e (suc k) l q = absurd (omega arith)
 side_pushed_where Q [] x (suc n) f size h e k l q = absurd (omega arith)

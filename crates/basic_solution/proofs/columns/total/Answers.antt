@@ -36,7 +36,8 @@ returns-in_err-sum-clause-spilled g c =
     let row = c.index-rows-i.result in
     let read : row ≡ get_or p.rows i row = rw c.as_slice-rows.ensures at c.index-rows-i.is in
     let wide : c.args.column < length c.as_slice.result.now = omega (arith, ap length c.as_slice.ensures, row_wide value p i row within read c.requires.shaped, c.requires.column) in
-    let entry : rational (value c.index-as_slice-column.result) ≡ (sample value p).x i c.args.column = value_read value c.as_slice.result.now c.args.column c.index-as_slice-column.result wide c.index-as_slice-column.is ∙ ap (λ (xs : List g.row.F.Denot). value_at value xs c.args.column) c.as_slice.ensures ∙ row_number value p i row within read (λ r. value_at value r.x c.args.column) in
+    let entry : rational (value c.index-as_slice-column.result) ≡ (sample value p).x i c.args.column = value_read value c.as_slice.result.now c.args.column c.index-as_slice-column.result wide c.index-as_slice-column.is
+    ∙ ap (λ (xs : List g.row.F.Denot). value_at value xs c.args.column) c.as_slice.ensures ∙ row_number value p i row within read (λ r. value_at value r.x c.args.column) in
     let weight : rational (value c.bound.result) ≡ bound_part (sample value p) c.args.part i (side i) = c.bound.ensures ∙ ap (bound_of value row c.args.part) here ∙ row_bound value p i row within read c.args.part (side i) in
     let outside : is_basic (side i) ≡ false = sym (ap is_basic here) ∙ sym c.is_basic.ensures ∙ c.if-not-is_basic.true in
     let q = err_from_is_err_and c.from_residual.result c.from_residual.ensures.1 in
@@ -58,7 +59,8 @@ loop-i-preserved g c =
           let row = w.index-rows-i.result in
           let read : row ≡ get_or p.rows i row = rw c.as_slice-rows.ensures at w.index-rows-i.is in
           let wide : c.args.column < length w.as_slice.result.now = omega (arith, ap length w.as_slice.ensures, row_wide value p i row within read c.requires.shaped, c.requires.column) in
-          let entry : rational (value w.index-as_slice-column.result) ≡ (sample value p).x i c.args.column = value_read value w.as_slice.result.now c.args.column w.index-as_slice-column.result wide w.index-as_slice-column.is ∙ ap (λ (xs : List g.row.F.Denot). value_at value xs c.args.column) w.as_slice.ensures ∙ row_number value p i row within read (λ r. value_at value r.x c.args.column) in
+          let entry : rational (value w.index-as_slice-column.result) ≡ (sample value p).x i c.args.column = value_read value w.as_slice.result.now c.args.column w.index-as_slice-column.result wide w.index-as_slice-column.is
+          ∙ ap (λ (xs : List g.row.F.Denot). value_at value xs c.args.column) w.as_slice.ensures ∙ row_number value p i row within read (λ r. value_at value r.x c.args.column) in
           let weight : rational (value w.bound.result) ≡ bound_part (sample value p) c.args.part i (side i) = w.bound.ensures ∙ ap (bound_of value row c.args.part) here ∙ row_bound value p i row within read c.args.part (side i) in
           let outside : is_basic (side i) ≡ false = sym (ap is_basic here) ∙ sym c.is_basic.ensures ∙ w.if-not-is_basic.true in
           record {

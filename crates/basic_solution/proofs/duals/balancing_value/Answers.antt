@@ -24,6 +24,7 @@ pub returns-clause-spilled : goal.returns-clause-spilled
 returns-clause-spilled g c =
     let value = g.F.Exact.value in
     let totals = c.args.totals.now in
-    at_list value (λ (f : ℕ → ℚ). IfErr c.sum_of_products.result (IsSpillOf value g.F.Exact.range (site_of BasicDual c.args.position (part_number c.args.part) 0) (record { first = whole (pos 0); count = length totals; left = λ k. neg_ℚ (value_at value totals k); right = f })))
+    at_list value (λ (f : ℕ → ℚ). IfErr c.sum_of_products.result (IsSpillOf value g.F.Exact.range (site_of BasicDual c.args.position (part_number c.args.part) 0)
+    (record { first = whole (pos 0); count = length totals; left = λ k. neg_ℚ (value_at value totals k); right = f })))
     c.args.inverse.now.columns c.args.position c.column.result.now c.column.ensures
     (rw (c.new-site.ensures, c.number.ensures, c.zero.ensures) at c.sum_of_products.ensures.spilled)

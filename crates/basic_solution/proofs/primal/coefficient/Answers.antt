@@ -25,7 +25,8 @@ loop-position-preserved g c =
     let here : j < p.columns = omega arith in
     let read : r ≡ get_or p.rows (at j) r = rw (c.as_slice-rows.ensures, c.as_slice-held.ensures) at c.index-rows-row.is in
     let response : rational (value r.y) ≡ (sample value p).y (at j) = row_number value p (at j) r (c.requires.basis.distinct.within j here) read (λ r. rational (value r.y)) in
-    partial_sum-more (coefficient_products (sample value p) at (inverse_entry value c.args.inverse.now) c.args.column) j _ _ _ _ c.loop-position.invariant c.entry.ensures response (rw (← c.index-rows-row.is) at (c.in_ok-total.ensures {u = tt}).exact)
+    partial_sum-more (coefficient_products (sample value p) at (inverse_entry value c.args.inverse.now) c.args.column) j _ _ _ _ c.loop-position.invariant c.entry.ensures response
+    (rw (← c.index-rows-row.is) at (c.in_ok-total.ensures {u = tt}).exact)
 
 pub returns-in_err-total-clause-spilled : goal.returns-in_err-total-clause-spilled
 returns-in_err-total-clause-spilled g c =
@@ -40,7 +41,8 @@ returns-in_err-total-clause-spilled g c =
     let q = err_from_is_err_and c.from_residual.result c.from_residual.ensures.1 in
     let spilled = rw (c.new-site.ensures, ← c.index-rows-row.is) at (c.in_err-total.ensures {u = tt}).spilled in
     rw (q.1, q.2)
-    (step_spill value g.F.Exact.range (site_of Coefficient c.args.column 0 0) (coefficient_products (sample value p) at (inverse_entry value c.args.inverse.now) c.args.column) j j _ _ _ _ (sym (zero-add j)) here c.loop-position.invariant c.entry.ensures response spilled)
+    (step_spill value g.F.Exact.range (site_of Coefficient c.args.column 0 0) (coefficient_products (sample value p) at (inverse_entry value c.args.inverse.now) c.args.column) j j _ _ _ _
+    (sym (zero-add j)) here c.loop-position.invariant c.entry.ensures response spilled)
 
 pub returns-clause-exact : goal.returns-clause-exact
 returns-clause-exact g c =

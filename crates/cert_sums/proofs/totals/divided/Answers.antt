@@ -23,4 +23,5 @@ returns c =
     let sum : whole total ≡ column_total t.rows c.args.place d.values = rw (c.as_slice.ensures, c.as_slice-values.ensures) at c.column_product-total.ensures in
     let plain : to_z w128 (of_z w128 total) ≡ total = search rules in
     let made : rational (value128 c.in_ok-found.found) ≡ whole total *ℚ inverse (whole (pos (d.scale * t.cost_scale * t.scale))) = rw (plain) at (c.in_ok-found.ensures {u = tt}) in
-    λ e f k cells. divided_from p t c.requires.table e d.scale k.scale (whole_at d.values) k.each c.args.place f cells (rational (value128 c.in_ok-found.found)) (made ∙ ap (λ z. z *ℚ inverse (whole (pos (d.scale * t.cost_scale * t.scale)))) sum)
+    λ e f k cells. divided_from p t c.requires.table e d.scale k.scale (whole_at d.values) k.each c.args.place f cells (rational (value128 c.in_ok-found.found)) (made
+    ∙ ap (λ z. z *ℚ inverse (whole (pos (d.scale * t.cost_scale * t.scale)))) sum)

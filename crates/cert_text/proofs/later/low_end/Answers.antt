@@ -12,4 +12,5 @@ returns-then-not-make_moves-clause-err c = λ other.
 
 pub returns-clause-ok : goal.returns-clause-ok
 returns-clause-ok c =
-    ap (fitting (codes "moves")) (moved_from c.args.before.now c.args.moves.now c.as_slice.result.now c.in_ok-places.places.items (Some c.from.result) c.in_ok-places.ensures c.as_slice.ensures (c.if-not-make_moves.ensures {u = tt} ∙ ap Some (sym c.from.ensures)))
+    ap (fitting (codes "moves")) (moved_from c.args.before.now c.args.moves.now c.as_slice.result.now c.in_ok-places.places.items (Some c.from.result) c.in_ok-places.ensures c.as_slice.ensures (c.if-not-make_moves.ensures {u = tt}
+    ∙ ap Some (sym c.from.ensures)))

@@ -77,7 +77,8 @@ loop-place-preserved c =
     let P : ℕ → Type 0 = λ q. RecordFits coder.frame.now coder.model.now (columns_seen c.args.columns.now) q (get_or coder.records.now q 0) in
     let entries = ap (map exact) c.from.ensures ∙ c.in_ok-entries.ensures.exact in
     record {
-      made = each_told exact_row (row_of coder.frame.now (lent_column c.args.used.now.response) coder.model.now.offsets (weights_seen c.args.used.now.weights) (columns_seen c.args.columns.now)) coder.records.now _ index _ _ _ c.loop-place-test.true
+      made = each_told exact_row (row_of coder.frame.now (lent_column c.args.used.now.response) coder.model.now.offsets (weights_seen c.args.used.now.weights) (columns_seen c.args.columns.now)) coder.records.now _ index _ _ _
+          c.loop-place-test.true
           (any_default coder.records.now c.loop-place.place 0 index c.loop-place-test.true) c.loop-place.invariant.made c.in_ok-push.ensures.items
           (λ i. record { rec = index + 1; x = entries i; y = c.in_ok-y.ensures.exact i; weight = c.weight.ensures i });
       fits = below_more P _ c.loop-place.invariant.fits (record {

@@ -11,7 +11,8 @@ loop-place-init c = record { value = refl; fits = tt }
 pub loop-place-preserved : goal.loop-place-preserved
 loop-place-preserved c = record {
   value = less_more (exact c.args.response) c.args.offsets.now _ c.index-offsets-place.result _ _ c.loop-place-test.true c.index-offsets-place.is c.loop-place.invariant.value c.in-Ok.ensures.exact;
-  fits = less_fits (exact c.args.response) c.args.offsets.now c.loop-place.place c.loop-place.left c.index-offsets-place.result c.loop-place-test.true c.index-offsets-place.is c.loop-place.invariant.value c.loop-place.invariant.fits (λ o. absurd (cc (c.in-Ok.ensures.refused.1 o)));
+  fits = less_fits (exact c.args.response) c.args.offsets.now c.loop-place.place c.loop-place.left c.index-offsets-place.result c.loop-place-test.true c.index-offsets-place.is c.loop-place.invariant.value c.loop-place.invariant.fits
+      (λ o. absurd (cc (c.in-Ok.ensures.refused.1 o)));
 }
 
 pub returns-clause-fits : goal.returns-clause-fits

@@ -11,5 +11,6 @@ loop-at-preserved c =
     let e = c.as_bytes-bytes.ensures in
     record {
       inside = rw e.value l.within;
-      left = token_here c.args.text.now c.as_bytes-bytes.result.now _ _ c.loop-at.at c.lexeme_at-kind.result e.value c.loop-at-test.true (sym c.is_blank.ensures ∙ c.if-is_blank.false) l.lexeme l.some l.within c.in-Ok.ensures.pushed c.loop-at.invariant.left;
+      left = token_here c.args.text.now c.as_bytes-bytes.result.now _ _ c.loop-at.at c.lexeme_at-kind.result e.value c.loop-at-test.true (sym c.is_blank.ensures
+          ∙ c.if-is_blank.false) l.lexeme l.some l.within c.in-Ok.ensures.pushed c.loop-at.invariant.left;
     }

@@ -20,5 +20,6 @@ returns-in_err-act-clause-err c =
 pub returns-clause-ok : goal.returns-clause-ok
 returns-clause-ok c =
     let s = c.args.scope.now in
-    leaves (named_term s.text.now s.names.now c.args.variables.now) (arith_term s.text.now s.names.now s.ariths.now c.args.variables.now) (dot_terms c.args.variables.now s.others.now) c.args.steps.now _ _ c.loop-step-test.false c.loop-step.invariant
+    leaves (named_term s.text.now s.names.now c.args.variables.now) (arith_term s.text.now s.names.now s.ariths.now c.args.variables.now)
+    (dot_terms c.args.variables.now s.others.now) c.args.steps.now _ _ c.loop-step-test.false c.loop-step.invariant
     ∙ ap Ok (sym c.pop.ensures.top)

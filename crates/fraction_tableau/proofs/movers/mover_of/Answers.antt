@@ -27,4 +27,5 @@ returns-in_err-ratio-clause-spill g c =
     let operands = rw (c.new-site.ensures, ← c.index-line-row.is) at refused.operands in
     let over = rw (← c.index-line-row.is) at (refused.refused.0 refl) in
     rw (returned.1, returned.2)
-    (ratio_spill value l g.F.Exact.range c.args.candidate.row c.args.candidate.coord c.index-line-row.result c.absolute-size.result c.in_err-ratio.field-0.0 c.requires.line c.requires.row c.requires.coord c.requires.moves read c.absolute-size.ensures operands over)
+    (ratio_spill value l g.F.Exact.range c.args.candidate.row c.args.candidate.coord c.index-line-row.result c.absolute-size.result c.in_err-ratio.field-0.0 c.requires.line c.requires.row c.requires.coord c.requires.moves read
+    c.absolute-size.ensures operands over)

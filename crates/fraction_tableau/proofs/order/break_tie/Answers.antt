@@ -29,4 +29,5 @@ returns-clause-spill g c =
     let first = c.ratio_of-first in
     let second = c.ratio_of-second in
     let compared = rw c.basis.ensures.rows at (c.in-Err.ensures {u = tt}) in
-    tie_spill value l c.requires.line g.F.Exact.range c.args.left c.args.right (of_ratio value first.result) (of_ratio value second.result) c.in-Err.spill c.requires.differ c.requires.left c.requires.right c.requires.left_moves c.requires.right_moves first.ensures.same second.ensures.same compared.spill
+    tie_spill value l c.requires.line g.F.Exact.range c.args.left c.args.right (of_ratio value first.result)
+    (of_ratio value second.result) c.in-Err.spill c.requires.differ c.requires.left c.requires.right c.requires.left_moves c.requires.right_moves first.ensures.same second.ensures.same compared.spill

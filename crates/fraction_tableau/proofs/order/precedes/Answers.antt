@@ -24,7 +24,8 @@ break_tie-requires-clause-right_moves g c κs within =
 
 pub break_tie-requires-clause-differ : goal.break_tie-requires-clause-differ
 break_tie-requires-clause-differ g c κs within =
-    items_differ g.F.Exact.value c.args.line.now c.args.movers.now c.requires.movers c.args.j c.args.k c.index-movers-j.result c.index-movers-k.result c.requires.first c.requires.second c.requires.differ c.index-movers-j.is c.index-movers-k.is
+    items_differ g.F.Exact.value c.args.line.now c.args.movers.now c.requires.movers c.args.j c.args.k c.index-movers-j.result c.index-movers-k.result c.requires.first c.requires.second c.requires.differ c.index-movers-j.is
+    c.index-movers-k.is
 
 pub returns-then-is_eq-clause-exact : goal.returns-then-is_eq-clause-exact
 returns-then-is_eq-clause-exact g c =

@@ -14,6 +14,7 @@ returns-in_err-data_row-clause-fault c =
 
 pub loop-number-preserved : goal.loop-number-preserved
 loop-number-preserved c = record {
-  made = mapped_more exact_row (data_row (exact c.args.tau)) c.args.rows.now c.loop-number.number _ [] _ _ _ c.loop-number-test.true c.index-rows-number.is c.loop-number.invariant.made c.in_ok-add.ensures.added c.in_ok-data_row.ensures.made;
+  made = mapped_more exact_row (data_row (exact c.args.tau)) c.args.rows.now c.loop-number.number _ [] _ _ _ c.loop-number-test.true c.index-rows-number.is c.loop-number.invariant.made c.in_ok-add.ensures.added
+      c.in_ok-data_row.ensures.made;
   fits = fits_more (exact c.args.tau) c.args.rows.now c.loop-number.number _ c.loop-number-test.true c.index-rows-number.is c.loop-number.invariant.fits c.in_ok-data_row.ensures.fits;
 }

@@ -63,10 +63,12 @@ returns-in_err-order-clause-spilled g c =
     let row : slice_index_or c.as_slice-rows.result.now k 0 ≡ at k = ap (λ (xs : List ℕ). slice_index xs k) c.as_slice-rows.ensures in
     let left_read : rational (value c.neg-left_entry.result) ≡ neg_ℚ (rational (value c.index-left-k.result)) = c.neg-left_entry.ensures in
     let left_within : k < length c.args.ratios.0.now.coords.now = omega (arith, next.within, c.requires.left.same) in
-    let left_entry : rational (value c.neg-left_entry.result) ≡ perturbed n at u (suc (at k)) = left_read ∙ ap neg_ℚ (value_read value c.args.ratios.0.now.coords.now k c.index-left-k.result left_within c.index-left-k.is) ∙ held_entry n at u k c.requires.left.outside next.within in
+    let left_entry : rational (value c.neg-left_entry.result) ≡ perturbed n at u (suc (at k)) = left_read ∙ ap neg_ℚ (value_read value c.args.ratios.0.now.coords.now k c.index-left-k.result left_within c.index-left-k.is)
+    ∙ held_entry n at u k c.requires.left.outside next.within in
     let right_read : rational (value c.neg-right_entry.result) ≡ neg_ℚ (rational (value c.index-right-k.result)) = c.neg-right_entry.ensures in
     let right_within : k < length c.args.ratios.1.now.coords.now = omega (arith, next.within, c.requires.right.same) in
-    let right_entry : rational (value c.neg-right_entry.result) ≡ perturbed n at v (suc (at k)) = right_read ∙ ap neg_ℚ (value_read value c.args.ratios.1.now.coords.now k c.index-right-k.result right_within c.index-right-k.is) ∙ held_entry n at v k c.requires.right.outside next.within in
+    let right_entry : rational (value c.neg-right_entry.result) ≡ perturbed n at v (suc (at k)) = right_read ∙ ap neg_ℚ (value_read value c.args.ratios.1.now.coords.now k c.index-right-k.result right_within c.index-right-k.is)
+    ∙ held_entry n at v k c.requires.right.outside next.within in
     let agree = agree_between by.side and_by.side n at j u v c.rows.from (at k) (omega (arith, next.below, c.requires.before_left)) (omega (arith, next.below, c.requires.before_right)) next.least c.rows.invariant.agree in
     let p = err_from_is_err_and c.from_residual-in_err-order.result c.from_residual-in_err-order.ensures.1 in
     rw (p.1, p.2)
@@ -89,10 +91,12 @@ returns-then-is_ne-2-clause-exact g c =
     let row : slice_index_or c.as_slice-rows.result.now k 0 ≡ at k = ap (λ (xs : List ℕ). slice_index xs k) c.as_slice-rows.ensures in
     let left_read : rational (value c.neg-left_entry.result) ≡ neg_ℚ (rational (value c.index-left-k.result)) = c.neg-left_entry.ensures in
     let left_within : k < length c.args.ratios.0.now.coords.now = omega (arith, next.within, c.requires.left.same) in
-    let left_entry : rational (value c.neg-left_entry.result) ≡ perturbed n at u (suc (at k)) = left_read ∙ ap neg_ℚ (value_read value c.args.ratios.0.now.coords.now k c.index-left-k.result left_within c.index-left-k.is) ∙ held_entry n at u k c.requires.left.outside next.within in
+    let left_entry : rational (value c.neg-left_entry.result) ≡ perturbed n at u (suc (at k)) = left_read ∙ ap neg_ℚ (value_read value c.args.ratios.0.now.coords.now k c.index-left-k.result left_within c.index-left-k.is)
+    ∙ held_entry n at u k c.requires.left.outside next.within in
     let right_read : rational (value c.neg-right_entry.result) ≡ neg_ℚ (rational (value c.index-right-k.result)) = c.neg-right_entry.ensures in
     let right_within : k < length c.args.ratios.1.now.coords.now = omega (arith, next.within, c.requires.right.same) in
-    let right_entry : rational (value c.neg-right_entry.result) ≡ perturbed n at v (suc (at k)) = right_read ∙ ap neg_ℚ (value_read value c.args.ratios.1.now.coords.now k c.index-right-k.result right_within c.index-right-k.is) ∙ held_entry n at v k c.requires.right.outside next.within in
+    let right_entry : rational (value c.neg-right_entry.result) ≡ perturbed n at v (suc (at k)) = right_read ∙ ap neg_ℚ (value_read value c.args.ratios.1.now.coords.now k c.index-right-k.result right_within c.index-right-k.is)
+    ∙ held_entry n at v k c.requires.right.outside next.within in
     let agree = agree_between by.side and_by.side n at j u v c.rows.from (at k) (omega (arith, next.below, c.requires.before_left)) (omega (arith, next.below, c.requires.before_right)) next.least c.rows.invariant.agree in
     let left_is = entry_is value n at j u by c.requires.left_divisor (suc (at k)) c.neg-left_entry.result left_entry in
     let right_is = entry_is value n at j v and_by c.requires.right_divisor (suc (at k)) c.neg-right_entry.result right_entry in
@@ -115,10 +119,12 @@ rows-preserved g c =
     let row : slice_index_or c.as_slice-rows.result.now k 0 ≡ at k = ap (λ (xs : List ℕ). slice_index xs k) c.as_slice-rows.ensures in
     let left_read : rational (value c.neg-left_entry.result) ≡ neg_ℚ (rational (value c.index-left-k.result)) = c.neg-left_entry.ensures in
     let left_within : k < length c.args.ratios.0.now.coords.now = omega (arith, next.within, c.requires.left.same) in
-    let left_entry : rational (value c.neg-left_entry.result) ≡ perturbed n at u (suc (at k)) = left_read ∙ ap neg_ℚ (value_read value c.args.ratios.0.now.coords.now k c.index-left-k.result left_within c.index-left-k.is) ∙ held_entry n at u k c.requires.left.outside next.within in
+    let left_entry : rational (value c.neg-left_entry.result) ≡ perturbed n at u (suc (at k)) = left_read ∙ ap neg_ℚ (value_read value c.args.ratios.0.now.coords.now k c.index-left-k.result left_within c.index-left-k.is)
+    ∙ held_entry n at u k c.requires.left.outside next.within in
     let right_read : rational (value c.neg-right_entry.result) ≡ neg_ℚ (rational (value c.index-right-k.result)) = c.neg-right_entry.ensures in
     let right_within : k < length c.args.ratios.1.now.coords.now = omega (arith, next.within, c.requires.right.same) in
-    let right_entry : rational (value c.neg-right_entry.result) ≡ perturbed n at v (suc (at k)) = right_read ∙ ap neg_ℚ (value_read value c.args.ratios.1.now.coords.now k c.index-right-k.result right_within c.index-right-k.is) ∙ held_entry n at v k c.requires.right.outside next.within in
+    let right_entry : rational (value c.neg-right_entry.result) ≡ perturbed n at v (suc (at k)) = right_read ∙ ap neg_ℚ (value_read value c.args.ratios.1.now.coords.now k c.index-right-k.result right_within c.index-right-k.is)
+    ∙ held_entry n at v k c.requires.right.outside next.within in
     let agree = agree_between by.side and_by.side n at j u v c.rows.from (at k) (omega (arith, next.below, c.requires.before_left)) (omega (arith, next.below, c.requires.before_right)) next.least c.rows.invariant.agree in
     let left_is = entry_is value n at j u by c.requires.left_divisor (suc (at k)) c.neg-left_entry.result left_entry in
     let right_is = entry_is value n at j v and_by c.requires.right_divisor (suc (at k)) c.neg-right_entry.result right_entry in

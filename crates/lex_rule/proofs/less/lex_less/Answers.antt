@@ -37,7 +37,8 @@ returns-then-left-right-clause-less g c rows lu lv =
     let less : u.row < v.row = omega arith in
     let test : IsTrue c.is_below.result ↔ (perturbed_side rows n at u ≡ Down) = rw left_side at c.is_below.ensures in
     let equal : Equal ≡ lex_cmp (suc c.min-end.result) (ratio rows n at j u) (ratio rows n at j v) = sym (equal_from c.in_ok-order.order same) ∙ is in
-    left_decides rows n at j u v (perturbed_side rows n at u) (perturbed_side rows n at v) c.is_below.result c.min-end.result least less lu c.requires.left.outside c.requires.left.some test (side_cases (lex_cmp (suc rows) (perturbed n at u) zeros)) equal
+    left_decides rows n at j u v (perturbed_side rows n at u) (perturbed_side rows n at v) c.is_below.result c.min-end.result least less lu c.requires.left.outside c.requires.left.some test
+    (side_cases (lex_cmp (suc rows) (perturbed n at u) zeros)) equal
 
 pub returns-else-left-right-clause-less : goal.returns-else-left-right-clause-less
 returns-else-left-right-clause-less g c rows lu lv =
@@ -54,4 +55,5 @@ returns-else-left-right-clause-less g c rows lu lv =
     let less : v.row < u.row = omega (arith, c.requires.differ) in
     let test : IsTrue c.is_below-else-left-right.result ↔ (perturbed_side rows n at v ≡ Down) = rw right_side at c.is_below-else-left-right.ensures in
     let equal : Equal ≡ lex_cmp (suc c.min-end.result) (ratio rows n at j u) (ratio rows n at j v) = sym (equal_from c.in_ok-order.order same) ∙ is in
-    right_decides rows n at j u v (perturbed_side rows n at u) (perturbed_side rows n at v) c.is_below-else-left-right.result c.min-end.result least less lv c.requires.right.outside c.requires.right.some test (side_cases (lex_cmp (suc rows) (perturbed n at v) zeros)) equal
+    right_decides rows n at j u v (perturbed_side rows n at u) (perturbed_side rows n at v) c.is_below-else-left-right.result c.min-end.result least less lv c.requires.right.outside c.requires.right.some test
+    (side_cases (lex_cmp (suc rows) (perturbed n at v) zeros)) equal

@@ -34,4 +34,5 @@ returns-in_err-total-clause-spilled g c =
     let within : c.loop-row.row < length c.args.problem.now.rows = omega (arith, ap length c.as_slice.ensures) in
     let spilled = rw c.new-site.ensures at (c.in_err-total.ensures {u = tt}).spilled in
     rw (p.1, p.2)
-    (inr (step_spill v g.F.Exact.range (site_of Loss 0 0 0) (loss_products (sample v c.args.problem.now) (rational (v c.args.theta)) (value_at v c.args.coef.now)) c.loop-row.row c.loop-row.row _ _ _ _ (sym (zero-add c.loop-row.row)) within c.loop-row.invariant priced.cost priced.size spilled))
+    (inr (step_spill v g.F.Exact.range (site_of Loss 0 0 0) (loss_products (sample v c.args.problem.now) (rational (v c.args.theta)) (value_at v c.args.coef.now)) c.loop-row.row c.loop-row.row _ _ _ _
+    (sym (zero-add c.loop-row.row)) within c.loop-row.invariant priced.cost priced.size spilled))

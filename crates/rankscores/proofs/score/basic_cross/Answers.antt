@@ -6,7 +6,8 @@ use Rattle.rankscores.proofs.score.basic_cross.Goals as goal
 pub returns-in-Some : goal.returns-in-Some
 returns-in-Some g c =
     let value = g.F.Exact.value in
-    ap rational (c.in_ok-cross.ensures {u = tt}) ∙ c.in-Some.ensures ∙ raised_is value c.stretch_of-stretch.result c.stretch_of-stretch.ensures.weighted ∙ cross_of_stretch value c.args.problem.now c.args.segment.now c.args.row c.stretch_of-stretch.result c.stretch_of-stretch.ensures
+    ap rational (c.in_ok-cross.ensures {u = tt}) ∙ c.in-Some.ensures ∙ raised_is value c.stretch_of-stretch.result c.stretch_of-stretch.ensures.weighted
+    ∙ cross_of_stretch value c.args.problem.now c.args.segment.now c.args.row c.stretch_of-stretch.result c.stretch_of-stretch.ensures
 
 pub returns : goal.returns
 returns g c =

@@ -46,7 +46,8 @@ returns-in-Ok-fit_of-clause-right g c =
     record {
       under = under;
       right = right_fit c.args.job.now (length c.args.input.design.rows) c.args.input.problem c.in-Ok.walked c.in-Ok-all_scores.scores c.in-Ok-job_intervals.intervals c.requires.rows.shaped
-          (right_process c.args.job.now c.args.input.problem c.in-Ok.walked c.in-Ok.ensures.process c.in-Ok.ensures.short (λ some. c.in-Ok.ensures.limited some)) (rw c.as_slice-segments.ensures at (rw c.as_slice.ensures at c.in-Ok-all_scores.ensures.scored)) c.in-Ok-job_intervals.ensures.right c.in-Ok-fit_of.fit c.in-Ok-fit_of.ensures.process
+          (right_process c.args.job.now c.args.input.problem c.in-Ok.walked c.in-Ok.ensures.process c.in-Ok.ensures.short (λ some. c.in-Ok.ensures.limited some))
+          (rw c.as_slice-segments.ensures at (rw c.as_slice.ensures at c.in-Ok-all_scores.ensures.scored)) c.in-Ok-job_intervals.ensures.right c.in-Ok-fit_of.fit c.in-Ok-fit_of.ensures.process
           c.in-Ok-fit_of.ensures.scores c.in-Ok-fit_of.ensures.intervals under.problem_is under.data_rows;
     }
 

@@ -33,7 +33,8 @@ returns-in-Err-clause-cause c = rw c.path_halt.ensures (path_cause c.args.job.no
 pub returns-in-Err-process-clause-cause : goal.returns-in-Err-process-clause-cause
 returns-in-Err-process-clause-cause c =
     rw c.stop_halt.ensures
-    (path_stop c.args.job.now c.args.plain c.requires.intercept c.path_is_askable.ensures.rank c.in-Ok.problem c.in-Ok.ensures.shaped (rw c.first_penalised-first.ensures at c.in-Ok.ensures.path) c.in-Err-process.stop c.in-Err-process.ensures.stopped)
+    (path_stop c.args.job.now c.args.plain c.requires.intercept c.path_is_askable.ensures.rank c.in-Ok.problem c.in-Ok.ensures.shaped
+    (rw c.first_penalised-first.ensures at c.in-Ok.ensures.path) c.in-Err-process.stop c.in-Err-process.ensures.stopped)
 
 pub returns-in-Ok-process-clause-right : goal.returns-in-Ok-process-clause-right
 returns-in-Ok-process-clause-right c = right c

@@ -23,4 +23,5 @@ returns-in-Ok-problem-clause-intercept c =
     let input : Input = record { design = c.in-Ok.design; smoothing = c.in-Ok-qss_rows.smoothing; problem = c.in-Ok-problem.problem } in
     let both = together c.args.model.now c.in-Ok.design c.in-Ok-qss_rows.smoothing c.in-Ok.ensures.shape c.in-Ok-qss_rows.ensures.shape in
     let rows = has_rows input both c.in-Ok-problem.ensures.shaped c.in-Ok-problem.ensures.data_rows c.in-Ok.ensures.shape.weighted c.in-Ok-qss_rows.ensures.shape.weighted in
-    has_intercept c.args.job.now c.args.frame.now c.args.model.now input (subst (λ weights. IsDesign c.args.frame.now c.args.model.now c.args.job.now.coding weights input.design) c.weights_of.ensures c.in-Ok.ensures.design) c.in-Ok-problem.ensures.rows rows c.in-Ok.ensures.shape.rows
+    has_intercept c.args.job.now c.args.frame.now c.args.model.now input (subst (λ weights. IsDesign c.args.frame.now c.args.model.now c.args.job.now.coding weights input.design) c.weights_of.ensures c.in-Ok.ensures.design)
+    c.in-Ok-problem.ensures.rows rows c.in-Ok.ensures.shape.rows

@@ -30,10 +30,12 @@ loop-piece-preserved c =
     record {
       size = rw (pushed, longer, more) (omega (arith, c.loop-piece.invariant.size));
       few = rw (pushed, longer) (omega (arith, c.loop-piece.invariant.few));
-      read = rw (pushed, more) (one_more (count 3 0 999) (λ (n : ℕ). n) (pieces_of c.args.text.now) (length c.loop-piece.yielded) c.in-Some.piece.now c.loop-piece.columns c.in-Some-count.column turn.0 (rw (← turn.1) value) c.loop-piece.invariant.read);
+      read = rw (pushed, more) (one_more (count 3 0 999) (λ (n : ℕ). n) (pieces_of c.args.text.now) (length c.loop-piece.yielded) c.in-Some.piece.now c.loop-piece.columns c.in-Some-count.column turn.0
+          (rw (← turn.1) value) c.loop-piece.invariant.read);
     }
 
 pub returns : goal.returns
 returns c =
     let end = YieldsList-end (YieldsList-from_str_split 44 c.args.text.now (lit< tt) (cc) (cc) (cc)) c.loop-piece.yielded _ c.loop-piece.yielded_by _ _ c.in-None.is c.next.ensures.steps in
-    ap (λ (ns : List ℕ). Some ns) (sym (map-id c.loop-piece.columns)) ∙ all_read (count 3 0 999) (λ (n : ℕ). n) 128 c.args.text.now (length c.loop-piece.yielded) c.loop-piece.columns (omega arith) (omega (arith, c.loop-piece.invariant.size, c.loop-piece.invariant.few)) c.loop-piece.invariant.read
+    ap (λ (ns : List ℕ). Some ns) (sym (map-id c.loop-piece.columns)) ∙ all_read (count 3 0 999) (λ (n : ℕ). n) 128 c.args.text.now (length c.loop-piece.yielded) c.loop-piece.columns (omega arith)
+    (omega (arith, c.loop-piece.invariant.size, c.loop-piece.invariant.few)) c.loop-piece.invariant.read

@@ -9,7 +9,8 @@ pub returns-in-Ok-push-clause-done : goal.returns-in-Ok-push-clause-done
 returns-in-Ok-push-clause-done g c =
     let value = g.F.Exact.value in
     let w = c.args.walk in
-    rw (c.into_trail-trail.ensures) (walk_done value (here_of value w).task (rational (value c.args.lo)) (rational (value c.args.hi)) c.args.limit w c.requires.out c.in-Ok.segment c.push.new.self (c.in-Ok.ensures {u = tt}).segment (c.in-Ok-push.ensures {u = tt}).pushed)
+    rw (c.into_trail-trail.ensures) (walk_done value (here_of value w).task (rational (value c.args.lo)) (rational (value c.args.hi)) c.args.limit w c.requires.out c.in-Ok.segment c.push.new.self (c.in-Ok.ensures {u = tt}).segment
+    (c.in-Ok-push.ensures {u = tt}).pushed)
 
 pub returns-in-Err-clause-halted : goal.returns-in-Err-clause-halted
 returns-in-Err-clause-halted g c =

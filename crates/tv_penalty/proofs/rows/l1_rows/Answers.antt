@@ -15,4 +15,5 @@ loop-column-preserved c =
 pub returns-clause-rows : goal.returns-clause-rows
 returns-clause-rows c =
     ap (map exact_penalty) c.from.ensures ∙ c.loop-column.invariant
-    ∙ ap (λ n. map (unit_row c.args.columns (exact c.args.lambda)) (range_with_len c.args.first n)) (let e : c.loop-column.column - c.args.first ≡ c.args.columns - c.args.first = omega (arith, c.loop-column-test.false, c.loop-column.auto.column, c.loop-column.auto.column-end c.requires) in e)
+    ∙ ap (λ n. map (unit_row c.args.columns (exact c.args.lambda)) (range_with_len c.args.first n))
+    (let e : c.loop-column.column - c.args.first ≡ c.args.columns - c.args.first = omega (arith, c.loop-column-test.false, c.loop-column.auto.column, c.loop-column.auto.column-end c.requires) in e)

@@ -17,7 +17,8 @@ pub loop-position-preserved : goal.loop-position-preserved
 loop-position-preserved c =
     let s = c.args.station.now in
     let q = c.args.theta in
-    one_more (number_over (scale_of s q)) (model s) (at_of s) (inverse_at s) (theta_of q) (leaving_of c.loop-position.least) (leaving_of c.in-Ok.next) (leaving_of c.steeper-least.result) c.loop-position.position c.loop-position.invariant (c.in-Ok.ensures {u = tt})
+    one_more (number_over (scale_of s q)) (model s) (at_of s) (inverse_at s) (theta_of q) (leaving_of c.loop-position.least) (leaving_of c.in-Ok.next) (leaving_of c.steeper-least.result) c.loop-position.position c.loop-position.invariant
+    (c.in-Ok.ensures {u = tt})
     (c.steeper-least.ensures (scale_of s q) (scale_some s q c.requires.station.held.shape.positive c.requires.theta))
 
 pub returns-then-least-lt0 : goal.returns-then-least-lt0

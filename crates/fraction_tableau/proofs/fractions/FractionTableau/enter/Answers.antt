@@ -12,10 +12,12 @@ invariant_of-self-2 g c =
     let xs = c.as_slice-x.result.now in
     let exchanged = c.in-Ok.ensures {u = tt} in
     let within = rw (← c.self.view_is) at c.requires.row in
-    let read = is_read p c.as_slice.result.now c.args.step.row c.index-as_slice-step.result xs c.self.invariant.shaped c.as_slice.ensures (subst (λ (n : ℕ). c.args.step.row < n) (sym (ap length c.as_slice.ensures)) within) c.index-as_slice-step.is c.as_slice-x.ensures in
+    let read = is_read p c.as_slice.result.now c.args.step.row c.index-as_slice-step.result xs c.self.invariant.shaped c.as_slice.ensures
+    (subst (λ (n : ℕ). c.args.step.row < n) (sym (ap length c.as_slice.ensures)) within) c.index-as_slice-step.is c.as_slice-x.ensures in
     record {
       shaped = c.self.invariant.shaped;
-      inverse = rw c.replace.ensures.new (inverse_after g.F.Exact.value p before.basis.rows before.inverse c.exchange.new.self c.args.step.position c.args.step.row c.index-as_slice-step.result xs read c.self.invariant.inverse exchanged.rows exchanged.inverse exchanged.size);
+      inverse = rw c.replace.ensures.new (inverse_after g.F.Exact.value p before.basis.rows before.inverse c.exchange.new.self c.args.step.position c.args.step.row c.index-as_slice-step.result xs read c.self.invariant.inverse exchanged.rows
+          exchanged.inverse exchanged.size);
     }
 
 pub returns-clause-kept : goal.returns-clause-kept
@@ -30,7 +32,8 @@ returns-in-Err-clause-spill g c =
     let xs = c.as_slice-x.result.now in
     let a = inverse_entry value before.inverse in
     let within = rw (← c.self.view_is) at c.requires.row in
-    let read = is_read p c.as_slice.result.now c.args.step.row c.index-as_slice-step.result xs c.self.invariant.shaped c.as_slice.ensures (subst (λ (n : ℕ). c.args.step.row < n) (sym (ap length c.as_slice.ensures)) within) c.index-as_slice-step.is c.as_slice-x.ensures in
+    let read = is_read p c.as_slice.result.now c.args.step.row c.index-as_slice-step.result xs c.self.invariant.shaped c.as_slice.ensures
+    (subst (λ (n : ℕ). c.args.step.row < n) (sym (ap length c.as_slice.ensures)) within) c.index-as_slice-step.is c.as_slice-x.ensures in
     rw (← c.self.view_is)
     (at_read value p c.args.step.row c.index-as_slice-step.result xs read (λ n f. IsShortOf (IsExchangeSpill value range n a f c.args.step.row c.args.step.position) c.in-Err.short)
     (c.in-Err.ensures {u = tt}).spill)

@@ -42,7 +42,8 @@ pub returns-in_err-coords-clause-spill : goal.returns-in_err-coords-clause-spill
 returns-in_err-coords-clause-spill g c =
     let returned = err_from_is_err_and c.from_residual.result c.from_residual.ensures.1 in
     rw (returned.1, returned.2)
-    (column_fault g.F.Exact.value g.F.Exact.range (sample g.F.Exact.value c.args.self.now.problem) (slice_index c.args.self.now.rows) (inverse_entry g.F.Exact.value c.args.self.now.square) (rational (g.F.Exact.value c.args.theta)) c.args.leave.position _ c.requires.leaving.position (c.in_err-coords.ensures {u = tt}).spill)
+    (column_fault g.F.Exact.value g.F.Exact.range (sample g.F.Exact.value c.args.self.now.problem) (slice_index c.args.self.now.rows) (inverse_entry g.F.Exact.value c.args.self.now.square)
+    (rational (g.F.Exact.value c.args.theta)) c.args.leave.position _ c.requires.leaving.position (c.in_err-coords.ensures {u = tt}).spill)
 
 pub returns-in_err-heap-clause-spill : goal.returns-in_err-heap-clause-spill
 returns-in_err-heap-clause-spill g c =

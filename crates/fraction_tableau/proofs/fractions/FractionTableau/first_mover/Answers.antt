@@ -30,7 +30,8 @@ returns-in_err-coords-clause-spill g c =
     let value = g.F.Exact.value in
     let k = c.args.self.now in
     let returned = err_from_is_err_and c.from_residual.result c.from_residual.ensures.1 in
-    rw (returned.1, returned.2) (column_fault value g.F.Exact.range (sample value k.problem) (slice_index k.rows) (inverse_entry value k.square) c.args.position c.args.direction _ c.requires.position (c.in_err-coords.ensures {u = tt}).spill)
+    rw (returned.1, returned.2) (column_fault value g.F.Exact.range (sample value k.problem) (slice_index k.rows) (inverse_entry value k.square) c.args.position c.args.direction _ c.requires.position
+    (c.in_err-coords.ensures {u = tt}).spill)
 
 pub returns-in_err-found-clause-spill : goal.returns-in_err-found-clause-spill
 returns-in_err-found-clause-spill g c =

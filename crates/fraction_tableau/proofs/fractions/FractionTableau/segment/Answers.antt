@@ -14,4 +14,5 @@ returns-in-Err-clause-refused g c = λ hi stay.
     let range = g.F.Exact.range in
     let k = c.args.self.now in
     let from = rational (value c.args.from) in
-    short_refused value range (place value k) (walking from hi) (IsStaySpill value range (sample value k.problem) (slice_index k.rows) (inverse_entry value k.square) from hi) c.in-Err.short c.failure.result refl (λ s h. h) ((c.in-Err.ensures {u = tt}).refused hi stay) c.failure.ensures
+    short_refused value range (place value k) (walking from hi) (IsStaySpill value range (sample value k.problem) (slice_index k.rows) (inverse_entry value k.square) from hi) c.in-Err.short c.failure.result refl (λ s h. h)
+    ((c.in-Err.ensures {u = tt}).refused hi stay) c.failure.ensures

@@ -14,4 +14,5 @@ returns-in-Err-clause-refused g c =
     let range = g.F.Exact.range in
     let k = c.args.self.now in
     let theta = rational (value c.args.theta) in
-    short_refused value range (place value k) (solving theta) (IsStepSpill value range (sample value k.problem) (slice_index k.rows) (inverse_entry value k.square) theta) c.in-Err.short c.failure.result refl (λ s h. h) (c.in-Err.ensures {u = tt}).spilled c.failure.ensures
+    short_refused value range (place value k) (solving theta) (IsStepSpill value range (sample value k.problem) (slice_index k.rows) (inverse_entry value k.square) theta) c.in-Err.short c.failure.result refl (λ s h. h)
+    (c.in-Err.ensures {u = tt}).spilled c.failure.ensures

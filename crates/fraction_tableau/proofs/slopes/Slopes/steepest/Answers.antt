@@ -28,4 +28,5 @@ returns-else-sign-lt0-clause-leaving g c =
     let end : c.loop-position.position ≡ s.tableau.now.problem.columns = omega (arith, c.loop-position-test.false, c.loop-position.auto.position-end, c.columns-position-end.ensures.columns, c.requires.duals.kept.shaped.some) in
     let h = subst (λ n. IsLeast value (model value s) (rows_of value s) (inverse_of value s) (rational (value s.theta)) n c.loop-position.least) end c.loop-position.invariant in
     let above : pos 0 ≤ℤ c.sign.result = omega (arith, ints) in
-    none_negative value (model value s) (rows_of value s) (inverse_of value s) (rational (value s.theta)) c.loop-position.least s.tableau.now.problem.columns h (from_sign (rational (value c.loop-position.least.slope)) c.sign.result c.sign.ensures above)
+    none_negative value (model value s) (rows_of value s) (inverse_of value s) (rational (value s.theta)) c.loop-position.least s.tableau.now.problem.columns h
+    (from_sign (rational (value c.loop-position.least.slope)) c.sign.result c.sign.ensures above)

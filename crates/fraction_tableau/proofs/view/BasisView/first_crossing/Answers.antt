@@ -17,4 +17,5 @@ returns-clause-exact g c =
     let value = g.F.Exact.value in
     let view = c.args.self.now in
     let end : c.loop-position.position ≡ view.tableau.now.problem.columns = omega (arith, c.loop-position-test.false, c.loop-position.auto.position-end) in
-    subst (λ n. IsFirstOf value (passes_at (sample_at value view) (rows_at value view) (entries_at value view)) (crossing_of (sample_at value view) (rows_at value view) (entries_at value view)) n c.loop-position.least) end c.loop-position.invariant
+    subst (λ n. IsFirstOf value (passes_at (sample_at value view) (rows_at value view) (entries_at value view)) (crossing_of (sample_at value view) (rows_at value view) (entries_at value view)) n c.loop-position.least) end
+    c.loop-position.invariant

@@ -54,4 +54,5 @@ returns-in_err-total-clause-spill g c =
     let spilled = rw (c.new-site.ensures, c.number.ensures) at (c.in_err-total.ensures {u = tt}).spilled in
     let returned = err_from_is_err_and c.from_residual-in_err-total.result c.from_residual-in_err-total.ensures.1 in
     rw (returned.1, returned.2)
-    (of_loss (step_spill value g.F.Exact.range (site_of Loss (end_number c.args.end) 0 0) (loss_products p (rational (value c.args.theta)) (coefficient p (rows_at value view) (entries_at value view))) c.loop-row.row c.loop-row.row _ _ _ _ (sym (zero-add c.loop-row.row)) within c.loop-row.invariant priced.cost priced.size spilled))
+    (of_loss (step_spill value g.F.Exact.range (site_of Loss (end_number c.args.end) 0 0) (loss_products p (rational (value c.args.theta)) (coefficient p (rows_at value view) (entries_at value view))) c.loop-row.row c.loop-row.row _ _ _ _
+    (sym (zero-add c.loop-row.row)) within c.loop-row.invariant priced.cost priced.size spilled))

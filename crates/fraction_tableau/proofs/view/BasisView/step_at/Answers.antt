@@ -30,5 +30,6 @@ returns-in_err-row-clause-spill g c =
     let view = c.args.self.now in
     let returned = err_from_is_err_and c.from_residual.result c.from_residual.ensures.1 in
     rw (returned.1, returned.2)
-    (short_weaker (IsOrderSpill value g.F.Exact.range (sample_at value view) (rows_at value view) (entries_at value view) c.args.next.position c.args.next.direction) (IsStepSpillAt value g.F.Exact.range view c.args.next (rational (value c.args.hi)))
+    (short_weaker (IsOrderSpill value g.F.Exact.range (sample_at value view) (rows_at value view) (entries_at value view) c.args.next.position c.args.next.direction)
+    (IsStepSpillAt value g.F.Exact.range view c.args.next (rational (value c.args.hi)))
     (λ s k. (is_below_by (rational (value c.args.next.theta)) (rational (value c.args.hi)) c.is_lt.result (c.is_lt.ensures ∙ ap is_lt c.compare.ensures) c.if-not-is_lt.false, k)) _ (c.in_err-row.ensures {u = tt}).spill)

@@ -42,9 +42,12 @@ returns-clause-exact g c =
     let is : ℕ → (ℕ → ℚ) → (ℕ → ℚ) → Type 0 = λ n f h. IfOk made (λ e. rational (value e) ≡ whole (pos 0) +ℚ sum_ℚ n (λ i. f i *ℚ h i)) in
     let first : is (length c.as_slice-left.result.now) (value_at value c.as_slice-left.result.now) (value_at value c.as_slice-right.result.now) = rw c.zero.ensures at c.sum_of_products.ensures.exact in
     IfOk-weaker made _ _ (λ e h. h ∙ gram_total value p c.args.k c.args.l)
-    (subst (λ n. is n (λ i. scaled (sample value p) i c.args.k) (λ i. scaled (sample value p) i c.args.l)) (ap length left_is ∙ column_size value p v.scaled.now c.args.k c.index-self-k.result c.requires.scaled c.requires.first c.index-self-k.is)
-    (subst (λ f. is (length c.as_slice-left.result.now) f (λ i. scaled (sample value p) i c.args.l)) (ap (value_at value) left_is ∙ column_is value p v.scaled.now c.args.k c.index-self-k.result c.requires.scaled c.requires.first c.index-self-k.is)
-    (subst (λ h. is (length c.as_slice-left.result.now) (value_at value c.as_slice-left.result.now) h) (ap (value_at value) right_is ∙ column_is value p v.scaled.now c.args.l c.index-self-l.result c.requires.scaled c.requires.second c.index-self-l.is) first)))
+    (subst (λ n. is n (λ i. scaled (sample value p) i c.args.k) (λ i. scaled (sample value p) i c.args.l)) (ap length left_is
+    ∙ column_size value p v.scaled.now c.args.k c.index-self-k.result c.requires.scaled c.requires.first c.index-self-k.is)
+    (subst (λ f. is (length c.as_slice-left.result.now) f (λ i. scaled (sample value p) i c.args.l)) (ap (value_at value) left_is
+    ∙ column_is value p v.scaled.now c.args.k c.index-self-k.result c.requires.scaled c.requires.first c.index-self-k.is)
+    (subst (λ h. is (length c.as_slice-left.result.now) (value_at value c.as_slice-left.result.now) h) (ap (value_at value) right_is
+    ∙ column_is value p v.scaled.now c.args.l c.index-self-l.result c.requires.scaled c.requires.second c.index-self-l.is) first)))
 
 pub returns-clause-spill : goal.returns-clause-spill
 returns-clause-spill g c =
@@ -56,6 +59,9 @@ returns-clause-spill g c =
     let right_is = rw (← c.index-self-l.is) at c.as_slice-right.ensures in
     let is : ℕ → (ℕ → ℚ) → (ℕ → ℚ) → Type 0 = λ n f h. IfErr made (IsSpillOf value g.F.Exact.range (site_of Gram c.args.k c.args.l 0) (record { first = whole (pos 0); count = n; left = f; right = h })) in
     let first : is (length c.as_slice-left.result.now) (value_at value c.as_slice-left.result.now) (value_at value c.as_slice-right.result.now) = rw (c.new-site.ensures, c.zero.ensures) at c.sum_of_products.ensures.spilled in
-    subst (λ n. is n (λ i. scaled (sample value p) i c.args.k) (λ i. scaled (sample value p) i c.args.l)) (ap length left_is ∙ column_size value p v.scaled.now c.args.k c.index-self-k.result c.requires.scaled c.requires.first c.index-self-k.is)
-    (subst (λ f. is (length c.as_slice-left.result.now) f (λ i. scaled (sample value p) i c.args.l)) (ap (value_at value) left_is ∙ column_is value p v.scaled.now c.args.k c.index-self-k.result c.requires.scaled c.requires.first c.index-self-k.is)
-    (subst (λ h. is (length c.as_slice-left.result.now) (value_at value c.as_slice-left.result.now) h) (ap (value_at value) right_is ∙ column_is value p v.scaled.now c.args.l c.index-self-l.result c.requires.scaled c.requires.second c.index-self-l.is) first))
+    subst (λ n. is n (λ i. scaled (sample value p) i c.args.k) (λ i. scaled (sample value p) i c.args.l)) (ap length left_is
+    ∙ column_size value p v.scaled.now c.args.k c.index-self-k.result c.requires.scaled c.requires.first c.index-self-k.is)
+    (subst (λ f. is (length c.as_slice-left.result.now) f (λ i. scaled (sample value p) i c.args.l)) (ap (value_at value) left_is
+    ∙ column_is value p v.scaled.now c.args.k c.index-self-k.result c.requires.scaled c.requires.first c.index-self-k.is)
+    (subst (λ h. is (length c.as_slice-left.result.now) (value_at value c.as_slice-left.result.now) h) (ap (value_at value) right_is
+    ∙ column_is value p v.scaled.now c.args.l c.index-self-l.result c.requires.scaled c.requires.second c.index-self-l.is) first))

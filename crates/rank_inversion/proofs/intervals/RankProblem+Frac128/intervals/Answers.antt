@@ -12,4 +12,5 @@ returns g c =
     let answers = c.in_ok-answers.answers.items in
     IfOk-weaker c.until_stop.result _ _ (λ until h.
     answered_until (IsIntervalAnswer value range self) (asked_over self.crit self.problem.now.columns (map (λ at. at.tau) c.args.starts.now)) answers until.done.items until.stop
-    (zip_of (λ asked. (self, asked)) (λ job answer. IsIntervalAnswer value range job.0 job.1 answer) (asked_over self.crit self.problem.now.columns (map (λ at. at.tau) c.args.starts.now)) c.in_ok-jobs.jobs.items answers c.in_ok-jobs.ensures c.in_ok-answers.ensures) h) c.until_stop.ensures
+    (zip_of (λ asked. (self, asked)) (λ job answer. IsIntervalAnswer value range job.0 job.1 answer)
+    (asked_over self.crit self.problem.now.columns (map (λ at. at.tau) c.args.starts.now)) c.in_ok-jobs.jobs.items answers c.in_ok-jobs.ensures c.in_ok-answers.ensures) h) c.until_stop.ensures

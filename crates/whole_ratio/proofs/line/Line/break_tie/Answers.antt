@@ -24,7 +24,8 @@ pub returns-then-one-two : goal.returns-then-one-two
 returns-then-one-two c =
     let l = c.args.self.now in
     let same : is_ne c.in_ok-order.order ≡ false = sym c.is_ne.ensures ∙ c.if-is_ne.false in
-    left_first l c.requires.line c.tied-one.result c.tied-two.result c.tied-one.ensures.tied c.tied-two.ensures.tied c.min-end.result c.in_ok-order.order c.is_down.result (omega arith) (omega arith) c.is_down.ensures (c.in_ok-order.ensures {u = tt}) same
+    left_first l c.requires.line c.tied-one.result c.tied-two.result c.tied-one.ensures.tied c.tied-two.ensures.tied c.min-end.result c.in_ok-order.order c.is_down.result (omega arith) (omega arith) c.is_down.ensures
+    (c.in_ok-order.ensures {u = tt}) same
     ∙ ap₂ (comes_before l) c.tied-one.ensures.row c.tied-two.ensures.row
 
 pub returns-else-one-two : goal.returns-else-one-two
@@ -32,5 +33,6 @@ returns-else-one-two c =
     let l = c.args.self.now in
     let same : is_ne c.in_ok-order.order ≡ false = sym c.is_ne.ensures ∙ c.if-is_ne.false in
     let less : c.tied-two.result.row < c.tied-one.result.row = omega (arith, c.requires.differ, c.tied-one.ensures.row, c.tied-two.ensures.row) in
-    right_first l c.requires.line c.tied-one.result c.tied-two.result c.tied-one.ensures.tied c.tied-two.ensures.tied c.min-end.result c.in_ok-order.order c.is_down-else-one-two.result (omega (arith, less)) less c.is_down-else-one-two.ensures (c.in_ok-order.ensures {u = tt}) same
+    right_first l c.requires.line c.tied-one.result c.tied-two.result c.tied-one.ensures.tied c.tied-two.ensures.tied c.min-end.result c.in_ok-order.order c.is_down-else-one-two.result
+    (omega (arith, less)) less c.is_down-else-one-two.ensures (c.in_ok-order.ensures {u = tt}) same
     ∙ ap₂ (comes_before l) c.tied-one.ensures.row c.tied-two.ensures.row

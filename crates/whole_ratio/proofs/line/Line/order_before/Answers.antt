@@ -18,7 +18,8 @@ returns-then-is_ne c =
     let k = c.in-Some.k in
     let next : IsLeastHeld (model l).columns (at_of l) c.rows.from c.args.end k = rw (c.as_slice-rows.ensures, line.held.size) at (c.in-Some.ensures {u = tt}) in
     let differ : is_ne c.in_ok-order.order ≡ true = sym c.is_ne.ensures ∙ c.if-is_ne.true in
-    entry_decides l line c.args.left c.args.right c.requires.left c.requires.right c.rows.from c.args.end k c.in_ok-order.order c.requires.before_left c.requires.before_right next c.rows.invariant.agree (c.in_ok-order.ensures {u = tt}) differ
+    entry_decides l line c.args.left c.args.right c.requires.left c.requires.right c.rows.from c.args.end k c.in_ok-order.order c.requires.before_left c.requires.before_right next c.rows.invariant.agree
+    (c.in_ok-order.ensures {u = tt}) differ
 
 pub rows-preserved : goal.rows-preserved
 rows-preserved c =
@@ -28,7 +29,8 @@ rows-preserved c =
     let next : IsLeastHeld (model l).columns (at_of l) c.rows.from c.args.end k = rw (c.as_slice-rows.ensures, line.held.size) at (c.in-Some.ensures {u = tt}) in
     let row : slice_index_or c.as_slice-rows.result.now k 0 ≡ at_of l k = ap (λ (xs : List ℕ). slice_index xs k) c.as_slice-rows.ensures in
     let same : is_ne c.in_ok-order.order ≡ false = sym c.is_ne.ensures ∙ c.if-is_ne.false in
-    let more = entry_agrees l line c.args.left c.args.right c.requires.left c.requires.right c.rows.from c.args.end k c.in_ok-order.order c.requires.before_left c.requires.before_right next c.rows.invariant.agree (c.in_ok-order.ensures {u = tt}) same in
+    let more = entry_agrees l line c.args.left c.args.right c.requires.left c.requires.right c.rows.from c.args.end k c.in_ok-order.order c.requires.before_left c.requires.before_right next c.rows.invariant.agree
+    (c.in_ok-order.ensures {u = tt}) same in
     record {
       low = omega (arith, row, next.below);
       agree = λ i li. more i (omega (arith, row, li));

@@ -21,7 +21,8 @@ loop-row-preserved c =
     let grown : c.push.new.self ≡ made ++ x ∷ [] = search rules in
     rw (grown) (record {
       size = size_pushed made x i c.loop-row.invariant.size;
-      each = side_pushed_where (λ i. is_among at (length s.columns) i ≡ false) made x i (side_at (sample_of_rows (length s.columns) b.rows.now) at (inverse_of s)) c.loop-row.invariant.size c.loop-row.invariant.each (c.in_ok-side.ensures {u = tt});
+      each = side_pushed_where (λ i. is_among at (length s.columns) i ≡ false) made x i (side_at (sample_of_rows (length s.columns) b.rows.now) at (inverse_of s)) c.loop-row.invariant.size c.loop-row.invariant.each
+          (c.in_ok-side.ensures {u = tt});
     })
 
 pub free_side-requires-clause-residual : goal.free_side-requires-clause-residual
