@@ -30,9 +30,7 @@ fn walked_from<'a, F: Exact>(
     requires costs_hi { HasCosts (sample_of F.value (place_of F.value begun.tableau)) (rational (F.value hi)) }
     requires begun { IsBegun F.value (place_of F.value begun.tableau).task begun }
 {
-    let Ok(solved) = solve_over(begun, lo, 10000) else {
-        panic!(rt; "the solve must not be refused");
-    };
+    let solved = solve_over(begun, lo, 10000).ok().expect(rt, "a solve");
     walk_range(alloc, solved, lo, hi, 10000)
         .ok()
         .expect(rt, "a process")
