@@ -1,5 +1,5 @@
-//! Both bodies of the tableau on drawn problems: whole numbers refuse none of them but where the columns are dependent,
-//! and give the same walk as fractions.
+//! Both bodies of the tableau on drawn problems: whole numbers refuse none of them whose columns are independent, and give
+//! the same walk as fractions.
 
 ghost use Rattle.exact_algebra.specs.Fraction.{rational};
 ghost use Rattle.exact_algebra.specs.Rational.{◌≤ℚ◌};
@@ -9,8 +9,6 @@ ghost use Rattle.tableau.specs.Bodies.{place_of};
 ghost use Rattle.tableau.specs.Solving.{IsBegun};
 
 use crate::digest::digest_of;
-use crate::helpers::make_problem;
-use crate::least_loss::{OVER, draw_problem};
 use frac_core::{Exact, Frac128};
 use loss_model::{Problem, Process};
 use std::alloc::Global;
@@ -40,68 +38,60 @@ fn walked_from<'a, F: Exact>(
         .expect(rt, "a process")
 }
 
-/// The walk of a problem in whole numbers, none where its start is refused.
+/// The walk of a problem in whole numbers.
 pub(crate) fn in_wholes<F: Exact>(
     rt: &impl Abort,
     alloc: Global,
     problem: &Problem<F>,
     (lo, hi): (F, F),
-) -> Option<Process<F>> {
+) -> Process<F> {
     assert!(rt; is_shaped(problem));
     assert!(rt; is_ordered(lo, hi));
     assert!(rt; has_costs(problem, lo));
     assert!(rt; has_costs(problem, hi));
-    let Ok(setting) = setting_of(alloc, problem) else {
-        return None;
-    };
-    match Progress::begin_in_wholes(alloc, problem, &setting) {
-        Ok(begun) => Some(walked_from(rt, alloc, begun, lo, hi)),
-        Err(_) => None,
-    }
+    let setting = setting_of(alloc, problem)
+        .ok()
+        .expect(rt, "numbers of 64 bits");
+    let begun = Progress::begin_in_wholes(alloc, problem, &setting)
+        .ok()
+        .expect(rt, "a start in whole numbers");
+    let process = walked_from(rt, alloc, begun, lo, hi);
+    drop(setting);
+    process
 }
 
-/// The walk of a problem in fractions, none where its start is.
+/// The walk of a problem in fractions.
 fn in_fractions<F: Exact>(
     rt: &impl Abort,
     alloc: Global,
     problem: &Problem<F>,
     (lo, hi): (F, F),
-) -> Option<Process<F>> {
+) -> Process<F> {
     assert!(rt; is_shaped(problem));
     assert!(rt; is_ordered(lo, hi));
     assert!(rt; has_costs(problem, lo));
     assert!(rt; has_costs(problem, hi));
-    match Progress::begin(alloc, problem) {
-        Ok(begun) => Some(walked_from(rt, alloc, begun, lo, hi)),
-        Err(_) => None,
-    }
+    let begun = Progress::begin(alloc, problem).ok().expect(rt, "a start");
+    walked_from(rt, alloc, begun, lo, hi)
 }
 
-/// The digest of a process and how many steps it has; none where there is no process.
-fn figures(walked: &Option<Process<Frac128>>) -> Option<(i128, usize)> {
-    match walked {
-        Some(process) => Some((digest_of(process), process.trail.steps.as_slice().len())),
-        None => None,
-    }
+/// The digest of a process and how many steps it has.
+fn figures(process: &Process<Frac128>) -> (i128, usize) {
+    (digest_of(process), process.trail.steps.as_slice().len())
 }
 
-/// Both walks from 0 to 1 have the same segments and as many steps.
-fn expect_same(rt: &impl Abort, alloc: Global, problem: &Problem<Frac128>) {
+/// The walks of both bodies from 0 to 1 have the segments of this one and as many steps.
+pub(crate) fn expect_same(
+    rt: &impl Abort,
+    alloc: Global,
+    problem: &Problem<Frac128>,
+    process: &Process<Frac128>,
+) {
     let range = (Frac128::zero(), Frac128::one());
-    let left = in_wholes(rt, alloc, problem, range);
-    let right = in_fractions(rt, alloc, problem, range);
-    assert!(rt; figures(&left) == figures(&right));
-    drop(left);
-    drop(right);
-}
-
-#[test]
-fn both_bodies_give_the_same_walk(rt: HostRuntime) {
-    let mut state = 11;
-    for number in 0..60 {
-        let small = draw_problem(&rt, rt.alloc(), &mut state, number % 3 + 1);
-        let drawn = make_problem(&rt, rt.alloc(), small.columns, OVER, small.rows.as_slice());
-        expect_same(&rt, rt.alloc(), &drawn);
-        drop(drawn);
-    }
+    let wholes = in_wholes(rt, alloc, problem, range);
+    assert!(rt; figures(&wholes) == figures(process));
+    drop(wholes);
+    let fractions = in_fractions(rt, alloc, problem, range);
+    assert!(rt; figures(&fractions) == figures(process));
+    drop(fractions);
 }

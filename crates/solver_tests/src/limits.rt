@@ -3,246 +3,37 @@
 //!
 //! What a table needs was worked out by the definitions of the pivot rule in fractions, apart from the program.
 
-use crate::helpers::{fraction, push, solve, walk};
-use frac_core::{Exact, Frac128, List};
-use loss_model::{Problem, Row, Stop, Trail};
+use crate::helpers::{Plain, fraction, make_problem, push, solve, walk};
+use frac_core::{Exact, Frac128};
+use loss_model::{Problem, Stop};
 use std::alloc::Global;
 use std::process::Abort;
 use test_kit::draw;
 
-/// How many pivots a table needs for the solve at 1/3 and for the process over 0 to 1, and how many bases there are
-/// beside the first: rows choose columns, less 1. Some tables need as many as there are; of two rows that fall the
-/// process needs twice as many.
-static NEEDED: [(u8, u8, u8); 200] = [
-    (2, 4, 5),
-    (0, 1, 2),
-    (0, 1, 1),
-    (1, 3, 2),
-    (0, 3, 5),
-    (0, 3, 2),
-    (0, 3, 3),
-    (1, 5, 4),
-    (0, 2, 1),
-    (1, 3, 2),
-    (1, 5, 4),
-    (0, 0, 0),
-    (0, 0, 0),
-    (0, 0, 0),
-    (1, 2, 1),
-    (1, 2, 1),
-    (1, 3, 5),
-    (1, 3, 5),
-    (0, 5, 4),
-    (0, 0, 0),
-    (0, 0, 0),
-    (1, 3, 5),
-    (0, 2, 2),
-    (1, 4, 3),
-    (0, 0, 0),
-    (2, 5, 9),
-    (1, 4, 3),
-    (0, 0, 0),
-    (1, 4, 9),
-    (1, 3, 5),
-    (1, 2, 1),
-    (1, 5, 9),
-    (1, 4, 3),
-    (0, 4, 9),
-    (0, 0, 0),
-    (0, 2, 2),
-    (0, 2, 5),
-    (0, 2, 1),
-    (1, 5, 4),
-    (1, 2, 2),
-    (1, 5, 9),
-    (1, 3, 5),
-    (1, 5, 4),
-    (1, 4, 4),
-    (0, 5, 9),
-    (0, 0, 0),
-    (0, 3, 2),
-    (1, 5, 4),
-    (1, 2, 2),
-    (1, 3, 2),
-    (0, 1, 1),
-    (1, 5, 4),
-    (0, 0, 0),
-    (2, 5, 9),
-    (0, 0, 0),
-    (0, 1, 1),
-    (0, 0, 0),
-    (1, 3, 5),
-    (1, 3, 3),
-    (0, 2, 1),
-    (1, 5, 4),
-    (0, 4, 3),
-    (1, 3, 5),
-    (0, 2, 2),
-    (0, 1, 2),
-    (1, 4, 3),
-    (1, 3, 2),
-    (1, 2, 2),
-    (0, 1, 1),
-    (0, 0, 0),
-    (1, 2, 2),
-    (2, 6, 9),
-    (0, 0, 0),
-    (1, 5, 4),
-    (1, 4, 3),
-    (0, 3, 2),
-    (1, 2, 2),
-    (1, 4, 9),
-    (0, 0, 0),
-    (1, 2, 1),
-    (1, 5, 4),
-    (1, 4, 9),
-    (0, 2, 1),
-    (0, 0, 0),
-    (0, 0, 0),
-    (0, 2, 1),
-    (1, 3, 5),
-    (0, 5, 4),
-    (0, 1, 2),
-    (1, 4, 3),
-    (0, 2, 2),
-    (0, 2, 2),
-    (0, 1, 1),
-    (2, 5, 9),
-    (0, 1, 1),
-    (1, 2, 2),
-    (1, 4, 9),
-    (0, 5, 4),
-    (1, 4, 4),
-    (0, 0, 0),
-    (1, 5, 9),
-    (2, 5, 9),
-    (0, 1, 1),
-    (1, 2, 2),
-    (1, 2, 1),
-    (0, 5, 4),
-    (0, 3, 2),
-    (0, 5, 4),
-    (1, 4, 4),
-    (2, 3, 5),
-    (0, 0, 0),
-    (1, 2, 2),
-    (1, 2, 2),
-    (0, 2, 1),
-    (1, 3, 2),
-    (0, 5, 4),
-    (1, 4, 4),
-    (1, 4, 3),
-    (1, 3, 2),
-    (1, 3, 2),
-    (0, 1, 1),
-    (1, 4, 9),
-    (0, 1, 1),
-    (1, 2, 2),
-    (1, 3, 2),
-    (0, 1, 2),
-    (1, 3, 2),
-    (1, 5, 4),
-    (1, 2, 2),
-    (1, 2, 1),
-    (1, 4, 9),
-    (1, 4, 9),
-    (1, 5, 4),
-    (1, 1, 2),
-    (1, 5, 4),
-    (0, 0, 0),
-    (1, 3, 2),
-    (1, 2, 2),
-    (1, 4, 9),
-    (1, 4, 9),
-    (0, 2, 2),
-    (0, 2, 2),
-    (1, 2, 1),
-    (1, 4, 3),
-    (0, 2, 1),
-    (1, 3, 2),
-    (1, 3, 2),
-    (0, 4, 9),
-    (1, 2, 2),
-    (1, 4, 9),
-    (0, 4, 3),
-    (0, 0, 0),
-    (1, 5, 4),
-    (1, 5, 4),
-    (0, 1, 2),
-    (1, 2, 1),
-    (2, 5, 9),
-    (1, 2, 2),
-    (1, 2, 2),
-    (1, 5, 4),
-    (1, 5, 4),
-    (0, 0, 0),
-    (1, 4, 3),
-    (0, 4, 3),
-    (1, 3, 2),
-    (1, 4, 3),
-    (1, 5, 9),
-    (1, 3, 2),
-    (1, 3, 2),
-    (1, 5, 4),
-    (1, 3, 3),
-    (1, 3, 2),
-    (1, 4, 3),
-    (0, 4, 3),
-    (1, 5, 4),
-    (1, 2, 2),
-    (1, 3, 5),
-    (1, 3, 5),
-    (0, 4, 3),
-    (2, 4, 9),
-    (0, 5, 4),
-    (0, 4, 3),
-    (1, 3, 5),
-    (0, 5, 4),
-    (1, 4, 5),
-    (1, 4, 3),
-    (1, 4, 3),
-    (1, 2, 2),
-    (1, 4, 9),
-    (0, 2, 2),
-    (0, 4, 3),
-    (0, 2, 2),
-    (1, 4, 5),
-    (1, 3, 5),
-    (1, 4, 5),
-    (0, 2, 2),
-    (1, 4, 4),
-    (0, 4, 3),
-    (0, 4, 3),
-    (1, 2, 1),
+/// Three digits for each table: how many pivots it needs for the solve at 1/3, how many for the process over 0 to 1, and
+/// how many bases there are beside the first: rows choose columns, less 1. Some tables need as many as there are; of two
+/// rows that fall the process needs twice as many.
+static NEEDED: [u16; 200] = [
+    245, 12, 11, 132, 35, 32, 33, 154, 21, 132, 154, 0, 0, 0, 121, 121, 135, 135, 54, 0, 0, 135,
+    22, 143, 0, 259, 143, 0, 149, 135, 121, 159, 143, 49, 0, 22, 25, 21, 154, 122, 159, 135, 154,
+    144, 59, 0, 32, 154, 122, 132, 11, 154, 0, 259, 0, 11, 0, 135, 133, 21, 154, 43, 135, 22, 12,
+    143, 132, 122, 11, 0, 122, 269, 0, 154, 143, 32, 122, 149, 0, 121, 154, 149, 21, 0, 0, 21, 135,
+    54, 12, 143, 22, 22, 11, 259, 11, 122, 149, 54, 144, 0, 159, 259, 11, 122, 121, 54, 32, 54,
+    144, 235, 0, 122, 122, 21, 132, 54, 144, 143, 132, 132, 11, 149, 11, 122, 132, 12, 132, 154,
+    122, 121, 149, 149, 154, 112, 154, 0, 132, 122, 149, 149, 22, 22, 121, 143, 21, 132, 132, 49,
+    122, 149, 43, 0, 154, 154, 12, 121, 259, 122, 122, 154, 154, 0, 143, 43, 132, 143, 159, 132,
+    132, 154, 133, 132, 143, 43, 154, 122, 135, 135, 43, 249, 54, 43, 135, 54, 145, 143, 143, 122,
+    149, 22, 43, 22, 145, 135, 145, 22, 144, 43, 43, 121,
 ];
 
 // A data row: an entry of 1, in two columns another below 4 besides, a response below 6 and a weight of 1 or 2. The
 // first two rows have the entries 0 and 1, so that the columns are independent.
-fn draw_row<F: Exact>(
-    rt: &impl Abort,
-    alloc: Global,
-    state: &mut u32,
-    columns: u32,
-    number: u32,
-) -> Row<F> {
+fn draw_row(state: &mut u32, number: u32) -> Plain {
     let drawn = draw(state, 4);
-    let y = draw(state, 6);
-    let weight = 1 + draw(state, 2);
-    let mut x = Vec::new(alloc);
-    push(rt, &mut x, F::one());
-    if columns == 2 {
-        let entry = if number < 2 { number } else { drawn };
-        push(rt, &mut x, fraction(rt, (i128::from(entry), 1)));
-    }
-    let weight: F = fraction(rt, (i128::from(weight), 1));
-    Row {
-        x: List::from(x),
-        y: fraction(rt, (i128::from(y), 1)),
-        up0: F::zero(),
-        up1: weight,
-        down0: weight,
-        down1: weight.neg(),
-    }
+    let y = i128::from(draw(state, 6));
+    let weight = i128::from(draw(state, 2)) + 1;
+    let entry = if number < 2 { number } else { drawn };
+    Plain::data([1, i128::from(entry), 0], y, weight)
 }
 
 /// A problem of one or two columns and two to five rows.
@@ -251,72 +42,60 @@ fn draw_problem(rt: &impl Abort, alloc: Global, state: &mut u32) -> Problem<Frac
     let count = 2 + draw(state, 4);
     let mut rows = Vec::new(alloc);
     for number in 0..count {
-        push(rt, &mut rows, draw_row(rt, alloc, state, columns, number));
+        push(rt, &mut rows, draw_row(state, number));
     }
-    Problem {
-        columns,
-        rows: List::from(rows),
-    }
+    make_problem(rt, alloc, columns, 1, rows.as_slice())
 }
 
-/// A trail that the limit stopped has as many steps.
-fn expect_stop<F: Exact>(rt: &impl Abort, shown: u32, trail: &Trail<F>, limit: u32) {
-    assert!(rt; shown == limit, "the limit is shown");
-    assert!(rt;
-        trail.steps.as_slice().len() == limit as usize,
-        "the trail has as many steps as the limit"
-    );
-}
-
-/// An answer within the limit has so many pivots.
-fn expect_pivots<F: Exact>(rt: &impl Abort, trail: &Trail<F>, limit: u32, needed: u32) {
-    assert!(rt; needed <= limit, "the limit is enough");
-    assert!(rt;
-        trail.steps.as_slice().len() == needed as usize,
-        "the pivots of the rule"
-    );
-}
-
-/// What stops an answer that needs so many pivots is the limit, and it is too low.
-fn expect_limit<F: Exact>(rt: &impl Abort, stop: Stop<F>, limit: u32, needed: u32) {
+/// The pivots up to the limit, which alone stops an answer.
+fn pivots_before(rt: &impl Abort, stop: &Stop<Frac128>, limit: u32) -> usize {
     match stop {
         Stop::PivotLimit {
             limit: shown,
             trail,
         } => {
-            assert!(rt; limit < needed, "the limit is too low");
-            expect_stop(rt, shown, &trail, limit);
+            assert!(rt; *shown == limit);
+            trail.steps.as_slice().len()
         }
         _ => panic!(rt; "no other stop"),
     }
 }
 
-/// The solve needs so many pivots where the limit allows them.
-fn expect_solve<F: Exact>(
+/// The solve makes as many pivots as it needs, or as the limit allows, and then has no answer.
+fn expect_solve(
     rt: &impl Abort,
     alloc: Global,
-    problem: &Problem<F>,
+    problem: &Problem<Frac128>,
     limit: u32,
     needed: u32,
 ) {
-    match solve(rt, alloc, problem, fraction(rt, (1, 3)), limit) {
-        Ok(solved) => expect_pivots(rt, &solved.trail, limit, needed),
-        Err(stop) => expect_limit(rt, stop, limit, needed),
-    }
+    let answer = solve(rt, alloc, problem, fraction(rt, (1, 3)), limit);
+    let pivots = match &answer {
+        Ok(solved) => solved.trail.steps.as_slice().len(),
+        Err(stop) => pivots_before(rt, stop, limit),
+    };
+    assert!(rt; answer.is_ok() == (needed <= limit));
+    assert!(rt; pivots == needed.min(limit) as usize);
+    drop(answer);
 }
 
 /// So does the process.
-fn expect_process<F: Exact>(
+fn expect_process(
     rt: &impl Abort,
     alloc: Global,
-    problem: &Problem<F>,
+    problem: &Problem<Frac128>,
     limit: u32,
     needed: u32,
 ) {
-    match walk(rt, alloc, problem, (F::zero(), F::one()), limit) {
-        Ok(walked) => expect_pivots(rt, &walked.trail, limit, needed),
-        Err(stop) => expect_limit(rt, stop, limit, needed),
-    }
+    let range = (Frac128::zero(), Frac128::one());
+    let answer = walk(rt, alloc, problem, range, limit);
+    let pivots = match &answer {
+        Ok(process) => process.trail.steps.as_slice().len(),
+        Err(stop) => pivots_before(rt, stop, limit),
+    };
+    assert!(rt; answer.is_ok() == (needed <= limit));
+    assert!(rt; pivots == needed.min(limit) as usize);
+    drop(answer);
 }
 
 /// The limits at, above and one below what is needed, and the bound.
@@ -329,24 +108,23 @@ fn limits(needed: u32, bound: u32) -> [u32; 4] {
     ]
 }
 
-#[test]
-fn limits_about_what_a_solve_needs(rt: HostRuntime) {
-    let mut state = 39;
-    for (needed, _, further) in &NEEDED {
-        let problem = draw_problem(&rt, rt.alloc(), &mut state);
-        for limit in limits(*needed as u32, *further as u32) {
-            expect_solve(&rt, rt.alloc(), &problem, limit, *needed as u32);
-        }
+/// Both under all limits, given three digits.
+fn expect_pivots(rt: &impl Abort, alloc: Global, problem: &Problem<Frac128>, digits: u32) {
+    let (solve, process, further) = (digits / 100, digits / 10 % 10, digits % 10);
+    for limit in limits(solve, further) {
+        expect_solve(rt, alloc, problem, limit, solve);
+    }
+    for limit in limits(process, further.saturating_mul(2)) {
+        expect_process(rt, alloc, problem, limit, process);
     }
 }
 
 #[test]
-fn limits_about_what_a_process_needs(rt: HostRuntime) {
+fn limits_about_what_is_needed(rt: HostRuntime) {
     let mut state = 39;
-    for (_, needed, further) in &NEEDED {
+    for digits in &NEEDED {
         let problem = draw_problem(&rt, rt.alloc(), &mut state);
-        for limit in limits(*needed as u32, (*further as u32).saturating_mul(2)) {
-            expect_process(&rt, rt.alloc(), &problem, limit, *needed as u32);
-        }
+        expect_pivots(&rt, rt.alloc(), &problem, u32::from(*digits));
+        drop(problem);
     }
 }

@@ -59,15 +59,8 @@ fn is_earlier<F: Exact>(body: &WholeTableau<'_, F>) -> bool {
     solution.near.coef.as_slice() != solution.coef.as_slice()
 }
 
-/// The look from the basis of a solve.
-fn look_from<'a, F: Exact>(rt: &impl Abort, begun: Progress<'a, F>, theta: F) -> Look
-    requires costs { HasCosts (sample_of F.value (place_of F.value begun.tableau)) (rational (F.value theta)) }
-    requires begun { IsBegun F.value (place_of F.value begun.tableau).task begun }
-{
-    let Ok(solved) = solve_over(begun, theta, 10000) else {
-        panic!(rt; "the solve must not be refused");
-    };
-    match &solved.tableau {
+fn look_of<F: Exact>(rt: &impl Abort, tableau: &Tableau<'_, F>) -> Look {
+    match tableau {
         Tableau::Wholes(body) => Look {
             tells: is_told(rt, body),
             stays: is_earlier(body),
@@ -76,17 +69,30 @@ fn look_from<'a, F: Exact>(rt: &impl Abort, begun: Progress<'a, F>, theta: F) ->
     }
 }
 
+/// The look from the basis of a solve.
+fn look_from<'a, F: Exact>(rt: &impl Abort, begun: Progress<'a, F>, theta: F) -> Look
+    requires costs { HasCosts (sample_of F.value (place_of F.value begun.tableau)) (rational (F.value theta)) }
+    requires begun { IsBegun F.value (place_of F.value begun.tableau).task begun }
+{
+    let solved = solve_over(begun, theta, 10000).ok().expect(rt, "a solve");
+    let look = look_of(rt, &solved.tableau);
+    drop(solved);
+    look
+}
+
 /// The look at the basis of a problem's solve at a quantile.
 fn look_at<F: Exact>(rt: &impl Abort, alloc: Global, problem: &Problem<F>, theta: F) -> Look {
     assert!(rt; is_shaped(problem));
     assert!(rt; has_costs(problem, theta));
-    let Ok(setting) = setting_of(alloc, problem) else {
-        panic!(rt; "whole numbers must not be refused");
-    };
-    let Ok(begun) = Progress::begin_in_wholes(alloc, problem, &setting) else {
-        panic!(rt; "the start must not be refused");
-    };
-    look_from(rt, begun, theta)
+    let setting = setting_of(alloc, problem)
+        .ok()
+        .expect(rt, "numbers of 64 bits");
+    let begun = Progress::begin_in_wholes(alloc, problem, &setting)
+        .ok()
+        .expect(rt, "a start in whole numbers");
+    let look = look_from(rt, begun, theta);
+    drop(setting);
+    look
 }
 
 /// A table of numbers below the limit.
@@ -172,10 +178,7 @@ fn paired_table(rt: &impl Abort, alloc: Global) -> Problem<Frac128> {
 fn far_rows_are_not_looked_at(rt: HostRuntime) {
     let problem = paired_table(&rt, rt.alloc());
     let range = (fraction(&rt, (1, 2)), fraction(&rt, (3, 5)));
-    let walked = in_wholes(&rt, rt.alloc(), &problem, range).expect(
-        &rt,
-        "a start in whole numbers",
-    );
+    let walked = in_wholes(&rt, rt.alloc(), &problem, range);
     let steps = walked.trail.steps.as_slice().len();
     assert!(rt; steps >= 4, "only {steps} steps");
     drop(walked);
