@@ -49,12 +49,12 @@ pub(crate) fn in_wholes<F: Exact>(
     assert!(rt; is_ordered(lo, hi));
     assert!(rt; has_costs(problem, lo));
     assert!(rt; has_costs(problem, hi));
-    let setting = setting_of(alloc, problem)
-        .ok()
-        .expect(rt, "numbers of 64 bits");
-    let begun = Progress::begin_in_wholes(alloc, problem, &setting)
-        .ok()
-        .expect(rt, "a start in whole numbers");
+    let Ok(setting) = setting_of(alloc, problem) else {
+        panic!(rt; "numbers of 64 bits");
+    };
+    let Ok(begun) = Progress::begin_in_wholes(alloc, problem, &setting) else {
+        panic!(rt; "a start in whole numbers");
+    };
     let process = walked_from(rt, alloc, begun, lo, hi);
     drop(setting);
     process
@@ -71,7 +71,9 @@ fn in_fractions<F: Exact>(
     assert!(rt; is_ordered(lo, hi));
     assert!(rt; has_costs(problem, lo));
     assert!(rt; has_costs(problem, hi));
-    let begun = Progress::begin(alloc, problem).ok().expect(rt, "a start");
+    let Ok(begun) = Progress::begin(alloc, problem) else {
+        panic!(rt; "a start");
+    };
     walked_from(rt, alloc, begun, lo, hi)
 }
 

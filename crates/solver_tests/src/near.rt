@@ -84,12 +84,12 @@ fn look_from<'a, F: Exact>(rt: &impl Abort, begun: Progress<'a, F>, theta: F) ->
 fn look_at<F: Exact>(rt: &impl Abort, alloc: Global, problem: &Problem<F>, theta: F) -> Look {
     assert!(rt; is_shaped(problem));
     assert!(rt; has_costs(problem, theta));
-    let setting = setting_of(alloc, problem)
-        .ok()
-        .expect(rt, "numbers of 64 bits");
-    let begun = Progress::begin_in_wholes(alloc, problem, &setting)
-        .ok()
-        .expect(rt, "a start in whole numbers");
+    let Ok(setting) = setting_of(alloc, problem) else {
+        panic!(rt; "numbers of 64 bits");
+    };
+    let Ok(begun) = Progress::begin_in_wholes(alloc, problem, &setting) else {
+        panic!(rt; "a start in whole numbers");
+    };
     let look = look_from(rt, begun, theta);
     drop(setting);
     look
