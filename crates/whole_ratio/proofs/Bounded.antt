@@ -1,24 +1,22 @@
 -- Products of bounds, and the most that a sum of products can be.
-use Rattle.std.specs.Prelude.{◌≡◌, ℕ, ℤ, ◌+◌, ◌*◌, ◌<◌, ◌≤◌, unsigned_abs, List, [], ◌∷◌, get_or, length, slice_index, IsTrue, pos}
+use Rattle.std.specs.Prelude.{◌≡◌, ℕ, ℤ, ◌+◌, ◌*◌, ◌<◌, ◌≤◌, ◌≤ℤ◌, List, [], ◌∷◌, get_or, length, IsTrue, pos}
 use Rattle.std.specs.Ordering.{is_lt, nat_cmp}
-use Rattle.std.proofs.Common.{arith, refl, sym, ap, subst, ◌∙◌}
+use Rattle.std.proofs.Common.{arith, refl, ap, ◌∙◌}
+use Rattle.std.proofs.lemmas.Int.{ints}
 use Rattle.std.proofs.lemmas.Grind.{common_steps}
 use Rattle.std.proofs.lemmas.Nat.{mul-le}
-use Rattle.exact_algebra.specs.Solver.{◌⊞◌, ◌⊠◌, v0, v1, v2}
-use Rattle.exact_algebra.specs.Rational.{◌+ℚ◌, ◌*ℚ◌, whole, inverse, ◌≤ℚ◌}
-use Rattle.exact_algebra.specs.RationalSums.{sum_ℚ}
-use Rattle.exact_algebra.proofs.RationalLaws.{ring_ℚ, whole-add, whole-mul, ≤ℚ_refl}
-use Rattle.exact_algebra.proofs.RationalSumLaws.{sum_ℚ-next}
-use Rattle.loss_model.specs.Spill.{abs_ℚ}
-use Rattle.pivot_rule.proofs.Entering.{abs_above}
+use Rattle.exact_algebra.specs.Solver.{◌⊠◌, v0, v1}
+use Rattle.exact_algebra.specs.Rational.{◌*ℚ◌, whole, inverse}
+use Rattle.exact_algebra.proofs.RationalLaws.{ring_ℚ}
+use Rattle.exact_algebra.proofs.OrderLaws.{inverse_not_negative}
+use Rattle.exact_algebra.proofs.WholeNumbers.{whole-le}
 use Rattle.whole_inverse.specs.Shares.{share, share_at}
 use Rattle.whole_inverse.proofs.Lists.{share_read}
-use Rattle.whole_solution.specs.Far.{top_at}
-use Rattle.whole_solution.proofs.Numbers.{share_none}
+use Rattle.whole_solution.specs.declared.ranges.Ranges.{Ranges}
+use Rattle.whole_solution.specs.Ranges.{most_of_products}
+use Rattle.whole_solution.proofs.Ranges.{most_scaled}
 use Rattle.whole_ratio.specs.declared.bound.Pair.{Pair}
-use Rattle.whole_ratio.specs.Bounds.{IsReduced, IsMost}
-use Rattle.whole_ratio.proofs.Signs.{abs_share}
-use Rattle.whole_solution.proofs.Sizes.{sum_within, product_within}
+use Rattle.whole_ratio.specs.Bounds.{IsReduced}
 
 -- ---- products of three
 
@@ -51,37 +49,11 @@ less_than x y t = grind (arith, common_steps)
 
 -- ---- sums of products
 
-share_sum : (m n : ℕ) (d : ℤ) → share (pos m) d +ℚ share (pos n) d ≡ share (pos (m + n)) d
-share_sum m n d =
-    ring_ℚ (whole (pos m) ∷ whole (pos n) ∷ inverse (whole d) ∷ []) (v0 ⊠ v2 ⊞ v1 ⊠ v2) ((v0 ⊞ v1) ⊠ v2) refl
-    ∙ ap (λ z. z *ℚ inverse (whole d)) (sym (whole-add (pos m) (pos n)))
-
-share_product : (m n : ℕ) (d : ℤ) → whole (pos m) *ℚ share (pos n) d ≡ share (pos (n * m)) d
-share_product m n d =
-    ring_ℚ (whole (pos m) ∷ whole (pos n) ∷ inverse (whole d) ∷ []) (v0 ⊠ (v1 ⊠ v2)) ((v1 ⊠ v0) ⊠ v2) refl
-    ∙ ap (λ z. z *ℚ inverse (whole d)) (sym (whole-mul (pos n) (pos m)))
-
--- of no products
-pub most_none : (tops : List ℕ) (column : List ℤ) → IsMost tops column 0 0
-most_none tops column x d h small =
-    subst (λ z. abs_ℚ (whole (pos 0)) ≤ℚ z) (abs_above (whole (pos 0)) (≤ℚ_refl (whole (pos 0))) ∙ sym (share_none (pos 0) d refl)) (≤ℚ_refl (abs_ℚ (whole (pos 0))))
-
--- of one more
-pub most_more : (tops : List ℕ) (column : List ℤ) (k m : ℕ) → k < length column → IsMost tops column k m → IsMost tops column (k + 1) (m + unsigned_abs (get_or column k (pos 0)) * slice_index tops k)
-most_more tops column k m lk before x d h small =
-    subst (λ z. abs_ℚ z ≤ℚ share (pos (m + q)) d) (sym (sum_ℚ-next k (λ k. x k *ℚ share_at d column k)))
-    (subst (λ z. abs_ℚ (sum_ℚ k (λ k. x k *ℚ share_at d column k) +ℚ (x k *ℚ share_at d column k)) ≤ℚ z) (share_sum m q d)
-    (sum_within (sum_ℚ k (λ k. x k *ℚ share_at d column k)) (x k *ℚ share_at d column k) (share (pos m) d) (share (pos q) d)
-    (before x d h (λ j lj. small j (omega (arith, lj)))) last))
-  where
-    q : ℕ
-    q = unsigned_abs (get_or column k (pos 0)) * slice_index tops k
-
-    size : abs_ℚ (share_at d column k) ≡ share (pos (unsigned_abs (get_or column k (pos 0)))) d
-    size = ap abs_ℚ (sym (share_read d column k lk)) ∙ abs_share (get_or column k (pos 0)) d h
-
-    last : abs_ℚ (x k *ℚ share_at d column k) ≤ℚ share (pos q) d
-    last =
-        subst (λ z. abs_ℚ (x k *ℚ share_at d column k) ≤ℚ z)
-        (ap (λ z. top_at tops k *ℚ z) size ∙ share_product (slice_index tops k) (unsigned_abs (get_or column k (pos 0))) d)
-        (product_within (x k) (share_at d column k) (top_at tops k) (small k (omega arith)))
+-- the most that they can be, over a denominator
+pub most_share : (r : Ranges) (column : List ℤ) (n m : ℕ) (d : ℤ) → n ≤ length column → pos 1 ≤ℤ d → whole (pos m) ≡ most_of_products n r (λ k. whole (get_or column k (pos 0)))
+    → share (pos m) d ≡ most_of_products n r (share_at d column)
+most_share r column n m d short h is =
+    ap (λ z. z *ℚ inverse (whole d)) is
+    ∙ ring_ℚ (most_of_products n r (λ k. whole (get_or column k (pos 0))) ∷ inverse (whole d) ∷ []) (v0 ⊠ v1) (v1 ⊠ v0) refl
+    ∙ most_scaled (inverse (whole d)) (inverse_not_negative (whole d) (whole-le (pos 0) d (omega (arith, ints)))) n r (λ k. whole (get_or column k (pos 0))) (share_at d column)
+    (λ k lk. ring_ℚ (whole (get_or column k (pos 0)) ∷ inverse (whole d) ∷ []) (v1 ⊠ v0) (v0 ⊠ v1) refl ∙ share_read d column k (omega (arith, lk, short)))

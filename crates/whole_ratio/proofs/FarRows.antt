@@ -1,5 +1,5 @@
 -- Rows that are far come after a mover whose ratio is small enough.
-use Rattle.std.specs.Prelude.{◌≡◌, ◌≢◌, ℕ, suc, ℤ, ◌*◌, ◌<◌, ◌≤◌, true, unsigned_abs, List, [], ◌∷◌, length, slice_get, slice_index, Some, pos}
+use Rattle.std.specs.Prelude.{◌≡◌, ◌≢◌, ℕ, suc, ℤ, ◌*◌, ◌<◌, ◌≤◌, true, unsigned_abs, List, [], ◌∷◌, length, get_or, slice_get, slice_index, Some, pos}
 use Rattle.std.specs.Ordering.{is_lt}
 use Rattle.std.proofs.Common.{arith, refl, sym, ap, ap₂, subst, ◌∙◌, inl, inr}
 use Rattle.std.proofs.lemmas.Int.{ints}
@@ -21,16 +21,18 @@ use Rattle.whole_inverse.specs.Shares.{share, share_at}
 use Rattle.whole_inverse.specs.Squares.{WholeSquare}
 use Rattle.walk_rule.specs.Walks.{IsFirstMover}
 use Rattle.whole_solution.specs.Far.{IsFarOn, IsNearOrFar}
+use Rattle.whole_solution.specs.Ranges.{most_of_products}
 use Rattle.whole_solution.specs.Standing.{side_in}
 use Rattle.whole_ratio.specs.declared.line.Line.{Line}
 use Rattle.whole_ratio.specs.declared.line.Mover.{Mover}
 use Rattle.whole_ratio.specs.declared.near_line.NearLine.{NearLine}
-use Rattle.whole_ratio.specs.Bounds.{IsMost}
 use Rattle.whole_ratio.specs.Lines.{model, at_of, inverse_at, over_of, residual_of, IsLine, IsMover, IsNearLine, IsBefore, IsFirstMoverOf, AreFarAfter, is_moving, comes_before, ratio_of}
+use Rattle.whole_ratio.proofs.Bounded.{most_share}
 use Rattle.whole_ratio.proofs.Coordinates.{column_size, coordinates_by}
 use Rattle.whole_ratio.proofs.FirstLaws.{first_of_all}
 use Rattle.whole_ratio.proofs.Movers.{turned-times}
 use Rattle.whole_ratio.proofs.Signs.{share_not_below}
+use Rattle.whole_solution.proofs.Ranges.{products_stay_in_range}
 use Rattle.whole_solution.proofs.Sizes.{none_from, scaled_up, size_not_negative}
 use Rattle.whole_ratio.proofs.Ties.{moving_coord}
 
@@ -137,12 +139,14 @@ module _ (l : Line) (line : IsLine l) where
 
 module _ (n : NearLine) (near : IsNearLine n) (numbers : List ℤ) (is : slice_get n.line.basis.now.inverse.now.columns n.line.position ≡ Some numbers) where
   -- the coordinates are within their bound
-  coord_small : (most : ℕ) → IsMost n.near.now.tops numbers (length numbers) most → (i : ℕ) → i < length n.line.basis.now.rows.now → abs_ℚ (coord (model n.line) (inverse_at n.line) i n.line.position) ≤ℚ share (pos most) (over_of n.line)
+  coord_small : (most : ℕ) → whole (pos most) ≡ most_of_products (length numbers) n.near.now.ranges (λ k. whole (get_or numbers k (pos 0))) → (i : ℕ) → i < length n.line.basis.now.rows.now → abs_ℚ (coord (model n.line) (inverse_at n.line) i n.line.position) ≤ℚ share (pos most) (over_of n.line)
   coord_small most bound i li =
       subst (λ z. abs_ℚ z ≤ℚ share (pos most) (over_of n.line))
       (coordinates_by s near.line.held.shape n.line.basis.now.rows.now i n.line.position numbers made near.line.position is refl)
-      (bound ((model n.line).x i) (over_of n.line) near.line.held.shape.positive
-      (λ k lk. near.near.tops.each i k li (subst (λ m. k < m) (column_size s near.line.held.shape n.line.position numbers near.line.position is) lk)))
+      (subst (λ z. abs_ℚ made ≤ℚ z)
+      (sym (most_share n.near.now.ranges numbers (length numbers) most (over_of n.line) (omega arith) near.line.held.shape.positive bound))
+      (products_stay_in_range (length numbers) n.near.now.ranges ((model n.line).x i) (share_at (over_of n.line) numbers)
+      (λ k lk. near.near.ranges.each i li k (subst (λ m. k < m) (column_size s near.line.held.shape n.line.position numbers near.line.position is) lk))))
     where
       s : WholeSquare
       s = n.line.basis.now.inverse.now
@@ -150,7 +154,7 @@ module _ (n : NearLine) (near : IsNearLine n) (numbers : List ℤ) (is : slice_g
       made : ℚ
       made = sum_ℚ (length numbers) (λ k. (model n.line).x i k *ℚ share_at (over_of n.line) numbers k)
 
-  pub far_after : (m : Mover) → IsMover n.line m → (most : ℕ) → IsMost n.near.now.tops numbers (length numbers) most
+  pub far_after : (m : Mover) → IsMover n.line m → (most : ℕ) → whole (pos most) ≡ most_of_products (length numbers) n.near.now.ranges (λ k. whole (get_or numbers k (pos 0)))
       → m.residual * most * unsigned_abs n.near.now.determinant < n.near.now.reach * m.coord * unsigned_abs (over_of n.line) → AreFarAfter n m.row
   far_after m h most bound less i li far moving =
       let e : n.near.now.determinant ≡ pos (unsigned_abs n.near.now.determinant) = let p = near.near.some in omega (arith, ints, p) in

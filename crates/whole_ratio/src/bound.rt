@@ -1,8 +1,11 @@
 //! Products of three numbers by their leading bits, and the most that a coordinate can be.
-ghost use Rattle.std.specs.Prelude.{◌≡◌, ◌+◌, ◌*◌, ◌^◌, ◌<◌, ◌≤◌, length, IfSome, IsTrue};
+ghost use Rattle.std.specs.Prelude.{◌≡◌, ◌*◌, ◌^◌, ◌<◌, ◌≤◌, length, get_or, IfSome, IsTrue, pos};
+ghost use Rattle.exact_algebra.specs.Rational.{whole};
 ghost use Rattle.wide_int.specs.Numbers.{joined};
-ghost use Rattle.whole_ratio.specs.Bounds.{IsReduced, IsMost};
+ghost use Rattle.whole_solution.specs.Ranges.{most_of_products};
+ghost use Rattle.whole_ratio.specs.Bounds.{IsReduced};
 
+use whole_solution::Ranges;
 use wide_int::Natural;
 
 /// Two numbers of a kind, of which one stands on each side of a comparison.
@@ -66,15 +69,22 @@ pub fn is_product_less(one: Pair, two: Pair, three: Pair) -> bool
     left.compare(right).is_lt()
 }
 
-/// The most that the sum of the products of a column and a row within the tops can be, where it has 128 bits.
-pub fn most_of(tops: &[u64], column: &[i128]) -> Option<u128>
-    requires { length column.now ≤ length tops.now }
-    ensures { IfSome result (IsMost tops.now column.now (length column.now)) }
+/// The most that the sum of the products of a column and a row in the ranges can be, where it has 128 bits.
+pub fn most_of(ranges: &Ranges, column: &[i128]) -> Option<u128>
+    requires middles { length column.now ≤ length ranges.now.middles }
+    requires halves { length column.now ≤ length ranges.now.halves }
+    ensures { IfSome result (λ m. whole (pos m) ≡ most_of_products (length column.now) ranges.now (λ k. whole (get_or column.now k (pos 0)))) }
 {
-    let mut sum: u128 = 0;
+    let middles = ranges.middles.as_slice();
+    let halves = ranges.halves.as_slice();
+    let mut middle: i128 = 0;
+    let mut rest: u128 = 0;
     for k in 0..column.len() {
-        let part = column[k].unsigned_abs().checked_mul(u128::from(tops[k]))?;
-        sum = sum.checked_add(part)?;
+        let at_middle = column[k].checked_mul(i128::from(middles[k]))?;
+        let within = column[k].unsigned_abs().checked_mul(u128::from(halves[k]))?;
+        middle = middle.checked_add(at_middle)?;
+        rest = rest.checked_add(within)?;
     }
+    let sum = rest.checked_add(middle.unsigned_abs())?;
     Some(sum)
 }

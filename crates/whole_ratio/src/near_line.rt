@@ -137,7 +137,7 @@ impl<'a> NearLine<'a> {
         let near = self.near;
         let inverse = self.line.basis.inverse;
         let column = inverse.numerators(self.line.position);
-        let Some(most) = most_of(near.tops.as_slice(), column) else {
+        let Some(most) = most_of(&near.ranges, column) else {
             return false;
         };
         let residuals = Pair {

@@ -11,8 +11,10 @@ use Rattle.basis_model.specs.Basis.{coefficient, side_at}
 use Rattle.pivot_rule.proofs.Among.{among_place}
 use Rattle.whole_inverse.specs.Shares.{share, share_at}
 use Rattle.whole_solution.specs.declared.near.Near.{Near}
+use Rattle.whole_solution.specs.declared.ranges.Ranges.{Ranges}
 use Rattle.whole_solution.specs.Standing.{side_in}
-use Rattle.whole_solution.specs.Far.{room, top_at, AreOthersFar, AreTops, IsChosen, IsFarOn, IsListed, IsNear, IsNearOrFar}
+use Rattle.whole_solution.specs.Far.{room, AreOthersFar, IsChosen, IsFarOn, IsListed, IsNear, IsNearOrFar}
+use Rattle.whole_solution.specs.Ranges.{AreRanges}
 use Rattle.whole_solution.proofs.Keeping.{keeps_on, far_side, far_weaker, reach_left, share-le}
 use Rattle.whole_solution.proofs.Made.{basic_by}
 use Rattle.whole_solution.proofs.Numbers.{share_above}
@@ -27,8 +29,8 @@ weaker near side far least i r l (inl h) = inl h
 weaker near side far least i r l (inr h) = inr (far_weaker side far least r l h)
 
 -- rows that were chosen
-module _ (p : Sample) (side : ℕ → Side) (residuals coefs : List ℤ) (d : ℤ) (sizes : List ℕ) (n : Near) (chosen : IsChosen side residuals coefs d sizes n)
-    (rows : length residuals ≡ p.rows) (columns : length coefs ≡ p.columns) (positive : pos 1 ≤ℤ d) (tops : AreTops p sizes)
+module _ (p : Sample) (side : ℕ → Side) (residuals coefs : List ℤ) (d : ℤ) (kept : Ranges) (n : Near) (chosen : IsChosen side residuals coefs d kept n)
+    (rows : length residuals ≡ p.rows) (columns : length coefs ≡ p.columns) (positive : pos 1 ≤ℤ d) (ranges : AreRanges p kept)
     (are : (i : ℕ) → i < p.rows → share_at d residuals i ≡ residual p (share_at d coefs) i) where
   pub near_from_chosen : IsNear p side n
   near_from_chosen =
@@ -37,7 +39,7 @@ module _ (p : Sample) (side : ℕ → Side) (residuals coefs : List ℤ) (d : �
         some = subst (λ d. pos 1 ≤ℤ d) (sym chosen.determinant) positive;
         reach = chosen.reach;
         rows = subst (λ m. All (λ i. i < m) n.rows) rows chosen.rows;
-        tops = subst (λ sizes. AreTops p sizes) (sym chosen.tops) tops;
+        ranges = subst (AreRanges p) (sym chosen.ranges) ranges;
         others = subst (λ d. AreOthersFar p side n.rows (share (pos (2 * n.reach)) d) (share_at d n.coef)) (sym chosen.determinant)
             (subst (λ coefs. AreOthersFar p side n.rows (share (pos (2 * n.reach)) d) (share_at d coefs)) (sym chosen.coef)
             (λ i li. far_same n.rows (side i) (share (pos (2 * n.reach)) d) i (share_at d residuals i) (residual p (share_at d coefs) i) (are i li) (chosen.others i (omega (arith, li, rows)))));
@@ -53,7 +55,7 @@ module _ (p : Sample) (side : ℕ → Side) (residuals coefs : List ℤ) (d : �
 -- rows that were near an earlier fit, from which no residual has moved by more than the reach
 module _ (p : Sample) (at : ℕ → ℕ) (a : ℕ → ℕ → ℚ) (d : ℤ) (coef : List ℤ) (n : Near) (old made : List Side)
     (size : length coef ≡ p.columns) (same : (k : ℕ) → k < p.columns → share_at d coef k ≡ coefficient p at a k) (is_near : IsNear p (side_in old) n)
-    (serves : room (length coef) (top_at n.tops) (share_at n.determinant n.coef) (share_at d coef) ≤ℚ share (pos n.reach) n.determinant)
+    (serves : room (length coef) n.ranges (share_at n.determinant n.coef) (share_at d coef) ≤ℚ share (pos n.reach) n.determinant)
     (each : (i : ℕ) → IsListed n.rows i ⊎ (side_in made i ≡ side_in old i)) where
   abbrev before : ℕ → ℚ
   before = share_at n.determinant n.coef
@@ -67,9 +69,9 @@ module _ (p : Sample) (at : ℕ → ℕ) (a : ℕ → ℕ → ℚ) (d : ℤ) (co
   -- a far row is still far
   still_far : (i : ℕ) → i < p.rows → (side : Side) → IsFarOn side far (residual p before i) → IsFarOn side least (residual p (coefficient p at a) i)
   still_far i li side away =
-      let moves = subst (λ m. room m (top_at n.tops) before (share_at d coef) ≤ℚ least) size serves in
+      let moves = subst (λ m. room m n.ranges before (share_at d coef) ≤ℚ least) size serves in
       subst (λ r. IsFarOn side least r) (residual_same p (share_at d coef) (coefficient p at a) same i)
-      (keeps_on p before (share_at d coef) (top_at n.tops) i (λ k lk. is_near.tops.each i k li lk) far least (reach_left n.reach n.determinant (room p.columns (top_at n.tops) before (share_at d coef)) moves) side away)
+      (keeps_on p n.ranges before (share_at d coef) i (is_near.ranges.each i li) far least (reach_left n.reach n.determinant (room p.columns n.ranges before (share_at d coef)) moves) side away)
 
   -- on the side that stands now, unless it is listed
   on_side : (i : ℕ) (r : ℚ) (bound : ℚ) → IsNearOrFar n.rows (side_in old i) bound i r → IsNearOrFar n.rows (side_in made i) bound i r
@@ -87,7 +89,7 @@ module _ (p : Sample) (at : ℕ → ℕ) (a : ℕ → ℕ → ℚ) (d : ℤ) (co
         some = is_near.some;
         reach = is_near.reach;
         rows = is_near.rows;
-        tops = is_near.tops;
+        ranges = is_near.ranges;
         others = λ i li. on_side i (residual p before i) far (is_near.others i li);
       }
 

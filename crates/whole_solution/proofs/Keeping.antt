@@ -9,25 +9,30 @@ use Rattle.exact_algebra.proofs.RationalLaws.{ring_ℚ, ≤ℚ_refl, ≤ℚ_tran
 use Rattle.exact_algebra.proofs.OrderLaws.{cmp_ℚ-Greater, cmp_ℚ-not_Greater, inverse_not_negative}
 use Rattle.exact_algebra.proofs.WholeNumbers.{whole-le}
 use Rattle.exact_algebra.specs.RationalSums.{sum_ℚ}
-use Rattle.exact_algebra.proofs.RationalSumLaws.{sum_ℚ-same, sum_ℚ-le, sum_ℚ-mix, sum_ℚ-scale}
+use Rattle.exact_algebra.proofs.RationalSumLaws.{sum_ℚ-same, sum_ℚ-mix}
 use Rattle.exact_matrices.specs.Selections.{is_among}
 use Rattle.loss_model.specs.declared.vertex.Side.{Side}
 use Rattle.loss_model.specs.declared.vertex.Side.TheVariants.{Up, Down, Basic}
 use Rattle.loss_model.specs.Sample.{Sample, residual, fitted}
-use Rattle.loss_model.specs.Spill.{abs_ℚ}
 use Rattle.basis_model.specs.Perturbed.{side_of}
 use Rattle.basis_model.specs.Basis.{coefficient, outside_row, side_at}
 use Rattle.basis_model.proofs.Signs.{side-residual}
 use Rattle.walk_rule.proofs.Lines.{le_by}
 use Rattle.whole_inverse.specs.Shares.{share}
+use Rattle.whole_solution.specs.declared.ranges.Ranges.{Ranges}
 use Rattle.whole_solution.specs.Far.{room, FarRowsKeep, IsFarOn}
+use Rattle.whole_solution.specs.Ranges.{AreInRanges}
 use Rattle.whole_solution.proofs.Made.{outside_by}
-use Rattle.whole_solution.proofs.Sizes.{not_above, product_below, product_above}
+use Rattle.whole_solution.proofs.Ranges.{products_stay_in_range}
+use Rattle.whole_solution.proofs.Sizes.{negated_size, not_above, own_size}
 use Rattle.whole_solution.proofs.Numbers.{share-neg, not_greater}
 
 -- ---- a row
 
-module _ (p : Sample) (from to top : ℕ → ℚ) (i : ℕ) (small : (k : ℕ) → k < p.columns → abs_ℚ (p.x i k) ≤ℚ top k) where
+module _ (p : Sample) (ranges : Ranges) (from to : ℕ → ℚ) (i : ℕ) (within : AreInRanges p.columns ranges (p.x i)) where
+  abbrev most : ℚ
+  most = room p.columns ranges from to
+
   abbrev moved : ℚ
   moved = sum_ℚ p.columns (λ k. p.x i k *ℚ (to k -ℚ from k))
 
@@ -38,23 +43,21 @@ module _ (p : Sample) (from to top : ℕ → ℚ) (i : ℕ) (small : (k : ℕ) �
       ∙ sum_ℚ-mix p.columns (whole (pos 1)) (neg_ℚ (whole (pos 1))) (λ k. p.x i k *ℚ to k) (λ k. p.x i k *ℚ from k)
       ∙ ring_ℚ (fitted p to i ∷ fitted p from i ∷ []) (number (pos 1) ⊠ v0 ⊞ negated (number (pos 1)) ⊠ v1) (v0 ⊟ v1) refl
 
-  moved_up : moved ≤ℚ room p.columns top from to
-  moved_up = sum_ℚ-le p.columns (λ k. p.x i k *ℚ (to k -ℚ from k)) (λ k. top k *ℚ abs_ℚ (to k -ℚ from k)) (λ k lk. product_below (p.x i k) (to k -ℚ from k) (top k) (small k lk))
+  moved_up : moved ≤ℚ most
+  moved_up = ≤ℚ_trans moved _ most (own_size moved) (products_stay_in_range p.columns ranges (p.x i) (λ k. to k -ℚ from k) within)
 
-  moved_down : (neg_ℚ (whole (pos 1)) *ℚ moved) ≤ℚ room p.columns top from to
-  moved_down =
-      subst (λ z. z ≤ℚ room p.columns top from to) (sum_ℚ-scale p.columns (neg_ℚ (whole (pos 1))) (λ k. p.x i k *ℚ (to k -ℚ from k)))
-      (sum_ℚ-le p.columns (λ k. neg_ℚ (whole (pos 1)) *ℚ (p.x i k *ℚ (to k -ℚ from k))) (λ k. top k *ℚ abs_ℚ (to k -ℚ from k)) (λ k lk. product_above (p.x i k) (to k -ℚ from k) (top k) (small k lk)))
+  moved_down : neg_ℚ moved ≤ℚ most
+  moved_down = ≤ℚ_trans (neg_ℚ moved) _ most (negated_size moved) (products_stay_in_range p.columns ranges (p.x i) (λ k. to k -ℚ from k) within)
 
   -- what is left of `far`
-  module _ (far least : ℚ) (within : (room p.columns top from to +ℚ least) ≤ℚ far) where
-    left : (r m : ℚ) → far ≤ℚ r → m ≤ℚ room p.columns top from to → least ≤ℚ (r -ℚ m)
+  module _ (far least : ℚ) (short : (most +ℚ least) ≤ℚ far) where
+    left : (r m : ℚ) → far ≤ℚ r → m ≤ℚ most → least ≤ℚ (r -ℚ m)
     left r m away less =
-        ≤ℚ_trans least (far -ℚ room p.columns top from to) (r -ℚ m)
-        (le_by (room p.columns top from to +ℚ least) far least (far -ℚ room p.columns top from to) within (ring_ℚ (room p.columns top from to ∷ least ∷ far ∷ []) (v2 ⊟ (v0 ⊞ v1)) ((v2 ⊟ v0) ⊟ v1) refl))
-        (≤ℚ_trans (far -ℚ room p.columns top from to) (r -ℚ room p.columns top from to) (r -ℚ m)
-        (le_by far r (far -ℚ room p.columns top from to) (r -ℚ room p.columns top from to) away (ring_ℚ (far ∷ r ∷ room p.columns top from to ∷ []) (v1 ⊟ v0) ((v1 ⊟ v2) ⊟ (v0 ⊟ v2)) refl))
-        (le_by m (room p.columns top from to) (r -ℚ room p.columns top from to) (r -ℚ m) less (ring_ℚ (m ∷ room p.columns top from to ∷ r ∷ []) (v1 ⊟ v0) ((v2 ⊟ v0) ⊟ (v2 ⊟ v1)) refl)))
+        ≤ℚ_trans least (far -ℚ most) (r -ℚ m)
+        (le_by (most +ℚ least) far least (far -ℚ most) short (ring_ℚ (most ∷ least ∷ far ∷ []) (v2 ⊟ (v0 ⊞ v1)) ((v2 ⊟ v0) ⊟ v1) refl))
+        (≤ℚ_trans (far -ℚ most) (r -ℚ most) (r -ℚ m)
+        (le_by far r (far -ℚ most) (r -ℚ most) away (ring_ℚ (far ∷ r ∷ most ∷ []) (v1 ⊟ v0) ((v1 ⊟ v2) ⊟ (v0 ⊟ v2)) refl))
+        (le_by m most (r -ℚ most) (r -ℚ m) less (ring_ℚ (m ∷ most ∷ r ∷ []) (v1 ⊟ v0) ((v2 ⊟ v0) ⊟ (v2 ⊟ v1)) refl)))
 
     keeps_up : far ≤ℚ residual p from i → least ≤ℚ residual p to i
     keeps_up away =
@@ -65,9 +68,9 @@ module _ (p : Sample) (from to top : ℕ → ℚ) (i : ℕ) (small : (k : ℕ) �
     keeps_down : far ≤ℚ neg_ℚ (residual p from i) → least ≤ℚ neg_ℚ (residual p to i)
     keeps_down away =
         subst (λ z. least ≤ℚ z)
-        (ap (λ z. neg_ℚ (residual p from i) -ℚ (neg_ℚ (whole (pos 1)) *ℚ z)) moved_is
-        ∙ ring_ℚ (p.y i ∷ fitted p to i ∷ fitted p from i ∷ []) (negated (v0 ⊟ v2) ⊟ (negated (number (pos 1)) ⊠ (v1 ⊟ v2))) (negated (v0 ⊟ v1)) refl)
-        (left (neg_ℚ (residual p from i)) (neg_ℚ (whole (pos 1)) *ℚ moved) away moved_down)
+        (ap (λ z. neg_ℚ (residual p from i) -ℚ neg_ℚ z) moved_is
+        ∙ ring_ℚ (p.y i ∷ fitted p to i ∷ fitted p from i ∷ []) (negated (v0 ⊟ v2) ⊟ negated (v1 ⊟ v2)) (negated (v0 ⊟ v1)) refl)
+        (left (neg_ℚ (residual p from i)) (neg_ℚ moved) away moved_down)
 
     -- on either side
     pub keeps_on : (side : Side) → IsFarOn side far (residual p from i) → IsFarOn side least (residual p to i)
@@ -76,7 +79,7 @@ module _ (p : Sample) (from to top : ℕ → ℚ) (i : ℕ) (small : (k : ℕ) �
     keeps_on Basic away = absurd away
 
 pub far_rows_keep : FarRowsKeep
-far_rows_keep p from to top far least i small within = (keeps_up p from to top i small far least within, keeps_down p from to top i small far least within)
+far_rows_keep p ranges from to far least i within short = (keeps_up p ranges from to i within far least short, keeps_down p ranges from to i within far least short)
 
 -- ---- shares in order
 

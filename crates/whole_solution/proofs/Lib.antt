@@ -8,10 +8,11 @@ pub mod Same
 pub mod Basics
 pub mod Moved
 pub mod Sizes
+pub mod Ranges
 pub mod Keeping
 pub mod Moves
 pub mod Listed
 pub mod Nearby
-pub mod Tops
+pub mod Entries
 pub mod Chosen
 pub mod Turning

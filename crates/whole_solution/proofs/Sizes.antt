@@ -1,11 +1,13 @@
 -- Absolute values of sums and products.
-use Rattle.std.specs.Prelude.{◌≡◌, ◌⊎◌, [], ◌∷◌, pos}
-use Rattle.std.proofs.Common.{refl, sym, ap, subst, ◌∙◌, inl, inr}
+use Rattle.std.specs.Prelude.{◌≡◌, ◌⊎◌, ℤ, ◌≤ℤ◌, neg_ℤ, unsigned_abs, [], ◌∷◌, pos, negsuc}
+use Rattle.std.proofs.Common.{arith, refl, sym, ap, subst, ◌∙◌, inl, inr}
+use Rattle.std.proofs.lemmas.Int.{ints}
 use Rattle.exact_algebra.specs.Solver.{number, negated, ◌⊞◌, ◌⊟◌, ◌⊠◌, v0, v1}
 use Rattle.exact_algebra.specs.Rational.{ℚ, ◌+ℚ◌, ◌*ℚ◌, neg_ℚ, whole, ◌≤ℚ◌}
 use Rattle.exact_algebra.proofs.RationalLaws.{ring_ℚ, ≤ℚ_refl, ≤ℚ_trans, ≤ℚ_mul}
 use Rattle.exact_algebra.proofs.RationalSumLaws.{≤ℚ_add2}
 use Rattle.exact_algebra.proofs.OrderLaws.{le_from_not}
+use Rattle.exact_algebra.proofs.WholeNumbers.{whole-le, whole-neg}
 use Rattle.loss_model.specs.Spill.{abs_ℚ}
 use Rattle.pivot_rule.proofs.Entering.{abs_above, abs_below}
 use Rattle.walk_rule.proofs.Lines.{decide, le_by}
@@ -24,7 +26,7 @@ size_by x P up down = by (decide (whole (pos 0)) x)
     by (inl h) = subst P (sym (abs_above x h)) up
     by (inr h) = subst P (sym (abs_below x (not_above x h))) down
 
-own_size : (x : ℚ) → x ≤ℚ abs_ℚ x
+pub own_size : (x : ℚ) → x ≤ℚ abs_ℚ x
 own_size x = by (decide (whole (pos 0)) x)
   where
     by : (whole (pos 0) ≤ℚ x) ⊎ ¬ (whole (pos 0) ≤ℚ x) → x ≤ℚ abs_ℚ x
@@ -33,7 +35,7 @@ own_size x = by (decide (whole (pos 0)) x)
         let down = not_above x h in
         subst (λ z. x ≤ℚ z) (sym (abs_below x down)) (≤ℚ_trans x (whole (pos 0)) (neg_ℚ x) down (negated_up x down))
 
-negated_size : (x : ℚ) → neg_ℚ x ≤ℚ abs_ℚ x
+pub negated_size : (x : ℚ) → neg_ℚ x ≤ℚ abs_ℚ x
 negated_size x = by (decide (whole (pos 0)) x)
   where
     by : (whole (pos 0) ≤ℚ x) ⊎ ¬ (whole (pos 0) ≤ℚ x) → neg_ℚ x ≤ℚ abs_ℚ x
@@ -48,6 +50,13 @@ size_not_negative x = by (decide (whole (pos 0)) x)
     by : (whole (pos 0) ≤ℚ x) ⊎ ¬ (whole (pos 0) ≤ℚ x) → whole (pos 0) ≤ℚ abs_ℚ x
     by (inl up) = ≤ℚ_trans (whole (pos 0)) x (abs_ℚ x) up (own_size x)
     by (inr down) = ≤ℚ_trans (whole (pos 0)) (neg_ℚ x) (abs_ℚ x) (negated_up x (not_above x down)) (negated_size x)
+
+-- the size of a whole number
+pub abs_whole : (z : ℤ) → abs_ℚ (whole z) ≡ whole (pos (unsigned_abs z))
+abs_whole (pos n) = abs_above (whole (pos n)) (whole-le (pos 0) (pos n) (omega (arith, ints)))
+abs_whole (negsuc n) =
+    let e : neg_ℤ (negsuc n) ≡ pos (unsigned_abs (negsuc n)) = omega (arith, ints) in
+    abs_below (whole (negsuc n)) (whole-le (negsuc n) (pos 0) (omega (arith, ints))) ∙ sym (whole-neg (negsuc n)) ∙ ap whole e
 
 -- a number that has no size is 0
 pub none_from : (x : ℚ) → abs_ℚ x ≡ whole (pos 0) → x ≡ whole (pos 0)

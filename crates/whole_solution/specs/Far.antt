@@ -1,24 +1,24 @@
 -- Inner. Rows far from a fit, which keep their sides while the coefficients move little.
-use Rattle.std.specs.Prelude.{◌≡◌, ◌⊎◌, ℕ, ℤ, ◌<◌, ◌≤◌, ◌≤ℤ◌, ◌*◌, ◌*ℤ◌, ◌+ℤ◌, neg_ℤ, List, All, length, get_or, slice_index, unsigned_abs, pos}
-use Rattle.exact_algebra.specs.Rational.{ℚ, ◌+ℚ◌, ◌-ℚ◌, ◌*ℚ◌, neg_ℚ, ◌≤ℚ◌, whole}
-use Rattle.exact_algebra.specs.RationalSums.{sum_ℚ}
+use Rattle.std.specs.Prelude.{◌≡◌, ◌⊎◌, ℕ, ℤ, ◌<◌, ◌≤◌, ◌≤ℤ◌, ◌*◌, ◌*ℤ◌, ◌+ℤ◌, neg_ℤ, List, All, length, get_or, slice_index, pos}
+use Rattle.exact_algebra.specs.Rational.{ℚ, ◌+ℚ◌, ◌-ℚ◌, neg_ℚ, ◌≤ℚ◌, whole}
 use Rattle.loss_model.specs.declared.vertex.Side.{Side}
 use Rattle.loss_model.specs.declared.vertex.Side.TheVariants.{Up, Down, Basic}
 use Rattle.loss_model.specs.Sample.{Sample, residual}
-use Rattle.loss_model.specs.Spill.{abs_ℚ}
 use Rattle.whole_inverse.specs.Shares.{share, share_at}
 use Rattle.whole_solution.specs.declared.near.Near.{Near}
+use Rattle.whole_solution.specs.declared.ranges.Ranges.{Ranges}
+use Rattle.whole_solution.specs.Ranges.{AreInRanges, AreRanges, most_of_products}
 
--- the most that a residual moves from one list of coefficients to another, where the tops bound the entries of each column
-abbrev pub room : ℕ → (ℕ → ℚ) → (ℕ → ℚ) → (ℕ → ℚ) → ℚ
-room n top from to = sum_ℚ n (λ k. top k *ℚ abs_ℚ (to k -ℚ from k))
+-- the most that a residual moves from one list of coefficients to another, where the entries of its row are in these ranges
+abbrev pub room : ℕ → Ranges → (ℕ → ℚ) → (ℕ → ℚ) → ℚ
+room n r from to = most_of_products n r (λ k. to k -ℚ from k)
 
 -- a residual that is at least `far` on one side stays at least `least` there, where what it may move takes no more than what is between
 abbrev pub FarRowsKeep : Type 0
 FarRowsKeep =
-    (p : Sample) (from to top : ℕ → ℚ) (far least : ℚ) (i : ℕ)
-    → ((k : ℕ) → k < p.columns → abs_ℚ (p.x i k) ≤ℚ top k)
-    → (room p.columns top from to +ℚ least) ≤ℚ far
+    (p : Sample) (r : Ranges) (from to : ℕ → ℚ) (far least : ℚ) (i : ℕ)
+    → AreInRanges p.columns r (p.x i)
+    → (room p.columns r from to +ℚ least) ≤ℚ far
     → (far ≤ℚ residual p from i → least ≤ℚ residual p to i)
     × (far ≤ℚ neg_ℚ (residual p from i) → least ≤ℚ neg_ℚ (residual p to i))
 
@@ -40,18 +40,9 @@ IsNearOrFar near side far i r = IsListed near i ⊎ IsFarOn side far r
 abbrev pub AreOthersFar : Sample → (ℕ → Side) → List ℕ → ℚ → (ℕ → ℚ) → Type 0
 AreOthersFar p side near far b = (i : ℕ) → i < p.rows → IsNearOrFar near (side i) far i (residual p b i)
 
--- a bound of the entries of column k
-abbrev pub top_at : List ℕ → ℕ → ℚ
-top_at tops k = whole (pos (slice_index tops k))
-
--- the sizes of the entries of each column are within these
-pub record AreTops (p : Sample) (tops : List ℕ) : Type 0 where
-  pub size : length tops ≡ p.columns
-  pub each : (i k : ℕ) → i < p.rows → k < p.columns → abs_ℚ (p.x i k) ≤ℚ top_at tops k
-
--- how far the numerator of coefficient k over d may move a residual from the earlier fit, times both determinants
-abbrev pub shift_of : Near → ℕ → ℤ → ℤ → ℕ
-shift_of n k number d = unsigned_abs (number *ℤ n.determinant +ℤ neg_ℤ (get_or n.coef k (pos 0) *ℤ d)) * slice_index n.tops k
+-- how far coefficient k, of this numerator over d, has moved from the earlier fit, times both determinants
+abbrev pub move_of : Near → ℕ → ℤ → ℤ → ℤ
+move_of n k number d = number *ℤ n.determinant +ℤ neg_ℤ (get_or n.coef k (pos 0) *ℤ d)
 
 -- at the earlier fit all rows but these were at least twice the reach from it, on these sides
 pub record IsNear (p : Sample) (side : ℕ → Side) (n : Near) : Type 0 where
@@ -59,18 +50,18 @@ pub record IsNear (p : Sample) (side : ℕ → Side) (n : Near) : Type 0 where
   pub some : pos 1 ≤ℤ n.determinant
   pub reach : 1 ≤ n.reach
   pub rows : All (λ i. i < p.rows) n.rows
-  pub tops : AreTops p n.tops
+  pub ranges : AreRanges p n.ranges
   pub others : AreOthersFar p side n.rows (share (pos (2 * n.reach)) n.determinant) (share_at n.determinant n.coef)
 
--- the same of the first n coefficients together
-abbrev pub shifts : Near → List ℤ → ℤ → ℕ → ℚ
-shifts near coef d n = sum_ℚ n (λ k. whole (pos (shift_of near k (get_or coef k (pos 0)) d)))
+-- how far the first n coefficients may have moved a residual together, times both determinants
+abbrev pub moves : Near → List ℤ → ℤ → ℕ → ℚ
+moves near coef d n = most_of_products n near.ranges (λ k. whole (move_of near k (get_or coef k (pos 0)) d))
 
 -- the rows near the fit of these coefficients over d, where all rows have these residuals and sides
-pub record IsChosen (side : ℕ → Side) (residuals coefs : List ℤ) (d : ℤ) (sizes : List ℕ) (n : Near) : Type 0 where
+pub record IsChosen (side : ℕ → Side) (residuals coefs : List ℤ) (d : ℤ) (ranges : Ranges) (n : Near) : Type 0 where
   pub coef : n.coef ≡ coefs
   pub determinant : n.determinant ≡ d
-  pub tops : n.tops ≡ sizes
+  pub ranges : n.ranges ≡ ranges
   pub reach : 1 ≤ n.reach
   pub rows : All (λ i. i < length residuals) n.rows
   pub others : (i : ℕ) → i < length residuals → IsNearOrFar n.rows (side i) (share (pos (2 * n.reach)) d) i (share_at d residuals i)

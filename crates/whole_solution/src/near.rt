@@ -5,58 +5,28 @@
 //! least the reach, so that only near rows are looked at.
 ghost use Rattle.std.specs.Prelude.{◌≡◌, ℕ, ℤ, ◌<◌, ◌≤◌, ◌^◌, ◌≤ℤ◌, All, length, IfOk, IfSome, IsTrue, pos};
 ghost use Rattle.exact_algebra.specs.Rational.{◌≤ℚ◌, whole};
-ghost use Rattle.loss_model.specs.Spill.{abs_ℚ};
-ghost use Rattle.wide_int.specs.Numbers.{joined};
+ghost use Rattle.wide_int.specs.Numbers.{joined, number_of};
 ghost use Rattle.whole_inverse.specs.Shares.{share, share_at};
-ghost use Rattle.whole_rows.specs.Wholes.{sample_of_rows};
 ghost use Rattle.whole_solution.specs.Standing.{side_in};
-ghost use Rattle.whole_solution.specs.Far.{room, shift_of, shifts, top_at, AreTops, IsChosen, IsFarOn, IsNearOrFar};
+ghost use Rattle.whole_solution.specs.Far.{move_of, moves, room, IsChosen, IsFarOn, IsNearOrFar};
 
-use crate::room::room_for;
+use crate::ranges::Ranges;
 use frac_core::List;
 use loss_model::Side;
 use std::alloc::Global;
 use std::cmp::Ordering;
 use whole_inverse::Obstacle;
-use whole_rows::WholeRow;
 use wide_int::{Natural, Wide};
 
 /// The rows near an earlier fit, whose coefficients stand over its determinant, as does the reach: the residuals of all other
-/// rows there are at least twice as much. The tops bound the sizes of the entries of each column.
+/// rows there are at least twice as much. The entries of each column are within its range.
 #[derive(Drop)]
 pub struct Near {
     pub rows: List<u32>,
     pub coef: List<i128>,
     pub determinant: i128,
     pub reach: u128,
-    pub tops: List<u64>,
-}
-
-/// The greatest size of an entry of a column.
-fn top_of(rows: &[WholeRow], k: u32, columns: u32) -> u64
-    requires column { k < columns }
-    requires wide { All (λ r. length r.x ≡ columns) rows.now }
-    ensures { (i : ℕ) → i < length rows.now → abs_ℚ ((sample_of_rows columns rows.now).x i k) ≤ℚ whole (pos result) }
-{
-    let mut top: u64 = 0;
-    for i in 0..rows.len() {
-        let x = rows[i].x.as_slice();
-        top = top.max(x[k as usize].unsigned_abs());
-    }
-    top
-}
-
-/// The greatest size of an entry of each column.
-pub(crate) fn tops_of(alloc: Global, rows: &[WholeRow], columns: u32) -> Result<List<u64>, Obstacle>
-    requires { All (λ r. length r.x ≡ columns) rows.now }
-    ensures { IfOk result (AreTops (sample_of_rows columns rows.now)) }
-{
-    let mut made = room_for(alloc, columns as usize)?;
-    for k in 0..columns {
-        let top = top_of(rows, k, columns);
-        made.add(top)?;
-    }
-    Ok(made)
+    pub ranges: Ranges,
 }
 
 /// Whether a residual is at least `far` on a side.
@@ -172,12 +142,12 @@ impl Near {
         sides: &[Side],
         coef: &[i128],
         determinant: i128,
-        tops: List<u64>,
+        ranges: Ranges,
     ) -> Result<Near, Obstacle>
         requires same { length sides.now ≡ length residuals.now }
         requires few { length residuals.now < 2 ^ 32 }
         requires some { pos 1 ≤ℤ determinant }
-        ensures { IfOk result (IsChosen (side_in sides.now) residuals.now coef.now determinant tops) }
+        ensures { IfOk result (IsChosen (side_in sides.now) residuals.now coef.now determinant ranges) }
     {
         let stride = stride_of(residuals.len());
         let sizes = sizes_of(alloc, residuals, stride)?;
@@ -190,7 +160,7 @@ impl Near {
             coef,
             determinant,
             reach,
-            tops,
+            ranges,
         })
     }
 
@@ -200,54 +170,60 @@ impl Near {
     {
         let rows = List::copy(alloc, self.rows.as_slice())?;
         let coef = List::copy(alloc, self.coef.as_slice())?;
-        let tops = List::copy(alloc, self.tops.as_slice())?;
+        let ranges = self.ranges.copy(alloc)?;
         Ok(Near {
             rows,
             coef,
             determinant: self.determinant,
             reach: self.reach,
-            tops,
+            ranges,
         })
     }
 
-    /// How far a coefficient can have moved a residual, times both determinants.
-    fn shift(&self, k: u32, number: i128, determinant: i128) -> Option<Natural>
-        requires coef { k < length self.now.coef }
-        requires tops { k < length self.now.tops }
-        ensures { IfSome result (λ n. joined n.low n.high ≡ shift_of self.now k number determinant) }
+    /// How far a coefficient has moved, times both determinants.
+    fn move_of(&self, k: u32, number: i128, determinant: i128) -> Option<Wide>
+        requires { k < length self.now.coef }
+        ensures { IfSome result (λ m. number_of m ≡ move_of self.now k number determinant) }
     {
         let old = self.coef.as_slice();
-        let tops = self.tops.as_slice();
         let here = Wide::product(number, self.determinant);
         let there = Wide::product(old[k as usize], determinant);
         let moved = here.plus(there.negation())?;
-        let shift = moved.size.times(u128::from(tops[k as usize]))?;
-        Some(shift)
+        Some(moved)
     }
 
     /// How far all coefficients together can have moved a residual, times both determinants.
     fn room_for_moves(&self, coef: &[i128], determinant: i128) -> Option<Natural>
         requires size { length coef.now ≡ length self.now.coef }
-        requires tops { length self.now.tops ≡ length self.now.coef }
+        requires middles { length self.now.ranges.middles ≡ length self.now.coef }
+        requires halves { length self.now.ranges.halves ≡ length self.now.coef }
         requires short { length coef.now < 2 ^ 32 }
-        ensures { IfSome result (λ n. whole (pos (joined n.low n.high)) ≡ shifts self.now coef.now determinant (length coef.now)) }
+        ensures { IfSome result (λ n. whole (pos (joined n.low n.high)) ≡ moves self.now coef.now determinant (length coef.now)) }
     {
-        let mut sum = Natural::of(0);
+        let middles = self.ranges.middles.as_slice();
+        let halves = self.ranges.halves.as_slice();
+        let mut middle = Wide::of(0);
+        let mut rest = Natural::of(0);
         for k in 0..coef.len() as u32 {
-            let shift = self.shift(k, coef[k as usize], determinant)?;
-            sum = sum.plus(shift)?;
+            let moved = self.move_of(k, coef[k as usize], determinant)?;
+            let at_middle = moved.times(i128::from(middles[k as usize]))?;
+            let within = moved.size.times(u128::from(halves[k as usize]))?;
+            middle = middle.plus(at_middle)?;
+            rest = rest.plus(within)?;
         }
+        let sum = rest.plus(middle.size)?;
         Some(sum)
     }
 
     /// Whether no residual can have moved by more than the reach.
     pub(crate) fn serves(&self, coef: &[i128], determinant: i128) -> bool
         requires size { length coef.now ≡ length self.now.coef }
-        requires tops { length self.now.tops ≡ length self.now.coef }
+        requires middles { length self.now.ranges.middles ≡ length self.now.coef }
+        requires halves { length self.now.ranges.halves ≡ length self.now.coef }
         requires short { length coef.now < 2 ^ 32 }
         requires some { pos 1 ≤ℤ self.now.determinant }
         requires now { pos 1 ≤ℤ determinant }
-        ensures { IsTrue result → room (length coef.now) (top_at self.now.tops) (share_at self.now.determinant self.now.coef) (share_at determinant coef.now) ≤ℚ share (pos self.now.reach) self.now.determinant }
+        ensures { IsTrue result → room (length coef.now) self.now.ranges (share_at self.now.determinant self.now.coef) (share_at determinant coef.now) ≤ℚ share (pos self.now.reach) self.now.determinant }
     {
         let most = Natural::product(self.reach, determinant.unsigned_abs());
         match self.room_for_moves(coef, determinant) {

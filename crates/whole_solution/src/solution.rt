@@ -9,15 +9,17 @@ ghost use Rattle.whole_inverse.specs.Squares.{inverse_of};
 ghost use Rattle.whole_rows.specs.Wholes.{sample_of_rows};
 ghost use Rattle.whole_solution.specs.Standing.{side_in, AreResiduals, HasWeights, IsSided, IsWholeBasis, IsWholeSolution};
 ghost use Rattle.whole_solution.specs.Columns.{IsColumn};
-ghost use Rattle.whole_solution.specs.Far.{AreTops, IsListed};
+ghost use Rattle.whole_solution.specs.Far.{IsListed};
+ghost use Rattle.whole_solution.specs.Ranges.{AreRanges};
 ghost use Rattle.whole_solution.specs.Weighing.{AreWeights};
 
 use crate::basis::WholeBasis;
 use crate::column::Column;
 use crate::duals::balancing_numbers;
-use crate::near::{Near, tops_of};
+use crate::near::Near;
 use crate::primal::{coefficients, residual_of, residuals};
 use crate::products::row_products;
+use crate::ranges::Ranges;
 use crate::sides::basic_sides;
 use crate::totals::{Turn, Weights};
 use frac_core::List;
@@ -131,7 +133,7 @@ impl<'a> WholeBasis<'a> {
         &self,
         alloc: Global,
         coef: List<i128>,
-        tops: List<u64>,
+        ranges: Ranges,
         old: &[Side],
         before: &Weights,
     ) -> Result<Sided, Obstacle>
@@ -139,7 +141,7 @@ impl<'a> WholeBasis<'a> {
         requires size { length coef ≡ length self.now.inverse.now.columns }
         requires each { let s = self.now.inverse.now in let p = sample_of_rows (length s.columns) self.now.rows.now in let at = slice_index self.now.basis.now.rows in
             (k : ℕ) → k < p.columns → share_at s.determinant coef k ≡ coefficient p at (inverse_of s) k }
-        requires tops { AreTops (sample_of_rows (length self.now.inverse.now.columns) self.now.rows.now) tops }
+        requires ranges { AreRanges (sample_of_rows (length self.now.inverse.now.columns) self.now.rows.now) ranges }
         requires old { length old.now ≡ length self.now.rows.now }
         requires before { AreWeights (sample_of_rows (length self.now.inverse.now.columns) self.now.rows.now) (side_in old.now) before.now }
         ensures { let s = self.now.inverse.now in let p = sample_of_rows (length s.columns) self.now.rows.now in let at = slice_index self.now.basis.now.rows in
@@ -154,7 +156,7 @@ impl<'a> WholeBasis<'a> {
             sides.as_slice(),
             coef.as_slice(),
             self.inverse.determinant(),
-            tops,
+            ranges,
         )?;
         Ok(Sided {
             coef,
@@ -270,8 +272,14 @@ impl<'a> WholeBasis<'a> {
                 });
             }
         }
-        let tops = List::copy(alloc, before.near.tops.as_slice())?;
-        self.sided(alloc, coef, tops, before.sides.as_slice(), &before.weights)
+        let ranges = before.near.ranges.copy(alloc)?;
+        self.sided(
+            alloc,
+            coef,
+            ranges,
+            before.sides.as_slice(),
+            &before.weights,
+        )
     }
 
     /// What stands at a basis, with the dual values.
@@ -304,10 +312,10 @@ impl<'a> WholeBasis<'a> {
     {
         let n = self.basis.rows.as_slice().len() as u32;
         let coef = self.coefficients(alloc)?;
-        let tops = tops_of(alloc, self.rows, n)?;
+        let ranges = Ranges::of(alloc, self.rows, n)?;
         let uncounted = basic_sides(alloc, self.rows.len())?;
         let weights = Weights::none(alloc, n)?;
-        let sided = self.sided(alloc, coef, tops, uncounted.as_slice(), &weights)?;
+        let sided = self.sided(alloc, coef, ranges, uncounted.as_slice(), &weights)?;
         let solution = self.standing(alloc, sided)?;
         Ok(solution)
     }

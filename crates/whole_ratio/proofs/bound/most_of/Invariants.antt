@@ -1,6 +1,10 @@
--- The most that the sum of the first products can be.
-use Rattle.whole_ratio.specs.Bounds.{IsMost}
+use Rattle.std.proofs.Common.{◌≡◌, get_or, pos}
+use Rattle.exact_algebra.specs.Rational.{whole}
+use Rattle.whole_solution.specs.Ranges.{at_halves, at_middles}
 use Rattle.whole_ratio.proofs.bound.most_of.Given as goal
 
 abbrev pub invariant-loop-k : goal.invariant-loop-k
-invariant-loop-k l = IsMost l.tops l.column l.k l.sum
+invariant-loop-k l = record {
+  middle : whole l.middle ≡ at_middles l.k l.ranges (λ k. whole (get_or l.column k (pos 0)));
+  rest : whole (pos l.rest) ≡ at_halves l.k l.ranges (λ k. whole (get_or l.column k (pos 0)));
+}

@@ -1,6 +1,7 @@
 -- By the bound of the coordinates.
-use Rattle.std.proofs.Common.{rules, ◌≡◌, length, unsigned_abs}
-use Rattle.whole_ratio.specs.Bounds.{IsMost}
+use Rattle.std.proofs.Common.{rules, ◌≡◌, length, get_or, pos, unsigned_abs}
+use Rattle.exact_algebra.specs.Rational.{whole}
+use Rattle.whole_solution.specs.Ranges.{most_of_products}
 use Rattle.whole_ratio.specs.Lines.{over_of}
 use Rattle.whole_ratio.proofs.FarRows.{far_after}
 use Rattle.whole_ratio.proofs.near_line.NearLine.precedes_far.Goals as goal
@@ -10,7 +11,7 @@ returns c =
     let n = c.args.self.now in
     let numbers = c.numerators-column.result.now in
     let most = c.in-Some.most in
-    let bound : IsMost n.near.now.tops numbers (length numbers) most = rw (c.as_slice.ensures) at (c.in-Some.ensures {u = tt}) in
+    let bound : whole (pos most) ≡ most_of_products (length numbers) n.near.now.ranges (λ k. whole (get_or numbers k (pos 0))) = c.in-Some.ensures {u = tt} in
     let ed : c.unsigned_abs.result ≡ unsigned_abs n.near.now.determinant = search rules in
     let eo : c.unsigned_abs-2.result ≡ unsigned_abs (over_of n.line) = search rules in
     let less = rw (ed, eo) at c.is_product_less.ensures in

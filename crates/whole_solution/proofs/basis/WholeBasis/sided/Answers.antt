@@ -35,8 +35,8 @@ returns c =
       coef = c.requires.each;
       all_sides = c.in_ok-sides.ensures.size;
       sides = c.in_ok-sides.ensures.each;
-      near = near_from_chosen p (side_in sides) residuals c.args.coef d c.args.tops near chosen size c.requires.size positive c.requires.tops made;
-      far = far_from_chosen p (side_in sides) residuals c.args.coef d c.args.tops near chosen size c.requires.size positive c.requires.tops made
+      near = near_from_chosen p (side_in sides) residuals c.args.coef d c.args.ranges near chosen size c.requires.size positive c.requires.ranges made;
+      far = far_from_chosen p (side_in sides) residuals c.args.coef d c.args.ranges near chosen size c.requires.size positive c.requires.ranges made
           (coefficient p (slice_index c.args.self.now.basis.now.rows) (inverse_of s)) c.requires.each;
       weights = rw (c.as_slice-3.ensures, c.requires.before.constant.size) at (c.in_ok-weights.ensures {u = tt});
       residuals = record {

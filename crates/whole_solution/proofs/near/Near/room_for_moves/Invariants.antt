@@ -1,8 +1,12 @@
-use Rattle.std.proofs.Common.{◌≡◌, pos}
+use Rattle.std.proofs.Common.{◌≡◌, ℕ, get_or, pos}
 use Rattle.exact_algebra.specs.Rational.{whole}
-use Rattle.wide_int.specs.Numbers.{joined}
-use Rattle.whole_solution.specs.Far.{shifts}
+use Rattle.wide_int.specs.Numbers.{joined, number_of}
+use Rattle.whole_solution.specs.Far.{move_of}
+use Rattle.whole_solution.specs.Ranges.{at_halves, at_middles}
 use Rattle.whole_solution.proofs.near.Near.room_for_moves.Given as goal
 
 abbrev pub invariant-loop-k : goal.invariant-loop-k
-invariant-loop-k l = whole (pos (joined l.sum.low l.sum.high)) ≡ shifts l.self l.coef l.determinant l.k
+invariant-loop-k l = record {
+  middle : whole (number_of l.middle) ≡ at_middles l.k l.self.ranges (λ k. whole (move_of l.self k (get_or l.coef k (pos 0)) l.determinant));
+  rest : whole (pos (joined l.rest.low l.rest.high)) ≡ at_halves l.k l.self.ranges (λ k. whole (move_of l.self k (get_or l.coef k (pos 0)) l.determinant));
+}

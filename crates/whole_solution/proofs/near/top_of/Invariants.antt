@@ -1,9 +1,0 @@
-use Rattle.std.proofs.Common.{ℕ, ◌<◌, pos}
-use Rattle.exact_algebra.specs.Rational.{◌≤ℚ◌, whole}
-use Rattle.loss_model.specs.Spill.{abs_ℚ}
-use Rattle.whole_inverse.specs.Shares.{whole_at}
-use Rattle.whole_rows.specs.Wholes.{of_whole}
-use Rattle.whole_solution.proofs.near.top_of.Given as goal
-
-abbrev pub invariant-loop-i : goal.invariant-loop-i
-invariant-loop-i l = (i : ℕ) → i < l.i → abs_ℚ (of_whole l.rows (λ r. whole_at r.x l.k) i) ≤ℚ whole (pos l.top)
