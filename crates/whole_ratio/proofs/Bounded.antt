@@ -14,7 +14,7 @@ use Rattle.whole_inverse.specs.Shares.{share, share_at}
 use Rattle.whole_inverse.proofs.Lists.{share_read}
 use Rattle.whole_solution.specs.declared.ranges.Ranges.{Ranges}
 use Rattle.whole_solution.specs.Ranges.{most_of_products}
-use Rattle.whole_solution.proofs.Ranges.{most_scaled}
+use Rattle.whole_solution.proofs.Within.{most_scaled}
 use Rattle.whole_ratio.specs.declared.bound.Pair.{Pair}
 use Rattle.whole_ratio.specs.Bounds.{IsReduced}
 

@@ -32,7 +32,7 @@ use Rattle.whole_ratio.proofs.Coordinates.{column_size, coordinates_by}
 use Rattle.whole_ratio.proofs.FirstLaws.{first_of_all}
 use Rattle.whole_ratio.proofs.Movers.{turned-times}
 use Rattle.whole_ratio.proofs.Signs.{share_not_below}
-use Rattle.whole_solution.proofs.Ranges.{products_stay_in_range}
+use Rattle.whole_solution.proofs.Within.{products_stay_in_range}
 use Rattle.whole_solution.proofs.Sizes.{none_from, scaled_up, size_not_negative}
 use Rattle.whole_ratio.proofs.Ties.{moving_coord}
 

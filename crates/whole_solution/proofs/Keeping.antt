@@ -23,7 +23,7 @@ use Rattle.whole_solution.specs.declared.ranges.Ranges.{Ranges}
 use Rattle.whole_solution.specs.Far.{room, FarRowsKeep, IsFarOn}
 use Rattle.whole_solution.specs.Ranges.{AreInRanges}
 use Rattle.whole_solution.proofs.Made.{outside_by}
-use Rattle.whole_solution.proofs.Ranges.{products_stay_in_range}
+use Rattle.whole_solution.proofs.Within.{products_stay_in_range}
 use Rattle.whole_solution.proofs.Sizes.{negated_size, not_above, own_size}
 use Rattle.whole_solution.proofs.Numbers.{share-neg, not_greater}
 

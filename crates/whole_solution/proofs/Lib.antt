@@ -8,7 +8,7 @@ pub mod Same
 pub mod Basics
 pub mod Moved
 pub mod Sizes
-pub mod Ranges
+pub mod Within
 pub mod Keeping
 pub mod Moves
 pub mod Listed

@@ -12,7 +12,7 @@ use Rattle.whole_inverse.proofs.Lists.{share_read}
 use Rattle.whole_solution.specs.declared.near.Near.{Near}
 use Rattle.whole_solution.specs.Far.{move_of, moves, room}
 use Rattle.whole_solution.proofs.Numbers.{above, times}
-use Rattle.whole_solution.proofs.Ranges.{most_scaled}
+use Rattle.whole_solution.proofs.Within.{most_scaled}
 
 module _ (d0 d : ℤ) (p0 : pos 1 ≤ℤ d0) (p : pos 1 ≤ℤ d) where
   abbrev times_both : ℚ → ℚ

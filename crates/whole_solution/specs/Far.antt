@@ -58,10 +58,10 @@ abbrev pub moves : Near → List ℤ → ℤ → ℕ → ℚ
 moves near coef d n = most_of_products n near.ranges (λ k. whole (move_of near k (get_or coef k (pos 0)) d))
 
 -- the rows near the fit of these coefficients over d, where all rows have these residuals and sides
-pub record IsChosen (side : ℕ → Side) (residuals coefs : List ℤ) (d : ℤ) (ranges : Ranges) (n : Near) : Type 0 where
+pub record IsChosen (side : ℕ → Side) (residuals coefs : List ℤ) (d : ℤ) (kept : Ranges) (n : Near) : Type 0 where
   pub coef : n.coef ≡ coefs
   pub determinant : n.determinant ≡ d
-  pub ranges : n.ranges ≡ ranges
+  pub ranges : n.ranges ≡ kept
   pub reach : 1 ≤ n.reach
   pub rows : All (λ i. i < length residuals) n.rows
   pub others : (i : ℕ) → i < length residuals → IsNearOrFar n.rows (side i) (share (pos (2 * n.reach)) d) i (share_at d residuals i)

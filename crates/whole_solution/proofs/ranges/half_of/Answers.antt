@@ -12,6 +12,7 @@ loop-i-preserved c =
     let i = c.loop-i.i in
     let r = c.index-rows-i.result in
     let wide : length r.x ≡ c.args.columns = ap (λ (w : WholeRow). length w.x) c.index-rows-i.is ∙ c.requires.wide i r c.loop-i-test.true in
+    let em : to_z w64 (of_z w64 c.args.middle) ≡ c.args.middle = search rules in
     let most : c.loop-i.half ≤ c.max-half.result = search rules in
     let own : unsigned_abs (get_or r.x k (pos 0) -ℤ c.args.middle) ≤ c.max-half.result = search rules in
-    entry_more rows k i c.loop-i.half c.max-half.result c.args.middle r c.loop-i-test.true c.index-rows-i.is (omega (arith, wide, c.requires.column)) most own c.loop-i.invariant
+    rw (em) (entry_more rows k i c.loop-i.half c.max-half.result c.args.middle r c.loop-i-test.true c.index-rows-i.is (omega (arith, wide, c.requires.column)) most own (rw (em) at c.loop-i.invariant))

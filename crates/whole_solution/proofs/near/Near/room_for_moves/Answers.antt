@@ -1,11 +1,12 @@
 -- A coefficient more, and both sums together.
-use Rattle.std.proofs.Common.{rules, ◌≡◌, ℕ, ℤ, ◌+◌, ◌*◌, ◌<◌, ◌+ℤ◌, ◌*ℤ◌, get_or, length, pos, unsigned_abs, to_z, of_z, sym, ap, ap₂, ◌∙◌, arith}
+use Rattle.std.proofs.Common.{rules, ◌≡◌, ◌+◌, ◌*◌, ◌<◌, ◌+ℤ◌, ◌*ℤ◌, get_or, length, pos, unsigned_abs, to_z, of_z, sym, ap, subst, ◌∙◌, arith}
 use Rattle.std.specs.Prelude.{slice_index}
 use mir.Syntax.{w128}
+use Rattle.exact_algebra.specs.Rational.{whole}
 use Rattle.frac_core.proofs.Signs.{unsigned_abs-signed}
 use Rattle.wide_int.specs.Numbers.{joined, number_of}
-use Rattle.whole_solution.specs.Far.{move_of}
-use Rattle.whole_solution.proofs.Ranges.{halves_more, middles_more, most_is}
+use Rattle.whole_solution.specs.Far.{move_of, moves}
+use Rattle.whole_solution.proofs.Within.{halves_more, middles_more, most_is}
 use Rattle.whole_solution.proofs.near.Near.room_for_moves.Goals as goal
 
 pub loop-k-preserved : goal.loop-k-preserved
@@ -45,5 +46,7 @@ returns c =
     let ed : to_z w128 (of_z w128 d) ≡ d = search rules in
     let at_end = rw (ed) at c.loop-k.invariant in
     let both : joined sum.low sum.high ≡ joined rest.low rest.high + joined middle.size.low middle.size.high = search rules in
-    rw (ed) (most_is n.ranges (λ k. move_of n k (get_or coef k (pos 0)) d) (length coef) (joined rest.low rest.high) (joined sum.low sum.high) (number_of middle) at_end.rest at_end.middle
+    let all : c.loop-k.k ≡ length coef = omega (arith, c.loop-k-test.false, c.loop-k.auto.k-end, c.requires.short) in
+    subst (λ k. whole (pos (joined sum.low sum.high)) ≡ moves n coef d k) all
+    (most_is n.ranges (λ k. move_of n k (get_or coef k (pos 0)) d) c.loop-k.k (joined rest.low rest.high) (joined sum.low sum.high) (number_of middle) at_end.rest at_end.middle
     (both ∙ ap (λ m. joined rest.low rest.high + m) (sym (unsigned_abs-signed middle.negative (joined middle.size.low middle.size.high)))))

@@ -1,5 +1,6 @@
 -- A column more.
-use Rattle.std.proofs.Common.{rules, ◌≡◌, ◌++◌, ◌∷◌, [], length}
+use Rattle.std.proofs.Common.{rules, ◌≡◌, ◌++◌, ◌∷◌, [], length, to_z, of_z}
+use mir.Syntax.{w64}
 use Rattle.whole_inverse.specs.Shares.{whole_at}
 use Rattle.whole_rows.specs.Wholes.{of_whole}
 use Rattle.whole_solution.proofs.Reading.{size_pushed}
@@ -15,9 +16,10 @@ loop-k-preserved c =
     let middle = c.middle_of-middle.result in
     let half = c.half_of-half.result in
     let more_middles : c.add.new.self ≡ middles ++ middle ∷ [] = search rules in
-    let more_halves : c.add-2.new.self ≡ halves ++ half ∷ [] = search rules in
+    let more_halves : c.add-in-loop-k.new.self ≡ halves ++ half ∷ [] = search rules in
+    let em : to_z w64 (of_z w64 middle) ≡ middle = search rules in
     rw (more_middles, more_halves) (record {
       middles = size_pushed middles middle c.loop-k.k before.middles;
       halves = size_pushed halves half c.loop-k.k before.halves;
-      each = column_more (λ i k. of_whole rows (λ r. whole_at r.x k) i) (length rows) c.loop-k.k middles halves middle half before.middles before.halves before.each c.half_of-half.ensures;
+      each = column_more (λ i k. of_whole rows (λ r. whole_at r.x k) i) (length rows) c.loop-k.k middles halves middle half before.middles before.halves before.each (rw (em) at c.half_of-half.ensures);
     })
