@@ -30,6 +30,14 @@ cost_up x r u o e h = ap (λ t. cond t u o) (ap (λ z. le_ℚ (whole (pos 0)) z)
 pub size_up : (x r : ℚ) → x ≡ r → le_ℚ (whole (pos 0)) x ≡ true → x ≡ abs_ℚ r
 size_up x r e h = sym (ap (λ t. cond t x (neg_ℚ x)) h) ∙ ap abs_ℚ e
 
+-- and where it is below 0
+pub cost_down : (r u o : ℚ) → ¬ (whole (pos 0) ≤ℚ r) → cond (le_ℚ (whole (pos 0)) r) u o ≡ o
+cost_down r u o below = by (le_ℚ (whole (pos 0)) r) (λ e. below (record { le = e }))
+  where
+    by : (t : Bool) → ¬ (t ≡ true) → cond t u o ≡ o
+    by true above = absurd (above refl)
+    by false above = refl
+
 priced : (r u o : ℚ) → cond (le_ℚ (whole (pos 0)) r) u o *ℚ abs_ℚ r ≡ (u *ℚ positive_ℚ r) +ℚ (o *ℚ negative_ℚ r)
 priced r u o = by (le_ℚ (whole (pos 0)) r)
   where

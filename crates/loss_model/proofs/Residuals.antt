@@ -1,5 +1,5 @@
 -- The residual and the costs of a row by the row itself.
-use Rattle.std.specs.Prelude.{◌≡◌, ℕ, ◌<◌, List, [], ◌∷◌, length, get_or, slice_get, Option, Some, Result, IfOk, pos}
+use Rattle.std.specs.Prelude.{◌≡◌, ℕ, ◌<◌, List, [], ◌∷◌, length, get_or, slice_get, Option, Some, Result, IfOk, IfErr, pos}
 use Rattle.std.specs.Option.{option_map_or}
 use Rattle.std.proofs.Common.{refl, sym, ap, subst, ◌∙◌}
 use Rattle.std.proofs.lemmas.Option.{slice_get_read}
@@ -14,7 +14,7 @@ use Rattle.loss_model.specs.declared.problem.Row.{Row}
 use Rattle.loss_model.specs.declared.problem.Problem.{Problem}
 use Rattle.loss_model.specs.declared.sites.Sign.TheVariants.{Minus}
 use Rattle.loss_model.specs.Sample.{Sample, fitted, residual}
-use Rattle.loss_model.specs.Problem.{value_at, sample, IsWellShaped}
+use Rattle.loss_model.specs.Problem.{value_at, of_row, sample, IsWellShaped}
 use Rattle.loss_model.specs.Spill.{Products, total, residual_products}
 use Rattle.loss_model.specs.Sign.{products_of}
 
@@ -62,3 +62,12 @@ pub residual_exact : {F E : Type 0} (value : F → Fraction) (p : Problem F) (cs
 residual_exact value p cs i t r e h =
     IfOk-weaker r (λ x. rational (value x) ≡ total t) (λ x. rational (value x) ≡ residual (sample value p) (value_at value cs) i)
     (λ x same. same ∙ ap total e ∙ residual-total (sample value p) (value_at value cs) i) h
+
+-- what is computed of two numbers of a row is computed of those of the sample
+module _ {F E : Type 0} (value : F → Fraction) (rows : List (Row F)) (i : ℕ) (d : Row F) (at : slice_get rows i ≡ Some d) (constant linear : Row F → ℚ) (t : ℚ) (r : Result F E) where
+  pub cost_exact : IfOk r (λ x. rational (value x) ≡ constant d +ℚ (linear d *ℚ t)) → IfOk r (λ x. rational (value x) ≡ of_row rows constant i +ℚ (of_row rows linear i *ℚ t))
+  cost_exact h =
+      subst (λ o. IfOk r (λ x. rational (value x) ≡ option_map_or constant o (whole (pos 0)) +ℚ (option_map_or linear o (whole (pos 0)) *ℚ t))) (sym at) h
+
+  pub cost_spilled : (P : ℚ → ℚ → E → Type 0) → IfErr r (P (constant d) (linear d)) → IfErr r (P (of_row rows constant i) (of_row rows linear i))
+  cost_spilled P h = subst (λ o. IfErr r (P (option_map_or constant o (whole (pos 0))) (option_map_or linear o (whole (pos 0))))) (sym at) h

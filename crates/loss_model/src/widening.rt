@@ -40,9 +40,9 @@ fn widen_vertex(alloc: Global, vertex: &Vertex<Frac64>) -> Result<Vertex<Frac128
 fn widen_segment(alloc: Global, segment: &Segment<Frac64>) -> Result<Segment<Frac128>, OutOfMemory>
     ensures { IfOk result (λ made. segment_by wide_value made ≡ segment_by narrow_value segment.now) }
 {
-    let vertex = widen_vertex(alloc, &segment.vertex)?;
     let basic_lo = widen_list(alloc, segment.basic_lo.as_slice())?;
     let basic_hi = widen_list(alloc, segment.basic_hi.as_slice())?;
+    let vertex = widen_vertex(alloc, &segment.vertex)?;
     Ok(Segment {
         lo: widen(segment.lo),
         hi: widen(segment.hi),
@@ -145,15 +145,33 @@ fn widen_beyond(alloc: Global, beyond: &Beyond<Frac64>) -> Result<Beyond<Frac128
 fn widen_end(alloc: Global, end: &End<Frac64>) -> Result<End<Frac128>, OutOfMemory>
     ensures { IfOk result (λ made. end_by wide_value made ≡ end_by narrow_value end.now) }
 {
-    let vertex = widen_vertex(alloc, &end.vertex)?;
     let inside = widen_list(alloc, end.inside.as_slice())?;
     let beyond = widen_beyond(alloc, &end.beyond)?;
+    let vertex = widen_vertex(alloc, &end.vertex)?;
     Ok(End {
         bound: widen_bound(end.bound),
         vertex,
         inside,
         beyond,
     })
+}
+
+// Both ends of an interval.
+fn widen_ends(
+    alloc: Global,
+    interval: &Interval<Frac64>,
+) -> Result<(End<Frac128>, End<Frac128>), OutOfMemory>
+    ensures low { IfOk result (λ made. end_by wide_value made.0 ≡ end_by narrow_value interval.now.low) }
+    ensures high { IfOk result (λ made. end_by wide_value made.1 ≡ end_by narrow_value interval.now.high) }
+{
+    let low = widen_end(alloc, &interval.low)?;
+    match widen_end(alloc, &interval.high) {
+        Ok(high) => Ok((low, high)),
+        Err(error) => {
+            drop(low);
+            Err(error)
+        }
+    }
 }
 
 // A list of numbers, where there is one.
@@ -176,10 +194,9 @@ pub fn widen_interval(
 ) -> Result<Interval<Frac128>, OutOfMemory>
     ensures { IfOk result (λ made. interval_by wide_value made ≡ interval_by narrow_value interval.now) }
 {
-    let low = widen_end(alloc, &interval.low)?;
-    let high = widen_end(alloc, &interval.high)?;
     let projection = widen_projection(alloc, &interval.projection)?;
     let trail = widen_trail(alloc, &interval.trail)?;
+    let (low, high) = widen_ends(alloc, interval)?;
     Ok(Interval {
         column: interval.column,
         tau: widen(interval.tau),

@@ -219,8 +219,7 @@ pub fn all_intervals<R: Threads + Sync, G: Gate>(
         limit: asks.limit,
         purpose: asks.purpose,
     };
-    match ranked.over(rt, alloc, asks.taus, gate) {
-        Ok(all) => Ok(all),
-        Err(stopped) => Err(stopped),
-    }
+    let all = ranked.over(rt, alloc, asks.taus, gate);
+    drop(setting);
+    all
 }

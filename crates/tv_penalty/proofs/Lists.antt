@@ -1,6 +1,7 @@
 -- Steps of loops that make lists.
 use Rattle.std.proofs.Common.{◌≡◌, ◌<◌, ◌≤◌, ◌+◌, ◌-◌, ℕ, zero, suc, pos, replicate, take, append_assoc, length-take-le, Bool, true, false, List, [], ◌∷◌, ◌++◌, length, get_or, map, refl, sym, ap, ap₂, subst, ◌∙◌, arith}
 use Rattle.std.specs.List.{range_with_len}
+use Rattle.std.specs.declared.cmp.Ordering.TheVariants.{Less}
 use Rattle.std.proofs.lemmas.List.{map-append, map-id, take_more, length-map}
 use Rattle.std.proofs.lemmas.List.FromFn.{map-range_with_len_more}
 use Rattle.frac_core.specs.declared.frac128.Frac128.{Frac128}
@@ -8,14 +9,22 @@ use Rattle.data_frame.specs.Views.{exact}
 use Rattle.loss_model.proofs.Products.{value_at-item}
 use Rattle.design_matrix.specs.Lists.{each}
 use Rattle.design_matrix.specs.Products.{value}
+use Rattle.exact_algebra.specs.Order.{cmp_ℚ}
 use Rattle.exact_algebra.specs.Rational.{ℚ, whole}
 use Rattle.tv_penalty.specs.Smoothings.{knot_at, placed, with_columns}
+use Rattle.tv_penalty.specs.Views.{AreAscending}
 
 -- one more item of numbers that count up from the first
 pub counted_more : {W Y : Type 0} (g : W → Y) (f : ℕ → Y) (first k j : ℕ) (olds news : List W) (w : W) → first + k ≡ j → map g olds ≡ map f (range_with_len first k) → news ≡ olds ++ w ∷ [] → g w ≡ f j
     → map g news ≡ map f (range_with_len first (k + 1))
 counted_more g f first k j olds news w at so_far more made =
     ap (map g) more ∙ map-append g olds (w ∷ []) ∙ ap₂ (λ xs y. xs ++ y ∷ []) so_far made ∙ sym (map-range_with_len_more f first k j at)
+
+-- two numbers that were read one after the other ascend where the knots do
+pub read_ascending : (knots : List Frac128) (k j : ℕ) (x y : Frac128) → AreAscending knots → j ≡ k + 1 → j < length knots → x ≡ get_or knots k x → y ≡ get_or knots j y → cmp_ℚ (exact x) (exact y) ≡ Less
+read_ascending knots k j x y up next l hx hy =
+    ap₂ cmp_ℚ (sym (value_at-item value knots k x (omega (arith, next, l)) hx)) (sym (value_at-item value knots j y l hy))
+    ∙ ap (λ i. cmp_ℚ (knot_at knots k) (knot_at knots i)) next ∙ up k (omega (arith, next, l))
 
 -- what holds of three numbers that were read holds of the knots
 pub at_knots : (P : ℚ → ℚ → ℚ → Type 0) (knots : List Frac128) (k : ℕ) (x y z : Frac128) → k + 2 < length knots → x ≡ get_or knots k x → y ≡ get_or knots (k + 1) y → z ≡ get_or knots (k + 2) z

@@ -11,6 +11,7 @@ use Rattle.whole_inverse.specs.Shares.{share, share_at}
 use Rattle.whole_inverse.specs.Squares.{IsWholeSquare}
 use Rattle.whole_solution.specs.declared.basis.WholeBasis.{WholeBasis}
 use Rattle.whole_solution.specs.declared.solution.WholeSolution.{WholeSolution}
+use Rattle.whole_solution.specs.declared.solution.DualNumbers.{DualNumbers}
 use Rattle.whole_solution.specs.declared.solution.Sided.{Sided}
 use Rattle.whole_solution.specs.Weighing.{AreWeights}
 use Rattle.whole_solution.specs.Far.{AreOthersFar, IsNear}
@@ -50,6 +51,13 @@ pub record IsSided (p : Sample) (at : ℕ → ℕ) (a : ℕ → ℕ → ℚ) (d 
   pub far : AreOthersFar p (side_in s.sides) s.near.rows (share (pos s.near.reach) s.near.determinant) (coefficient p at a)
   pub weights : AreWeights p (side_in s.sides) s.weights
   pub residuals : IfSome s.residuals (AreResiduals p at a d)
+
+-- the numbers are those of both parts of the basic dual values
+pub record AreDualNumbers (p : Sample) (at : ℕ → ℕ) (a : ℕ → ℕ → ℚ) (d : ℤ) (s : DualNumbers) : Type 0 where
+  pub constants : length s.constant ≡ p.columns
+  pub constant : (j : ℕ) → j < p.columns → share_at d s.constant j ≡ basic_dual p at a Constant j
+  pub linears : length s.linear ≡ p.columns
+  pub linear : (j : ℕ) → j < p.columns → share_at d s.linear j ≡ basic_dual p at a Linear j
 
 -- the same, and those of both parts of the basic dual values
 pub record IsWholeSolution (p : Sample) (at : ℕ → ℕ) (a : ℕ → ℕ → ℚ) (d : ℤ) (s : WholeSolution) : Type 0 where

@@ -7,7 +7,7 @@ ghost use Rattle.basis_model.specs.Basis.{coefficient, side_at};
 ghost use Rattle.whole_inverse.specs.Shares.{share, share_at};
 ghost use Rattle.whole_inverse.specs.Squares.{inverse_of};
 ghost use Rattle.whole_rows.specs.Wholes.{sample_of_rows};
-ghost use Rattle.whole_solution.specs.Standing.{side_in, AreResiduals, HasWeights, IsSided, IsWholeBasis, IsWholeSolution};
+ghost use Rattle.whole_solution.specs.Standing.{side_in, AreDualNumbers, AreResiduals, HasWeights, IsSided, IsWholeBasis, IsWholeSolution};
 ghost use Rattle.whole_solution.specs.Columns.{IsColumn};
 ghost use Rattle.whole_solution.specs.Far.{IsListed};
 ghost use Rattle.whole_solution.specs.Ranges.{AreRanges};
@@ -49,6 +49,13 @@ pub struct Sided {
     pub near: Near,
     pub weights: Weights,
     pub residuals: Option<List<i128>>,
+}
+
+/// The two parts of the dual values by position, as numerators over the determinant.
+#[derive(Drop)]
+pub struct DualNumbers {
+    pub constant: List<i128>,
+    pub linear: List<i128>,
 }
 
 /// The sides of all rows, and what these weigh on them.
@@ -282,6 +289,20 @@ impl<'a> WholeBasis<'a> {
         )
     }
 
+    /// The dual values, by what the rows weigh on their sides.
+    fn dual_numbers(&self, alloc: Global, sided: &Sided) -> Result<DualNumbers, Obstacle>
+        requires basis { IsWholeBasis self.now }
+        requires sided { let s = self.now.inverse.now in let p = sample_of_rows (length s.columns) self.now.rows.now in let at = slice_index self.now.basis.now.rows in
+            IsSided p at (inverse_of s) s.determinant sided.now }
+        ensures { let s = self.now.inverse.now in let p = sample_of_rows (length s.columns) self.now.rows.now in let at = slice_index self.now.basis.now.rows in
+            IfOk result (AreDualNumbers p at (inverse_of s) s.determinant) }
+    {
+        let weights = &sided.weights;
+        let constant = balancing_numbers(alloc, self.inverse, weights.constant.columns.as_slice())?;
+        let linear = balancing_numbers(alloc, self.inverse, weights.linear.columns.as_slice())?;
+        Ok(DualNumbers { constant, linear })
+    }
+
     /// What stands at a basis, with the dual values.
     fn standing(&self, alloc: Global, sided: Sided) -> Result<WholeSolution, Obstacle>
         requires basis { IsWholeBasis self.now }
@@ -290,18 +311,21 @@ impl<'a> WholeBasis<'a> {
         ensures { let s = self.now.inverse.now in let p = sample_of_rows (length s.columns) self.now.rows.now in let at = slice_index self.now.basis.now.rows in
             IfOk result (IsWholeSolution p at (inverse_of s) s.determinant) }
     {
-        let weights = sided.weights;
-        let constant = balancing_numbers(alloc, self.inverse, weights.constant.columns.as_slice())?;
-        let linear = balancing_numbers(alloc, self.inverse, weights.linear.columns.as_slice())?;
-        Ok(WholeSolution {
-            coef: sided.coef,
-            sides: sided.sides,
-            near: sided.near,
-            weights,
-            residuals: sided.residuals,
-            constant,
-            linear,
-        })
+        match self.dual_numbers(alloc, &sided) {
+            Ok(duals) => Ok(WholeSolution {
+                coef: sided.coef,
+                sides: sided.sides,
+                near: sided.near,
+                weights: sided.weights,
+                residuals: sided.residuals,
+                constant: duals.constant,
+                linear: duals.linear,
+            }),
+            Err(obstacle) => {
+                drop(sided);
+                Err(obstacle)
+            }
+        }
     }
 
     /// What stands at a basis.

@@ -5,9 +5,21 @@ use Rattle.loss_model.specs.Problem.{value_at, sample}
 use Rattle.basis_inverse.specs.Square.{inverse_entry}
 use Rattle.basis_model.specs.Basis.{coefficient}
 use Rattle.basis_model.specs.BasisSpills.{IsBasisSpill}
-use Rattle.basic_solution.specs.Bases.{IsResidualsSpill}
+use Rattle.basic_solution.specs.Bases.{IsCoefficientsSpill, IsResidualsSpill, IsRowsSpill}
+use Rattle.basic_solution.specs.Solutions.{IsDualSpill}
 use Rattle.basic_solution.proofs.Agreeing.{residual-same, residual_spill-same, short_map}
 use Rattle.basic_solution.proofs.solution.basic_solution.Goals as goal
+
+pub returns-in_err-coef-clause-spill : goal.returns-in_err-coef-clause-spill
+returns-in_err-coef-clause-spill g c =
+    let value = g.F.Exact.value in
+    let range = g.F.Exact.range in
+    let p = sample value c.args.problem.now in
+    let at = slice_index c.args.basis.now.rows in
+    let a = inverse_entry value c.args.inverse.now in
+    let q = err_from_is_err_and c.from_residual.result c.from_residual.ensures.1 in
+    rw (q.1, q.2)
+    (short_map (IsCoefficientsSpill value range p at a) (IsBasisSpill value range p at a) c.in_err-coef.field-0.0 (λ s h. inl h) (c.in_err-coef.ensures {u = tt}).spill)
 
 pub returns-in_err-residuals-clause-spill : goal.returns-in_err-residuals-clause-spill
 returns-in_err-residuals-clause-spill g c =
@@ -33,6 +45,39 @@ sides-requires-clause-residuals g c κs within i l =
     let each = rw c.as_slice.ensures at (c.in_ok-residuals.ensures {u = tt}).each in
     ap (λ (xs : List g.row.F.Denot). value_at value xs i) c.as_slice-2.ensures ∙ each i l
     ∙ residual-same p b (coefficient p at a) (c.in_ok-coef.ensures {u = tt}).each i
+
+pub returns-in_err-sides-clause-spill : goal.returns-in_err-sides-clause-spill
+returns-in_err-sides-clause-spill g c =
+    let value = g.F.Exact.value in
+    let range = g.F.Exact.range in
+    let p = sample value c.args.problem.now in
+    let at = slice_index c.args.basis.now.rows in
+    let a = inverse_entry value c.args.inverse.now in
+    let q = err_from_is_err_and c.from_residual-in_err-sides.result c.from_residual-in_err-sides.ensures.1 in
+    rw (q.1, q.2)
+    (short_map (IsRowsSpill value range p a) (IsBasisSpill value range p at a) c.in_err-sides.field-0.0 (λ s h. inr (inr (inl h))) (c.in_err-sides.ensures {u = tt}).spill)
+
+pub returns-in_err-constant-clause-spill : goal.returns-in_err-constant-clause-spill
+returns-in_err-constant-clause-spill g c =
+    let value = g.F.Exact.value in
+    let range = g.F.Exact.range in
+    let p = sample value c.args.problem.now in
+    let at = slice_index c.args.basis.now.rows in
+    let a = inverse_entry value c.args.inverse.now in
+    let q = err_from_is_err_and c.from_residual-in_err-constant.result c.from_residual-in_err-constant.ensures.1 in
+    rw (q.1, q.2)
+    (short_map (IsDualSpill value range p at a) (IsBasisSpill value range p at a) c.in_err-constant.field-0.0 (λ s h. inr (inr (inr h))) (c.in_err-constant.ensures {u = tt}).spill)
+
+pub returns-in_err-linear-clause-spill : goal.returns-in_err-linear-clause-spill
+returns-in_err-linear-clause-spill g c =
+    let value = g.F.Exact.value in
+    let range = g.F.Exact.range in
+    let p = sample value c.args.problem.now in
+    let at = slice_index c.args.basis.now.rows in
+    let a = inverse_entry value c.args.inverse.now in
+    let q = err_from_is_err_and c.from_residual-in_err-linear.result c.from_residual-in_err-linear.ensures.1 in
+    rw (q.1, q.2)
+    (short_map (IsDualSpill value range p at a) (IsBasisSpill value range p at a) c.in_err-linear.field-0.0 (λ s h. inr (inr (inr h))) (c.in_err-linear.ensures {u = tt}).spill)
 
 pub returns : goal.returns
 returns g c =

@@ -1,4 +1,4 @@
-use Rattle.std.proofs.Common.{◌≡◌, ◌<◌, length, arith, ap, sym, refl, inr, zero-add}
+use Rattle.std.proofs.Common.{◌≡◌, ◌<◌, length, arith, ap, sym, refl, inl, inr, zero-add}
 use Rattle.std.proofs.lemmas.Result.{err_from_is_err_and}
 use Rattle.exact_algebra.specs.Fraction.{rational}
 use Rattle.loss_model.specs.Problem.{value_at, sample}
@@ -12,6 +12,12 @@ pub loop-row-init : goal.loop-row-init
 loop-row-init g c =
     let v = g.F.Exact.value in
     first_loss (sample v c.args.problem.now) (rational (v c.args.theta)) (value_at v c.args.coef.now) _ c.zero-total.ensures
+
+pub returns-in_err-priced-clause-spilled : goal.returns-in_err-priced-clause-spilled
+returns-in_err-priced-clause-spilled g c =
+    let p = err_from_is_err_and c.from_residual.result c.from_residual.ensures.1 in
+    let within : c.loop-row.row < length c.args.problem.now.rows = omega (arith, ap length c.as_slice.ensures) in
+    rw (p.1, p.2) (inl (c.loop-row.row, within, (c.in_err-priced.ensures {u = tt}).spilled))
 
 pub loop-row-preserved : goal.loop-row-preserved
 loop-row-preserved g c =

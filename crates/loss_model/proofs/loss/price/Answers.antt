@@ -1,8 +1,25 @@
-use Rattle.std.proofs.Common.{arith, sym, inl, inr, ◌∙◌, pos, ◌≤ℤ◌}
+use Rattle.std.proofs.Common.{arith, ap, sym, inl, inr, ◌∙◌, pos, ◌≤ℤ◌}
 use Rattle.std.proofs.lemmas.Result.{err_from_is_err_and}
 use Rattle.std.proofs.lemmas.Int.{ints}
-use Rattle.loss_model.proofs.Prices.{sign_above, sign_up, sign_below, cost_up, size_up}
+use Rattle.exact_algebra.specs.Rational.{neg_ℚ}
+use Rattle.loss_model.proofs.Prices.{sign_above, sign_up, sign_below, cost_up, size_up, cost_down}
 use Rattle.loss_model.proofs.loss.price.Goals as goal
+
+pub returns-in_err-residual-clause-spilled : goal.returns-in_err-residual-clause-spilled
+returns-in_err-residual-clause-spilled g c =
+    let p = err_from_is_err_and c.from_residual.result c.from_residual.ensures.1 in
+    rw (p.1, p.2) (inl (c.in_err-residual.ensures {u = tt}).spilled)
+
+pub returns-in_ok-cost-clause-cost : goal.returns-in_ok-cost-clause-cost
+returns-in_ok-cost-clause-cost g c =
+    let below : ¬ (pos 0 ≤ℤ c.sign.result) = λ h. omega (arith, ints, h) in
+    (c.in_ok-cost.ensures {u = tt}).exact ∙ sym (cost_down _ _ _ (sign_below _ _ c.sign.result (c.in_ok-residual.ensures {u = tt}).exact c.sign.ensures below))
+
+pub returns-in_ok-cost-clause-size : goal.returns-in_ok-cost-clause-size
+returns-in_ok-cost-clause-size g c =
+    let below : ¬ (pos 0 ≤ℤ c.sign.result) = λ h. omega (arith, ints, h) in
+    c.neg-size.ensures ∙ ap neg_ℚ (c.in_ok-residual.ensures {u = tt}).exact
+    ∙ sym (cost_down _ _ _ (sign_below _ _ c.sign.result (c.in_ok-residual.ensures {u = tt}).exact c.sign.ensures below))
 
 pub returns-in_ok-cost-2-clause-cost : goal.returns-in_ok-cost-2-clause-cost
 returns-in_ok-cost-2-clause-cost g c =

@@ -1,22 +1,10 @@
 -- The parts together.
-use Rattle.std.proofs.Common.{length, slice_index, ◌∙◌}
-use Rattle.basis_model.specs.declared.part.Part.TheVariants.{Constant, Linear}
-use Rattle.whole_inverse.specs.Squares.{inverse_of}
-use Rattle.whole_rows.specs.Wholes.{sample_of_rows}
-use Rattle.whole_solution.specs.Standing.{side_in}
-use Rattle.whole_solution.proofs.Same.{duals_from}
 use Rattle.whole_solution.proofs.basis.WholeBasis.standing.Goals as goal
 
-pub returns : goal.returns
-returns c =
-    let s = c.args.self.now.inverse.now in
-    let p = sample_of_rows (length s.columns) c.args.self.now.rows.now in
-    let at = slice_index c.args.self.now.basis.now.rows in
+pub returns-in-Ok : goal.returns-in-Ok
+returns-in-Ok c =
     let sided = c.requires.sided in
-    let sides = c.args.sided.sides in
-    let weights = sided.weights in
-    let constant = rw (c.as_slice.ensures, weights.constant.size) at c.in_ok-constant.ensures in
-    let linear = rw (c.as_slice-2.ensures, weights.linear.size) at c.in_ok-linear.ensures in
+    let duals = c.in-Ok.ensures {u = tt} in
     record {
       columns = sided.columns;
       coef = sided.coef;
@@ -24,10 +12,10 @@ returns c =
       sides = sided.sides;
       near = sided.near;
       far = sided.far;
-      weights = weights;
+      weights = sided.weights;
       residuals = sided.residuals;
-      constants = constant.size;
-      constant = λ j lj. constant.each s.determinant j lj ∙ duals_from p at (inverse_of s) (side_in sides) Constant c.args.sided.weights.constant sided.sides weights.constant j;
-      linears = linear.size;
-      linear = λ j lj. linear.each s.determinant j lj ∙ duals_from p at (inverse_of s) (side_in sides) Linear c.args.sided.weights.linear sided.sides weights.linear j;
+      constants = duals.constants;
+      constant = duals.constant;
+      linears = duals.linears;
+      linear = duals.linear;
     }
