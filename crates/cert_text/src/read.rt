@@ -1,6 +1,6 @@
 //! From bytes to the certificate that they are.
 
-ghost use Rattle.std.specs.Prelude.{◌≡◌, ◌≢◌, Ok, Err, Some, None, All, ⊤, codes, length, map, option_and_then, IfOk, IfErr};
+ghost use Rattle.std.specs.Prelude.{◌≡◌, ◌≢◌, Ok, Err, Some, None, All, ⊤, codes, length, map, option_and_then, if◌then◌else◌, IfOk, IfErr};
 ghost use Rattle.serde_json.specs.Find.{get, as_number, as_u64};
 ghost use Rattle.serde_json.specs.View.{view, members_view};
 ghost use Rattle.cert_text.specs.Certificates.{kind, anything, segments, top_members, within_limits, version_of, layout_of, or_version, cert_of_data, json_of, cert_of};
@@ -168,27 +168,26 @@ const MOST_INTERVALS: usize = 8_192;
 // Rows times segments.
 const MOST_SIDES: usize = 1 << 30;
 
-// The certificate, unless it is beyond a limit.
-fn within(cert: Cert) -> Result<Cert, CertFault>
-    ensures ok { IfOk result (λ c. within_limits (content cert) ≡ Ok (content c)) }
-    ensures err { IfErr result (λ e. within_limits (content cert) ≡ Err e) }
+// Whether a certificate is within the limits.
+fn is_within(cert: &Cert) -> bool
+    ensures { within_limits (content cert.now) ≡ (if result then Ok (content cert.now) else Err CertFault.TooLarge) }
 {
     if cert.problem.columns > MOST_COLUMNS {
-        return Err(CertFault::TooLarge);
+        return false;
     }
     if cert.problem.rows.as_slice().len() > MOST_ROWS as usize {
-        return Err(CertFault::TooLarge);
+        return false;
     }
     if cert.segments.as_slice().len() > MOST_SEGMENTS {
-        return Err(CertFault::TooLarge);
+        return false;
     }
     if cert.intervals.as_slice().len() > MOST_INTERVALS {
-        return Err(CertFault::TooLarge);
+        return false;
     }
     if cert.problem.rows.as_slice().len() * cert.segments.as_slice().len() > MOST_SIDES {
-        return Err(CertFault::TooLarge);
+        return false;
     }
-    Ok(cert)
+    true
 }
 
 #[tactic(auto, unfolding(crate::specs::Certificates::version_of))]
@@ -222,7 +221,11 @@ fn cert_of_value(alloc: Global, value: &Value) -> Result<Cert, CertFault>
     let version = version_of(alloc, value)?;
     let layout = layout_of(version)?;
     let cert = top_of(alloc, layout, &mut found.iter())?;
-    within(cert)
+    if !is_within(&cert) {
+        drop(cert);
+        return Err(CertFault::TooLarge);
+    }
+    Ok(cert)
 }
 
 #[tactic(auto, unfolding(crate::specs::Certificates::json_of))]

@@ -1,6 +1,7 @@
 //! The weighted columns of a problem.
 ghost use Rattle.std.specs.Prelude.{◌≡◌, ℕ, ◌<◌, length, IfOk};
 ghost use Rattle.exact_algebra.specs.Fraction.{rational};
+ghost use Rattle.exact_algebra.specs.Rational.{◌*ℚ◌};
 ghost use Rattle.loss_model.specs.Problem.{value_at, sample, IsWellShaped};
 ghost use Rattle.gram_matrix.specs.Grams.{scaled};
 ghost use Rattle.gram_inverse.specs.Columns.{AreWeighted};
@@ -9,6 +10,16 @@ use frac_core::{Exact, List, OutOfMemory};
 use loss_model::Problem;
 use ratio::Ratio;
 use std::alloc::Global;
+
+// a * x
+fn times<F: Exact>(alloc: Global, a: &Ratio, x: F) -> Result<Ratio, OutOfMemory>
+    ensures { IfOk result (λ r. rational r ≡ rational a.now *ℚ rational (F.value x)) }
+{
+    let factor = Ratio::widen(alloc, x)?;
+    let product = a.mul(alloc, &factor);
+    drop(factor);
+    product
+}
 
 // An entry times the weight of its row.
 fn weighted_entry<F: Exact>(
@@ -23,10 +34,11 @@ fn weighted_entry<F: Exact>(
     ensures { IfOk result (λ e. rational e ≡ scaled (sample F.value problem.now) row column) }
 {
     let chosen = &problem.rows.as_slice()[row];
+    let entry = chosen.x.as_slice()[column as usize];
     let weight = Ratio::widen(alloc, chosen.up1)?;
-    let entry = Ratio::widen(alloc, chosen.x.as_slice()[column as usize])?;
-    let weighted = weight.mul(alloc, &entry)?;
-    Ok(weighted)
+    let weighted = times(alloc, &weight, entry);
+    drop(weight);
+    weighted
 }
 
 /// The entries of a column, each times the weight of its row, which is its `up1`.

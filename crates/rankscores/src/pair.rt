@@ -66,16 +66,18 @@ pub(crate) fn score_pair<F: Exact>(
 {
     let low = segment.basic_lo.as_slice();
     let high = segment.basic_hi.as_slice();
+    let dual_lo = low[place];
+    let dual_hi = high[place];
     let row = segment.vertex.basis.rows.as_slice()[place];
     if row >= data_rows {
         return Ok(ScorePair {
             row,
-            at_lo: low[place],
-            at_hi: high[place],
+            at_lo: dual_lo,
+            at_hi: dual_hi,
         });
     }
     let weight = problem.rows.as_slice()[row as usize].up1;
-    let at_lo = score_at(score_site(row, 0, number), low[place], weight, segment.lo)?;
-    let at_hi = score_at(score_site(row, 1, number), high[place], weight, segment.hi)?;
+    let at_lo = score_at(score_site(row, 0, number), dual_lo, weight, segment.lo)?;
+    let at_hi = score_at(score_site(row, 1, number), dual_hi, weight, segment.hi)?;
     Ok(ScorePair { row, at_lo, at_hi })
 }

@@ -26,15 +26,25 @@ fn place_of(rows: &[u32], row: u32) -> usize
     rows.binary_search(&row).unwrap()
 }
 
-// x / y
-fn quotient<F: Exact>(alloc: Global, x: F, y: F) -> Result<Ratio, OutOfMemory>
+// a / y
+fn over<F: Exact>(alloc: Global, a: &Ratio, y: F) -> Result<Ratio, OutOfMemory>
     requires { rational (F.value y) ≢ whole (pos 0) }
-    ensures { IfOk result (λ r. rational r ≡ rational (F.value x) *ℚ inverse (rational (F.value y))) }
+    ensures { IfOk result (λ r. rational r ≡ rational a.now *ℚ inverse (rational (F.value y))) }
 {
-    let above = Ratio::widen(alloc, x)?;
     let below = Ratio::widen(alloc, y)?;
-    let share = above.div(alloc, &below)?;
-    Ok(share)
+    let share = a.div(alloc, &below);
+    drop(below);
+    share
+}
+
+// a * x
+fn times<F: Exact>(alloc: Global, a: &Ratio, x: F) -> Result<Ratio, OutOfMemory>
+    ensures { IfOk result (λ r. rational r ≡ rational a.now *ℚ rational (F.value x)) }
+{
+    let factor = Ratio::widen(alloc, x)?;
+    let product = a.mul(alloc, &factor);
+    drop(factor);
+    product
 }
 
 // a + x
@@ -42,8 +52,9 @@ fn plus<F: Exact>(alloc: Global, a: &Ratio, x: F) -> Result<Ratio, OutOfMemory>
     ensures { IfOk result (λ r. rational r ≡ rational a.now +ℚ rational (F.value x)) }
 {
     let more = Ratio::widen(alloc, x)?;
-    let sum = a.add(alloc, &more)?;
-    Ok(sum)
+    let sum = a.add(alloc, &more);
+    drop(more);
+    sum
 }
 
 // a - x
@@ -51,8 +62,32 @@ fn minus<F: Exact>(alloc: Global, a: &Ratio, x: F) -> Result<Ratio, OutOfMemory>
     ensures { IfOk result (λ r. rational r ≡ rational a.now -ℚ rational (F.value x)) }
 {
     let less = Ratio::widen(alloc, x)?;
-    let difference = a.sub(alloc, &less)?;
-    Ok(difference)
+    let difference = a.sub(alloc, &less);
+    drop(less);
+    difference
+}
+
+// x / y
+fn quotient<F: Exact>(alloc: Global, x: F, y: F) -> Result<Ratio, OutOfMemory>
+    requires { rational (F.value y) ≢ whole (pos 0) }
+    ensures { IfOk result (λ r. rational r ≡ rational (F.value x) *ℚ inverse (rational (F.value y))) }
+{
+    let above = Ratio::widen(alloc, x)?;
+    let share = over(alloc, &above, y);
+    drop(above);
+    share
+}
+
+// x / y + z
+fn raised<F: Exact>(alloc: Global, x: F, y: F, z: F) -> Result<Ratio, OutOfMemory>
+    requires { rational (F.value y) ≢ whole (pos 0) }
+    ensures { IfOk result (λ r. rational r
+        ≡ (rational (F.value x) *ℚ inverse (rational (F.value y))) +ℚ rational (F.value z)) }
+{
+    let share = quotient(alloc, x, y)?;
+    let raised = plus(alloc, &share, z);
+    drop(share);
+    raised
 }
 
 // The rankscore, from a dual value and a weight.
@@ -61,10 +96,10 @@ fn rankscore<F: Exact>(alloc: Global, dual: F, weight: F, theta: F) -> Result<Ra
     ensures { IfOk result (λ r. rational r
         ≡ ((rational (F.value dual) *ℚ inverse (rational (F.value weight))) +ℚ whole (pos 1)) -ℚ rational (F.value theta)) }
 {
-    let share = quotient(alloc, dual, weight)?;
-    let raised = plus(alloc, &share, F::one())?;
-    let score = minus(alloc, &raised, theta)?;
-    Ok(score)
+    let raised = raised(alloc, dual, weight, F::one())?;
+    let score = minus(alloc, &raised, theta);
+    drop(raised);
+    score
 }
 
 // hi - lo, where it isn't narrow
@@ -72,8 +107,9 @@ fn wide_gap<F: Exact>(alloc: Global, lo: F, hi: F) -> Result<Ratio, OutOfMemory>
     ensures { IfOk result (λ r. rational r ≡ rational (F.value hi) -ℚ rational (F.value lo)) }
 {
     let high = Ratio::widen(alloc, hi)?;
-    let gap = minus(alloc, &high, lo)?;
-    Ok(gap)
+    let gap = minus(alloc, &high, lo);
+    drop(high);
+    gap
 }
 
 // hi - lo
@@ -139,9 +175,19 @@ fn product<F: Exact>(alloc: Global, x: F, y: F) -> Result<Ratio, OutOfMemory>
     ensures { IfOk result (λ r. rational r ≡ rational (F.value x) *ℚ rational (F.value y)) }
 {
     let left = Ratio::widen(alloc, x)?;
-    let right = Ratio::widen(alloc, y)?;
-    let product = left.mul(alloc, &right)?;
-    Ok(product)
+    let product = times(alloc, &left, y);
+    drop(left);
+    product
+}
+
+// a - x * y
+fn minus_product<F: Exact>(alloc: Global, a: &Ratio, x: F, y: F) -> Result<Ratio, OutOfMemory>
+    ensures { IfOk result (λ r. rational r ≡ rational a.now -ℚ (rational (F.value x) *ℚ rational (F.value y))) }
+{
+    let fall = product(alloc, x, y)?;
+    let difference = a.sub(alloc, &fall);
+    drop(fall);
+    difference
 }
 
 // hi * at_lo - lo * at_hi
@@ -150,19 +196,32 @@ fn turned<F: Exact>(alloc: Global, stretch: Stretch<F>) -> Result<Ratio, OutOfMe
         ≡ (rational (F.value stretch.hi) *ℚ rational (F.value stretch.at_lo)) -ℚ (rational (F.value stretch.lo) *ℚ rational (F.value stretch.at_hi))) }
 {
     let rise = product(alloc, stretch.hi, stretch.at_lo)?;
-    let fall = product(alloc, stretch.lo, stretch.at_hi)?;
-    let turned = rise.sub(alloc, &fall)?;
-    Ok(turned)
+    let turned = minus_product(alloc, &rise, stretch.lo, stretch.at_hi);
+    drop(rise);
+    turned
 }
 
-// a / y
-fn over<F: Exact>(alloc: Global, a: &Ratio, y: F) -> Result<Ratio, OutOfMemory>
-    requires { rational (F.value y) ≢ whole (pos 0) }
-    ensures { IfOk result (λ r. rational r ≡ rational a.now *ℚ inverse (rational (F.value y))) }
+// (hi * at_lo - lo * at_hi) / weight
+fn turned_share<F: Exact>(alloc: Global, stretch: Stretch<F>) -> Result<Ratio, OutOfMemory>
+    requires { rational (F.value stretch.weight) ≢ whole (pos 0) }
+    ensures { IfOk result (λ r. rational r
+        ≡ ((rational (F.value stretch.hi) *ℚ rational (F.value stretch.at_lo)) -ℚ (rational (F.value stretch.lo) *ℚ rational (F.value stretch.at_hi)))
+        *ℚ inverse (rational (F.value stretch.weight))) }
 {
-    let below = Ratio::widen(alloc, y)?;
-    let share = a.div(alloc, &below)?;
-    Ok(share)
+    let turned = turned(alloc, stretch)?;
+    let share = over(alloc, &turned, stretch.weight);
+    drop(turned);
+    share
+}
+
+// a + (hi - lo)
+fn plus_gap<F: Exact>(alloc: Global, a: &Ratio, lo: F, hi: F) -> Result<Ratio, OutOfMemory>
+    ensures { IfOk result (λ r. rational r ≡ rational a.now +ℚ (rational (F.value hi) -ℚ rational (F.value lo))) }
+{
+    let length = gap(alloc, lo, hi)?;
+    let sum = a.add(alloc, &length);
+    drop(length);
+    sum
 }
 
 // The cross product of a stretch.
@@ -170,11 +229,10 @@ fn wide_cross<F: Exact>(alloc: Global, stretch: Stretch<F>) -> Result<Ratio, Out
     requires { rational (F.value stretch.weight) ≢ whole (pos 0) }
     ensures { IfOk result (λ r. rational r ≡ stretch_cross F.value stretch) }
 {
-    let turned = turned(alloc, stretch)?;
-    let share = over(alloc, &turned, stretch.weight)?;
-    let length = gap(alloc, stretch.lo, stretch.hi)?;
-    let cross = share.add(alloc, &length)?;
-    Ok(cross)
+    let share = turned_share(alloc, stretch)?;
+    let cross = plus_gap(alloc, &share, stretch.lo, stretch.hi);
+    drop(share);
+    cross
 }
 
 // The cross product of a basic row along a segment.

@@ -1,5 +1,5 @@
 //! The lines of rank intervals.
-ghost use Rattle.std.specs.Prelude.{◌≡◌, ◌++◌, ◌∷◌};
+ghost use Rattle.std.specs.Prelude.{◌≡◌, ◌++◌, ◌∷◌, [], codes};
 ghost use Rattle.std.specs.List.{flat_map};
 ghost use Rattle.report_text.specs.ReportText.{bound_text, interval_line};
 
@@ -19,6 +19,15 @@ impl Page {
         }
     }
 
+    // Adds the ends of an interval, and the end of its line.
+    fn put_ends<F: Exact>(&mut self, low: Bound<F>, high: Bound<F>)
+        ensures { self.new ≡ self.old ++ (32 ∷ bound_text F.value (codes "-Inf") low ++ 32 ∷ bound_text F.value (codes "Inf") high ++ 10 ∷ []) }
+    {
+        self.put_bound(b"-Inf", low);
+        self.put_bound(b"Inf", high);
+        self.put(b"\n");
+    }
+
     #[tactic(auto, unfolding(crate::specs::ReportText::interval_line))]
     fn interval_line<F: Exact>(&mut self, interval: &Interval<F>)
         ensures { self.new ≡ self.old ++ interval_line F.value interval.now }
@@ -26,9 +35,7 @@ impl Page {
         self.put(b"interval ");
         self.put_count(interval.column as u64 + 1);
         self.put_next(interval.tau);
-        self.put_bound(b"-Inf", interval.low.bound);
-        self.put_bound(b"Inf", interval.high.bound);
-        self.put(b"\n");
+        self.put_ends(interval.low.bound, interval.high.bound);
     }
 
     /// Adds the lines of rank intervals.

@@ -20,7 +20,7 @@ score_at-requires-after_bounds g c κs within =
     let s = c.args.segment.now in
     rw (← c.index-as_slice-row.is) (weight_not_zero g.F.Exact.value c.args.problem.now c.args.data_rows s.vertex s.basic_lo s.lo c.requires.vertex c.args.place _ c.as_slice.result.now c.as_slice.ensures refl c.requires.within
     c.requires.inside c.requires.lo
-    c.as_slice-low.result.now c.as_slice-low.ensures c.index-low-place-2.result c.index-low-place-2.is
+    c.as_slice-low.result.now c.as_slice-low.ensures c.index-low-place.result c.index-low-place.is
     (omega (arith, c.if-row-data_rows.false)) c.as_slice-2.result.now c.as_slice-2.ensures c.index-as_slice-row.result c.index-as_slice-row.is
     c.requires.weighted)
 
@@ -30,7 +30,7 @@ returns-in_err-at_lo-clause-spilled g c =
     let e = err_from_is_err_and c.from_residual.result c.from_residual.ensures.1 in
     rw (e.1, e.2)
     (inl (spill_read g.F.Exact.value c.args.problem.now c.args.data_rows s.vertex s.basic_lo s.lo c.requires.vertex c.args.place _ c.as_slice.result.now c.as_slice.ensures refl c.requires.within c.requires.inside c.requires.lo
-    c.as_slice-low.result.now c.as_slice-low.ensures c.index-low-place-2.result c.index-low-place-2.is
+    c.as_slice-low.result.now c.as_slice-low.ensures c.index-low-place.result c.index-low-place.is
     (omega (arith, c.if-row-data_rows.false)) c.as_slice-2.result.now c.as_slice-2.ensures c.index-as_slice-row.result c.index-as_slice-row.is
     g.F.Exact.range c.args.number 0 _ (rw (← c.index-as_slice-row.is, c.score_site.ensures) at (c.in_err-at_lo.ensures {u = tt}).spilled)))
 
@@ -39,7 +39,7 @@ score_at-requires-2-after_bounds g c κs within =
     let s = c.args.segment.now in
     rw (← c.index-as_slice-row.is) (weight_not_zero g.F.Exact.value c.args.problem.now c.args.data_rows s.vertex s.basic_lo s.lo c.requires.vertex c.args.place _ c.as_slice.result.now c.as_slice.ensures refl c.requires.within
     c.requires.inside c.requires.lo
-    c.as_slice-low.result.now c.as_slice-low.ensures c.index-low-place-2.result c.index-low-place-2.is
+    c.as_slice-low.result.now c.as_slice-low.ensures c.index-low-place.result c.index-low-place.is
     (omega (arith, c.if-row-data_rows.false)) c.as_slice-2.result.now c.as_slice-2.ensures c.index-as_slice-row.result c.index-as_slice-row.is
     c.requires.weighted)
 
@@ -49,7 +49,7 @@ returns-in_err-at_hi-clause-spilled g c =
     let e = err_from_is_err_and c.from_residual-in_err-at_hi.result c.from_residual-in_err-at_hi.ensures.1 in
     rw (e.1, e.2)
     (inr (spill_read g.F.Exact.value c.args.problem.now c.args.data_rows s.vertex s.basic_hi s.hi c.requires.vertex c.args.place _ c.as_slice.result.now c.as_slice.ensures refl c.requires.within c.requires.inside c.requires.hi
-    c.as_slice-high.result.now c.as_slice-high.ensures c.index-high-place-2.result c.index-high-place-2.is
+    c.as_slice-high.result.now c.as_slice-high.ensures c.index-high-place.result c.index-high-place.is
     (omega (arith, c.if-row-data_rows.false)) c.as_slice-2.result.now c.as_slice-2.ensures c.index-as_slice-row.result c.index-as_slice-row.is
     g.F.Exact.range c.args.number 1 _ (rw (← c.index-as_slice-row.is, c.score_site-2.ensures) at (c.in_err-at_hi.ensures {u = tt}).spilled)))
 
@@ -57,7 +57,7 @@ pub returns-clause-at_lo : goal.returns-clause-at_lo
 returns-clause-at_lo g c =
     let s = c.args.segment.now in
     score_read g.F.Exact.value c.args.problem.now c.args.data_rows s.vertex s.basic_lo s.lo c.requires.vertex c.args.place _ c.as_slice.result.now c.as_slice.ensures refl c.requires.within c.requires.inside c.requires.lo
-    c.as_slice-low.result.now c.as_slice-low.ensures c.index-low-place-2.result c.index-low-place-2.is
+    c.as_slice-low.result.now c.as_slice-low.ensures c.index-low-place.result c.index-low-place.is
     (omega (arith, c.if-row-data_rows.false)) c.as_slice-2.result.now c.as_slice-2.ensures c.index-as_slice-row.result c.index-as_slice-row.is
     c.in_ok-at_lo.at_lo (rw (← c.index-as_slice-row.is) at (c.in_ok-at_lo.ensures {u = tt}).exact)
 
@@ -65,6 +65,6 @@ pub returns-clause-at_hi : goal.returns-clause-at_hi
 returns-clause-at_hi g c =
     let s = c.args.segment.now in
     score_read g.F.Exact.value c.args.problem.now c.args.data_rows s.vertex s.basic_hi s.hi c.requires.vertex c.args.place _ c.as_slice.result.now c.as_slice.ensures refl c.requires.within c.requires.inside c.requires.hi
-    c.as_slice-high.result.now c.as_slice-high.ensures c.index-high-place-2.result c.index-high-place-2.is
+    c.as_slice-high.result.now c.as_slice-high.ensures c.index-high-place.result c.index-high-place.is
     (omega (arith, c.if-row-data_rows.false)) c.as_slice-2.result.now c.as_slice-2.ensures c.index-as_slice-row.result c.index-as_slice-row.is
     c.in_ok-at_hi.at_hi (rw (← c.index-as_slice-row.is) at (c.in_ok-at_hi.ensures {u = tt}).exact)

@@ -1,6 +1,4 @@
-use Rattle.std.proofs.Common.{pos, sym, ap, ◌∙◌}
-use Rattle.exact_algebra.specs.Order.{cmp_ℚ}
-use Rattle.exact_algebra.specs.Rational.{whole}
+use Rattle.std.proofs.Common.{sym, ◌∙◌}
 use Rattle.loss_model.specs.Problem.{sample, value_at}
 use Rattle.cert_checker.specs.Places.{value128}
 use Rattle.cert_checker.specs.Views.{end_of}
@@ -11,4 +9,4 @@ pub returns-in-Equal : goal.returns-in-Equal
 returns-in-Equal c =
     let x = c.args.self in
     flat_holds (sample value128 x.end.problem.now) (end_of x.end) (value_at value128 x.ray.now) c.args.i
-    (sym c.in-Equal.is ∙ c.in_ok-exact_sign.ensures ∙ ap (λ z. cmp_ℚ z (whole (pos 0))) c.in_ok-fit.ensures)
+    (sym c.in-Equal.is ∙ c.in_ok-exact_sign_of.ensures)

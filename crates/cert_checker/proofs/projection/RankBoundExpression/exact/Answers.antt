@@ -1,3 +1,4 @@
+use Rattle.std.proofs.Common.{◌∙◌}
 use Rattle.exact_algebra.specs.Fraction.{rational}
 use Rattle.cert_checker.specs.Views.{question}
 use Rattle.cert_checker.proofs.Wide.{bound_is}
@@ -5,5 +6,5 @@ use Rattle.cert_checker.proofs.projection.RankBoundExpression.exact.Goals as goa
 
 pub returns : goal.returns
 returns c =
-    bound_is (question c.args.self.of) (rational c.in_ok-spread.spread) (rational c.in_ok-square.square) (rational c.in_ok-bound.bound)
-    c.in_ok-spread.ensures c.in_ok-square.ensures c.in_ok-bound.ensures
+    bound_is (question c.args.self.of) (rational c.in_ok-operands.operands.left) (rational c.in_ok-operands.operands.right) (rational c.in_ok-bound.bound)
+    (c.in_ok-operands.ensures.left ∙ c.in_ok-spread.ensures) c.in_ok-operands.ensures.right c.in_ok-bound.ensures
