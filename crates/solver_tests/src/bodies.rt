@@ -97,3 +97,18 @@ pub(crate) fn expect_same(
     assert!(rt; figures(&fractions) == figures(process));
     drop(fractions);
 }
+
+/// Neither body has a start where the columns are dependent.
+pub(crate) fn expect_no_start(rt: &impl Abort, alloc: Global, problem: &Problem<Frac128>) {
+    assert!(rt; is_shaped(problem));
+    let Ok(setting) = setting_of(alloc, problem) else {
+        panic!(rt; "numbers of 64 bits");
+    };
+    let in_wholes = Progress::begin_in_wholes(alloc, problem, &setting);
+    assert!(rt; in_wholes.is_err());
+    drop(in_wholes);
+    drop(setting);
+    let in_fractions = Progress::begin(alloc, problem);
+    assert!(rt; in_fractions.is_err());
+    drop(in_fractions);
+}

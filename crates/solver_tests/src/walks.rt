@@ -1,7 +1,7 @@
 //! Walks over a range of quantiles: a small one worked by hand, under each limit, and drawn ones, whose
 //! losses stand beside the least loss over all bases.
 
-use crate::bodies::expect_same;
+use crate::bodies::{expect_no_start, expect_same};
 use crate::helpers::{
     Data, Path, Ratio, Reason, expect, expect_dependent, expect_stop, expect_trail, fraction,
     make_problem, problem, push, walk,
@@ -230,6 +230,7 @@ fn expect_least(rt: &impl Abort, alloc: Global, small: &mut Small) -> Option<u32
         }
         Err(stop) => {
             expect_dependent(rt, stop);
+            expect_no_start(rt, alloc, &problem);
             None
         }
     };
@@ -238,26 +239,57 @@ fn expect_least(rt: &impl Abort, alloc: Global, small: &mut Small) -> Option<u32
     together
 }
 
-/// The drawn problems whose columns are dependent, by an elimination that is no part of this program.
-static DEPENDENT: [u32; 8] = [3, 34, 47, 50, 56, 62, 76, 143];
+/// Problems that are drawn from a seed: how many they are, which of them have dependent columns, by an elimination that is no
+/// part of this program, and at least how many steps of their walks are at the quantile of the step before.
+struct Draws {
+    seed: u32,
+    count: u32,
+    dependent: &'static [u32],
+    together: u32,
+}
 
-// Problems with ties, rows twice with two weights, penalties and costs of other kinds. Some of their walks make several
-// steps at one quantile.
-#[test]
-fn least_losses_over_all_bases(rt: HostRuntime) {
-    let alloc = rt.alloc();
-    let mut state = 1;
+static DRAWN: [Draws; 3] = [
+    Draws {
+        seed: 1,
+        count: 150,
+        dependent: &[3, 34, 47, 50, 56, 62, 76, 143],
+        together: 1,
+    },
+    Draws {
+        seed: 7,
+        count: 100,
+        dependent: &[8, 19, 32, 41, 95],
+        together: 1,
+    },
+    Draws {
+        seed: 11,
+        count: 60,
+        dependent: &[0, 5, 31, 49],
+        together: 0,
+    },
+];
+
+fn expect_drawn(rt: &impl Abort, alloc: Global, draws: &Draws) {
+    let mut state = draws.seed;
     let mut dependent = Vec::new(alloc);
     let mut together = 0u32;
-    for number in 0..150 {
-        let mut small = draw_problem(&rt, alloc, &mut state, number % 3 + 1);
-        match expect_least(&rt, alloc, &mut small) {
+    for number in 0..draws.count {
+        let mut small = draw_problem(rt, alloc, &mut state, number % 3 + 1);
+        match expect_least(rt, alloc, &mut small) {
             Some(count) => together = together.saturating_add(count),
-            None => push(&rt, &mut dependent, number),
+            None => push(rt, &mut dependent, number),
         }
         drop(small);
     }
-    assert!(&rt; dependent.as_slice() == DEPENDENT.as_slice());
-    assert!(&rt; together > 0);
+    assert!(rt; dependent.as_slice() == draws.dependent);
+    assert!(rt; together >= draws.together);
     drop(dependent);
+}
+
+// Problems with ties, rows twice with two weights, penalties and costs of other kinds.
+#[test]
+fn least_losses_over_all_bases(rt: HostRuntime) {
+    for draws in &DRAWN {
+        expect_drawn(&rt, rt.alloc(), draws);
+    }
 }
