@@ -139,7 +139,8 @@ module _ (l : Line) (line : IsLine l) where
 
 module _ (n : NearLine) (near : IsNearLine n) (numbers : List ℤ) (is : slice_get n.line.basis.now.inverse.now.columns n.line.position ≡ Some numbers) where
   -- the coordinates are within their bound
-  coord_small : (most : ℕ) → whole (pos most) ≡ most_of_products (length numbers) n.near.now.ranges (λ k. whole (get_or numbers k (pos 0))) → (i : ℕ) → i < length n.line.basis.now.rows.now → abs_ℚ (coord (model n.line) (inverse_at n.line) i n.line.position) ≤ℚ share (pos most) (over_of n.line)
+  coord_small : (most : ℕ) → whole (pos most) ≡ most_of_products (length numbers) n.near.now.ranges (λ k. whole (get_or numbers k (pos 0)))
+      → (i : ℕ) → i < length n.line.basis.now.rows.now → abs_ℚ (coord (model n.line) (inverse_at n.line) i n.line.position) ≤ℚ share (pos most) (over_of n.line)
   coord_small most bound i li =
       subst (λ z. abs_ℚ z ≤ℚ share (pos most) (over_of n.line))
       (coordinates_by s near.line.held.shape n.line.basis.now.rows.now i n.line.position numbers made near.line.position is refl)
