@@ -1,26 +1,108 @@
-//! Rank intervals as `rank_law` defines them, by plain enumeration in whole numbers: intervals that were worked by hand, and for `drawn`
-//! intervals of drawn tables found in two ways.
+//! Rank intervals as `rank_law` defines them, by plain enumeration in whole numbers: intervals that were worked by hand, and intervals of
+//! drawn tables found in two ways.
 //!
 //! No code of an interval is called. Whether a tested value holds is found from all vertices of the dual
 //! polytope of the restricted problem, and the ends from the least losses of the fits that keep the tested
 //! coefficient.
 
-use crate::helpers;
-use crate::worked::{Case, OF_FIVE, OF_LINE};
+use crate::worked::{FIVE, LINE};
 use loss_model::Bound;
-use slow_ranks::{Data, Ends, Parts, RankTest, Ratio, Vertex, after, before, rank_test};
-use std::alloc::Global;
+use slow_ranks::{
+    CRITICAL, Data, Ends, Parts, QUANTILES, RankTest, Ratio, Vertex, after, before, draw,
+    draw_table, rank_test,
+};
+use std::alloc::{AllocError, Global};
 use std::num::Wrapping;
 use std::process::Abort;
+use std::test::Fail;
 
-/// The number of a pair.
-pub(crate) fn whole((n, d): helpers::Ratio) -> Ratio {
-    Ratio::new(Wrapping(n), Wrapping(d))
+/// An interval that was worked by hand: of a column, at the median, with a critical value. `None` is an
+/// infinite end.
+struct Case {
+    column: usize,
+    crit: Parts,
+    low: Option<Parts>,
+    high: Option<Parts>,
 }
 
-fn bound(end: Option<helpers::Ratio>) -> Bound<Ratio> {
+/// Of the five responses, whose squared length is 5. Up to a tested value of 1 all five dual values
+/// are 1/2, and their sum is 5/2. It falls by 1 at each response, to 3/2 between 1 and 2, to 1/2 between
+/// 2 and 3, and so on to -5/2; at a response it has all values between. The bound of its square is
+/// crit * 1/4 * 5.
+///
+/// With 1 the bound is 5/4: 1/4 is within it, and 9/4 is not. With 9/5 it is 9/4, a tie. With 5 it is
+/// 25/4, a tie with the greatest square that there is. With 0 the sum must be 0, as it can be at 3 alone.
+static OF_FIVE: [Case; 4] = [
+    Case {
+        column: 0,
+        crit: [1, 1],
+        low: Some([2, 1]),
+        high: Some([4, 1]),
+    },
+    Case {
+        column: 0,
+        crit: [9, 5],
+        low: Some([1, 1]),
+        high: Some([5, 1]),
+    },
+    Case {
+        column: 0,
+        crit: [5, 1],
+        low: None,
+        high: None,
+    },
+    Case {
+        column: 0,
+        crit: [0, 1],
+        low: Some([3, 1]),
+        high: Some([3, 1]),
+    },
+];
+
+/// Of the intercept, beside x: the ones less 2/5 of x leave 1, 3/5 and -1/5, of squared length 7/5, so
+/// the bound is 6/7 * 1/4 * 7/5 = 3/10. Dual values balance x: e2 + 3 e3 = 0. The third row, of the
+/// greater x, is fitted, with the slope (3 - xi)/3, and the second one lies above it where 2 - xi is more,
+/// so where xi < 3/2: then e2 = 1/2 and e3 = -1/6, else e2 = -1/2 and e3 = 1/6. Of the first row -xi is
+/// left, so e1 is 1/2 below 0 and -1/2 above it. The sum is 5/6 below 0, whose square is beyond, then -1/6
+/// up to 3/2, and then -5/6.
+///
+/// Of x, beside the intercept: x less 4/3 leaves -4/3, -1/3 and 5/3, of squared length 14/3, so the bound
+/// is 1. Dual values add to 0, so what is left of the middle row is fitted, with e = 0, and the rows above
+/// and below it have 1/2 and -1/2. Up to 1/2 the order of 0, 2 - xi, 3 - 3 xi is that of the rows, and the
+/// sum e2 + 3 e3 is 3/2, beyond. Between 1/2 and 1 the third row is in the middle, and it is 1/2; between
+/// 1 and 2 the first row is, and it is -1; above 2 the second is, and it is -3/2.
+static OF_LINE: [Case; 2] = [
+    Case {
+        column: 0,
+        crit: [6, 7],
+        low: Some([0, 1]),
+        high: Some([3, 2]),
+    },
+    Case {
+        column: 1,
+        crit: [6, 7],
+        low: Some([1, 2]),
+        high: Some([2, 1]),
+    },
+];
+
+/// Ends of the first interval that are wrong: one too far out, or in, or none.
+static WRONG: [(Option<Parts>, Option<Parts>); 6] = [
+    (Some([2, 1]), Some([5, 1])),
+    (Some([2, 1]), Some([3, 1])),
+    (Some([1, 1]), Some([4, 1])),
+    (Some([3, 1]), Some([4, 1])),
+    (Some([2, 1]), None),
+    (None, Some([4, 1])),
+];
+
+fn fraction([num, den]: Parts) -> Ratio {
+    Ratio::new(Wrapping(num), Wrapping(den))
+}
+
+fn bound(end: Option<Parts>) -> Bound<Ratio> {
     match end {
-        Some(end) => Bound::Finite(whole(end)),
+        Some(end) => Bound::Finite(fraction(end)),
         None => Bound::Infinite,
     }
 }
@@ -35,34 +117,24 @@ fn are_same(a: Bound<Ratio>, b: Bound<Ratio>) -> bool {
 
 /// A rank test with its dual vertices and the coefficients of all bases.
 #[derive(Drop)]
-pub(crate) struct Tested {
-    pub test: RankTest,
+struct Tested {
+    test: RankTest,
     vertices: Vec<Vertex>,
-    pub values: Vec<Ratio>,
+    values: Vec<Ratio>,
 }
 
 impl Tested {
-    /// The test of a column of a table at a quantile, with a critical value.
-    pub(crate) fn new(
-        rt: &impl Abort,
-        alloc: Global,
-        table: (usize, &[Data]),
-        column: usize,
-        asked: (Parts, Ratio),
-    ) -> Tested {
-        let test = rank_test(alloc, table, column, asked)
-            .ok()
-            .expect(rt, "memory");
-        let vertices = test.vertices(alloc).ok().expect(rt, "memory");
-        let values = test.coefficients(alloc).ok().expect(rt, "memory");
-        Tested {
+    fn new(alloc: Global, test: RankTest) -> Result<Tested, AllocError> {
+        let vertices = test.vertices(alloc)?;
+        let values = test.coefficients(alloc)?;
+        Ok(Tested {
             test,
             vertices,
             values,
-        }
+        })
     }
 
-    pub(crate) fn ends(&self) -> Ends {
+    fn ends(&self) -> Ends {
         self.test.ends(self.values.as_slice())
     }
 
@@ -72,7 +144,7 @@ impl Tested {
     }
 
     /// Whether they do at each coefficient, and on both sides of it, halfway to the next one.
-    pub(crate) fn agrees(&self, ends: &Ends) -> bool {
+    fn agrees(&self, ends: &Ends) -> bool {
         let two = Ratio::whole(2);
         let values = self.values.as_slice();
         for value in &self.values {
@@ -89,52 +161,146 @@ impl Tested {
     }
 }
 
-fn median_test(rt: &impl Abort, alloc: Global, case: &Case) -> Tested {
-    let table = (case.columns as usize, case.table);
-    let asked = ([1, 2], whole(case.crit));
-    Tested::new(rt, alloc, table, case.column as usize, asked)
+fn median_test(
+    alloc: Global,
+    table: (usize, &[Data]),
+    column: usize,
+    crit: Parts,
+) -> Result<Tested, AllocError> {
+    Tested::new(
+        alloc,
+        rank_test(alloc, table, column, ([1, 2], fraction(crit)))?,
+    )
 }
 
 /// The interval that was worked by hand has the ends that the least losses give, and holds what the dual
 /// vertices say.
-fn expect(rt: &impl Abort, alloc: Global, case: &Case) {
-    let found = median_test(rt, alloc, case);
+fn expect(
+    rt: &impl Abort,
+    alloc: Global,
+    table: (usize, &[Data]),
+    case: &Case,
+) -> Result<(), AllocError> {
+    let found = median_test(alloc, table, case.column, case.crit)?;
     let want = Ends {
-        low: bound(case.low.value),
-        high: bound(case.high.value),
+        low: bound(case.low),
+        high: bound(case.high),
     };
     let ends = found.ends();
     assert!(rt; are_same(ends.low, want.low) && are_same(ends.high, want.high));
     assert!(rt; found.agrees(&want));
-    drop(found);
+    Ok(())
 }
 
 #[test]
-fn worked_intervals(rt: HostRuntime) {
-    for case in OF_FIVE.iter().chain(&OF_LINE) {
-        expect(&rt, rt.alloc(), case);
+fn interval_of_five(rt: HostRuntime) -> Result<(), Fail> {
+    for case in OF_FIVE.as_slice() {
+        expect(&rt, rt.alloc(), (1, FIVE.as_slice()), case)?;
     }
+    Ok(())
 }
 
-/// Ends of the first interval that are wrong: one too far out, or in, or none.
-static WRONG: [(Option<helpers::Ratio>, Option<helpers::Ratio>); 6] = [
-    (Some((2, 1)), Some((5, 1))),
-    (Some((2, 1)), Some((3, 1))),
-    (Some((1, 1)), Some((4, 1))),
-    (Some((3, 1)), Some((4, 1))),
-    (Some((2, 1)), None),
-    (None, Some((4, 1))),
-];
+#[test]
+fn intervals_of_a_line(rt: HostRuntime) -> Result<(), Fail> {
+    for case in OF_LINE.as_slice() {
+        expect(&rt, rt.alloc(), (2, LINE.as_slice()), case)?;
+    }
+    Ok(())
+}
 
 #[test]
-fn wrong_ends_are_seen(rt: HostRuntime) {
-    let found = median_test(&rt, rt.alloc(), &OF_FIVE[0]);
+fn wrong_ends_are_seen(rt: HostRuntime) -> Result<(), Fail> {
+    let found = median_test(rt.alloc(), (1, FIVE.as_slice()), 0, [1, 1])?;
     for (low, high) in WRONG.as_slice() {
         let ends = Ends {
             low: bound(*low),
             high: bound(*high),
         };
-        assert!(&rt; !found.agrees(&ends));
+        assert!(rt; !found.agrees(&ends));
     }
-    drop(found);
+    Ok(())
+}
+
+/// How many tables of full rank were tried, and how many ends were finite and infinite.
+#[derive(Clone, Copy)]
+struct Counts {
+    tables: u32,
+    finite: u32,
+    infinite: u32,
+}
+
+impl Counts {
+    fn add(&mut self, end: Bound<Ratio>) {
+        match end {
+            Bound::Finite(_) => self.finite = self.finite.wrapping_add(1),
+            Bound::Infinite => self.infinite = self.infinite.wrapping_add(1),
+        }
+    }
+
+    /// Both ways agree on an interval.
+    fn try_interval(&mut self, rt: &impl Abort, found: &Tested) {
+        let ends = found.ends();
+        assert!(rt; found.agrees(&ends));
+        self.add(ends.low);
+        self.add(ends.high);
+    }
+}
+
+/// The intervals of a column, with a drawn critical value and with one that ties with a statistic;
+/// `false` where the columns are dependent.
+fn try_column(rt: &impl Abort, state: &mut u32, counts: &mut Counts, mut found: Tested) -> bool {
+    let count = found.values.len();
+    if count == 0 {
+        return false;
+    }
+    counts.try_interval(rt, &found);
+    let place = draw(state, 1000) as usize % count;
+    found.test.crit = found.test.tie(found.values.as_slice(), found.values[place]);
+    counts.try_interval(rt, &found);
+    true
+}
+
+fn try_table(
+    rt: &impl Abort,
+    alloc: Global,
+    state: &mut u32,
+    counts: &mut Counts,
+    columns: usize,
+) -> Result<(), AllocError> {
+    let table = draw_table(alloc, state, columns)?;
+    let tau = QUANTILES[draw(state, 4) as usize];
+    let mut has_rank = true;
+    for column in 0..columns {
+        let crit = fraction(CRITICAL[draw(state, 6) as usize]);
+        let test = rank_test(alloc, (columns, table.as_slice()), column, (tau, crit))?;
+        has_rank = try_column(rt, state, counts, Tested::new(alloc, test)?);
+    }
+    if has_rank {
+        counts.tables = counts.tables.wrapping_add(1);
+    }
+    Ok(())
+}
+
+/// The numbers of tables and ends come from an enumeration that is no part of this program.
+#[test]
+fn two_ways_agree(rt: HostRuntime) -> Result<(), Fail> {
+    let mut state = 1;
+    let mut counts = Counts {
+        tables: 0,
+        finite: 0,
+        infinite: 0,
+    };
+    for number in 0..79 {
+        try_table(&rt, rt.alloc(), &mut state, &mut counts, number % 3 + 1)?;
+    }
+    let Counts {
+        tables,
+        finite,
+        infinite,
+    } = counts;
+    assert!(rt;
+        (tables, finite, infinite) == (60, 220, 208),
+        "{tables} {finite} {infinite}"
+    );
+    Ok(())
 }

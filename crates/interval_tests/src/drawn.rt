@@ -1,22 +1,29 @@
 //! Intervals of drawn tables, compared with those of a slow program: of a drawn critical value, and of those at, just
-//! below and just above the statistic of a breakpoint. Of the 79 tables 66 have full rank. The least losses and the dual vertices
-//! agree on the drawn value and at the breakpoint.
+//! below and just above the statistic of a breakpoint. Of the 79 tables 66 have full rank.
 
-use crate::definitions::{Tested, whole};
-use crate::helpers::{Question, answered, problem, whole_numbers_answer};
-use frac_core::Frac128;
+use crate::helpers::{Question, answered, in_wholes, problem};
+use frac_core::{Exact, Frac128};
 use loss_model::{Bound, Problem};
-use slow_ranks::{CRITICAL, Ends, QUANTILES, Ratio, draw, draw_table};
+use slow_ranks::{
+    CRITICAL, Data, Ends, Parts, QUANTILES, RankTest, Ratio, draw, draw_table, rank_test,
+};
 use std::alloc::Global;
+use std::num::Wrapping;
 use std::process::Abort;
 use test_kit::ratio;
 
-/// A column of a table that is tested: the problem, and the slow test of it.
+/// A column of a table that is tested: the problem, the question, and the slow test of it with the coefficients of
+/// all bases.
 #[derive(Drop)]
-struct Column {
+struct Tested {
     problem: Problem<Frac128>,
     column: u32,
-    slow: Tested,
+    test: RankTest,
+    values: Vec<Ratio>,
+}
+
+fn whole([num, den]: Parts) -> Ratio {
+    Ratio::new(Wrapping(num), Wrapping(den))
 }
 
 /// An end that is found is the one of the slow program.
@@ -48,52 +55,69 @@ impl Counts {
     }
 }
 
-impl Column {
-    /// The interval of a critical value is that of the least losses.
+impl Tested {
+    /// The interval of a critical value is that of the slow program.
     fn compare(&mut self, rt: &impl Abort, alloc: Global, crit: Ratio, counts: &mut Counts) {
-        self.slow.test.crit = crit;
-        let want = self.slow.ends();
+        self.test.crit = crit;
+        let want = self.test.ends(self.values.as_slice());
         let question = Question {
             column: self.column,
-            tau: (self.slow.test.tau[0], self.slow.test.tau[1]),
+            tau: (self.test.tau[0], self.test.tau[1]),
             crit: (crit.num.0, crit.den.0),
         };
         let found = answered(rt, alloc, &self.problem, question, 1000);
         assert!(rt; is_same(found.low.bound, want.low));
         assert!(rt; is_same(found.high.bound, want.high));
         drop(found);
-        let is_whole = whole_numbers_answer(rt, alloc, &self.problem, question, 1000);
-        counts.add(&want, is_whole);
+        let quick = in_wholes(rt, alloc, &self.problem, question, 1000);
+        counts.add(&want, quick.is_some());
+        drop(quick);
     }
+}
 
-    /// So it is, and it holds what the dual vertices say.
-    fn compare_both(&mut self, rt: &impl Abort, alloc: Global, crit: Ratio, counts: &mut Counts) {
-        self.compare(rt, alloc, crit, counts);
-        assert!(rt; self.slow.agrees(&self.slow.ends()));
+/// The intervals of a drawn critical value, and of those beside the statistic above a drawn coefficient; none where
+/// the columns are dependent.
+fn try_column(
+    rt: &impl Abort,
+    alloc: Global,
+    state: &mut u32,
+    counts: &mut Counts,
+    tested: &mut Tested,
+) {
+    let count = tested.values.len();
+    if count == 0 {
+        return;
     }
+    tested.compare(rt, alloc, whole(CRITICAL[draw(state, 6) as usize]), counts);
+    let place = draw(state, 1000) as usize % count;
+    assert!(rt; place < tested.values.len());
+    let tie = tested
+        .test
+        .tie(tested.values.as_slice(), tested.values[place]);
+    for factor in [[999, 1000], [1, 1], [1001, 1000]] {
+        tested.compare(rt, alloc, tie.times(whole(factor)), counts);
+    }
+}
 
-    /// The intervals of a drawn critical value, and of those beside the statistic above a drawn coefficient; none
-    /// where the columns are dependent.
-    fn compare_all(
-        &mut self,
-        rt: &impl Abort,
-        alloc: Global,
-        state: &mut u32,
-        counts: &mut Counts,
-    ) {
-        let count = self.slow.values.len();
-        if count == 0 {
-            return;
-        }
-        let [n, d] = CRITICAL[draw(state, 6) as usize];
-        self.compare_both(rt, alloc, whole((n, d)), counts);
-        let place = draw(state, 1000) as usize % count;
-        assert!(rt; place < self.slow.values.len());
-        let values = self.slow.values.as_slice();
-        let tie = self.slow.test.tie(values, values[place]);
-        self.compare_both(rt, alloc, tie, counts);
-        self.compare(rt, alloc, tie.times(whole((999, 1000))), counts);
-        self.compare(rt, alloc, tie.times(whole((1001, 1000))), counts);
+// A column of a table at a quantile.
+fn tested_column(
+    rt: &impl Abort,
+    alloc: Global,
+    (columns, table): (u32, &[Data]),
+    column: u32,
+    tau: Parts,
+) -> Tested {
+    let shape = (columns as usize, table);
+    let asked = (tau, Ratio::whole(0));
+    let test = rank_test(alloc, shape, column as usize, asked)
+        .ok()
+        .expect(rt, "memory");
+    let values = test.coefficients(alloc).ok().expect(rt, "memory");
+    Tested {
+        problem: problem(rt, alloc, columns, table),
+        column,
+        test,
+        values,
     }
 }
 
@@ -101,18 +125,12 @@ fn try_table(rt: &impl Abort, alloc: Global, state: &mut u32, counts: &mut Count
     let table = draw_table(alloc, state, columns as usize)
         .ok()
         .expect(rt, "memory");
-    let asked = (QUANTILES[draw(state, 4) as usize], Ratio::whole(0));
+    let tau = QUANTILES[draw(state, 4) as usize];
     for column in 0..columns {
-        let shape = (columns as usize, table.as_slice());
-        let mut tested = Column {
-            problem: problem(rt, alloc, columns, table.as_slice()),
-            column,
-            slow: Tested::new(rt, alloc, shape, column as usize, asked),
-        };
-        tested.compare_all(rt, alloc, state, counts);
+        let mut tested = tested_column(rt, alloc, (columns, table.as_slice()), column, tau);
+        try_column(rt, alloc, state, counts, &mut tested);
         drop(tested);
     }
-    drop(table);
 }
 
 /// The numbers of intervals and of infinite ends come from an enumeration that is no part of this program. Whole numbers give
@@ -128,5 +146,13 @@ fn drawn_intervals(rt: HostRuntime) {
     for number in 0..79 {
         try_table(&rt, rt.alloc(), &mut state, &mut counts, number % 3 + 1);
     }
-    assert!(rt; (counts.intervals, counts.whole, counts.infinite) == (492, 492, 412));
+    let Counts {
+        intervals,
+        whole,
+        infinite,
+    } = counts;
+    assert!(rt;
+        (intervals, whole, infinite) == (492, 492, 412),
+        "{intervals} {whole} {infinite}"
+    );
 }

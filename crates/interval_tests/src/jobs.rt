@@ -1,11 +1,11 @@
 //! Rank intervals as jobs: they enter the gate with their places, and their answers stand in the jobs' order.
 
 use crate::helpers::{Ratio, fraction, problem, push};
-use crate::worked::LINE;
 use frac_core::{Exact, Frac128};
 use loss_model::{Bound, Interval, Problem};
 use rank_inversion::IntervalJob;
 use rq_fan::{Gate, run_jobs};
+use slow_ranks::Data;
 use std::alloc::Global;
 use std::process::Abort;
 use std::sync::atomic::{AtomicU64, Ordering};
@@ -59,7 +59,9 @@ fn end(bound: Bound<Frac128>) -> Option<Ratio> {
     }
 }
 
-/// The ends of the two intervals of the line of `worked`, which tells how they come about.
+/// The line of `worked`, whose two intervals stand there with how they come about.
+static LINE: [Data; 3] = [([1, 0, 0], 0, 1), ([1, 1, 0], 2, 1), ([1, 3, 0], 3, 1)];
+
 static ENDS: [(Ratio, Ratio); 2] = [((0, 1), (3, 2)), ((1, 2), (2, 1))];
 
 fn expect_ends(rt: &impl Abort, found: &Interval<Frac128>, (low, high): (Ratio, Ratio)) {
@@ -69,7 +71,7 @@ fn expect_ends(rt: &impl Abort, found: &Interval<Frac128>, (low, high): (Ratio, 
 
 #[test]
 fn both_columns_of_a_line(rt: HostRuntime) {
-    let line: Problem<Frac128> = problem(&rt, rt.alloc(), 2, LINE);
+    let line: Problem<Frac128> = problem(&rt, rt.alloc(), 2, &LINE);
     let gate = Tally {
         squares: AtomicU64::new(0),
     };

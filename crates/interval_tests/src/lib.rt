@@ -2,7 +2,7 @@
 //!
 //! Intervals worked by hand stand with their trails and all that their ends state; intervals of drawn tables are
 //! compared with those of a slow program (`slow_ranks`), which is no part of the program. By the same enumeration the definitions of
-//! `rank_law` are tried on both, with no code of an interval.
+//! `rank_law` are tried, with no code of an interval.
 #![tactic(auto)]
 
 #[cfg(test)]

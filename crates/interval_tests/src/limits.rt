@@ -2,17 +2,49 @@
 //! trail.
 
 use crate::helpers::{
-    Question, Reason, answered, expect_stop, problem, stopped, stopped_by_parts,
+    Question, Ratio, Step, answered, expect, expect_steps, problem, stopped, stopped_by_parts,
     whole_numbers_answer,
 };
-use crate::worked::FIVE;
-use frac_core::{Exact, Frac64, Frac128};
-use loss_model::Quantity;
+use frac_core::{Exact, Frac64, Frac128, OpKind};
+use loss_model::{Quantity, Site, Stop, Trail};
 use slow_ranks::Data;
 use std::alloc::Global;
 use std::process::Abort;
+use test_kit::ratio;
 
-/// With the critical value 9/5 the solve of the five responses takes a step, and each walk two.
+/// The parts of a trail.
+struct Path {
+    start: &'static [Option<u32>],
+    steps: &'static [Step],
+    rise: &'static [Step],
+    fall: &'static [Step],
+}
+
+fn expect_trail<F: Exact>(rt: &impl Abort, trail: &Trail<F>, want: &Path) {
+    assert!(rt; trail.start.as_slice() == want.start);
+    expect_steps(rt, &trail.steps, want.steps);
+    expect_steps(rt, &trail.rise, want.rise);
+    expect_steps(rt, &trail.fall, want.fall);
+}
+
+/// Five responses, an intercept. With the critical value 9/5 the solve takes a step, and each walk two.
+static FIVE: [Data; 5] = [
+    ([1, 0, 0], 1, 1),
+    ([1, 0, 0], 2, 1),
+    ([1, 0, 0], 3, 1),
+    ([1, 0, 0], 4, 1),
+    ([1, 0, 0], 5, 1),
+];
+
+/// The same, the last of which is 10^30.
+static HIGH: [Data; 5] = [
+    ([1, 0, 0], 1, 1),
+    ([1, 0, 0], 2, 1),
+    ([1, 0, 0], 3, 1),
+    ([1, 0, 0], 4, 1),
+    ([1, 0, 0], 1_000_000_000_000_000_000_000_000_000_000, 1),
+];
+
 const OF_FIVE: Question = Question {
     column: 0,
     tau: (1, 2),
@@ -20,28 +52,52 @@ const OF_FIVE: Question = Question {
 };
 
 /// The trails of the limits 0 to 4.
-static LIMITED: [Reason; 5] = [
-    Reason::Limit((&[Some(0)], &[], &[], &[])),
-    Reason::Limit((&[Some(0)], &[((1, 2), 0, 2)], &[], &[])),
-    Reason::Limit((&[Some(0)], &[((1, 2), 0, 2)], &[((-1, 2), 0, 3)], &[])),
-    Reason::Limit((
-        &[Some(0)],
-        &[((1, 2), 0, 2)],
-        &[((-1, 2), 0, 3), ((-3, 2), 0, 4)],
-        &[],
-    )),
-    Reason::Limit((
-        &[Some(0)],
-        &[((1, 2), 0, 2)],
-        &[((-1, 2), 0, 3), ((-3, 2), 0, 4)],
-        &[((1, 2), 0, 1)],
-    )),
+static LIMITED: [Path; 5] = [
+    Path {
+        start: &[Some(0)],
+        steps: &[],
+        rise: &[],
+        fall: &[],
+    },
+    Path {
+        start: &[Some(0)],
+        steps: &[((1, 2), 0, 2)],
+        rise: &[],
+        fall: &[],
+    },
+    Path {
+        start: &[Some(0)],
+        steps: &[((1, 2), 0, 2)],
+        rise: &[((-1, 2), 0, 3)],
+        fall: &[],
+    },
+    Path {
+        start: &[Some(0)],
+        steps: &[((1, 2), 0, 2)],
+        rise: &[((-1, 2), 0, 3), ((-3, 2), 0, 4)],
+        fall: &[],
+    },
+    Path {
+        start: &[Some(0)],
+        steps: &[((1, 2), 0, 2)],
+        rise: &[((-1, 2), 0, 3), ((-3, 2), 0, 4)],
+        fall: &[((1, 2), 0, 1)],
+    },
 ];
 
-fn expect_limit<F: Exact>(rt: &impl Abort, alloc: Global, limit: u32, want: &Reason) {
-    let rows = problem::<F>(rt, alloc, 1, FIVE);
+fn expect_limit<F: Exact>(rt: &impl Abort, alloc: Global, limit: u32, want: &Path) {
+    let rows = problem::<F>(rt, alloc, 1, FIVE.as_slice());
     let stop = stopped(rt, alloc, &rows, OF_FIVE, limit);
-    expect_stop(rt, &stop, limit, want);
+    match &stop {
+        Stop::PivotLimit {
+            limit: shown,
+            trail,
+        } => {
+            assert!(rt; *shown == limit);
+            expect_trail(rt, trail, want);
+        }
+        _ => panic!(rt; "a step is left"),
+    }
     drop(stop);
     drop(rows);
 }
@@ -54,31 +110,28 @@ fn limits_below_five_steps(rt: HostRuntime) {
     }
 }
 
-/// The five responses, the last of which is 10^30.
-static HIGH: [Data; 5] = [
-    ([1, 0, 0], 1, 1),
-    ([1, 0, 0], 2, 1),
-    ([1, 0, 0], 3, 1),
-    ([1, 0, 0], 4, 1),
-    ([1, 0, 0], 1_000_000_000_000_000_000_000_000_000_000, 1),
-];
-
-/// Five steps suffice. Whole numbers give no interval where a step is left at the limit, or a response has more than 64 bits.
+/// Whole numbers give no interval where a step is left at the limit, or a response has more than 64 bits.
 #[test]
 fn whole_numbers_refuse(rt: HostRuntime) {
-    let rows = problem::<Frac128>(&rt, rt.alloc(), 1, FIVE);
-    for limit in 0..7 {
-        let is_answered = whole_numbers_answer(&rt, rt.alloc(), &rows, OF_FIVE, limit);
-        assert!(&rt; is_answered == (limit >= 5));
+    let rows = problem::<Frac128>(&rt, rt.alloc(), 1, FIVE.as_slice());
+    for limit in 0..5 {
+        assert!(&rt; !whole_numbers_answer(&rt, rt.alloc(), &rows, OF_FIVE, limit));
     }
-    for limit in [5, 6, 100] {
-        drop(answered(&rt, rt.alloc(), &rows, OF_FIVE, limit));
-    }
+    assert!(&rt; whole_numbers_answer(&rt, rt.alloc(), &rows, OF_FIVE, 5));
     drop(rows);
     let high = problem::<Frac128>(&rt, rt.alloc(), 1, HIGH.as_slice());
     assert!(&rt; !whole_numbers_answer(&rt, rt.alloc(), &high, OF_FIVE, 100));
     drop(answered(&rt, rt.alloc(), &high, OF_FIVE, 100));
     drop(high);
+}
+
+#[test]
+fn five_steps_suffice(rt: HostRuntime) {
+    let rows = problem::<Frac128>(&rt, rt.alloc(), 1, FIVE.as_slice());
+    for limit in [5, 6, 100] {
+        drop(answered(&rt, rt.alloc(), &rows, OF_FIVE, limit));
+    }
+    drop(rows);
 }
 
 /// The third column is the sum of the others; the start leaves the combination -1, -1, 1.
@@ -98,19 +151,25 @@ fn dependent_columns(rt: HostRuntime) {
         crit: (1, 1),
     };
     let stop = stopped(&rt, rt.alloc(), &rows, question, 100);
-    expect_stop(&rt, &stop, 100, &DEPENDENCE);
+    match &stop {
+        Stop::Dependent { combination } => {
+            expect(&rt, combination, &[(-1, 1), (-1, 1), (1, 1)]);
+        }
+        _ => panic!(&rt; "the columns are dependent"),
+    }
     drop(stop);
     drop(rows);
 }
 
-static DEPENDENCE: Reason = Reason::Dependent(&[(-1, 1), (-1, 1), (1, 1)]);
-
-/// A question whose answer overflows in 64 bits.
-struct Case {
+/// An operation that overflows in 64 bits, and the trail to where it stands.
+struct Overflow {
     columns: u32,
     table: &'static [Data],
     question: Question,
-    reason: Reason,
+    path: Path,
+    site: Site,
+    left: Ratio,
+    right: Ratio,
 }
 
 /// 2^62 and 2^31: twice the one is out of range, and so is the product of the other with its double.
@@ -120,9 +179,25 @@ const ROOT: i128 = 2_147_483_648;
 
 const WEIGHT: i128 = 1_300_000_000;
 
-static OVERFLOWS: [Case; 6] = [
+/// All lists of the trail are empty.
+const NO_STEPS: Path = Path {
+    start: &[],
+    steps: &[],
+    rise: &[],
+    fall: &[],
+};
+
+/// The start of one row.
+const OF_GRAM: Path = Path {
+    start: &[Some(0)],
+    steps: &[],
+    rise: &[],
+    fall: &[],
+};
+
+static OVERFLOWS: [Overflow; 6] = [
     // The entry 2^62 times the weight 2.
-    Case {
+    Overflow {
         columns: 1,
         table: &[([1, 0, 0], 0, 1), ([WIDE, 0, 0], 0, 2)],
         question: Question {
@@ -130,15 +205,20 @@ static OVERFLOWS: [Case; 6] = [
             tau: (1, 2),
             crit: (1, 1),
         },
-        reason: Reason::Overflow {
-            path: (&[], &[], &[], &[]),
-            site: (Quantity::ScaledEntry, 1, 0, 1),
-            left: (2, 1),
-            right: (WIDE, 1),
+        path: NO_STEPS,
+        site: Site {
+            quantity: Quantity::ScaledEntry,
+            first: 1,
+            second: 0,
+            third: 0,
+            term: 1,
+            kind: OpKind::Mul,
         },
+        left: (2, 1),
+        right: (WIDE, 1),
     },
     // The weighted entry 2^32 times itself.
-    Case {
+    Overflow {
         columns: 1,
         table: &[([1, 0, 0], 0, 1), ([ROOT, 0, 0], 0, 2)],
         question: Question {
@@ -146,15 +226,20 @@ static OVERFLOWS: [Case; 6] = [
             tau: (1, 2),
             crit: (1, 1),
         },
-        reason: Reason::Overflow {
-            path: (&[], &[], &[], &[]),
-            site: (Quantity::Gram, 0, 0, 2),
-            left: (4_294_967_296, 1),
-            right: (4_294_967_296, 1),
+        path: NO_STEPS,
+        site: Site {
+            quantity: Quantity::Gram,
+            first: 0,
+            second: 0,
+            third: 0,
+            term: 2,
+            kind: OpKind::Mul,
         },
+        left: (4_294_967_296, 1),
+        right: (4_294_967_296, 1),
     },
     // The squared length is 8, and the critical value 2^62 times 1/2 and 1/2 is 2^60.
-    Case {
+    Overflow {
         columns: 1,
         table: &[([2, 0, 0], 1, 1), ([2, 0, 0], 2, 1)],
         question: Question {
@@ -162,15 +247,20 @@ static OVERFLOWS: [Case; 6] = [
             tau: (1, 2),
             crit: (WIDE, 1),
         },
-        reason: Reason::Overflow {
-            path: (&[Some(0)], &[], &[], &[]),
-            site: (Quantity::Statistic, 1, 0, 4),
-            left: (1_152_921_504_606_846_976, 1),
-            right: (8, 1),
+        path: OF_GRAM,
+        site: Site {
+            quantity: Quantity::Statistic,
+            first: 1,
+            second: 0,
+            third: 0,
+            term: 4,
+            kind: OpKind::Mul,
         },
+        left: (1_152_921_504_606_846_976, 1),
+        right: (8, 1),
     },
     // The critical value 2^62 times 2/3: the numerator 2^63.
-    Case {
+    Overflow {
         columns: 1,
         table: &[([1, 0, 0], 1, 1), ([1, 0, 0], 2, 1)],
         question: Question {
@@ -178,16 +268,21 @@ static OVERFLOWS: [Case; 6] = [
             tau: (2, 3),
             crit: (WIDE, 1),
         },
-        reason: Reason::Overflow {
-            path: (&[Some(0)], &[], &[], &[]),
-            site: (Quantity::Statistic, 1, 0, 1),
-            left: (WIDE, 1),
-            right: (2, 3),
+        path: OF_GRAM,
+        site: Site {
+            quantity: Quantity::Statistic,
+            first: 1,
+            second: 0,
+            third: 0,
+            term: 1,
+            kind: OpKind::Mul,
         },
+        left: (WIDE, 1),
+        right: (2, 3),
     },
     // The solve goes from row 0 to row 1, whose weight is 16 and whose fit is 2^62. The walks go in fractions, and the
     // residual of row 2 is 0 less 4 * 2^62.
-    Case {
+    Overflow {
         columns: 1,
         table: &[([1, 0, 0], 0, 1), ([1, 0, 0], WIDE, 16), ([4, 0, 0], 0, 1)],
         question: Question {
@@ -195,16 +290,26 @@ static OVERFLOWS: [Case; 6] = [
             tau: (1, 2),
             crit: (1, 1),
         },
-        reason: Reason::Overflow {
-            path: (&[Some(0)], &[((1, 2), 0, 1)], &[], &[]),
-            site: (Quantity::Residual, 2, 0, 2),
-            left: (-4, 1),
-            right: (WIDE, 1),
+        path: Path {
+            start: &[Some(0)],
+            steps: &[((1, 2), 0, 1)],
+            rise: &[],
+            fall: &[],
         },
+        site: Site {
+            quantity: Quantity::Residual,
+            first: 2,
+            second: 0,
+            third: 0,
+            term: 2,
+            kind: OpKind::Mul,
+        },
+        left: (-4, 1),
+        right: (WIDE, 1),
     },
     // Five responses of the weight 2h, where 25 h^2 is out of range and 20 h^2 is not. The breakpoints of the rising
     // walk are at -h, -3h and -5h, and the bound 9 h^2 lets it go to the last but one.
-    Case {
+    Overflow {
         columns: 1,
         table: &[
             ([1, 0, 0], 1, WEIGHT),
@@ -214,24 +319,37 @@ static OVERFLOWS: [Case; 6] = [
             ([1, 0, 0], 5, WEIGHT),
         ],
         question: OF_FIVE,
-        reason: Reason::Overflow {
-            path: (
-                &[Some(0)],
-                &[((1, 2), 0, 2)],
-                &[((-650_000_000, 1), 0, 3), ((-1_950_000_000, 1), 0, 4)],
-                &[],
-            ),
-            site: (Quantity::Statistic, 0, 0, 1),
-            left: (-3_250_000_000, 1),
-            right: (-3_250_000_000, 1),
+        path: Path {
+            start: &[Some(0)],
+            steps: &[((1, 2), 0, 2)],
+            rise: &[((-650_000_000, 1), 0, 3), ((-1_950_000_000, 1), 0, 4)],
+            fall: &[],
         },
+        site: Site {
+            quantity: Quantity::Statistic,
+            first: 0,
+            second: 0,
+            third: 0,
+            term: 1,
+            kind: OpKind::Mul,
+        },
+        left: (-3_250_000_000, 1),
+        right: (-3_250_000_000, 1),
     },
 ];
 
-fn expect_overflow(rt: &impl Abort, alloc: Global, case: &Case) {
+fn expect_overflow(rt: &impl Abort, alloc: Global, case: &Overflow) {
     let rows = problem::<Frac64>(rt, alloc, case.columns, case.table);
     let stop = stopped_by_parts(rt, alloc, &rows, case.question, 100);
-    expect_stop(rt, &stop, 100, &case.reason);
+    match &stop {
+        Stop::Overflow { trail, spill } => {
+            assert!(rt; spill.site == case.site);
+            assert!(rt; ratio(spill.left) == case.left);
+            assert!(rt; ratio(spill.right) == case.right);
+            expect_trail(rt, trail, &case.path);
+        }
+        _ => panic!(rt; "an operation overflows"),
+    }
     drop(stop);
     drop(rows);
 }

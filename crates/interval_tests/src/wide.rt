@@ -2,14 +2,17 @@
 //! those of the inverse have 86. The inverse was worked out by elimination in fractions of any size; the ends are those
 //! at which dual values of the restricted problem were found within the bound, and others beyond it, in the same way.
 
-use crate::columns::{expect_entries, gram};
+ghost use Rattle.std.specs.Prelude.{◌≡◌, ◌<◌, length};
+ghost use Rattle.rank_inversion.specs.GramStops.{IsInverted};
+
 use crate::helpers::{Question, Ratio, Wide, answered, wide_problem};
-use basis_inverse::start;
-use frac_core::Frac128;
-use loss_model::{Bound, End, Stop};
+use basis_inverse::{Inverse, start};
+use frac_core::{Exact, Frac128};
+use loss_model::{Bound, End, Problem, Stop};
+use rank_inversion::{GramInverse, gram_inverse};
 use std::alloc::Global;
 use std::process::Abort;
-use test_kit::{is_shaped, ratio};
+use test_kit::{are_data, is_shaped, ratio};
 
 /// An intercept, four columns of numbers below 1,000, and the response.
 static TABLE: [Wide; 32] = [
@@ -56,52 +59,118 @@ static GRAM: [Wide; 5] = [
     ([18_262, 11_102_886, 10_312_101, 8_525_093, 12_160_214], 0),
 ];
 
-/// Its inverse times `OVER`, row by row.
-static INVERSE: [&[i128]; 5] = [
-    &[
-        37_678_133_896_149_216_920_259_283,
-        -17_543_526_065_572_969_091_549,
-        -16_830_340_819_712_446_467_428,
-        -15_322_032_922_630_632_426_696,
-        -15_552_060_289_038_195_699_284,
+/// Its inverse, row by row.
+static INVERSE: [[Ratio; 5]; 5] = [
+    [
+        (
+            37_678_133_896_149_216_920_259_283,
+            72_231_550_850_872_658_089_099_410,
+        ),
+        (
+            -17_543_526_065_572_969_091_549,
+            72_231_550_850_872_658_089_099_410,
+        ),
+        (
+            -8_415_170_409_856_223_233_714,
+            36_115_775_425_436_329_044_549_705,
+        ),
+        (
+            -2_553_672_153_771_772_071_116,
+            12_038_591_808_478_776_348_183_235,
+        ),
+        (
+            -7_776_030_144_519_097_849_642,
+            36_115_775_425_436_329_044_549_705,
+        ),
     ],
-    &[
-        -17_543_526_065_572_969_091_549,
-        34_011_260_614_127_886_112,
-        4_353_575_206_134_989_494,
-        9_688_887_564_629_873_688,
-        -15_191_875_002_958_941_548,
+    [
+        (
+            -17_543_526_065_572_969_091_549,
+            72_231_550_850_872_658_089_099_410,
+        ),
+        (
+            17_005_630_307_063_943_056,
+            36_115_775_425_436_329_044_549_705,
+        ),
+        (
+            2_176_787_603_067_494_747,
+            36_115_775_425_436_329_044_549_705,
+        ),
+        (
+            1_614_814_594_104_978_948,
+            12_038_591_808_478_776_348_183_235,
+        ),
+        (
+            -7_595_937_501_479_470_774,
+            36_115_775_425_436_329_044_549_705,
+        ),
     ],
-    &[
-        -16_830_340_819_712_446_467_428,
-        4_353_575_206_134_989_494,
-        27_916_786_344_971_118_603,
-        -913_388_155_044_201_789,
-        -1_733_157_539_371_212_491,
+    [
+        (
+            -8_415_170_409_856_223_233_714,
+            36_115_775_425_436_329_044_549_705,
+        ),
+        (
+            2_176_787_603_067_494_747,
+            36_115_775_425_436_329_044_549_705,
+        ),
+        (
+            9_305_595_448_323_706_201,
+            24_077_183_616_957_552_696_366_470,
+        ),
+        (-304_462_718_348_067_263, 24_077_183_616_957_552_696_366_470),
+        (
+            -1_733_157_539_371_212_491,
+            72_231_550_850_872_658_089_099_410,
+        ),
     ],
-    &[
-        -15_322_032_922_630_632_426_696,
-        9_688_887_564_629_873_688,
-        -913_388_155_044_201_789,
-        28_920_502_959_517_288_467,
-        -5_336_639_247_751_985_397,
+    [
+        (
+            -2_553_672_153_771_772_071_116,
+            12_038_591_808_478_776_348_183_235,
+        ),
+        (
+            1_614_814_594_104_978_948,
+            12_038_591_808_478_776_348_183_235,
+        ),
+        (-304_462_718_348_067_263, 24_077_183_616_957_552_696_366_470),
+        (
+            9_640_167_653_172_429_489,
+            24_077_183_616_957_552_696_366_470,
+        ),
+        (
+            -1_778_879_749_250_661_799,
+            24_077_183_616_957_552_696_366_470,
+        ),
     ],
-    &[
-        -15_552_060_289_038_195_699_284,
-        -15_191_875_002_958_941_548,
-        -1_733_157_539_371_212_491,
-        -5_336_639_247_751_985_397,
-        48_377_830_655_186_998_747,
+    [
+        (
+            -7_776_030_144_519_097_849_642,
+            36_115_775_425_436_329_044_549_705,
+        ),
+        (
+            -7_595_937_501_479_470_774,
+            36_115_775_425_436_329_044_549_705,
+        ),
+        (
+            -1_733_157_539_371_212_491,
+            72_231_550_850_872_658_089_099_410,
+        ),
+        (
+            -1_778_879_749_250_661_799,
+            24_077_183_616_957_552_696_366_470,
+        ),
+        (
+            48_377_830_655_186_998_747,
+            72_231_550_850_872_658_089_099_410,
+        ),
     ],
 ];
-
-/// The determinant divided by what it shares with all of these.
-const OVER: i128 = 72_231_550_850_872_658_089_099_410;
 
 /// By fractions alone the start of the Gram rows overflows.
 #[test]
 fn fractions_overflow(rt: HostRuntime) {
-    let gram = wide_problem(&rt, rt.alloc(), GRAM.as_slice());
+    let gram = wide_problem::<Frac128>(&rt, rt.alloc(), GRAM.as_slice());
     assert!(&rt; is_shaped(&gram));
     let stop = start(rt.alloc(), &gram).err().expect(&rt, "a stop");
     match &stop {
@@ -112,12 +181,34 @@ fn fractions_overflow(rt: HostRuntime) {
     drop(gram);
 }
 
+/// The inverse of the Gram matrix of a problem that meets its conditions.
+fn gram<F: Exact>(rt: &impl Abort, alloc: Global, rows: &Problem<F>) -> GramInverse<F>
+    ensures { IsInverted F.value rows.now result }
+{
+    assert!(rt; is_shaped(rows));
+    assert!(rt; are_data(rows));
+    gram_inverse(alloc, rows)
+        .ok()
+        .expect(rt, "numbers of 86 bits")
+}
+
+fn expect_entries<F: Exact>(rt: &impl Abort, inverse: &Inverse<F>)
+    requires { length inverse.now.columns ≡ 5 }
+{
+    for column in 0..5 {
+        for position in 0..5 {
+            let found = ratio(inverse.entry(column, position));
+            assert!(rt; found == INVERSE[column as usize][position as usize]);
+        }
+    }
+}
+
 #[test]
 fn inverse_in_whole_numbers(rt: HostRuntime) {
-    let rows = wide_problem(&rt, rt.alloc(), TABLE.as_slice());
+    let rows = wide_problem::<Frac128>(&rt, rt.alloc(), TABLE.as_slice());
     let found = gram(&rt, rt.alloc(), &rows);
     assert!(&rt; found.basis.rows.as_slice() == [0, 1, 2, 3, 4].as_slice());
-    expect_entries(&rt, &found.inverse, 5, INVERSE.as_slice(), OVER);
+    expect_entries(&rt, &found.inverse);
     drop(found);
     drop(rows);
 }
@@ -141,7 +232,7 @@ static CASES: [Case; 2] = [
     ),
 ];
 
-fn expect_end(rt: &impl Abort, found: &End<Frac128>, (value, basis): &Edge) {
+fn expect_end<F: Exact>(rt: &impl Abort, found: &End<F>, (value, basis): &Edge) {
     match found.bound {
         Bound::Finite(bound) => assert!(rt; ratio(bound) == *value),
         Bound::Infinite => panic!(rt; "the end is finite"),
@@ -149,8 +240,8 @@ fn expect_end(rt: &impl Abort, found: &End<Frac128>, (value, basis): &Edge) {
     assert!(rt; found.vertex.basis.rows.as_slice() == basis.as_slice());
 }
 
-fn expect_case(rt: &impl Abort, alloc: Global, (column, low, high): &Case) {
-    let rows = wide_problem(rt, alloc, TABLE.as_slice());
+fn expect_case<F: Exact>(rt: &impl Abort, alloc: Global, (column, low, high): &Case) {
+    let rows = wide_problem::<F>(rt, alloc, TABLE.as_slice());
     let question = Question {
         column: *column,
         tau: (1, 2),
@@ -166,6 +257,6 @@ fn expect_case(rt: &impl Abort, alloc: Global, (column, low, high): &Case) {
 #[test]
 fn intervals_of_wide_numbers(rt: HostRuntime) {
     for case in &CASES {
-        expect_case(&rt, rt.alloc(), case);
+        expect_case::<Frac128>(&rt, rt.alloc(), case);
     }
 }

@@ -1,6 +1,6 @@
 //! Intervals worked by hand, with their trails and all that their ends state.
 
-use crate::helpers::{Path, Question, Ratio, answered, expect, expect_trail, problem};
+use crate::helpers::{Question, Ratio, Step, answered, expect, expect_steps, problem};
 use frac_core::{Exact, Frac64, Frac128};
 use loss_model::{Beyond, Bound, End, Interval, Side, widen_interval};
 use slow_ranks::Data;
@@ -10,8 +10,8 @@ use test_kit::ratio;
 
 /// An end: its value, `None` where it is infinite; the vertex; the dual values inside, and those outside
 /// or the ray.
-pub(crate) struct Edge {
-    pub value: Option<Ratio>,
+struct Edge {
+    value: Option<Ratio>,
     basis: &'static [u32],
     sides: &'static [Side],
     coef: &'static [Ratio],
@@ -19,16 +19,16 @@ pub(crate) struct Edge {
     beyond: &'static [Ratio],
 }
 
-/// An interval of a table at the median.
-pub(crate) struct Case {
-    pub columns: u32,
-    pub table: &'static [Data],
-    pub column: u32,
-    pub crit: Ratio,
+/// An interval at the median.
+struct Case {
+    column: u32,
+    crit: Ratio,
     projection: &'static [Ratio],
-    path: Path,
-    pub low: Edge,
-    pub high: Edge,
+    steps: &'static [Step],
+    rise: &'static [Step],
+    fall: &'static [Step],
+    low: Edge,
+    high: Edge,
 }
 
 /// Five responses, an intercept: the squared length is 5, and the bound crit * 5/4. The start takes the first
@@ -38,7 +38,7 @@ pub(crate) struct Case {
 /// As the wanted sum s falls, the dual value of the fit falls with it to -1/2, and the next row enters with the
 /// value 1/2: at s = -1/2 the one of 4, at -3/2 that of 5, and at -5/2 no row is left. As s rises, it is the
 /// rows of 2 and 1.
-pub(crate) const FIVE: &[Data] = &[
+pub(crate) static FIVE: [Data; 5] = [
     ([1, 0, 0], 1, 1),
     ([1, 0, 0], 2, 1),
     ([1, 0, 0], 3, 1),
@@ -48,19 +48,14 @@ pub(crate) const FIVE: &[Data] = &[
 
 /// With the critical value 1 the bound is 5/4, between 1/4 and 9/4. With 9/5 it is 9/4, a tie with the second
 /// breakpoint. With 5 it is 25/4, a tie with the last one. With 0 no step is within.
-pub(crate) static OF_FIVE: [Case; 4] = [
+static OF_FIVE: [Case; 4] = [
     Case {
-        columns: 1,
-        table: FIVE,
         column: 0,
         crit: (1, 1),
         projection: &[(0, 1)],
-        path: (
-            &[Some(0)],
-            &[((1, 2), 0, 2)],
-            &[((-1, 2), 0, 3)],
-            &[((1, 2), 0, 1)],
-        ),
+        steps: &[((1, 2), 0, 2)],
+        rise: &[((-1, 2), 0, 3)],
+        fall: &[((1, 2), 0, 1)],
         low: Edge {
             value: Some((2, 1)),
             basis: &[1],
@@ -79,17 +74,12 @@ pub(crate) static OF_FIVE: [Case; 4] = [
         },
     },
     Case {
-        columns: 1,
-        table: FIVE,
         column: 0,
         crit: (9, 5),
         projection: &[(0, 1)],
-        path: (
-            &[Some(0)],
-            &[((1, 2), 0, 2)],
-            &[((-1, 2), 0, 3), ((-3, 2), 0, 4)],
-            &[((1, 2), 0, 1), ((3, 2), 0, 0)],
-        ),
+        steps: &[((1, 2), 0, 2)],
+        rise: &[((-1, 2), 0, 3), ((-3, 2), 0, 4)],
+        fall: &[((1, 2), 0, 1), ((3, 2), 0, 0)],
         low: Edge {
             value: Some((1, 1)),
             basis: &[0],
@@ -108,17 +98,12 @@ pub(crate) static OF_FIVE: [Case; 4] = [
         },
     },
     Case {
-        columns: 1,
-        table: FIVE,
         column: 0,
         crit: (5, 1),
         projection: &[(0, 1)],
-        path: (
-            &[Some(0)],
-            &[((1, 2), 0, 2)],
-            &[((-1, 2), 0, 3), ((-3, 2), 0, 4)],
-            &[((1, 2), 0, 1), ((3, 2), 0, 0)],
-        ),
+        steps: &[((1, 2), 0, 2)],
+        rise: &[((-1, 2), 0, 3), ((-3, 2), 0, 4)],
+        fall: &[((1, 2), 0, 1), ((3, 2), 0, 0)],
         low: Edge {
             value: None,
             basis: &[0],
@@ -137,12 +122,12 @@ pub(crate) static OF_FIVE: [Case; 4] = [
         },
     },
     Case {
-        columns: 1,
-        table: FIVE,
         column: 0,
         crit: (0, 1),
         projection: &[(0, 1)],
-        path: (&[Some(0)], &[((1, 2), 0, 2)], &[], &[]),
+        steps: &[((1, 2), 0, 2)],
+        rise: &[],
+        fall: &[],
         low: Edge {
             value: Some((3, 1)),
             basis: &[2],
@@ -164,7 +149,7 @@ pub(crate) static OF_FIVE: [Case; 4] = [
 
 /// A line through three points: the third row takes the position of the second, so the fit goes through the first
 /// and the last, and the dual values are -1/3, 1/2 and -1/6.
-pub(crate) const LINE: &[Data] = &[([1, 0, 0], 0, 1), ([1, 1, 0], 2, 1), ([1, 3, 0], 3, 1)];
+pub(crate) static LINE: [Data; 3] = [([1, 0, 0], 0, 1), ([1, 1, 0], 2, 1), ([1, 3, 0], 3, 1)];
 
 /// Of the intercept: 2/5 of x are taken from it, and the bound is 6/7 * 1/4 * 7/5 = 3/10. The values of the
 /// basis are -1/3 + s and -1/6. As s falls the first meets -1/2 at -1/6, within, and the second row enters
@@ -175,19 +160,14 @@ pub(crate) const LINE: &[Data] = &[([1, 0, 0], 0, 1), ([1, 1, 0], 2, 1), ([1, 3,
 /// As s falls the second meets -1/2 at -1, a tie, and the second row enters for it: the values are -1 - s and
 /// s + 3/2, and the first meets 1/2 at -3/2, beyond. As s rises the first meets -1/2 at 1/2, and the second row
 /// enters for it: the values are 3/4 - s/2 and (s - 1/2)/2, and the second meets 1/2 at 3/2, beyond.
-pub(crate) static OF_LINE: [Case; 2] = [
+static OF_LINE: [Case; 2] = [
     Case {
-        columns: 2,
-        table: LINE,
         column: 0,
         crit: (6, 7),
         projection: &[(0, 1), (2, 5)],
-        path: (
-            &[Some(0), Some(1)],
-            &[((1, 2), 1, 2)],
-            &[((-1, 6), 0, 1)],
-            &[],
-        ),
+        steps: &[((1, 2), 1, 2)],
+        rise: &[((-1, 6), 0, 1)],
+        fall: &[],
         low: Edge {
             value: Some((0, 1)),
             basis: &[0, 2],
@@ -206,17 +186,12 @@ pub(crate) static OF_LINE: [Case; 2] = [
         },
     },
     Case {
-        columns: 2,
-        table: LINE,
         column: 1,
         crit: (6, 7),
         projection: &[(4, 3), (0, 1)],
-        path: (
-            &[Some(0), Some(1)],
-            &[((1, 2), 1, 2)],
-            &[((-1, 1), 1, 1)],
-            &[((1, 2), 0, 1)],
-        ),
+        steps: &[((1, 2), 1, 2)],
+        rise: &[((-1, 1), 1, 1)],
+        fall: &[((1, 2), 0, 1)],
         low: Edge {
             value: Some((1, 2)),
             basis: &[1, 2],
@@ -264,12 +239,15 @@ fn expect_end<F: Exact>(rt: &impl Abort, found: &End<F>, want: &Edge) {
 
 fn expect_interval<F: Exact>(rt: &impl Abort, found: &Interval<F>, case: &Case) {
     assert!(rt; found.column == case.column);
-    assert!(rt; ratio(found.tau) == (1, 2) && ratio(found.crit) == case.crit);
+    assert!(rt; ratio(found.tau) == (1, 2));
+    assert!(rt; ratio(found.crit) == case.crit);
     match &found.projection {
         Some(factors) => expect(rt, factors, case.projection),
-        None => panic!(rt; "the factors have numbers"),
+        None => assert!(rt; false),
     }
-    expect_trail(rt, &found.trail, case.path);
+    expect_steps(rt, &found.trail.steps, case.steps);
+    expect_steps(rt, &found.trail.rise, case.rise);
+    expect_steps(rt, &found.trail.fall, case.fall);
     expect_end(rt, &found.low, &case.low);
     expect_end(rt, &found.high, &case.high);
 }
@@ -282,19 +260,23 @@ fn question_of(case: &Case) -> Question {
     }
 }
 
-fn expect_case(rt: &impl Abort, alloc: Global, case: &Case) {
-    let rows = problem::<Frac128>(rt, alloc, case.columns, case.table);
+fn expect_case<F: Exact>(
+    rt: &impl Abort,
+    alloc: Global,
+    (columns, table): (u32, &[Data]),
+    case: &Case,
+) {
+    let rows = problem::<F>(rt, alloc, columns, table);
     let found = answered(rt, alloc, &rows, question_of(case), 100);
     expect_interval(rt, &found, case);
     drop(found);
     drop(rows);
 }
 
-// The interval that is found in 64 bits, and the same widened to 128.
-fn expect_narrow_case(rt: &impl Abort, alloc: Global, case: &Case) {
-    let rows = problem::<Frac64>(rt, alloc, case.columns, case.table);
+// The interval is found in 64 bits, and has the same values in 128.
+fn expect_widened(rt: &impl Abort, alloc: Global, (columns, table): (u32, &[Data]), case: &Case) {
+    let rows = problem::<Frac64>(rt, alloc, columns, table);
     let found = answered(rt, alloc, &rows, question_of(case), 100);
-    expect_interval(rt, &found, case);
     let widened = widen_interval(alloc, &found).ok().expect(rt, "memory");
     expect_interval(rt, &widened, case);
     drop(widened);
@@ -303,9 +285,27 @@ fn expect_narrow_case(rt: &impl Abort, alloc: Global, case: &Case) {
 }
 
 #[test]
-fn intervals_in_both_types(rt: HostRuntime) {
-    for case in OF_FIVE.iter().chain(&OF_LINE) {
-        expect_case(&rt, rt.alloc(), case);
-        expect_narrow_case(&rt, rt.alloc(), case);
+fn intervals_of_five(rt: HostRuntime) {
+    for case in &OF_FIVE {
+        expect_case::<Frac128>(&rt, rt.alloc(), (1, FIVE.as_slice()), case);
+        expect_case::<Frac64>(&rt, rt.alloc(), (1, FIVE.as_slice()), case);
+    }
+}
+
+#[test]
+fn intervals_of_a_line(rt: HostRuntime) {
+    for case in &OF_LINE {
+        expect_case::<Frac128>(&rt, rt.alloc(), (2, LINE.as_slice()), case);
+        expect_case::<Frac64>(&rt, rt.alloc(), (2, LINE.as_slice()), case);
+    }
+}
+
+#[test]
+fn widened_intervals_have_the_same_values(rt: HostRuntime) {
+    for case in &OF_FIVE {
+        expect_widened(&rt, rt.alloc(), (1, FIVE.as_slice()), case);
+    }
+    for case in &OF_LINE {
+        expect_widened(&rt, rt.alloc(), (2, LINE.as_slice()), case);
     }
 }

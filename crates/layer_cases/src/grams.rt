@@ -28,11 +28,9 @@ fn tell_short<F: Exact>(told: &mut Told, short: &Short<F>) {
 }
 
 fn tell_entries<F: Exact>(told: &mut Told, rows: &[Row<F>]) {
-    let mut mark = "";
     for row in rows {
-        told.put(mark);
+        told.put("; ");
         told.put_fractions(row.x.as_slice());
-        mark = "; ";
     }
 }
 
@@ -42,7 +40,10 @@ fn tell_gram<F: Exact>(told: &mut Told, problem: &Problem<F>) {
     }
     let made = gram_problem(told.alloc(), problem);
     match &made {
-        Ok(gram) => tell_entries(told, gram.rows.as_slice()),
+        Ok(gram) => {
+            told.put_named("", gram.columns);
+            tell_entries(told, gram.rows.as_slice());
+        }
         Err(short) => tell_short(told, short),
     }
     drop(made);

@@ -6,7 +6,7 @@
 ghost use Rattle.std.specs.Prelude.{◌≤◌};
 
 use crate::losses::{problem_of, row_of, tell_loss, tell_problem};
-use crate::numbers::numbers_of;
+use crate::numbers::{number_of, numbers_of};
 use crate::told::Told;
 use frac_core::{Exact, Frac128, List};
 use lambda_path::{PathFault, path_problem};
@@ -189,8 +189,8 @@ fn many_rows(alloc: Global, count: u32) -> Option<Problem<Frac128>> {
     })
 }
 
-fn tell_count(told: &mut Told, rows: &Problem<Frac128>, first: u32) {
-    let answer = path_of(told.alloc(), rows, first, Frac128::one());
+fn tell_count(told: &mut Told, rows: &Problem<Frac128>, first: u32, tau: Frac128) {
+    let answer = path_of(told.alloc(), rows, first, tau);
     match &answer {
         Some(Ok(path)) => told.put_count(path.rows.as_slice().len()),
         Some(Err(fault)) => tell_fault(told, fault),
@@ -199,16 +199,16 @@ fn tell_count(told: &mut Told, rows: &Problem<Frac128>, first: u32) {
     drop(answer);
 }
 
-/// Tells how many rows the path problem of so many equal rows has, by the first column that is penalised.
+/// Tells how many rows the path problem of so many equal rows has, by the first column that is penalised and the quantile.
 pub(crate) fn tell_size(told: &mut Told, asked: &str) {
-    let (count, first) = asked.split_once(' ').unwrap_or((asked, ""));
-    let count = count.parse::<u32>().unwrap_or(0);
-    let first = first.parse::<u32>().unwrap_or(0);
-    match many_rows(told.alloc(), count) {
-        Some(rows) => {
-            tell_count(told, &rows, first);
-            drop(rows);
-        }
-        None => told.put("no memory"),
+    let mut words = asked.split(' ');
+    let count = words.next().unwrap_or("").parse::<u32>().unwrap_or(0);
+    let first = words.next().unwrap_or("").parse::<u32>().unwrap_or(0);
+    let tau = number_of(words.next().unwrap_or(""));
+    let rows = many_rows(told.alloc(), count);
+    match (&rows, tau) {
+        (Some(rows), Some(tau)) => tell_count(told, rows, first, tau),
+        _ => told.put("no problem"),
     }
+    drop(rows);
 }
