@@ -41,7 +41,7 @@ fn tell_gram<F: Exact>(told: &mut Told, problem: &Problem<F>) {
     let made = gram_problem(told.alloc(), problem);
     match &made {
         Ok(gram) => {
-            told.put_named("", gram.columns);
+            told.put_count(gram.columns as usize);
             tell_entries(told, gram.rows.as_slice());
         }
         Err(short) => tell_short(told, short),
