@@ -3,8 +3,10 @@ ghost use Rattle.std.specs.Prelude.{◌≡◌, ◌≢◌, ◌<◌, ℕ, IfOk, If
 ghost use Rattle.exact_algebra.specs.Fraction.{rational};
 ghost use Rattle.exact_algebra.specs.Rational.{ℚ, whole};
 ghost use Rattle.basis_model.specs.Basis.{coord};
+ghost use Rattle.pivot_rule.specs.declared.direction.Direction.{Direction};
 ghost use Rattle.pivot_rule.specs.Duals.{HasCosts};
-ghost use Rattle.tableau_model.specs.Places.{IsPlace, in_wholes, sample_of};
+ghost use Rattle.walk_rule.specs.Walks.{IsFirstMover};
+ghost use Rattle.tableau_model.specs.Places.{IsPlace, at_of, in_wholes, sample_of};
 ghost use Rattle.tableau_model.specs.Questions.{Question, solving, walking, IsStepOf};
 ghost use Rattle.tableau_model.specs.Refusals.{IsRefusalAt, IsRefusedOf};
 ghost use Rattle.tableau_model.specs.Answers.{IsOptimalAt, IsSolvingAnswer, IsFitted};
@@ -76,6 +78,21 @@ impl<'a, F: Exact> Tableau<'a, F> {
         match self {
             Tableau::Fractions(body) => body.exchange(step),
             Tableau::Wholes(body) => body.exchange(step),
+        }
+    }
+
+    /// Lets the first row that moves enter. The same is refused.
+    pub fn exchange_first(&mut self, step: Step) -> Result<(), Failure<F>>
+        requires position { step.position < (place_of F.value self.old).task.problem.columns }
+        requires first { let h = place_of F.value self.old in (d : Direction) × IsFirstMover (sample_of F.value h) (at_of h) h.inverse step.position d step.row }
+        ensures place { OnOk result (IsPlace F.value (place_of F.value self.new)) }
+        ensures same { OnOk result ((place_of F.value self.new).task ≡ (place_of F.value self.old).task) }
+        ensures rows { OnOk result ((place_of F.value self.new).rows ≡ slice_set (place_of F.value self.old).rows step.position step.row) }
+        ensures refused { (asked : Question) → IsStepOf F.value (place_of F.value self.old) asked step.position step.row → IfErr result (IsRefusedOf (IsRefusalAt F.value F.range (place_of F.value self.old) asked)) }
+    {
+        match self {
+            Tableau::Fractions(body) => body.exchange(step),
+            Tableau::Wholes(body) => body.exchange_first(step),
         }
     }
 

@@ -108,7 +108,7 @@ impl<'a, F: Exact> Walk<'a, F> {
             position: step.position,
             row: step.row,
         };
-        match self.reached.tableau.exchange(exchanged) {
+        match self.reached.tableau.exchange_first(exchanged) {
             Ok(()) => {}
             Err(refused) => return Err(refused),
         }

@@ -8,7 +8,7 @@ use Rattle.whole_ratio.specs.declared.line.Line.{Line}
 use Rattle.whole_ratio.specs.declared.line.Mover.{Mover}
 use Rattle.whole_ratio.specs.Lines.{model, at_of, inverse_at, IsLine, IsMover, IsBefore, IsEarlierMover, IsJoined, IsFirstMoverOf, IsFirstOf, is_moving, comes_before}
 
-no : true ≡ false → ⊥
+pub no : true ≡ false → ⊥
 no h = cc
 
 module _ (l : Line) (line : IsLine l) where

@@ -6,9 +6,10 @@ ghost use Rattle.std.specs.Prelude.{◌≡◌, ℕ, ◌+◌, ◌<◌, ◌≤◌,
 ghost use Rattle.basis_model.specs.Basis.{coord};
 ghost use Rattle.walk_rule.specs.Walks.{IsFirstMover};
 ghost use Rattle.whole_inverse.specs.Shares.{share};
-ghost use Rattle.whole_ratio.specs.Lines.{IsNearLine, IsLook, IsMover, IsMoverAt, IsFirstOf, AreFarAfter, model, at_of, inverse_at, over_of, residual_of};
+ghost use Rattle.whole_ratio.specs.Lines.{IsNearLine, IsLook, IsMover, IsMoverAt, IsFirstOf, AreFarAfter, model, at_of, inverse_at, over_of, residual_of, is_moving, comes_before};
 
 use crate::bound::{Pair, is_product_less, most_of};
+use crate::less::is_surely_less;
 use crate::line::{Line, Mover, goes_towards};
 use whole_inverse::Obstacle;
 use whole_solution::{Column, Near};
@@ -95,18 +96,71 @@ impl<'a> Look<'a> {
         }
     }
 
+    /// Whether a row doesn't move, or surely comes after a mover. It may be so where this isn't said.
+    fn comes_after(&self, first: &Mover, row: u32) -> bool
+        requires look { IsLook self.now }
+        requires first { IsMover self.now.near_line.line first.now }
+        requires row { row < length self.now.near_line.line.basis.now.rows.now }
+        ensures { let l = self.now.near_line.line in IsTrue result → is_moving l row ≡ true → comes_before l first.now.row row ≡ true }
+    {
+        match self.mover_at(row) {
+            Ok(None) => true,
+            Ok(Some(here)) => is_surely_less(*first, here),
+            Err(_) => false,
+        }
+    }
+
+    /// Whether the first of the movers before a place is that of those up to it too. It may be so where this isn't said.
+    fn stays_first(&self, best: &Option<Mover>, k: usize) -> bool
+        requires look { IsLook self.now }
+        requires place { k < length self.now.near_line.near.now.rows }
+        requires best { IsFirstOf self.now.near_line.line (slice_index self.now.near_line.near.now.rows) k best.now }
+        ensures { IsTrue result → IsFirstOf self.now.near_line.line (slice_index self.now.near_line.near.now.rows) (k + 1) best.now }
+    {
+        let near = self.near_line.near;
+        match best {
+            Some(first) => self.comes_after(first, near.rows.as_slice()[k]),
+            None => false,
+        }
+    }
+
+    /// The first place from `start` on whose row may come before the first of the movers so far; the end where none does. That
+    /// mover stays the same on the way, and isn't copied.
+    fn next_rival(&self, best: &Option<Mover>, start: usize) -> usize
+        requires look { IsLook self.now }
+        requires start { start ≤ length self.now.near_line.near.now.rows }
+        requires best { IsFirstOf self.now.near_line.line (slice_index self.now.near_line.near.now.rows) start best.now }
+        ensures from { start ≤ result }
+        ensures within { result ≤ length self.now.near_line.near.now.rows }
+        ensures best { IsFirstOf self.now.near_line.line (slice_index self.now.near_line.near.now.rows) result best.now }
+    {
+        let end = self.near_line.near.rows.as_slice().len();
+        for k in start..end {
+            if !self.stays_first(best, k) {
+                return k;
+            }
+        }
+        end
+    }
+
     /// The first of the near rows that move.
     fn first_near(&self) -> Result<Option<Mover>, Obstacle>
         requires look { IsLook self.now }
         ensures { let near = self.now.near_line.near.now in IfOk result (IsFirstOf self.now.near_line.line (slice_index near.rows) (length near.rows)) }
     {
-        let near = self.near_line.near;
+        let end = self.near_line.near.rows.as_slice().len();
         let mut best = None;
-        for k in 0..near.rows.as_slice().len() {
-            match self.one_more(best, k) {
+        let mut place = 0;
+        for step in 0..end {
+            let rival = self.next_rival(&best, place);
+            if rival >= end {
+                return Ok(best);
+            }
+            match self.one_more(best, rival) {
                 Ok(next) => best = next,
                 Err(obstacle) => return Err(obstacle),
             }
+            place = rival + 1;
         }
         Ok(best)
     }

@@ -1,5 +1,5 @@
 -- Residuals that are far from 0, and how far the coefficients can take them.
-use Rattle.std.specs.Prelude.{◌≡◌, ℕ, ℤ, ◌<◌, ◌≤◌, ◌+◌, ◌*◌, ◌≤ℤ◌, neg_ℤ, unsigned_abs, [], ◌∷◌, false, pos}
+use Rattle.std.specs.Prelude.{◌≡◌, ℕ, ℤ, ◌≤◌, ◌+◌, ◌*◌, ◌≤ℤ◌, neg_ℤ, unsigned_abs, [], ◌∷◌, false, pos}
 use Rattle.std.proofs.Common.{arith, refl, sym, ap, subst, ◌∙◌}
 use Rattle.std.proofs.lemmas.Int.{ints}
 use Rattle.exact_algebra.specs.Solver.{number, negated, ◌⊞◌, ◌⊟◌, ◌⊠◌, v0, v1, v2}

@@ -12,6 +12,7 @@ pub mod Within
 pub mod Keeping
 pub mod Moves
 pub mod Listed
+pub mod Looked
 pub mod Nearby
 pub mod Entries
 pub mod Chosen

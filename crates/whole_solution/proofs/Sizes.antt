@@ -1,5 +1,5 @@
 -- Absolute values of sums and products.
-use Rattle.std.specs.Prelude.{◌≡◌, ◌⊎◌, ℤ, ◌≤ℤ◌, neg_ℤ, unsigned_abs, [], ◌∷◌, pos, negsuc}
+use Rattle.std.specs.Prelude.{◌≡◌, ◌⊎◌, ℤ, neg_ℤ, unsigned_abs, [], ◌∷◌, pos, negsuc}
 use Rattle.std.proofs.Common.{arith, refl, sym, ap, subst, ◌∙◌, inl, inr}
 use Rattle.std.proofs.lemmas.Int.{ints}
 use Rattle.exact_algebra.specs.Solver.{number, negated, ◌⊞◌, ◌⊟◌, ◌⊠◌, v0, v1}
@@ -105,8 +105,3 @@ module _ (x y t : ℚ) (small : abs_ℚ x ≤ℚ t) where
           let down = not_above y h in
           subst (λ z. (neg_ℚ (whole (pos 1)) *ℚ (x *ℚ y)) ≤ℚ (t *ℚ z)) (sym (abs_below y down))
           (subst (λ z. z ≤ℚ (t *ℚ neg_ℚ y)) (ring_ℚ (x ∷ y ∷ []) (v0 ⊠ negated v1) (negated (number (pos 1)) ⊠ (v0 ⊠ v1)) refl) (scaled_up x t (neg_ℚ y) below (negated_up y down)))
-
-  pub product_within : abs_ℚ (x *ℚ y) ≤ℚ (t *ℚ abs_ℚ y)
-  product_within =
-      size_by (x *ℚ y) (λ s. s ≤ℚ (t *ℚ abs_ℚ y)) product_below
-      (subst (λ z. z ≤ℚ (t *ℚ abs_ℚ y)) (ring_ℚ (x ∷ y ∷ []) (negated (number (pos 1)) ⊠ (v0 ⊠ v1)) (negated (v0 ⊠ v1)) refl) product_above)

@@ -1,5 +1,5 @@
 -- Inner. A basis of rows in whole numbers, and what stands there.
-use Rattle.std.specs.Prelude.{◌≡◌, ℕ, ℤ, ◌<◌, ◌≤◌, ◌^◌, List, All, IfSome, length, pos, slice_get, slice_index, unwrap_or, unsigned_abs}
+use Rattle.std.specs.Prelude.{◌≡◌, ◌≢◌, ◌⊎◌, ℕ, ℤ, ◌<◌, ◌≤◌, ◌^◌, List, All, IfSome, length, pos, slice_get, slice_index, unwrap_or, unsigned_abs}
 use Rattle.exact_algebra.specs.Rational.{ℚ}
 use Rattle.exact_matrices.specs.Selections.{AreDistinct}
 use Rattle.loss_model.specs.declared.vertex.Side.{Side}
@@ -12,9 +12,10 @@ use Rattle.whole_inverse.specs.Squares.{IsWholeSquare}
 use Rattle.whole_solution.specs.declared.basis.WholeBasis.{WholeBasis}
 use Rattle.whole_solution.specs.declared.solution.WholeSolution.{WholeSolution}
 use Rattle.whole_solution.specs.declared.solution.DualNumbers.{DualNumbers}
+use Rattle.whole_solution.specs.declared.solution.Joint.{Joint}
 use Rattle.whole_solution.specs.declared.solution.Sided.{Sided}
 use Rattle.whole_solution.specs.Weighing.{AreWeights}
-use Rattle.whole_solution.specs.Far.{AreOthersFar, IsNear}
+use Rattle.whole_solution.specs.Far.{AreOthersFar, IsListed, IsNear}
 
 -- the side of row i
 abbrev pub side_in : List Side → ℕ → Side
@@ -34,6 +35,19 @@ pub record HasWeights (p : Sample) (s : WholeSolution) : Type 0 where
   pub size : length s.sides ≡ p.rows
   pub near : IsNear p (side_in s.sides) s.near
   pub weights : AreWeights p (side_in s.sides) s.weights
+
+-- past a joint all rows but both of its own are on the sides on which they were, and the one that left was in the basis
+pub record IsPast (p : Sample) (at : ℕ → ℕ) (a : ℕ → ℕ → ℚ) (old : ℕ → Side) (j : Joint) : Type 0 where
+  pub entered : j.entered < p.rows
+  pub left : j.left < p.rows
+  pub basic : old j.left ≡ Basic
+  pub others : (i : ℕ) → i < p.rows → i ≢ j.entered → i ≢ j.left → side_at p at a i ≡ old i
+
+-- these rows are near, and all other near rows are on the sides on which they were
+pub record AreLookedAt (p : Sample) (at : ℕ → ℕ) (a : ℕ → ℕ → ℚ) (old : ℕ → Side) (near looked : List ℕ) : Type 0 where
+  pub rows : All (λ i. i < p.rows) looked
+  pub are_near : (i : ℕ) → IsListed looked i → IsListed near i
+  pub others : (i : ℕ) → IsListed near i → IsListed looked i ⊎ (side_at p at a i ≡ old i)
 
 -- the numerators over d are those of the residuals of all rows
 pub record AreResiduals (p : Sample) (at : ℕ → ℕ) (a : ℕ → ℕ → ℚ) (d : ℤ) (residuals : List ℤ) : Type 0 where

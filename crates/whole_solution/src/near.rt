@@ -8,9 +8,10 @@ ghost use Rattle.exact_algebra.specs.Rational.{◌≤ℚ◌, whole};
 ghost use Rattle.wide_int.specs.Numbers.{joined, number_of};
 ghost use Rattle.whole_inverse.specs.Shares.{share, share_at};
 ghost use Rattle.whole_solution.specs.Standing.{side_in};
-ghost use Rattle.whole_solution.specs.Far.{move_of, moves, room, IsChosen, IsFarOn, IsNearOrFar};
+ghost use Rattle.whole_solution.specs.Far.{move_of, moves, room, IsChosen, IsFarOn, IsListed, IsNearOrFar};
 
 use crate::ranges::Ranges;
+use crate::sides::is_held;
 use frac_core::List;
 use loss_model::Side;
 use std::alloc::Global;
@@ -178,6 +179,13 @@ impl Near {
             reach: self.reach,
             ranges,
         })
+    }
+
+    /// Whether a row is near.
+    pub(crate) fn holds(&self, row: u32) -> bool
+        ensures { IsTrue result → IsListed self.now.rows row }
+    {
+        is_held(self.rows.as_slice(), row)
     }
 
     /// How far a coefficient has moved, times both determinants.

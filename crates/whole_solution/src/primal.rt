@@ -158,6 +158,18 @@ fn scaled_residual(y: i64, fit: i128, scale: Scale) -> Result<i128, Obstacle>
     }
 }
 
+/// A bound of the numbers whose products with a determinant of 63 bits have room; 0 for a wider one, so that each is tested.
+fn room_beside(determinant: i128) -> u64
+    requires { pos 1 ≤ℤ determinant }
+    ensures { result * unsigned_abs determinant < 2 ^ 127 }
+{
+    if determinant <= i128::from(i64::MAX) {
+        1 << 63
+    } else {
+        0
+    }
+}
+
 /// The numerator of one residual, or a refusal.
 pub fn residual_of(y: i64, fit: i128, determinant: i128) -> Result<i128, Obstacle>
     requires { pos 1 ≤ℤ determinant }
@@ -165,7 +177,7 @@ pub fn residual_of(y: i64, fit: i128, determinant: i128) -> Result<i128, Obstacl
 {
     let scale = Scale {
         determinant,
-        room: 0,
+        room: room_beside(determinant),
     };
     scaled_residual(y, fit, scale)
 }

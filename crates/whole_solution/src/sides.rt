@@ -18,8 +18,8 @@ use loss_model::Side;
 use std::alloc::Global;
 use whole_inverse::Obstacle;
 
-/// Whether a basis holds a row.
-fn is_held(basis: &[u32], row: u32) -> bool
+/// Whether a list of rows holds one.
+pub fn is_held(basis: &[u32], row: u32) -> bool
     ensures { result ≡ is_among (slice_index basis.now) (length basis.now) row }
 {
     let mut found = false;

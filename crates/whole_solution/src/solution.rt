@@ -7,7 +7,7 @@ ghost use Rattle.basis_model.specs.Basis.{coefficient, side_at};
 ghost use Rattle.whole_inverse.specs.Shares.{share, share_at};
 ghost use Rattle.whole_inverse.specs.Squares.{inverse_of};
 ghost use Rattle.whole_rows.specs.Wholes.{sample_of_rows};
-ghost use Rattle.whole_solution.specs.Standing.{side_in, AreDualNumbers, AreResiduals, HasWeights, IsSided, IsWholeBasis, IsWholeSolution};
+ghost use Rattle.whole_solution.specs.Standing.{side_in, AreDualNumbers, AreLookedAt, AreResiduals, HasWeights, IsPast, IsSided, IsWholeBasis, IsWholeSolution};
 ghost use Rattle.whole_solution.specs.Columns.{IsColumn};
 ghost use Rattle.whole_solution.specs.Far.{IsListed};
 ghost use Rattle.whole_solution.specs.Ranges.{AreRanges};
@@ -53,7 +53,7 @@ pub struct Sided {
 
 /// The two parts of the dual values by position, as numerators over the determinant.
 #[derive(Drop)]
-pub struct DualNumbers {
+struct DualNumbers {
     pub constant: List<i128>,
     pub linear: List<i128>,
 }
@@ -63,6 +63,13 @@ pub struct DualNumbers {
 pub struct Turned {
     pub sides: List<Side>,
     pub weights: Weights,
+}
+
+/// The rows that have entered a basis and left it, where two bases of a walk meet.
+#[derive(Clone, Copy)]
+pub struct Joint {
+    pub entered: u32,
+    pub left: u32,
 }
 
 impl<'a> WholeBasis<'a> {
@@ -248,11 +255,18 @@ impl<'a> WholeBasis<'a> {
         true
     }
 
-    /// The same as `sided`, from what stood at another basis: where no far row can have changed its side, near rows alone are
-    /// looked at.
-    fn sided_after(&self, alloc: Global, before: &WholeSolution) -> Result<Sided, Obstacle>
+    /// The same as `sided`, from what stood at another basis: where no far row can have changed its side, some of the near rows
+    /// alone are looked at, among which are all that may have.
+    fn sided_after(
+        &self,
+        alloc: Global,
+        before: &WholeSolution,
+        looked: &[u32],
+    ) -> Result<Sided, Obstacle>
         requires basis { IsWholeBasis self.now }
         requires before { HasWeights (sample_of_rows (length self.now.inverse.now.columns) self.now.rows.now) before.now }
+        requires looked { let s = self.now.inverse.now in let p = sample_of_rows (length s.columns) self.now.rows.now in let at = slice_index self.now.basis.now.rows in
+            AreLookedAt p at (inverse_of s) (side_in before.now.sides) before.now.near.rows looked.now }
         ensures { let s = self.now.inverse.now in let p = sample_of_rows (length s.columns) self.now.rows.now in let at = slice_index self.now.basis.now.rows in
             IfOk result (IsSided p at (inverse_of s) s.determinant) }
     {
@@ -266,7 +280,7 @@ impl<'a> WholeBasis<'a> {
                 coef.as_slice(),
                 before.sides.as_slice(),
                 &before.weights,
-                before.near.rows.as_slice(),
+                looked,
             )?;
             if self.holds_basis(turned.sides.as_slice()) {
                 let near = before.near.copy(alloc)?;
@@ -355,7 +369,31 @@ impl<'a> WholeBasis<'a> {
         ensures { let s = self.now.inverse.now in let p = sample_of_rows (length s.columns) self.now.rows.now in let at = slice_index self.now.basis.now.rows in
             IfOk result (IsWholeSolution p at (inverse_of s) s.determinant) }
     {
-        let sided = self.sided_after(alloc, before)?;
+        let near = before.near.rows.as_slice();
+        let sided = self.sided_after(alloc, before, near)?;
+        let solution = self.standing(alloc, sided)?;
+        Ok(solution)
+    }
+
+    /// The same past a joint, at which all rows but both of its own keep their sides: no others are looked at, where both are
+    /// near.
+    pub fn solution_past(
+        &self,
+        alloc: Global,
+        before: &WholeSolution,
+        joint: Joint,
+    ) -> Result<WholeSolution, Obstacle>
+        requires basis { IsWholeBasis self.now }
+        requires before { HasWeights (sample_of_rows (length self.now.inverse.now.columns) self.now.rows.now) before.now }
+        requires past { let s = self.now.inverse.now in let p = sample_of_rows (length s.columns) self.now.rows.now in let at = slice_index self.now.basis.now.rows in
+            IsPast p at (inverse_of s) (side_in before.now.sides) joint }
+        ensures { let s = self.now.inverse.now in let p = sample_of_rows (length s.columns) self.now.rows.now in let at = slice_index self.now.basis.now.rows in
+            IfOk result (IsWholeSolution p at (inverse_of s) s.determinant) }
+    {
+        if !before.near.holds(joint.entered) {
+            return self.solution_after(alloc, before);
+        }
+        let sided = self.sided_after(alloc, before, &[joint.entered, joint.left])?;
         let solution = self.standing(alloc, sided)?;
         Ok(solution)
     }

@@ -6,6 +6,7 @@ use Rattle.whole_rows.specs.Wholes.{sample_of_rows}
 use Rattle.whole_solution.specs.declared.near.Near.{Near}
 use Rattle.whole_solution.specs.Standing.{IsSided}
 use Rattle.whole_solution.proofs.Chosen.{near_now, far_now, sides_now}
+use Rattle.whole_solution.proofs.Looked.{each_near, made_near}
 use Rattle.whole_solution.proofs.basis.WholeBasis.sided_after.Goals as goal
 
 pub returns-then-holds_basis : goal.returns-then-holds_basis
@@ -27,9 +28,11 @@ returns-then-holds_basis c =
     let is_near = c.requires.before.near in
     let det : to_z w128 (of_z w128 c.determinant.result) ≡ c.determinant.result = search rules in
     let serves = rw (c.as_slice.ensures, det, c.determinant.ensures.value) at (c.serves.ensures c.if-serves.true) in
-    let each = rw (c.as_slice-then-serves-2.ensures, c.as_slice-then-serves-3.ensures) at c.in_ok-turned.ensures.each in
-    let near = rw (c.as_slice-then-serves-3.ensures) at c.in_ok-turned.ensures.near in
-    let held = rw (c.as_slice-then-serves-4.ensures, c.requires.basis.size) at (c.holds_basis.ensures c.if-holds_basis.true) in
+    let looked = c.args.looked.now in
+    let put = rw (c.as_slice-then-serves-2.ensures) at c.in_ok-turned.ensures.each in
+    let each = each_near p at a old made n.rows looked c.requires.looked put in
+    let near = made_near p at a old made n.rows looked c.requires.looked put c.in_ok-turned.ensures.near in
+    let held = rw (c.as_slice-then-serves-3.ensures, c.requires.basis.size) at (c.holds_basis.ensures c.if-holds_basis.true) in
     let sided : IsSided p at a d (record { coef = coef; sides = made; near = n; weights = weights; residuals = None }) =
     record {
       columns = size;

@@ -1,5 +1,5 @@
 -- A coefficient more, and both sums together.
-use Rattle.std.proofs.Common.{rules, ◌≡◌, ◌+◌, ◌*◌, ◌<◌, ◌+ℤ◌, ◌*ℤ◌, get_or, length, pos, unsigned_abs, to_z, of_z, sym, ap, subst, ◌∙◌, arith}
+use Rattle.std.proofs.Common.{rules, ◌≡◌, ◌+◌, ◌*◌, ◌+ℤ◌, ◌*ℤ◌, get_or, length, pos, unsigned_abs, to_z, of_z, sym, ap, subst, ◌∙◌, arith}
 use Rattle.std.specs.Prelude.{slice_index}
 use mir.Syntax.{w128}
 use Rattle.exact_algebra.specs.Rational.{whole}

@@ -1,4 +1,4 @@
-use Rattle.std.proofs.Common.{◌≡◌, ℕ, get_or, pos}
+use Rattle.std.proofs.Common.{◌≡◌, get_or, pos}
 use Rattle.exact_algebra.specs.Rational.{whole}
 use Rattle.wide_int.specs.Numbers.{joined, number_of}
 use Rattle.whole_solution.specs.Far.{move_of}
