@@ -62,7 +62,7 @@ impl<'s, 'a, F: Exact> Walk<'s, 'a, F> {
             position: step.position,
             row: step.row,
         };
-        match self.here().after(exchanged) {
+        match self.here().after_first(exchanged) {
             Ok(tableau) => drop(self.own.replace(tableau)),
             Err(obstacle) => return Err(obstacle),
         }
