@@ -4,5 +4,5 @@ use Rattle.whole_tableau.proofs.body.WholeTableau.go_on.Goals as goal
 
 pub returns-clause-place : goal.returns-clause-place
 returns-clause-place g c =
-    let kept = rw (← c.self.view_is) at c.requires.kept in
+    let kept = rw (← c.self.view_is) at c.requires in
     kept_is_place g.F.Exact.value _ (rw (← c.replace.ensures.after, ← c.replace-2.ensures.after) at kept)
