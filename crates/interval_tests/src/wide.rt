@@ -3,14 +3,16 @@
 //! at which dual values of the restricted problem were found within the bound, and others beyond it, in the same way.
 
 ghost use Rattle.std.specs.Prelude.{◌≡◌, ◌<◌, length};
+ghost use Rattle.rank_inversion.specs.GramStops.{IsInverted};
 
-use crate::helpers::{Question, Ratio, Wide, answered, expect_column, gram, wide_problem};
-use basis_inverse::start;
+use crate::helpers::{Question, Ratio, Wide, answered, wide_problem};
+use basis_inverse::{Inverse, start};
 use frac_core::{Exact, Frac128};
 use loss_model::{Bound, End, Problem, Stop};
+use rank_inversion::{GramInverse, gram_inverse};
 use std::alloc::Global;
 use std::process::Abort;
-use test_kit::{is_shaped, ratio};
+use test_kit::{are_data, is_shaped, ratio};
 
 /// An intercept, four columns of numbers below 1,000, and the response.
 static TABLE: [Wide; 32] = [
@@ -179,19 +181,34 @@ fn fractions_overflow(rt: HostRuntime) {
     drop(gram);
 }
 
+/// The inverse of the Gram matrix of a problem that meets its conditions.
+fn gram<F: Exact>(rt: &impl Abort, alloc: Global, rows: &Problem<F>) -> GramInverse<F>
+    ensures { IsInverted F.value rows.now result }
+{
+    assert!(rt; is_shaped(rows));
+    assert!(rt; are_data(rows));
+    gram_inverse(alloc, rows)
+        .ok()
+        .expect(rt, "numbers of 86 bits")
+}
+
+fn expect_entries<F: Exact>(rt: &impl Abort, inverse: &Inverse<F>)
+    requires { length inverse.now.columns ≡ 5 }
+{
+    for column in 0..5 {
+        for position in 0..5 {
+            let found = ratio(inverse.entry(column, position));
+            assert!(rt; found == INVERSE[column as usize][position as usize]);
+        }
+    }
+}
+
 #[test]
 fn inverse_in_whole_numbers(rt: HostRuntime) {
     let rows = wide_problem::<Frac128>(&rt, rt.alloc(), TABLE.as_slice());
     let found = gram(&rt, rt.alloc(), &rows);
     assert!(&rt; found.basis.rows.as_slice() == [0, 1, 2, 3, 4].as_slice());
-    for column in 0..5 {
-        expect_column(
-            &rt,
-            &found.inverse,
-            column,
-            INVERSE[column as usize].as_slice(),
-        );
-    }
+    expect_entries(&rt, &found.inverse);
     drop(found);
     drop(rows);
 }
