@@ -10,8 +10,6 @@ report=$PWD/crates/quantreg/stdout
 skip() { echo "streams: skipped: $1" >&2; exit 0; }
 [ -x "$program" ] || { echo "streams: the gate has left no program at crates/quantreg/out/quantreg" >&2; exit 1; }
 for tool in cmp cat mktemp; do command -v "$tool" > /dev/null || skip "no command $tool"; done
-cmp -s crates/quantreg/src/main.rt crates/quantreg_refused/src/main.rt ||
-  { echo "streams: quantreg_refused has another main than quantreg" >&2; exit 1; }
 
 room=$(mktemp -d) || exit 1
 trap 'rm -rf "$room"' EXIT

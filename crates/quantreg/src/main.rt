@@ -1,6 +1,6 @@
 //! The program: the words of the system, standard input, standard output and standard error handed on, and a
-//! number handed back. The gate runs it on a job that has a report, and the same `main` once more, as
-//! `quantreg_refused`, on a job that has none, so that both what it prints and its status are compared.
+//! number handed back. The gate runs it on a job that has a report, and its script on jobs of every status, so that
+//! what it prints and its status are compared.
 #![tactic(auto)]
 
 use port_io::{StdSink, StdSource};
