@@ -7,7 +7,7 @@
 //!
 //! A line of a file is a case, `> what is asked => what is wanted`; or what the cases below it share, `= a table or a certificate, say`;
 //! or a remark. In each text `\n`, `\r` and `\t` stand for those letters, `\\` for a backslash, and `\x` with two hexadecimal digits for
-//! a byte. What each answer should be was worked out apart from the program. The largest inputs stand in `input_tests`. The crate
+//! a byte. What each answer should be was worked out apart from the program. The largest inputs stand in `layer_tests`. The crate
 //! stands on `rq_words`, `tv_penalty` and `cert_checker`; on `formula_arith`, `predict_steps` and `table_maker`; and on `lambda_path`,
 //! `nested_test` and `tau_process`.
 #![tactic(auto)]

@@ -1,6 +1,6 @@
 //! Tests of the solver: inverses of bases (`basis_inverse`), the order of ties (`lex_rule`), basic
 //! solutions (`basic_solution`), pivots at one quantile (`br_pivot`), walks over a range
-//! (`tau_process`), and how many pivots these need (`pivot_bound`).
+//! (`tau_process`), how many pivots these need (`pivot_bound`), rank intervals, and whole numbers.
 //!
 //! Cases worked by hand stand beside drawn ones, which are compared with a plain computation that is
 //! no part of the program.
@@ -17,6 +17,8 @@ mod drawn_columns;
 #[cfg(test)]
 mod helpers;
 #[cfg(test)]
+mod intervals;
+#[cfg(test)]
 mod inverses;
 #[cfg(test)]
 mod least_loss;
@@ -30,3 +32,5 @@ mod pivots;
 mod ties;
 #[cfg(test)]
 mod walks;
+#[cfg(test)]
+mod wholes;

@@ -1,6 +1,7 @@
 //! The report of a rank test, byte for byte.
 
-use crate::helpers::{expect_report, no_trail, push, ratio, ratios, texts};
+use crate::helpers::add;
+use crate::reports::{expect_report, no_trail, ratio, ratios, texts};
 use frac_core::List;
 use loss_model::Process;
 use report_text::{Report, TestFit};
@@ -22,8 +23,8 @@ end
 
 fn tested(rt: &impl Abort, alloc: Global) -> List<u32> {
     let mut tested = List::new(alloc);
-    push(rt, &mut tested, 0);
-    push(rt, &mut tested, 2);
+    add(rt, &mut tested, 0);
+    add(rt, &mut tested, 2);
     tested
 }
 

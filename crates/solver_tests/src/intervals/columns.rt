@@ -3,7 +3,8 @@
 ghost use Rattle.std.specs.Prelude.{◌≡◌, ◌<◌, length};
 ghost use Rattle.rank_inversion.specs.GramStops.{IsInverted};
 
-use crate::helpers::{Ratio, expect, fraction, problem};
+use crate::helpers::{Ratio, expect, fraction};
+use crate::intervals::helpers::problem;
 use basis_inverse::Inverse;
 use frac_core::{Exact, Frac64, Frac128};
 use loss_model::Problem;

@@ -1,6 +1,7 @@
 //! Intervals worked by hand, with their trails and all that their ends state.
 
-use crate::helpers::{Question, Ratio, Step, answered, expect, expect_steps, problem};
+use crate::helpers::{Ratio, Step, expect};
+use crate::intervals::helpers::{Question, answered, expect_steps, problem};
 use frac_core::{Exact, Frac64, Frac128};
 use loss_model::{Beyond, Bound, End, Interval, Side, widen_interval};
 use slow_ranks::Data;

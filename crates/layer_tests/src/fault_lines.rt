@@ -1,6 +1,7 @@
 //! The lines of stops of the solver, byte for byte.
 
-use crate::helpers::{fraction, list, no_trail, text};
+use crate::helpers::{Pair, fraction, list};
+use crate::reports::{no_trail, text};
 use design_matrix::DesignFault;
 use frac_core::Frac128;
 use frac_core::OpKind::{self, Add, Div, Mul, Sub};
@@ -91,7 +92,7 @@ static CASES: [Case; 27] = [
     ),
 ];
 
-fn spill_of(quantity: Quantity, kind: OpKind) -> Spill<Frac128> {
+fn spill_of(rt: &impl Abort, quantity: Quantity, kind: OpKind) -> Spill<Frac128> {
     Spill {
         site: Site {
             quantity,
@@ -101,16 +102,22 @@ fn spill_of(quantity: Quantity, kind: OpKind) -> Spill<Frac128> {
             term: 9,
             kind,
         },
-        left: fraction(7, 2),
-        right: fraction(-3, 1),
+        left: fraction(rt, (7, 2)),
+        right: fraction(rt, (-3, 1)),
     }
 }
 
-fn overflow(alloc: Global, place: Place, quantity: Quantity, kind: OpKind) -> Halt {
+fn overflow(
+    rt: &impl Abort,
+    alloc: Global,
+    place: Place,
+    quantity: Quantity,
+    kind: OpKind,
+) -> Halt {
     Halt::Overflow {
         place,
         trail: no_trail(alloc),
-        spill: spill_of(quantity, kind),
+        spill: spill_of(rt, quantity, kind),
     }
 }
 
@@ -121,7 +128,11 @@ fn fields_of(line: &[u8]) -> Option<&[u8]> {
 }
 
 fn expect_fields(rt: &impl Abort, alloc: Global, (quantity, kind, want): Case) {
-    let line = line_of(rt, alloc, overflow(alloc, Place::Process, quantity, kind));
+    let line = line_of(
+        rt,
+        alloc,
+        overflow(rt, alloc, Place::Process, quantity, kind),
+    );
     assert!(rt;
         fields_of(line.as_slice()) == Some(want.as_bytes()),
         "{want}"
@@ -136,7 +147,7 @@ fn overflows_are_told_by_their_quantity(rt: HostRuntime) {
 }
 
 // A combination of columns, and the line that lists it.
-static COMBINATIONS: [(&[(i128, i128)], &str); 2] = [
+static COMBINATIONS: [(&[Pair], &str); 2] = [
     (&[(1, 1)], "quantreg: solver: Dependent combination=1\n"),
     (
         &[(0, 1), (-2, 3), (1, 1)],
@@ -186,14 +197,14 @@ fn an_interval_is_told_by_its_column_and_quantile(rt: HostRuntime) {
     for (n, d, want) in &QUANTILES {
         let place = Place::Interval {
             column: 11,
-            tau: fraction(*n, *d),
+            tau: fraction(&rt, (*n, *d)),
         };
         expect_limit(&rt, rt.alloc(), place, want);
     }
 }
 
 fn expect_place(rt: &impl Abort, alloc: Global, place: Place, want: &str) {
-    let halt = overflow(alloc, place, Quantity::Gram, Add);
+    let halt = overflow(rt, alloc, place, Quantity::Gram, Add);
     expect_line(rt, alloc, halt, want);
 }
 

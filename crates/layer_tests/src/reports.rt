@@ -1,49 +1,31 @@
-//! Values that several tests make, and reports that are printed. A test has the memory that it needs, so that nothing
-//! that makes a value owes a `?`.
+//! What reports are made of, and reports that are printed.
 
 ghost use Rattle.report_text.specs.ReportText.{IsPrintable};
 
-use frac_core::{Exact, Frac128, List, Text};
+use crate::helpers::{Pair, add, fraction};
+use frac_core::{Frac128, List, Text};
 use loss_model::Trail;
 use ratio::Ratio;
 use report_text::{Report, report_bytes};
 use std::alloc::Global;
 use std::process::Abort;
 
-pub(crate) fn fraction(n: i128, d: i128) -> Frac128 {
-    Frac128::from_parts(n, d).unwrap_or(Frac128::zero())
-}
-
 pub(crate) fn text(rt: &impl Abort, alloc: Global, word: &str) -> Text {
     Text::new(alloc, word).ok().expect(rt, "memory")
 }
 
-/// Adds an item.
-pub(crate) fn push<T: Drop>(rt: &impl Abort, items: &mut List<T>, item: T) {
-    assert!(rt; items.push(item).is_ok());
-}
-
-/// The fractions of pairs.
-pub(crate) fn list(rt: &impl Abort, alloc: Global, numbers: &[(i128, i128)]) -> List<Frac128> {
-    let mut made = List::new(alloc);
-    for (n, d) in numbers {
-        push(rt, &mut made, fraction(*n, *d));
-    }
-    made
-}
-
 /// The fraction of a pair, of any size.
-pub(crate) fn ratio(rt: &impl Abort, alloc: Global, (n, d): (i128, i128)) -> Ratio {
-    Ratio::widen(alloc, fraction(n, d))
+pub(crate) fn ratio(rt: &impl Abort, alloc: Global, pair: Pair) -> Ratio {
+    Ratio::widen::<Frac128>(alloc, fraction(rt, pair))
         .ok()
         .expect(rt, "memory")
 }
 
 /// Those of pairs.
-pub(crate) fn ratios(rt: &impl Abort, alloc: Global, numbers: &[(i128, i128)]) -> List<Ratio> {
+pub(crate) fn ratios(rt: &impl Abort, alloc: Global, numbers: &[Pair]) -> List<Ratio> {
     let mut made = List::new(alloc);
     for pair in numbers {
-        push(rt, &mut made, ratio(rt, alloc, *pair));
+        add(rt, &mut made, ratio(rt, alloc, *pair));
     }
     made
 }
@@ -52,7 +34,7 @@ pub(crate) fn ratios(rt: &impl Abort, alloc: Global, numbers: &[(i128, i128)]) -
 pub(crate) fn texts(rt: &impl Abort, alloc: Global, words: &[&str]) -> List<Text> {
     let mut made = List::new(alloc);
     for word in words {
-        push(rt, &mut made, text(rt, alloc, word));
+        add(rt, &mut made, text(rt, alloc, word));
     }
     made
 }

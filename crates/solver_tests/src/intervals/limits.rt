@@ -1,9 +1,9 @@
 //! Limits below the steps that an interval takes, dependent columns, and operations that overflow, each with its
 //! trail.
 
-use crate::helpers::{
-    Question, Ratio, Step, answered, expect, expect_steps, problem, stopped, stopped_by_parts,
-    whole_numbers_answer,
+use crate::helpers::{Ratio, Step, expect};
+use crate::intervals::helpers::{
+    Question, answered, expect_steps, problem, stopped, stopped_by_parts, whole_numbers_answer,
 };
 use frac_core::{Exact, Frac64, Frac128, OpKind};
 use loss_model::{Quantity, Site, Stop, Trail};

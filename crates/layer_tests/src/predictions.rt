@@ -1,6 +1,7 @@
 //! The report of predictions, byte for byte.
 
-use crate::helpers::{expect_report, fraction, no_trail, push, ratio, texts};
+use crate::helpers::{Pair, add, fraction};
+use crate::reports::{expect_report, no_trail, ratio, texts};
 use frac_core::{Exact, Frac128, List};
 use loss_model::{Exchange, Process, Trail};
 use predict_steps::{RearrangedStep, Step};
@@ -9,7 +10,7 @@ use std::alloc::Global;
 use std::process::Abort;
 
 // The numerators and the denominators of a step's ends and value.
-type Corners = ((i128, i128), (i128, i128), (i128, i128));
+type Corners = (Pair, Pair, Pair);
 
 // What the line through the first and the third record, and then the one through the second and the
 // third, predict at the last record of the table `y,x\n0,0\n2,1\n3,3\n,4\n`.
@@ -35,11 +36,11 @@ fn steps(rt: &impl Abort, alloc: Global, corners: &[Corners]) -> List<Step<Frac1
     let mut steps = List::new(alloc);
     for (lo, hi, value) in corners {
         let step = Step {
-            lo: fraction(lo.0, lo.1),
-            hi: fraction(hi.0, hi.1),
-            value: fraction(value.0, value.1),
+            lo: fraction(rt, *lo),
+            hi: fraction(rt, *hi),
+            value: fraction(rt, *value),
         };
-        push(rt, &mut steps, step);
+        add(rt, &mut steps, step);
     }
     steps
 }
@@ -54,9 +55,9 @@ fn rearranged(
         let step = RearrangedStep {
             lo: ratio(rt, alloc, *lo),
             hi: ratio(rt, alloc, *hi),
-            value: fraction(value.0, value.1),
+            value: fraction(rt, *value),
         };
-        push(rt, &mut steps, step);
+        add(rt, &mut steps, step);
     }
     steps
 }
@@ -69,7 +70,7 @@ fn two_pivots(rt: &impl Abort, alloc: Global) -> Trail<Frac128> {
             position: 0,
             row,
         };
-        push(rt, &mut trail.steps, step);
+        add(rt, &mut trail.steps, step);
     }
     trail
 }
@@ -81,7 +82,7 @@ fn predictions(rt: &impl Abort, alloc: Global) -> List<Prediction> {
         steps: steps(rt, alloc, &STEPS),
         rearranged: rearranged(rt, alloc, &REARRANGED),
     };
-    push(rt, &mut predictions, prediction);
+    add(rt, &mut predictions, prediction);
     predictions
 }
 

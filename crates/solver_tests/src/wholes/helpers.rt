@@ -1,34 +1,12 @@
-//! Fractions, data rows, and segments of starts in whole numbers.
+//! Data rows, and segments of starts in whole numbers.
 
+use crate::helpers::{Ratio, fraction, push};
 use frac_core::{Exact, Frac128, List};
 use loss_model::{Problem, Row, Segment};
 use std::alloc::Global;
 use std::process::Abort;
-use test_kit::{is_shaped, ratio};
+use test_kit::is_shaped;
 use whole_tableau::{WholeTableau, setting_of};
-
-/// A numerator and a denominator.
-pub(crate) type Ratio = (i128, i128);
-
-fn fraction(rt: &impl Abort, (n, d): Ratio) -> Frac128 {
-    Frac128::from_parts(n, d).expect(rt, "a fraction in range")
-}
-
-/// The numbers of a list are these.
-pub(crate) fn expect(rt: &impl Abort, found: &List<Frac128>, want: &[Ratio]) {
-    let found = found.as_slice();
-    assert!(rt; found.len() == want.len());
-    for (value, want) in found.iter().zip(want) {
-        assert!(rt; ratio(*value) == *want);
-    }
-}
-
-/// Adds an item. A test has the memory that it needs, so that nothing that makes a list owes a `?`.
-pub(crate) fn push<T: Drop>(rt: &impl Abort, items: &mut Vec<T>, item: T) {
-    if items.push(item).is_err() {
-        panic!(rt; "no memory");
-    }
-}
 
 /// A row of the check loss.
 pub(crate) fn data_row(

@@ -1,7 +1,7 @@
 //! Intervals of drawn tables, compared with those of a slow program: of a drawn critical value, and of those at, just
 //! below and just above the statistic of a breakpoint. Of the 79 tables 66 have full rank.
 
-use crate::helpers::{Question, answered, in_wholes, problem};
+use crate::intervals::helpers::{Question, answered, in_wholes, problem};
 use frac_core::{Exact, Frac128};
 use loss_model::{Bound, Problem};
 use slow_ranks::{

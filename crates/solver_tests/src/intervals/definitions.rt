@@ -5,7 +5,7 @@
 //! polytope of the restricted problem, and the ends from the least losses of the fits that keep the tested
 //! coefficient.
 
-use crate::worked::{FIVE, LINE};
+use crate::intervals::worked::{FIVE, LINE};
 use loss_model::Bound;
 use slow_ranks::{
     CRITICAL, Data, Ends, Parts, QUANTILES, RankTest, Ratio, Vertex, after, before, draw,

@@ -1,6 +1,7 @@
 //! Rank intervals as jobs: they enter the gate with their places, and their answers stand in the jobs' order.
 
-use crate::helpers::{Ratio, fraction, problem, push};
+use crate::helpers::{Ratio, fraction, push};
+use crate::intervals::helpers::problem;
 use frac_core::{Exact, Frac128};
 use loss_model::{Bound, Interval, Problem};
 use rank_inversion::IntervalJob;

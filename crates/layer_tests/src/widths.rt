@@ -1,6 +1,6 @@
 //! Answers of 64 bits in 128.
 
-use crate::helpers::{Ratio, fraction, list, push};
+use crate::helpers::{Pair, fraction, list, push};
 use frac_core::{Exact, Frac64, Frac128, List};
 use loss_model::{
     Basis, Exchange, Process, Segment, Side, Stop, Trail, Vertex, widen_process, widen_stop,
@@ -80,7 +80,7 @@ fn segment(rt: &impl Abort, alloc: Global) -> Segment<Frac64> {
     }
 }
 
-fn is_one(list: &List<Frac128>, number: Ratio) -> bool {
+fn is_one(list: &List<Frac128>, number: Pair) -> bool {
     match list.as_slice() {
         [value] => ratio(*value) == number,
         _ => false

@@ -2,6 +2,7 @@
 
 use frac_core::{Frac64, Frac128, List, Op, Text};
 use loss_model::{Problem, Process, Short};
+use rq_words::{Job, WordFault};
 
 fn is_send<T: Send>() {}
 
@@ -33,4 +34,10 @@ fn values_cross_threads() {
     crosses::<Frac64>();
     crosses::<Op<Frac128>>();
     all_cross::<Frac128>();
+}
+
+#[test]
+fn jobs_cross_threads() {
+    crosses::<Job>();
+    crosses::<WordFault>();
 }
