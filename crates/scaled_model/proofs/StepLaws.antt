@@ -171,3 +171,14 @@ module _ (p q : Sample) (s : ℕ → ℚ) (ly lc : ℚ) (h : IsScaled p q s ly l
         mover = sym (moves-scaled j d r lr) ∙ m.mover;
         least = λ i li moving other. sym (is_before-scaled j r i lj lr li) ∙ m.least i (subst (λ n. i < n) (sym h.rows) li) (moves-scaled j d i li ∙ moving) other;
       }
+
+  -- and the other way round
+  pub first_mover_there : (j : ℕ) (d : Direction) (r : ℕ) → j < p.columns → IsFirstMover p at (unscaled s a) j d r → IsFirstMover q at a j d r
+  first_mover_there j d r lj m =
+      record {
+        row = subst (λ n. r < n) (sym h.rows) m.row;
+        mover = moves-scaled j d r m.row ∙ m.mover;
+        least = λ i li moving other.
+            let here : i < p.rows = subst (λ n. i < n) h.rows li in
+            is_before-scaled j r i lj m.row here ∙ m.least i here (sym (moves-scaled j d i here) ∙ moving) other;
+      }

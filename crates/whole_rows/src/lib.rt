@@ -36,4 +36,4 @@ pub use inverse::fraction_inverse;
 pub use limit::limit_of;
 pub use rows::{WholeProblem, WholeRow, whole_problem};
 pub use start::{WholeStart, whole_start};
-pub use values::{scaled, value_over, value_under, values_over, values_under};
+pub use values::{divided, scaled, value_over, values_over, values_under};

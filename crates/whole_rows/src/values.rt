@@ -1,5 +1,5 @@
 //! Numerators over a denominator as fractions, and these times and over factors.
-ghost use Rattle.std.specs.Prelude.{◌≡◌, ◌≢◌, ℕ, ◌<◌, length, IfOk, pos};
+ghost use Rattle.std.specs.Prelude.{◌≡◌, ◌≢◌, ℕ, ◌<◌, length, IfOk, IsTrue, pos};
 ghost use Rattle.exact_algebra.specs.Fraction.{rational};
 ghost use Rattle.exact_algebra.specs.Rational.{◌*ℚ◌, inverse, whole};
 ghost use Rattle.loss_model.specs.Problem.{value_at};
@@ -38,16 +38,37 @@ pub fn values_over<F: Exact>(
     Ok(made)
 }
 
-/// A numerator over a denominator, divided by a factor.
-pub fn value_under<F: Exact>(n: i128, d: i128, factor: F) -> Result<F, Obstacle>
-    requires { rational (F.value factor) ≢ whole (pos 0) }
-    ensures { IfOk result (λ r. rational (F.value r) ≡ share n d *ℚ inverse (rational (F.value factor))) }
+/// Whether a fraction is 1.
+#[tactic(auto, using(crate::proofs::Ones::one_value))]
+fn is_one<F: Exact>(value: F) -> bool
+    ensures { IsTrue result → rational (F.value value) ≡ whole (pos 1) }
 {
-    let value: F = value_over(n, d)?;
+    value.numerator() == 1 && value.denominator() == 1
+}
+
+/// A value over a factor. Most factors are 1, and leave nothing to divide.
+#[tactic(auto, using(crate::proofs::Ones::over_one))]
+pub fn divided<F: Exact>(value: F, factor: F) -> Result<F, Obstacle>
+    requires { rational (F.value factor) ≢ whole (pos 0) }
+    ensures { IfOk result (λ r. rational (F.value r) ≡ rational (F.value value) *ℚ inverse (rational (F.value factor))) }
+{
+    if is_one(factor) {
+        return Ok(value);
+    }
     match value.try_div(factor) {
         Ok(quotient) => Ok(quotient),
         Err(_) => Err(Obstacle::TooWide),
     }
+}
+
+/// A numerator over a denominator, divided by a factor.
+fn value_under<F: Exact>(n: i128, d: i128, factor: F) -> Result<F, Obstacle>
+    requires { rational (F.value factor) ≢ whole (pos 0) }
+    ensures { IfOk result (λ r. rational (F.value r) ≡ share n d *ℚ inverse (rational (F.value factor))) }
+{
+    let value: F = value_over(n, d)?;
+    let quotient = divided(value, factor)?;
+    Ok(quotient)
 }
 
 /// The numerators of a list over a denominator, each divided by a factor.
@@ -80,10 +101,22 @@ fn factor_of(factors: &[Factor], k: usize) -> Factor
     }
 }
 
-/// A value times a factor.
+/// Whether a factor is 1.
+#[tactic(auto, using(crate::proofs::Ones::one_factor))]
+fn is_unit(factor: Factor) -> bool
+    ensures { IsTrue result → factor_value factor ≡ whole (pos 1) }
+{
+    factor.over == 1 && factor.under == 1
+}
+
+/// A value times a factor, which is mostly 1.
+#[tactic(auto, using(crate::proofs::Ones::times_one))]
 fn times<F: Exact>(value: F, factor: Factor) -> Result<F, Obstacle>
     ensures { IfOk result (λ r. rational (F.value r) ≡ rational (F.value value) *ℚ factor_value factor) }
 {
+    if is_unit(factor) {
+        return Ok(value);
+    }
     let other: F = value_over(factor.over, factor.under)?;
     match value.try_mul(other) {
         Ok(product) => Ok(product),

@@ -3,7 +3,7 @@
 //! A row is far where its residual at the earlier fit is at least twice the reach. While no residual can have moved by more than
 //! the reach, which a bound on the coefficients says of all rows at once, far rows keep their sides and have residuals of at
 //! least the reach, so that only near rows are looked at.
-ghost use Rattle.std.specs.Prelude.{◌≡◌, ℕ, ℤ, ◌<◌, ◌≤◌, ◌^◌, ◌≤ℤ◌, All, length, IfOk, IfSome, IsTrue, pos};
+ghost use Rattle.std.specs.Prelude.{◌≡◌, ℕ, ℤ, ◌*◌, ◌<◌, ◌≤◌, ◌^◌, ◌≤ℤ◌, All, length, IfOk, IfSome, IsTrue, pos};
 ghost use Rattle.exact_algebra.specs.Rational.{◌≤ℚ◌, whole};
 ghost use Rattle.wide_int.specs.Numbers.{joined, number_of};
 ghost use Rattle.whole_inverse.specs.Shares.{share, share_at};
@@ -107,22 +107,49 @@ fn count_below(sizes: &[u128], bound: u128) -> u64 {
     count
 }
 
-/// Half the least power of 2 below which so many sizes are. Any number is lawful: this one leaves few rows near.
+/// A number and some quarters of it, of which there are at most three.
+fn with_quarters(unit: u128, quarters: u32) -> u128
+    requires { unit < 2 ^ 126 }
+    ensures least { unit ≤ result }
+    ensures most { result ≤ 2 * unit }
+{
+    match quarters {
+        0 => unit,
+        1 => unit + unit / 4,
+        2 => unit + unit / 2,
+        _ => unit + unit / 2 + unit / 4,
+    }
+}
+
+/// How many reaches there are to choose from.
+const REACHES: u32 = 500;
+
+/// A power of 2, or one of three numbers up to the next.
+fn reach_at(step: u32) -> u128
+    requires { step < 500 }
+    ensures some { 1 ≤ result }
+    ensures room { result < 2 ^ 126 }
+{
+    with_quarters(1 << (step / 4), step % 4)
+}
+
+/// The least reach below twice which so many sizes are. Any number is lawful: this one leaves few rows near.
 fn reach_of(sizes: &[u128], few: u64) -> u128
     ensures some { 1 ≤ result }
     ensures room { result < 2 ^ 126 }
 {
     let mut low: u32 = 0;
-    let mut high: u32 = 125;
+    let mut high: u32 = REACHES - 1;
     while low < high {
-        let bits = (low + high) / 2;
-        if count_below(sizes, 2 << bits) < few {
-            low = bits + 1;
+        let step = (low + high) / 2;
+        let reach = reach_at(step);
+        if count_below(sizes, reach + reach) < few {
+            low = step + 1;
         } else {
-            high = bits;
+            high = step;
         }
     }
-    1 << low
+    reach_at(low)
 }
 
 /// Whether a number is at most another one.

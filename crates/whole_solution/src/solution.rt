@@ -1,5 +1,5 @@
 //! All that stands at a basis, together.
-ghost use Rattle.std.specs.Prelude.{◌≡◌, ◌⊎◌, ℕ, ◌<◌, false, All, length, slice_index, IfOk, IsTrue};
+ghost use Rattle.std.specs.Prelude.{◌≡◌, ◌⊎◌, ℕ, ◌<◌, false, All, length, slice_index, IfOk, IfSome, IsTrue};
 ghost use Rattle.exact_matrices.specs.Selections.{is_among};
 ghost use Rattle.loss_model.specs.Sample.{residual};
 ghost use Rattle.loss_model.specs.declared.vertex.Side.TheVariants.{Basic};
@@ -358,42 +358,45 @@ impl<'a> WholeBasis<'a> {
         Ok(solution)
     }
 
-    /// What stands at a basis, from what stood at another one of the same rows.
+    /// What stands at a basis but for the dual values, from what stood at another one. Past a joint whose row that entered is near both
+    /// of its rows are looked at, and else all near ones.
+    fn sided_past(
+        &self,
+        alloc: Global,
+        before: &WholeSolution,
+        joint: Option<Joint>,
+    ) -> Result<Sided, Obstacle>
+        requires basis { IsWholeBasis self.now }
+        requires before { HasWeights (sample_of_rows (length self.now.inverse.now.columns) self.now.rows.now) before.now }
+        requires past { let s = self.now.inverse.now in let p = sample_of_rows (length s.columns) self.now.rows.now in let at = slice_index self.now.basis.now.rows in
+            IfSome joint (IsPast p at (inverse_of s) (side_in before.now.sides)) }
+        ensures { let s = self.now.inverse.now in let p = sample_of_rows (length s.columns) self.now.rows.now in let at = slice_index self.now.basis.now.rows in
+            IfOk result (IsSided p at (inverse_of s) s.determinant) }
+    {
+        if let Some(met) = joint {
+            if before.near.holds(met.entered) {
+                return self.sided_after(alloc, before, &[met.entered, met.left]);
+            }
+        }
+        self.sided_after(alloc, before, before.near.rows.as_slice())
+    }
+
+    /// What stands at a basis, from what stood at another one of the same rows. Past a joint of a walk all rows but both of its own
+    /// keep their sides.
     pub fn solution_after(
         &self,
         alloc: Global,
         before: &WholeSolution,
-    ) -> Result<WholeSolution, Obstacle>
-        requires basis { IsWholeBasis self.now }
-        requires before { HasWeights (sample_of_rows (length self.now.inverse.now.columns) self.now.rows.now) before.now }
-        ensures { let s = self.now.inverse.now in let p = sample_of_rows (length s.columns) self.now.rows.now in let at = slice_index self.now.basis.now.rows in
-            IfOk result (IsWholeSolution p at (inverse_of s) s.determinant) }
-    {
-        let near = before.near.rows.as_slice();
-        let sided = self.sided_after(alloc, before, near)?;
-        let solution = self.standing(alloc, sided)?;
-        Ok(solution)
-    }
-
-    /// The same past a joint, at which all rows but both of its own keep their sides: no others are looked at, where both are
-    /// near.
-    pub fn solution_past(
-        &self,
-        alloc: Global,
-        before: &WholeSolution,
-        joint: Joint,
+        joint: Option<Joint>,
     ) -> Result<WholeSolution, Obstacle>
         requires basis { IsWholeBasis self.now }
         requires before { HasWeights (sample_of_rows (length self.now.inverse.now.columns) self.now.rows.now) before.now }
         requires past { let s = self.now.inverse.now in let p = sample_of_rows (length s.columns) self.now.rows.now in let at = slice_index self.now.basis.now.rows in
-            IsPast p at (inverse_of s) (side_in before.now.sides) joint }
+            IfSome joint (IsPast p at (inverse_of s) (side_in before.now.sides)) }
         ensures { let s = self.now.inverse.now in let p = sample_of_rows (length s.columns) self.now.rows.now in let at = slice_index self.now.basis.now.rows in
             IfOk result (IsWholeSolution p at (inverse_of s) s.determinant) }
     {
-        if !before.near.holds(joint.entered) {
-            return self.solution_after(alloc, before);
-        }
-        let sided = self.sided_after(alloc, before, &[joint.entered, joint.left])?;
+        let sided = self.sided_past(alloc, before, joint)?;
         let solution = self.standing(alloc, sided)?;
         Ok(solution)
     }
