@@ -1,19 +1,70 @@
 //! A column of numerators that many rows are multiplied by, one row at a time.
-ghost use Rattle.std.specs.Prelude.{◌≡◌, ℤ, ◌≤◌, All, length, unsigned_abs, IfSome};
+ghost use Rattle.std.specs.Prelude.{◌≡◌, ℤ, ◌*◌, ◌^◌, ◌<◌, ◌≤◌, All, length, unsigned_abs, IfSome};
 ghost use Rattle.exact_algebra.specs.Rational.{◌*ℚ◌};
 ghost use Rattle.exact_algebra.specs.RationalSums.{sum_ℚ};
+ghost use Rattle.wide_int.specs.Numbers.{sizes, total};
 ghost use Rattle.whole_inverse.specs.Shares.{share, share_at, whole_at};
-ghost use Rattle.whole_solution.specs.Columns.{IsColumn};
+ghost use Rattle.whole_solution.specs.Columns.{IsColumn, HasWidth};
 
+use crate::halves::grown;
 use whole_inverse::{product_of, product_within};
 use wide_int::bound_of;
 
-/// A column of numerators, for rows whose entries are within a limit. Whether a bound says that all products have room is made once.
+/// How many bits the sums of the products of a row within a limit and a column are known to have: 63, 127, or any number.
+#[derive(Clone, Copy)]
+pub enum Width {
+    Narrow,
+    Wide,
+    Unknown,
+}
+
+/// A column of numerators, for rows whose entries are within a limit. The width of all products is found once.
 #[derive(Clone, Copy)]
 pub struct Column<'a> {
     pub numbers: &'a [i128],
     pub limit: u64,
-    pub is_bounded: bool,
+    pub width: Width,
+}
+
+/// The width of the products of rows within the limit and a column.
+fn width_of(numbers: &[i128], limit: u64) -> Width
+    ensures { HasWidth numbers.now limit result }
+{
+    match bound_of(numbers, limit) {
+        Some(bound) => {
+            if limit >= 1 && bound <= i64::MAX as u128 {
+                Width::Narrow
+            } else {
+                Width::Wide
+            }
+        }
+        None => Width::Unknown,
+    }
+}
+
+/// A number of 64 bits.
+#[inline]
+fn narrowed(number: i128) -> i64
+    requires { unsigned_abs number < 2 ^ 63 }
+    ensures { result ≡ number }
+{
+    number as i64
+}
+
+/// The sum of the products of a row and a column whose numbers have 64 bits.
+#[inline]
+fn narrow_product(row: &[i64], column: &[i128], limit: u64) -> i64
+    requires same { length row.now ≡ length column.now }
+    requires small { All (λ x. unsigned_abs x ≤ limit) row.now }
+    requires bound { limit * sizes column.now < 2 ^ 63 }
+    requires fits { sizes column.now < 2 ^ 63 }
+    ensures { result ≡ total row.now column.now }
+{
+    let mut sum: i64 = 0;
+    for i in 0..row.len() {
+        sum = grown(sum, row[i], narrowed(column[i]));
+    }
+    sum
 }
 
 impl<'a> Column<'a> {
@@ -24,20 +75,21 @@ impl<'a> Column<'a> {
         Column {
             numbers,
             limit,
-            is_bounded: bound_of(numbers, limit).is_some(),
+            width: width_of(numbers, limit),
         }
     }
 
-    /// The numerator of the product of a row and the column, where it has 127 bits and a sign. A bound spares the test.
+    /// The numerator of the product of a row and the column, where it has 127 bits and a sign. A known width spares tests.
     pub fn product(&self, x: &[i64]) -> Option<i128>
         requires column { IsColumn self.now.numbers.now self.now.limit self.now }
         requires same { length x.now ≡ length self.now.numbers.now }
         requires small { All (λ e. unsigned_abs e ≤ self.now.limit) x.now }
         ensures { IfSome result (λ c. (d : ℤ) → share c d ≡ sum_ℚ (length x.now) (λ k. whole_at x.now k *ℚ share_at d self.now.numbers.now k)) }
     {
-        if self.is_bounded {
-            return Some(product_within(x, self.numbers, self.limit));
+        match self.width {
+            Width::Narrow => Some(i128::from(narrow_product(x, self.numbers, self.limit))),
+            Width::Wide => Some(product_within(x, self.numbers, self.limit)),
+            Width::Unknown => product_of(x, self.numbers),
         }
-        product_of(x, self.numbers)
     }
 }
