@@ -5,6 +5,7 @@ ghost use Rattle.basis_model.specs.Basis.{balancing};
 ghost use Rattle.whole_inverse.specs.Shares.{share, share_at, shares, whole_at};
 
 use crate::primal::product_of;
+use crate::room::room_for;
 use frac_core::List;
 use std::alloc::Global;
 use whole_inverse::{Obstacle, WholeInverse};
@@ -46,7 +47,7 @@ pub fn balancing_numbers(
     ensures size { IfOk result (λ made. length made ≡ length totals.now) }
     ensures each { IfOk result (λ made. (d : ℤ) (j : ℕ) → j < length totals.now → share_at d made j ≡ balancing (length totals.now) (shares inverse.now.columns d) (whole_at totals.now) j) }
 {
-    let mut made = List::new(alloc);
+    let mut made = room_for(alloc, totals.len())?;
     for position in 0..totals.len() {
         let number = balancing_number(inverse, totals, position as u32)?;
         if made.push(number).is_err() {

@@ -23,7 +23,7 @@ fn column_of(alloc: Global, inverse: &WholeInverse, k: u32, n: u32) -> Result<Li
     ensures size { IfOk result (λ made. length made ≡ n) }
     ensures each { IfOk result (λ made. (d : ℤ) (j : ℕ) → j < n → share_at d made j ≡ shares inverse.now.columns d k j) }
 {
-    let mut made = List::new(alloc);
+    let mut made = room_for(alloc, n as usize)?;
     for j in 0..n {
         let column = inverse.numerators(j);
         if made.push(column[k as usize]).is_err() {
@@ -39,7 +39,7 @@ fn responses(alloc: Global, rows: &[WholeRow], basis: &[u32]) -> Result<List<i12
     ensures size { IfOk result (λ made. length made ≡ length basis.now) }
     ensures each { IfOk result (λ made. (j : ℕ) → j < length basis.now → whole_at made j ≡ of_whole rows.now (λ r. whole r.y) (slice_index basis.now j)) }
 {
-    let mut made = List::new(alloc);
+    let mut made = room_for(alloc, basis.len())?;
     for j in 0..basis.len() {
         let row = &rows[basis[j] as usize];
         if made.push(i128::from(row.y)).is_err() {
@@ -95,7 +95,7 @@ pub fn coefficients(
         IfOk result (λ made. (k : ℕ) → k < n → share_at inverse.now.determinant made k ≡ coefficient p (slice_index basis.now.rows) (inverse_of inverse.now) k) }
 {
     let ys = responses(alloc, rows, basis.rows.as_slice())?;
-    let mut made = List::new(alloc);
+    let mut made = room_for(alloc, n as usize)?;
     for k in 0..n {
         let number = coefficient_of(alloc, inverse, k, n, ys.as_slice())?;
         if made.push(number).is_err() {
