@@ -8,11 +8,26 @@ pub(crate) enum Wanted<'a> {
     Fault { status: u8, line: &'a str },
 }
 
-/// The words of a run with bars between them, the lines of its table with semicolons between them, and what it should leave.
+/// What a run reads: lines with semicolons between them; or the text that the cases of a file share, in which `to` comes where
+/// `from` stands first, or all of it is `to`.
+#[derive(Clone, Copy)]
+pub(crate) enum Input<'a> {
+    Lines(&'a str),
+    Changed {
+        shared: &'a str,
+        from: &'a str,
+        to: &'a str,
+    },
+    Whole(&'a str),
+}
+
+/// The words of a run with bars between them, those of a run that reads what it has printed, where there is one, what it reads itself, and
+/// what is left in the end.
 #[derive(Clone, Copy)]
 pub(crate) struct Case<'a> {
     pub words: &'a str,
-    pub table: &'a str,
+    pub next: Option<&'a str>,
+    pub input: Input<'a>,
     pub wanted: Wanted<'a>,
 }
 
@@ -34,14 +49,38 @@ fn wanted_of(text: &str) -> Wanted<'_> {
     }
 }
 
+// What the line of a case says that is read.
+fn input_of<'a>(shared: &'a str, line: &'a str) -> Input<'a> {
+    match line.split_once(" => ") {
+        Some(("", to)) => Input::Whole(to),
+        Some((from, to)) => Input::Changed { shared, from, to },
+        None => Input::Lines(line),
+    }
+}
+
+/// The text that the cases of a file share: the line above the first of them.
+pub(crate) fn shared_of(text: &str) -> &str {
+    let (above, _) = text.split_once("\n>").unwrap_or((text, ""));
+    match above.rsplit_once('\n') {
+        Some((_, line)) => line,
+        None => above,
+    }
+}
+
 /// The case of a text that begins with its words, and may end in a remark on the next one. None, where it lacks a line.
-pub(crate) fn case_of(text: &str) -> Option<Case<'_>> {
+pub(crate) fn case_of<'a>(shared: &'a str, text: &'a str) -> Option<Case<'a>> {
     let (words, rest) = text.split_once('\n')?;
-    let (table, rest) = rest.split_once('\n')?;
+    let (line, rest) = rest.split_once('\n')?;
     let (wanted, _) = rest.split_once("\n#").unwrap_or((rest, ""));
+    let words = words.trim_start();
+    let (words, next) = match words.split_once(" => ") {
+        Some((first, second)) => (first, Some(second)),
+        None => (words, None),
+    };
     Some(Case {
-        words: words.trim_start(),
-        table,
+        words,
+        next,
+        input: input_of(shared, line),
         wanted: wanted_of(wanted.trim_end()),
     })
 }

@@ -13,15 +13,17 @@
 //! what is wanted
 //! ```
 //!
-//! and what is wanted is the printed report; or the end of one, behind a line `..`; or the exit status and the line of a fault. What a
-//! text can't hold (streams that fail, gates, the largest inputs, want of memory) stands in the tests of `run_tests`. The crate stands
+//! and what is wanted is the printed report; or the end of one, behind a line `..`; or the exit status and the line of a fault. Words
+//! behind ` => ` are those of a second run, which reads what the first has printed. A line with ` => ` between two texts, in place of a
+//! table, is the text above the first case of the file, in which the second comes where the first stands, or the second alone where nothing
+//! stands to the left: so a certificate stands once, and a reader sees what was changed in it. What a text can't hold (streams that fail, gates, the largest inputs, want of memory) stands in the tests of `run_tests`. The crate stands
 //! on `rq_cli`.
 #![tactic(auto)]
 
 mod case;
 mod running;
 
-use crate::case::case_of;
+use crate::case::{case_of, shared_of};
 use crate::running::run_case;
 use std::alloc::Global;
 use std::thread::Threads;
@@ -32,9 +34,9 @@ fn try_case<R: Threads + Sync + Print>(
     rt: &R,
     alloc: Global,
     name: &str,
-    text: &str,
+    (shared, text): (&str, &str),
 ) -> io::Result<()> {
-    let Some(case) = case_of(text) else {
+    let Some(case) = case_of(shared, text) else {
         return println!(rt; "{name}: a case without its three lines: {text}");
     };
     let left = run_case(rt, alloc, &case)?;
@@ -52,9 +54,10 @@ fn try_cases<R: Threads + Sync + Print>(
     name: &str,
     text: &str,
 ) -> io::Result<()> {
+    let shared = shared_of(text);
     let mut tried = 0u32;
     for case in text.split("\n>").skip(1) {
-        try_case(rt, alloc, name, case)?;
+        try_case(rt, alloc, name, (shared, case))?;
         tried = tried.saturating_add(1);
     }
     println!(rt; "{name}: {tried} cases")

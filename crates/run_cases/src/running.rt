@@ -1,6 +1,6 @@
 //! A run of a case, and what it left.
 
-use crate::case::{Case, Wanted};
+use crate::case::{Case, Input, Wanted};
 use port_io::{MemSink, SureSource};
 use rq_cli::run;
 use rq_fan::Open;
@@ -78,6 +78,26 @@ fn table_of(alloc: Global, lines: &str) -> Result<Vec<u8>, AllocError> {
     Ok(table)
 }
 
+// A text in which `to` stands where `from` stood first; nothing, where that doesn't stand there.
+fn changed(alloc: Global, text: &str, from: &str, to: &str) -> Result<Vec<u8>, AllocError> {
+    let mut made = Vec::new(alloc);
+    if let Some((before, after)) = text.split_once(from) {
+        made.extend_from_slice(before.as_bytes())?;
+        made.extend_from_slice(to.as_bytes())?;
+        made.extend_from_slice(after.as_bytes())?;
+        made.push(b'\n')?;
+    }
+    Ok(made)
+}
+
+fn bytes_of(alloc: Global, input: Input<'_>) -> Result<Vec<u8>, AllocError> {
+    match input {
+        Input::Lines(lines) => table_of(alloc, lines),
+        Input::Changed { shared, from, to } => changed(alloc, shared, from, to),
+        Input::Whole(text) => Vec::from_slice(alloc, text.as_bytes()),
+    }
+}
+
 fn sink(alloc: Global) -> Result<MemSink, AllocError> {
     match MemSink::new(alloc, ROOM, PIECE, Vec::new(alloc)) {
         Ok(sink) => Ok(sink),
@@ -100,14 +120,15 @@ fn status_of<R: Threads + Sync>(
     code
 }
 
-/// Runs a case over streams in memory.
-pub(crate) fn run_case<R: Threads + Sync>(
+// Runs words on bytes over streams in memory.
+fn run_words<R: Threads + Sync>(
     rt: &R,
     alloc: Global,
-    case: &Case<'_>,
+    line: &str,
+    bytes: Vec<u8>,
 ) -> Result<Left, AllocError> {
-    let words = words_of(alloc, case.words)?;
-    let mut source = SureSource::new(table_of(alloc, case.table)?);
+    let words = words_of(alloc, line)?;
+    let mut source = SureSource::new(bytes);
     let mut out = sink(alloc)?;
     let mut err = sink(alloc)?;
     let status = status_of(rt, alloc, &words, &mut source, &mut out, &mut err);
@@ -116,4 +137,18 @@ pub(crate) fn run_case<R: Threads + Sync>(
         printed: Vec::from_slice(alloc, out.written())?,
         told: Vec::from_slice(alloc, err.written())?,
     })
+}
+
+/// Runs a case, and on what it has printed the words of a second run, where it has those.
+pub(crate) fn run_case<R: Threads + Sync>(
+    rt: &R,
+    alloc: Global,
+    case: &Case<'_>,
+) -> Result<Left, AllocError> {
+    let bytes = bytes_of(alloc, case.input)?;
+    let left = run_words(rt, alloc, case.words, bytes)?;
+    match case.next {
+        Some(words) => run_words(rt, alloc, words, left.printed),
+        None => Ok(left),
+    }
 }

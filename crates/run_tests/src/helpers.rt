@@ -146,7 +146,7 @@ pub(crate) fn ran_on<R: Abort + Threads + Sync>(
     ran(rt, alloc, line, &mut source, &SOUND)
 }
 
-/// A run of the words on bytes, whose jobs pass this gate, with room for a certificate of 500 segments.
+/// A run of the words on bytes, whose jobs pass this gate, with room for a long certificate.
 pub(crate) fn ran_at<R: Abort + Threads + Sync, G: Gate>(
     rt: &R,
     alloc: Global,
@@ -185,44 +185,10 @@ pub(crate) fn assert_printed(rt: &impl Abort, left: &Left, report: &str, case: &
     );
 }
 
-// The run printed a report that ends so, and nothing else.
-fn assert_ends(rt: &impl Abort, left: &Left, end: &str, case: &str) {
-    assert!(rt; left.status == 0, "{case}");
-    assert!(rt; left.told.is_empty(), "{case}");
-    let printed = from_utf8(left.printed.as_slice());
-    assert!(rt;
-        left.printed.as_slice().ends_with(end.as_bytes()),
-        "{case}: {printed:?}"
-    );
-}
-
 /// The run printed nothing, and told this line.
 pub(crate) fn assert_refused(rt: &impl Abort, left: &Left, status: u8, told: &str, case: &str) {
     assert!(rt; left.status == status, "{case}");
     assert!(rt; left.printed.is_empty(), "{case}");
     let line = from_utf8(left.told.as_slice());
     assert!(rt; left.told.as_slice() == told.as_bytes(), "{case}: {line:?}");
-}
-
-// The exit status and the line of a refusal, if that is what is wanted.
-fn refusal(wanted: &str) -> Option<(u8, &str)> {
-    let (status, told) = wanted.split_once(' ')?;
-    Some((status.parse::<u8>().ok()?, told))
-}
-
-fn line_of(alloc: Global, text: &str) -> Option<String> {
-    format!(in alloc; "{text}\n").ok()
-}
-
-/// The run left what is wanted: a printed text, or the end of one behind a line `..`, or the exit status and the line
-/// that is told.
-pub(crate) fn assert_left(rt: &impl Abort, alloc: Global, left: &Left, wanted: &str, case: &str) {
-    let wanted = line_of(alloc, wanted).expect(rt, "memory");
-    if let Some(end) = wanted.strip_prefix("..\n") {
-        assert_ends(rt, left, end, case);
-    } else if let Some((status, told)) = refusal(&wanted) {
-        assert_refused(rt, left, status, told, case);
-    } else {
-        assert_printed(rt, left, &wanted, case);
-    }
 }

@@ -2,10 +2,6 @@
 #![tactic(auto)]
 
 #[cfg(test)]
-mod cases;
-#[cfg(test)]
-mod certificates;
-#[cfg(test)]
 mod gates;
 #[cfg(test)]
 mod helpers;
