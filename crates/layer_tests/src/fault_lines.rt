@@ -225,7 +225,7 @@ fn the_costs_of_a_path_are_told(rt: HostRuntime) {
 #[test]
 fn a_prediction_is_told_by_its_record(rt: HostRuntime) {
     let place = Place::Predict { rec: 4 };
-    let halt = overflow(rt.alloc(), place, Quantity::Prediction, Mul);
+    let halt = overflow(&rt, rt.alloc(), place, Quantity::Prediction, Mul);
     let want =
         "quantreg: solver: Overflow place=predict:4 quantity=prediction at=4,2 term=9 op=mul left=7/2 right=-3\n";
     expect_line(&rt, rt.alloc(), halt, want);
@@ -288,7 +288,7 @@ fn a_factor_in_an_arithmetic_is_named(rt: HostRuntime) {
 
 #[test]
 fn an_arithmetic_of_a_design_is_told(rt: HostRuntime) {
-    let fault = DesignFault::Overflow(spill_of(Quantity::ArithValue, Mul));
+    let fault = DesignFault::Overflow(spill_of(&rt, Quantity::ArithValue, Mul));
     let want =
         "quantreg: design: Overflow quantity=arith-value at=4,2 term=9 op=mul left=7/2 right=-3\n";
     expect_refusal(&rt, rt.alloc(), Refusal::Design(fault), want);
