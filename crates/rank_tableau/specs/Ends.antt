@@ -23,7 +23,7 @@ use Rattle.rank_tableau.specs.Founds.{parameter_at, IsFound}
 -- there and divided by the factor of the costs
 pub record IsWeighing {F : Type 0} (value : F → Fraction) (k : Kept F) (q : Quantile) (f : Factor) (weight : F) (r : Reading F) : Type 0 where
   pub theta : rational (value r.theta) ≡ (rational (value weight) *ℚ factor_value k.setting.wholes.cost) *ℚ factor_value f
-  pub denominator : r.denominator ≡ k.square.determinant *ℤ q.under
+  pub denominator : r.denominator.number ≡ k.square.determinant *ℤ q.under
   pub factor : rational (value r.factor) ≡ factor_value k.setting.wholes.cost
 
 module _ {F : Type 0} (value : F → Fraction) (h : Place F) (c : Course F) where

@@ -14,7 +14,7 @@ use whole_descent::Quantile;
 use whole_inverse::Obstacle;
 use whole_rows::{Factor, value_over};
 use whole_tableau::{Reading, WholeTableau};
-use wide_int::Wide;
+use wide_int::{Divisor, Wide};
 
 /// The product of two fractions.
 pub(crate) fn product<F: Exact>(a: F, b: F) -> Result<F, Obstacle>
@@ -44,7 +44,7 @@ fn weighing<F: Exact>(
     let denominator = scale_number(tableau, theta)?;
     Ok(Reading {
         theta: whole,
-        denominator,
+        denominator: Divisor::of(denominator),
         factor: costs,
     })
 }

@@ -8,6 +8,7 @@ ghost use Rattle.scaled_model.specs.Scaled.{IsScaled};
 ghost use Rattle.whole_rows.specs.Wholes.{factor_value, factor_at, IsPositive, IsWholeRow, ArePaired, whole_sample};
 
 use crate::factor::{Factor, plain_factor, reduced_factor, whole_value};
+use crate::room::room_for;
 use frac_core::{Exact, List};
 use loss_model::{Problem, Row};
 use std::alloc::Global;
@@ -56,7 +57,7 @@ fn whole_entries<F: Exact>(
     ensures size { IfOk result (λ made. length made ≡ length x.now) }
     ensures each { IfOk result (λ made. (k : ℕ) → k < length x.now → whole_at made k ≡ factor_at factors.now k *ℚ value_at F.value x.now k) }
 {
-    let mut made = List::new(alloc);
+    let mut made = room_for(alloc, x.len())?;
     for k in 0..x.len() {
         let entry = number(x[k], factors[k])?;
         if made.push(entry).is_err() {
@@ -111,7 +112,7 @@ fn whole_rows<F: Exact>(
     ensures size { IfOk result (λ made. length made ≡ length rows.now) }
     ensures paired { IfOk result (λ made. ArePaired (IsWholeRow F.value factors.now response cost) rows.now made) }
 {
-    let mut made = List::new(alloc);
+    let mut made = room_for(alloc, rows.len())?;
     for i in 0..rows.len() {
         let row = whole_row(alloc, &rows[i], factors, response, cost)?;
         if made.push(row).is_err() {
@@ -125,7 +126,7 @@ fn whole_rows<F: Exact>(
 fn column_values<F: Exact>(alloc: Global, rows: &[Row<F>], k: usize) -> Result<List<F>, Obstacle>
     requires { All (λ r. k < length r.x) rows.now }
 {
-    let mut values = List::new(alloc);
+    let mut values = room_for(alloc, rows.len())?;
     for i in 0..rows.len() {
         if values.push(rows[i].x.as_slice()[k]).is_err() {
             return Err(Obstacle::OutOfMemory);
@@ -158,7 +159,7 @@ fn column_factors<F: Exact>(
 fn response_factor<F: Exact>(alloc: Global, rows: &[Row<F>]) -> Result<Factor, Obstacle>
     ensures { IfOk result IsPositive }
 {
-    let mut values = List::new(alloc);
+    let mut values = room_for(alloc, rows.len())?;
     for i in 0..rows.len() {
         if values.push(rows[i].y).is_err() {
             return Err(Obstacle::OutOfMemory);

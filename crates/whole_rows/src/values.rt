@@ -7,6 +7,7 @@ ghost use Rattle.whole_inverse.specs.Shares.{share, share_at};
 ghost use Rattle.whole_rows.specs.Wholes.{factor_value, factor_at};
 
 use crate::factor::Factor;
+use crate::room::room_for;
 use frac_core::{Exact, List};
 use std::alloc::Global;
 use whole_inverse::Obstacle;
@@ -30,7 +31,7 @@ pub fn values_over<F: Exact>(
     ensures size { IfOk result (λ made. length made ≡ length numerators.now) }
     ensures each { IfOk result (λ made. (i : ℕ) → i < length numerators.now → value_at F.value made i ≡ share_at d numerators.now i) }
 {
-    let mut made = List::new(alloc);
+    let mut made = room_for(alloc, numerators.len())?;
     for i in 0..numerators.len() {
         let value = value_over(numerators[i], d)?;
         made.add(value)?;
@@ -82,7 +83,7 @@ pub fn values_under<F: Exact>(
     ensures size { IfOk result (λ made. length made ≡ length numerators.now) }
     ensures each { IfOk result (λ made. (i : ℕ) → i < length numerators.now → value_at F.value made i ≡ share_at d numerators.now i *ℚ inverse (rational (F.value factor))) }
 {
-    let mut made = List::new(alloc);
+    let mut made = room_for(alloc, numerators.len())?;
     for i in 0..numerators.len() {
         let value = value_under(numerators[i], d, factor)?;
         made.add(value)?;
@@ -133,7 +134,7 @@ pub fn scaled<F: Exact>(
     ensures size { IfOk result (λ made. length made ≡ length values.now) }
     ensures each { IfOk result (λ made. (k : ℕ) → k < length values.now → value_at F.value made k ≡ value_at F.value values.now k *ℚ factor_at factors.now k) }
 {
-    let mut made = List::new(alloc);
+    let mut made = room_for(alloc, values.len())?;
     for k in 0..values.len() {
         let value = times(values[k], factor_of(factors, k))?;
         made.add(value)?;

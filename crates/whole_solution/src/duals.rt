@@ -5,10 +5,10 @@ ghost use Rattle.basis_model.specs.Basis.{balancing};
 ghost use Rattle.whole_inverse.specs.Shares.{share, share_at, shares, whole_at};
 
 use crate::primal::product_of;
-use crate::room::room_for;
 use frac_core::List;
 use std::alloc::Global;
 use whole_inverse::{Obstacle, WholeInverse};
+use whole_rows::room_for;
 
 /// The negated numerator.
 pub fn negation(n: i128) -> Result<i128, Obstacle>

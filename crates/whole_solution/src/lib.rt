@@ -26,7 +26,6 @@ mod position;
 mod primal;
 mod products;
 mod ranges;
-mod room;
 mod sides;
 mod signs;
 mod solution;

@@ -7,12 +7,11 @@ ghost use Rattle.whole_inverse.specs.Shares.{share, share_at, shares, whole_at};
 ghost use Rattle.whole_inverse.specs.Squares.{inverse_of};
 ghost use Rattle.whole_rows.specs.Wholes.{of_whole, sample_of_rows};
 
-use crate::room::room_for;
 use frac_core::List;
 use loss_model::Basis;
 use std::alloc::Global;
 use whole_inverse::{Obstacle, WholeInverse};
-use whole_rows::WholeRow;
+use whole_rows::{WholeRow, room_for};
 use wide_int::sum_of_products;
 
 /// The numerators of a column at all positions.

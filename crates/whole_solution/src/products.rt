@@ -8,11 +8,10 @@ ghost use Rattle.whole_rows.specs.Wholes.{of_whole};
 
 use crate::halves::{column_halves, halved_products, room_of};
 use crate::narrow::narrow_products;
-use crate::room::room_for;
 use frac_core::List;
 use std::alloc::Global;
 use whole_inverse::{Obstacle, product_of, product_within};
-use whole_rows::WholeRow;
+use whole_rows::{WholeRow, room_for};
 use wide_int::bound_of;
 
 /// The numerators of the products, where a bound says that there is room for them.

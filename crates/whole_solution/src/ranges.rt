@@ -9,11 +9,10 @@ ghost use Rattle.loss_model.specs.Spill.{abs_ℚ};
 ghost use Rattle.whole_rows.specs.Wholes.{sample_of_rows};
 ghost use Rattle.whole_solution.specs.Ranges.{AreRanges};
 
-use crate::room::room_for;
 use frac_core::List;
 use std::alloc::Global;
 use whole_inverse::Obstacle;
-use whole_rows::WholeRow;
+use whole_rows::{WholeRow, room_for};
 
 /// The middle of the range of each column, and half its width: the entries are no further from the middle.
 #[derive(Drop)]

@@ -11,12 +11,12 @@ ghost use Rattle.whole_rows.specs.Wholes.{sample_of_rows};
 ghost use Rattle.whole_solution.specs.Standing.{side_in, IsWholeBasis};
 
 use crate::basis::WholeBasis;
-use crate::room::room_for;
 use crate::signs::{perturbed_sign, side_of_number};
 use frac_core::List;
 use loss_model::Side;
 use std::alloc::Global;
 use whole_inverse::Obstacle;
+use whole_rows::room_for;
 
 /// Whether a list of rows holds one.
 pub fn is_held(basis: &[u32], row: u32) -> bool

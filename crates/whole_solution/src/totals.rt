@@ -13,13 +13,12 @@ ghost use Rattle.whole_solution.specs.Standing.{side_in};
 ghost use Rattle.whole_solution.specs.Weighing.{bound_of, AreRaised, AreTurned, AreWeights};
 
 use crate::bounds::bound;
-use crate::room::room_for;
 use basis_model::Part;
 use frac_core::List;
 use loss_model::Side;
 use std::alloc::Global;
 use whole_inverse::Obstacle;
-use whole_rows::WholeRow;
+use whole_rows::{WholeRow, room_for};
 use wide_int::{Wide, wide_sum};
 
 /// What all rows weigh on their sides by a part of their bounds: the totals of their entries in each column, and that of
