@@ -16,10 +16,13 @@ from pathlib import Path
 
 from ratios import WHOLE, generated
 
+MEDIAN = ["--formula", "y ~ .", "--lo", "1/2", "--hi", "1/2"]
+
 # A job on a table of 1,000 rows and 5 columns, what it shows, and the most that it may take, in millions of instructions.
 JOBS = [
-    ("process", ["process", *WHOLE], "past a step both of its rows alone are looked at, and near rows are searched for rivals", 295),
-    ("ranks", ["ranks", "--formula", "y ~ ."], "the same, and a Wilcoxon score is reduced once", 525),
+    ("process", ["process", *WHOLE], "products of 64 bits are made as such, factors that are 1 cost nothing, few rows are near", 235),
+    ("ranks", ["ranks", "--formula", "y ~ ."], "the same, and a Wilcoxon score is reduced once", 465),
+    ("at 1/2", ["process", *MEDIAN], "values whose factor is 1 are copied into whole numbers", 23),
 ]
 
 
