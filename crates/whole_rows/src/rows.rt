@@ -8,11 +8,10 @@ ghost use Rattle.scaled_model.specs.Scaled.{IsScaled};
 ghost use Rattle.whole_rows.specs.Wholes.{factor_value, factor_at, IsPositive, IsWholeRow, ArePaired, whole_sample};
 
 use crate::factor::{Factor, plain_factor, reduced_factor, whole_value};
-use crate::room::room_for;
 use frac_core::{Exact, List};
 use loss_model::{Problem, Row};
 use std::alloc::Global;
-use whole_inverse::Obstacle;
+use whole_inverse::{Obstacle, room_for};
 
 /// A row in whole numbers.
 #[derive(Drop)]

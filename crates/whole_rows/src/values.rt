@@ -7,10 +7,9 @@ ghost use Rattle.whole_inverse.specs.Shares.{share, share_at};
 ghost use Rattle.whole_rows.specs.Wholes.{factor_value, factor_at};
 
 use crate::factor::Factor;
-use crate::room::room_for;
 use frac_core::{Exact, List};
 use std::alloc::Global;
-use whole_inverse::Obstacle;
+use whole_inverse::{Obstacle, room_for};
 
 /// A numerator over a denominator.
 pub fn value_over<F: Exact>(n: i128, d: i128) -> Result<F, Obstacle>

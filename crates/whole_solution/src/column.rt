@@ -51,7 +51,25 @@ fn narrowed(number: i128) -> i64
     number as i64
 }
 
-/// The sum of the products of a row and a column whose numbers have 64 bits.
+/// The sum of the products of a row and a column of such a width, where all numbers have 64 bits. Where the width is known when this is
+/// compiled, there is no loop.
+#[inline(always)]
+fn product_of_width(row: &[i64], column: &[i128], width: usize, limit: u64) -> i64
+    requires row { length row.now ≡ width }
+    requires column { length column.now ≡ width }
+    requires small { All (λ x. unsigned_abs x ≤ limit) row.now }
+    requires bound { limit * sizes column.now < 2 ^ 63 }
+    requires fits { sizes column.now < 2 ^ 63 }
+    ensures { result ≡ total row.now column.now }
+{
+    let mut sum: i64 = 0;
+    for i in 0..width {
+        sum = grown(sum, row[i], narrowed(column[i]));
+    }
+    sum
+}
+
+/// The same of any width. The common ones have code of their own, for a loop over a few entries takes longer.
 #[inline]
 fn narrow_product(row: &[i64], column: &[i128], limit: u64) -> i64
     requires same { length row.now ≡ length column.now }
@@ -60,11 +78,16 @@ fn narrow_product(row: &[i64], column: &[i128], limit: u64) -> i64
     requires fits { sizes column.now < 2 ^ 63 }
     ensures { result ≡ total row.now column.now }
 {
-    let mut sum: i64 = 0;
-    for i in 0..row.len() {
-        sum = grown(sum, row[i], narrowed(column[i]));
+    match column.len() {
+        2 => product_of_width(row, column, 2, limit),
+        3 => product_of_width(row, column, 3, limit),
+        4 => product_of_width(row, column, 4, limit),
+        5 => product_of_width(row, column, 5, limit),
+        6 => product_of_width(row, column, 6, limit),
+        7 => product_of_width(row, column, 7, limit),
+        8 => product_of_width(row, column, 8, limit),
+        width => product_of_width(row, column, width, limit),
     }
-    sum
 }
 
 impl<'a> Column<'a> {
@@ -79,7 +102,16 @@ impl<'a> Column<'a> {
         }
     }
 
+    /// Whether all sums of products are known to have 63 bits.
+    pub fn is_narrow(&self) -> bool {
+        match self.width {
+            Width::Narrow => true,
+            _ => false,
+        }
+    }
+
     /// The numerator of the product of a row and the column, where it has 127 bits and a sign. A known width spares tests.
+    #[inline]
     pub fn product(&self, x: &[i64]) -> Option<i128>
         requires column { IsColumn self.now.numbers.now self.now.limit self.now }
         requires same { length x.now ≡ length self.now.numbers.now }

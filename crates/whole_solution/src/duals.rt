@@ -7,8 +7,7 @@ ghost use Rattle.whole_inverse.specs.Shares.{share, share_at, shares, whole_at};
 use crate::primal::product_of;
 use frac_core::List;
 use std::alloc::Global;
-use whole_inverse::{Obstacle, WholeInverse};
-use whole_rows::room_for;
+use whole_inverse::{Obstacle, WholeInverse, room_for};
 
 /// The negated numerator.
 pub fn negation(n: i128) -> Result<i128, Obstacle>

@@ -20,7 +20,6 @@ mod bounds;
 mod column;
 mod duals;
 mod halves;
-mod narrow;
 mod near;
 mod position;
 mod primal;

@@ -16,7 +16,7 @@ use frac_core::List;
 use loss_model::Side;
 use std::alloc::Global;
 use std::cmp::Ordering;
-use whole_inverse::Obstacle;
+use whole_inverse::{Obstacle, room_for};
 use wide_int::{Natural, Wide};
 
 /// The rows near an earlier fit, whose coefficients stand over its determinant, as does the reach: the residuals of all other
@@ -55,7 +55,7 @@ fn near_rows(
     ensures within { IfOk result (λ near. All (λ i. i < length residuals.now) near) }
     ensures others { IfOk result (λ near. (d : ℤ) → pos 1 ≤ℤ d → (i : ℕ) → i < length residuals.now → IsNearOrFar near (side_in sides.now i) (share (pos far) d) i (share_at d residuals.now i)) }
 {
-    let mut near = List::new(alloc);
+    let mut near = room_for(alloc, 128)?;
     for row in 0..residuals.len() as u32 {
         if !is_far_on(sides[row as usize], residuals[row as usize], far) {
             near.add(row)?;
@@ -73,7 +73,7 @@ fn near_count(rows: usize, columns: usize) -> u64 {
 }
 
 /// About so many residuals are looked at to choose a reach.
-const SAMPLE: usize = 512;
+const SAMPLE: usize = 256;
 
 /// How many residuals stand from one that is looked at to the next.
 fn stride_of(residuals: usize) -> usize
@@ -83,8 +83,10 @@ fn stride_of(residuals: usize) -> usize
 }
 
 /// The sizes of every so many residuals.
-fn sizes_of(alloc: Global, residuals: &[i128], stride: usize) -> Result<List<u128>, Obstacle> {
-    let mut sizes = List::new(alloc);
+fn sizes_of(alloc: Global, residuals: &[i128], stride: usize) -> Result<List<u128>, Obstacle>
+    requires { 1 ≤ stride }
+{
+    let mut sizes = room_for(alloc, residuals.len() / stride + 1)?;
     let mut next: usize = 0;
     for _ in 0..residuals.len() {
         if next >= residuals.len() {

@@ -10,8 +10,8 @@ ghost use Rattle.whole_rows.specs.Wholes.{of_whole, sample_of_rows};
 use frac_core::List;
 use loss_model::Basis;
 use std::alloc::Global;
-use whole_inverse::{Obstacle, WholeInverse};
-use whole_rows::{WholeRow, room_for};
+use whole_inverse::{Obstacle, WholeInverse, room_for};
+use whole_rows::WholeRow;
 use wide_int::sum_of_products;
 
 /// The numerators of a column at all positions.

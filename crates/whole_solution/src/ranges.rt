@@ -11,8 +11,8 @@ ghost use Rattle.whole_solution.specs.Ranges.{AreRanges};
 
 use frac_core::List;
 use std::alloc::Global;
-use whole_inverse::Obstacle;
-use whole_rows::{WholeRow, room_for};
+use whole_inverse::{Obstacle, room_for};
+use whole_rows::WholeRow;
 
 /// The middle of the range of each column, and half its width: the entries are no further from the middle.
 #[derive(Drop)]

@@ -15,8 +15,7 @@ use crate::signs::{perturbed_sign, side_of_number};
 use frac_core::List;
 use loss_model::Side;
 use std::alloc::Global;
-use whole_inverse::Obstacle;
-use whole_rows::room_for;
+use whole_inverse::{Obstacle, room_for};
 
 /// Whether a list of rows holds one.
 pub fn is_held(basis: &[u32], row: u32) -> bool

@@ -17,8 +17,8 @@ use basis_model::Part;
 use frac_core::List;
 use loss_model::Side;
 use std::alloc::Global;
-use whole_inverse::Obstacle;
-use whole_rows::{WholeRow, room_for};
+use whole_inverse::{Obstacle, room_for};
+use whole_rows::WholeRow;
 use wide_int::{Wide, wide_sum};
 
 /// What all rows weigh on their sides by a part of their bounds: the totals of their entries in each column, and that of

@@ -6,12 +6,12 @@ use Rattle.whole_inverse.specs.Shares.{share, share_at, whole_at}
 use Rattle.whole_inverse.proofs.Lists.{share_pushed, length_pushed}
 use Rattle.whole_rows.specs.Wholes.{of_whole}
 use Rattle.whole_solution.proofs.Reading.{product_of_row}
-use Rattle.whole_solution.proofs.products.tested_products.Goals as goal
+use Rattle.whole_solution.proofs.products.products_by.Goals as goal
 
 pub loop-i-preserved : goal.loop-i-preserved
 loop-i-preserved c =
     let rows = c.args.rows.now in
-    let column = c.args.column.now in
+    let column = c.args.column.now.numbers.now in
     let i = c.loop-i.i in
     let r = c.index-rows-i.result in
     let made = c.loop-i.made in
