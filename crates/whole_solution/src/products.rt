@@ -14,11 +14,7 @@ use whole_inverse::{Obstacle, room_for};
 use whole_rows::WholeRow;
 
 /// The numerators of the products, one row at a time.
-fn products_by(
-    alloc: Global,
-    rows: &[WholeRow],
-    column: &Column,
-) -> Result<List<i128>, Obstacle>
+fn products_by(alloc: Global, rows: &[WholeRow], column: &Column) -> Result<List<i128>, Obstacle>
     requires column { IsColumn column.now.numbers.now column.now.limit column.now }
     requires wide { All (λ r. length r.x ≡ length column.now.numbers.now) rows.now }
     requires small { All (λ r. All (λ e. unsigned_abs e ≤ column.now.limit) r.x) rows.now }
