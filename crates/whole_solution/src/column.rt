@@ -103,7 +103,7 @@ impl<'a> Column<'a> {
     }
 
     /// Whether all sums of products are known to have 63 bits.
-    pub fn is_narrow(&self) -> bool {
+    pub(crate) fn is_narrow(&self) -> bool {
         match self.width {
             Width::Narrow => true,
             _ => false,

@@ -1,6 +1,6 @@
 //! Products, sums and whole quotients.
 
-use wide_int::{Wide, sum_of_products, whole_quotient};
+use wide_int::{Divisor, Wide, narrow_product, sum_of_products, whole_quotient};
 
 // 2^126, and 2^127 - 1
 const HALF: i128 = 1 << 126;
@@ -47,6 +47,47 @@ static QUOTIENTS: [(i128, i128, i128, Option<i128>); 10] = [
 fn quotients_are_found_exactly_where_they_are_whole_and_fit(rt: HostRuntime) {
     for (a, b, divisor, wanted) in &QUOTIENTS {
         assert!(rt; whole_quotient(Wide::product(*a, *b), *divisor) == *wanted);
+    }
+}
+
+// 2^63 - 1, the greatest number of 64 bits with a sign
+const NARROW_TOP: i128 = (1 << 63) - 1;
+
+// Two factors and their product, where both have 64 bits.
+static NARROW_PRODUCTS: [(i128, i128, Option<i128>); 5] = [
+    (0, NARROW_TOP, Some(0)),
+    (-3, 5, Some(-15)),
+    (NARROW_TOP, -NARROW_TOP - 1, Some((1 << 63) - (1 << 126))),
+    (NARROW_TOP + 1, 1, None),
+    (1, -NARROW_TOP - 2, None),
+];
+
+#[test]
+fn narrow_products_are_made_exactly_of_64_bits(rt: HostRuntime) {
+    for (a, b, wanted) in &NARROW_PRODUCTS {
+        assert!(rt; narrow_product(*a, *b) == *wanted);
+    }
+}
+
+// A number, a divisor, and the quotient, where it is whole and both it and the divisor have 64 bits.
+static NARROW_QUOTIENTS: [(i128, i128, Option<i128>); 10] = [
+    (0, 7, Some(0)),
+    (210, 14, Some(15)),
+    (-210, 14, Some(-15)),
+    (-210, -14, Some(15)),
+    (210, 4, None),
+    (1 << 124, 1 << 62, Some(1 << 62)),
+    // (2^63 - 1)^2 = 2^126 - 2^64 + 1
+    ((1 << 126) - (1 << 64) + 1, -NARROW_TOP, Some(-NARROW_TOP)),
+    (-NARROW_TOP, 1, Some(-NARROW_TOP)),
+    (NARROW_TOP + 1, 1, None),
+    (1 << 64, 1 << 64, None),
+];
+
+#[test]
+fn narrow_quotients_are_found_where_they_are_whole_and_fit(rt: HostRuntime) {
+    for (n, divisor, wanted) in &NARROW_QUOTIENTS {
+        assert!(rt; Divisor::of(*divisor).narrow_quotient(*n) == *wanted);
     }
 }
 
