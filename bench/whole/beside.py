@@ -11,9 +11,8 @@ import sys
 import tempfile
 from pathlib import Path
 
+from counts import MEDIAN
 from ratios import QUARTILES, WHOLE, generated, r_seconds, spent
-
-MEDIAN = ["--formula", "y ~ .", "--lo", "1/2", "--hi", "1/2"]
 
 # Rows, columns, the words, R's quantile (-1 for all), and how many turns; R has no answer to the fourth, whose dual values would take 6 GB.
 FITS = [

@@ -20,7 +20,7 @@ MEDIAN = ["--formula", "y ~ .", "--lo", "1/2", "--hi", "1/2"]
 
 # A job on a table of 1,000 rows and 5 columns, what it shows, and the most that it may take, in millions of instructions.
 JOBS = [
-    ("process", ["process", *WHOLE], "an exchange is made in 64 bits, lists have room, and what a division leaves is found by words", 197),
+    ("process", ["process", *WHOLE], "exchanges and the products of all rows are made in 64 bits", 192),
     ("ranks", ["ranks", "--formula", "y ~ ."], "the same, and a Wilcoxon score is reduced once", 427),
     ("at 1/2", ["process", *MEDIAN], "values whose factor is 1 are copied into whole numbers", 23),
 ]
