@@ -4,9 +4,9 @@ use Rattle.exact_algebra.specs.Rational.{ℚ, ◌-ℚ◌, ◌*ℚ◌, inverse}
 use Rattle.basis_model.specs.Basis.{dual_value}
 use Rattle.pivot_rule.specs.declared.direction.Direction.{Direction}
 use Rattle.rank_walk.specs.Crossings.{parameter_of, bound_towards, IsMoving}
-use Rattle.whole_descent.specs.Station.{Station}
-use Rattle.whole_descent.specs.Stations.{model, at_of, inverse_at}
-use Rattle.whole_descent.specs.Quantiles.{IsQuantile, theta_of}
+use Rattle.whole_steps.specs.declared.station.Station.{Station}
+use Rattle.whole_steps.specs.Stations.{model, at_of, inverse_at}
+use Rattle.whole_steps.specs.Quantiles.{IsQuantile, theta_of}
 use Rattle.rank_steps.specs.declared.crossings.WholeCourse.{WholeCourse}
 use Rattle.rank_steps.specs.Ways.{way_of}
 

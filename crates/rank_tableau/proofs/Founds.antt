@@ -25,9 +25,9 @@ use Rattle.whole_rows.specs.declared.factor.Factor.{Factor}
 use Rattle.whole_rows.specs.declared.rows.WholeRow.{WholeRow}
 use Rattle.whole_rows.specs.Wholes.{factor_at, factor_value, IsPositive}
 use Rattle.whole_solution.proofs.Numbers.{share_above}
-use Rattle.whole_descent.specs.Station.{Station}
-use Rattle.whole_descent.specs.Quotient.{Quotient}
-use Rattle.whole_descent.specs.Crossings.{quotient_value}
+use Rattle.whole_steps.specs.declared.station.Station.{Station}
+use Rattle.whole_steps.specs.declared.crossings.Quotient.{Quotient}
+use Rattle.whole_steps.specs.Crossings.{quotient_value}
 use Rattle.whole_tableau.specs.Kept.{Kept, IsKept, wholes_of, place}
 use Rattle.whole_tableau.specs.Steps.{IsStationOf}
 use Rattle.whole_tableau.proofs.Stations.{rows_within, carried, mover_back}

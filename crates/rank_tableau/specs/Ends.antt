@@ -9,7 +9,7 @@ use Rattle.rank_walk.specs.Ends.{IsEndAt}
 use Rattle.tableau_model.specs.Places.{Place, at_of, sample_of}
 use Rattle.whole_rows.specs.declared.factor.Factor.{Factor}
 use Rattle.whole_rows.specs.Wholes.{factor_value}
-use Rattle.whole_descent.specs.declared.quantile.Quantile.{Quantile}
+use Rattle.whole_steps.specs.declared.quantile.Quantile.{Quantile}
 use Rattle.whole_tableau.specs.declared.reading.Reading.{Reading}
 use Rattle.whole_tableau.specs.Kept.{Kept}
 use Rattle.rank_steps.specs.Ways.{way_of}

@@ -15,10 +15,10 @@ use Rattle.tableau_model.specs.Places.{Place, at_of, sample_of}
 use Rattle.fraction_tableau.specs.declared.crossings.Breakpoint.{Breakpoint}
 use Rattle.fraction_tableau.specs.Crossings.{IsFirst}
 use Rattle.whole_inverse.specs.Shares.{share}
-use Rattle.whole_descent.specs.Station.{Station}
-use Rattle.whole_descent.specs.Quotient.{Quotient}
-use Rattle.whole_descent.specs.Stations.{model, at_of as rows_at, inverse_at}
-use Rattle.whole_descent.specs.Crossings.{quotient_value}
+use Rattle.whole_steps.specs.declared.station.Station.{Station}
+use Rattle.whole_steps.specs.declared.crossings.Quotient.{Quotient}
+use Rattle.whole_steps.specs.Stations.{model, at_of as rows_at, inverse_at}
+use Rattle.whole_steps.specs.Crossings.{quotient_value}
 use Rattle.whole_rows.specs.Wholes.{factor_at, factor_value}
 use Rattle.whole_tableau.specs.Kept.{Kept}
 use Rattle.rank_steps.specs.Ways.{way_of}

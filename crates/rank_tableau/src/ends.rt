@@ -3,16 +3,16 @@ ghost use Rattle.std.specs.Prelude.{◌≡◌, ◌<◌, IfOk};
 ghost use Rattle.exact_algebra.specs.Fraction.{rational};
 ghost use Rattle.exact_algebra.specs.Rational.{◌*ℚ◌};
 ghost use Rattle.whole_rows.specs.Wholes.{factor_at, factor_value, IsPositive};
-ghost use Rattle.whole_descent.specs.Quantiles.{IsQuantile, theta_of};
+ghost use Rattle.whole_steps.specs.Quantiles.{IsQuantile, theta_of};
 ghost use Rattle.whole_tableau.specs.Kept.{IsKept, place};
 ghost use Rattle.rank_tableau.specs.Ends.{IsWeighing, weighed_value, AreWeighed};
 
 use crate::course::Course;
 use crate::numbers::{dual_number, scale_number, speed_number};
 use frac_core::{Exact, List};
-use whole_descent::Quantile;
 use whole_inverse::Obstacle;
 use whole_rows::{Factor, value_over};
+use whole_steps::Quantile;
 use whole_tableau::{Reading, WholeTableau};
 use wide_int::{Divisor, Wide};
 

@@ -15,9 +15,9 @@ use frac_core::Exact;
 use fraction_tableau::Breakpoint;
 use loss_model::Exchange;
 use rank_steps::{WholeCourse, entering_row, first_crossing};
-use whole_descent::{Quantile, Quotient, Station};
 use whole_inverse::Obstacle;
 use whole_rows::Factor;
+use whole_steps::{Quantile, Quotient, Station};
 use whole_tableau::WholeTableau;
 
 /// What is found at a basis: the walking step; or the next breakpoint, where that is beyond the bound, or where no row moves

@@ -3,12 +3,12 @@ ghost use Rattle.std.specs.Prelude.{◌≡◌, ◌<◌, ◌*ℤ◌, ◌≤ℤ◌
 ghost use Rattle.basis_model.specs.Basis.{dual_value};
 ghost use Rattle.whole_inverse.specs.Shares.{share};
 ghost use Rattle.whole_inverse.specs.Squares.{inverse_of};
-ghost use Rattle.whole_descent.specs.Quantiles.{IsQuantile, theta_of};
+ghost use Rattle.whole_steps.specs.Quantiles.{IsQuantile, theta_of};
 ghost use Rattle.whole_tableau.specs.Kept.{IsKept, wholes_of};
 
 use frac_core::Exact;
-use whole_descent::Quantile;
 use whole_inverse::Obstacle;
+use whole_steps::Quantile;
 use whole_tableau::WholeTableau;
 
 /// The product, where it has 127 bits.

@@ -5,7 +5,7 @@ ghost use Rattle.std.specs.Ordering.{nat_cmp, is_gt};
 use frac_core::OutOfMemory;
 use natural::Natural;
 use std::alloc::Global;
-use whole_descent::Quotient;
+use whole_steps::Quotient;
 
 /// The bound `over / under` of a square, in numbers of any size.
 #[derive(Drop)]

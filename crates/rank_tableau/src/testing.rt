@@ -18,9 +18,9 @@ use crate::reach::Square;
 use frac_core::{Exact, List};
 use gram_check::{Factors, factor_values, factors_of, length_of};
 use std::alloc::Global;
-use whole_descent::Quantile;
 use whole_inverse::Obstacle;
 use whole_rows::Factor;
+use whole_steps::Quantile;
 use whole_tableau::WholeTableau;
 
 /// The factors of the problem's columns, where none of them is too wide, and the bound of the square for the whole rows.

@@ -18,7 +18,7 @@ use Rattle.fraction_tableau.proofs.Soonest.{IsCrossingTowards as IsTowards}
 use Rattle.whole_inverse.specs.Shares.{share}
 use Rattle.whole_solution.proofs.Numbers.{share-neg}
 use Rattle.whole_inverse.proofs.Turned.{share-quotient}
-use Rattle.whole_ratio.proofs.Signs.{below_true, below_false}
+use Rattle.whole_steps.proofs.Signs.{below_true, below_false}
 use Rattle.whole_steps.specs.declared.station.Station.{Station}
 use Rattle.whole_steps.specs.declared.crossings.Quotient.{Quotient}
 use Rattle.whole_steps.specs.Stations.{model, at_of, inverse_at, over_of, slope_at}

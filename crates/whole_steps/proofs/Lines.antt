@@ -13,10 +13,10 @@ use Rattle.whole_solution.specs.declared.basis.WholeBasis.{WholeBasis}
 use Rattle.whole_solution.specs.declared.near.Near.{Near}
 use Rattle.whole_solution.specs.Far.{AreOthersFar, IsNear}
 use Rattle.whole_solution.specs.Standing.{side_in}
-use Rattle.whole_ratio.specs.declared.line.Line.{Line}
-use Rattle.whole_ratio.specs.declared.near_line.NearLine.{NearLine}
-use Rattle.whole_ratio.specs.declared.full_line.FullLine.{FullLine}
-use Rattle.whole_ratio.specs.Lines.{is_moving, IsFullLine, IsNearLine}
+use Rattle.whole_steps.specs.declared.line.Line.{Line}
+use Rattle.whole_steps.specs.declared.near_line.NearLine.{NearLine}
+use Rattle.whole_steps.specs.declared.full_line.FullLine.{FullLine}
+use Rattle.whole_steps.specs.Lines.{is_moving, IsFullLine, IsNearLine}
 use Rattle.whole_steps.specs.declared.station.Station.{Station}
 use Rattle.whole_steps.specs.Stations.{model, at_of, inverse_at, IsStation}
 use Rattle.whole_steps.specs.declared.entering.RowNumbers.{RowNumbers}

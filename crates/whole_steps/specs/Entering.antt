@@ -4,8 +4,8 @@ use Rattle.loss_model.specs.Sample.{residual}
 use Rattle.basis_model.specs.Basis.{coord, coefficient}
 use Rattle.pivot_rule.specs.declared.direction.Direction.{Direction}
 use Rattle.whole_inverse.specs.Shares.{share_at}
-use Rattle.whole_ratio.specs.declared.line.Line.{Line}
-use Rattle.whole_ratio.specs.Lines.{IsLine}
+use Rattle.whole_steps.specs.declared.line.Line.{Line}
+use Rattle.whole_steps.specs.Lines.{IsLine}
 use Rattle.whole_steps.specs.declared.station.Station.{Station}
 use Rattle.whole_steps.specs.declared.entering.RowNumbers.{RowNumbers}
 use Rattle.whole_steps.specs.Stations.{model, at_of, inverse_at, over_of}

@@ -4,16 +4,18 @@
 ghost use Rattle.std.specs.Prelude.{◌≡◌, ℕ, ◌<◌, length, true, IfOk, IfSome};
 ghost use Rattle.pivot_rule.specs.Steps.{moves};
 ghost use Rattle.walk_rule.specs.Walks.{IsFirstMover};
-ghost use Rattle.whole_ratio.specs.Lines.{IsFullLine};
+ghost use Rattle.whole_steps.specs.Lines.{IsFullLine};
 ghost use Rattle.whole_steps.specs.Stations.{IsStation, model, at_of, inverse_at};
 ghost use Rattle.whole_steps.specs.Entering.{IsLineOf, AreRowNumbers};
 
+use crate::full_line::FullLine;
+use crate::line::Line;
+use crate::near_line::NearLine;
 use crate::station::Station;
 use frac_core::List;
 use pivot_rule::Direction;
 use std::alloc::Global;
 use whole_inverse::Obstacle;
-use whole_ratio::{FullLine, Line, NearLine};
 use whole_solution::row_products;
 
 /// The numerators of the residuals of all rows, and of their coordinates at a position that leaves.

@@ -1,7 +1,7 @@
 -- By the cross products.
 use Rattle.std.specs.Ordering.{is_lt, nat_cmp}
 use Rattle.std.proofs.Common.{sym, ap, ap₂, ◌∙◌}
-use Rattle.whole_ratio.proofs.Signs.{cross_compare}
+use Rattle.whole_steps.proofs.Signs.{cross_compare}
 use Rattle.whole_steps.proofs.crossings.is_before.Goals as goal
 
 pub returns : goal.returns

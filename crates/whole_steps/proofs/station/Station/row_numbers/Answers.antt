@@ -1,5 +1,5 @@
 -- Both lists have the numbers of the station.
-use Rattle.whole_ratio.proofs.Coordinates.{coordinates_by}
+use Rattle.whole_steps.proofs.Coordinates.{coordinates_by}
 use Rattle.whole_steps.specs.Stations.{over_of}
 use Rattle.whole_steps.proofs.station.Station.row_numbers.Goals as goal
 

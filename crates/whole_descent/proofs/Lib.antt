@@ -1,4 +1,0 @@
-pub mod Scales
-pub mod Slopes
-pub mod Passed
-pub use Rattle.whole_steps.proofs.Crossed

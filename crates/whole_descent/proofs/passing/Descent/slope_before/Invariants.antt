@@ -1,9 +1,0 @@
-use Rattle.std.proofs.Common.{◌≡◌}
-use Rattle.exact_algebra.specs.Fraction.{rational}
-use Rattle.exact_algebra.specs.Rational.{◌+ℚ◌}
-use Rattle.exact_algebra.specs.RationalSums.{sum_ℚ}
-use Rattle.whole_descent.specs.Passing.{number_value, first_slope, passed_by}
-use Rattle.whole_descent.proofs.passing.Descent.slope_before.Given as goal
-
-abbrev pub invariant-loop-row : goal.invariant-loop-row
-invariant-loop-row l = rational (number_value l.self l.slope) ≡ first_slope l.self +ℚ sum_ℚ l.row (passed_by l.self l.target.row)

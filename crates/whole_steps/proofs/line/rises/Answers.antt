@@ -1,0 +1,17 @@
+-- The other way round.
+use Rattle.std.proofs.Common.{rules, ◌≡◌, pos, to_z, of_z, sym, ap, ◌∙◌}
+use mir.Syntax.{w128}
+use Rattle.std.specs.Ordering.{is_gt}
+use Rattle.exact_algebra.specs.Rational.{whole}
+use Rattle.exact_algebra.specs.Order.{cmp_ℚ}
+use Rattle.whole_inverse.specs.Shares.{share}
+use Rattle.whole_steps.specs.Lines.{turned_by}
+use Rattle.whole_steps.proofs.Signs.{rises_by}
+use Rattle.whole_steps.proofs.line.rises.Goals as goal
+
+pub returns-in-Downward : goal.returns-in-Downward
+returns-in-Downward c =
+    let n = c.args.coord in
+    let plain : to_z w128 (of_z w128 n) ≡ n = search rules in
+    let test = rw (plain) at c.is_below.ensures in
+    λ d h. test d h ∙ rises_by (share n d) ∙ ap (λ direction. is_gt (cmp_ℚ (turned_by direction (share n d)) (whole (pos 0)))) (sym c.in-Downward.is)

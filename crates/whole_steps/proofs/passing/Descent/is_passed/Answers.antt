@@ -1,0 +1,17 @@
+-- A row isn't passed before itself.
+use Rattle.std.proofs.Common.{rules, ◌≡◌, ◌&&◌, true, false, sym, ap, ap₂, subst, ◌∙◌}
+use Rattle.whole_steps.specs.Lines.{IsMover, IsMoverAt, is_moving, comes_before}
+use Rattle.whole_steps.proofs.Passed.{not_itself}
+use Rattle.whole_steps.proofs.passing.Descent.is_passed.Goals as goal
+
+pub returns-then-mover-target : goal.returns-then-mover-target
+returns-then-mover-target c =
+    let d = c.args.self.now in
+    let l = d.full.line in
+    let row = c.args.row in
+    let mover = c.in-Some.mover in
+    let made : IsMover l mover × (mover.row ≡ row) = subst (IsMoverAt l row) c.in-Some.is c.mover_at.ensures in
+    let same : mover.row ≡ c.args.target.row = search rules in
+    let moving : is_moving l row ≡ true = subst (λ i. is_moving l i ≡ true) made.1 made.0.moves in
+    let before : comes_before l row c.args.target.row ≡ false = ap (comes_before l row) (sym same ∙ made.1) ∙ not_itself d c.requires.descent row in
+    sym (ap₂ (λ m b. m && b) moving before)
