@@ -37,38 +37,13 @@ module _ (same : SameContent) (bytes : List ℕ) (cert : Cert) (back : IsCertOf 
   same_cert other h = same other cert (cc (sym h ∙ back))
 
   pub one_report : (report : Report) → IsRight jobs.Check bytes report → report ≡ reports.Checked cert
-  one_report (reports.Process found) h = absurd h
-  one_report (reports.Ranks ranks) h = absurd h
-  one_report (reports.Certificate other) h = absurd h
   one_report (reports.Checked other) h = ap (λ c. reports.Checked c) (same_cert other h.is)
-  one_report (reports.Sample found) h = absurd h
-  one_report (reports.Predict found) h = absurd h
-  one_report (reports.Test found) h = absurd h
-  one_report (reports.Path found) h = absurd h
+  one_report report h = absurd h
 
   pub undecided : (halt : Halt) → HasCause jobs.Check bytes halt → IsUndecided halt
   undecided (Refused (refusals.Certificate fault)) h = absurd (cc (sym h.1 ∙ back))
-  undecided (Refused (refusals.CertTooLong n)) h = absurd h
-  undecided (Refused (refusals.Dependent combination)) h = absurd h
-  undecided (Refused refusals.TooLong) h = absurd h
-  undecided (Refused (refusals.Table fault)) h = absurd h
-  undecided (Refused (refusals.Formula fault)) h = absurd h
-  undecided (Refused refusals.RankWithPenalty) h = absurd h
-  undecided (Refused refusals.SmoothNotTaken) h = absurd h
-  undecided (Refused (refusals.Design fault)) h = absurd h
-  undecided (Refused (refusals.Penalty fault)) h = absurd h
-  undecided (Refused (refusals.Program fault)) h = absurd h
-  undecided (Refused refusals.NothingToPredict) h = absurd h
-  undecided (Refused (refusals.NoSuchColumn number)) h = absurd h
-  undecided (Refused refusals.AllTested) h = absurd h
-  undecided (Refused (refusals.TooManyPredictions found)) h = absurd h
   undecided OutOfMemory h = tt
-  undecided (PivotLimit place limit trail) h = absurd h
-  undecided (Overflow places.Process trail spill) h = absurd h
-  undecided (Overflow (places.Interval column tau) trail spill) h = absurd h
   undecided (Overflow places.Check trail spill) h = absurd (h.1.untrue (subst (λ (c : Cert). AreTrue (tests c)) (sym (same_cert h.1.cert h.1.is)) sound))
-  undecided (Overflow places.Full trail spill) h = absurd h
-  undecided (Overflow (places.Predict rec) trail spill) h = absurd h
-  undecided (Overflow places.Path trail spill) h = absurd h
   undecided (Rejected rejection) h =
       absurd (none_false (tests cert) rejection sound (subst (λ (c : Cert). IsFirstFalse (tests c) rejection) (same_cert h.cert h.is) h.first))
+  undecided halt h = absurd h

@@ -13,7 +13,7 @@ use Rattle.report_text.specs.declared.report.Report.{Report}
 use Rattle.report_text.specs.declared.report.Report.TheVariants as reports
 use Rattle.rq_input.specs.Inputs.{IsInput}
 use Rattle.rq_input.specs.declared.input.Input.{Input}
-use Rattle.rq_fit.specs.Fit.{IsRightFit, IsFitOf}
+use Rattle.rq_engine.specs.Fit.{IsRightFit, IsFitOf}
 use Rattle.rq_engine.specs.Answers.{IsRight}
 use Rattle.rq_cli.specs.Outcomes.{IsAnswered, Stream, WereRead}
 use Rattle.fit_reports.specs.Reports.{AskedFit, asked_fit, OnFit, IsReadFit}

@@ -19,7 +19,7 @@ use Rattle.real_laws.specs.OrderedRings.{OrderedRing}
 use Rattle.real_laws.specs.Laws.{MinimumIsUniqueIn, UniqueBetweenIn}
 use Rattle.report_text.specs.ReportText.{value}
 use Rattle.report_text.specs.declared.report.Fit.{Fit}
-use Rattle.rq_fit.specs.Fit.{IsRightSegment}
+use Rattle.rq_engine.specs.Fit.{IsRightSegment}
 use Rattle.rq_cli.specs.Outcomes.{Stream}
 use Rattle.fit_reports.specs.Reports.{printed, IsReadFit}
 use Rattle.fit_reports.specs.OnlyFits.{AreInside, AreInsideBetween, IsOnlyBy}

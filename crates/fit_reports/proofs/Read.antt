@@ -23,7 +23,7 @@ use Rattle.quantile_laws.specs.Monotonicity.{LeastLossIsContinuous, LossIsLine, 
 use Rattle.rq_words.specs.declared.job.FitJob.{FitJob}
 use Rattle.report_text.specs.ReportText.{value}
 use Rattle.report_text.specs.declared.report.Fit.{Fit}
-use Rattle.rq_fit.specs.Fit.{IsRightSegment, IsRightFit, mixed_dual}
+use Rattle.rq_engine.specs.Fit.{IsRightSegment, IsRightFit, mixed_dual}
 use Rattle.rq_cli.specs.Outcomes.{Stream}
 use Rattle.fit_reports.specs.Reports.{printed, IsReadFit}
 use Rattle.fit_reports.specs.ReadFits.{IsSplitSegment, CentroidRises, AreConcaveLosses, IsReadOff, lo_at, hi_at, loss_lo_at, loss_hi_at}

@@ -16,7 +16,7 @@ use Rattle.report_text.specs.ReportText.{value}
 use Rattle.report_text.specs.declared.report.Report.{Report}
 use Rattle.report_text.specs.declared.report.Report.TheVariants as reports
 use Rattle.rq_input.specs.declared.input.Input.{Input}
-use Rattle.rq_fit.specs.Fit.{IsRightSegment}
+use Rattle.rq_engine.specs.Fit.{IsRightSegment}
 use Rattle.rq_engine.specs.Answers.{IsRight, IsCertified}
 use Rattle.rq_engine.specs.Checks.{IsCheckedOf}
 use Rattle.rq_cli.specs.Outcomes.{IsAnswered, Stream}

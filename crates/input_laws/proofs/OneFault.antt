@@ -162,21 +162,10 @@ data IsOfModel (job : FitJob) (table : Table) (model : Formula) (refusal : Refus
 
 module _ (job : FitJob) (table : Table) (model : Formula) where
   of_model : (refusal : Refusal) → HasModelCause job table model (Refused refusal) → IsOfModel job table model refusal
-  of_model refusals.TooLong h = absurd h
-  of_model (refusals.Table f) h = absurd h
-  of_model (refusals.Formula f) h = absurd h
-  of_model refusals.RankWithPenalty h = absurd h
   of_model (refusals.Design f) h = of_design f h.0 h.1 refl
   of_model (refusals.Penalty f) h = of_penalty f h refl
   of_model (refusals.Program f) h = of_program f h refl
-  of_model refusals.SmoothNotTaken h = absurd h
-  of_model refusals.NothingToPredict h = absurd h
-  of_model (refusals.NoSuchColumn number) h = absurd h
-  of_model refusals.AllTested h = absurd h
-  of_model (refusals.TooManyPredictions found) h = absurd h
-  of_model (refusals.Dependent combination) h = absurd h
-  of_model (refusals.CertTooLong n) h = absurd h
-  of_model (refusals.Certificate f) h = absurd h
+  of_model refusal h = absurd h
 
   designed : (design : Design) → IsDesigned job table model design → (f : DesignFault) → f ≢ designs.OutOfMemory → HasDesignCause table model job.coding job.weights f → ⊥
   designed design is f named h = no_design_fault table model job.coding job.weights design is f named h

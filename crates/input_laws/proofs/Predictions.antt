@@ -54,18 +54,7 @@ module _ (table : Table) (model : Formula) (coding : Coding) where
       let lacks = h.2 in
       let row = zip_item (IsPredictRow table model coding (kept_in design)) (predicted table model) rows lacks.number lacks.rec are.each lacks.there in
       no_row_fault (kept_in design) lacks.rec row.0 fault row.1 lacks.named lacks.cause
-  no_records_fault design rows are refusals.TooLong h = h
-  no_records_fault design rows are (refusals.Table fault) h = h
-  no_records_fault design rows are (refusals.Formula fault) h = h
-  no_records_fault design rows are refusals.RankWithPenalty h = h
-  no_records_fault design rows are refusals.SmoothNotTaken h = h
-  no_records_fault design rows are (refusals.NoSuchColumn number) h = h
-  no_records_fault design rows are refusals.AllTested h = h
-  no_records_fault design rows are (refusals.Penalty fault) h = h
-  no_records_fault design rows are (refusals.Program fault) h = h
-  no_records_fault design rows are (refusals.Dependent combination) h = h
-  no_records_fault design rows are (refusals.CertTooLong n) h = h
-  no_records_fault design rows are (refusals.Certificate fault) h = h
+  no_records_fault design rows are refusal h = h
 
 -- ---- the bytes
 

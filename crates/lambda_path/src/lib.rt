@@ -8,7 +8,7 @@
 //! and on `pivot_rule` for what lawful costs are.
 //! Its cases stand in `layer_cases`.
 //!
-//! `rq_fit` calls it so:
+//! `rq_engine` calls it so:
 //! ```text
 //! let problem = match path_problem(alloc, &input.problem, first, job.tau) {
 //!     Ok(problem) => problem,

@@ -7,7 +7,7 @@
 //! columns, and on `ratio`.
 //! Its cases stand in `layer_cases`.
 //!
-//! `rq_fit` calls it so, with the Wilcoxon scores of the process of the restricted problem between:
+//! `rq_engine` calls it so, with the Wilcoxon scores of the process of the restricted problem between:
 //! ```text
 //! let problem = match restricted(alloc, full, job.tested.as_slice()) {
 //!     Ok(problem) => problem,

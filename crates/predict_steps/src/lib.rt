@@ -7,7 +7,7 @@
 //! rearrangement. It stands on `loss_model`, whose processes are predicted from, and on `ratio`.
 //! Its cases stand in `layer_cases`.
 //!
-//! `rq_fit` calls it so:
+//! `rq_engine` calls it so:
 //! ```text
 //! let steps = steps(alloc, process, row.x.as_slice(), row.offsets.as_slice(), rec)?;
 //! let rearranged = rearrange(alloc, steps.as_slice())?;

@@ -17,7 +17,7 @@
 //! for the walks in whole numbers and on the basis of `fraction_tableau` for those in fractions, on the laws of
 //! `rank_walk`, and on `rq_fan` for its jobs.
 //!
-//! `rq_fit` calls it so:
+//! `rq_engine` calls it so:
 //! ```text
 //! let asks = RankAsks {
 //!     crit: rank.crit,

@@ -6,7 +6,7 @@
 //! fractions of any size. The laws say that scores are bounded, and that Wilcoxon scores balance. It
 //! stands on `loss_model`, whose dual values are scored, and on `ratio`.
 //!
-//! `rq_fit` calls it so:
+//! `rq_engine` calls it so:
 //! ```text
 //! let pairs = scores(alloc, problem, data_rows, segment, number as u32)?;
 //!

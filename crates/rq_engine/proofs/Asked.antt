@@ -20,7 +20,7 @@ use Rattle.rq_words.proofs.Samples.{words_sample}
 use Rattle.rq_words.proofs.ShortWords.{process_formula, ranks_formula, certify_formula, path_formula, predict_formula, test_formula}
 use Rattle.rq_words.proofs.TestedColumns.{test_ascending}
 use Rattle.report_text.specs.ReportText.{value}
-use Rattle.rq_fit.specs.Asks.{IsFitAsk, IsInner, IsPathAsk, IsRankAskOf, IsTestAsk, IsUnitAsk}
+use Rattle.rq_engine.specs.Asks.{IsFitAsk, IsInner, IsPathAsk, IsRankAskOf, IsTestAsk, IsUnitAsk}
 use Rattle.rq_engine.specs.Jobs.{IsJobOf, sample_fit}
 use Rattle.rq_engine.specs.SampleAsks.{IsSampleAsk}
 

@@ -9,7 +9,7 @@ use Rattle.rq_words.specs.declared.job.FitJob.{FitJob}
 use Rattle.rq_input.specs.Inputs.{HasInputCause, IsInput}
 use Rattle.rq_input.specs.Rows.{HasRows}
 use Rattle.rq_input.specs.declared.input.Input.{Input}
-use Rattle.rq_fit.specs.Stops.{HasProblemCause}
+use Rattle.rq_engine.specs.Stops.{HasProblemCause}
 use Rattle.rq_engine.specs.Answers.{HasFitCause}
 
 -- a halt by another name
@@ -20,44 +20,19 @@ halt_along (Err halt) P Q h f = f halt h
 -- why there is no input is why there is no fit
 pub input_cause : (job : FitJob) (ranked : Bool) (bytes : List ℕ) (halt : Halt) → HasInputCause job ranked bytes halt → HasFitCause job ranked bytes halt
 input_cause job ranked bytes (Refused (Dependent combination)) h = absurd h.2.cause
-input_cause job ranked bytes (Refused TooLong) h = h
-input_cause job ranked bytes (Refused (refusals.Table fault)) h = h
-input_cause job ranked bytes (Refused (refusals.Formula fault)) h = h
-input_cause job ranked bytes (Refused refusals.RankWithPenalty) h = h
-input_cause job ranked bytes (Refused refusals.SmoothNotTaken) h = h
-input_cause job ranked bytes (Refused (refusals.Design fault)) h = h
-input_cause job ranked bytes (Refused (refusals.Penalty fault)) h = h
-input_cause job ranked bytes (Refused (refusals.Program fault)) h = h
-input_cause job ranked bytes (Refused refusals.NothingToPredict) h = h
-input_cause job ranked bytes (Refused (refusals.NoSuchColumn number)) h = h
-input_cause job ranked bytes (Refused refusals.AllTested) h = h
-input_cause job ranked bytes (Refused (refusals.TooManyPredictions found)) h = h
 input_cause job ranked bytes (Refused (refusals.CertTooLong long)) h = absurd h.2.cause
 input_cause job ranked bytes (Refused (refusals.Certificate fault)) h = absurd h.2.cause
-input_cause job ranked bytes OutOfMemory h = h
 input_cause job ranked bytes (PivotLimit place limit trail) h = absurd h.2.cause
 input_cause job ranked bytes (Overflow place trail spill) h = absurd h.2.cause
 input_cause job ranked bytes (Rejected rejection) h = absurd h.2.cause
+input_cause job ranked bytes halt h = h
 
 -- and so is why the problem of an input has no fit
 pub problem_cause : (job : FitJob) (ranked : Bool) (bytes : List ℕ) (input : Input) → IsInput job ranked bytes input → HasRows input → (halt : Halt) → HasProblemCause job (length input.design.rows) input.problem halt
     → HasFitCause job ranked bytes halt
 problem_cause job ranked bytes input is rows (Refused (Dependent combination)) h = record { input = input; is = is; rows = rows; cause = h }
 problem_cause job ranked bytes input is rows (Refused TooLong) h = h
-problem_cause job ranked bytes input is rows (Refused (refusals.Table fault)) h = absurd h
-problem_cause job ranked bytes input is rows (Refused (refusals.Formula fault)) h = absurd h
-problem_cause job ranked bytes input is rows (Refused refusals.RankWithPenalty) h = absurd h
-problem_cause job ranked bytes input is rows (Refused refusals.SmoothNotTaken) h = absurd h
-problem_cause job ranked bytes input is rows (Refused (refusals.Design fault)) h = absurd h
-problem_cause job ranked bytes input is rows (Refused (refusals.Penalty fault)) h = absurd h
-problem_cause job ranked bytes input is rows (Refused (refusals.Program fault)) h = absurd h
-problem_cause job ranked bytes input is rows (Refused refusals.NothingToPredict) h = absurd h
-problem_cause job ranked bytes input is rows (Refused (refusals.NoSuchColumn number)) h = absurd h
-problem_cause job ranked bytes input is rows (Refused refusals.AllTested) h = absurd h
-problem_cause job ranked bytes input is rows (Refused (refusals.TooManyPredictions found)) h = absurd h
-problem_cause job ranked bytes input is rows (Refused (refusals.CertTooLong long)) h = absurd h
-problem_cause job ranked bytes input is rows (Refused (refusals.Certificate fault)) h = absurd h
 problem_cause job ranked bytes input is rows OutOfMemory h = tt
 problem_cause job ranked bytes input is rows (PivotLimit place limit trail) h = record { input = input; is = is; rows = rows; cause = h }
 problem_cause job ranked bytes input is rows (Overflow place trail spill) h = record { input = input; is = is; rows = rows; cause = h }
-problem_cause job ranked bytes input is rows (Rejected rejection) h = absurd h
+problem_cause job ranked bytes input is rows halt h = absurd h

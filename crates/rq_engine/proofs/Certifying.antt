@@ -23,7 +23,7 @@ use Rattle.rank_walk.specs.Ends.{IsEndAt, IsHandedOut}
 use Rattle.rank_walk.specs.Intervals.{stated, statement, bound_by, IsIntervalOf}
 use Rattle.rank_walk.proofs.Intervals.{stated_each}
 use Rattle.rank_walk.specs.RankWalks.{Way, rise, fall}
-use Rattle.rq_fit.specs.Asked.{Asked}
+use Rattle.rank_inversion.specs.declared.column_test.Asked.{Asked}
 use Rattle.cert_text.specs.Kept.{is_finite, is_outside, IsKeptEnd, IsKeptInterval, IsKeptSegment}
 use Rattle.cert_text.specs.declared.cert.Cert.{Cert}
 use Rattle.rq_words.specs.declared.job.FitJob.{FitJob}
@@ -35,10 +35,10 @@ use Rattle.report_text.specs.declared.report.Halt.TheVariants.{Refused, OutOfMem
 use Rattle.rq_input.specs.Inputs.{HasInputCause, IsInput}
 use Rattle.rq_input.specs.declared.input.Input.{Input}
 use Rattle.rq_input.specs.Rows.{HasRows}
-use Rattle.rq_fit.specs.Fit.{IsRightFit}
-use Rattle.rq_fit.specs.Intervals.{AreRightIntervals, asked_by}
-use Rattle.rq_fit.specs.Stops.{HasProblemCause}
-use Rattle.rq_fit.proofs.Fits.{process_scorable}
+use Rattle.rq_engine.specs.Fit.{IsRightFit}
+use Rattle.rq_engine.specs.Intervals.{AreRightIntervals, asked_by}
+use Rattle.rq_engine.specs.Stops.{HasProblemCause}
+use Rattle.rq_engine.proofs.Fits.{process_scorable}
 use Rattle.rq_engine.specs.Answers.{HasCertifyCause, HasFitCause, IsCertified}
 use Rattle.rq_engine.specs.Certifying.{HasCertifiedCause, IsKept, IsLengthHalt}
 use Rattle.rq_engine.proofs.Causes.{input_cause, problem_cause}
@@ -124,24 +124,7 @@ fit_ended job fit right = intervals_kept value fit.problem job.limit right.shape
 
 certify_cause : (job : FitJob) (bytes : List ℕ) (halt : Halt) → HasFitCause job (is_some job.rank) bytes halt → HasCertifyCause job bytes halt
 certify_cause job bytes (Refused (refusals.CertTooLong n)) h = absurd h.2.cause
-certify_cause job bytes (Refused (refusals.Certificate fault)) h = h
-certify_cause job bytes (Refused (refusals.Dependent combination)) h = h
-certify_cause job bytes (Refused refusals.TooLong) h = h
-certify_cause job bytes (Refused (refusals.Table fault)) h = h
-certify_cause job bytes (Refused (refusals.Formula fault)) h = h
-certify_cause job bytes (Refused refusals.RankWithPenalty) h = h
-certify_cause job bytes (Refused refusals.SmoothNotTaken) h = h
-certify_cause job bytes (Refused (refusals.Design fault)) h = h
-certify_cause job bytes (Refused (refusals.Penalty fault)) h = h
-certify_cause job bytes (Refused (refusals.Program fault)) h = h
-certify_cause job bytes (Refused refusals.NothingToPredict) h = h
-certify_cause job bytes (Refused (refusals.NoSuchColumn number)) h = h
-certify_cause job bytes (Refused refusals.AllTested) h = h
-certify_cause job bytes (Refused (refusals.TooManyPredictions found)) h = h
-certify_cause job bytes OutOfMemory h = h
-certify_cause job bytes (PivotLimit place limit trail) h = h
-certify_cause job bytes (Overflow place trail spill) h = h
-certify_cause job bytes (Rejected rejection) h = h
+certify_cause job bytes halt h = h
 
 -- why there is no input is why there is no certificate
 pub input_certify : (job : FitJob) (bytes : List ℕ) (halt : Halt) → HasInputCause job (is_some job.rank) bytes halt → HasCertifyCause job bytes halt
@@ -150,46 +133,13 @@ input_certify job bytes halt h = certify_cause job bytes halt (input_cause job (
 -- why a problem has no fit is why its input has no certificate
 pub problem_certified : (job : FitJob) (input : Input) (halt : Halt) → HasProblemCause job (length input.design.rows) input.problem halt → HasCertifiedCause job input halt
 problem_certified job input (Refused (refusals.CertTooLong n)) h = absurd h
-problem_certified job input (Refused (refusals.Certificate fault)) h = h
-problem_certified job input (Refused (refusals.Dependent combination)) h = h
-problem_certified job input (Refused refusals.TooLong) h = h
-problem_certified job input (Refused (refusals.Table fault)) h = h
-problem_certified job input (Refused (refusals.Formula fault)) h = h
-problem_certified job input (Refused refusals.RankWithPenalty) h = h
-problem_certified job input (Refused refusals.SmoothNotTaken) h = h
-problem_certified job input (Refused (refusals.Design fault)) h = h
-problem_certified job input (Refused (refusals.Penalty fault)) h = h
-problem_certified job input (Refused (refusals.Program fault)) h = h
-problem_certified job input (Refused refusals.NothingToPredict) h = h
-problem_certified job input (Refused (refusals.NoSuchColumn number)) h = h
-problem_certified job input (Refused refusals.AllTested) h = h
-problem_certified job input (Refused (refusals.TooManyPredictions found)) h = h
-problem_certified job input OutOfMemory h = h
-problem_certified job input (PivotLimit place limit trail) h = h
-problem_certified job input (Overflow place trail spill) h = h
-problem_certified job input (Rejected rejection) h = h
+problem_certified job input halt h = h
 
 -- so is a certificate that is too long
 pub length_certified : (job : FitJob) (input : Input) (cert : Cert) → IsCertified job input cert → (halt : Halt) → IsLengthHalt cert halt → HasCertifiedCause job input halt
 length_certified job input cert is (Refused (refusals.CertTooLong n)) h = (cert, is, h)
-length_certified job input cert is (Refused (refusals.Certificate fault)) h = absurd h
-length_certified job input cert is (Refused (refusals.Dependent combination)) h = absurd h
-length_certified job input cert is (Refused refusals.TooLong) h = absurd h
-length_certified job input cert is (Refused (refusals.Table fault)) h = absurd h
-length_certified job input cert is (Refused (refusals.Formula fault)) h = absurd h
-length_certified job input cert is (Refused refusals.RankWithPenalty) h = absurd h
-length_certified job input cert is (Refused refusals.SmoothNotTaken) h = absurd h
-length_certified job input cert is (Refused (refusals.Design fault)) h = absurd h
-length_certified job input cert is (Refused (refusals.Penalty fault)) h = absurd h
-length_certified job input cert is (Refused (refusals.Program fault)) h = absurd h
-length_certified job input cert is (Refused refusals.NothingToPredict) h = absurd h
-length_certified job input cert is (Refused (refusals.NoSuchColumn number)) h = absurd h
-length_certified job input cert is (Refused refusals.AllTested) h = absurd h
-length_certified job input cert is (Refused (refusals.TooManyPredictions found)) h = absurd h
 length_certified job input cert is OutOfMemory h = tt
-length_certified job input cert is (PivotLimit place limit trail) h = absurd h
-length_certified job input cert is (Overflow place trail spill) h = absurd h
-length_certified job input cert is (Rejected rejection) h = absurd h
+length_certified job input cert is halt h = absurd h
 
 -- and what an input lacks is what the bytes lack
 pub certified_certify : (job : FitJob) (bytes : List ℕ) (input : Input) → IsInput job (is_some job.rank) bytes input → HasRows input → (halt : Halt) → HasCertifiedCause job input halt → HasCertifyCause job bytes halt

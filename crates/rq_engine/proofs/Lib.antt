@@ -2,8 +2,10 @@ pub mod Asked
 pub mod Causes
 pub mod Certifying
 pub mod Checks
+pub mod Costs
+pub mod Fits
 pub mod Listed
 pub mod Pathing
 pub mod Predicting
+pub mod Scoring
 pub mod Testing
-pub use Rattle.rq_fit.proofs.Costs

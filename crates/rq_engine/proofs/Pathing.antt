@@ -1,61 +1,108 @@
--- Why an input has no path is why its bytes have none.
-use Rattle.std.proofs.Common.{ℕ, List, inl, inr}
+-- Why an input has a path in lambda: its costs are lawful at every lambda above 0, and its columns are independent.
+use Rattle.std.proofs.Common.{◌≡◌, ◌≤◌, ◌+◌, ◌-◌, Bool, true, false, List, length, pos, arith, ap, inl, inr, refl, ℕ}
+use Rattle.exact_algebra.specs.Fraction.{rational}
+use Rattle.exact_algebra.specs.Rational.{ℚ, whole}
+use Rattle.exact_algebra.proofs.OrderLaws.{cmp_ℚ-Less}
+use Rattle.exact_algebra.proofs.RationalLaws.{≤ℚ_trans}
+use Rattle.frac_core.specs.declared.frac128.Frac128.{Frac128}
+use Rattle.loss_model.specs.declared.problem.Problem.{Problem}
+use Rattle.loss_model.specs.declared.stop.Stop.{Stop}
+use Rattle.loss_model.specs.declared.stop.Stop.TheVariants as stops
+use Rattle.loss_model.specs.FullRank.{HasFullRank}
+use Rattle.loss_model.specs.Problem.{sample, IsWellShaped}
+use Rattle.loss_model.specs.StartStop.{IsDependent}
+use Rattle.loss_model.specs.Strict.{◌<ℚ◌}
+use Rattle.pivot_rule.specs.Duals.{HasCosts}
+use Rattle.tau_process.specs.Stops.{IsProcessStop}
+use Rattle.data_frame.specs.Views.{exact}
+use Rattle.lambda_path.specs.Faults.{HasCause}
+use Rattle.lambda_path.specs.declared.fault.PathFault.{PathFault}
+use Rattle.lambda_path.specs.declared.fault.PathFault.TheVariants as faults
+use Rattle.lambda_path.specs.Laws.{PathHasCosts, PathHasFullRank}
+use Rattle.rq_words.specs.declared.job.PathJob.{PathJob}
+use Rattle.report_text.specs.declared.report.Place.TheVariants as places
+use Rattle.report_text.specs.declared.report.PathFit.{PathFit}
+use Rattle.report_text.specs.declared.report.Report.TheVariants as reports
+use Rattle.report_text.specs.ReportText.{IsPrintable, value}
+use Rattle.rq_input.specs.PlainRows.{HasIntercept}
+use Rattle.rq_input.specs.Rows.{HasRows}
+use Rattle.rq_input.specs.declared.plain.PlainInput.{PlainInput}
+use Rattle.rq_engine.specs.Asks.{IsPathAsk}
+use Rattle.rq_engine.specs.Halts.{path_halt, stop_halt}
+use Rattle.rq_engine.specs.Paths.{HasPathCause, IsPathFitOf, IsPathProblem, first_penalised}
+use Rattle.rq_engine.specs.Stops.{most}
 use Rattle.rq_program.specs.declared.fault.ProgramFault.TheVariants as programs
 use Rattle.report_text.specs.declared.report.Refusal.TheVariants.{TooLong, Dependent}
 use Rattle.report_text.specs.declared.report.Refusal.TheVariants as refusals
 use Rattle.report_text.specs.declared.report.Halt.{Halt}
 use Rattle.report_text.specs.declared.report.Halt.TheVariants.{Refused, OutOfMemory, PivotLimit, Overflow, Rejected}
-use Rattle.rq_words.specs.declared.job.PathJob.{PathJob}
 use Rattle.rq_input.specs.Plain.{HasPlainCause, IsPlain}
-use Rattle.rq_input.specs.Rows.{HasRows}
-use Rattle.rq_input.specs.declared.plain.PlainInput.{PlainInput}
-use Rattle.rq_fit.specs.Paths.{HasPathCause}
 use Rattle.rq_engine.specs.Answers.{HasPathFitCause}
+-- the first penalised column is one of them, or the end
+pub first_within : (plain : PlainInput) → HasRows plain.input → first_penalised plain.intercept ≤ plain.input.problem.columns
+first_within plain rows = by plain.intercept
+  where
+    by : (intercept : Bool) → first_penalised intercept ≤ plain.input.problem.columns
+    by true = rows.shaped.some
+    by false = omega arith
+
+module _ (job : PathJob) (ask : IsPathAsk job) (plain : PlainInput) (rows : HasRows plain.input) (unpenalised : length plain.input.smoothing.rows ≡ 0) (q : Problem Frac128) (path : IsPathProblem job plain q) where
+  -- so at both ends of the range that a job asks for
+  costs : PathHasCosts → (lambda : ℚ) → whole (pos 0) <ℚ lambda → HasCosts (sample value q) lambda
+  costs lawful lambda above =
+      lawful (sample value plain.input.problem) (first_penalised plain.intercept) (rational (value job.tau)) (sample value q) path lambda
+      (λ i l. (cmp_ℚ-Less (whole (pos 0)) ((sample value plain.input.problem).up1 i)).0 (rows.are_data i (omega (arith, rows.size, unpenalised, l))).weighted)
+      ask.tau_low ask.tau_high above
+
+  pub low_costs : PathHasCosts → HasCosts (sample value q) (rational (value job.fit.lo))
+  low_costs lawful = costs lawful (rational (value job.fit.lo)) ask.low
+
+  pub high_costs : PathHasCosts → HasCosts (sample value q) (rational (value job.fit.hi))
+  high_costs lawful = costs lawful (rational (value job.fit.hi)) (λ h. ask.low (≤ℚ_trans (rational (value job.fit.lo)) (rational (value job.fit.hi)) (whole (pos 0)) ask.ordered h))
+
+module _ (job : PathJob) (plain : PlainInput) (first : HasIntercept plain.intercept plain.input) (independent : PathHasFullRank) (q : Problem Frac128) (shaped : IsWellShaped q) (path : IsPathProblem job plain q) where
+  -- the columns other than an intercept are penalised, and that isn't 0 in the first row
+  full_rank : HasFullRank (sample value q)
+  full_rank = by plain.intercept refl
+    where
+      by : (intercept : Bool) → plain.intercept ≡ intercept → HasFullRank (sample value q)
+      by true e = independent (sample value plain.input.problem) (first_penalised plain.intercept) (rational (value job.tau)) (sample value q) path (inr (ap first_penalised e, first.some, first.entry e))
+      by false e = independent (sample value plain.input.problem) (first_penalised plain.intercept) (rational (value job.tau)) (sample value q) path (inl (ap first_penalised e))
+
+  pub not_dependent : (combination : List Frac128) → ¬ IsDependent value q combination
+  not_dependent combination d = d.dependence.some (full_rank _ d.dependence.zero d.dependence.column d.dependence.within)
+
+  pub path_stop : (stop : Stop Frac128) → IsProcessStop value most q (rational (value job.fit.lo)) (rational (value job.fit.hi)) job.fit.limit stop → HasPathCause job plain (stop_halt places.Process stop)
+  path_stop stops.OutOfMemory h = tt
+  path_stop (stops.PivotLimit limit trail) h = (h.0, record { problem = q; shaped = shaped; path = path; cause = h.1 })
+  path_stop (stops.Overflow trail spill) h = record { problem = q; shaped = shaped; path = path; cause = h }
+  path_stop (stops.Dependent combination) h = absurd (not_dependent combination h)
+
+-- why the path problem isn't made is why there is no path
+pub path_cause : (job : PathJob) (plain : PlainInput) (fault : PathFault) → HasCause plain.input.problem (first_penalised plain.intercept) (exact job.tau) fault → HasPathCause job plain (path_halt fault)
+path_cause job plain faults.OutOfMemory h = tt
+path_cause job plain faults.TooManyRows h = h
+path_cause job plain (faults.Overflow spill) h = (refl, h.0, h.1)
+
+-- a path has no more data rows than rows, and each segment has the values of its basic rows
+pub path_printable : (job : PathJob) (plain : PlainInput) (fit : PathFit) → HasRows plain.input → IsPathFitOf job plain fit → IsPrintable (reports.Path fit)
+path_printable job plain fit rows of =
+    let size : length fit.problem.rows ≡ length plain.input.problem.rows + (plain.input.problem.columns - first_penalised plain.intercept) = of.path.rows in
+    (omega (arith, of.data_rows, size, rows.size), λ k d l. record { lo = (of.process.segments k d l).at_lo.basic; hi = (of.process.segments k d l).at_hi.basic })
+
+-- ---- the bytes of an input
 
 -- bytes without an input have no path
 pub input_path : (job : PathJob) (bytes : List ℕ) (halt : Halt) → HasPlainCause job.fit bytes halt → HasPathFitCause job bytes halt
-input_path job bytes (Refused (Dependent combination)) h = h
-input_path job bytes (Refused TooLong) h = h
-input_path job bytes (Refused (refusals.Table fault)) h = h
-input_path job bytes (Refused (refusals.Formula fault)) h = h
-input_path job bytes (Refused refusals.RankWithPenalty) h = h
-input_path job bytes (Refused refusals.SmoothNotTaken) h = h
-input_path job bytes (Refused (refusals.Design fault)) h = h
-input_path job bytes (Refused (refusals.Penalty fault)) h = h
 input_path job bytes (Refused (refusals.Program programs.TooManyRows)) h = inl h
-input_path job bytes (Refused (refusals.Program programs.TooManyColumns)) h = h
-input_path job bytes (Refused (refusals.Program programs.OutOfMemory)) h = h
-input_path job bytes (Refused refusals.NothingToPredict) h = h
-input_path job bytes (Refused (refusals.NoSuchColumn number)) h = h
-input_path job bytes (Refused refusals.AllTested) h = h
-input_path job bytes (Refused (refusals.TooManyPredictions found)) h = h
-input_path job bytes (Refused (refusals.CertTooLong long)) h = h
-input_path job bytes (Refused (refusals.Certificate fault)) h = h
-input_path job bytes OutOfMemory h = h
 input_path job bytes (PivotLimit place limit trail) h = absurd h.2.cause
 input_path job bytes (Overflow place trail spill) h = absurd h.2.cause
-input_path job bytes (Rejected rejection) h = h
+input_path job bytes halt h = h
 
 -- nor have those whose input has none
 pub fit_path : (job : PathJob) (bytes : List ℕ) (plain : PlainInput) → IsPlain job.fit bytes plain → HasRows plain.input → (halt : Halt) → HasPathCause job plain halt → HasPathFitCause job bytes halt
-fit_path job bytes plain is rows (Refused (Dependent combination)) h = absurd h
-fit_path job bytes plain is rows (Refused TooLong) h = absurd h
-fit_path job bytes plain is rows (Refused (refusals.Table fault)) h = absurd h
-fit_path job bytes plain is rows (Refused (refusals.Formula fault)) h = absurd h
-fit_path job bytes plain is rows (Refused refusals.RankWithPenalty) h = absurd h
-fit_path job bytes plain is rows (Refused refusals.SmoothNotTaken) h = absurd h
-fit_path job bytes plain is rows (Refused (refusals.Design fault)) h = absurd h
-fit_path job bytes plain is rows (Refused (refusals.Penalty fault)) h = absurd h
 fit_path job bytes plain is rows (Refused (refusals.Program programs.TooManyRows)) h = inr (record { plain = plain; is = is; rows = rows; cause = h })
-fit_path job bytes plain is rows (Refused (refusals.Program programs.TooManyColumns)) h = absurd h
-fit_path job bytes plain is rows (Refused (refusals.Program programs.OutOfMemory)) h = absurd h
-fit_path job bytes plain is rows (Refused refusals.NothingToPredict) h = absurd h
-fit_path job bytes plain is rows (Refused (refusals.NoSuchColumn number)) h = absurd h
-fit_path job bytes plain is rows (Refused refusals.AllTested) h = absurd h
-fit_path job bytes plain is rows (Refused (refusals.TooManyPredictions found)) h = absurd h
-fit_path job bytes plain is rows (Refused (refusals.CertTooLong long)) h = absurd h
-fit_path job bytes plain is rows (Refused (refusals.Certificate fault)) h = absurd h
 fit_path job bytes plain is rows OutOfMemory h = tt
 fit_path job bytes plain is rows (PivotLimit place limit trail) h = record { plain = plain; is = is; rows = rows; cause = h }
 fit_path job bytes plain is rows (Overflow place trail spill) h = record { plain = plain; is = is; rows = rows; cause = h }
-fit_path job bytes plain is rows (Rejected rejection) h = absurd h
+fit_path job bytes plain is rows halt h = absurd h

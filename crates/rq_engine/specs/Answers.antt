@@ -25,12 +25,12 @@ use Rattle.rq_program.specs.declared.fault.ProgramFault.TheVariants.{TooManyRows
 use Rattle.report_text.specs.declared.report.Refusal.TheVariants.{Dependent, CertTooLong, Program}
 use Rattle.report_text.specs.declared.report.Halt.{Halt}
 use Rattle.report_text.specs.declared.report.Halt.TheVariants.{Refused, PivotLimit, Overflow}
-use Rattle.rq_fit.specs.Fit.{IsFitOf}
-use Rattle.rq_fit.specs.Paths.{HasPathCause, IsPathFitOf}
-use Rattle.rq_fit.specs.Predicted.{HasPredictedCause, IsPredictFitOf}
-use Rattle.rq_fit.specs.Ranks.{AreRanksOf}
-use Rattle.rq_fit.specs.Stops.{HasProblemCause}
-use Rattle.rq_fit.specs.Tested.{HasTestCause, IsTestFitOf}
+use Rattle.rq_engine.specs.Fit.{IsFitOf}
+use Rattle.rq_engine.specs.Paths.{HasPathCause, IsPathFitOf}
+use Rattle.rq_engine.specs.Predicted.{HasPredictedCause, IsPredictFitOf}
+use Rattle.rq_engine.specs.Ranks.{AreRanksOf}
+use Rattle.rq_engine.specs.Stops.{HasProblemCause}
+use Rattle.rq_engine.specs.Tested.{HasTestCause, IsTestFitOf}
 use Rattle.rq_engine.specs.Certificates.{IsCertificateOf, IsTooLong, IsWritten}
 use Rattle.rq_engine.specs.Checks.{HasCheckCause, IsCheckedOf}
 use Rattle.rq_engine.specs.Jobs.{sample_fit, sample_table}

@@ -10,7 +10,7 @@ use Rattle.rq_words.specs.declared.job.FitJob.{FitJob}
 use Rattle.report_text.specs.declared.report.Refusal.TheVariants.{CertTooLong}
 use Rattle.report_text.specs.declared.report.Halt.{Halt}
 use Rattle.report_text.specs.declared.report.Halt.TheVariants.{Refused, OutOfMemory}
-use Rattle.rq_fit.specs.Stops.{HasProblemCause}
+use Rattle.rq_engine.specs.Stops.{HasProblemCause}
 use Rattle.rq_engine.specs.Answers.{IsCertified}
 use Rattle.rq_engine.specs.Certificates.{IsTooLong}
 

@@ -1,10 +1,20 @@
+-- what a job asks for, and what is right for its input or why there is none
+pub mod Asks
+pub mod Fit
+pub mod Halts
+pub mod Intervals
+pub mod Lacking
+pub mod Paths
+pub mod Predicted
+pub mod RankProblems
+pub mod Ranks
+pub mod Stops
+pub mod Tested
+-- what is right for its bytes
 pub mod Answers
 pub mod Certificates
 pub mod Certifying
 pub mod Checks
 pub mod Jobs
 pub mod SampleAsks
-pub use Rattle.rq_fit.specs.Asked
-pub use Rattle.rq_fit.specs.Asks
-pub use Rattle.rq_fit.specs.Fit
-pub use Rattle.rq_fit.specs.Intervals
+pub use Rattle.rank_inversion.specs.declared.column_test.Asked

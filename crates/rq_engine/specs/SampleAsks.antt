@@ -2,7 +2,7 @@
 use Rattle.std.specs.Prelude.{◌≤◌}
 use Rattle.frac_core.specs.Limits.{most_rows}
 use Rattle.rq_words.specs.declared.job.SampleJob.{SampleJob}
-use Rattle.rq_fit.specs.Asks.{IsFitAsk}
+use Rattle.rq_engine.specs.Asks.{IsFitAsk}
 use Rattle.rq_engine.specs.Jobs.{sample_fit}
 
 -- its range lies in 0 to 1, and it is no larger than tables that are made

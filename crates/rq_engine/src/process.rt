@@ -2,13 +2,13 @@
 ghost use Rattle.std.specs.Prelude.{◌≡◌, ◌<◌, ◌≤◌, ◌^◌, is_some, length, true, IfOk, IfErr};
 ghost use Rattle.report_text.specs.ReportText.{IsPrintable};
 ghost use Rattle.report_text.specs.declared.report.Report.TheVariants as reports;
-ghost use Rattle.rq_fit.specs.Asks.{IsFitAsk};
+ghost use Rattle.rq_engine.specs.Asks.{IsFitAsk};
 ghost use Rattle.rq_engine.specs.Answers.{HasFitCause, IsFitOfBytes};
 
+use crate::fit::fit_input;
 use rank_inversion::Purpose;
 use report_text::{Fit, Halt};
 use rq_fan::Gate;
-use rq_fit::fit_input;
 use rq_input::read_input;
 use rq_words::FitJob;
 use std::alloc::Global;

@@ -68,22 +68,8 @@ no_rows table design model smoothing added none =
 -- why a model has no problem is why its table has none
 module _ (job : FitJob) (ranked : Bool) (table : Table) (model : Formula) (stated : IsModel job ranked table model) where
   pub model_cause : (halt : Halt) → HasModelCause job table model halt → HasTableCause job ranked table halt
-  model_cause (Refused (refusals.Formula fault)) h = absurd h
-  model_cause (Refused refusals.RankWithPenalty) h = absurd h
-  model_cause (Refused refusals.SmoothNotTaken) h = absurd h
-  model_cause (Refused refusals.NothingToPredict) h = absurd h
-  model_cause (Refused (refusals.NoSuchColumn number)) h = absurd h
-  model_cause (Refused refusals.AllTested) h = absurd h
-  model_cause (Refused (refusals.TooManyPredictions found)) h = absurd h
-  model_cause (Refused refusals.TooLong) h = absurd h
-  model_cause (Refused (refusals.Table fault)) h = absurd h
-  model_cause (Refused (refusals.Dependent combination)) h = absurd h
-  model_cause (Refused (refusals.CertTooLong length)) h = absurd h
-  model_cause (Refused (refusals.Certificate fault)) h = absurd h
   model_cause (Refused (refusals.Design fault)) h = record { model = model; stated = stated; cause = h }
   model_cause (Refused (refusals.Penalty fault)) h = record { model = model; stated = stated; cause = h }
   model_cause (Refused (refusals.Program fault)) h = record { model = model; stated = stated; cause = h }
   model_cause OutOfMemory h = tt
-  model_cause (PivotLimit place limit trail) h = absurd h
-  model_cause (Overflow place trail spill) h = absurd h
-  model_cause (Rejected rejection) h = absurd h
+  model_cause halt h = absurd h

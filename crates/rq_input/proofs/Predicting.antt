@@ -36,25 +36,11 @@ use Rattle.rq_input.proofs.Lists.{filter_count, zip_length, zip_map}
 module _ (job : FitJob) where
   -- why a model has no problem is why its table has no input
   pub model_plain : (table : Table) (model : Formula) → IsModel job true table model → (halt : Halt) → HasModelCause job table model halt → HasPlainTableCause job table halt
-  model_plain table model stated (Refused refusals.TooLong) h = absurd h
-  model_plain table model stated (Refused (refusals.Table fault)) h = absurd h
-  model_plain table model stated (Refused (refusals.Formula fault)) h = absurd h
-  model_plain table model stated (Refused refusals.RankWithPenalty) h = absurd h
-  model_plain table model stated (Refused refusals.SmoothNotTaken) h = absurd h
   model_plain table model stated (Refused (refusals.Design fault)) h = model_cause job true table model stated (Refused (refusals.Design fault)) h
   model_plain table model stated (Refused (refusals.Penalty fault)) h = model_cause job true table model stated (Refused (refusals.Penalty fault)) h
   model_plain table model stated (Refused (refusals.Program fault)) h = model_cause job true table model stated (Refused (refusals.Program fault)) h
-  model_plain table model stated (Refused refusals.NothingToPredict) h = absurd h
-  model_plain table model stated (Refused (refusals.NoSuchColumn number)) h = absurd h
-  model_plain table model stated (Refused refusals.AllTested) h = absurd h
-  model_plain table model stated (Refused (refusals.TooManyPredictions found)) h = absurd h
-  model_plain table model stated (Refused (refusals.Dependent combination)) h = absurd h
-  model_plain table model stated (Refused (refusals.CertTooLong length)) h = absurd h
-  model_plain table model stated (Refused (refusals.Certificate fault)) h = absurd h
   model_plain table model stated OutOfMemory h = tt
-  model_plain table model stated (PivotLimit place limit trail) h = absurd h
-  model_plain table model stated (Overflow place trail spill) h = absurd h
-  model_plain table model stated (Rejected rejection) h = absurd h
+  model_plain table model stated halt h = absurd h
 
   -- and why a table has none is why its bytes have none
   pub table_plain : (bytes : List ℕ) (table : Table) → AreTable bytes table → (halt : Halt) → HasPlainTableCause job table halt → HasPlainCause job bytes halt
@@ -80,25 +66,10 @@ module _ (job : FitJob) where
 
   -- bytes without an input ask for no predictions
   pub plain_prediction : (bytes : List ℕ) (halt : Halt) → HasPlainCause job bytes halt → HasPredictionCause job bytes halt
-  plain_prediction bytes (Refused refusals.TooLong) h = h
-  plain_prediction bytes (Refused (refusals.Table fault)) h = h
-  plain_prediction bytes (Refused (refusals.Formula fault)) h = h
-  plain_prediction bytes (Refused refusals.RankWithPenalty) h = h
-  plain_prediction bytes (Refused refusals.SmoothNotTaken) h = h
   plain_prediction bytes (Refused (refusals.Design fault)) h = inl h
-  plain_prediction bytes (Refused (refusals.Penalty fault)) h = h
-  plain_prediction bytes (Refused (refusals.Program fault)) h = h
   plain_prediction bytes (Refused refusals.NothingToPredict) h = absurd h.2.cause
-  plain_prediction bytes (Refused (refusals.NoSuchColumn number)) h = h
-  plain_prediction bytes (Refused refusals.AllTested) h = h
   plain_prediction bytes (Refused (refusals.TooManyPredictions found)) h = absurd h.2.cause
-  plain_prediction bytes (Refused (refusals.Dependent combination)) h = h
-  plain_prediction bytes (Refused (refusals.CertTooLong length)) h = h
-  plain_prediction bytes (Refused (refusals.Certificate fault)) h = h
-  plain_prediction bytes OutOfMemory h = h
-  plain_prediction bytes (PivotLimit place limit trail) h = h
-  plain_prediction bytes (Overflow place trail spill) h = h
-  plain_prediction bytes (Rejected rejection) h = h
+  plain_prediction bytes halt h = h
 
 -- ---- the rows
 
@@ -191,22 +162,8 @@ rows_prediction job bytes table are model input by rows halt h = of halt h
     lacking refusal h = (table, are, record { model = model; input = input; by = by; rows = rows; cause = h })
 
     of : (halt : Halt) → HasRowsCause table model job.coding input.design halt → HasPredictionCause job bytes halt
-    of (Refused refusals.TooLong) h = absurd h
-    of (Refused (refusals.Table fault)) h = absurd h
-    of (Refused (refusals.Formula fault)) h = absurd h
-    of (Refused refusals.RankWithPenalty) h = absurd h
-    of (Refused refusals.SmoothNotTaken) h = absurd h
     of (Refused (refusals.Design fault)) h = inr (lacking (refusals.Design fault) h)
-    of (Refused (refusals.Penalty fault)) h = absurd h
-    of (Refused (refusals.Program fault)) h = absurd h
     of (Refused refusals.NothingToPredict) h = lacking refusals.NothingToPredict h
-    of (Refused (refusals.NoSuchColumn number)) h = absurd h
-    of (Refused refusals.AllTested) h = absurd h
     of (Refused (refusals.TooManyPredictions found)) h = lacking (refusals.TooManyPredictions found) h
-    of (Refused (refusals.Dependent combination)) h = absurd h
-    of (Refused (refusals.CertTooLong length)) h = absurd h
-    of (Refused (refusals.Certificate fault)) h = absurd h
     of OutOfMemory h = tt
-    of (PivotLimit place limit trail) h = absurd h
-    of (Overflow place trail spill) h = absurd h
-    of (Rejected rejection) h = absurd h
+    of halt h = absurd h

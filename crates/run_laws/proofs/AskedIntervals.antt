@@ -13,9 +13,9 @@ use Rattle.rq_words.specs.declared.job.RankAsk.{RankAsk}
 use Rattle.report_text.specs.ReportText.{value}
 use Rattle.rq_input.specs.Rows.{HasRows}
 use Rattle.rq_input.specs.declared.input.Input.{Input}
-use Rattle.rq_fit.specs.Asks.{IsInner, IsRankAskOf}
-use Rattle.rq_fit.specs.Intervals.{asked_at, asked_by, asked_over}
-use Rattle.rq_fit.proofs.Costs.{input_costs}
+use Rattle.rq_engine.specs.Asks.{IsInner, IsRankAskOf}
+use Rattle.rq_engine.specs.Intervals.{asked_at, asked_by, asked_over}
+use Rattle.rq_engine.proofs.Costs.{input_costs}
 
 -- what holds of all items of a list holds of one that stands between others
 all_there : {A : Type 0} (P : A → Type 0) (earlier : List A) (x : A) (later : List A) → All P (earlier ++ x ∷ later) → P x

@@ -28,7 +28,7 @@ use Rattle.report_text.specs.declared.report.Halt.TheVariants as halts
 use Rattle.rq_input.specs.Inputs.{IsInput}
 use Rattle.rq_input.specs.Predictions.{HasPredictionCause}
 use Rattle.rq_input.specs.declared.input.Input.{Input}
-use Rattle.rq_fit.specs.Fit.{IsFitOf, IsRightProcess}
+use Rattle.rq_engine.specs.Fit.{IsFitOf, IsRightProcess}
 use Rattle.rq_engine.specs.Answers as engine
 use Rattle.rq_engine.specs.Answers.{IsRight, HasFitCause, HasCertifyCause, HasPredictCause}
 use Rattle.rq_engine.specs.Jobs.{IsJobOf, sample_fit}

@@ -29,11 +29,11 @@ use Rattle.report_text.specs.declared.report.Halt.{Halt}
 use Rattle.report_text.specs.declared.report.Halt.TheVariants as halts
 use Rattle.rq_input.specs.Rows.{HasRows}
 use Rattle.rq_input.specs.declared.input.Input.{Input}
-use Rattle.rq_fit.specs.Asks.{IsFitAsk}
-use Rattle.rq_fit.specs.Fit.{IsRightProcess}
-use Rattle.rq_fit.specs.Stops.{IsFitSpill, most}
-use Rattle.rq_fit.proofs.Costs.{high_costs, low_costs}
-use Rattle.rq_fit.proofs.Scoring.{unit_ask}
+use Rattle.rq_engine.specs.Asks.{IsFitAsk}
+use Rattle.rq_engine.specs.Fit.{IsRightProcess}
+use Rattle.rq_engine.specs.Stops.{IsFitSpill, most}
+use Rattle.rq_engine.proofs.Costs.{high_costs, low_costs}
+use Rattle.rq_engine.proofs.Scoring.{unit_ask}
 use Rattle.rq_engine.specs.Answers as engine
 use Rattle.rq_engine.specs.Answers.{HasCertifyCause, HasFitCause, HasPredictCause, LacksFit, LacksPredictFit}
 use Rattle.rq_engine.specs.Jobs.{sample_fit, sample_table}

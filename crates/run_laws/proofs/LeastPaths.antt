@@ -19,8 +19,8 @@ use Rattle.report_text.specs.declared.report.PathFit.{PathFit}
 use Rattle.report_text.specs.declared.report.Report.TheVariants as reports
 use Rattle.rq_input.specs.Plain.{IsPlain}
 use Rattle.rq_input.specs.declared.plain.PlainInput.{PlainInput}
-use Rattle.rq_fit.specs.Fit.{IsRightSegment}
-use Rattle.rq_fit.specs.Paths.{IsPathFitOf, first_penalised}
+use Rattle.rq_engine.specs.Fit.{IsRightSegment}
+use Rattle.rq_engine.specs.Paths.{IsPathFitOf, first_penalised}
 use Rattle.rq_engine.specs.Answers.{IsRight}
 use Rattle.rq_cli.specs.Outcomes.{IsAnswered, Stream, WereRead}
 use Rattle.run_laws.specs.PathReports.{IsLeastPath, LosesLeast, coefficients, loss_of}

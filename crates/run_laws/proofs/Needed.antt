@@ -34,12 +34,12 @@ use Rattle.report_text.specs.declared.report.Halt.TheVariants.{Refused, PivotLim
 use Rattle.rq_input.specs.Inputs.{IsInput}
 use Rattle.rq_input.specs.Rows.{HasRows}
 use Rattle.rq_input.specs.declared.input.Input.{Input}
-use Rattle.rq_fit.specs.Asks.{IsFitAsk}
-use Rattle.rq_fit.specs.Stops.{HasStoppedInterval, most}
-use Rattle.rq_fit.proofs.Costs.{low_costs}
-use Rattle.rq_fit.proofs.Pathing.{low_costs as path_costs}
-use Rattle.rq_fit.proofs.Scoring.{unit_ask}
-use Rattle.rq_fit.proofs.Testing.{data_stays, input_data, restricted_low}
+use Rattle.rq_engine.specs.Asks.{IsFitAsk}
+use Rattle.rq_engine.specs.Stops.{HasStoppedInterval, most}
+use Rattle.rq_engine.proofs.Costs.{low_costs}
+use Rattle.rq_engine.proofs.Pathing.{low_costs as path_costs}
+use Rattle.rq_engine.proofs.Scoring.{unit_ask}
+use Rattle.rq_engine.proofs.Testing.{data_stays, input_data, restricted_low}
 use Rattle.rq_engine.specs.Answers as engine
 use Rattle.rq_engine.specs.Answers.{HasLongCertificate, LacksFit, LacksPathFit, LacksPredictFit, LacksTestFit}
 use Rattle.rq_engine.specs.Jobs.{sample_fit, sample_table}

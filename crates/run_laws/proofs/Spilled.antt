@@ -24,9 +24,9 @@ use Rattle.rq_words.specs.declared.job.FitJob.{FitJob}
 use Rattle.report_text.specs.ReportText.{value}
 use Rattle.report_text.specs.declared.report.Place.TheVariants as places
 use Rattle.report_text.specs.declared.report.Halt.TheVariants.{Overflow}
-use Rattle.rq_fit.specs.Predicted.{IsRowSpill}
-use Rattle.rq_fit.specs.Stops.{IsFitSpill, most}
-use Rattle.rq_fit.specs.Tested.{HasScoredCause}
+use Rattle.rq_engine.specs.Predicted.{IsRowSpill}
+use Rattle.rq_engine.specs.Stops.{IsFitSpill, most}
+use Rattle.rq_engine.specs.Tested.{HasScoredCause}
 
 module _ {F : Type 0} (value : F → Fraction) (range : ℕ) (s : Spill F) (p : Problem F) where
   abbrev Here : Type 0

@@ -36,8 +36,8 @@ use Rattle.rq_input.specs.Predictions.{HasPredictionCause}
 use Rattle.rq_input.specs.Tested.{HasTestedCause, IsTested}
 use Rattle.rq_input.specs.declared.input.Input.{Input}
 use Rattle.rq_input.specs.declared.plain.PlainInput.{PlainInput}
-use Rattle.rq_fit.specs.Paths.{first_penalised}
-use Rattle.rq_fit.specs.Stops.{most}
+use Rattle.rq_engine.specs.Paths.{first_penalised}
+use Rattle.rq_engine.specs.Stops.{most}
 use Rattle.rq_engine.specs.Answers.{IsRight}
 use Rattle.rq_engine.specs.Checks.{IsCertOf}
 use Rattle.rq_engine.specs.Jobs.{IsJobOf, sample_fit, sample_table}

@@ -29,8 +29,8 @@ use Rattle.rq_input.specs.Plain.{IsPlain}
 use Rattle.rq_input.specs.Tested.{IsTested}
 use Rattle.rq_input.specs.declared.input.Input.{Input}
 use Rattle.rq_input.specs.declared.plain.PlainInput.{PlainInput}
-use Rattle.rq_fit.specs.Paths.{IsPathProblem}
-use Rattle.rq_fit.specs.Stops.{most}
+use Rattle.rq_engine.specs.Paths.{IsPathProblem}
+use Rattle.rq_engine.specs.Stops.{most}
 use Rattle.rq_engine.specs.Answers.{HasLongCertificate}
 use Rattle.rq_engine.specs.Jobs.{IsJobOf, sample_fit, sample_table}
 use Rattle.rq_cli.specs.Outcomes.{Stream, IsRun, WereRead}

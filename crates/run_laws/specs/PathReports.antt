@@ -15,7 +15,7 @@ use Rattle.report_text.specs.declared.report.PathFit.{PathFit}
 use Rattle.report_text.specs.declared.report.Report.TheVariants as reports
 use Rattle.rq_input.specs.Plain.{IsPlain}
 use Rattle.rq_input.specs.declared.plain.PlainInput.{PlainInput}
-use Rattle.rq_fit.specs.Paths.{first_penalised}
+use Rattle.rq_engine.specs.Paths.{first_penalised}
 use Rattle.rq_cli.specs.Outcomes.{IsRun, Stream, WereRead}
 use Rattle.rq_cli.specs.declared.outcome.Outcome.TheVariants.{Done}
 

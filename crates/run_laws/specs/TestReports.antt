@@ -12,7 +12,7 @@ use Rattle.report_text.specs.declared.report.TestFit.{TestFit}
 use Rattle.report_text.specs.declared.report.Report.TheVariants as reports
 use Rattle.rq_input.specs.Tested.{IsTested}
 use Rattle.rq_input.specs.declared.input.Input.{Input}
-use Rattle.rq_fit.specs.Tested.{AreScoredBy}
+use Rattle.rq_engine.specs.Tested.{AreScoredBy}
 use Rattle.rq_cli.specs.Outcomes.{IsRun, Stream, WereRead}
 use Rattle.rq_cli.specs.declared.outcome.Outcome.TheVariants.{Done}
 

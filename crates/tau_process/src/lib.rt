@@ -7,7 +7,7 @@
 //! of `walk_rule`.
 //! Its tests stand in the crate `solver_tests`.
 //!
-//! `rq_fit` calls it so:
+//! `rq_engine` calls it so:
 //! ```text
 //! let walked = match process(alloc, &input.problem, job.lo, job.hi, job.limit) {
 //!     Ok(walked) => walked,

@@ -1,0 +1,115 @@
+-- Data rows and penalty rows have costs at every quantile.
+use Rattle.std.proofs.Common.{◌≡◌, ◌≢◌, ◌⊎◌, ◌<◌, ◌≤◌, ℕ, zero, suc, [], ◌∷◌, length, pos, arith, inl, inr, refl, sym, ap, subst, ◌∙◌}
+use Rattle.exact_algebra.proofs.OrderLaws.{cmp_ℚ-Less, le_from_not, ≤ℚ-minus}
+use Rattle.exact_algebra.specs.Fraction.{rational}
+use Rattle.exact_algebra.specs.Rational.{ℚ, ◌+ℚ◌, ◌-ℚ◌, ◌*ℚ◌, whole, ◌≤ℚ◌}
+use Rattle.exact_algebra.proofs.RationalLaws.{≤ℚ_refl, ≤ℚ_trans, ring_ℚ}
+use Rattle.exact_algebra.specs.Solver.{number, negated, ◌⊞◌, ◌⊟◌, ◌⊠◌, v0, v1}
+use Rattle.loss_model.specs.Dual.{IsDataRow}
+use Rattle.loss_model.proofs.Quotients.{product_not_negative}
+use Rattle.loss_model.specs.Problem.{sample}
+use Rattle.loss_model.specs.Sample.{Sample, up_cost, down_cost}
+use Rattle.pivot_rule.specs.Duals.{HasCosts}
+use Rattle.rq_words.specs.declared.job.FitJob.{FitJob}
+use Rattle.report_text.specs.ReportText.{value}
+use Rattle.rq_program.specs.Costs.{IsPenaltyRow}
+use Rattle.rq_input.specs.Rows.{HasRows}
+use Rattle.rq_input.specs.declared.input.Input.{Input}
+use Rattle.rq_engine.specs.Asks.{IsFitAsk}
+
+-- the weight of a data row is above 0
+above_zero : (p : Sample) (i : ℕ) → IsDataRow p i → ¬ (p.up1 i ≤ℚ whole (pos 0))
+above_zero p i row = (cmp_ℚ-Less (whole (pos 0)) (p.up1 i)).0 row.weighted
+
+pub weight_not_zero : (p : Sample) (i : ℕ) → IsDataRow p i → p.up1 i ≢ whole (pos 0)
+weight_not_zero p i row e = above_zero p i row (subst (λ z. z ≤ℚ whole (pos 0)) (sym e) (≤ℚ_refl (whole (pos 0))))
+
+-- a number that is not below 0
+at_least_zero : (x : ℚ) → ¬ (x ≤ℚ whole (pos 0)) → whole (pos 0) ≤ℚ x
+at_least_zero x h = le_from_not (whole (pos 0)) x h
+
+module _ (p : Sample) (theta : ℚ) (i : ℕ) (row : IsDataRow p i) where
+  up_is : up_cost p theta i ≡ p.up1 i *ℚ theta
+  up_is = ap (λ z. z +ℚ (p.up1 i *ℚ theta)) row.up0 ∙ ring_ℚ (p.up1 i ∷ theta ∷ []) (number (pos 0) ⊞ v0 ⊠ v1) (v0 ⊠ v1) refl
+
+  down_is : down_cost p theta i ≡ p.up1 i *ℚ (whole (pos 1) -ℚ theta)
+  down_is =
+      ap (λ z. z +ℚ (p.down1 i *ℚ theta)) row.down0 ∙ ap (λ z. p.up1 i +ℚ (z *ℚ theta)) row.down1
+      ∙ ring_ℚ (p.up1 i ∷ theta ∷ []) (v0 ⊞ negated v0 ⊠ v1) (v0 ⊠ (number (pos 1) ⊟ v1)) refl
+
+  sum_is : up_cost p theta i +ℚ down_cost p theta i ≡ p.up1 i
+  sum_is =
+      ap (λ z. z +ℚ down_cost p theta i) up_is ∙ ap (λ z. (p.up1 i *ℚ theta) +ℚ z) down_is
+      ∙ ring_ℚ (p.up1 i ∷ theta ∷ []) (v0 ⊠ v1 ⊞ v0 ⊠ (number (pos 1) ⊟ v1)) v0 refl
+
+-- what a row costs at theta is not negative on either side, and above 0 in all
+pub record IsCosted (p : Sample) (theta : ℚ) (i : ℕ) : Type 0 where
+  pub up : whole (pos 0) ≤ℚ up_cost p theta i
+  pub down : whole (pos 0) ≤ℚ down_cost p theta i
+  pub some : ¬ ((up_cost p theta i +ℚ down_cost p theta i) ≤ℚ whole (pos 0))
+
+pub data_costs : (p : Sample) (theta : ℚ) (i : ℕ) → whole (pos 0) ≤ℚ theta → theta ≤ℚ whole (pos 1) → IsDataRow p i → IsCosted p theta i
+data_costs p theta i low high row =
+    let weight = at_least_zero (p.up1 i) (above_zero p i row) in
+    record {
+      up = subst (λ z. whole (pos 0) ≤ℚ z) (sym (up_is p theta i row)) (product_not_negative (p.up1 i) theta weight low);
+      down = subst (λ z. whole (pos 0) ≤ℚ z) (sym (down_is p theta i row)) (product_not_negative (p.up1 i) (whole (pos 1) -ℚ theta) weight ((≤ℚ-minus theta (whole (pos 1))).0 high));
+      some = λ h. above_zero p i row (subst (λ z. z ≤ℚ whole (pos 0)) (sum_is p theta i row) h);
+    }
+
+-- a number above 0 and itself again are above 0
+twice_above : (x : ℚ) → ¬ (x ≤ℚ whole (pos 0)) → ¬ ((x +ℚ x) ≤ℚ whole (pos 0))
+twice_above x above h =
+    above (≤ℚ_trans x (x +ℚ x) (whole (pos 0)) ((≤ℚ-minus x (x +ℚ x)).1 (subst (λ z. whole (pos 0) ≤ℚ z) (sym (ring_ℚ (x ∷ []) (v0 ⊞ v0 ⊟ v0) v0 refl)) (at_least_zero x above))) h)
+
+penalty_costs : (p : Sample) (theta : ℚ) (i : ℕ) → IsPenaltyRow p i → IsCosted p theta i
+penalty_costs p theta i row =
+    record {
+      up = subst (λ z. whole (pos 0) ≤ℚ z) (sym up) lambda;
+      down = subst (λ z. whole (pos 0) ≤ℚ z) (sym down) lambda;
+      some = λ h. twice_above (p.up0 i) above (subst (λ z. z ≤ℚ whole (pos 0)) (ap (λ z. z +ℚ down_cost p theta i) up ∙ ap (λ z. p.up0 i +ℚ z) down) h);
+    }
+  where
+    above : ¬ (p.up0 i ≤ℚ whole (pos 0))
+    above = (cmp_ℚ-Less (whole (pos 0)) (p.up0 i)).0 row.weighted
+
+    lambda : whole (pos 0) ≤ℚ p.up0 i
+    lambda = at_least_zero (p.up0 i) above
+
+    -- a cost that doesn't change with theta
+    steady : (x : ℚ) → x +ℚ (whole (pos 0) *ℚ theta) ≡ x
+    steady x = ring_ℚ (x ∷ theta ∷ []) (v0 ⊞ number (pos 0) ⊠ v1) v0 refl
+
+    up : up_cost p theta i ≡ p.up0 i
+    up = ap (λ z. p.up0 i +ℚ (z *ℚ theta)) row.up1 ∙ steady (p.up0 i)
+
+    down : down_cost p theta i ≡ p.up0 i
+    down = ap (λ z. z +ℚ (p.down1 i *ℚ theta)) row.down0 ∙ ap (λ z. p.up0 i +ℚ (z *ℚ theta)) row.down1 ∙ steady (p.up0 i)
+
+-- one of two numbers below another, or not
+below_or_not : (i n : ℕ) → (i < n) ⊎ (n ≤ i)
+below_or_not i zero = inr (omega arith)
+below_or_not zero (suc n) = inl (omega arith)
+below_or_not (suc i) (suc n) = elim (below_or_not i n) [ inl l ↦ inl (omega (arith, l)) | inr l ↦ inr (omega (arith, l)) ]
+
+-- at a quantile the costs of an input's rows are not negative, and their sums are above 0
+pub input_costs : (input : Input) (theta : ℚ) → whole (pos 0) ≤ℚ theta → theta ≤ℚ whole (pos 1) → HasRows input → HasCosts (sample value input.problem) theta
+input_costs input theta low high rows =
+    record { up = λ i l. (costed i l).up; down = λ i l. (costed i l).down; some = λ i l. (costed i l).some }
+  where
+    p : Sample
+    p = sample value input.problem
+
+    costed : (i : ℕ) → i < length input.problem.rows → IsCosted p theta i
+    costed i l = elim (below_or_not i (length input.design.rows)) [
+      | inl before ↦ data_costs p theta i low high (rows.are_data i before)
+      | inr behind ↦ penalty_costs p theta i (rows.are_penalties i behind l)
+    ]
+
+-- so at both ends of the range that a job asks for
+module _ (job : FitJob) (ask : IsFitAsk job) (input : Input) (rows : HasRows input) where
+  pub low_costs : HasCosts (sample value input.problem) (rational (value job.lo))
+  low_costs = input_costs input (rational (value job.lo)) ask.low (≤ℚ_trans (rational (value job.lo)) (rational (value job.hi)) (whole (pos 1)) ask.ordered ask.high) rows
+
+  pub high_costs : HasCosts (sample value input.problem) (rational (value job.hi))
+  high_costs = input_costs input (rational (value job.hi)) (≤ℚ_trans (whole (pos 0)) (rational (value job.lo)) (rational (value job.hi)) ask.low ask.ordered) ask.high rows

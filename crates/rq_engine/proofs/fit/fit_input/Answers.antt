@@ -1,0 +1,64 @@
+use Rattle.std.proofs.Common.{arith, length, ap, sym, ◌∙◌}
+use Rattle.exact_algebra.specs.Fraction.{rational}
+use Rattle.report_text.specs.ReportText.{value}
+use Rattle.rankscores.specs.Scores.{IsScored}
+use Rattle.rq_engine.proofs.Costs.{high_costs, low_costs}
+use Rattle.rq_engine.proofs.Fits.{few_segments, interval_cause, process_scorable, right_fit, right_process, short_cause, stop_cause}
+use Rattle.rq_input.proofs.Lists.{zip_length}
+use Rattle.rq_engine.proofs.fit.fit_input.Goals as goal
+
+pub process-requires-clause-costs_lo : goal.process-requires-clause-costs_lo
+process-requires-clause-costs_lo g c κs = low_costs c.args.job.now c.requires.ask c.args.input c.requires.rows
+
+pub process-requires-clause-costs_hi : goal.process-requires-clause-costs_hi
+process-requires-clause-costs_hi g c κs = high_costs c.args.job.now c.requires.ask c.args.input c.requires.rows
+
+pub returns-in-Err-clause-cause : goal.returns-in-Err-clause-cause
+returns-in-Err-clause-cause g c = rw c.stop_halt.ensures (stop_cause c.args.job.now (length c.args.input.design.rows) c.args.input.problem c.in-Err.stop c.in-Err.ensures.stopped)
+
+pub all_scores-requires-clause-scorable : goal.all_scores-requires-clause-scorable
+all_scores-requires-clause-scorable g c κs =
+    rw c.as_slice-segments.ensures
+    (process_scorable value c.args.input.problem (rational (value c.args.job.now.lo)) (rational (value c.args.job.now.hi)) c.in-Ok.walked c.in-Ok.ensures.process.results)
+
+pub all_scores-requires-clause-few : goal.all_scores-requires-clause-few
+all_scores-requires-clause-few g c κs =
+    let few = few_segments value c.args.input.problem (rational (value c.args.job.now.lo)) (rational (value c.args.job.now.hi)) c.in-Ok.walked c.in-Ok.ensures.process.results in
+    omega (arith, ap length c.as_slice-segments.ensures, few, c.in-Ok.ensures.short)
+
+pub returns-in-Err-all_scores-clause-cause : goal.returns-in-Err-all_scores-clause-cause
+returns-in-Err-all_scores-clause-cause g c =
+    rw c.short_halt.ensures
+    (short_cause c.args.job.now (length c.args.input.design.rows) c.args.input.problem c.in-Ok.walked c.in-Ok.ensures.process.results c.in-Ok.ensures.short c.in-Err-all_scores.short
+    (rw c.as_slice-segments.ensures at (rw c.as_slice.ensures at c.in-Err-all_scores.ensures.spilled)))
+
+pub job_intervals-requires-clause-data : goal.job_intervals-requires-clause-data
+job_intervals-requires-clause-data g c κs within some i l = c.requires.rows.are_data i (omega (arith, c.requires.rows.size, c.requires.unpenalised some, l))
+
+pub returns-in-Err-job_intervals-clause-cause : goal.returns-in-Err-job_intervals-clause-cause
+returns-in-Err-job_intervals-clause-cause g c =
+    interval_cause c.args.job.now (length c.args.input.design.rows) c.args.input.problem c.in-Ok.walked c.in-Ok-all_scores.scores c.in-Ok.ensures.process.results c.in-Ok.ensures.short
+    (rw c.as_slice-segments.ensures at (rw c.as_slice.ensures at c.in-Ok-all_scores.ensures.scored)) c.in-Err-job_intervals.halt c.in-Err-job_intervals.ensures.cause
+
+pub returns-in-Ok-fit_of-clause-right : goal.returns-in-Ok-fit_of-clause-right
+returns-in-Ok-fit_of-clause-right g c =
+    let under = c.in-Ok-fit_of.ensures.under in
+    record {
+      under = under;
+      right = right_fit c.args.job.now (length c.args.input.design.rows) c.args.input.problem c.in-Ok.walked c.in-Ok-all_scores.scores c.in-Ok-job_intervals.intervals c.requires.rows.shaped
+          (right_process c.args.job.now c.args.input.problem c.in-Ok.walked c.in-Ok.ensures.process c.in-Ok.ensures.short (λ some. c.in-Ok.ensures.limited some))
+          (rw c.as_slice-segments.ensures at (rw c.as_slice.ensures at c.in-Ok-all_scores.ensures.scored)) c.in-Ok-job_intervals.ensures.right c.in-Ok-fit_of.fit c.in-Ok-fit_of.ensures.process
+          c.in-Ok-fit_of.ensures.scores c.in-Ok-fit_of.ensures.intervals under.problem_is under.data_rows;
+    }
+
+pub returns-in-Ok-fit_of-clause-printable : goal.returns-in-Ok-fit_of-clause-printable
+returns-in-Ok-fit_of-clause-printable g c =
+    let under = c.in-Ok-fit_of.ensures.under in
+    let scored = rw c.as_slice-segments.ensures at (rw c.as_slice.ensures at c.in-Ok-all_scores.ensures.scored) in
+    let each = zip_length (IsScored value c.args.input.problem (length c.args.input.design.rows)) c.in-Ok.walked.segments c.in-Ok-all_scores.scores scored in (
+      ap length c.in-Ok-fit_of.ensures.scores ∙ each ∙ sym (ap (λ q. length q.segments) c.in-Ok-fit_of.ensures.process),
+      omega (arith, under.data_rows, c.requires.rows.size, ap (λ p. length p.rows) under.problem_is),
+    )
+
+pub returns-in-Ok-fit_of-clause-purpose : goal.returns-in-Ok-fit_of-clause-purpose
+returns-in-Ok-fit_of-clause-purpose g c = rw c.in-Ok-fit_of.ensures.intervals c.in-Ok-job_intervals.ensures.purpose

@@ -1,0 +1,73 @@
+-- Stated. The right predictions of an input over a range of quantiles, and why there are none.
+use Rattle.std.specs.Prelude.{◌≡◌, ℕ, ◌≤◌, List, Contains, length, ⊤}
+use Rattle.std.specs.List.{AllZip}
+use Rattle.exact_algebra.specs.Fraction.{rational}
+use Rattle.exact_algebra.specs.Rational.{ℚ}
+use Rattle.frac_core.specs.declared.frac128.Frac128.{Frac128}
+use Rattle.loss_model.specs.declared.process.Segment.{Segment}
+use Rattle.loss_model.specs.declared.process.Trail.{Trail}
+use Rattle.loss_model.specs.declared.spill.Spill.{Spill}
+use Rattle.loss_model.specs.Problem.{sample, IsWellShaped}
+use Rattle.loss_model.specs.StartStop.{IsDependent}
+use Rattle.walk_rule.specs.WalkTrails.{ReachesProcessLimit}
+use Rattle.tau_process.specs.Processes.{HasResults}
+use Rattle.tau_process.specs.Stops.{IsProcessSpill}
+use Rattle.predict_steps.specs.Predictions.{pieces, rearranged_pieces, AreSteps}
+use Rattle.predict_steps.specs.Rearranged.{IsRearrangement}
+use Rattle.predict_steps.specs.Spills.{IsStepsSpill}
+use Rattle.design_matrix.specs.declared.design.PredictRow.{PredictRow}
+use Rattle.rq_words.specs.declared.job.FitJob.{FitJob}
+use Rattle.report_text.specs.ReportText.{value}
+use Rattle.report_text.specs.declared.report.PredictFit.{PredictFit}
+use Rattle.report_text.specs.declared.report.Prediction.{Prediction}
+use Rattle.report_text.specs.declared.report.Refusal.TheVariants.{Dependent}
+use Rattle.report_text.specs.declared.report.Place.TheVariants as places
+use Rattle.report_text.specs.declared.report.Halt.{Halt}
+use Rattle.report_text.specs.declared.report.Halt.TheVariants.{Refused, OutOfMemory, PivotLimit, Overflow}
+use Rattle.rq_input.specs.declared.predictions.PredictionInput.{PredictionInput}
+use Rattle.rq_engine.specs.Fit.{IsRightProcess}
+use Rattle.rq_engine.specs.Stops.{most}
+
+-- the prediction of a row: a step along each of the segments, and the rearrangement of these from lo to hi
+pub record IsPredictionBy (lo hi : ℚ) (segments : List (Segment Frac128)) (row : PredictRow) (prediction : Prediction) : Type 0 where
+  pub named : prediction.rec ≡ row.rec
+  pub steps : AreSteps value row.x row.offsets segments prediction.steps
+  pub rearranged : IsRearrangement lo hi (pieces value prediction.steps) (rearranged_pieces value prediction.rearranged)
+
+-- the right process of the problem of the input, and the predictions along it of the rows that are asked; what is told
+-- beside is the design's
+pub record IsPredictFitOf (job : FitJob) (asked : PredictionInput) (fit : PredictFit) : Type 0 where
+  pub kept : fit.kept ≡ length asked.input.design.rows
+  pub dropped : fit.dropped ≡ asked.input.design.dropped
+  pub names : fit.names ≡ asked.input.design.names
+  pub shaped : IsWellShaped asked.input.problem
+  pub process : IsRightProcess value job asked.input.problem fit.process
+  pub predictions : AllZip (IsPredictionBy (rational (value job.lo)) (rational (value job.hi)) fit.process.segments) asked.rows fit.predictions
+
+-- ---- why there are none
+
+-- an operation of the prediction of a row overflows
+abbrev pub IsRowSpill : List (Segment Frac128) → PredictRow → Spill Frac128 → Type 0
+IsRowSpill segments row spill = IsStepsSpill value most row.rec row.x row.offsets segments spill
+
+-- the process is at its end within the limit, and then such an operation of the row of this record overflows
+pub record LacksPrediction (job : FitJob) (asked : PredictionInput) (rec : ℕ) (trail : Trail Frac128) (spill : Spill Frac128) : Type 0 where
+  pub segments : List (Segment Frac128)
+  pub results : HasResults value asked.input.problem (rational (value job.lo)) (rational (value job.hi)) (record { segments = segments; trail = trail })
+  pub short : length trail.steps ≤ job.limit
+  pub row : PredictRow
+  pub there : Contains asked.rows row
+  pub named : rec ≡ row.rec
+  pub operation : IsRowSpill segments row spill
+
+-- why an input has no predictions: dependent columns, a limit that is reached, or an operation that overflows, in the
+-- process or in a prediction. Want of memory is free of a cause
+abbrev pub HasPredictedCause : FitJob → PredictionInput → Halt → Type 0
+HasPredictedCause job asked (Refused (Dependent combination)) = IsDependent value asked.input.problem combination
+HasPredictedCause job asked OutOfMemory = ⊤
+HasPredictedCause job asked (PivotLimit places.Process limit trail) =
+    (limit ≡ job.limit) × ReachesProcessLimit value (sample value asked.input.problem) (rational (value job.lo)) (rational (value job.hi)) job.limit trail
+HasPredictedCause job asked (Overflow places.Process trail spill) =
+    IsProcessSpill value most asked.input.problem (rational (value job.lo)) (rational (value job.hi)) job.limit trail spill
+HasPredictedCause job asked (Overflow (places.Predict rec) trail spill) = LacksPrediction job asked rec trail spill
+HasPredictedCause job asked _ = ⊥

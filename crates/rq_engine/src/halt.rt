@@ -1,0 +1,76 @@
+//! The halts of the solver.
+ghost use Rattle.std.specs.Prelude.{◌≡◌};
+ghost use Rattle.rq_engine.specs.Halts.{interval_halt as interval_halt_of, path_halt as path_halt_of, short_halt as short_halt_of, stop_halt as stop_halt_of};
+
+use frac_core::{Frac128, List};
+use lambda_path::PathFault;
+use loss_model::{Short, Stop, Trail};
+use rank_inversion::IntervalStop;
+use report_text::{Halt, Place, Refusal};
+use rq_program::ProgramFault;
+use std::alloc::Global;
+
+/// The halt of a stop at a place.
+pub(crate) fn stop_halt(place: Place, stop: Stop<Frac128>) -> Halt
+    ensures { result ≡ stop_halt_of place stop }
+{
+    match stop {
+        Stop::OutOfMemory => Halt::OutOfMemory,
+        Stop::PivotLimit { limit, trail } => Halt::PivotLimit {
+            place,
+            limit,
+            trail,
+        },
+        Stop::Overflow { trail, spill } => Halt::Overflow {
+            place,
+            trail,
+            spill,
+        },
+        Stop::Dependent { combination } => Halt::Refused(Refusal::Dependent { combination }),
+    }
+}
+
+/// The halt of a path problem that can't be made. Its trail is empty, and takes no memory.
+pub(crate) fn path_halt(alloc: Global, fault: PathFault) -> Halt
+    ensures { result ≡ path_halt_of fault }
+{
+    match fault {
+        PathFault::OutOfMemory => Halt::OutOfMemory,
+        PathFault::TooManyRows => Halt::Refused(Refusal::Program(ProgramFault::TooManyRows)),
+        PathFault::Overflow(spill) => Halt::Overflow {
+            place: Place::Path,
+            trail: Trail {
+                start: List::new(alloc),
+                steps: List::new(alloc),
+                rise: List::new(alloc),
+                fall: List::new(alloc),
+            },
+            spill,
+        },
+    }
+}
+
+/// The halt of an interval that stops, at its column and its quantile.
+pub(crate) fn interval_halt(stopped: IntervalStop<Frac128>) -> Halt
+    ensures { result ≡ interval_halt_of stopped }
+{
+    let place = Place::Interval {
+        column: stopped.asked.column,
+        tau: stopped.asked.tau,
+    };
+    stop_halt(place, stopped.stop)
+}
+
+/// The halt at a place after the walk, whose trail is whole.
+pub(crate) fn short_halt(place: Place, short: Short<Frac128>, trail: Trail<Frac128>) -> Halt
+    ensures { result ≡ short_halt_of place short trail }
+{
+    match short {
+        Short::OutOfMemory => Halt::OutOfMemory,
+        Short::Overflow(spill) => Halt::Overflow {
+            place,
+            trail,
+            spill,
+        },
+    }
+}

@@ -1,6 +1,0 @@
-pub mod Costs
-pub mod Fits
-pub mod Pathing
-pub mod Predicting
-pub mod Scoring
-pub mod Testing
