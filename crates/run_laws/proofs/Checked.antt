@@ -16,8 +16,8 @@ use Rattle.rq_engine.specs.Jobs.{IsJobOf}
 use Rattle.rq_cli.specs.Outcomes.{Stream, IsRun, IsHalted, IsOutputFault, IsErrorFault, WereRead}
 use Rattle.rq_cli.specs.declared.outcome.Outcome.{Outcome}
 use Rattle.rq_cli.specs.declared.outcome.Outcome.TheVariants.{Done, Refused, Usage, SourceFault, SinkFault, OutOfMemory, PivotLimit, Overflow, Rejected}
-use Rattle.cert_law.specs.Laws.{IsUndecided}
-use Rattle.cert_law.proofs.Checking.{one_report, undecided}
+use Rattle.run_laws.specs.Certificates.{IsUndecided}
+use Rattle.run_laws.proofs.Checking.{one_report, undecided}
 use Rattle.run_laws.specs.Completeness.{NoneRose, IsPassing, IsAccepted}
 use Rattle.run_laws.proofs.Complete.{none_beyond, one_request, were_told}
 

@@ -15,7 +15,7 @@ use Rattle.report_text.specs.declared.report.Refusal.TheVariants as refusals
 use Rattle.report_text.specs.declared.report.Halt.TheVariants as halts
 use Rattle.rq_input.specs.Inputs.{HasInputCause, IsInput}
 use Rattle.rq_input.specs.declared.input.Input.{Input}
-use Rattle.input_laws.specs.Laws.{GeneratedTablesHaveNoFault}
+use Rattle.run_laws.specs.Faults.{GeneratedTablesHaveNoFault}
 use Rattle.lambda_path.specs.Laws.{PathHasCosts}
 use Rattle.rq_engine.specs.Answers as engine
 use Rattle.rq_engine.specs.Jobs.{IsJobOf, sample_fit, sample_table}

@@ -1,16 +1,50 @@
-pub mod AskedInputs
-pub mod AskedIntervals
-pub mod Spilled
-pub mod Needed
-pub mod Answering
-pub mod Complete
-pub mod OnlyJob
-pub mod Stopless
-pub mod Checked
-pub mod Nested
-pub mod LeastPaths
-pub mod Pathed
-pub mod Unposed
-pub mod Unpredicted
-pub mod Generated
-pub mod FitHalts
+-- bytes and their faults
+mod Ordered
+mod Same
+mod Parsed
+mod Products
+mod Overflows
+mod Sound
+mod Inputs
+mod Plain
+mod Predictions
+mod Tested
+mod GeneratedRecords
+mod GeneratedCells
+mod GeneratedFormula
+mod GeneratedDesign
+mod GeneratedInputs
+mod OneFault
+-- certificates that are written
+mod Made
+mod Passing
+mod Ranked
+mod All
+mod Lengths
+mod Checking
+mod Written
+-- outcomes of a run
+mod AskedInputs
+mod AskedIntervals
+mod Spilled
+mod Needed
+mod Answering
+mod Complete
+mod OnlyJob
+mod Stopless
+mod Checked
+mod Nested
+mod LeastPaths
+mod Pathed
+mod Unposed
+mod Unpredicted
+mod Generated
+mod FitHalts
+-- what a report says
+mod Segments
+mod Least
+mod Steady
+mod Rows
+mod Fits
+mod Only
+mod Read

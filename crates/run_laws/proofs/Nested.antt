@@ -30,7 +30,7 @@ use Rattle.report_text.specs.declared.report.Halt.{Halt}
 use Rattle.report_text.specs.declared.report.Halt.TheVariants as halts
 use Rattle.rq_input.specs.Tested.{AreColumns, HasTestedCause, IsTested}
 use Rattle.rq_input.specs.declared.input.Input.{Input}
-use Rattle.input_laws.specs.Laws.{TestedHaveNoFault}
+use Rattle.run_laws.specs.Faults.{TestedHaveNoFault}
 use Rattle.rq_engine.specs.Tested.{IsTestFitOf}
 use Rattle.rq_engine.specs.Answers as engine
 use Rattle.rq_engine.specs.Answers.{HasTestFitCause, IsRight, IsTestFitOfBytes, LacksTestFit}

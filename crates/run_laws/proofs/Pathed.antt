@@ -25,7 +25,7 @@ use Rattle.report_text.specs.declared.report.Halt.TheVariants as halts
 use Rattle.rq_input.specs.Plain.{HasPlainCause, IsPlain}
 use Rattle.rq_input.specs.declared.plain.PlainInput.{PlainInput}
 use Rattle.rq_input.proofs.PlainInputs.{plain_input}
-use Rattle.input_laws.specs.Laws.{PlainInputsHaveNoFault}
+use Rattle.run_laws.specs.Faults.{PlainInputsHaveNoFault}
 use Rattle.rq_engine.specs.Paths.{IsPathProblem}
 use Rattle.rq_engine.specs.Answers as engine
 use Rattle.rq_engine.specs.Answers.{HasPathFitCause, IsPathFitOfBytes, IsRight, LacksPathFit}

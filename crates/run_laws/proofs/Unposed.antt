@@ -18,7 +18,7 @@ use Rattle.report_text.specs.declared.report.Halt.{Halt}
 use Rattle.report_text.specs.declared.report.Halt.TheVariants as halts
 use Rattle.rq_input.specs.Inputs.{HasInputCause, IsInput}
 use Rattle.rq_input.specs.declared.input.Input.{Input}
-use Rattle.input_laws.specs.Laws.{InputsHaveNoFault}
+use Rattle.run_laws.specs.Faults.{InputsHaveNoFault}
 use Rattle.rq_engine.specs.Answers as engine
 use Rattle.rq_engine.specs.Answers.{LacksFit, LacksPredictFit}
 use Rattle.rq_engine.specs.Jobs.{sample_fit}

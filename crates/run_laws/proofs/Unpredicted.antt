@@ -13,7 +13,7 @@ use Rattle.report_text.specs.declared.report.Halt.{Halt}
 use Rattle.report_text.specs.declared.report.Halt.TheVariants as halts
 use Rattle.rq_input.specs.Predictions.{HasPredictionCause, IsPrediction}
 use Rattle.rq_input.specs.declared.predictions.PredictionInput.{PredictionInput}
-use Rattle.input_laws.specs.Laws.{PredictionsHaveNoFault}
+use Rattle.run_laws.specs.Faults.{PredictionsHaveNoFault}
 use Rattle.rq_engine.specs.Answers as engine
 use Rattle.rq_engine.specs.Answers.{IsRight, LacksPredictFit}
 use Rattle.rq_engine.specs.Jobs.{IsJobOf}

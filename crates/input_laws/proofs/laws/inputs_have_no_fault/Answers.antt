@@ -1,5 +1,0 @@
-use Rattle.input_laws.proofs.Inputs.{input_sound}
-use Rattle.input_laws.proofs.laws.inputs_have_no_fault.Goals as goal
-
-pub returns : goal.returns
-returns c = λ job ranked bytes input refusal is shaped. input_sound c.one_formula.ensures c.one_outcome.ensures.either job ranked bytes input is shaped refusal
