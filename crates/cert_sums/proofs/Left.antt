@@ -16,7 +16,8 @@ use Rattle.loss_model.specs.Problem.{value_at, sample}
 use Rattle.loss_model.specs.Sample.{fitted}
 use Rattle.rank_law.specs.Restricted.{projected}
 use Rattle.rank_law.proofs.Lengths.{sum_ℚ-minus}
-use Rattle.cert_sums.specs.Numbers.{value128, whole_at, total}
+use Rattle.wide_int.specs.Numbers.{total}
+use Rattle.cert_sums.specs.Numbers.{value128, whole_at}
 use Rattle.cert_sums.specs.declared.duals.Duals.{Duals}
 use Rattle.cert_sums.specs.declared.table.WholeRow.{WholeRow}
 use Rattle.cert_sums.specs.declared.table.Table.{Table}

@@ -14,7 +14,8 @@ use Rattle.loss_model.specs.Problem.{value_at}
 use Rattle.loss_model.specs.Sample.{Sample, up_cost, down_cost}
 use Rattle.loss_model.specs.Strict.{◌<ℚ◌}
 use Rattle.rank_law.specs.Restricted.{column_sum, IsProjection, squared_length, rank_bound}
-use Rattle.cert_sums.specs.Numbers.{value128, total}
+use Rattle.wide_int.specs.Numbers.{total}
+use Rattle.cert_sums.specs.Numbers.{value128}
 use Rattle.cert_sums.specs.Duals.{side_in, dual_of}
 use Rattle.cert_sums.specs.Sums.{IsBalancedBut}
 use Rattle.cert_sums.specs.declared.ranks.Standing.{Standing}

@@ -9,13 +9,13 @@ ghost use Rattle.cert_sums.specs.Numbers.{value128};
 ghost use Rattle.cert_sums.specs.Tables.{IsSmallRow, IsTable};
 ghost use Rattle.cert_sums.specs.Duals.{at_line, side_in, dual_of, IsRowDual, IsDuals};
 
-use crate::products::grown;
 use crate::scale::{common_scale, product, scaled};
 use crate::table::{Line, Table, WholeRow};
 use crate::vertices::{basic_number, side};
 use frac_core::{Frac128, List};
 use loss_model::{Problem, Side, Vertex};
 use std::alloc::Global;
+use wide_int::grown;
 
 /// A quantile, a vertex, and the dual values of the basic rows there.
 #[derive(Clone, Copy)]

@@ -8,7 +8,8 @@ ghost use Rattle.exact_algebra.specs.Rational.{◌-ℚ◌, ◌*ℚ◌, whole};
 ghost use Rattle.exact_matrices.specs.Terms.{delta};
 ghost use Rattle.loss_model.specs.Problem.{sample, value_at};
 ghost use Rattle.rank_law.specs.Restricted.{projected, IsProjection, squared_length};
-ghost use Rattle.cert_sums.specs.Numbers.{value128, whole_at, sizes};
+ghost use Rattle.wide_int.specs.Numbers.{sizes};
+ghost use Rattle.cert_sums.specs.Numbers.{value128, whole_at};
 ghost use Rattle.cert_sums.specs.Tables.{IsTable};
 ghost use Rattle.cert_sums.specs.Duals.{IsDuals};
 ghost use Rattle.cert_sums.specs.Ranks.{left_at, IsPositive};
@@ -16,7 +17,7 @@ ghost use Rattle.cert_sums.specs.Ranks.{left_at, IsPositive};
 use crate::duals::Duals;
 use crate::ends::WholeProblem;
 use crate::fractions::minus;
-use crate::products::{has_room, row_product};
+use crate::products::has_room;
 use crate::scale::{common_scale, scaled};
 use crate::table::Table;
 use crate::totals::{balances_but, column_number};
@@ -24,6 +25,7 @@ use crate::vertices::item_at;
 use frac_core::{Exact, Frac128, List};
 use loss_model::{IntervalProof, Problem};
 use std::alloc::Global;
+use wide_int::row_product;
 
 // What the entry of a column is multiplied by: 1 for the column itself, less the factor.
 fn left_factor(factor: Frac128, own: bool) -> Option<Frac128>

@@ -4,18 +4,20 @@ ghost use Rattle.exact_algebra.specs.Rational.{◌*ℚ◌, neg_ℚ, whole};
 ghost use Rattle.loss_model.specs.Problem.{sample, value_at};
 ghost use Rattle.loss_model.specs.Sample.{residual};
 ghost use Rattle.loss_model.specs.Vertex.{IsOn};
-ghost use Rattle.cert_sums.specs.Numbers.{value128, whole_at, sizes};
+ghost use Rattle.wide_int.specs.Numbers.{sizes};
+ghost use Rattle.cert_sums.specs.Numbers.{value128, whole_at};
 ghost use Rattle.cert_sums.specs.Tables.{IsTable};
 ghost use Rattle.cert_sums.specs.Duals.{side_in};
 ghost use Rattle.cert_sums.specs.Residuals.{IsWholeOn, AreMultipliers, RowsFollow};
 
-use crate::products::{has_room, narrow_row_product, narrowed, row_product};
+use crate::products::{has_room, narrow_row_product, narrowed};
 use crate::scale::{common_scale, scaled};
 use crate::table::Table;
 use crate::vertices::side;
 use frac_core::{Exact, Frac128, List};
 use loss_model::{Problem, Side, Vertex};
 use std::alloc::Global;
+use wide_int::row_product;
 
 /// What the cells of a row are multiplied by to give its residual times the scale: the negated coefficients times it,
 /// and behind them the scale itself.

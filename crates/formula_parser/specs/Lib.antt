@@ -1,4 +1,3 @@
-pub mod Words
 pub mod Terms
 pub mod Known
 pub mod Meaning

@@ -9,6 +9,7 @@ pub mod Unique
 pub mod Exchanged
 pub mod Solved
 pub mod Counting
+pub mod DataRows
 pub mod PerturbedLosses
 pub mod OneVertex
 pub use Rattle.basis_model.proofs.LexicographicLaws

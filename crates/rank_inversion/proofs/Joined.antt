@@ -23,7 +23,7 @@ use Rattle.rank_inversion.specs.declared.column_test.Asked.{Asked}
 use Rattle.rank_inversion.specs.Intervals.{IsRankInterval}
 use Rattle.rank_inversion.specs.Inversions.{IsAskable}
 use Rattle.rank_inversion.specs.Trails.{with_walks}
-use Rattle.rank_inversion.proofs.Costs.{data_costs}
+use Rattle.pivot_rule.proofs.DataRows.{data_costs}
 use Rattle.rank_inversion.proofs.NoStep.{walk_is_ended}
 
 pub at_most : (x y : ℚ) → x <ℚ y → x ≤ℚ y

@@ -8,7 +8,6 @@ mod StepLaws
 mod LookLaws
 mod WalkLaws
 mod NoStep
-pub mod Costs
 mod Causes
 mod Joined
 mod WholeIntervals

@@ -9,7 +9,7 @@ use Rattle.loss_model.specs.Problem.{sample}
 use Rattle.pivot_rule.specs.Duals.{HasCosts}
 use Rattle.rank_inversion.specs.Inversions.{IsAskable}
 use Rattle.rank_inversion.specs.declared.column_test.Asked.{Asked}
-use Rattle.rank_inversion.proofs.Costs.{data_costs}
+use Rattle.pivot_rule.proofs.DataRows.{data_costs}
 use Rattle.rank_inversion.specs.Intervals.{HasFactors}
 use Rattle.rank_inversion.specs.AllIntervals.{IsFor}
 use Rattle.rank_inversion.specs.RankProblems.{IsInner, IsRankable}

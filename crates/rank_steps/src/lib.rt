@@ -21,7 +21,6 @@ mod crossings;
 mod entering;
 mod entries;
 mod levels;
-mod sooner;
 mod way;
 
 pub use crossings::{WholeCourse, first_crossing};

@@ -1,61 +1,20 @@
 -- Data rows and penalty rows have costs at every quantile.
-use Rattle.std.proofs.Common.{◌≡◌, ◌≢◌, ◌⊎◌, ◌<◌, ◌≤◌, ℕ, zero, suc, [], ◌∷◌, length, pos, arith, inl, inr, refl, sym, ap, subst, ◌∙◌}
-use Rattle.exact_algebra.proofs.OrderLaws.{cmp_ℚ-Less, le_from_not, ≤ℚ-minus}
+use Rattle.std.proofs.Common.{◌≡◌, ◌⊎◌, ◌<◌, ◌≤◌, ℕ, zero, suc, [], ◌∷◌, length, pos, arith, inl, inr, refl, sym, ap, subst, ◌∙◌}
+use Rattle.exact_algebra.proofs.OrderLaws.{cmp_ℚ-Less, ≤ℚ-minus}
 use Rattle.exact_algebra.specs.Fraction.{rational}
-use Rattle.exact_algebra.specs.Rational.{ℚ, ◌+ℚ◌, ◌-ℚ◌, ◌*ℚ◌, whole, ◌≤ℚ◌}
-use Rattle.exact_algebra.proofs.RationalLaws.{≤ℚ_refl, ≤ℚ_trans, ring_ℚ}
-use Rattle.exact_algebra.specs.Solver.{number, negated, ◌⊞◌, ◌⊟◌, ◌⊠◌, v0, v1}
-use Rattle.loss_model.specs.Dual.{IsDataRow}
-use Rattle.loss_model.proofs.Quotients.{product_not_negative}
+use Rattle.exact_algebra.specs.Rational.{ℚ, ◌+ℚ◌, ◌*ℚ◌, whole, ◌≤ℚ◌}
+use Rattle.exact_algebra.proofs.RationalLaws.{≤ℚ_trans, ring_ℚ}
+use Rattle.exact_algebra.specs.Solver.{number, ◌⊞◌, ◌⊟◌, ◌⊠◌, v0, v1}
 use Rattle.loss_model.specs.Problem.{sample}
 use Rattle.loss_model.specs.Sample.{Sample, up_cost, down_cost}
 use Rattle.pivot_rule.specs.Duals.{HasCosts}
+use Rattle.pivot_rule.proofs.DataRows.{IsCosted, at_least_zero, row_costs}
 use Rattle.rq_words.specs.declared.job.FitJob.{FitJob}
 use Rattle.report_text.specs.ReportText.{value}
 use Rattle.rq_program.specs.Costs.{IsPenaltyRow}
 use Rattle.rq_input.specs.Rows.{HasRows}
 use Rattle.rq_input.specs.declared.input.Input.{Input}
 use Rattle.rq_engine.specs.Asks.{IsFitAsk}
-
--- the weight of a data row is above 0
-above_zero : (p : Sample) (i : ℕ) → IsDataRow p i → ¬ (p.up1 i ≤ℚ whole (pos 0))
-above_zero p i row = (cmp_ℚ-Less (whole (pos 0)) (p.up1 i)).0 row.weighted
-
-pub weight_not_zero : (p : Sample) (i : ℕ) → IsDataRow p i → p.up1 i ≢ whole (pos 0)
-weight_not_zero p i row e = above_zero p i row (subst (λ z. z ≤ℚ whole (pos 0)) (sym e) (≤ℚ_refl (whole (pos 0))))
-
--- a number that is not below 0
-at_least_zero : (x : ℚ) → ¬ (x ≤ℚ whole (pos 0)) → whole (pos 0) ≤ℚ x
-at_least_zero x h = le_from_not (whole (pos 0)) x h
-
-module _ (p : Sample) (theta : ℚ) (i : ℕ) (row : IsDataRow p i) where
-  up_is : up_cost p theta i ≡ p.up1 i *ℚ theta
-  up_is = ap (λ z. z +ℚ (p.up1 i *ℚ theta)) row.up0 ∙ ring_ℚ (p.up1 i ∷ theta ∷ []) (number (pos 0) ⊞ v0 ⊠ v1) (v0 ⊠ v1) refl
-
-  down_is : down_cost p theta i ≡ p.up1 i *ℚ (whole (pos 1) -ℚ theta)
-  down_is =
-      ap (λ z. z +ℚ (p.down1 i *ℚ theta)) row.down0 ∙ ap (λ z. p.up1 i +ℚ (z *ℚ theta)) row.down1
-      ∙ ring_ℚ (p.up1 i ∷ theta ∷ []) (v0 ⊞ negated v0 ⊠ v1) (v0 ⊠ (number (pos 1) ⊟ v1)) refl
-
-  sum_is : up_cost p theta i +ℚ down_cost p theta i ≡ p.up1 i
-  sum_is =
-      ap (λ z. z +ℚ down_cost p theta i) up_is ∙ ap (λ z. (p.up1 i *ℚ theta) +ℚ z) down_is
-      ∙ ring_ℚ (p.up1 i ∷ theta ∷ []) (v0 ⊠ v1 ⊞ v0 ⊠ (number (pos 1) ⊟ v1)) v0 refl
-
--- what a row costs at theta is not negative on either side, and above 0 in all
-pub record IsCosted (p : Sample) (theta : ℚ) (i : ℕ) : Type 0 where
-  pub up : whole (pos 0) ≤ℚ up_cost p theta i
-  pub down : whole (pos 0) ≤ℚ down_cost p theta i
-  pub some : ¬ ((up_cost p theta i +ℚ down_cost p theta i) ≤ℚ whole (pos 0))
-
-pub data_costs : (p : Sample) (theta : ℚ) (i : ℕ) → whole (pos 0) ≤ℚ theta → theta ≤ℚ whole (pos 1) → IsDataRow p i → IsCosted p theta i
-data_costs p theta i low high row =
-    let weight = at_least_zero (p.up1 i) (above_zero p i row) in
-    record {
-      up = subst (λ z. whole (pos 0) ≤ℚ z) (sym (up_is p theta i row)) (product_not_negative (p.up1 i) theta weight low);
-      down = subst (λ z. whole (pos 0) ≤ℚ z) (sym (down_is p theta i row)) (product_not_negative (p.up1 i) (whole (pos 1) -ℚ theta) weight ((≤ℚ-minus theta (whole (pos 1))).0 high));
-      some = λ h. above_zero p i row (subst (λ z. z ≤ℚ whole (pos 0)) (sum_is p theta i row) h);
-    }
 
 -- a number above 0 and itself again are above 0
 twice_above : (x : ℚ) → ¬ (x ≤ℚ whole (pos 0)) → ¬ ((x +ℚ x) ≤ℚ whole (pos 0))
@@ -102,7 +61,7 @@ input_costs input theta low high rows =
 
     costed : (i : ℕ) → i < length input.problem.rows → IsCosted p theta i
     costed i l = elim (below_or_not i (length input.design.rows)) [
-      | inl before ↦ data_costs p theta i low high (rows.are_data i before)
+      | inl before ↦ row_costs p theta i low high (rows.are_data i before)
       | inr behind ↦ penalty_costs p theta i (rows.are_penalties i behind l)
     ]
 

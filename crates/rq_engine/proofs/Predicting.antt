@@ -39,6 +39,7 @@ use Rattle.report_text.specs.declared.report.Halt.TheVariants.{Refused, OutOfMem
 use Rattle.rq_input.specs.Predictions.{HasPredictionCause, IsPrediction}
 use Rattle.rq_input.specs.Rows.{HasRows}
 use Rattle.rq_engine.specs.Answers.{HasPredictCause}
+
 module _ (segments : List (Segment Frac128)) (row : PredictRow) where
   -- the steps of a row are joined where the segments cover a range
   pub joined : (p : Problem Frac128) → StepsCover value p segments → (rows : ℕ) (lo hi : ℚ) → Covers rows lo hi (segments_of value p segments) → (steps : List (Step Frac128)) → AreSteps value row.x row.offsets segments steps

@@ -18,6 +18,7 @@ use Rattle.loss_model.specs.Problem.{IsWellShaped, of_row, sample}
 use Rattle.loss_model.specs.Segment.{Covers, segments_of}
 use Rattle.loss_model.specs.StartStop.{IsStartStop}
 use Rattle.pivot_rule.specs.Duals.{HasCosts}
+use Rattle.pivot_rule.proofs.DataRows.{data_costs}
 use Rattle.tau_process.specs.Processes.{IsProcess}
 use Rattle.tau_process.specs.Stops.{IsProcessStop}
 use Rattle.rankscores.specs.Scores.{IsScorable}
@@ -37,10 +38,10 @@ use Rattle.rq_engine.specs.Asks.{IsFitAsk, IsUnitAsk}
 use Rattle.rq_engine.specs.Halts.{stop_halt}
 use Rattle.rq_engine.specs.Stops.{most}
 use Rattle.rq_engine.specs.Tested.{AreScoredBy, HasScoredCause, HasTestCause}
-use Rattle.rq_engine.proofs.Costs.{IsCosted, data_costs}
 use Rattle.rq_engine.proofs.Fits.{process_scorable}
 use Rattle.rq_engine.proofs.Scoring.{unit_ask}
 use Rattle.rq_engine.specs.Answers.{HasTestFitCause}
+
 pub are_tested : (columns : ℕ) (tested : List ℕ) → AreColumns columns tested → AreTested columns tested
 are_tested columns tested are = record { ascending = are.ascending; within = are.within }
 
@@ -56,11 +57,8 @@ module _ (p : Problem Frac128) (tested : List ℕ) (q : Problem Frac128) (is : q
     restricted_data i l = subst (λ (q : Problem Frac128). IsDataRow (sample value q) i) (sym is) (stay tested i (are_data i (omega (arith, same_rows, l))))
 
     module _ (theta : ℚ) (low : whole (pos 0) ≤ℚ theta) (high : theta ≤ℚ whole (pos 1)) where
-      costed : (i : ℕ) → i < length q.rows → IsCosted (sample value q) theta i
-      costed i l = data_costs (sample value q) theta i low high (restricted_data i l)
-
       pub restricted_costs : HasCosts (sample value q) theta
-      restricted_costs = record { up = λ i l. (costed i l).up; down = λ i l. (costed i l).down; some = λ i l. (costed i l).some }
+      restricted_costs = data_costs (sample value q) theta low high restricted_data
 
 -- so at both ends of the range of a job over 0 to 1
 module _ (job : FitJob) (ask : IsUnitAsk job) (p : Problem Frac128) (tested : List ℕ) (q : Problem Frac128) (is : q ≡ restricted_problem tested p) (are_data : (i : ℕ) → i < length p.rows → IsDataRow (sample value p) i)

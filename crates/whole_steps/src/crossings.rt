@@ -54,8 +54,8 @@ fn is_before(one: Quotient, two: Quotient) -> bool
     first.compare(second).is_lt()
 }
 
-/// The breakpoint of the two that comes first, and the first of equal ones.
-fn sooner(
+/// The breakpoint of the two that comes first, and the first of equal ones. What isn't there comes after all others.
+pub fn sooner(
     first: Option<Breakpoint<Quotient>>,
     second: Option<Breakpoint<Quotient>>,
 ) -> Option<Breakpoint<Quotient>>

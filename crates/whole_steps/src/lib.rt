@@ -48,7 +48,7 @@ mod solving;
 mod station;
 mod tie;
 
-pub use crossings::{Quotient, fraction_of};
+pub use crossings::{Quotient, fraction_of, sooner};
 pub use entering::RowNumbers;
 pub use full_line::FullLine;
 pub use line::{Line, Mover};

@@ -1,7 +1,7 @@
 -- A product more is added, and a product less is left; there is room for it.
 use Rattle.std.proofs.Common.{◌≡◌, ◌≤◌, ◌+ℤ◌, ◌*ℤ◌, pos, unsigned_abs, get_or, w64, to_z, of_z, arith, rules}
 use mir.Syntax.{w128}
-use Rattle.cert_sums.proofs.Steps.{product_room, product_step, product_all}
+use Rattle.wide_int.proofs.Totals.{product_room, product_step, product_all}
 use Rattle.cert_sums.proofs.products.narrow_row_product.Goals as goal
 
 pub grown-sum-requires : goal.grown-sum-requires

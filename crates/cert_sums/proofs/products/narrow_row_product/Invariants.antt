@@ -1,6 +1,6 @@
 -- What is added and what is left make the whole sum, and the sizes of what is left have room.
 use Rattle.std.proofs.Common.{◌≡◌, ◌+◌, ◌*◌, ◌≤◌, ◌+ℤ◌, unsigned_abs, drop}
-use Rattle.cert_sums.specs.Numbers.{total, sizes}
+use Rattle.wide_int.specs.Numbers.{total, sizes}
 use Rattle.cert_sums.proofs.products.narrow_row_product.Given as goal
 
 abbrev pub invariant-loop-i : goal.invariant-loop-i

@@ -4,7 +4,7 @@ use Rattle.std.specs.Prelude.{slice_get, Some, Option, ◌*ℤ◌}
 use Rattle.std.specs.Option.{option_map_or}
 use Rattle.std.proofs.lemmas.Option.{slice_get_read}
 use Rattle.exact_algebra.specs.Rational.{whole}
-use Rattle.cert_sums.specs.Numbers.{total}
+use Rattle.wide_int.specs.Numbers.{total}
 use Rattle.cert_sums.specs.Ranks.{left_at}
 use Rattle.cert_sums.specs.declared.table.WholeRow.{WholeRow}
 use Rattle.cert_sums.proofs.Lists.{length_pushed, whole_pushed}

@@ -1,6 +1,6 @@
 use Rattle.std.proofs.Common.{◌≡◌, ℕ, ◌<◌}
 use Rattle.std.specs.Prelude.{slice_get, Some}
-use Rattle.cert_sums.specs.Numbers.{total}
+use Rattle.wide_int.specs.Numbers.{total}
 use Rattle.cert_sums.specs.Duals.{side_in}
 use Rattle.cert_sums.specs.Residuals.{IsWholeOn}
 use Rattle.cert_sums.specs.declared.table.WholeRow.{WholeRow}
