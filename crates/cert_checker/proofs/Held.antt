@@ -6,6 +6,7 @@ use Rattle.exact_algebra.specs.Fraction.{rational}
 use Rattle.exact_algebra.specs.Rational.{ℚ, ◌*ℚ◌, neg_ℚ, whole, ◌≤ℚ◌}
 use Rattle.exact_algebra.proofs.RationalSumLaws.{sum_ℚ-same}
 use Rattle.frac_core.specs.declared.frac128.Frac128.{Frac128}
+use Rattle.frac_core.specs.Values.{value as value128}
 use Rattle.loss_model.specs.declared.interval.IntervalProof.{IntervalProof}
 use Rattle.loss_model.specs.declared.problem.Problem.{Problem}
 use Rattle.loss_model.specs.declared.vertex.Side.{Side}
@@ -18,7 +19,6 @@ use Rattle.loss_model.specs.Vertex.{IsOn}
 use Rattle.rank_law.specs.Restricted.{column_sum, IsProjection, rank_bound, squared_length}
 use Rattle.cert_sums.specs.Duals.{dual_of}
 use Rattle.cert_sums.specs.Ranks.{IsPositive, IsWithinCosts, IsHeld, IsInsideBound, IsBeyondBound}
-use Rattle.cert_checker.specs.Places.{value128}
 use Rattle.cert_checker.specs.Formulas as formula
 use Rattle.cert_checker.specs.Formulas.{given, worth}
 use Rattle.cert_checker.specs.Tests.{Part, Holds, ArePartsTrue, AreTrue, upto, part}

@@ -4,11 +4,11 @@ use Rattle.std.specs.Option.{option_map_or}
 use Rattle.std.proofs.Common.{arith, refl, subst}
 use Rattle.std.proofs.lemmas.Option.{slice_get_within}
 use Rattle.frac_core.specs.declared.frac128.Frac128.{Frac128}
+use Rattle.frac_core.specs.Values.{value as value128}
 use Rattle.loss_model.specs.declared.problem.Problem.{Problem}
 use Rattle.loss_model.specs.declared.process.Segment.{Segment}
 use Rattle.loss_model.specs.Problem.{sample}
 use Rattle.cert_sums.specs.Ends.{IsHeldAt}
-use Rattle.cert_checker.specs.Places.{value128}
 use Rattle.cert_checker.specs.Tests.{Test, AreTrue, upto}
 use Rattle.cert_checker.specs.Conditions.{each, item_tests, balances, losses, joint_tests, joints}
 use Rattle.cert_checker.specs.Given.{AllGiven}

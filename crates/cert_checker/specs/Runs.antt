@@ -1,10 +1,10 @@
 -- Inner. Conditions 6 to 8 as tests of one segment after the other.
 use Rattle.std.specs.Prelude.{◌≡◌, ℕ, ◌+◌, ◌++◌, List, slice_get, Some}
 use Rattle.frac_core.specs.declared.frac128.Frac128.{Frac128}
+use Rattle.frac_core.specs.Values.{value as value128}
 use Rattle.loss_model.specs.declared.problem.Problem.{Problem}
 use Rattle.loss_model.specs.declared.process.Segment.{Segment}
 use Rattle.loss_model.specs.Problem.{sample}
-use Rattle.cert_checker.specs.Places.{value128}
 use Rattle.cert_checker.specs.Tests.{Test}
 use Rattle.cert_checker.specs.Conditions.{each, balances, losses, joints}
 use Rattle.cert_checker.specs.Views.{IsSmall, IsTabled}

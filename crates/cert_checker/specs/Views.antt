@@ -2,9 +2,9 @@
 use Rattle.std.specs.Prelude.{ℕ, ◌≤◌, ◌+◌, ◌++◌, List, length, Option, Some, None, ⊤}
 use Rattle.exact_algebra.specs.Fraction.{rational}
 use Rattle.frac_core.specs.declared.frac128.Frac128.{Frac128}
+use Rattle.frac_core.specs.Values.{value as value128}
 use Rattle.loss_model.specs.declared.problem.Problem.{Problem}
 use Rattle.loss_model.specs.Problem.{sample}
-use Rattle.cert_checker.specs.Places.{value128}
 use Rattle.cert_checker.specs.Formulas.{times}
 use Rattle.cert_checker.specs.Tests.{Test, part, test, one}
 use Rattle.cert_checker.specs.Conditions.{End, zero_formula}

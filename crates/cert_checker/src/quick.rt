@@ -3,9 +3,9 @@
 //! each condition is tested apart, segment by segment.
 
 ghost use Rattle.std.specs.Prelude.{◌≤◌, ◌<◌, ◌+◌, ◌^◌, ℕ, IsTrue, length};
+ghost use Rattle.frac_core.specs.Values.{value as value128};
 ghost use Rattle.loss_model.specs.Problem.{sample};
 ghost use Rattle.cert_sums.specs.Ends.{IsHeldAt};
-ghost use Rattle.cert_checker.specs.Places.{value128};
 ghost use Rattle.cert_checker.specs.Conditions.{item_tests, balances as balances_of, losses as losses_of, joint_tests, joints};
 ghost use Rattle.cert_checker.specs.Given.{AllGiven};
 ghost use Rattle.cert_checker.specs.Runs.{sum_tests, IsSumGiven};

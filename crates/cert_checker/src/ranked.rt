@@ -1,9 +1,9 @@
 //! Condition 9, by sums of whole numbers first: that these are `true` says that the tests are, and `false` says nothing.
 
 ghost use Rattle.std.specs.Prelude.{ℕ, IfSome, IsTrue};
+ghost use Rattle.frac_core.specs.Values.{value as value128};
 ghost use Rattle.loss_model.specs.Problem.{sample};
 ghost use Rattle.cert_sums.specs.Ranks.{IsBeyondBound};
-ghost use Rattle.cert_checker.specs.Places.{value128};
 ghost use Rattle.cert_checker.specs.Intervals.{values_of, inside_tests};
 ghost use Rattle.cert_checker.specs.Tests.{AreTrue};
 ghost use Rattle.cert_checker.specs.Views.{IsTableOf, question, projection_tests, outside_tests};

@@ -11,13 +11,14 @@ use Rattle.exact_algebra.proofs.RationalSumLaws.{sum_ℚ-next, sum_ℚ-same, sum
 use Rattle.exact_matrices.specs.Terms.{delta}
 use Rattle.exact_matrices.proofs.TermLaws.{sum_ℚ-delta}
 use Rattle.frac_core.specs.declared.frac128.Frac128.{Frac128}
+use Rattle.frac_core.specs.Values.{value as value128}
 use Rattle.loss_model.specs.declared.problem.Problem.{Problem}
 use Rattle.loss_model.specs.Problem.{value_at, sample}
 use Rattle.loss_model.specs.Sample.{fitted}
 use Rattle.rank_law.specs.Restricted.{projected}
 use Rattle.rank_law.proofs.Lengths.{sum_ℚ-minus}
 use Rattle.wide_int.specs.Numbers.{total}
-use Rattle.cert_sums.specs.Numbers.{value128, whole_at}
+use Rattle.cert_sums.specs.Numbers.{whole_at}
 use Rattle.cert_sums.specs.declared.duals.Duals.{Duals}
 use Rattle.cert_sums.specs.declared.table.WholeRow.{WholeRow}
 use Rattle.cert_sums.specs.declared.table.Table.{Table}

@@ -5,6 +5,7 @@ use Rattle.exact_algebra.specs.Fraction.{rational}
 use Rattle.exact_algebra.specs.Order.{cmp_ℚ}
 use Rattle.exact_algebra.specs.Rational.{ℚ, ◌+ℚ◌, ◌*ℚ◌, neg_ℚ, whole, ◌≤ℚ◌}
 use Rattle.frac_core.specs.declared.frac128.Frac128.{Frac128}
+use Rattle.frac_core.specs.Values.{value as value128}
 use Rattle.loss_model.specs.declared.interval.IntervalProof.{IntervalProof}
 use Rattle.loss_model.specs.declared.problem.Row.{Row}
 use Rattle.loss_model.specs.declared.vertex.Side.{Side}
@@ -15,7 +16,6 @@ use Rattle.loss_model.specs.Sample.{Sample, up_cost, down_cost}
 use Rattle.loss_model.specs.Strict.{◌<ℚ◌}
 use Rattle.rank_law.specs.Restricted.{column_sum, IsProjection, squared_length, rank_bound}
 use Rattle.wide_int.specs.Numbers.{total}
-use Rattle.cert_sums.specs.Numbers.{value128}
 use Rattle.cert_sums.specs.Duals.{side_in, dual_of}
 use Rattle.cert_sums.specs.Sums.{IsBalancedBut}
 use Rattle.cert_sums.specs.declared.ranks.Standing.{Standing}

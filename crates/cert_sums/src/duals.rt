@@ -3,9 +3,9 @@
 ghost use Rattle.std.specs.Prelude.{◌≡◌, ◌+◌, ◌*◌, ◌<◌, ◌^◌, pos, unsigned_abs, IfSome, IsTrue};
 ghost use Rattle.exact_algebra.specs.Fraction.{rational};
 ghost use Rattle.exact_algebra.specs.Rational.{◌*ℚ◌, whole};
+ghost use Rattle.frac_core.specs.Values.{value as value128};
 ghost use Rattle.loss_model.specs.Problem.{sample};
 ghost use Rattle.loss_model.specs.Vertex.{basic_value};
-ghost use Rattle.cert_sums.specs.Numbers.{value128};
 ghost use Rattle.cert_sums.specs.Tables.{IsSmallRow, IsTable};
 ghost use Rattle.cert_sums.specs.Duals.{at_line, side_in, dual_of, IsRowDual, IsDuals};
 

@@ -2,8 +2,8 @@
 //! come to what is stated, and that two ends have the same dual values.
 ghost use Rattle.std.specs.Prelude.{◌≡◌, IfSome, IsTrue};
 ghost use Rattle.exact_algebra.specs.Fraction.{rational};
+ghost use Rattle.frac_core.specs.Values.{value as value128};
 ghost use Rattle.loss_model.specs.Problem.{sample};
-ghost use Rattle.cert_sums.specs.Numbers.{value128};
 ghost use Rattle.cert_sums.specs.Tables.{IsTable};
 ghost use Rattle.cert_sums.specs.Duals.{IsDuals};
 ghost use Rattle.cert_sums.specs.Sums.{IsBalanced};

@@ -3,7 +3,7 @@ ghost use Rattle.std.specs.Prelude.{◌≡◌, pos, IfSome, IsTrue};
 ghost use Rattle.exact_algebra.specs.Fraction.{rational};
 ghost use Rattle.exact_algebra.specs.Order.{cmp_ℚ};
 ghost use Rattle.exact_algebra.specs.Rational.{◌+ℚ◌, ◌-ℚ◌, ◌*ℚ◌, whole, ◌≤ℚ◌};
-ghost use Rattle.cert_sums.specs.Numbers.{value128};
+ghost use Rattle.frac_core.specs.Values.{value as value128};
 
 use frac_core::{Exact, Frac128};
 use std::cmp::Ordering;

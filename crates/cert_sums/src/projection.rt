@@ -6,10 +6,11 @@ ghost use Rattle.std.specs.Prelude.{◌≡◌, ◌≤◌, ◌<◌, ◌+◌, ◌*
 ghost use Rattle.exact_algebra.specs.Fraction.{rational};
 ghost use Rattle.exact_algebra.specs.Rational.{◌-ℚ◌, ◌*ℚ◌, whole};
 ghost use Rattle.exact_matrices.specs.Terms.{delta};
+ghost use Rattle.frac_core.specs.Values.{value as value128};
 ghost use Rattle.loss_model.specs.Problem.{sample, value_at};
 ghost use Rattle.rank_law.specs.Restricted.{projected, IsProjection, squared_length};
 ghost use Rattle.wide_int.specs.Numbers.{sizes};
-ghost use Rattle.cert_sums.specs.Numbers.{value128, whole_at};
+ghost use Rattle.cert_sums.specs.Numbers.{whole_at};
 ghost use Rattle.cert_sums.specs.Tables.{IsTable};
 ghost use Rattle.cert_sums.specs.Duals.{IsDuals};
 ghost use Rattle.cert_sums.specs.Ranks.{left_at, IsPositive};

@@ -4,7 +4,7 @@ ghost use Rattle.std.specs.Prelude.{◌≡◌, ◌<◌, ◌≤◌, ◌+◌, ℕ,
 ghost use Rattle.exact_algebra.specs.Fraction.{rational};
 ghost use Rattle.loss_model.specs.declared.process.Segment.{Segment as Piece};
 ghost use Rattle.frac_core.specs.declared.frac128.Frac128.{Frac128 as Fraction128};
-ghost use Rattle.cert_sums.specs.Numbers.{value128};
+ghost use Rattle.frac_core.specs.Values.{value as value128};
 ghost use Rattle.cert_sums.specs.Tables.{IsTable};
 ghost use Rattle.cert_sums.specs.Ends.{low_dual, high_dual, DoMeet, IsBegun, IsEnded, IsHeldAt};
 ghost use Rattle.cert_sums.specs.Slopes.{IsTally, IsReach, IsCounted};

@@ -2,7 +2,7 @@
 ghost use Rattle.std.specs.Prelude.{◌≡◌, ◌≤◌, ◌*ℤ◌, pos, IfSome};
 ghost use Rattle.exact_algebra.specs.Fraction.{rational};
 ghost use Rattle.exact_algebra.specs.Rational.{◌*ℚ◌, whole};
-ghost use Rattle.cert_sums.specs.Numbers.{value128};
+ghost use Rattle.frac_core.specs.Values.{value as value128};
 
 use frac_core::{Exact, Frac128};
 

@@ -2,9 +2,9 @@
 ghost use Rattle.std.specs.Prelude.{◌≡◌, ◌==◌, length, position};
 ghost use Rattle.std.specs.List.{position_or_len};
 ghost use Rattle.exact_algebra.specs.Fraction.{rational};
+ghost use Rattle.frac_core.specs.Values.{value as value128};
 ghost use Rattle.loss_model.specs.Problem.{value_at};
 ghost use Rattle.loss_model.specs.Vertex.{basic_value};
-ghost use Rattle.cert_sums.specs.Numbers.{value128};
 ghost use Rattle.cert_sums.specs.Duals.{side_in};
 
 use frac_core::{Exact, Frac128, List};

@@ -12,8 +12,10 @@ use Rattle.loss_model.specs.declared.interval.End.{End}
 use Rattle.loss_model.specs.declared.interval.IntervalProof.{IntervalProof}
 use Rattle.serde_json.specs.Data.{Members, string}
 use Rattle.serde_json.specs.Find.{as_object}
+use Rattle.frac_core.specs.Values.{exact}
+use Rattle.loss_model.specs.Values.{exact_row}
 use Rattle.cert_text.specs.Reading.{Reading, on_read, or_shape, fraction, count, list, no_more_keys}
-use Rattle.cert_text.specs.Contents.{Content, exact, exact_row, exact_segment, exact_end, exact_interval, content}
+use Rattle.cert_text.specs.Contents.{Content, exact_segment, exact_end, exact_interval, content}
 use Rattle.cert_text.specs.Kept.{IsListed, IsKeptSegment, IsKeptEnd, IsKeptInterval, is_finite, is_outside}
 use Rattle.cert_text.specs.Certificates.{fractions, row, sides, segment, end_kind, finite_members, infinite_members, end_members, end_of, interval_members}
 use Rattle.cert_text.specs.Certificates.{projected_members, interval, kind, anything, top_members, is_too_large, within_limits, version_of, cert_of_data}

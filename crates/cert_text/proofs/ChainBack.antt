@@ -14,10 +14,11 @@ use Rattle.loss_model.specs.declared.vertex.Side.TheVariants.{Up, Down, Basic}
 use Rattle.loss_model.specs.declared.process.Segment.{Segment}
 use Rattle.serde_json.specs.Data.{string}
 use Rattle.serde_json.specs.View.{items_of}
+use Rattle.frac_core.specs.Values.{exact}
 use Rattle.cert_text.specs.Paths.{item_step}
 use Rattle.cert_text.specs.Reading.{on_read, under, fraction, count, items_from, linked_list, list, fitting, no_more_keys}
 use Rattle.cert_text.specs.Chains.{places, high_places, low_places, side_at, values_at, is_same_side, is_elsewhere, moves_from, moves_between, moved, is_equal, is_filled, keeps_value, keep_values, follows, follows_any, are_chained}
-use Rattle.cert_text.specs.Contents.{exact, exact_place, exact_move, exact_segment}
+use Rattle.cert_text.specs.Contents.{exact_place, exact_move, exact_segment}
 use Rattle.cert_text.specs.Kept.{basic_from, basic_rows, IsKeptSegment}
 use Rattle.cert_text.specs.Certificates.{fractions, vertex_of, side, place_members, move_members, one_move, if_as_many, later_members, later_segment, linked_segment, segments}
 use Rattle.cert_text.specs.Trees.{move_tree, later_tree, linked_tree, linked_trees, segments_tree}

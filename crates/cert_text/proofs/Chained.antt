@@ -6,10 +6,12 @@ use Rattle.frac_core.specs.declared.frac128.Frac128.{Frac128}
 use Rattle.loss_model.specs.declared.process.Segment.{Segment}
 use Rattle.serde_json.specs.View.{view}
 use Rattle.serde_json.specs.declared.value.Value.{Value}
+use Rattle.frac_core.specs.Values.{exact}
+use Rattle.loss_model.specs.Values.{exact_row}
 use Rattle.cert_text.specs.Trees.{linked_tree, linked_trees}
 use Rattle.cert_text.specs.Chains.{high_places, low_places, keeps_value, keep_values, is_filled, follows_any, are_chained, is_chained}
 use Rattle.cert_text.specs.Kept.{basic_rows}
-use Rattle.cert_text.specs.Contents.{exact, exact_row, exact_place, exact_segment, content}
+use Rattle.cert_text.specs.Contents.{exact_place, exact_segment, content}
 use Rattle.cert_text.specs.declared.cert.Cert.{Cert}
 use Rattle.cert_text.specs.declared.place.Place.{Place}
 use Rattle.cert_text.proofs.InRationals.{places_exact}

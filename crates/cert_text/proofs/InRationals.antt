@@ -3,11 +3,12 @@ use Rattle.std.proofs.Common.{◌≡◌, ℕ, ◌+◌, Bool, true, false, not, �
 use Rattle.std.proofs.lemmas.List.{map-set}
 use Rattle.std.proofs.lemmas.Option.{slice_get-map}
 use Rattle.frac_core.specs.declared.frac128.Frac128.{Frac128}
+use Rattle.frac_core.specs.Values.{exact}
 use Rattle.loss_model.specs.declared.vertex.Side.{Side}
 use Rattle.loss_model.specs.declared.vertex.Side.TheVariants.{Up, Down, Basic}
 use Rattle.loss_model.specs.declared.process.Segment.{Segment}
 use Rattle.cert_text.specs.Chains.{places, high_places, low_places, is_same_side, is_elsewhere, moves_from, moves_between, moved}
-use Rattle.cert_text.specs.Contents.{exact, exact_place, exact_move, exact_segment}
+use Rattle.cert_text.specs.Contents.{exact_place, exact_move, exact_segment}
 use Rattle.cert_text.specs.declared.place.Place.{Place}
 use Rattle.cert_text.specs.declared.place.Place.TheVariants.{Above, Below, On}
 use Rattle.cert_text.specs.declared.moves.Move.{Move}

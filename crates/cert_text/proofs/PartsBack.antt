@@ -14,10 +14,12 @@ use Rattle.loss_model.specs.declared.vertex.Vertex.{Vertex}
 use Rattle.loss_model.specs.declared.process.Segment.{Segment}
 use Rattle.serde_json.specs.Data.{Data, Members, member, number, unsigned}
 use Rattle.serde_json.specs.View.{items_of}
+use Rattle.frac_core.specs.Values.{exact}
+use Rattle.loss_model.specs.Values.{exact_row}
 use Rattle.cert_text.specs.Paths.{key_step, item_step}
 use Rattle.cert_text.specs.Reading.{Reading, Reader, on_read, under, or_shape, or_number, fraction, count, items_from, linked_list, list, next, field, fitting, no_more_keys}
 use Rattle.cert_text.specs.Certificates.{if_filled}
-use Rattle.cert_text.specs.Contents.{exact, exact_row, exact_vertex, exact_segment}
+use Rattle.cert_text.specs.Contents.{exact_vertex, exact_segment}
 use Rattle.cert_text.specs.Kept.{IsListed, IsKeptSegment}
 use Rattle.cert_text.specs.Certificates.{fractions, row_members, row, side_of, sides_of, sides, vertex_of, segment_members, segment}
 use Rattle.cert_text.specs.Trees.{fraction_tree, list_tree, fractions_tree, sign_of, sides_tree, row_tree, segment_tree}

@@ -5,6 +5,7 @@ use mathlib.Core.Path.{PathP}
 use mathlib.Core.HLevel.{is_prop→PathP}
 use Rattle.frac_core.specs.declared.frac128.Frac128.{Frac128}
 use Rattle.frac_core.specs.Lowest.{same_fraction, IsWithin-along}
+use Rattle.frac_core.specs.Values.{exact}
 use Rattle.loss_model.specs.declared.problem.Row.{Row}
 use Rattle.loss_model.specs.declared.vertex.Vertex.{Vertex}
 use Rattle.loss_model.specs.declared.process.Segment.{Segment}
@@ -14,7 +15,8 @@ use Rattle.loss_model.specs.declared.interval.Beyond.{Beyond}
 use Rattle.loss_model.specs.declared.interval.Beyond.TheVariants.{Outside, Ray}
 use Rattle.loss_model.specs.declared.interval.End.{End}
 use Rattle.loss_model.specs.declared.interval.IntervalProof.{IntervalProof}
-use Rattle.cert_text.specs.Contents.{exact, exact_row, exact_vertex, exact_segment, exact_bound, exact_beyond, exact_end, exact_interval}
+use Rattle.loss_model.specs.Values.{exact_row}
+use Rattle.cert_text.specs.Contents.{exact_vertex, exact_segment, exact_bound, exact_beyond, exact_end, exact_interval}
 use Rattle.cert_text.specs.Kept.{IsKeptSegment, IsKeptInterval}
 use Rattle.cert_text.specs.Laws.{SameContent}
 

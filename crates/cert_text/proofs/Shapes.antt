@@ -16,6 +16,7 @@ use Rattle.loss_model.specs.declared.interval.IntervalProof.{IntervalProof}
 use Rattle.serde_json.specs.Data.{Data, number, unsigned, Members, member, depth, items_depth, members_depth}
 use Rattle.serde_json.specs.View.{items_of}
 use Rattle.serde_json.specs.Written.{outline, items_outline, members_outline}
+use Rattle.loss_model.specs.Values.{exact_row}
 use Rattle.cert_text.specs.Trees.{fraction_tree, fractions_tree, sides_tree, row_tree, segment_tree, move_tree, later_tree, linked_tree, linked_trees}
 use Rattle.cert_text.specs.Trees.{segments_tree, layout, version, value_member, beyond_members, end_tree, interval_tree, cert_tree}
 use Rattle.cert_text.specs.declared.cert.Cert.{Cert}
@@ -24,7 +25,7 @@ use Rattle.cert_text.specs.declared.place.Place.{Place}
 use Rattle.cert_text.specs.declared.place.Place.TheVariants.{Above, Below, On}
 use Rattle.cert_text.specs.declared.layout.Layout.{Layout}
 use Rattle.cert_text.specs.declared.layout.Layout.TheVariants.{Full, Chained}
-use Rattle.cert_text.specs.Contents.{exact_row, exact_segment, content}
+use Rattle.cert_text.specs.Contents.{exact_segment, content}
 use Rattle.cert_text.specs.Limits.{IsWithinLimits}
 use Rattle.cert_text.proofs.ChainBack.{few_places, moves_below, IsReady, one_each}
 use Rattle.cert_text.proofs.Lists.{first_holds, rest_hold}

@@ -1,9 +1,8 @@
 -- Stated. What a certificate says, in ℚ: every number by its value.
 use Rattle.std.specs.Prelude.{List, map}
 use Rattle.exact_algebra.specs.Rational.{ℚ}
-use Rattle.exact_algebra.specs.Fraction.{rational}
 use Rattle.frac_core.specs.declared.frac128.Frac128.{Frac128}
-use Rattle.loss_model.specs.declared.problem.Row.{Row}
+use Rattle.frac_core.specs.Values.{exact}
 use Rattle.loss_model.specs.declared.problem.Problem.{Problem}
 use Rattle.loss_model.specs.declared.vertex.Vertex.{Vertex}
 use Rattle.loss_model.specs.declared.process.Segment.{Segment}
@@ -13,24 +12,11 @@ use Rattle.loss_model.specs.declared.interval.Beyond.{Beyond}
 use Rattle.loss_model.specs.declared.interval.Beyond.TheVariants.{Outside, Ray}
 use Rattle.loss_model.specs.declared.interval.End.{End}
 use Rattle.loss_model.specs.declared.interval.IntervalProof.{IntervalProof}
+use Rattle.loss_model.specs.Values.{exact_row}
 use Rattle.cert_text.specs.declared.cert.Cert.{Cert}
 use Rattle.cert_text.specs.declared.place.Place.{Place}
 use Rattle.cert_text.specs.declared.place.Place.TheVariants.{Above, Below, On}
 use Rattle.cert_text.specs.declared.moves.Move.{Move}
-
--- the value of a fraction
-abbrev pub exact : Frac128 → ℚ
-exact x = rational (record { num = x.num; den = x.den })
-
-abbrev pub exact_row : Row Frac128 → Row ℚ
-exact_row r = record {
-  x = map exact r.x;
-  y = exact r.y;
-  up0 = exact r.up0;
-  up1 = exact r.up1;
-  down0 = exact r.down0;
-  down1 = exact r.down1;
-}
 
 abbrev pub exact_problem : Problem Frac128 → Problem ℚ
 exact_problem p = record { columns = p.columns; rows = map exact_row p.rows }

@@ -7,9 +7,11 @@ use Rattle.loss_model.specs.declared.interval.Beyond.TheVariants.{Outside, Ray}
 use Rattle.loss_model.specs.declared.interval.End.{End}
 use Rattle.loss_model.specs.declared.interval.IntervalProof.{IntervalProof}
 use Rattle.serde_json.specs.Data.{Members}
+use Rattle.frac_core.specs.Values.{exact}
+use Rattle.loss_model.specs.Values.{exact_row}
 use Rattle.cert_text.specs.Kept.{basic_rows}
 use Rattle.cert_text.specs.Chains.{high_places, side_at, values_at, moved}
-use Rattle.cert_text.specs.Contents.{Content, exact, exact_row, exact_move, exact_interval}
+use Rattle.cert_text.specs.Contents.{Content, exact_move, exact_interval}
 use Rattle.cert_text.specs.Certificates.{anything, segments, vertex_of, if_filled, if_as_many}
 use Rattle.cert_text.specs.Reading.{Reading, on_read, field, fitting, no_more_keys}
 use Rattle.cert_text.specs.declared.layout.Layout.{Layout}

@@ -3,8 +3,9 @@
 ghost use Rattle.std.specs.Prelude.{◌≡◌, ◌≢◌, Ok, Err, Some, None, All, length, map, option_map, option_copied, IfOk, IfErr};
 ghost use Rattle.std.specs.List.{last_or};
 ghost use Rattle.serde_json.specs.View.{view, items_view};
+ghost use Rattle.frac_core.specs.Values.{exact};
 ghost use Rattle.cert_text.specs.Chains.{is_equal, keeps_value, keep_values, follows, follows_any, are_chained, is_chained};
-ghost use Rattle.cert_text.specs.Contents.{exact, exact_place, exact_segment, content};
+ghost use Rattle.cert_text.specs.Contents.{exact_place, exact_segment, content};
 ghost use Rattle.cert_text.specs.Kept.{IsKeptSegment};
 ghost use Rattle.cert_text.specs.Certificates.{linked_segment, segments};
 ghost use Rattle.cert_text.specs.Reading.{items_from, linked_list, list};

@@ -7,7 +7,8 @@ ghost use Rattle.loss_model.specs.declared.interval.Beyond.TheVariants.{Outside,
 ghost use Rattle.loss_model.specs.declared.interval.End.{End as end_type};
 ghost use Rattle.loss_model.specs.declared.interval.IntervalProof.{IntervalProof as interval_type};
 ghost use Rattle.serde_json.specs.View.{view, members_view};
-ghost use Rattle.cert_text.specs.Contents.{exact, exact_end, exact_interval};
+ghost use Rattle.frac_core.specs.Values.{exact};
+ghost use Rattle.cert_text.specs.Contents.{exact_end, exact_interval};
 ghost use Rattle.cert_text.specs.Kept.{IsKeptEnd, IsKeptInterval, is_finite, is_outside};
 ghost use Rattle.cert_text.specs.Certificates.{end_kind, finite_members, infinite_members, end_members, end_of, interval_members, projected_members, interval};
 ghost use Rattle.cert_text.specs.Keys.{finite_end, infinite_end, interval_with};

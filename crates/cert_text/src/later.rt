@@ -4,8 +4,9 @@ ghost use Rattle.std.specs.Prelude.{◌≡◌, ◌≢◌, Ok, Err, codes, map, I
 ghost use Rattle.exact_algebra.specs.Rational.{ℚ};
 ghost use Rattle.loss_model.specs.declared.process.Segment.{Segment as segment_type};
 ghost use Rattle.serde_json.specs.View.{view, members_view};
+ghost use Rattle.frac_core.specs.Values.{exact};
 ghost use Rattle.cert_text.specs.Chains.{high_places, low_places, moves_between, moved};
-ghost use Rattle.cert_text.specs.Contents.{exact, exact_place, exact_move, exact_segment};
+ghost use Rattle.cert_text.specs.Contents.{exact_place, exact_move, exact_segment};
 ghost use Rattle.cert_text.specs.Kept.{IsKeptSegment};
 ghost use Rattle.cert_text.specs.Certificates.{if_as_many, later_members, later_segment};
 ghost use Rattle.cert_text.specs.Keys.{later_behind, later_from};

@@ -3,7 +3,7 @@
 ghost use Rattle.std.specs.Prelude.{◌≡◌, ◌<◌, ◌^◌, ℕ};
 ghost use Rattle.exact_algebra.specs.Rational.{ℚ};
 ghost use Rattle.serde_json.specs.Data.{number, unsigned};
-ghost use Rattle.cert_text.specs.Contents.{exact};
+ghost use Rattle.frac_core.specs.Values.{exact};
 ghost use Rattle.cert_text.specs.Reading.{fraction, count};
 ghost use Rattle.cert_text.specs.Trees.{fraction_tree};
 

@@ -1,8 +1,9 @@
 //! Where the rows lie at an end of a segment.
 
 ghost use Rattle.std.specs.Prelude.{◌≡◌, map, IfOk};
+ghost use Rattle.frac_core.specs.Values.{exact};
 ghost use Rattle.cert_text.specs.Chains.{places, side_at, values_at, is_same_side};
-ghost use Rattle.cert_text.specs.Contents.{exact, exact_place};
+ghost use Rattle.cert_text.specs.Contents.{exact_place};
 
 use frac_core::{Frac128, List, OutOfMemory};
 use loss_model::Side;

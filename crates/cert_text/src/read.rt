@@ -3,8 +3,9 @@
 ghost use Rattle.std.specs.Prelude.{◌≡◌, ◌≢◌, Ok, Err, Some, None, All, ⊤, codes, length, map, option_and_then, if◌then◌else◌, IfOk, IfErr};
 ghost use Rattle.serde_json.specs.Find.{get, as_number, as_u64};
 ghost use Rattle.serde_json.specs.View.{view, members_view};
+ghost use Rattle.loss_model.specs.Values.{exact_row};
 ghost use Rattle.cert_text.specs.Certificates.{kind, anything, segments, top_members, within_limits, version_of, layout_of, or_version, cert_of_data, json_of, cert_of};
-ghost use Rattle.cert_text.specs.Contents.{Content, exact_row, exact_segment, content};
+ghost use Rattle.cert_text.specs.Contents.{Content, exact_segment, content};
 ghost use Rattle.cert_text.specs.Kept.{IsKeptInterval, IsKeptSegment};
 ghost use Rattle.cert_text.specs.Keys.{top_behind, top_with};
 ghost use Rattle.cert_text.specs.Reading.{field};

@@ -4,7 +4,7 @@ ghost use Rattle.std.specs.Prelude.{◌≡◌, ◌≢◌, Ok, Err, IfOk, IfErr};
 ghost use Rattle.exact_algebra.specs.Rational.{ℚ};
 ghost use Rattle.loss_model.specs.declared.problem.Row.{Row as row_type};
 ghost use Rattle.serde_json.specs.View.{view, members_view};
-ghost use Rattle.cert_text.specs.Contents.{exact_row};
+ghost use Rattle.loss_model.specs.Values.{exact_row};
 ghost use Rattle.cert_text.specs.Certificates.{row_members, row};
 ghost use Rattle.cert_text.specs.Trees.{row_tree};
 

@@ -4,8 +4,9 @@ ghost use Rattle.std.specs.Prelude.{◌≡◌, ◌≢◌, ℕ, Option, Ok, Err, 
 ghost use Rattle.exact_algebra.specs.Rational.{ℚ};
 ghost use Rattle.loss_model.specs.declared.process.Segment.{Segment as segment_type};
 ghost use Rattle.serde_json.specs.View.{view, members_view};
+ghost use Rattle.frac_core.specs.Values.{exact};
 ghost use Rattle.cert_text.specs.Chains.{is_filled};
-ghost use Rattle.cert_text.specs.Contents.{exact, exact_segment};
+ghost use Rattle.cert_text.specs.Contents.{exact_segment};
 ghost use Rattle.cert_text.specs.Kept.{IsKeptSegment};
 ghost use Rattle.cert_text.specs.Certificates.{if_filled, segment_members, segment};
 ghost use Rattle.cert_text.specs.Keys.{segment_behind};

@@ -1,18 +1,14 @@
 -- Stated. How contracts see columns and tables whose numbers are the program's fractions.
 use Rattle.std.specs.Prelude.{map, option_map}
-use Rattle.exact_algebra.specs.Fraction.{rational}
 use Rattle.exact_algebra.specs.Rational.{ℚ}
 use Rattle.frac_core.specs.declared.frac128.Frac128.{Frac128}
+use Rattle.frac_core.specs.Values.{exact}
 use Rattle.data_frame.specs.Cells.{ColumnOf, numbers, factor, too_wide}
 use Rattle.data_frame.specs.Tables.{TableOf}
 use Rattle.data_frame.specs.declared.column.ColumnCells.{ColumnCells}
 use Rattle.data_frame.specs.declared.column.ColumnCells.TheVariants as stored
 use Rattle.data_frame.specs.declared.column.Column.{Column}
 use Rattle.data_frame.specs.declared.column.Column.TheVariants as lent
-
--- the value of a fraction
-abbrev pub exact : Frac128 → ℚ
-exact x = rational (record { num = x.num; den = x.den })
 
 -- the column with the values of its numbers
 abbrev pub exact_column : ColumnOf Frac128 → ColumnOf ℚ

@@ -1,7 +1,7 @@
 //! A cell of a table: what stands between its blanks, whether it is missing, and the number in it.
 ghost use Rattle.std.specs.Prelude.{◌≡◌, ◌-◌, ◌<◌, ◌≤◌, Ok, Err, length, take, drop, slice_index, MatchResult, option_map};
+ghost use Rattle.frac_core.specs.Values.{exact};
 ghost use Rattle.data_frame.specs.Cells.{bare, is_blank, is_missing, is_numeric, number_in, without_leading_blanks, without_trailing_blanks};
-ghost use Rattle.data_frame.specs.Views.{exact};
 
 use frac_core::{Frac128, NumberFault, read_number};
 

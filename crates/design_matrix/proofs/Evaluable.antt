@@ -5,6 +5,7 @@ use Rattle.std.specs.List.{list_any}
 use Rattle.std.proofs.lemmas.List.Elements.{All-cons, All-head, All-nil, All-push, All-tail, All-weaker}
 use Rattle.frac_core.specs.declared.arith.Arith.{Arith}
 use Rattle.frac_core.specs.declared.frac128.Frac128.{Frac128}
+use Rattle.frac_core.specs.Values.{exact}
 use Rattle.formula_arith.specs.declared.fault.ArithFault.{ArithFault}
 use Rattle.formula_arith.specs.declared.fault.ArithFault.TheVariants.{OutOfMemory, Overflow}
 use Rattle.formula_arith.specs.Arithmetics.{distinct_names}
@@ -15,7 +16,6 @@ use Rattle.formula_arith.proofs.Runs.{whole_operations, whole_runs}
 use Rattle.formula_parser.specs.Held.{IsHeld, ariths_of, term_ariths}
 use Rattle.formula_parser.specs.declared.formula.Formula.{Formula}
 use Rattle.data_frame.specs.Records.{Text}
-use Rattle.data_frame.specs.Views.{exact}
 use Rattle.design_matrix.specs.Cells.{Table}
 use Rattle.design_matrix.specs.Computed.{CanEvaluate, HasArithCause, arith_at, arith_operations, expressions, named_values, texts_once, with_text}
 use Rattle.design_matrix.specs.Laws.{ArithmeticsHaveTheirValues}

@@ -10,12 +10,12 @@ use Rattle.contrasts.specs.declared.Coding.{Coding}
 use Rattle.exact_algebra.specs.Rational.{ℚ}
 use Rattle.frac_core.specs.declared.frac128.Frac128.{Frac128}
 use Rattle.data_frame.specs.Records.{Text}
-use Rattle.data_frame.specs.Views.{exact}
 use Rattle.formula_parser.specs.declared.formula.Formula.{Formula}
 use Rattle.formula_parser.specs.declared.formula.Variable.{Variable}
 use Rattle.design_matrix.specs.declared.design.Design.{Design}
 use Rattle.design_matrix.specs.declared.fault.DesignFault.TheVariants.{UnknownLevel}
 use Rattle.frac_core.specs.declared.arith.Arith.{Arith}
+use Rattle.frac_core.specs.Values.{exact}
 use Rattle.design_matrix.specs.Cells.{Column, Table, column_of, is_complete, is_kept, is_present, kept, predictor_names, used_names, weight_sign, weights_in}
 use Rattle.design_matrix.specs.CodedVariable.{coded_terms, printed_name}
 use Rattle.design_matrix.specs.Designs.{RowOf, exact_row, row_of}

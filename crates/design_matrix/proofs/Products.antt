@@ -3,8 +3,8 @@ use Rattle.std.proofs.Common.{◌≡◌, ◌<◌, ℕ, ◌+◌, List, [], ◌∷
 use Rattle.std.proofs.lemmas.List.{get_or-map, length-map, take_more}
 use Rattle.exact_algebra.specs.Rational.{ℚ, ◌*ℚ◌, whole}
 use Rattle.frac_core.specs.declared.frac128.Frac128.{Frac128}
-use Rattle.data_frame.specs.Views.{exact}
-use Rattle.design_matrix.specs.Products.{FitUpTo, IsValue, product, product_onto, value}
+use Rattle.frac_core.specs.Values.{exact, value}
+use Rattle.design_matrix.specs.Products.{FitUpTo, IsValue, product, product_onto}
 use Rattle.loss_model.specs.declared.spill.Site.{Site}
 use Rattle.loss_model.specs.declared.spill.Spill.{Spill}
 use Rattle.loss_model.specs.Spill.{IsOperation}

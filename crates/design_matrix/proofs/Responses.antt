@@ -9,20 +9,19 @@ use Rattle.frac_core.specs.Overflow.{Overflows}
 use Rattle.frac_core.specs.declared.exact.OpKind.TheVariants.{Sub}
 use Rattle.frac_core.specs.declared.frac128.Frac128.{Frac128}
 use Rattle.frac_core.specs.declared.arith.Arith.{Arith}
+use Rattle.frac_core.specs.Values.{exact, value}
 use Rattle.formula_arith.specs.declared.fault.ArithFault.{ArithFault}
 use Rattle.formula_arith.specs.declared.fault.ArithFault.TheVariants as arith_fault
 use Rattle.formula_arith.specs.Evaluations.{NoneOverflows}
 use Rattle.formula_arith.proofs.Overflows.{fits_alone, fits_append}
 use Rattle.loss_model.specs.declared.spill.Spill.{Spill}
 use Rattle.data_frame.specs.Records.{Text}
-use Rattle.data_frame.specs.Views.{exact}
 use Rattle.design_matrix.specs.declared.fault.DesignFault.TheVariants.{OutOfMemory, Overflow, ArithNotNumeric}
 use Rattle.design_matrix.specs.Cells.{Column, Table, column_of}
 use Rattle.design_matrix.specs.CodedVariable.{is_text}
 use Rattle.design_matrix.specs.Computed.{HasArithCause, less, with_text}
 use Rattle.design_matrix.specs.Designs.{ArithsFit, OverflowsInAriths, OverflowsInResponse, ResponseFits, arith_site, subtraction, subtractions}
 use Rattle.design_matrix.specs.Faults.{named_fault, refusal}
-use Rattle.design_matrix.specs.Products.{value}
 use Rattle.design_matrix.proofs.Steps.{list_any-map}
 
 less_push : (y : ℚ) (xs : List ℚ) (x : ℚ) → less y (xs ++ (x ∷ [])) ≡ less y xs -ℚ x

@@ -12,9 +12,9 @@ use Rattle.std.proofs.lemmas.List.Elements.{All-cons, All-filter, All-head, All-
 use Rattle.exact_algebra.specs.Order.{cmp_ℚ}
 use Rattle.exact_algebra.proofs.OrderLaws.{cmp_ℚ_swap}
 use Rattle.exact_algebra.specs.Rational.{whole}
+use Rattle.frac_core.specs.Values.{exact}
 use Rattle.contrasts.specs.declared.Coding.{Coding}
 use Rattle.data_frame.specs.Records.{Text}
-use Rattle.data_frame.specs.Views.{exact}
 use Rattle.formula_parser.specs.declared.formula.Formula.{Formula}
 use Rattle.design_matrix.specs.declared.design.Design.{Design}
 use Rattle.design_matrix.specs.declared.fault.DesignFault.TheVariants.{NegativeWeight, NoColumns, OneLevel, ResponseNotNumeric, TooManyColumns, WeightNotNumeric}

@@ -11,8 +11,8 @@ use Rattle.frac_core.specs.declared.frac128.Frac128.{Frac128}
 use Rattle.data_frame.specs.Cells.{ColumnOf, numbers, factor, too_wide}
 use Rattle.data_frame.specs.Records.{Text}
 use Rattle.data_frame.specs.Tables.{TableOf, column_named}
-use Rattle.data_frame.specs.Views.{exact}
 use Rattle.frac_core.specs.declared.arith.Arith.{Arith}
+use Rattle.frac_core.specs.Values.{exact}
 use Rattle.formula_parser.specs.declared.formula.Formula.{Formula}
 use Rattle.formula_parser.specs.declared.formula.Term.{Term}
 

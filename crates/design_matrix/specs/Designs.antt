@@ -7,12 +7,12 @@ use Rattle.frac_core.specs.declared.exact.Op.{Op}
 use Rattle.frac_core.specs.declared.exact.OpKind.{OpKind}
 use Rattle.frac_core.specs.declared.exact.OpKind.TheVariants.{Mul, Sub}
 use Rattle.frac_core.specs.declared.frac128.Frac128.{Frac128}
+use Rattle.frac_core.specs.Values.{exact, value}
 use Rattle.loss_model.specs.declared.spill.Quantity.TheVariants.{ArithValue, DesignEntry, OffsetResponse}
 use Rattle.loss_model.specs.declared.spill.Site.{Site}
 use Rattle.loss_model.specs.declared.spill.Spill.{Spill}
 use Rattle.loss_model.specs.Spill.{IsOperation}
 use Rattle.data_frame.specs.Records.{Text}
-use Rattle.data_frame.specs.Views.{exact}
 use Rattle.formula_arith.specs.Evaluations.{IsFirstOverflow, NoneOverflows}
 use Rattle.formula_arith.specs.Values.{Operation}
 use Rattle.formula_parser.specs.declared.formula.Formula.{Formula}
@@ -22,7 +22,7 @@ use Rattle.design_matrix.specs.Lists.{each}
 use Rattle.design_matrix.specs.Cells.{Column, Table, column_of, number_at, weight_at}
 use Rattle.design_matrix.specs.Computed.{arith_operations, expressions, less, offsets_at}
 use Rattle.design_matrix.specs.Parts.{Part, column_name, columns_of, factors}
-use Rattle.design_matrix.specs.Products.{Fits, FitUpTo, product, value}
+use Rattle.design_matrix.specs.Products.{Fits, FitUpTo, product}
 
 -- a row of a design: the number of its record, its entries, its response and its weight
 pub record RowOf : Type 0 where

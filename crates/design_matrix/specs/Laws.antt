@@ -3,8 +3,8 @@ use Rattle.std.specs.Prelude.{◌≡◌, ℕ, List, All, Any, Contains}
 use Rattle.std.specs.declared.cmp.Ordering.{Ordering}
 use Rattle.frac_core.specs.declared.frac128.Frac128.{Frac128}
 use Rattle.data_frame.specs.Records.{Text}
-use Rattle.data_frame.specs.Views.{exact}
 use Rattle.frac_core.specs.declared.arith.Arith.{Arith}
+use Rattle.frac_core.specs.Values.{exact}
 use Rattle.formula_arith.specs.Evaluations.{operations_at, value_at}
 use Rattle.design_matrix.specs.Cells.{Table}
 use Rattle.design_matrix.specs.Computed.{CanEvaluate, arith_at, arith_operations, named_values}

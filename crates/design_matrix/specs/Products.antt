@@ -1,9 +1,8 @@
 -- Stated. Products from the left, and those that are in the range of fractions.
 use Rattle.std.specs.Prelude.{◌≡◌, ◌≤◌, ℕ, List, [], ◌∷◌, length, pos, take}
-use Rattle.exact_algebra.specs.Fraction.{Fraction}
 use Rattle.exact_algebra.specs.Rational.{ℚ, ◌*ℚ◌, whole}
 use Rattle.frac_core.specs.declared.frac128.Frac128.{Frac128}
-use Rattle.data_frame.specs.Views.{exact}
+use Rattle.frac_core.specs.Values.{exact}
 
 -- a number times the numbers of a list, from the left
 abbrev pub product_onto : ℚ → List ℚ → ℚ
@@ -13,10 +12,6 @@ product_onto x (y ∷ ys) = product_onto (x *ℚ y) ys
 -- the product of numbers, multiplied from the left
 abbrev pub product : List ℚ → ℚ
 product xs = product_onto (whole (pos 1)) xs
-
--- a number of the program as a fraction
-abbrev pub value : Frac128 → Fraction
-value x = record { num = x.num; den = x.den }
 
 -- it is a fraction of the program
 abbrev pub IsValue : ℚ → Type 0

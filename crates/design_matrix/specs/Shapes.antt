@@ -4,7 +4,7 @@ use Rattle.std.specs.declared.cmp.Ordering.TheVariants.{Less}
 use Rattle.exact_algebra.specs.Order.{cmp_ℚ}
 use Rattle.exact_algebra.specs.Rational.{whole}
 use Rattle.frac_core.specs.Limits.{most_columns}
-use Rattle.data_frame.specs.Views.{exact}
+use Rattle.frac_core.specs.Values.{exact}
 use Rattle.formula_parser.specs.declared.formula.Formula.{Formula}
 use Rattle.design_matrix.specs.declared.design.Design.{Design}
 

@@ -1,7 +1,8 @@
 //! Columns and their cells.
 
 ghost use Rattle.std.specs.Prelude.{◌≡◌, is_some, option_map};
-ghost use Rattle.data_frame.specs.Views.{exact, lent_column};
+ghost use Rattle.frac_core.specs.Values.{exact};
+ghost use Rattle.data_frame.specs.Views.{lent_column};
 ghost use Rattle.design_matrix.specs.Cells.{cell_of, column_of, is_present, number_at, number_in};
 
 use data_frame::{Column, Frame};

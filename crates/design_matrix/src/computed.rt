@@ -6,10 +6,10 @@ ghost use Rattle.std.proofs.Props.{props};
 ghost use Rattle.exact_algebra.specs.Rational.{whole, ℚ_set};
 ghost use Rattle.frac_core.specs.declared.arith.Arith.{Arith as Held};
 ghost use Rattle.frac_core.specs.declared.frac128.Frac128.{Frac128 as Fraction128};
+ghost use Rattle.frac_core.specs.Values.{exact};
 ghost use Rattle.formula_arith.specs.Evaluations.{NoneOverflows};
 ghost use Rattle.formula_parser.specs.Held.{ariths_of, term_ariths};
 ghost use Rattle.loss_model.specs.declared.spill.Spill.{Spill as Spilt};
-ghost use Rattle.data_frame.specs.Views.{exact};
 ghost use Rattle.design_matrix.specs.Cells.{column_of, number_at};
 ghost use Rattle.design_matrix.specs.Computed.{CanEvaluate, HasArithCause, arith_at, arith_operations, expressions, named_values, offsets_at, texts_once, with_text};
 ghost use Rattle.design_matrix.specs.Designs.{ArithsFit, OverflowsInAriths};
@@ -78,7 +78,7 @@ fn value_at(values: &[Frac128], place: usize) -> Option<Frac128>
 
 impl Computed<'_> {
     ghost use Rattle.std.specs.Prelude.{map, take};
-    ghost use Rattle.data_frame.specs.Views.{exact};
+    ghost use Rattle.frac_core.specs.Values.{exact};
     ghost use Rattle.design_matrix.specs.Computed.{arith_at};
 
     /// The value at a place among the records. None is kept behind a record in which an operation

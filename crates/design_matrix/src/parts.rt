@@ -3,7 +3,7 @@
 ghost use Rattle.std.specs.Prelude.{◌≡◌, ◌≤◌, ◌<◌, ◌^◌, ◌++◌, [], false, All, IfOk, OnOk, length, map, min, pos, slice_index_or, unsigned_abs};
 ghost use Rattle.exact_algebra.specs.Rational.{whole};
 ghost use Rattle.frac_core.specs.Limits.{most_rows, most_columns};
-ghost use Rattle.data_frame.specs.Views.{exact};
+ghost use Rattle.frac_core.specs.Values.{exact};
 ghost use Rattle.design_matrix.specs.Parts.{chosen, column_name, columns_in, count, term_columns};
 ghost use Rattle.design_matrix.specs.Views.{coded_seen, columns_seen, part_seen, terms_seen};
 ghost use Rattle.design_matrix.specs.Widths.{IsUsable};

@@ -5,7 +5,6 @@ ghost use Rattle.std.specs.Cmp.{IsTotalOrder};
 ghost use Rattle.std.specs.List.{list_any};
 ghost use Rattle.std.specs.Ordering.{is_eq};
 ghost use Rattle.data_frame.specs.Records.{Text as text};
-ghost use Rattle.data_frame.specs.Views.{exact};
 ghost use Rattle.design_matrix.specs.Cells.{column_of};
 ghost use Rattle.formula_parser.specs.Held.{IsHeld, ariths_of};
 ghost use Rattle.design_matrix.specs.CodedVariable.{coded_terms};
@@ -18,6 +17,7 @@ ghost use Rattle.design_matrix.specs.Predicted.{HasRowCause, IsPredictRow, is_le
 ghost use Rattle.design_matrix.specs.Products.{product};
 ghost use Rattle.frac_core.specs.Limits.{most_columns};
 ghost use Rattle.frac_core.specs.declared.frac128.Frac128.{Frac128 as Fraction128};
+ghost use Rattle.frac_core.specs.Values.{exact};
 ghost use Rattle.loss_model.specs.declared.spill.Spill.{Spill as Spilt};
 
 use crate::cells::{cell, column};

@@ -2,7 +2,7 @@
 
 ghost use Rattle.std.specs.Prelude.{◌≡◌, ◌<◌, ◌≤◌, ◌+◌, ◌-◌, ◌^◌, ◌⊎◌, pos, All, IfOk, IfErr, OnOk, length, map};
 ghost use Rattle.exact_algebra.specs.Rational.{◌*ℚ◌, whole};
-ghost use Rattle.data_frame.specs.Views.{exact, lent_column};
+ghost use Rattle.data_frame.specs.Views.{lent_column};
 ghost use Rattle.loss_model.specs.declared.spill.Spill.{Spill as Spilt};
 ghost use Rattle.loss_model.specs.Spill.{IsOperation};
 ghost use Rattle.formula_parser.specs.Held.{ariths_of};
@@ -11,9 +11,10 @@ ghost use Rattle.design_matrix.specs.Computed.{CanEvaluate, less, offsets_at};
 ghost use Rattle.design_matrix.specs.Designs.{AllFit, OverflowsFirst, OverflowsInColumn, OverflowsInResponse, OverflowsInRow, ResponseFits, RowFits, exact_row, response_at, row_of};
 ghost use Rattle.design_matrix.specs.Lists.{each};
 ghost use Rattle.design_matrix.specs.Parts.{factors};
-ghost use Rattle.design_matrix.specs.Products.{Fits, product, value};
+ghost use Rattle.design_matrix.specs.Products.{Fits, product};
 ghost use Rattle.design_matrix.specs.Views.{columns_seen, part_seen, weights_seen};
 ghost use Rattle.frac_core.specs.declared.frac128.Frac128.{Frac128 as Fraction128};
+ghost use Rattle.frac_core.specs.Values.{exact, value};
 
 use crate::cells::number_of;
 use crate::coded::Coder;

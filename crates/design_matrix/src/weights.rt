@@ -2,7 +2,7 @@
 
 ghost use Rattle.std.specs.Prelude.{◌≡◌, None, Some, IfErr, OnOk, false};
 ghost use Rattle.std.specs.Option.{option_map_or};
-ghost use Rattle.data_frame.specs.Views.{exact};
+ghost use Rattle.frac_core.specs.Values.{exact};
 ghost use Rattle.design_matrix.specs.Cells.{weight_at, weight_sign};
 ghost use Rattle.design_matrix.specs.CodedVariable.{is_text as is_text_of};
 ghost use Rattle.design_matrix.specs.Faults.{weights_fault};

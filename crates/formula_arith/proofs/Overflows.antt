@@ -7,9 +7,10 @@ use Rattle.frac_core.specs.Overflow.{Overflows}
 use Rattle.frac_core.specs.declared.exact.OpKind.{OpKind}
 use Rattle.frac_core.specs.declared.exact.Op.{Op}
 use Rattle.frac_core.specs.declared.frac128.Frac128.{Frac128}
+use Rattle.frac_core.specs.Values.{exact}
 use Rattle.formula_arith.specs.declared.fault.ArithFault.{ArithFault}
 use Rattle.formula_arith.specs.declared.fault.ArithFault.TheVariants.{Overflow}
-use Rattle.formula_arith.specs.Values.{Operation, exact, multiplication, power_multiplications, raised_by}
+use Rattle.formula_arith.specs.Values.{Operation, multiplication, power_multiplications, raised_by}
 use Rattle.formula_arith.specs.Evaluations.{IsFirstOverflow, IsOverflowOf, NoneOverflows}
 use Rattle.formula_arith.specs.Machine.{Halts, IsNamed}
 

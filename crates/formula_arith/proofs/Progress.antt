@@ -8,11 +8,12 @@ use Rattle.frac_core.specs.declared.frac128.Frac128.{Frac128}
 use Rattle.frac_core.specs.declared.arith.Arith.{Arith}
 use Rattle.frac_core.specs.declared.arith.ArithOp.{ArithOp}
 use Rattle.frac_core.specs.declared.arith.ArithOp.TheVariants.{Add, Sub, Mul, Power}
+use Rattle.frac_core.specs.Values.{exact}
 use Rattle.formula_arith.specs.declared.fault.ArithFault.{ArithFault}
 use Rattle.formula_arith.specs.declared.fault.ArithFault.TheVariants.{OutOfMemory, Overflow}
 use Rattle.formula_arith.specs.Arithmetics.{distinct_names}
 use Rattle.formula_arith.specs.Codes.{numbered, numbered_in}
-use Rattle.formula_arith.specs.Values.{Operation, exact}
+use Rattle.formula_arith.specs.Values.{Operation}
 use Rattle.formula_arith.specs.Evaluations.{IsCause, IsFirstOverflow, IsValue, NoneOverflows, operations_at}
 use Rattle.formula_arith.specs.Machine.{Halts, act, code_operations, exec, step_operations, top}
 use Rattle.formula_arith.proofs.Overflows.{first_within, fits_append, multiplications_counted}

@@ -6,10 +6,11 @@ use Rattle.frac_core.specs.Overflow.{Overflows}
 use Rattle.frac_core.specs.declared.exact.Op.{Op}
 use Rattle.frac_core.specs.declared.frac128.Frac128.{Frac128}
 use Rattle.frac_core.specs.declared.arith.Arith.{Arith}
+use Rattle.frac_core.specs.Values.{exact}
 use Rattle.formula_arith.specs.declared.fault.ArithFault.{ArithFault}
 use Rattle.formula_arith.specs.declared.fault.ArithFault.TheVariants.{OutOfMemory, Overflow}
 use Rattle.formula_arith.specs.Arithmetics.{Text, Arithmetic, distinct_names, has_exponents}
-use Rattle.formula_arith.specs.Values.{Operation, arithmetic_operations, arithmetic_value, exact}
+use Rattle.formula_arith.specs.Values.{Operation, arithmetic_operations, arithmetic_value}
 use Rattle.formula_arith.specs.Codes.{arithmetic_code, name_index}
 
 -- the names and the code are those of this arithmetic, whose exponents are 1 to 8

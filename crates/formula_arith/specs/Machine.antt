@@ -5,11 +5,12 @@ use Rattle.frac_core.specs.declared.exact.Op.{Op}
 use Rattle.frac_core.specs.declared.frac128.Frac128.{Frac128}
 use Rattle.frac_core.specs.declared.arith.ArithOp.{ArithOp}
 use Rattle.frac_core.specs.declared.arith.ArithOp.TheVariants.{Load, Constant, Negate, Add, Sub, Mul, Power}
+use Rattle.frac_core.specs.Values.{exact}
 use Rattle.formula_arith.specs.declared.operands.Operands.{Operands}
 use Rattle.formula_arith.specs.declared.fault.ArithFault.{ArithFault}
 use Rattle.formula_arith.specs.declared.fault.ArithFault.TheVariants.{OutOfMemory, Overflow}
 use Rattle.formula_arith.specs.Arithmetics.{Plus, Minus}
-use Rattle.formula_arith.specs.Values.{Operation, exact, multiplication, power_multiplications, raised_by, signed_operation}
+use Rattle.formula_arith.specs.Values.{Operation, multiplication, power_multiplications, raised_by, signed_operation}
 use Rattle.formula_arith.specs.Evaluations.{IsFirstOverflow, IsOverflowOf}
 
 -- a stack of fractions as their values

@@ -1,17 +1,12 @@
 -- Stated. The value of an arithmetic, and its operations in the order of its code: operands first, and left first. A
 -- negation is no operation, for it never overflows.
 use Rattle.std.specs.Prelude.{ℕ, zero, suc, ◌-◌, List, [], ◌∷◌, ◌++◌}
-use Rattle.exact_algebra.specs.Fraction.{rational}
 use Rattle.exact_algebra.specs.Rational.{ℚ, ◌+ℚ◌, ◌-ℚ◌, ◌*ℚ◌, neg_ℚ}
 use Rattle.frac_core.specs.declared.exact.OpKind.{OpKind}
 use Rattle.frac_core.specs.declared.exact.OpKind.TheVariants.{Add, Sub, Mul}
-use Rattle.frac_core.specs.declared.frac128.Frac128.{Frac128}
+use Rattle.frac_core.specs.Values.{exact}
 use Rattle.formula_arith.specs.Arithmetics.{Text, Sign, Plus, Minus, Lead, Led, Arithmetic, First, More, Product}
 use Rattle.formula_arith.specs.Arithmetics.{One, Times, Power, Plain, Raised, Atom, Named, Number, Group}
-
--- the value of a fraction
-abbrev pub exact : Frac128 → ℚ
-exact x = rational (record { num = x.num; den = x.den })
 
 -- by a plus or by a minus
 abbrev pub combined : Sign → ℚ → ℚ → ℚ

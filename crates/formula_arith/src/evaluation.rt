@@ -1,9 +1,9 @@
 //! The value of an arithmetic, by its code over a stack.
 ghost use Rattle.std.specs.Prelude.{◌≡◌, ◌<◌, ◌^◌, [], map, IfErr, IfOk, OnOk};
+ghost use Rattle.frac_core.specs.Values.{exact};
 ghost use Rattle.formula_arith.specs.Codes.{numbered_in};
 ghost use Rattle.formula_arith.specs.Evaluations.{IsCause, IsValue, NoneOverflows};
 ghost use Rattle.formula_arith.specs.Machine.{Halts, code_operations, exec, top};
-ghost use Rattle.formula_arith.specs.Values.{exact};
 
 use crate::fault::ArithFault;
 use crate::operands::{Operands, numbered};

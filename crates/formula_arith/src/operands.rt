@@ -2,9 +2,9 @@
 
 ghost use Rattle.std.specs.Prelude.{◌≡◌, ◌∷◌, ◌+◌, ◌<◌, ◌^◌, [], map, pos, slice_index_or, IfErr, IfOk, OnOk};
 ghost use Rattle.exact_algebra.specs.Rational.{whole};
+ghost use Rattle.frac_core.specs.Values.{exact};
 ghost use Rattle.formula_arith.specs.declared.fault.ArithFault.TheVariants.{OutOfMemory};
 ghost use Rattle.formula_arith.specs.Codes.{numbered};
-ghost use Rattle.formula_arith.specs.Values.{exact};
 ghost use Rattle.formula_arith.specs.Evaluations.{NoneOverflows};
 ghost use Rattle.formula_arith.specs.Machine.{Halts, act, below, stacked, step_operations, top};
 

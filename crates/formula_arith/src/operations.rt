@@ -2,8 +2,9 @@
 
 ghost use Rattle.std.specs.Prelude.{◌≡◌, ◌∷◌, [], ◌+◌, ◌-◌, ◌<◌, ◌^◌, IfErr, IfOk, OnOk};
 ghost use Rattle.exact_algebra.specs.Rational.{◌+ℚ◌, ◌-ℚ◌, ◌*ℚ◌};
+ghost use Rattle.frac_core.specs.Values.{exact};
 ghost use Rattle.formula_arith.specs.Arithmetics.{Plus, Minus};
-ghost use Rattle.formula_arith.specs.Values.{exact, multiplication, power_multiplications, raised_by, signed_operation};
+ghost use Rattle.formula_arith.specs.Values.{multiplication, power_multiplications, raised_by, signed_operation};
 ghost use Rattle.formula_arith.specs.Evaluations.{NoneOverflows};
 ghost use Rattle.formula_arith.specs.Machine.{Halts, IsNamed};
 

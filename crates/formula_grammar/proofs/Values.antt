@@ -17,8 +17,9 @@ use Rattle.frac_core.specs.declared.number_reader.NumberFault.{NumberFault}
 use Rattle.frac_core.specs.declared.number_reader.NumberFault.TheVariants.{TooWide}
 use Rattle.frac_core.proofs.Products.{reduced_is}
 use Rattle.frac_core.proofs.ReaderSteps.{IsUnsigned, reduces, unsigned_body}
+use Rattle.frac_core.specs.Values.{exact}
 use Rattle.formula_grammar.specs.Magnitudes.{Magnitude, magnitude, magnitude_if, magnitude_of, range}
-use Rattle.formula_grammar.specs.Numerals.{exact, one_fraction, zero_fraction}
+use Rattle.formula_grammar.specs.Numerals.{one_fraction, zero_fraction}
 use Rattle.formula_grammar.specs.Numbers.{is_signed}
 use Rattle.formula_grammar.proofs.NumberTexts.{unsigned}
 

@@ -2,15 +2,11 @@
 use Rattle.std.specs.Prelude.{ℕ, ◌/◌, Bool, false, Option, Some, None, is_none, pos}
 use Rattle.std.proofs.Common.{lit≤}
 use Rattle.frac_core.specs.Gcd.{gcd}
-use Rattle.exact_algebra.specs.Fraction.{rational}
 use Rattle.exact_algebra.specs.Rational.{ℚ, whole}
 use Rattle.frac_core.specs.declared.frac128.Frac128.{Frac128}
+use Rattle.frac_core.specs.Values.{exact}
 use Rattle.formula_grammar.specs.Magnitudes.{Magnitude, capped, lowest_within}
 use Rattle.formula_grammar.specs.Words.{Whole, Zero, Unity, Longer, Numeral, Digits, Written}
-
--- the value of a fraction
-abbrev pub exact : Frac128 → ℚ
-exact x = rational (record { num = x.num; den = x.den })
 
 -- the value of digits, or 9 where it is more than 8
 abbrev pub power_of : Whole → ℕ

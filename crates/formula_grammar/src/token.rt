@@ -1,7 +1,8 @@
 //! Tokens, and where they stand.
 ghost use Rattle.std.specs.Prelude.{◌≡◌, pos};
 ghost use Rattle.exact_algebra.specs.Rational.{whole};
-ghost use Rattle.formula_grammar.specs.Numerals.{exact, fraction_of, fraction_or_zero, is_wide, one_fraction, power_of, value_of, value_or_zero, zero_fraction};
+ghost use Rattle.frac_core.specs.Values.{exact};
+ghost use Rattle.formula_grammar.specs.Numerals.{fraction_of, fraction_or_zero, is_wide, one_fraction, power_of, value_of, value_or_zero, zero_fraction};
 
 use crate::magnitude::Magnitude;
 use frac_core::{Exact, Frac128};

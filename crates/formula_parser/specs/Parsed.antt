@@ -7,13 +7,13 @@ use Rattle.std.specs.Ordering.{nat_cmp}
 use Rattle.exact_algebra.specs.Rational.{ℚ}
 use Rattle.formula_grammar.specs.Words.{Span, Kind, Name, Token, SmoothPart}
 use Rattle.formula_grammar.specs.declared.fault.ReadFault.TheVariants as read_fault
-pub use Rattle.formula_grammar.specs.Numerals.{exact}
 use Rattle.formula_grammar.specs.Numerals.{value_of}
 use Rattle.formula_grammar.specs.Grammar.{Formula as Tree}
 use Rattle.formula_grammar.specs.Codes.{items_code, has_intercept, offsets_of, smooths_of}
 use Rattle.formula_grammar.specs.Faults.{IsFormula, IsFirstFault}
 use Rattle.formula_grammar.specs.Tokens.{tokens}
 use Rattle.formula_parser.specs.Scope.{Mention, Text, arith_term, column_at, column_of, dot_terms, name_at, named_term, other_columns, piece, variables_of}
+pub use Rattle.frac_core.specs.Values.{exact}
 pub use Rattle.formula_parser.specs.declared.formula.Variable.{Variable}
 pub use Rattle.formula_parser.specs.declared.formula.Term.{Term}
 pub use Rattle.formula_parser.specs.declared.formula.Smooth.{Smooth}

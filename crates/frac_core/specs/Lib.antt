@@ -7,4 +7,5 @@ pub mod Parts
 pub mod NumberLaws
 pub mod NumberReading
 pub mod NumberText
+pub mod Values
 pub mod Widths

@@ -12,14 +12,14 @@ use Rattle.exact_matrices.specs.Terms.{delta}
 use Rattle.exact_matrices.proofs.TermLaws.{if-same, if-other}
 use Rattle.frac_core.specs.Limits.{most_rows}
 use Rattle.frac_core.specs.declared.frac128.Frac128.{Frac128}
-use Rattle.data_frame.specs.Views.{exact}
-use Rattle.design_matrix.specs.Products.{value}
+use Rattle.frac_core.specs.Values.{exact, value}
 use Rattle.loss_model.specs.declared.problem.Row.{Row}
 use Rattle.loss_model.specs.declared.problem.Problem.{Problem}
 use Rattle.loss_model.specs.Problem.{IsWellShaped, sample, value_at}
+use Rattle.loss_model.specs.Values.{exact_row}
 use Rattle.tv_penalty.specs.Smoothings.{PenaltyOf, placed, unit_row, unit_rows}
 use Rattle.lambda_path.specs.Paths.{IsPathOf}
-use Rattle.lambda_path.specs.Rows.{exact_row, data_row, penalty_row, rows_of}
+use Rattle.lambda_path.specs.Rows.{data_row, penalty_row, rows_of}
 
 -- the step of a loop that adds w, which is to g what the item at k is to f
 pub mapped_more : {W X Y : Type 0} (g : W → Y) (f : X → Y) (xs : List X) (k : ℕ) (x : X) (start : List Y) (olds news : List W) (w : W) → k < length xs → x ≡ get_or xs k x → map g olds ≡ start ++ map f (take k xs) → news ≡ olds ++ w ∷ []

@@ -2,14 +2,10 @@
 use Rattle.std.specs.Prelude.{ℕ, List, ◌++◌, map, pos}
 use Rattle.exact_algebra.specs.Rational.{ℚ, ◌-ℚ◌, ◌*ℚ◌, whole}
 use Rattle.frac_core.specs.declared.frac128.Frac128.{Frac128}
-use Rattle.data_frame.specs.Views.{exact}
+use Rattle.frac_core.specs.Values.{exact}
 use Rattle.loss_model.specs.declared.problem.Problem.{Problem}
 use Rattle.loss_model.specs.declared.problem.Row.{Row}
 use Rattle.tv_penalty.specs.Smoothings.{PenaltyOf, unit_rows}
-
--- a row with the values of its numbers
-abbrev pub exact_row : Row Frac128 → Row ℚ
-exact_row r = record { x = map exact r.x; y = exact r.y; up0 = exact r.up0; up1 = exact r.up1; down0 = exact r.down0; down1 = exact r.down1 }
 
 -- a data row with its costs at tau
 abbrev pub data_row : ℚ → Row Frac128 → Row ℚ

@@ -1,14 +1,14 @@
 //! The rows of a path problem.
 ghost use Rattle.std.specs.Prelude.{◌≡◌, ◌≤◌, ◌<◌, ◌^◌, ◌++◌, IfErr, IfOk, OnOk, length, map, pos};
 ghost use Rattle.exact_algebra.specs.Rational.{whole};
-ghost use Rattle.data_frame.specs.Views.{exact};
-ghost use Rattle.design_matrix.specs.Products.{value};
+ghost use Rattle.frac_core.specs.Values.{exact, value};
 ghost use Rattle.loss_model.specs.Problem.{IsWellShaped, sample};
+ghost use Rattle.loss_model.specs.Values.{exact_row};
 ghost use Rattle.tv_penalty.specs.Operations.{NoneOverflows};
 ghost use Rattle.tv_penalty.specs.Smoothings.{exact_penalty, unit_rows};
 ghost use Rattle.lambda_path.specs.Faults.{cost_operations, operations_from, path_operations, HasCause};
 ghost use Rattle.lambda_path.specs.Paths.{IsPathOf};
-ghost use Rattle.lambda_path.specs.Rows.{data_row as data_row_of, exact_row, penalty_row as penalty_row_of};
+ghost use Rattle.lambda_path.specs.Rows.{data_row as data_row_of, penalty_row as penalty_row_of};
 ghost use Rattle.lambda_path.specs.Steps.{IsCostFault};
 
 use crate::costs::row_costs;

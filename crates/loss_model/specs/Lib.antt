@@ -1,4 +1,5 @@
 pub mod Sample
+pub mod Values
 pub mod Strict
 pub mod Dual
 pub mod Complements

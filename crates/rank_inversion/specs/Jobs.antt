@@ -1,7 +1,7 @@
 -- Inner. What a job of a rank interval is asked, and that it answers what `interval` does.
 use Rattle.std.specs.Prelude.{ℕ, ◌-◌, ◌^◌, IfErr, IfOk, Result}
 use Rattle.exact_algebra.specs.Fraction.{Fraction, rational}
-use Rattle.frac_core.specs.declared.frac128.Frac128.{Frac128}
+use Rattle.frac_core.specs.Values.{value}
 use Rattle.loss_model.specs.declared.interval.Interval.{Interval}
 use Rattle.loss_model.specs.declared.problem.Problem.{Problem}
 use Rattle.loss_model.specs.declared.stop.Stop.{Stop}
@@ -10,10 +10,7 @@ use Rattle.rank_inversion.specs.Intervals.{IsExactInterval, IsRankInterval}
 use Rattle.rank_inversion.specs.Stops.{IsIntervalStop, IsLimited}
 use Rattle.rank_inversion.specs.declared.column_test.Asked.{Asked}
 
--- the numbers of a value of 128 bits, and the greatest of them
-abbrev pub value : Frac128 → Fraction
-value x = record { num = x.num; den = x.den }
-
+-- the greatest size of the parts of a value of 128 bits
 abbrev pub range : ℕ
 range = 2 ^ 127 - 1
 

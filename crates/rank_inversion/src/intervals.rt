@@ -2,7 +2,8 @@
 ghost use Rattle.std.specs.Prelude.{◌≡◌, ◌<◌, All, length, map, IfOk, IfErr};
 ghost use Rattle.std.specs.List.{AllZip};
 ghost use Rattle.exact_algebra.specs.Fraction.{rational};
-ghost use Rattle.rank_inversion.specs.Jobs.{range, value};
+ghost use Rattle.frac_core.specs.Values.{value};
+ghost use Rattle.rank_inversion.specs.Jobs.{range};
 ghost use Rattle.rank_inversion.specs.Answers.{IsIntervalAnswer, IsStart, IsStartedAt};
 ghost use Rattle.rank_inversion.specs.AllIntervals.{AreRightIntervals, asked_at, asked_over, IsFirstStop, IsFor};
 ghost use Rattle.rank_inversion.specs.RankProblems.{IsInner, IsRankable, IsRankProblem, IsSolvable};

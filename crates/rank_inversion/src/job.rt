@@ -1,5 +1,6 @@
 //! A rank interval as a job for a thread of its own.
-ghost use Rattle.rank_inversion.specs.Jobs.{IsJobAnswer, range, value};
+ghost use Rattle.frac_core.specs.Values.{value};
+ghost use Rattle.rank_inversion.specs.Jobs.{IsJobAnswer, range};
 
 use crate::inversion::interval;
 use frac_core::{Exact, Frac128};

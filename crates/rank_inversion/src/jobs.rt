@@ -2,8 +2,9 @@
 //!
 //! They are done over `Frac128`: what an implementation of `Work` for every type of fractions would hand to a
 //! thread isn't covered by the toolchain yet.
+ghost use Rattle.frac_core.specs.Values.{value};
 ghost use Rattle.rank_inversion.specs.Answers.{IsIntervalAnswer, IsStartedAt};
-ghost use Rattle.rank_inversion.specs.Jobs.{range, value};
+ghost use Rattle.rank_inversion.specs.Jobs.{range};
 
 use crate::asks::{IntervalStop, RankProblem, StartedAt};
 use crate::column_test::Asked;

@@ -8,6 +8,7 @@ use Rattle.data_frame.specs.declared.fault.TableFault.{TableFault}
 use Rattle.data_frame.specs.declared.fault.TableFault.TheVariants as tables
 use Rattle.frac_core.specs.NumberText.{number_text_of}
 use Rattle.frac_core.specs.declared.frac128.Frac128.{Frac128}
+use Rattle.frac_core.specs.Values.{value}
 use Rattle.loss_model.specs.declared.spill.Site.{Site}
 use Rattle.loss_model.specs.declared.spill.Spill.{Spill}
 use Rattle.formula_parser.specs.declared.fault.FormulaFault.{FormulaFault}
@@ -22,7 +23,7 @@ use Rattle.rq_words.specs.declared.job.WordFault.{WordFault}
 use Rattle.rq_words.specs.declared.job.WordFault.TheVariants as words
 use Rattle.report_text.specs.Names.{name_bytes}
 use Rattle.report_text.specs.Quantities.{indices, op_name, quantity_name}
-use Rattle.report_text.specs.ReportText.{numbered, value}
+use Rattle.report_text.specs.ReportText.{numbered}
 use Rattle.report_text.specs.declared.quantity.PrintedIndices.{PrintedIndices}
 use Rattle.report_text.specs.declared.quantity.PrintedIndices.TheVariants.{One, Two, Three}
 use Rattle.report_text.specs.declared.report.Place.{Place}

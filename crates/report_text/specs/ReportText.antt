@@ -12,6 +12,7 @@ use Rattle.loss_model.specs.declared.interval.Bound.{Bound}
 use Rattle.loss_model.specs.declared.interval.Bound.TheVariants.{Finite, Infinite}
 use Rattle.loss_model.specs.declared.interval.Interval.{Interval}
 use Rattle.frac_core.specs.declared.frac128.Frac128.{Frac128}
+use Rattle.frac_core.specs.Values.{value}
 use Rattle.cert_text.specs.Trees.{cert_text}
 use Rattle.cert_text.specs.declared.cert.Cert.{Cert}
 use Rattle.rankscores.specs.declared.pair.ScorePair.{ScorePair}
@@ -98,10 +99,6 @@ module _ {F : Type 0} (value : F → Fraction) where
   interval_line r =
       codes "interval " ++ decimal (r.column + 1) ++ codes " " ++ number_text_of (value r.tau) ++ codes " "
       ++ bound_text (codes "-Inf") r.low.bound ++ codes " " ++ bound_text (codes "Inf") r.high.bound ++ codes "\n"
-
--- the numbers of a value of 128 bits
-abbrev pub value : Frac128 → Fraction
-value x = record { num = x.num; den = x.den }
 
 -- how many rows and pivots the fit has
 unfoldable pub fit_size : Fit → List ℕ

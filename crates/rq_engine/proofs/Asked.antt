@@ -8,6 +8,7 @@ use Rattle.std.proofs.lemmas.List.Elements.{All-cons, All-nil}
 use Rattle.exact_algebra.specs.Fraction.{rational}
 use Rattle.exact_algebra.specs.Rational.{ℚ, le_ℚ}
 use Rattle.frac_core.specs.declared.frac128.Frac128.{Frac128}
+use Rattle.frac_core.specs.Values.{value}
 use Rattle.rq_words.specs.Requests.{fit_request, number, path_request, rank_request, sample_request, test_request}
 use Rattle.rq_words.specs.Requests as request
 use Rattle.rq_words.specs.Words.{zero, one, is_outside}
@@ -19,7 +20,6 @@ use Rattle.rq_words.proofs.RankRequests.{IsSoundOf, test_unranked, words_sound}
 use Rattle.rq_words.proofs.Samples.{words_sample}
 use Rattle.rq_words.proofs.ShortWords.{process_formula, ranks_formula, certify_formula, path_formula, predict_formula, test_formula}
 use Rattle.rq_words.proofs.TestedColumns.{test_ascending}
-use Rattle.report_text.specs.ReportText.{value}
 use Rattle.rq_engine.specs.Asks.{IsFitAsk, IsInner, IsPathAsk, IsRankAskOf, IsTestAsk, IsUnitAsk}
 use Rattle.rq_engine.specs.Jobs.{IsJobOf, sample_fit}
 use Rattle.rq_engine.specs.SampleAsks.{IsSampleAsk}

@@ -4,8 +4,9 @@ use Rattle.std.proofs.lemmas.Bool.{ltb-false}
 use Rattle.std.proofs.lemmas.List.{length-map}
 use Rattle.serde_json.specs.Find.{as_object}
 use Rattle.frac_core.specs.Limits.{most_columns, most_rows}
+use Rattle.loss_model.specs.Values.{exact_row}
 use Rattle.cert_text.specs.Certificates.{cert_of, cert_of_data, is_too_large, json_of, layout_of, or_not_json, or_version, top_members, version_of, within_limits}
-use Rattle.cert_text.specs.Contents.{Content, content, exact_interval, exact_row, exact_segment}
+use Rattle.cert_text.specs.Contents.{Content, content, exact_interval, exact_segment}
 use Rattle.cert_text.specs.Limits.{IsWithinLimits, most_intervals, most_segments, most_sides}
 use Rattle.cert_text.specs.Reading.{Reading, on_read, or_shape}
 use Rattle.cert_text.specs.declared.cert.Cert.{Cert}

@@ -7,6 +7,7 @@ use Rattle.std.proofs.lemmas.List.Elements.{All-cons, All-nil}
 use Rattle.exact_algebra.specs.Fraction.{Fraction, rational}
 use Rattle.exact_algebra.specs.Rational.{ℚ, ◌≤ℚ◌}
 use Rattle.frac_core.specs.declared.frac128.Frac128.{Frac128}
+use Rattle.frac_core.specs.Values.{value}
 use Rattle.loss_model.specs.declared.interval.Interval.{Interval}
 use Rattle.loss_model.specs.declared.problem.Problem.{Problem}
 use Rattle.loss_model.specs.declared.process.Exchange.{Exchange}
@@ -49,7 +50,6 @@ use Rattle.rq_engine.specs.Intervals.{AreRightIntervals, asked_by, asked_over, I
 use Rattle.rq_engine.specs.RankProblems.{HasIntervalCause}
 use Rattle.rank_inversion.specs.declared.asks.IntervalStop.{IntervalStop}
 use Rattle.rank_inversion.specs.declared.column_test.Asked.{Asked}
-use Rattle.report_text.specs.ReportText.{value}
 use Rattle.rq_engine.specs.Stops.{IsSegmentSpill, HasProblemCause, most}
 
 -- ---- the segments

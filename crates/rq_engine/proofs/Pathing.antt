@@ -5,6 +5,7 @@ use Rattle.exact_algebra.specs.Rational.{ℚ, whole}
 use Rattle.exact_algebra.proofs.OrderLaws.{cmp_ℚ-Less}
 use Rattle.exact_algebra.proofs.RationalLaws.{≤ℚ_trans}
 use Rattle.frac_core.specs.declared.frac128.Frac128.{Frac128}
+use Rattle.frac_core.specs.Values.{exact, value}
 use Rattle.loss_model.specs.declared.problem.Problem.{Problem}
 use Rattle.loss_model.specs.declared.stop.Stop.{Stop}
 use Rattle.loss_model.specs.declared.stop.Stop.TheVariants as stops
@@ -14,7 +15,6 @@ use Rattle.loss_model.specs.StartStop.{IsDependent}
 use Rattle.loss_model.specs.Strict.{◌<ℚ◌}
 use Rattle.pivot_rule.specs.Duals.{HasCosts}
 use Rattle.tau_process.specs.Stops.{IsProcessStop}
-use Rattle.data_frame.specs.Views.{exact}
 use Rattle.lambda_path.specs.Faults.{HasCause}
 use Rattle.lambda_path.specs.declared.fault.PathFault.{PathFault}
 use Rattle.lambda_path.specs.declared.fault.PathFault.TheVariants as faults
@@ -23,7 +23,7 @@ use Rattle.rq_words.specs.declared.job.PathJob.{PathJob}
 use Rattle.report_text.specs.declared.report.Place.TheVariants as places
 use Rattle.report_text.specs.declared.report.PathFit.{PathFit}
 use Rattle.report_text.specs.declared.report.Report.TheVariants as reports
-use Rattle.report_text.specs.ReportText.{IsPrintable, value}
+use Rattle.report_text.specs.ReportText.{IsPrintable}
 use Rattle.rq_input.specs.PlainRows.{HasIntercept}
 use Rattle.rq_input.specs.Rows.{HasRows}
 use Rattle.rq_input.specs.declared.plain.PlainInput.{PlainInput}

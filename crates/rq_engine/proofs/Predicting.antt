@@ -4,6 +4,7 @@ use Rattle.std.specs.List.{AllZip}
 use Rattle.exact_algebra.specs.Fraction.{rational}
 use Rattle.exact_algebra.specs.Rational.{ℚ}
 use Rattle.frac_core.specs.declared.frac128.Frac128.{Frac128}
+use Rattle.frac_core.specs.Values.{value}
 use Rattle.loss_model.specs.declared.problem.Problem.{Problem}
 use Rattle.loss_model.specs.declared.process.Process.{Process}
 use Rattle.loss_model.specs.declared.process.Segment.{Segment}
@@ -22,7 +23,6 @@ use Rattle.predict_steps.specs.Predictions.{pieces, AreSteps}
 use Rattle.predict_steps.specs.Rearranged.{AreJoined}
 use Rattle.design_matrix.specs.declared.design.PredictRow.{PredictRow}
 use Rattle.rq_words.specs.declared.job.FitJob.{FitJob}
-use Rattle.report_text.specs.ReportText.{value}
 use Rattle.report_text.specs.declared.report.PredictFit.{PredictFit}
 use Rattle.report_text.specs.declared.report.Prediction.{Prediction}
 use Rattle.report_text.specs.declared.report.Place.TheVariants as places

@@ -7,6 +7,7 @@ use Rattle.std.specs.declared.cmp.Ordering.TheVariants.{Less}
 use Rattle.exact_algebra.specs.Order.{cmp_ℚ}
 use Rattle.exact_algebra.proofs.RationalLaws.{≤ℚ_trans}
 use Rattle.frac_core.specs.declared.frac128.Frac128.{Frac128}
+use Rattle.frac_core.specs.Values.{value}
 use Rattle.loss_model.specs.declared.problem.Problem.{Problem}
 use Rattle.loss_model.specs.declared.process.Process.{Process}
 use Rattle.loss_model.specs.declared.stop.Stop.{Stop}
@@ -26,7 +27,6 @@ use Rattle.nested_test.specs.Laws.{RestrictedHasDataRows, RestrictedHasFullRank}
 use Rattle.nested_test.specs.Restricted.{AreTested, restricted_problem, restricted_row}
 use Rattle.rq_words.specs.declared.job.FitJob.{FitJob}
 use Rattle.rq_words.specs.declared.job.TestJob.{TestJob}
-use Rattle.report_text.specs.ReportText.{value}
 use Rattle.report_text.specs.declared.report.Halt.{Halt}
 use Rattle.report_text.specs.declared.report.Halt.TheVariants.{Refused, PivotLimit, Overflow, OutOfMemory}
 use Rattle.report_text.specs.declared.report.Refusal.TheVariants.{Dependent}

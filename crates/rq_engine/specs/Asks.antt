@@ -2,13 +2,13 @@
 use Rattle.std.specs.Prelude.{◌≡◌, true, All, Option, None, Some, map, pos, ⊤}
 use Rattle.exact_algebra.specs.Fraction.{rational}
 use Rattle.exact_algebra.specs.Rational.{whole, ◌≤ℚ◌}
+use Rattle.frac_core.specs.Values.{value}
 use Rattle.rq_words.specs.declared.job.RankAsk.{RankAsk}
 use Rattle.rq_words.specs.declared.job.FitJob.{FitJob}
 use Rattle.rq_words.specs.declared.job.PathJob.{PathJob}
 use Rattle.rq_words.specs.declared.job.TestJob.{TestJob}
 use Rattle.rq_words.specs.Requests.{given_number}
 use Rattle.rq_words.specs.Words.{ascends}
-use Rattle.report_text.specs.ReportText.{value}
 pub use Rattle.rank_inversion.specs.RankProblems.{IsInner}
 
 -- the critical value is at least 0, and the quantiles lie strictly between 0 and 1

@@ -5,6 +5,7 @@ use Rattle.std.specs.List.{AllZip}
 use Rattle.exact_algebra.specs.Rational.{ℚ, ◌≤ℚ◌}
 use Rattle.exact_algebra.specs.Fraction.{Fraction, rational}
 use Rattle.frac_core.specs.declared.frac128.Frac128.{Frac128}
+use Rattle.frac_core.specs.Values.{value}
 use Rattle.loss_model.specs.declared.problem.Problem.{Problem}
 use Rattle.loss_model.specs.declared.process.Process.{Process}
 use Rattle.loss_model.specs.declared.process.Segment.{Segment}
@@ -19,7 +20,6 @@ use Rattle.tau_process.specs.Stops.{IsLimited}
 use Rattle.rq_words.specs.declared.job.FitJob.{FitJob}
 use Rattle.rankscores.specs.Scores.{IsScored}
 use Rattle.rq_engine.specs.Intervals.{AreRightIntervals, asked_by}
-use Rattle.report_text.specs.ReportText.{value}
 use Rattle.report_text.specs.declared.report.Fit.{Fit}
 use Rattle.rq_input.specs.declared.input.Input.{Input}
 

@@ -5,7 +5,7 @@ use Rattle.loss_model.specs.declared.process.Segment.{Segment}
 use Rattle.loss_model.specs.declared.spill.Spill.{Spill}
 use Rattle.loss_model.specs.Quantities.{IsShortOf}
 use Rattle.design_matrix.specs.declared.design.PredictRow.{PredictRow}
-use Rattle.rq_engine.specs.declared.predictions.Lacking.{Lacking}
+use Rattle.rq_engine.specs.declared.predict.Lacking.{Lacking}
 use Rattle.rq_engine.specs.Predicted.{IsRowSpill}
 
 -- an operation of the prediction of the row of this record overflows

@@ -3,7 +3,7 @@ use Rattle.std.specs.Prelude.{◌≡◌, ◌<◌, ◌≤◌, ℕ, Bool, true, fa
 use Rattle.exact_algebra.specs.Fraction.{rational}
 use Rattle.frac_core.specs.declared.frac128.Frac128.{Frac128}
 use Rattle.frac_core.specs.Limits.{most_rows}
-use Rattle.data_frame.specs.Views.{exact}
+use Rattle.frac_core.specs.Values.{exact, value}
 use Rattle.loss_model.specs.declared.problem.Problem.{Problem}
 use Rattle.loss_model.specs.Problem.{sample, IsWellShaped}
 use Rattle.walk_rule.specs.WalkTrails.{ReachesProcessLimit}
@@ -12,7 +12,6 @@ use Rattle.tv_penalty.specs.Operations.{OverflowsFirst}
 use Rattle.lambda_path.specs.Faults.{path_operations, row_count}
 use Rattle.lambda_path.specs.Paths.{IsPathOf}
 use Rattle.rq_words.specs.declared.job.PathJob.{PathJob}
-use Rattle.report_text.specs.ReportText.{value}
 use Rattle.report_text.specs.declared.report.PathFit.{PathFit}
 use Rattle.rq_program.specs.declared.fault.ProgramFault.TheVariants.{TooManyRows}
 use Rattle.report_text.specs.declared.report.Refusal.TheVariants.{Program}

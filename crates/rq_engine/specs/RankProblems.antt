@@ -1,10 +1,10 @@
 -- Inner. Why rank intervals that a job asks for are not made.
 use Rattle.std.specs.Prelude.{⊤}
 use Rattle.frac_core.specs.declared.frac128.Frac128.{Frac128}
+use Rattle.frac_core.specs.Values.{value}
 use Rattle.loss_model.specs.declared.problem.Problem.{Problem}
 use Rattle.loss_model.specs.declared.stop.Stop.TheVariants as stops
 use Rattle.rq_words.specs.declared.job.FitJob.{FitJob}
-use Rattle.report_text.specs.ReportText.{value}
 use Rattle.report_text.specs.declared.report.Refusal.TheVariants.{Dependent}
 use Rattle.report_text.specs.declared.report.Place.TheVariants as places
 use Rattle.report_text.specs.declared.report.Halt.{Halt}

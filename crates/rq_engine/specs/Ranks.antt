@@ -1,11 +1,11 @@
 -- Stated. The right fit of an input over 0 to 1 with the Wilcoxon scores of its rows.
 use Rattle.std.specs.Prelude.{length, pos}
 use Rattle.exact_algebra.specs.Rational.{whole}
+use Rattle.frac_core.specs.Values.{value}
 use Rattle.loss_model.specs.Segment.{Covers, segments_of}
 use Rattle.rankscores.specs.Wilcoxon.{AreWilcoxon}
 use Rattle.rq_input.specs.declared.input.Input.{Input}
 use Rattle.rq_words.specs.declared.job.FitJob.{FitJob}
-use Rattle.report_text.specs.ReportText.{value}
 use Rattle.report_text.specs.declared.report.RanksFit.{RanksFit}
 use Rattle.rq_engine.specs.Fit.{IsFitOf}
 

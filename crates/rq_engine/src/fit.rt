@@ -3,11 +3,12 @@
 ghost use Rattle.std.specs.Prelude.{◌≡◌, ◌≢◌, ℕ, ◌<◌, ◌≤◌, ◌^◌, ◌++◌, All, is_some, length, pos, true, IfOk, IfErr};
 ghost use Rattle.std.specs.List.{AllZip};
 ghost use Rattle.exact_algebra.specs.Rational.{whole};
+ghost use Rattle.frac_core.specs.Values.{value};
 ghost use Rattle.loss_model.specs.Dual.{IsDataRow};
 ghost use Rattle.loss_model.specs.Problem.{sample, IsWellShaped};
 ghost use Rattle.loss_model.specs.Quantities.{IsShortOf};
 ghost use Rattle.rankscores.specs.Scores.{IsScorable, IsScored};
-ghost use Rattle.report_text.specs.ReportText.{value, IsPrintable};
+ghost use Rattle.report_text.specs.ReportText.{IsPrintable};
 ghost use Rattle.report_text.specs.declared.report.Report.TheVariants as reports;
 ghost use Rattle.rq_input.specs.Rows.{HasRows};
 ghost use Rattle.rq_engine.specs.Asks.{IsFitAsk, IsRankAskOf};

@@ -3,9 +3,9 @@
 ghost use Rattle.std.specs.Prelude.{◌≡◌, ◌<◌, ◌≤◌, ◌^◌, All, length, IfOk, IfErr};
 ghost use Rattle.std.specs.List.{AllZip};
 ghost use Rattle.exact_algebra.specs.Rational.{ℚ};
+ghost use Rattle.frac_core.specs.Values.{value};
 ghost use Rattle.loss_model.specs.Quantities.{IsShortOf};
 ghost use Rattle.loss_model.specs.Segment.{Covers, segments_of};
-ghost use Rattle.report_text.specs.ReportText.{value};
 ghost use Rattle.rq_input.specs.Predictions.{HasEntries};
 ghost use Rattle.rq_input.specs.Rows.{HasRows};
 ghost use Rattle.rq_engine.specs.Asks.{IsFitAsk};

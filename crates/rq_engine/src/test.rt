@@ -1,11 +1,12 @@
 //! The job `test`: the rank test of nested models, from the start of its problem, the process without the tested columns, the
 //! Wilcoxon scores of the rows by it, and the statistic.
 ghost use Rattle.std.specs.Prelude.{◌≡◌, ℕ, ◌<◌, ◌^◌, length, IfOk, IfErr, ◌≤◌};
+ghost use Rattle.frac_core.specs.Values.{value};
 ghost use Rattle.loss_model.specs.Dual.{IsDataRow};
 ghost use Rattle.loss_model.specs.FullRank.{HasFullRank};
 ghost use Rattle.loss_model.specs.Problem.{sample, IsWellShaped};
 ghost use Rattle.nested_test.specs.Restricted.{restricted_problem};
-ghost use Rattle.report_text.specs.ReportText.{value, IsPrintable};
+ghost use Rattle.report_text.specs.ReportText.{IsPrintable};
 ghost use Rattle.report_text.specs.declared.report.Report.TheVariants as reports;
 ghost use Rattle.rq_input.specs.Rows.{HasRows};
 ghost use Rattle.rq_input.specs.Tested.{AreColumns};

@@ -4,10 +4,11 @@ use Rattle.std.proofs.lemmas.List.{length-map}
 use Rattle.exact_algebra.specs.Rational.{ℚ, whole}
 use Rattle.exact_algebra.proofs.Inverses.{one-zero}
 use Rattle.frac_core.specs.declared.frac128.Frac128.{Frac128}
-use Rattle.data_frame.specs.Views.{exact}
+use Rattle.frac_core.specs.Values.{exact, value}
 use Rattle.contrasts.specs.declared.Coding.{Coding}
 use Rattle.loss_model.specs.Problem.{of_row, sample, value_at}
 use Rattle.loss_model.specs.declared.problem.Row.{Row}
+use Rattle.loss_model.specs.Values.{exact_row}
 use Rattle.formula_parser.specs.declared.formula.Formula.{Formula}
 use Rattle.design_matrix.specs.Cells.{Column, Table, kept, weights_in}
 use Rattle.design_matrix.specs.Designs.{design_of}
@@ -15,9 +16,8 @@ use Rattle.design_matrix.specs.Designs.{RowOf as DesignRowOf}
 use Rattle.design_matrix.specs.Designs.{exact_row as exact_design_row}
 use Rattle.design_matrix.specs.Parts.{columns_of}
 use Rattle.design_matrix.specs.declared.design.DesignRow.{DesignRow}
-use Rattle.rq_program.specs.Programs.{RowOf, data_row, exact_row, rows_of}
+use Rattle.rq_program.specs.Programs.{data_row, rows_of}
 use Rattle.rq_words.specs.declared.job.FitJob.{FitJob}
-use Rattle.report_text.specs.ReportText.{value}
 use Rattle.rq_input.specs.Models.{IsDesigned}
 use Rattle.rq_input.specs.PlainRows.{HasIntercept}
 use Rattle.rq_input.specs.Rows.{HasRows}
@@ -34,7 +34,7 @@ design_front [] = whole (pos 0)
 design_front (r ∷ rs) = front r.x
 
 -- that of a problem
-abbrev problem_front : List RowOf → ℚ
+abbrev problem_front : List (Row ℚ) → ℚ
 problem_front [] = whole (pos 0)
 problem_front (r ∷ rs) = front r.x
 
@@ -51,7 +51,7 @@ front_joined [] ys some = absurd (some refl)
 front_joined (x ∷ xs) ys some = refl
 
 -- the entries of the smooths stand behind those of the design
-front_of_data : (rows : List DesignRow) (smooths : List (List Frac128)) (penalties : List RowOf) → length smooths ≡ length rows
+front_of_data : (rows : List DesignRow) (smooths : List (List Frac128)) (penalties : List (Row ℚ)) → length smooths ≡ length rows
     → design_front (map exact_design_row rows) ≢ whole (pos 0)
     → problem_front (map data_row (zip rows smooths) ++ penalties) ≡ design_front (map exact_design_row rows)
 front_of_data [] smooths penalties same some = absurd (some refl)

@@ -5,9 +5,9 @@ use Rattle.std.proofs.lemmas.Bool.{eqb-true}
 use Rattle.std.proofs.lemmas.List.{length-map}
 use Rattle.std.proofs.lemmas.List.Elements.{All-cons, All-nil}
 use Rattle.std.proofs.lemmas.Option.{slice_get-get_or}
+use Rattle.frac_core.specs.Values.{exact}
 use Rattle.contrasts.specs.declared.Coding.{Coding}
 use Rattle.formula_parser.specs.declared.formula.Formula.{Formula}
-use Rattle.data_frame.specs.Views.{exact}
 use Rattle.design_matrix.specs.Cells.{Table}
 use Rattle.design_matrix.specs.Computed.{arith_at}
 use Rattle.design_matrix.specs.Predicted.{HasRowCause, IsPredictRow, is_predicted, kept_in, predicted}

@@ -1,6 +1,7 @@
 -- Law. What the problem of an input loses, in the subject's words.
 use Rattle.std.specs.Prelude.{◌≡◌, ℕ, Bool, zip}
 use Rattle.exact_algebra.specs.Rational.{ℚ, ◌+ℚ◌}
+use Rattle.frac_core.specs.Values.{value}
 use Rattle.loss_model.specs.Problem.{sample}
 use Rattle.loss_model.specs.Sample.{loss}
 use Rattle.formula_parser.specs.declared.formula.Formula.{Formula}
@@ -8,7 +9,6 @@ use Rattle.design_matrix.specs.Cells.{Table}
 use Rattle.tv_penalty.specs.Variation.{variation}
 use Rattle.rq_program.specs.Losses.{records_loss, smooth_part}
 use Rattle.rq_words.specs.declared.job.FitJob.{FitJob}
-use Rattle.report_text.specs.ReportText.{value}
 use Rattle.rq_input.specs.Inputs.{IsModelInput}
 use Rattle.rq_input.specs.Models.{IsModel}
 use Rattle.rq_input.specs.Rows.{HasRows}

@@ -9,8 +9,9 @@ use Rattle.design_matrix.specs.declared.design.Design.{Design}
 use Rattle.tv_penalty.specs.Faults.{IsSound}
 use Rattle.tv_penalty.specs.Smoothings.{exact_smoothing, smoothing_by}
 use Rattle.tv_penalty.specs.declared.Smoothing.{Smoothing}
-use Rattle.rq_program.specs.Programs.{columns_of, exact_row, rows_of}
+use Rattle.rq_program.specs.Programs.{columns_of, rows_of}
 use Rattle.loss_model.specs.declared.problem.Problem.{Problem}
+use Rattle.loss_model.specs.Values.{exact_row}
 use Rattle.rq_words.specs.declared.job.FitJob.{FitJob}
 
 -- the formula of the job over the names of the table is this one; where ranks are asked for it has no smooths

@@ -1,8 +1,8 @@
 -- Law. What whoever goes on with an input without smooths knows of its first row.
 use Rattle.std.specs.Prelude.{◌≡◌, ◌≢◌, ◌<◌, Bool, true, length, pos}
 use Rattle.exact_algebra.specs.Rational.{whole}
+use Rattle.frac_core.specs.Values.{value}
 use Rattle.loss_model.specs.Problem.{sample}
-use Rattle.report_text.specs.ReportText.{value}
 use Rattle.rq_input.specs.declared.input.Input.{Input}
 
 -- there is a first row; and where there is an intercept, the entry of its first column isn't 0

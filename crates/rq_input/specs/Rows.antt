@@ -1,11 +1,11 @@
 -- Stated. What whoever goes on with an input knows of its rows.
 use Rattle.std.specs.Prelude.{◌≡◌, ◌≤◌, ◌<◌, ℕ, length}
+use Rattle.frac_core.specs.Values.{value}
 use Rattle.loss_model.specs.Dual.{IsDataRow}
 use Rattle.loss_model.specs.Problem.{sample, IsWellShaped}
 use Rattle.rq_program.specs.Costs.{IsPenaltyRow}
 use Rattle.rq_program.specs.Faults.{row_count}
 use Rattle.rq_program.specs.Programs.{AreTogether}
-use Rattle.report_text.specs.ReportText.{value}
 use Rattle.rq_input.specs.declared.input.Input.{Input}
 
 -- the design and what the smooths add go together, and the problem has a data row for each row of the design, and then a

@@ -10,18 +10,19 @@ use Rattle.exact_algebra.specs.Rational.{ℚ, ◌+ℚ◌, ◌-ℚ◌, ◌*ℚ◌
 use Rattle.exact_algebra.proofs.RationalLaws.{ring_ℚ}
 use Rattle.exact_algebra.specs.Solver.{number, negated, ◌⊞◌, ◌⊟◌, ◌⊠◌, v0, v1}
 use Rattle.frac_core.specs.declared.frac128.Frac128.{Frac128}
-use Rattle.data_frame.specs.Views.{exact}
+use Rattle.frac_core.specs.Values.{exact, value}
 use Rattle.loss_model.specs.declared.problem.Row.{Row}
 use Rattle.loss_model.specs.declared.problem.Problem.{Problem}
 use Rattle.loss_model.specs.Dual.{IsDataRow}
 use Rattle.loss_model.specs.Problem.{of_row, sample}
 use Rattle.loss_model.specs.Sample.{Sample, up_cost, down_cost}
+use Rattle.loss_model.specs.Values.{exact_row}
 use Rattle.design_matrix.specs.declared.design.Design.{Design}
 use Rattle.design_matrix.specs.declared.design.DesignRow.{DesignRow}
 use Rattle.tv_penalty.specs.declared.PenaltyRow.{PenaltyRow}
 use Rattle.tv_penalty.specs.declared.Smoothing.{Smoothing}
-use Rattle.rq_program.specs.Programs.{RowOf, exact_row, data_row, penalty_row, rows_of}
-use Rattle.rq_program.specs.Costs.{CostsBy, HasDataRows, IsPenaltyRow, value}
+use Rattle.rq_program.specs.Programs.{data_row, penalty_row, rows_of}
+use Rattle.rq_program.specs.Costs.{CostsBy, HasDataRows, IsPenaltyRow}
 use Rattle.rq_program.specs.Faults.{row_count}
 use Rattle.rq_program.proofs.Rows.{length-rows_of}
 

@@ -12,13 +12,14 @@ use Rattle.exact_algebra.proofs.RationalLaws.{ring_ℚ, +ℚ_assoc, zero-+ℚ, �
 use Rattle.exact_algebra.proofs.RationalSumLaws.{sum_ℚ-same}
 use Rattle.exact_algebra.specs.Fraction.{rational}
 use Rattle.frac_core.specs.declared.frac128.Frac128.{Frac128}
-use Rattle.data_frame.specs.Views.{exact}
+use Rattle.frac_core.specs.Values.{exact, value}
 use Rattle.loss_model.specs.declared.problem.Row.{Row}
 use Rattle.loss_model.specs.declared.problem.Problem.{Problem}
 use Rattle.loss_model.specs.Problem.{of_row, sample, value_at}
 use Rattle.loss_model.specs.Sample.{loss, residual, row_loss}
 use Rattle.loss_model.specs.Spill.{abs_ℚ}
 use Rattle.loss_model.proofs.Duality.{cost_above, cost_below}
+use Rattle.loss_model.specs.Values.{exact_row}
 use Rattle.design_matrix.specs.declared.design.Design.{Design}
 use Rattle.design_matrix.specs.declared.design.DesignRow.{DesignRow}
 use Rattle.tv_penalty.specs.declared.PenaltyRow.{PenaltyRow}
@@ -26,9 +27,8 @@ use Rattle.tv_penalty.specs.declared.Smoothing.{Smoothing}
 use Rattle.tv_penalty.specs.Smoothings.{exact_penalty, exact_smoothing}
 use Rattle.tv_penalty.specs.Variation.{along, penalty}
 use Rattle.tv_penalty.proofs.Variations.{along_append, along_same, along_zeros}
-use Rattle.rq_program.specs.Costs.{value}
 use Rattle.rq_program.specs.Losses.{LossIsPenalised, check_loss, record_residual, records_loss, smooth_part}
-use Rattle.rq_program.specs.Programs.{AreTogether, RowOf, columns_of, data_row, exact_row, penalty_row, rows_of}
+use Rattle.rq_program.specs.Programs.{AreTogether, columns_of, data_row, penalty_row, rows_of}
 use Rattle.rq_program.proofs.Rows.{wide_rows_of}
 
 -- ---- sums from the front
@@ -48,16 +48,16 @@ sum_along (suc n) (x ∷ xs) b e =
 -- ---- rows
 
 -- what a row loses
-row_of_loss : RowOf → ℚ → (ℕ → ℚ) → ℚ
+row_of_loss : Row ℚ → ℚ → (ℕ → ℚ) → ℚ
 row_of_loss q theta b =
     ((q.up0 +ℚ (q.up1 *ℚ theta)) *ℚ positive_ℚ (q.y -ℚ along q.x b)) +ℚ ((q.down0 +ℚ (q.down1 *ℚ theta)) *ℚ negative_ℚ (q.y -ℚ along q.x b))
 
 -- what rows lose, added
-rows_of_loss : List RowOf → ℚ → (ℕ → ℚ) → ℚ
+rows_of_loss : List (Row ℚ) → ℚ → (ℕ → ℚ) → ℚ
 rows_of_loss [] theta b = whole (pos 0)
 rows_of_loss (q ∷ qs) theta b = row_of_loss q theta b +ℚ rows_of_loss qs theta b
 
-rows_append : (ps qs : List RowOf) (theta : ℚ) (b : ℕ → ℚ) → rows_of_loss (ps ++ qs) theta b ≡ rows_of_loss ps theta b +ℚ rows_of_loss qs theta b
+rows_append : (ps qs : List (Row ℚ)) (theta : ℚ) (b : ℕ → ℚ) → rows_of_loss (ps ++ qs) theta b ≡ rows_of_loss ps theta b +ℚ rows_of_loss qs theta b
 unfolding rows_of_loss
 rows_append [] qs theta b = sym (zero-+ℚ (rows_of_loss qs theta b))
 rows_append (p ∷ ps) qs theta b = ap (λ z. row_of_loss p theta b +ℚ z) (rows_append ps qs theta b) ∙ sym (+ℚ_assoc (row_of_loss p theta b) (rows_of_loss ps theta b) (rows_of_loss qs theta b))

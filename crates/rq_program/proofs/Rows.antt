@@ -7,15 +7,16 @@ use Rattle.std.proofs.lemmas.List.Elements.{All-append, All-map}
 use Rattle.std.proofs.lemmas.Slice.Zip.{get_or-zip, length-zip}
 use Rattle.exact_algebra.specs.Rational.{ℚ, neg_ℚ, whole}
 use Rattle.frac_core.specs.declared.frac128.Frac128.{Frac128}
-use Rattle.data_frame.specs.Views.{exact}
+use Rattle.frac_core.specs.Values.{exact}
 use Rattle.loss_model.specs.declared.problem.Row.{Row}
 use Rattle.loss_model.specs.declared.problem.Problem.{Problem}
 use Rattle.loss_model.specs.Problem.{IsWellShaped}
+use Rattle.loss_model.specs.Values.{exact_row}
 use Rattle.design_matrix.specs.declared.design.Design.{Design}
 use Rattle.design_matrix.specs.declared.design.DesignRow.{DesignRow}
 use Rattle.tv_penalty.specs.declared.PenaltyRow.{PenaltyRow}
 use Rattle.tv_penalty.specs.declared.Smoothing.{Smoothing}
-use Rattle.rq_program.specs.Programs.{RowOf, exact_row, data_row, penalty_row, rows_of, columns_of, AreTogether}
+use Rattle.rq_program.specs.Programs.{data_row, penalty_row, rows_of, columns_of, AreTogether}
 use Rattle.rq_program.specs.Faults.{row_count}
 
 map_replicate : {X Y : Type 0} (f : X → Y) (n : ℕ) (x : X) → map f (replicate n x) ≡ replicate n (f x)
@@ -61,7 +62,7 @@ wide_rows_of design smoothing h =
     (All-map wide data_row (zip design.rows smoothing.columns) data_rows)
     (All-map wide (penalty_row (length design.names)) smoothing.rows penalties)
   where
-    wide : RowOf → Type 0
+    wide : Row ℚ → Type 0
     wide q = length q.x ≡ columns_of design smoothing
 
     joined : (r : DesignRow) (s : List Frac128) → length r.x ≡ length design.names → length s ≡ length smoothing.names → wide (data_row (r, s))

@@ -2,11 +2,10 @@
 use Rattle.std.specs.Prelude.{◌≡◌, ◌≤◌, ◌<◌, ℕ, All, Some, length, pos}
 use Rattle.std.specs.List.{slice_get}
 use Rattle.std.specs.declared.cmp.Ordering.TheVariants.{Less}
-use Rattle.exact_algebra.specs.Fraction.{Fraction}
 use Rattle.exact_algebra.specs.Order.{cmp_ℚ}
 use Rattle.exact_algebra.specs.Rational.{ℚ, ◌-ℚ◌, ◌*ℚ◌, whole}
 use Rattle.frac_core.specs.declared.frac128.Frac128.{Frac128}
-use Rattle.data_frame.specs.Views.{exact}
+use Rattle.frac_core.specs.Values.{exact, value}
 use Rattle.loss_model.specs.declared.problem.Problem.{Problem}
 use Rattle.loss_model.specs.Dual.{IsDataRow}
 use Rattle.loss_model.specs.Problem.{sample}
@@ -15,10 +14,6 @@ use Rattle.design_matrix.specs.declared.design.Design.{Design}
 use Rattle.design_matrix.specs.declared.design.DesignRow.{DesignRow}
 use Rattle.tv_penalty.specs.declared.Smoothing.{Smoothing}
 use Rattle.rq_program.specs.Faults.{row_count}
-
--- a number of the program as a fraction
-abbrev pub value : Frac128 → Fraction
-value x = record { num = x.num; den = x.den }
 
 -- at the quantile theta a unit above the fit costs weight*theta, and a unit below it weight*(1-theta)
 pub record CostsBy (weight : ℚ) (p : Sample) (i : ℕ) : Type 0 where

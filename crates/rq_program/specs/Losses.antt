@@ -4,17 +4,17 @@ use Rattle.std.specs.Prelude.{◌≡◌, ℕ, ◌+◌, List, [], ◌∷◌, leng
 use Rattle.exact_algebra.specs.Rational.{ℚ, ◌+ℚ◌, ◌-ℚ◌, ◌*ℚ◌, whole}
 use Rattle.exact_algebra.specs.RationalSums.{positive_ℚ, negative_ℚ}
 use Rattle.frac_core.specs.declared.frac128.Frac128.{Frac128}
-use Rattle.data_frame.specs.Views.{exact}
+use Rattle.frac_core.specs.Values.{exact, value}
 use Rattle.loss_model.specs.declared.problem.Problem.{Problem}
 use Rattle.loss_model.specs.Problem.{sample, IsWellShaped}
 use Rattle.loss_model.specs.Sample.{loss}
+use Rattle.loss_model.specs.Values.{exact_row}
 use Rattle.design_matrix.specs.declared.design.Design.{Design}
 use Rattle.design_matrix.specs.declared.design.DesignRow.{DesignRow}
 use Rattle.tv_penalty.specs.declared.Smoothing.{Smoothing}
 use Rattle.tv_penalty.specs.Smoothings.{exact_smoothing}
 use Rattle.tv_penalty.specs.Variation.{along, penalty}
-use Rattle.rq_program.specs.Costs.{value}
-use Rattle.rq_program.specs.Programs.{AreTogether, exact_row, rows_of}
+use Rattle.rq_program.specs.Programs.{AreTogether, rows_of}
 
 -- the check loss of a residual at theta: theta times it above the fit, and 1 - theta times it below
 abbrev pub check_loss : ℚ → ℚ → ℚ

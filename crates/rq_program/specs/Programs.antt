@@ -3,36 +3,16 @@
 use Rattle.std.specs.Prelude.{◌≡◌, ℕ, ◌+◌, ◌<◌, List, ◌++◌, All, length, map, replicate, zip, pos}
 use Rattle.exact_algebra.specs.Rational.{ℚ, neg_ℚ, whole}
 use Rattle.frac_core.specs.declared.frac128.Frac128.{Frac128}
-use Rattle.data_frame.specs.Views.{exact}
+use Rattle.frac_core.specs.Values.{exact}
 use Rattle.loss_model.specs.declared.problem.Row.{Row}
 use Rattle.design_matrix.specs.declared.design.Design.{Design}
 use Rattle.design_matrix.specs.declared.design.DesignRow.{DesignRow}
 use Rattle.tv_penalty.specs.declared.PenaltyRow.{PenaltyRow}
 use Rattle.tv_penalty.specs.declared.Smoothing.{Smoothing}
 
--- the numbers of a row
-pub record RowOf : Type 0 where
-  pub x : List ℚ
-  pub y : ℚ
-  pub up0 : ℚ
-  pub up1 : ℚ
-  pub down0 : ℚ
-  pub down1 : ℚ
-
--- a row of a problem with the values of its numbers
-abbrev pub exact_row : Row Frac128 → RowOf
-exact_row r = record {
-  x = map exact r.x;
-  y = exact r.y;
-  up0 = exact r.up0;
-  up1 = exact r.up1;
-  down0 = exact r.down0;
-  down1 = exact r.down1;
-}
-
 -- a data row: the entries of the design and those of the smooths, and a cost of the weight times the
 -- quantile above the fit, and of the weight times what the quantile leaves of 1 below it
-abbrev pub data_row : DesignRow × List Frac128 → RowOf
+abbrev pub data_row : DesignRow × List Frac128 → Row ℚ
 data_row (r, smooth) = record {
   x = map exact r.x ++ map exact smooth;
   y = exact r.y;
@@ -44,7 +24,7 @@ data_row (r, smooth) = record {
 
 -- a penalty row: no entry in the design's columns, the response 0, and a cost of lambda on both
 -- sides, whatever the quantile
-abbrev pub penalty_row : ℕ → PenaltyRow → RowOf
+abbrev pub penalty_row : ℕ → PenaltyRow → Row ℚ
 penalty_row width r = record {
   x = replicate width (whole (pos 0)) ++ map exact r.x;
   y = whole (pos 0);
@@ -55,7 +35,7 @@ penalty_row width r = record {
 }
 
 -- the rows of the design, and then the penalty rows
-abbrev pub rows_of : Design → Smoothing → List RowOf
+abbrev pub rows_of : Design → Smoothing → List (Row ℚ)
 rows_of design smoothing =
     map data_row (zip design.rows smoothing.columns) ++ map (penalty_row (length design.names)) smoothing.rows
 

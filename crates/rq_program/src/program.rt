@@ -1,9 +1,10 @@
 //! Rows and costs.
 ghost use Rattle.std.specs.Prelude.{◌≡◌, ◌≤◌, ◌+◌, ◌^◌, ◌<◌, ◌++◌, All, IfOk, OnOk, IfErr, length, map, replicate, zip, pos};
 ghost use Rattle.exact_algebra.specs.Rational.{whole};
-ghost use Rattle.data_frame.specs.Views.{exact};
+ghost use Rattle.frac_core.specs.Values.{exact};
 ghost use Rattle.loss_model.specs.Problem.{IsWellShaped};
-ghost use Rattle.rq_program.specs.Programs.{exact_row, data_row, penalty_row, rows_of, columns_of, AreTogether};
+ghost use Rattle.loss_model.specs.Values.{exact_row};
+ghost use Rattle.rq_program.specs.Programs.{data_row, penalty_row, rows_of, columns_of, AreTogether};
 ghost use Rattle.rq_program.specs.Costs.{HasDataRows};
 ghost use Rattle.rq_program.specs.Faults.{row_count, HasCause};
 

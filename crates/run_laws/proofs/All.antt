@@ -1,12 +1,12 @@
 -- All conditions on a sound certificate are true.
 use Rattle.std.proofs.Common.{◌++◌, ◌+◌}
 use Rattle.exact_algebra.specs.Fraction.{rational}
+use Rattle.frac_core.specs.Values.{value as value128}
 use Rattle.loss_model.specs.Problem.{sample}
 use Rattle.cert_text.specs.declared.cert.Cert.{Cert}
 use Rattle.cert_checker.specs.Certificates.{first_tests, later_tests, tests}
 use Rattle.cert_checker.specs.Conditions.{each, row_form, segment_form, low_of, high_of, costs, ends, bounds, balances, losses, joints}
 use Rattle.cert_checker.specs.Intervals.{interval_form, interval_tests}
-use Rattle.cert_checker.specs.Places.{value128}
 use Rattle.cert_checker.specs.Tests.{AreTrue}
 use Rattle.run_laws.specs.Sound.{IsSound, IsSoundInterval}
 use Rattle.cert_checker.proofs.Decided.{joined}

@@ -6,11 +6,11 @@ use Rattle.exact_algebra.specs.Fraction.{rational}
 use Rattle.exact_algebra.specs.Rational.{ℚ, whole}
 use Rattle.exact_algebra.proofs.OrderLaws.{le_from_not}
 use Rattle.frac_core.specs.declared.frac128.Frac128.{Frac128}
+use Rattle.frac_core.specs.Values.{value}
 use Rattle.loss_model.specs.Problem.{sample}
 use Rattle.pivot_rule.specs.Duals.{HasCosts}
 use Rattle.rank_inversion.specs.declared.column_test.Asked.{Asked}
 use Rattle.rq_words.specs.declared.job.RankAsk.{RankAsk}
-use Rattle.report_text.specs.ReportText.{value}
 use Rattle.rq_input.specs.Rows.{HasRows}
 use Rattle.rq_input.specs.declared.input.Input.{Input}
 use Rattle.rq_engine.specs.Asks.{IsInner, IsRankAskOf}

@@ -1,6 +1,7 @@
 -- A generated table of full rank is answered.
 use Rattle.std.specs.Prelude.{ℕ, Bool, false, List, []}
 use Rattle.std.proofs.Common.{refl, sym, subst, ◌∙◌}
+use Rattle.frac_core.specs.Values.{value}
 use Rattle.loss_model.specs.FullRank.{HasFullRank}
 use Rattle.loss_model.specs.Problem.{sample}
 use Rattle.rq_words.specs.Requests.{sample_request}
@@ -9,7 +10,6 @@ use Rattle.rq_words.specs.declared.job.Job.{Job}
 use Rattle.rq_words.specs.declared.job.Job.TheVariants as jobs
 use Rattle.rq_words.specs.declared.job.SampleJob.{SampleJob}
 use Rattle.rq_words.proofs.Samples.{words_sample}
-use Rattle.report_text.specs.ReportText.{value}
 use Rattle.report_text.specs.declared.report.Refusal.{Refusal}
 use Rattle.report_text.specs.declared.report.Refusal.TheVariants as refusals
 use Rattle.report_text.specs.declared.report.Halt.TheVariants as halts

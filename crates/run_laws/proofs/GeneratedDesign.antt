@@ -17,10 +17,11 @@ use Rattle.exact_algebra.specs.Rational.{le_ℚ, whole}
 use Rattle.frac_core.specs.Limits.{most_columns}
 use Rattle.frac_core.specs.declared.arith.Arith.{Arith}
 use Rattle.frac_core.specs.declared.frac128.Frac128.{Frac128}
+use Rattle.frac_core.specs.Values.{exact}
 use Rattle.data_frame.specs.Cells.{ColumnOf, numbers, factor, too_wide}
 use Rattle.data_frame.specs.Records.{Text}
 use Rattle.data_frame.specs.Tables.{column_named}
-use Rattle.data_frame.specs.Views.{exact, exact_column}
+use Rattle.data_frame.specs.Views.{exact_column}
 use Rattle.formula_parser.specs.Held.{ariths_of, term_ariths}
 use Rattle.formula_parser.specs.Scope.{name_at}
 use Rattle.formula_parser.specs.declared.formula.Formula.{Formula}

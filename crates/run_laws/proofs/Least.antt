@@ -1,5 +1,6 @@
 -- What the dual values of a segment show of all coefficients.
 use Rattle.frac_core.specs.declared.frac128.Frac128.{Frac128}
+use Rattle.frac_core.specs.Values.{value}
 use Rattle.loss_model.specs.declared.problem.Problem.{Problem}
 use Rattle.loss_model.specs.declared.process.Segment.{Segment}
 use Rattle.loss_model.specs.Problem.{sample, value_at}
@@ -7,7 +8,6 @@ use Rattle.loss_model.specs.Segment.{dual_at}
 use Rattle.quantile_laws.specs.Uniqueness.{MinimaByDuals}
 use Rattle.real_laws.specs.OrderedRings.{OrderedRing}
 use Rattle.real_laws.specs.Laws.{MinimisesBetweenIn}
-use Rattle.report_text.specs.ReportText.{value}
 use Rattle.run_laws.specs.Reports.{printed}
 use Rattle.run_laws.specs.LeastReports.{IsLeastSegment}
 use Rattle.run_laws.specs.ReadFits.{HasMinima}

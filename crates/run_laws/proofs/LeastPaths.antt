@@ -5,7 +5,7 @@ use Rattle.std.proofs.Common.{arith, subst}
 use Rattle.exact_algebra.specs.Fraction.{rational}
 use Rattle.exact_algebra.specs.Rational.{ℚ, whole, ◌≤ℚ◌}
 use Rattle.frac_core.specs.declared.frac128.Frac128.{Frac128}
-use Rattle.data_frame.specs.Views.{exact}
+use Rattle.frac_core.specs.Values.{exact, value}
 use Rattle.loss_model.specs.declared.process.Segment.{Segment}
 use Rattle.loss_model.specs.Problem.{sample, value_at}
 use Rattle.loss_model.specs.Sample.{Sample, loss, Minimises}
@@ -14,7 +14,6 @@ use Rattle.lambda_path.specs.Laws.{PathLoss, SumNeverRises}
 use Rattle.rq_words.specs.declared.job.Job.{Job}
 use Rattle.rq_words.specs.declared.job.Job.TheVariants as jobs
 use Rattle.rq_words.specs.declared.job.PathJob.{PathJob}
-use Rattle.report_text.specs.ReportText.{value}
 use Rattle.report_text.specs.declared.report.PathFit.{PathFit}
 use Rattle.report_text.specs.declared.report.Report.TheVariants as reports
 use Rattle.rq_input.specs.Plain.{IsPlain}

@@ -5,6 +5,7 @@ use Rattle.std.proofs.Common.{arith, refl, sym, subst, ◌∙◌}
 use Rattle.exact_algebra.specs.Rational.{whole, ◌≤ℚ◌}
 use Rattle.exact_matrices.specs.Selections.{AreDistinct}
 use Rattle.frac_core.specs.declared.frac128.Frac128.{Frac128}
+use Rattle.frac_core.specs.Values.{value}
 use Rattle.loss_model.specs.declared.problem.Problem.{Problem}
 use Rattle.loss_model.specs.declared.process.Trail.{Trail}
 use Rattle.loss_model.specs.FullRank.{HasFullRank}
@@ -19,7 +20,6 @@ use Rattle.rq_words.specs.declared.job.Job.{Job}
 use Rattle.rq_words.specs.declared.job.Job.TheVariants as jobs
 use Rattle.rq_words.specs.declared.job.TestJob.{TestJob}
 use Rattle.cert_checker.specs.declared.verdict.Rejection.{Rejection}
-use Rattle.report_text.specs.ReportText.{value}
 use Rattle.report_text.specs.declared.report.TestFit.{TestFit}
 use Rattle.report_text.specs.declared.report.Place.{Place}
 use Rattle.report_text.specs.declared.report.Refusal.{Refusal}

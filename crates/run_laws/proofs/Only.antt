@@ -5,6 +5,7 @@ use Rattle.std.proofs.Common.{arith, ap, subst, ◌∙◌}
 use Rattle.std.proofs.lemmas.Bool.{lt-ltb}
 use Rattle.std.proofs.lemmas.List.Elements.{All-head, All-tail, All-cons, All-nil, All-contains}
 use Rattle.frac_core.specs.declared.frac128.Frac128.{Frac128}
+use Rattle.frac_core.specs.Values.{value}
 use Rattle.loss_model.specs.declared.problem.Problem.{Problem}
 use Rattle.loss_model.specs.declared.process.Segment.{Segment}
 use Rattle.loss_model.specs.Dual.{IsDataRow, rankscore}
@@ -17,7 +18,6 @@ use Rattle.rankscores.specs.Scores.{IsScored, row_score}
 use Rattle.quantile_laws.specs.Uniqueness.{IsInside, IsInsideBetween, ScoreIsInside, ScoresAreInside}
 use Rattle.real_laws.specs.OrderedRings.{OrderedRing}
 use Rattle.real_laws.specs.Laws.{MinimumIsUniqueIn, UniqueBetweenIn}
-use Rattle.report_text.specs.ReportText.{value}
 use Rattle.report_text.specs.declared.report.Fit.{Fit}
 use Rattle.rq_engine.specs.Fit.{IsRightSegment}
 use Rattle.rq_cli.specs.Outcomes.{Stream}

@@ -13,6 +13,7 @@ use Rattle.exact_algebra.proofs.RationalLaws.{≤ℚ_refl}
 use Rattle.exact_algebra.proofs.RationalSumLaws.{sum_ℚ-same}
 use Rattle.exact_algebra.proofs.WholeNumbers.{whole-le}
 use Rattle.frac_core.specs.declared.frac128.Frac128.{Frac128}
+use Rattle.frac_core.specs.Values.{value as value128}
 use Rattle.loss_model.specs.declared.problem.Problem.{Problem}
 use Rattle.loss_model.specs.declared.problem.Row.{Row}
 use Rattle.loss_model.specs.declared.process.Segment.{Segment}
@@ -23,7 +24,6 @@ use Rattle.loss_model.specs.Sample.{up_cost, down_cost}
 use Rattle.loss_model.specs.Segment.{Covers, of_segment, segments_of}
 use Rattle.loss_model.specs.Strict.{◌<ℚ◌}
 use Rattle.loss_model.specs.Vertex.{dual_value}
-use Rattle.cert_checker.specs.Places.{value128}
 use Rattle.cert_checker.specs.Formulas as formula
 use Rattle.cert_checker.specs.Formulas.{given, worth}
 use Rattle.cert_checker.specs.Tests.{Holds, Test, AreTrue, one}

@@ -13,10 +13,10 @@ use Rattle.frac_core.specs.declared.frac128.Frac128.{Frac128}
 use Rattle.loss_model.specs.declared.spill.Spill.{Spill}
 use Rattle.design_matrix.specs.Designs.{OverflowsInColumn, OverflowsInRow, RowFits, entry_site}
 use Rattle.design_matrix.specs.Parts.{Part, factors}
-use Rattle.design_matrix.specs.Products.{Fits, IsValue, product, product_onto, value}
+use Rattle.design_matrix.specs.Products.{Fits, IsValue, product, product_onto}
 use Rattle.loss_model.specs.declared.spill.Site.{Site}
-use Rattle.data_frame.specs.Views.{exact}
 use Rattle.std.proofs.lemmas.List.{get_or-take, length-take}
+use Rattle.frac_core.specs.Values.{value, exact}
 use native.Mathlib.Decide.{dec_lt}
 use Rattle.run_laws.proofs.Same.{same_number}
 

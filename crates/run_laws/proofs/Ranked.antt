@@ -16,6 +16,7 @@ use Rattle.exact_algebra.proofs.RationalLaws.{ring_ℚ, ≤ℚ_refl}
 use Rattle.exact_algebra.proofs.RationalSumLaws.{sum_ℚ-same, sum_ℚ-scale}
 use Rattle.exact_algebra.proofs.WholeNumbers.{le_from_whole}
 use Rattle.frac_core.specs.declared.frac128.Frac128.{Frac128}
+use Rattle.frac_core.specs.Values.{value as value128}
 use Rattle.loss_model.specs.declared.problem.Problem.{Problem}
 use Rattle.loss_model.specs.declared.vertex.Side.{Side}
 use Rattle.loss_model.specs.declared.vertex.Side.TheVariants.{Up, Down, Basic}
@@ -33,7 +34,6 @@ use Rattle.loss_model.specs.Vertex.{dual_value, IsOn}
 use Rattle.rank_law.specs.Restricted.{IsFeasibleWithout, column_sum, projected, rank_bound, rank_statistic, squared_length}
 use Rattle.rank_law.specs.Shown.{IsRowAlong, IsStatedRay}
 use Rattle.rank_law.specs.Certified.{AreInOrder, MeetsConditions, MeetsHighBound, MeetsInside, MeetsLowBound, MeetsOutside, bound_of, length_of}
-use Rattle.cert_checker.specs.Places.{value128}
 use Rattle.cert_checker.specs.Formulas as formula
 use Rattle.cert_checker.specs.Formulas.{Formula, given, worth}
 use Rattle.cert_checker.specs.Tests.{Holds, Part, ArePartsTrue, AreTrue, part}

@@ -11,6 +11,7 @@ use Rattle.exact_algebra.proofs.RationalLaws.{ring_ℚ, ≤ℚ_refl, ≤ℚ_mul}
 use Rattle.exact_algebra.proofs.OrderLaws.{≤ℚ-minus, le_from_not, cmp_ℚ-Less}
 use Rattle.exact_matrices.specs.Terms.{delta}
 use Rattle.frac_core.specs.declared.frac128.Frac128.{Frac128}
+use Rattle.frac_core.specs.Values.{value}
 use Rattle.loss_model.specs.declared.problem.Problem.{Problem}
 use Rattle.loss_model.specs.declared.process.Segment.{Segment}
 use Rattle.loss_model.specs.Sample.{loss, Minimises}
@@ -21,7 +22,6 @@ use Rattle.quantile_laws.specs.Counts.{HasIntercept, MinimumSplitsWeights, Sides
 use Rattle.quantile_laws.specs.Monotonicity.{AreObservations, MinimiseAlong, CentroidNeverFallsAlong}
 use Rattle.quantile_laws.specs.Monotonicity.{LeastLossIsContinuous, LossIsLine, SlopeFallsAlong, loss_slope}
 use Rattle.rq_words.specs.declared.job.FitJob.{FitJob}
-use Rattle.report_text.specs.ReportText.{value}
 use Rattle.report_text.specs.declared.report.Fit.{Fit}
 use Rattle.rq_engine.specs.Fit.{IsRightSegment, IsRightFit, mixed_dual}
 use Rattle.rq_cli.specs.Outcomes.{Stream}

@@ -12,12 +12,13 @@ use Rattle.exact_algebra.proofs.Inverses.{one-zero}
 use Rattle.exact_matrices.specs.Terms.{delta}
 use Rattle.exact_matrices.proofs.TermLaws.{sum_ℚ-delta}
 use Rattle.frac_core.specs.declared.frac128.Frac128.{Frac128}
-use Rattle.data_frame.specs.Views.{exact}
+use Rattle.frac_core.specs.Values.{exact, value}
 use Rattle.contrasts.specs.declared.Coding.{Coding}
 use Rattle.loss_model.specs.declared.problem.Row.{Row}
 use Rattle.loss_model.specs.Dual.{IsDataRow}
 use Rattle.loss_model.specs.Problem.{of_row, sample, value_at}
 use Rattle.loss_model.specs.Sample.{fitted}
+use Rattle.loss_model.specs.Values.{exact_row}
 use Rattle.formula_parser.specs.declared.formula.Formula.{Formula}
 use Rattle.design_matrix.specs.Cells.{Column, Table, kept, weights_in}
 use Rattle.design_matrix.specs.Designs.{RowOf as DesignRowOf, design_of, exact_row as exact_design_row}
@@ -29,9 +30,8 @@ use Rattle.design_matrix.proofs.Shapes.{shaped}
 use Rattle.tv_penalty.specs.Smoothings.{exact_smoothing, smoothing_by, smoothing_of}
 use Rattle.tv_penalty.specs.declared.PenaltyRow.{PenaltyRow}
 use Rattle.tv_penalty.specs.declared.Smoothing.{Smoothing}
-use Rattle.rq_program.specs.Programs.{RowOf, data_row, exact_row, penalty_row, rows_of}
+use Rattle.rq_program.specs.Programs.{data_row, penalty_row, rows_of}
 use Rattle.rq_words.specs.declared.job.FitJob.{FitJob}
-use Rattle.report_text.specs.ReportText.{value}
 use Rattle.rq_input.specs.Inputs.{IsModelInput}
 use Rattle.rq_input.specs.declared.input.Input.{Input}
 use Rattle.quantile_laws.specs.Counts.{HasIntercept}
@@ -40,22 +40,22 @@ use Rattle.quantile_laws.specs.Monotonicity.{AreObservations}
 -- ---- numbers of a list of rows
 
 -- a number of row i, or 0 beyond the last
-abbrev number_at : List RowOf → (RowOf → ℚ) → ℕ → ℚ
+abbrev number_at : List (Row ℚ) → (Row ℚ → ℚ) → ℕ → ℚ
 number_at rows number i = option_map_or number (slice_get rows i) (whole (pos 0))
 
-seen : (rows : List (Row Frac128)) (of : Row Frac128 → ℚ) (number : RowOf → ℚ) → ((r : Row Frac128) → of r ≡ number (exact_row r)) → (i : ℕ) → of_row rows of i ≡ number_at (map exact_row rows) number i
+seen : (rows : List (Row Frac128)) (of : Row Frac128 → ℚ) (number : Row ℚ → ℚ) → ((r : Row Frac128) → of r ≡ number (exact_row r)) → (i : ℕ) → of_row rows of i ≡ number_at (map exact_row rows) number i
 seen [] of number same i = refl
 seen (r ∷ rs) of number same zero = same r
 seen (r ∷ rs) of number same (suc i) = seen rs of number same i
 
 -- what a row of an observation is
-record IsObservation (rows : List RowOf) (i : ℕ) : Type 0 where
+record IsObservation (rows : List (Row ℚ)) (i : ℕ) : Type 0 where
   weighted : cmp_ℚ (whole (pos 0)) (number_at rows (λ q. q.up1) i) ≡ Less
   up0 : number_at rows (λ q. q.up0) i ≡ whole (pos 0)
   down0 : number_at rows (λ q. q.down0) i ≡ number_at rows (λ q. q.up1) i
   down1 : number_at rows (λ q. q.down1) i ≡ neg_ℚ (number_at rows (λ q. q.up1) i)
 
-observation : (ds : List DesignRow) (ss : List (List Frac128)) (ps : List RowOf) → length ss ≡ length ds → All (λ r. cmp_ℚ (whole (pos 0)) (exact r.weight) ≡ Less) ds
+observation : (ds : List DesignRow) (ss : List (List Frac128)) (ps : List (Row ℚ)) → length ss ≡ length ds → All (λ r. cmp_ℚ (whole (pos 0)) (exact r.weight) ≡ Less) ds
     → (i : ℕ) → i < length ds → IsObservation (map data_row (zip ds ss) ++ ps) i
 observation [] ss ps same above i l = absurd (omega (arith, l))
 observation (d ∷ ds) [] ps same above i l = absurd (omega (arith, same))
@@ -65,7 +65,7 @@ observation (d ∷ ds) (s ∷ ss) ps same above (suc i) l =
     record { weighted = below.weighted; up0 = below.up0; down0 = below.down0; down1 = below.down1 }
 
 -- the number of a row behind the first rows is one of the rows there
-behind : (ds : List DesignRow) (ss : List (List Frac128)) (ps : List RowOf) (number : RowOf → ℚ) (x : ℚ) → length ss ≡ length ds → ((i : ℕ) → number_at ps number i ≡ x)
+behind : (ds : List DesignRow) (ss : List (List Frac128)) (ps : List (Row ℚ)) (number : Row ℚ → ℚ) (x : ℚ) → length ss ≡ length ds → ((i : ℕ) → number_at ps number i ≡ x)
     → (i : ℕ) → length ds ≤ i → number_at (map data_row (zip ds ss) ++ ps) number i ≡ x
 behind [] ss ps number x same h i l = h i
 behind (d ∷ ds) [] ps number x same h i l = absurd (omega (arith, same))
@@ -73,13 +73,13 @@ behind (d ∷ ds) (s ∷ ss) ps number x same h zero l = absurd (omega (arith, l
 behind (d ∷ ds) (s ∷ ss) ps number x same h (suc i) l = behind ds ss ps number x (omega (arith, same)) h i (omega (arith, l))
 
 -- one of the penalty rows is 0
-penalty_zero : (w : ℕ) (ps : List PenaltyRow) (number : RowOf → ℚ) → ((p : PenaltyRow) → number (penalty_row w p) ≡ whole (pos 0)) → (i : ℕ) → number_at (map (penalty_row w) ps) number i ≡ whole (pos 0)
+penalty_zero : (w : ℕ) (ps : List PenaltyRow) (number : Row ℚ → ℚ) → ((p : PenaltyRow) → number (penalty_row w p) ≡ whole (pos 0)) → (i : ℕ) → number_at (map (penalty_row w) ps) number i ≡ whole (pos 0)
 penalty_zero w [] number h i = refl
 penalty_zero w (p ∷ ps) number h zero = h p
 penalty_zero w (p ∷ ps) number h (suc i) = penalty_zero w ps number h i
 
 -- a number of an observation by its row of the design
-at_data : (ds : List DesignRow) (ss : List (List Frac128)) (ps : List RowOf) (number : RowOf → ℚ) (x : ℚ) → length ss ≡ length ds → All (λ d. (s : List Frac128) → number (data_row (d, s)) ≡ x) ds
+at_data : (ds : List DesignRow) (ss : List (List Frac128)) (ps : List (Row ℚ)) (number : Row ℚ → ℚ) (x : ℚ) → length ss ≡ length ds → All (λ d. (s : List Frac128) → number (data_row (d, s)) ≡ x) ds
     → (i : ℕ) → i < length ds → number_at (map data_row (zip ds ss) ++ ps) number i ≡ x
 at_data [] ss ps number x same h i l = absurd (omega (arith, l))
 at_data (d ∷ ds) [] ps number x same h i l = absurd (omega (arith, same))
@@ -142,7 +142,7 @@ lists_same table design model s is = sym (length-map s.columns (map exact)) ∙ 
 -- ---- the problem of an input
 
 module _ (job : FitJob) (table : Table) (model : Formula) (input : Input) (is : IsModelInput job table model input) where
-  abbrev rows : List RowOf
+  abbrev rows : List (Row ℚ)
   rows = rows_of input.design input.smoothing
 
   n : ℕ
@@ -154,7 +154,7 @@ module _ (job : FitJob) (table : Table) (model : Formula) (input : Input) (is : 
   weights_above : All (λ r. cmp_ℚ (whole (pos 0)) (exact r.weight) ≡ Less) input.design.rows
   weights_above = (shaped table model job.coding job.weights input.design is.designed).weighted
 
-  number_is : (of : Row Frac128 → ℚ) (number : RowOf → ℚ) → ((r : Row Frac128) → of r ≡ number (exact_row r)) → (i : ℕ) → of_row input.problem.rows of i ≡ number_at rows number i
+  number_is : (of : Row Frac128 → ℚ) (number : Row ℚ → ℚ) → ((r : Row Frac128) → of r ≡ number (exact_row r)) → (i : ℕ) → of_row input.problem.rows of i ≡ number_at rows number i
   number_is of number same i = seen input.problem.rows of number same i ∙ ap (λ q. number_at q number i) is.problem.rows
 
   up0 : (i : ℕ) → (sample value input.problem).up0 i ≡ number_at rows (λ q. q.up0) i
@@ -179,13 +179,13 @@ module _ (job : FitJob) (table : Table) (model : Formula) (input : Input) (is : 
         down1 = down1 i ∙ o.down1 ∙ ap neg_ℚ (sym (up1 i));
       }
 
-  later : (number : RowOf → ℚ) → ((p : PenaltyRow) → number (penalty_row (length input.design.names) p) ≡ whole (pos 0)) → (i : ℕ) → length input.design.rows ≤ i → number_at rows number i ≡ whole (pos 0)
+  later : (number : Row ℚ → ℚ) → ((p : PenaltyRow) → number (penalty_row (length input.design.names) p) ≡ whole (pos 0)) → (i : ℕ) → length input.design.rows ≤ i → number_at rows number i ≡ whole (pos 0)
   later number h i l =
       behind input.design.rows input.smoothing.columns (map (penalty_row (length input.design.names)) input.smoothing.rows) number (whole (pos 0)) lists
       (penalty_zero (length input.design.names) input.smoothing.rows number h) i l
 
   -- the records stand first, each with a row
-  first_rows : (ds : List DesignRow) (ss : List (List Frac128)) (ps : List RowOf) → length ss ≡ length ds → length ds ≤ length (map data_row (zip ds ss) ++ ps)
+  first_rows : (ds : List DesignRow) (ss : List (List Frac128)) (ps : List (Row ℚ)) → length ss ≡ length ds → length ds ≤ length (map data_row (zip ds ss) ++ ps)
   first_rows [] ss ps same = omega arith
   first_rows (d ∷ ds) [] ps same = absurd (omega (arith, same))
   first_rows (d ∷ ds) (s ∷ ss) ps same = let below = first_rows ds ss ps (omega (arith, same)) in omega (arith, below)

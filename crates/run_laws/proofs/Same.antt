@@ -2,7 +2,8 @@
 use Rattle.std.proofs.Common.{◌≡◌, ◌^◌, ◌-◌, List, [], ◌∷◌, Option, Some, None, map, option_map, refl, ap, ap₂}
 use Rattle.frac_core.specs.declared.frac128.Frac128.{Frac128}
 use Rattle.frac_core.specs.Lowest.{same_fraction, IsWithin-along}
-use Rattle.data_frame.specs.Views.{exact, exact_column, exact_table}
+use Rattle.frac_core.specs.Values.{exact}
+use Rattle.data_frame.specs.Views.{exact_column, exact_table}
 use Rattle.data_frame.specs.Cells.{ColumnOf, numbers, factor, too_wide}
 use Rattle.data_frame.specs.Tables.{TableOf}
 

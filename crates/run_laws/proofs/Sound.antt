@@ -4,11 +4,12 @@ use Rattle.std.proofs.lemmas.List.{length-append, length-map}
 use Rattle.std.proofs.lemmas.Slice.Zip.{length-zip}
 use Rattle.contrasts.specs.declared.Coding.{Coding}
 use Rattle.frac_core.specs.declared.frac128.Frac128.{Frac128}
+use Rattle.frac_core.specs.Values.{exact}
 use Rattle.loss_model.specs.declared.problem.Problem.{Problem}
 use Rattle.loss_model.specs.declared.spill.Spill.{Spill}
 use Rattle.loss_model.specs.Problem.{IsWellShaped}
+use Rattle.loss_model.specs.Values.{exact_row as exact_program_row}
 use Rattle.data_frame.specs.Records.{Text}
-use Rattle.data_frame.specs.Views.{exact}
 use Rattle.formula_parser.specs.declared.formula.Formula.{Formula}
 use Rattle.formula_parser.specs.declared.formula.Smooth.{Smooth}
 use Rattle.design_matrix.specs.Cells.{Table}
@@ -26,7 +27,6 @@ use Rattle.tv_penalty.specs.declared.fault.PenaltyFault.{PenaltyFault}
 use Rattle.tv_penalty.specs.declared.fault.PenaltyFault.TheVariants as penalties
 use Rattle.rq_program.specs.Faults.{HasCause as HasProgramCause, row_count}
 use Rattle.rq_program.specs.Programs.{columns_of, data_row, penalty_row}
-use Rattle.rq_program.specs.Programs.{exact_row as exact_program_row}
 use Rattle.rq_program.specs.declared.fault.ProgramFault.{ProgramFault}
 use Rattle.rq_program.specs.declared.fault.ProgramFault.TheVariants as programs
 use Rattle.rq_input.specs.Models.{IsProblemOf, IsSmoothed}

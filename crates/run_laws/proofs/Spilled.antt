@@ -5,6 +5,7 @@ use Rattle.std.proofs.Common.{inl, inr}
 use Rattle.exact_algebra.specs.Fraction.{Fraction, rational}
 use Rattle.exact_algebra.specs.Rational.{ℚ}
 use Rattle.frac_core.specs.declared.frac128.Frac128.{Frac128}
+use Rattle.frac_core.specs.Values.{value}
 use Rattle.loss_model.specs.declared.problem.Problem.{Problem}
 use Rattle.loss_model.specs.declared.process.Segment.{Segment}
 use Rattle.loss_model.specs.declared.process.Trail.{Trail}
@@ -21,7 +22,6 @@ use Rattle.predict_steps.specs.Spills.{IsPredictionSpill}
 use Rattle.design_matrix.specs.declared.design.PredictRow.{PredictRow}
 use Rattle.tv_penalty.specs.Operations.{OverflowsFirst, SitedOperation}
 use Rattle.rq_words.specs.declared.job.FitJob.{FitJob}
-use Rattle.report_text.specs.ReportText.{value}
 use Rattle.report_text.specs.declared.report.Place.TheVariants as places
 use Rattle.report_text.specs.declared.report.Halt.TheVariants.{Overflow}
 use Rattle.rq_engine.specs.Predicted.{IsRowSpill}

@@ -4,6 +4,7 @@ use Rattle.std.specs.Option.{option_map_or}
 use Rattle.std.proofs.Common.{refl, sym}
 use Rattle.exact_algebra.specs.Rational.{ℚ, whole}
 use Rattle.frac_core.specs.declared.frac128.Frac128.{Frac128}
+use Rattle.frac_core.specs.Values.{value}
 use Rattle.loss_model.specs.declared.problem.Problem.{Problem}
 use Rattle.loss_model.specs.declared.process.Segment.{Segment}
 use Rattle.loss_model.specs.declared.vertex.Side.{Side}
@@ -13,7 +14,6 @@ use Rattle.loss_model.specs.Problem.{sample, value_at}
 use Rattle.loss_model.specs.Segment.{dual_at}
 use Rattle.loss_model.specs.Vertex.{value_of_side, basic_value}
 use Rattle.quantile_laws.specs.Equivariance.{ResponsesMayMove}
-use Rattle.report_text.specs.ReportText.{value}
 use Rattle.run_laws.specs.Reports.{printed}
 use Rattle.run_laws.specs.SteadyReports.{marked_side, IsSteady}
 use Rattle.run_laws.proofs.Segments.{IsShown}

@@ -7,6 +7,7 @@ use Rattle.std.proofs.lemmas.List.Elements.{All-cons, All-nil}
 use Rattle.exact_algebra.specs.Fraction.{rational}
 use Rattle.exact_algebra.specs.Rational.{ℚ}
 use Rattle.frac_core.specs.declared.frac128.Frac128.{Frac128}
+use Rattle.frac_core.specs.Values.{value}
 use Rattle.loss_model.specs.declared.interval.Bound.{Bound}
 use Rattle.loss_model.specs.declared.interval.Bound.TheVariants.{Finite, Infinite}
 use Rattle.loss_model.specs.declared.interval.Beyond.{Beyond}
@@ -36,7 +37,6 @@ use Rattle.rq_words.specs.declared.job.FitJob.{FitJob}
 use Rattle.rq_words.specs.declared.job.RankAsk.{RankAsk}
 use Rattle.rq_words.specs.declared.job.Job.TheVariants as jobs
 use Rattle.rq_words.proofs.FewQuantiles.{certify_few}
-use Rattle.report_text.specs.ReportText.{value}
 use Rattle.report_text.specs.declared.report.Fit.{Fit}
 use Rattle.report_text.specs.declared.report.Report.TheVariants as reports
 use Rattle.rq_input.specs.declared.input.Input.{Input}

@@ -1,12 +1,12 @@
 -- Law. What every report says of all coefficients, those of real numbers among them (Koenker 2005, section 1.3).
 use Rattle.std.specs.Prelude.{ℕ, List}
 use Rattle.frac_core.specs.declared.frac128.Frac128.{Frac128}
+use Rattle.frac_core.specs.Values.{value}
 use Rattle.loss_model.specs.declared.problem.Problem.{Problem}
 use Rattle.loss_model.specs.declared.process.Segment.{Segment}
 use Rattle.loss_model.specs.Problem.{sample, value_at}
 use Rattle.real_laws.specs.OrderedRings.{OrderedRing}
 use Rattle.real_laws.specs.Losses.{MinimisesIn, as_numbers}
-use Rattle.report_text.specs.ReportText.{value}
 use Rattle.report_text.specs.declared.report.Report.{Report}
 use Rattle.rq_cli.specs.Outcomes.{IsRun, Stream}
 use Rattle.rq_cli.specs.declared.outcome.Outcome.TheVariants.{Done}

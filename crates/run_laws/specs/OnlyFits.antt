@@ -3,13 +3,13 @@ use Rattle.std.specs.Prelude.{◌≡◌, ◌≢◌, ◌<◌, ℕ, List, All, pos
 use Rattle.std.specs.List.{AllZip}
 use Rattle.exact_algebra.specs.Rational.{whole}
 use Rattle.frac_core.specs.declared.frac128.Frac128.{Frac128}
+use Rattle.frac_core.specs.Values.{value}
 use Rattle.loss_model.specs.declared.process.Segment.{Segment}
 use Rattle.loss_model.specs.Problem.{sample}
 use Rattle.real_laws.specs.OrderedRings.{OrderedRing}
 use Rattle.real_laws.specs.Losses.{loss_in}
 use Rattle.real_laws.specs.Laws.{IsStrictlyBetween}
 use Rattle.rankscores.specs.declared.pair.ScorePair.{ScorePair}
-use Rattle.report_text.specs.ReportText.{value}
 use Rattle.report_text.specs.declared.report.Fit.{Fit}
 use Rattle.report_text.specs.declared.report.Report.{Report}
 use Rattle.rq_cli.specs.Outcomes.{IsRun, Stream}

@@ -3,14 +3,13 @@ use Rattle.std.specs.Prelude.{ℕ, ◌+◌, ◌<◌, ◌≤◌, List, All, lengt
 use Rattle.exact_algebra.specs.Fraction.{Fraction, rational}
 use Rattle.exact_algebra.specs.Rational.{ℚ, ◌≤ℚ◌}
 use Rattle.frac_core.specs.declared.frac128.Frac128.{Frac128}
-use Rattle.data_frame.specs.Views.{exact}
+use Rattle.frac_core.specs.Values.{exact, value}
 use Rattle.loss_model.specs.declared.process.Segment.{Segment}
 use Rattle.loss_model.specs.Problem.{sample, value_at}
 use Rattle.loss_model.specs.Segment.{of_segment}
 use Rattle.lambda_path.specs.Paths.{absolute_sum, path_loss}
 use Rattle.rq_words.specs.declared.job.Job.TheVariants as jobs
 use Rattle.rq_words.specs.declared.job.PathJob.{PathJob}
-use Rattle.report_text.specs.ReportText.{value}
 use Rattle.report_text.specs.declared.report.PathFit.{PathFit}
 use Rattle.report_text.specs.declared.report.Report.TheVariants as reports
 use Rattle.rq_input.specs.Plain.{IsPlain}

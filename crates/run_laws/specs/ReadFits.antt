@@ -4,6 +4,7 @@ use Rattle.std.specs.Prelude.{◌≡◌, ◌↔◌, ◌≤◌, ◌<◌, ◌+◌,
 use Rattle.exact_algebra.specs.Fraction.{Fraction, rational}
 use Rattle.exact_algebra.specs.Rational.{ℚ, ◌-ℚ◌, ◌*ℚ◌, ◌≤ℚ◌}
 use Rattle.frac_core.specs.declared.frac128.Frac128.{Frac128}
+use Rattle.frac_core.specs.Values.{value}
 use Rattle.loss_model.specs.declared.problem.Problem.{Problem}
 use Rattle.loss_model.specs.declared.process.Segment.{Segment}
 use Rattle.loss_model.specs.Sample.{Sample, residual, Minimises}
@@ -12,7 +13,6 @@ use Rattle.loss_model.specs.Problem.{sample, value_at}
 use Rattle.loss_model.specs.Segment.{of_segment, dual_at}
 use Rattle.quantile_laws.specs.Counts.{SplitsWeights, SplitsCounts, lies_below, lies_on, lies_above, is_up, is_down, is_basic, has_side}
 use Rattle.quantile_laws.specs.Monotonicity.{at_centroid}
-use Rattle.report_text.specs.ReportText.{value}
 use Rattle.report_text.specs.declared.report.Fit.{Fit}
 use Rattle.report_text.specs.declared.report.Report.{Report}
 use Rattle.rq_cli.specs.Outcomes.{IsRun, Stream}

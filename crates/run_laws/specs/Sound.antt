@@ -3,6 +3,7 @@ use Rattle.std.specs.Prelude.{◌≡◌, ℕ, ◌<◌, List, All, length, pos}
 use Rattle.exact_algebra.specs.Fraction.{rational}
 use Rattle.exact_algebra.specs.Rational.{ℚ, whole, ◌≤ℚ◌}
 use Rattle.frac_core.specs.declared.frac128.Frac128.{Frac128}
+use Rattle.frac_core.specs.Values.{value as value128}
 use Rattle.loss_model.specs.declared.problem.Problem.{Problem}
 use Rattle.loss_model.specs.declared.process.Segment.{Segment}
 use Rattle.loss_model.specs.declared.vertex.Vertex.{Vertex}
@@ -16,7 +17,6 @@ use Rattle.loss_model.specs.Vertex.{dual_value, IsVertexOf}
 use Rattle.rank_law.specs.Certified.{MeetsConditions}
 use Rattle.cert_text.specs.declared.cert.Cert.{Cert}
 use Rattle.cert_checker.specs.Intervals.{beyond_list}
-use Rattle.cert_checker.specs.Places.{value128}
 
 -- at one end of a segment the dual values are feasible and of equal cost, and the loss is that of the coefficients
 pub record IsSoundEnd (p : Problem Frac128) (v : Vertex Frac128) (theta : ℚ) (basic : List Frac128) (cost : Frac128) : Type 0 where

@@ -3,6 +3,7 @@ use Rattle.std.specs.Prelude.{◌<◌, ℕ, List, length, slice_get}
 use Rattle.std.specs.Option.{option_map_or}
 use Rattle.exact_algebra.specs.Rational.{ℚ}
 use Rattle.frac_core.specs.declared.frac128.Frac128.{Frac128}
+use Rattle.frac_core.specs.Values.{value}
 use Rattle.loss_model.specs.declared.problem.Problem.{Problem}
 use Rattle.loss_model.specs.declared.process.Segment.{Segment}
 use Rattle.loss_model.specs.declared.vertex.Side.{Side}
@@ -13,7 +14,6 @@ use Rattle.loss_model.specs.Problem.{sample, value_at}
 use Rattle.loss_model.specs.Segment.{dual_at}
 use Rattle.loss_model.specs.Vertex.{IsOn}
 use Rattle.quantile_laws.specs.Equivariance.{answered}
-use Rattle.report_text.specs.ReportText.{value}
 use Rattle.report_text.specs.declared.report.Report.{Report}
 use Rattle.rq_cli.specs.Outcomes.{IsRun, Stream}
 use Rattle.rq_cli.specs.declared.outcome.Outcome.TheVariants.{Done}

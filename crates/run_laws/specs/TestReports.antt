@@ -2,12 +2,12 @@
 use Rattle.std.specs.Prelude.{ℕ, List, length, pos, slice_index}
 use Rattle.exact_algebra.specs.Fraction.{Fraction, rational}
 use Rattle.exact_algebra.specs.Rational.{whole, ◌≤ℚ◌}
+use Rattle.frac_core.specs.Values.{value}
 use Rattle.loss_model.specs.Problem.{sample, value_at}
 use Rattle.nested_test.specs.Nested.{column_score, AreScores, IsNestedStatistic}
 use Rattle.nested_test.specs.Restricted.{restricted_problem}
 use Rattle.rq_words.specs.declared.job.Job.TheVariants as jobs
 use Rattle.rq_words.specs.declared.job.TestJob.{TestJob}
-use Rattle.report_text.specs.ReportText.{value}
 use Rattle.report_text.specs.declared.report.TestFit.{TestFit}
 use Rattle.report_text.specs.declared.report.Report.TheVariants as reports
 use Rattle.rq_input.specs.Tested.{IsTested}

@@ -19,9 +19,8 @@ use denote.Param.Members.{Mut}
 use denote.Ref.{Bor}
 use Rattle.frac_core.specs.declared.frac128.Frac128.{Frac128}
 use Rattle.exact_algebra.specs.Order.{cmp_ℚ}
-use Rattle.data_frame.specs.Views.{exact}
+use Rattle.frac_core.specs.Values.{exact, value}
 use Rattle.loss_model.proofs.Products.{value_at-item}
-use Rattle.design_matrix.specs.Products.{value}
 use Rattle.design_matrix.specs.Laws.{AreDistinctCells, LevelsOfNumbers}
 use Rattle.design_matrix.specs.Levels.{levels_of, number_order}
 use Rattle.tv_penalty.specs.Smoothings.{knot_at}

@@ -5,12 +5,11 @@ use Rattle.std.specs.declared.cmp.Ordering.TheVariants.{Less}
 use Rattle.std.proofs.lemmas.List.{map-append, map-id, take_more, length-map}
 use Rattle.std.proofs.lemmas.List.FromFn.{map-range_with_len_more}
 use Rattle.frac_core.specs.declared.frac128.Frac128.{Frac128}
-use Rattle.data_frame.specs.Views.{exact}
 use Rattle.loss_model.proofs.Products.{value_at-item}
 use Rattle.design_matrix.specs.Lists.{each}
-use Rattle.design_matrix.specs.Products.{value}
 use Rattle.exact_algebra.specs.Order.{cmp_ℚ}
 use Rattle.exact_algebra.specs.Rational.{ℚ, whole}
+use Rattle.frac_core.specs.Values.{exact, value}
 use Rattle.tv_penalty.specs.Smoothings.{knot_at, placed, with_columns}
 use Rattle.tv_penalty.specs.Views.{AreAscending}
 

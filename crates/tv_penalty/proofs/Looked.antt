@@ -3,7 +3,7 @@ use Rattle.std.proofs.Common.{◌≡◌, ◌⊎◌, ◌<◌, ◌≤◌, ◌+◌,
 use borrow.Author.Tests.{lt-ltb, ltb-true}
 use Rattle.std.specs.Option.{option_or}
 use Rattle.frac_core.specs.declared.frac128.Frac128.{Frac128}
-use Rattle.data_frame.specs.Views.{exact}
+use Rattle.frac_core.specs.Values.{exact}
 use Rattle.loss_model.specs.declared.spill.Spill.{Spill}
 use Rattle.formula_parser.specs.declared.formula.Smooth.{Smooth}
 use Rattle.tv_penalty.specs.declared.fault.PenaltyFault.{PenaltyFault}

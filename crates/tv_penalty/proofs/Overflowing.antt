@@ -10,10 +10,9 @@ use Rattle.frac_core.specs.Overflow.{Overflows as OverflowsAt}
 use Rattle.frac_core.specs.declared.exact.OpKind.{OpKind}
 use Rattle.frac_core.specs.declared.exact.OpKind.TheVariants.{Sub}
 use Rattle.frac_core.specs.declared.frac128.Frac128.{Frac128}
-use Rattle.data_frame.specs.Views.{exact}
+use Rattle.frac_core.specs.Values.{exact, value}
 use Rattle.loss_model.specs.declared.spill.Site.{Site}
 use Rattle.loss_model.specs.declared.spill.Spill.{Spill}
-use Rattle.design_matrix.specs.Products.{value}
 use Rattle.tv_penalty.specs.Operations.{IsSpillOf, NoneOverflows, SitedOperation, Overflows, OverflowsFirst, knot_site, operation_at}
 use Rattle.tv_penalty.specs.Smoothings.{bend_of}
 use Rattle.tv_penalty.specs.Views.{bend_seen}

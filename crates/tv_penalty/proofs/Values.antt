@@ -10,9 +10,8 @@ use Rattle.exact_algebra.specs.Order.{cmp_ℚ}
 use Rattle.exact_algebra.proofs.OrderLaws.{cmp_ℚ-Less, cmp_ℚ-Equal, cmp_ℚ_swap, le_from_not}
 use Rattle.frac_core.specs.Lowest.{same_fraction, IsWithin-along}
 use Rattle.frac_core.specs.declared.frac128.Frac128.{Frac128}
-use Rattle.data_frame.specs.Views.{exact}
+use Rattle.frac_core.specs.Values.{exact, value}
 use Rattle.design_matrix.specs.Levels.{number_order}
-use Rattle.design_matrix.specs.Products.{value}
 
 -- numbers of one value are the same
 pub same_value : (x y : Frac128) → exact x ≡ exact y → x ≡ y

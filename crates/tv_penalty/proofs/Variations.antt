@@ -13,7 +13,7 @@ use Rattle.exact_algebra.specs.RationalSums.{sum_ℚ}
 use Rattle.exact_algebra.proofs.RationalSumLaws.{sum_ℚ-same}
 use Rattle.exact_algebra.specs.Solver.{number, negated, ◌⊞◌, ◌⊟◌, ◌⊠◌, v0, v1, v2, v3, v4}
 use Rattle.frac_core.specs.declared.frac128.Frac128.{Frac128}
-use Rattle.data_frame.specs.Views.{exact}
+use Rattle.frac_core.specs.Values.{exact}
 use Rattle.loss_model.specs.Spill.{abs_ℚ}
 use Rattle.formula_parser.specs.declared.formula.Smooth.{Smooth}
 use Rattle.design_matrix.specs.declared.design.DesignRow.{DesignRow}

@@ -12,7 +12,7 @@ use borrow.Author.Tests.{ltb-false}
 use Rattle.exact_algebra.specs.Order.{cmp_ℚ}
 use Rattle.exact_algebra.proofs.OrderLaws.{by_cmp}
 use Rattle.exact_algebra.specs.Rational.{ℚ, whole}
-use Rattle.data_frame.specs.Views.{exact}
+use Rattle.frac_core.specs.Values.{exact}
 use Rattle.formula_parser.specs.declared.formula.Formula.{Formula}
 use Rattle.formula_parser.specs.declared.formula.Smooth.{Smooth}
 use Rattle.design_matrix.specs.declared.design.Design.{Design}

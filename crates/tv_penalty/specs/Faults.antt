@@ -1,9 +1,9 @@
 -- Stated. Why smooths add nothing to a design: the faults in the order in which they are looked for, smooth by smooth.
 use Rattle.std.specs.Prelude.{◌≡◌, ◌⊎◌, ℕ, ◌+◌, Bool, List, [], ◌∷◌, Option, Some, None, length, nat_lt, if◌then◌else◌}
 use Rattle.std.specs.Option.{option_or}
-use Rattle.data_frame.specs.Views.{exact}
 use Rattle.frac_core.specs.declared.frac128.Frac128.{Frac128}
 use Rattle.frac_core.specs.Limits.{most_columns}
+use Rattle.frac_core.specs.Values.{exact}
 use Rattle.loss_model.specs.declared.spill.Spill.{Spill}
 use Rattle.formula_parser.specs.declared.formula.Formula.{Formula}
 use Rattle.formula_parser.specs.declared.formula.Smooth.{Smooth}

@@ -5,11 +5,11 @@ use Rattle.exact_algebra.specs.Rational.{ℚ, ◌-ℚ◌, inverse, whole}
 use Rattle.frac_core.specs.declared.exact.OpKind.{OpKind}
 use Rattle.frac_core.specs.declared.exact.OpKind.TheVariants.{Sub}
 use Rattle.frac_core.specs.declared.frac128.Frac128.{Frac128}
+use Rattle.frac_core.specs.Values.{value}
 use Rattle.loss_model.specs.declared.spill.Quantity.TheVariants.{PenaltyEntry}
 use Rattle.loss_model.specs.declared.spill.Site.{Site}
 use Rattle.loss_model.specs.declared.spill.Spill.{Spill}
 use Rattle.loss_model.specs.Spill.{Operation, IsOperation, addition, division, subtraction}
-use Rattle.design_matrix.specs.Products.{value}
 use Rattle.tv_penalty.specs.Smoothings.{knot_at}
 
 -- an operation by its site, which has its kind, and its operands

@@ -7,8 +7,8 @@ use Rattle.std.specs.Ordering.{is_lt}
 use Rattle.exact_algebra.specs.Order.{cmp_ℚ}
 use Rattle.exact_algebra.specs.Rational.{ℚ, ◌+ℚ◌, ◌-ℚ◌, neg_ℚ, inverse, whole}
 use Rattle.frac_core.specs.declared.frac128.Frac128.{Frac128}
+use Rattle.frac_core.specs.Values.{exact, value}
 use Rattle.data_frame.specs.Records.{Text}
-use Rattle.data_frame.specs.Views.{exact}
 use Rattle.loss_model.specs.Problem.{value_at}
 use Rattle.formula_parser.specs.declared.formula.Formula.{Formula}
 use Rattle.formula_parser.specs.declared.formula.Smooth.{Smooth}
@@ -17,7 +17,6 @@ use Rattle.design_matrix.specs.declared.design.DesignRow.{DesignRow}
 use Rattle.design_matrix.specs.Cells.{Table, number_in}
 use Rattle.design_matrix.specs.Levels.{by_order, number_text}
 use Rattle.design_matrix.specs.Lists.{each}
-use Rattle.design_matrix.specs.Products.{value}
 use Rattle.tv_penalty.specs.declared.PenaltyRow.{PenaltyRow}
 use Rattle.tv_penalty.specs.declared.Smoothing.{Smoothing}
 use Rattle.tv_penalty.specs.Knots.{cells_of, knots_of}

@@ -3,7 +3,7 @@ use Rattle.std.specs.Prelude.{◌≡◌, ℕ, ◌+◌, ◌<◌, List, length, ma
 use Rattle.std.specs.declared.cmp.Ordering.TheVariants.{Less}
 use Rattle.exact_algebra.specs.Order.{cmp_ℚ}
 use Rattle.frac_core.specs.declared.frac128.Frac128.{Frac128}
-use Rattle.data_frame.specs.Views.{exact}
+use Rattle.frac_core.specs.Values.{exact}
 use Rattle.tv_penalty.specs.declared.bends.Bend.{Bend as HeldBend}
 use Rattle.tv_penalty.specs.declared.parts.Part.{Part}
 use Rattle.tv_penalty.specs.declared.parts.Setting.{Setting as HeldSetting}

@@ -2,7 +2,7 @@
 
 ghost use Rattle.std.specs.Prelude.{◌≡◌, ◌++◌, ◌-◌, ◌<◌, ◌^◌, IfErr, IfOk, OnOk, length, map, true, false};
 ghost use Rattle.std.specs.List.{flat_map};
-ghost use Rattle.data_frame.specs.Views.{exact};
+ghost use Rattle.frac_core.specs.Values.{exact};
 ghost use Rattle.tv_penalty.specs.Faults.{HasCause, IsSound};
 ghost use Rattle.tv_penalty.specs.Shapes.{IsShaped};
 ghost use Rattle.tv_penalty.specs.Smoothings.{exact_smoothing, knot_entry as knot_entry_of, knot_name as knot_name_of, part_entries, part_names, smoothing_by, smoothing_of};

@@ -2,7 +2,7 @@
 
 ghost use Rattle.std.specs.Prelude.{◌≡◌, ◌≤◌, ◌⊎◌, ◌-◌, length, true, false, None, IfErr, IfOk, IfNone, IfSome, OnOk};
 ghost use Rattle.std.specs.List.{filter_map};
-ghost use Rattle.data_frame.specs.Views.{exact};
+ghost use Rattle.frac_core.specs.Values.{exact};
 ghost use Rattle.design_matrix.specs.Cells.{cell_of, column_of, number_in};
 ghost use Rattle.design_matrix.specs.CodedVariable.{is_text};
 ghost use Rattle.design_matrix.specs.Levels.{levels_of, number_order};

@@ -1,7 +1,6 @@
 //! The smooths of a formula, each with its knots and the bends that are penalised.
 
 ghost use Rattle.std.specs.Prelude.{◌≡◌, ◌⊎◌, ◌≤◌, ◌<◌, ◌+◌, ◌^◌, [], None, Some, IfErr, IfOk, OnOk, length, map, if◌then◌else◌};
-ghost use Rattle.data_frame.specs.Views.{exact};
 ghost use Rattle.tv_penalty.specs.Faults.{AreSound, IsFirstFault, IsSoundSmooth, IsSmoothFault};
 ghost use Rattle.tv_penalty.specs.Operations.{NoneOverflows, OverflowsFirst, smooth_operations};
 ghost use Rattle.tv_penalty.specs.Smoothings.{bends_of, has_rows as has_rows_of, part_of, with_columns as with_columns_of};
@@ -9,6 +8,7 @@ ghost use Rattle.tv_penalty.specs.Views.{AreAscending, bend_seen, part_seen, set
 ghost use Rattle.loss_model.specs.declared.spill.Spill.{Spill as Spilt};
 ghost use Rattle.frac_core.specs.declared.frac128.Frac128.{Frac128 as Fraction128};
 ghost use Rattle.frac_core.specs.Limits.{most_columns};
+ghost use Rattle.frac_core.specs.Values.{exact};
 
 use crate::PenaltyFault;
 use crate::bends::{Bend, bends};

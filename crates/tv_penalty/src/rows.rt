@@ -2,7 +2,7 @@
 
 ghost use Rattle.std.specs.Prelude.{◌≡◌, ◌≤◌, ◌++◌, IfErr, IfOk, OnOk, length, map};
 ghost use Rattle.std.specs.List.{flat_map};
-ghost use Rattle.data_frame.specs.Views.{exact};
+ghost use Rattle.frac_core.specs.Values.{exact};
 ghost use Rattle.design_matrix.specs.Lists.{each};
 ghost use Rattle.tv_penalty.specs.Smoothings.{bend_entries as bend_entries_of, bend_row as bend_row_of, exact_penalty, part_names, placed as placed_of, rows_from, unit_row as unit_row_of, unit_rows};
 ghost use Rattle.tv_penalty.specs.Views.{bend_seen, part_seen};

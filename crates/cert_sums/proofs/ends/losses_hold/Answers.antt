@@ -1,9 +1,9 @@
 -- The residuals lie on their sides at both ends, where the dual values come to what is stated.
 use Rattle.std.proofs.Common.{sym, ◌∙◌}
 use Rattle.exact_algebra.specs.Fraction.{rational}
+use Rattle.frac_core.specs.Values.{value as value128}
 use Rattle.loss_model.specs.Problem.{sample, value_at}
 use Rattle.loss_model.specs.Vertex.{basic_value}
-use Rattle.cert_sums.specs.Numbers.{value128}
 use Rattle.cert_sums.specs.Duals.{side_in}
 use Rattle.cert_sums.specs.Ends.{low_dual, high_dual}
 use Rattle.cert_sums.proofs.Losses.{lost_by_sides}

@@ -5,7 +5,7 @@ use Rattle.exact_algebra.specs.Fraction.{rational}
 use Rattle.exact_algebra.specs.Rational.{◌-ℚ◌, whole}
 use Rattle.exact_algebra.specs.Solver.{number, negated, ◌⊟◌, v0}
 use Rattle.exact_algebra.proofs.RationalLaws.{ring_ℚ}
-use Rattle.cert_sums.specs.Numbers.{value128}
+use Rattle.frac_core.specs.Values.{value as value128}
 use Rattle.cert_sums.proofs.projection.left_factor.Goals as goal
 
 pub returns : goal.returns

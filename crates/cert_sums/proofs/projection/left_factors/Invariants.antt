@@ -1,8 +1,9 @@
 use Rattle.std.proofs.Common.{◌≡◌, ℕ, ◌<◌, length, pos}
 use Rattle.exact_algebra.specs.Rational.{◌-ℚ◌, ◌*ℚ◌, whole}
 use Rattle.exact_matrices.specs.Terms.{delta}
+use Rattle.frac_core.specs.Values.{value as value128}
 use Rattle.loss_model.specs.Problem.{value_at}
-use Rattle.cert_sums.specs.Numbers.{value128, whole_at}
+use Rattle.cert_sums.specs.Numbers.{whole_at}
 use Rattle.cert_sums.proofs.projection.left_factors.Given as goal
 
 abbrev pub invariant-loop-k : goal.invariant-loop-k

@@ -2,7 +2,7 @@
 use Rattle.std.proofs.Common.{◌<ℤ◌, pos, arith, subst}
 use Rattle.std.proofs.lemmas.Int.{ints}
 use Rattle.exact_algebra.specs.Fraction.{rational}
-use Rattle.cert_sums.specs.Numbers.{value128}
+use Rattle.frac_core.specs.Values.{value as value128}
 use Rattle.cert_sums.specs.Ranks.{IsPositive}
 use Rattle.cert_sums.proofs.Orders.{above_zero}
 use Rattle.cert_sums.proofs.projection.projects.Goals as goal

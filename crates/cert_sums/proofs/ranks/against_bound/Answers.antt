@@ -3,8 +3,8 @@ use Rattle.std.proofs.Common.{ap₂, ◌∙◌}
 use Rattle.exact_algebra.specs.Fraction.{rational}
 use Rattle.exact_algebra.specs.Order.{cmp_ℚ}
 use Rattle.exact_algebra.specs.Rational.{◌*ℚ◌}
+use Rattle.frac_core.specs.Values.{value as value128}
 use Rattle.rank_law.specs.Restricted.{rank_bound}
-use Rattle.cert_sums.specs.Numbers.{value128}
 use Rattle.cert_sums.proofs.ranks.against_bound.Goals as goal
 
 pub returns : goal.returns

@@ -1,7 +1,7 @@
 -- The order is that beyond.
 use Rattle.std.proofs.Common.{IsTrue, subst}
+use Rattle.frac_core.specs.Values.{value as value128}
 use Rattle.loss_model.specs.Problem.{sample}
-use Rattle.cert_sums.specs.Numbers.{value128}
 use Rattle.cert_sums.specs.Ranks.{square, bound}
 use Rattle.cert_sums.proofs.Orders.{beyond_from}
 use Rattle.cert_sums.proofs.ranks.beyond_bound.Goals as goal

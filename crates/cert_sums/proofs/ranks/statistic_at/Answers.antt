@@ -1,8 +1,8 @@
 -- Values within their costs, and sums of whole numbers.
 use Rattle.exact_algebra.specs.Fraction.{rational}
+use Rattle.frac_core.specs.Values.{value as value128}
 use Rattle.loss_model.specs.Problem.{sample}
 use Rattle.loss_model.specs.Vertex.{basic_value}
-use Rattle.cert_sums.specs.Numbers.{value128}
 use Rattle.cert_sums.specs.Duals.{side_in, dual_of}
 use Rattle.cert_sums.proofs.Within.{by_sides}
 use Rattle.cert_sums.proofs.ranks.statistic_at.Goals as goal

@@ -2,7 +2,7 @@
 use Rattle.std.proofs.Common.{◌≡◌, length, ap, subst, ◌∙◌}
 use Rattle.std.specs.List.{All}
 use Rattle.exact_algebra.specs.Fraction.{rational}
-use Rattle.cert_sums.specs.Numbers.{value128}
+use Rattle.frac_core.specs.Values.{value as value128}
 use Rattle.cert_sums.specs.Ends.{low_dual, high_dual}
 use Rattle.cert_sums.specs.Slopes.{unsettled_rows}
 use Rattle.cert_sums.proofs.Scales.{same_from_test}

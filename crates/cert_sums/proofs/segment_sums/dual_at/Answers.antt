@@ -5,8 +5,8 @@ use mir.Syntax.{w128}
 use Rattle.std.proofs.lemmas.Option.{slice_get_read}
 use Rattle.exact_algebra.specs.Fraction.{rational}
 use Rattle.exact_algebra.specs.Rational.{◌*ℚ◌, whole}
+use Rattle.frac_core.specs.Values.{value as value128}
 use Rattle.loss_model.specs.Vertex.{basic_value}
-use Rattle.cert_sums.specs.Numbers.{value128}
 use Rattle.cert_sums.specs.Duals.{side_in, IsRowDual}
 use Rattle.cert_sums.proofs.RowsOf.{row_value}
 use Rattle.cert_sums.proofs.segment_sums.dual_at.Goals as goal

@@ -1,7 +1,7 @@
 -- That of the cells of the column.
 use Rattle.std.proofs.Common.{◌<◌, arith}
+use Rattle.frac_core.specs.Values.{value as value128}
 use Rattle.loss_model.specs.Problem.{sample}
-use Rattle.cert_sums.specs.Numbers.{value128}
 use Rattle.cert_sums.proofs.Balanced.{entry_cells}
 use Rattle.cert_sums.proofs.totals.column_number.Goals as goal
 

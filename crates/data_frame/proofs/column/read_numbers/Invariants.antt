@@ -1,8 +1,8 @@
 use Rattle.std.proofs.Common.{◌≡◌, map, option_map, take, true}
 use Rattle.std.specs.List.{list_all}
 use Rattle.csv.specs.Records.{fields_of}
+use Rattle.frac_core.specs.Values.{exact}
 use Rattle.data_frame.specs.Cells.{number_in, number_or_none}
-use Rattle.data_frame.specs.Views.{exact}
 use Rattle.data_frame.proofs.Numeric.{holds_number}
 use Rattle.data_frame.proofs.column.read_numbers.Given as goal
 

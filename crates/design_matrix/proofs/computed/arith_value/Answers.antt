@@ -1,5 +1,5 @@
 use Rattle.std.proofs.Common.{◌∙◌, ap, map}
-use Rattle.data_frame.specs.Views.{exact}
+use Rattle.frac_core.specs.Values.{exact}
 use Rattle.design_matrix.specs.Cells.{column_of, number_at}
 use Rattle.design_matrix.proofs.Evaluable.{caused_by, evaluated, fitted}
 use Rattle.design_matrix.proofs.computed.arith_value.Goals as goal

@@ -1,6 +1,6 @@
 use Rattle.std.proofs.Common.{All, ◌≡◌, ◌≤◌, ◌++◌, ◌-◌, ◌∙◌, [], ◌∷◌, ap, arith, inl, inr, length, map, refl, subst, sym}
 use Rattle.std.proofs.lemmas.Result.{err_from_is_err_and}
-use Rattle.data_frame.specs.Views.{exact}
+use Rattle.frac_core.specs.Values.{exact}
 use Rattle.design_matrix.specs.CodedVariable.{coded_terms}
 use Rattle.formula_parser.specs.Held.{ariths_of}
 use Rattle.design_matrix.specs.Computed.{CanEvaluate, offsets_at}

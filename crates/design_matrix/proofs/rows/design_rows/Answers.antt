@@ -1,6 +1,7 @@
 use Rattle.std.proofs.Common.{All, ap, below_more, inl, inr, map, refl, subst, sym, ℕ, ◌∙◌, get_or, ◌+◌}
 use Rattle.std.proofs.lemmas.Result.{err_from_is_err_and}
-use Rattle.data_frame.specs.Views.{exact, lent_column}
+use Rattle.frac_core.specs.Values.{exact}
+use Rattle.data_frame.specs.Views.{lent_column}
 use Rattle.design_matrix.specs.Cells.{number_at}
 use Rattle.design_matrix.specs.Computed.{CanEvaluate, offsets_at}
 use Rattle.design_matrix.specs.Designs.{ArithsFit, OverflowsInAriths, OverflowsInResponse, RecordFits, ResponseFits, in_ariths, in_entries, in_response, exact_row, row_of}

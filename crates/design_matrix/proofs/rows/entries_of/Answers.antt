@@ -1,7 +1,7 @@
 use Rattle.std.proofs.Common.{List, ap, inl, inr, map, subst, take_all, ◌∙◌, Vec}
 use Rattle.std.specs.declared.alloc.Global.{Global}
 use Rattle.std.proofs.lemmas.Result.{err_from_is_err_and}
-use Rattle.data_frame.specs.Views.{exact}
+use Rattle.frac_core.specs.Values.{exact}
 use Rattle.design_matrix.specs.declared.part.Part.{Part as Held}
 use Rattle.design_matrix.specs.Designs.{OverflowsInColumn, RowFits}
 use Rattle.design_matrix.specs.Parts.{factors}

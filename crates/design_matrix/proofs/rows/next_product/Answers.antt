@@ -1,7 +1,7 @@
 use Rattle.std.proofs.Common.{ap, sym, ◌∙◌}
 use Rattle.exact_algebra.specs.Rational.{◌*ℚ◌}
 use Rattle.exact_algebra.proofs.RationalLaws.{one-*ℚ}
-use Rattle.data_frame.specs.Views.{exact}
+use Rattle.frac_core.specs.Values.{exact}
 use Rattle.design_matrix.proofs.rows.next_product.Goals as goal
 
 pub returns-then-site-eq0-clause-exact : goal.returns-then-site-eq0-clause-exact

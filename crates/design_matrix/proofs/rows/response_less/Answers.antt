@@ -1,6 +1,6 @@
 use Rattle.std.proofs.Common.{arith, map, refl, subst}
 use Rattle.std.proofs.lemmas.List.{length-map, take_all}
-use Rattle.data_frame.specs.Views.{exact}
+use Rattle.frac_core.specs.Values.{exact}
 use Rattle.design_matrix.specs.Designs.{ResponseFits}
 use Rattle.design_matrix.proofs.Responses.{less_fits, less_more}
 use Rattle.design_matrix.proofs.rows.response_less.Goals as goal

@@ -1,5 +1,5 @@
 use Rattle.std.proofs.Common.{◌≡◌, map, take}
-use Rattle.data_frame.specs.Views.{exact}
+use Rattle.frac_core.specs.Values.{exact}
 use Rattle.design_matrix.specs.Computed.{less}
 use Rattle.design_matrix.specs.Designs.{ResponseFits}
 use Rattle.design_matrix.proofs.rows.response_less.Given as goal

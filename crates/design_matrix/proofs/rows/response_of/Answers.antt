@@ -1,5 +1,5 @@
 use Rattle.std.proofs.Common.{◌∙◌, ◌+◌, ap, inr, map, refl}
-use Rattle.data_frame.specs.Views.{exact}
+use Rattle.frac_core.specs.Values.{exact}
 use Rattle.design_matrix.specs.Computed.{offsets_at}
 use Rattle.design_matrix.proofs.Responses.{fits_of, spill_of}
 use Rattle.design_matrix.proofs.rows.response_of.Goals as goal

@@ -1,6 +1,6 @@
 use Rattle.std.proofs.Common.{map, ◌∙◌}
 use Rattle.std.proofs.lemmas.Result.{err_from_is_err_and}
-use Rattle.formula_arith.specs.Values.{exact}
+use Rattle.frac_core.specs.Values.{exact}
 use Rattle.formula_arith.specs.Machine.{stacked}
 use Rattle.formula_arith.proofs.Progress.{goes_on, stops}
 use Rattle.formula_arith.proofs.evaluation.run.Goals as goal

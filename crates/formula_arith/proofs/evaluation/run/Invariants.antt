@@ -1,5 +1,5 @@
 use Rattle.std.proofs.Common.{map}
-use Rattle.formula_arith.specs.Values.{exact}
+use Rattle.frac_core.specs.Values.{exact}
 use Rattle.formula_arith.specs.Machine.{stacked}
 use Rattle.formula_arith.proofs.Progress.{Underway}
 use Rattle.formula_arith.proofs.evaluation.run.Given as goal

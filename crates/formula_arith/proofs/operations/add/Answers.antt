@@ -1,6 +1,7 @@
 use Rattle.std.proofs.Common.{refl, true}
+use Rattle.frac_core.specs.Values.{exact}
 use Rattle.formula_arith.specs.Arithmetics.{Plus}
-use Rattle.formula_arith.specs.Values.{exact, signed_operation}
+use Rattle.formula_arith.specs.Values.{signed_operation}
 use Rattle.formula_arith.proofs.Overflows.{fits_alone, is_named}
 use Rattle.formula_arith.proofs.operations.add.Goals as goal
 

@@ -1,5 +1,6 @@
 use Rattle.std.proofs.Common.{refl, true}
-use Rattle.formula_arith.specs.Values.{exact, multiplication}
+use Rattle.frac_core.specs.Values.{exact}
+use Rattle.formula_arith.specs.Values.{multiplication}
 use Rattle.formula_arith.proofs.Overflows.{fits_alone, is_named}
 use Rattle.formula_arith.proofs.operations.multiply.Goals as goal
 

@@ -1,6 +1,7 @@
 use Rattle.std.proofs.Common.{◌≡◌, ◌-◌, ℕ, arith, subst}
 use Rattle.std.proofs.lemmas.Result.{err_from_is_err_and}
-use Rattle.formula_arith.specs.Values.{exact, power_multiplications, raised_by}
+use Rattle.frac_core.specs.Values.{exact}
+use Rattle.formula_arith.specs.Values.{power_multiplications, raised_by}
 use Rattle.formula_arith.specs.Evaluations.{NoneOverflows}
 use Rattle.formula_arith.proofs.Overflows.{fits_more, halts_raising, raised_more}
 use Rattle.formula_arith.proofs.operations.raise.Goals as goal

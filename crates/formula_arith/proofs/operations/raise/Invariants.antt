@@ -1,5 +1,6 @@
 use Rattle.std.proofs.Common.{◌≡◌, ◌≤◌, ◌-◌}
-use Rattle.formula_arith.specs.Values.{exact, power_multiplications, raised_by}
+use Rattle.frac_core.specs.Values.{exact}
+use Rattle.formula_arith.specs.Values.{power_multiplications, raised_by}
 use Rattle.formula_arith.specs.Evaluations.{NoneOverflows}
 use Rattle.formula_arith.proofs.operations.raise.Given as goal
 

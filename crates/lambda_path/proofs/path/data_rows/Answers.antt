@@ -1,7 +1,8 @@
 use Rattle.std.proofs.Common.{[]}
 use Rattle.std.proofs.lemmas.Result.{err_from_is_err_and}
-use Rattle.data_frame.specs.Views.{exact}
-use Rattle.lambda_path.specs.Rows.{data_row, exact_row}
+use Rattle.frac_core.specs.Values.{exact}
+use Rattle.loss_model.specs.Values.{exact_row}
+use Rattle.lambda_path.specs.Rows.{data_row}
 use Rattle.lambda_path.proofs.Overflowing.{fault_at, fits_more}
 use Rattle.lambda_path.proofs.Rows.{mapped_more}
 use Rattle.lambda_path.proofs.path.data_rows.Goals as goal

@@ -1,8 +1,9 @@
 use Rattle.std.proofs.Common.{◌≡◌, map, take}
-use Rattle.data_frame.specs.Views.{exact}
+use Rattle.frac_core.specs.Values.{exact}
+use Rattle.loss_model.specs.Values.{exact_row}
 use Rattle.tv_penalty.specs.Operations.{NoneOverflows}
 use Rattle.lambda_path.specs.Faults.{operations_from}
-use Rattle.lambda_path.specs.Rows.{data_row, exact_row}
+use Rattle.lambda_path.specs.Rows.{data_row}
 use Rattle.lambda_path.proofs.path.data_rows.Given as goal
 
 abbrev pub invariant-loop-number : goal.invariant-loop-number

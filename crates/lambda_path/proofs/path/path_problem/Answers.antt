@@ -1,8 +1,9 @@
 use Rattle.std.proofs.Common.{◌≡◌, ◌≤◌, ◌+◌, ◌-◌, ◌++◌, map, length, refl, arith, ap, ◌∙◌}
-use Rattle.data_frame.specs.Views.{exact}
 use Rattle.frac_core.specs.Limits.{most_rows}
+use Rattle.frac_core.specs.Values.{exact}
+use Rattle.loss_model.specs.Values.{exact_row}
 use Rattle.tv_penalty.specs.Smoothings.{exact_penalty}
-use Rattle.lambda_path.specs.Rows.{data_row, exact_row, penalty_row, rows_of}
+use Rattle.lambda_path.specs.Rows.{data_row, penalty_row, rows_of}
 use Rattle.lambda_path.proofs.Rows.{all_rows, path_is, path_shaped}
 use Rattle.lambda_path.proofs.path.path_problem.Goals as goal
 

@@ -1,6 +1,7 @@
 use Rattle.std.proofs.Common.{◌≡◌, ◌++◌, map, take}
+use Rattle.loss_model.specs.Values.{exact_row}
 use Rattle.tv_penalty.specs.Smoothings.{exact_penalty}
-use Rattle.lambda_path.specs.Rows.{exact_row, penalty_row}
+use Rattle.lambda_path.specs.Rows.{penalty_row}
 use Rattle.lambda_path.proofs.path.put_penalty_rows.Given as goal
 
 abbrev pub invariant-loop-penalty : goal.invariant-loop-penalty

@@ -1,6 +1,6 @@
 use Rattle.std.proofs.Common.{arith, length, ap, sym, ◌∙◌}
 use Rattle.exact_algebra.specs.Fraction.{rational}
-use Rattle.report_text.specs.ReportText.{value}
+use Rattle.frac_core.specs.Values.{value}
 use Rattle.rankscores.specs.Scores.{IsScored}
 use Rattle.rq_engine.proofs.Costs.{high_costs, low_costs}
 use Rattle.rq_engine.proofs.Fits.{few_segments, interval_cause, process_scorable, right_fit, right_process, short_cause, stop_cause}

@@ -1,6 +1,6 @@
 use Rattle.std.proofs.Common.{arith}
 use Rattle.exact_algebra.specs.Fraction.{rational}
-use Rattle.report_text.specs.ReportText.{value}
+use Rattle.frac_core.specs.Values.{value}
 use Rattle.rq_engine.proofs.Costs.{high_costs, low_costs}
 use Rattle.rq_engine.proofs.Fits.{few_segments, process_right, right_process}
 use Rattle.rq_engine.proofs.Predicting.{predict_right, predict_short, predict_stop}

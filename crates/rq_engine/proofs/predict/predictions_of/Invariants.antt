@@ -1,8 +1,8 @@
 use Rattle.std.proofs.Common.{length, take}
 use Rattle.std.specs.List.{AllZip}
 use Rattle.exact_algebra.specs.Rational.{ℚ}
+use Rattle.frac_core.specs.Values.{value}
 use Rattle.loss_model.specs.Segment.{Covers, segments_of}
-use Rattle.report_text.specs.ReportText.{value}
 use Rattle.rq_engine.specs.Predicted.{IsPredictionBy}
 use Rattle.rq_engine.proofs.predict.predictions_of.Given as goal
 

@@ -1,5 +1,6 @@
 use Rattle.std.proofs.Common.{rules, ◌≡◌, map, length, arith, ap}
-use Rattle.rq_program.specs.Programs.{exact_row, rows_of}
+use Rattle.loss_model.specs.Values.{exact_row}
+use Rattle.rq_program.specs.Programs.{rows_of}
 use Rattle.rq_program.proofs.DataRows.{has_data_rows}
 use Rattle.rq_program.proofs.Rows.{shaped}
 use Rattle.rq_program.proofs.program.problem.Goals as goal

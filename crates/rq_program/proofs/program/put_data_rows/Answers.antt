@@ -1,5 +1,6 @@
 use Rattle.std.proofs.Common.{arith, ap, ◌∙◌}
-use Rattle.rq_program.specs.Programs.{exact_row, data_row}
+use Rattle.loss_model.specs.Values.{exact_row}
+use Rattle.rq_program.specs.Programs.{data_row}
 use Rattle.rq_program.proofs.Rows.{mapped_zip_more, mapped_zip_all}
 use Rattle.rq_program.proofs.program.put_data_rows.Goals as goal
 

@@ -1,5 +1,6 @@
 use Rattle.std.specs.Prelude.{◌≡◌, ◌++◌, map, take, zip}
-use Rattle.rq_program.specs.Programs.{exact_row, data_row}
+use Rattle.loss_model.specs.Values.{exact_row}
+use Rattle.rq_program.specs.Programs.{data_row}
 use Rattle.rq_program.proofs.program.put_data_rows.Given as goal
 
 abbrev pub invariant-loop-index : goal.invariant-loop-index

@@ -1,4 +1,5 @@
-use Rattle.rq_program.specs.Programs.{exact_row, penalty_row}
+use Rattle.loss_model.specs.Values.{exact_row}
+use Rattle.rq_program.specs.Programs.{penalty_row}
 use Rattle.rq_program.proofs.Rows.{mapped_more}
 use Rattle.rq_program.proofs.program.put_penalty_rows.Goals as goal
 

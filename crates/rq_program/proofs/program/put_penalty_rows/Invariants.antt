@@ -1,5 +1,6 @@
 use Rattle.std.specs.Prelude.{◌≡◌, ◌++◌, map, take}
-use Rattle.rq_program.specs.Programs.{exact_row, penalty_row}
+use Rattle.loss_model.specs.Values.{exact_row}
+use Rattle.rq_program.specs.Programs.{penalty_row}
 use Rattle.rq_program.proofs.program.put_penalty_rows.Given as goal
 
 abbrev pub invariant-loop-penalty : goal.invariant-loop-penalty

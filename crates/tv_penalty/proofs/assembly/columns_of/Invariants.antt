@@ -1,6 +1,6 @@
 use Rattle.std.proofs.Common.{◌≡◌, map, take}
 use Rattle.std.specs.List.{flat_map}
-use Rattle.data_frame.specs.Views.{exact}
+use Rattle.frac_core.specs.Values.{exact}
 use Rattle.tv_penalty.specs.Smoothings.{part_entries}
 use Rattle.tv_penalty.specs.Views.{part_seen}
 use Rattle.tv_penalty.proofs.assembly.columns_of.Given as goal

@@ -1,8 +1,8 @@
 use Rattle.std.proofs.Common.{ap, refl, ◌∙◌}
 use Rattle.exact_algebra.specs.Rational.{◌*ℚ◌, inverse}
 use Rattle.exact_algebra.proofs.RationalLaws.{one-*ℚ}
-use Rattle.data_frame.specs.Views.{exact}
 use Rattle.frac_core.specs.declared.exact.OpKind.TheVariants.{Div}
+use Rattle.frac_core.specs.Values.{exact}
 use Rattle.tv_penalty.proofs.Overflowing.{fits, spilt}
 use Rattle.tv_penalty.proofs.bends.reciprocal.Goals as goal
 

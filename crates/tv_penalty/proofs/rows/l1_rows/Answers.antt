@@ -1,6 +1,6 @@
 use Rattle.std.proofs.Common.{◌≡◌, ◌≤◌, ◌+◌, ◌-◌, ap, map, arith, ◌∙◌}
 use Rattle.std.specs.List.{range_with_len}
-use Rattle.data_frame.specs.Views.{exact}
+use Rattle.frac_core.specs.Values.{exact}
 use Rattle.tv_penalty.specs.Smoothings.{exact_penalty, unit_row}
 use Rattle.tv_penalty.proofs.Lists.{counted_more}
 use Rattle.tv_penalty.proofs.rows.l1_rows.Goals as goal

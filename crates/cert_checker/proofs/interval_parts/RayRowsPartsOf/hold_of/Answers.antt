@@ -1,6 +1,6 @@
 use Rattle.std.proofs.Common.{sym, ◌∙◌}
+use Rattle.frac_core.specs.Values.{value as value128}
 use Rattle.loss_model.specs.Problem.{sample, value_at}
-use Rattle.cert_checker.specs.Places.{value128}
 use Rattle.cert_checker.specs.Views.{end_of}
 use Rattle.cert_checker.proofs.Wide.{flat_holds}
 use Rattle.cert_checker.proofs.interval_parts.RayRowsPartsOf.hold_of.Goals as goal

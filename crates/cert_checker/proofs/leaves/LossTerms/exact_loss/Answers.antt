@@ -1,10 +1,10 @@
 use Rattle.std.proofs.Common.{refl, sym, ap, ◌∙◌}
 use Rattle.exact_algebra.specs.Fraction.{rational}
 use Rattle.exact_algebra.specs.Rational.{neg_ℚ}
+use Rattle.frac_core.specs.Values.{value as value128}
 use Rattle.loss_model.specs.Problem.{sample, value_at}
 use Rattle.cert_checker.specs.Formulas.{worth}
 use Rattle.cert_checker.specs.Conditions.{up_formula, down_formula, residual_formula}
-use Rattle.cert_checker.specs.Places.{value128}
 use Rattle.cert_checker.proofs.Wide.{above_is, below_is, below_zero, negated_product, not_below_zero}
 use Rattle.cert_checker.proofs.leaves.LossTerms.exact_loss.Goals as goal
 

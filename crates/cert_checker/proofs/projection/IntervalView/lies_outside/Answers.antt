@@ -1,7 +1,7 @@
 use Rattle.std.proofs.Common.{subst}
 use Rattle.exact_algebra.specs.Fraction.{rational}
+use Rattle.frac_core.specs.Values.{value as value128}
 use Rattle.cert_checker.specs.Intervals.{sign_of}
-use Rattle.cert_checker.specs.Places.{value128}
 use Rattle.cert_checker.specs.Tests.{Holds}
 use Rattle.cert_checker.proofs.Held.{outside_true}
 use Rattle.cert_checker.proofs.projection.IntervalView.lies_outside.Goals as goal

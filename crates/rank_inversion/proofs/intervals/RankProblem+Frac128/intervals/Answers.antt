@@ -1,6 +1,7 @@
 use Rattle.std.proofs.Common.{map}
 use Rattle.std.proofs.lemmas.Result.{IfOk-weaker}
-use Rattle.rank_inversion.specs.Jobs.{range, value}
+use Rattle.frac_core.specs.Values.{value}
+use Rattle.rank_inversion.specs.Jobs.{range}
 use Rattle.rank_inversion.specs.Answers.{IsIntervalAnswer}
 use Rattle.rank_inversion.specs.AllIntervals.{asked_over}
 use Rattle.rank_inversion.proofs.Untils.{answered_until, zip_of}

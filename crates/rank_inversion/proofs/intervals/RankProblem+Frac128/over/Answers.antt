@@ -1,6 +1,7 @@
 use Rattle.std.proofs.Common.{map, subst}
+use Rattle.frac_core.specs.Values.{value}
 use Rattle.loss_model.specs.declared.stop.Stop.TheVariants as stops
-use Rattle.rank_inversion.specs.Jobs.{range, value}
+use Rattle.rank_inversion.specs.Jobs.{range}
 use Rattle.rank_inversion.specs.Answers.{IsIntervalAnswer}
 use Rattle.rank_inversion.specs.AllIntervals.{asked_over}
 use Rattle.rank_inversion.specs.Until.{AreAnswered}

@@ -1,4 +1,4 @@
-use Rattle.rank_inversion.specs.Jobs.{value}
+use Rattle.frac_core.specs.Values.{value}
 use Rattle.rank_inversion.specs.Answers.{IsStartedAt}
 use Rattle.rank_inversion.proofs.Untils.{zip_of}
 use Rattle.rank_inversion.proofs.intervals.RankProblem+Frac128.starts.Goals as goal

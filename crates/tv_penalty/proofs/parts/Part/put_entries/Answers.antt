@@ -1,5 +1,5 @@
 use Rattle.std.proofs.Common.{◌++◌, ap, ap₂, map, take_all, ◌∙◌}
-use Rattle.data_frame.specs.Views.{exact}
+use Rattle.frac_core.specs.Values.{exact}
 use Rattle.tv_penalty.specs.Smoothings.{knot_entry, with_columns}
 use Rattle.tv_penalty.proofs.Lists.{mapped_more}
 use Rattle.tv_penalty.proofs.parts.Part.put_entries.Goals as goal

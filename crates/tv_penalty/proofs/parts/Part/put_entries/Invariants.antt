@@ -1,5 +1,5 @@
 use Rattle.std.proofs.Common.{◌≡◌, ◌++◌, map, take}
-use Rattle.data_frame.specs.Views.{exact}
+use Rattle.frac_core.specs.Values.{exact}
 use Rattle.tv_penalty.specs.Smoothings.{knot_entry}
 use Rattle.tv_penalty.proofs.parts.Part.put_entries.Given as goal
 
