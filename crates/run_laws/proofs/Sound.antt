@@ -8,7 +8,7 @@ use Rattle.frac_core.specs.Values.{exact}
 use Rattle.loss_model.specs.declared.problem.Problem.{Problem}
 use Rattle.loss_model.specs.declared.spill.Spill.{Spill}
 use Rattle.loss_model.specs.Problem.{IsWellShaped}
-use Rattle.loss_model.specs.Values.{exact_row}
+use Rattle.loss_model.specs.Values.{exact_row as exact_program_row}
 use Rattle.data_frame.specs.Records.{Text}
 use Rattle.formula_parser.specs.declared.formula.Formula.{Formula}
 use Rattle.formula_parser.specs.declared.formula.Smooth.{Smooth}
@@ -87,7 +87,7 @@ least n = omega arith
 row_number : (table : Table) (design : Design) (model : Formula) (smoothing : Smoothing) (problem : Problem Frac128) → IsSmoothed table model design smoothing → IsProblemOf design smoothing problem
     → length problem.rows ≡ row_count design smoothing
 row_number table design model smoothing problem is of =
-    sym (length-map problem.rows exact_row) ∙ ap length of.rows
+    sym (length-map problem.rows exact_program_row) ∙ ap length of.rows
     ∙ length-append (map data_row (zip design.rows smoothing.columns)) (map (penalty_row (length design.names)) smoothing.rows)
     ∙ λ i. (length-map (zip design.rows smoothing.columns) data_row ∙ length-zip design.rows smoothing.columns ∙ ap (min (length design.rows)) (listed table design model smoothing is) ∙ least (length design.rows)) i
     + length-map smoothing.rows (penalty_row (length design.names)) i
