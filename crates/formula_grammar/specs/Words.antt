@@ -16,4 +16,3 @@ pub use Rattle.formula_grammar.specs.declared.reading.SmoothPart.{SmoothPart}
 pub use Rattle.formula_grammar.specs.declared.reading.ArithStep.{ArithStep}
 pub use Rattle.formula_grammar.specs.declared.reading.ArithPart.{ArithPart}
 pub use Rattle.formula_grammar.specs.declared.reading.Reading.{Reading}
-pub use Rattle.formula_grammar.specs.declared.fault.ReadFault.{ReadFault}

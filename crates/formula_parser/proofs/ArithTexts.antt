@@ -8,7 +8,7 @@ use Rattle.formula_arith.specs.Arithmetics.{arithmetic_names, atom_names, distin
 use Rattle.formula_arith.specs.Codes.{arithmetic_code, atom_code, lead_code, power_code, product_code, signed_op}
 use Rattle.formula_arith.specs.Texts.{arithmetic_text, atom_text, between, name_text, power_text, product_text}
 use Rattle.formula_arith.specs.Texts.{sign_text as plain_sign}
-use Rattle.formula_grammar.specs.Words.{Span, Sign, Plus, Minus, Numeral, Kind, Name, Number, Signed, Star, Caret, Open, Close, Digits, Token, ArithStep}
+use Rattle.formula_parser.specs.Words.{Span, Sign, Plus, Minus, Numeral, Kind, Name, Number, Signed, Star, Caret, Open, Close, Digits, Token, ArithStep}
 use Rattle.formula_grammar.specs.Numerals.{power_of}
 use Rattle.formula_grammar.specs.ArithCodes.{aatom_code, apow_code, aprod_code, arith_code, arith_signed_step, lead_steps, part_of}
 use Rattle.formula_grammar.specs.declared.reading.ArithStep.TheVariants as step

@@ -12,7 +12,7 @@ use Rattle.std.proofs.lemmas.Map.Keys.{IsDistinct-push}
 use Rattle.std.proofs.lemmas.Map.Steps.{length-le_from_distinct_below}
 use mathlib.Core.Bool.{beq}
 use Rattle.frac_core.specs.declared.arith.Arith.{Arith}
-use Rattle.formula_grammar.specs.Words.{ArithPart, End, Span, Step, Token, Load, LoadAll, LoadArith}
+use Rattle.formula_parser.specs.Words.{ArithPart, End, Span, Step, Token, Load, LoadAll, LoadArith}
 use Rattle.std.proofs.lemmas.List.{length-append}
 use Rattle.std.proofs.lemmas.List.Sums.{prefix_len-le-length}
 use Rattle.formula_grammar.specs.Codes.{items_code, offsets_of}

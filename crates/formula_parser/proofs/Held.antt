@@ -5,7 +5,7 @@ use Rattle.std.proofs.lemmas.List.Elements.{All-append, All-cons, All-head, All-
 use Rattle.std.proofs.lemmas.Option.{get_or_from_slice_get, slice_get_within}
 use Rattle.frac_core.specs.declared.arith.Arith.{Arith}
 use Rattle.formula_arith.specs.Arithmetics.{distinct_names, arithmetic_names}
-use Rattle.formula_grammar.specs.Words.{End, Open, Token, ArithPart, Step, LoadArith, Reading}
+use Rattle.formula_parser.specs.Words.{End, Open, Token, ArithPart, Step, LoadArith, Reading}
 use Rattle.formula_grammar.specs.ArithCodes.{arith_code}
 use Rattle.formula_grammar.specs.Codes.{items_code, offsets_of}
 use Rattle.formula_grammar.specs.Grammar.{Formula as Tree}

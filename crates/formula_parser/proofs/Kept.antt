@@ -10,7 +10,7 @@ use Rattle.frac_core.specs.declared.arith.ArithOp.TheVariants as op
 use Rattle.formula_grammar.specs.declared.reading.ArithStep.TheVariants as step
 use Rattle.formula_arith.specs.Arithmetics.{arithmetic_names, atom_has, atom_names, each_once, has_exponents, is_exponent, power_has, power_names, product_has, product_names, with_name}
 use Rattle.formula_arith.specs.Codes.{arithmetic_code, atom_code, lead_code, numbered_in, power_code, product_code, signed_op}
-use Rattle.formula_grammar.specs.Words.{Span, Sign, Plus, Minus, Kind, Name, Number, Digits, Signed, Star, Caret, Open, Close, Token}
+use Rattle.formula_parser.specs.Words.{Span, Sign, Plus, Minus, Kind, Name, Number, Digits, Signed, Star, Caret, Open, Close, Token}
 use Rattle.formula_grammar.specs.Numerals.{power_of}
 use Rattle.formula_grammar.specs.ArithCodes.{aatom_code, apow_code, aprod_code, arith_code, arith_signed_step, lead_steps}
 use Rattle.formula_grammar.specs.Arithmetics.{token, Lead, Bare, Led, First, More, Aprod, One, Times, Apow, Plain, Raised, Aatom, Leaf, Constant, Group, aatom_tokens, apow_tokens, aprod_tokens, arith_tokens, lead_tokens}

@@ -10,7 +10,7 @@ use Rattle.exact_algebra.proofs.WholeNumbers.{whole-le}
 use Rattle.formula_grammar.specs.Codes.{smooths_of}
 use Rattle.formula_grammar.specs.declared.magnitude.Magnitude.{Magnitude}
 use Rattle.formula_grammar.specs.Numerals.{value_of, value_or_zero}
-use Rattle.formula_grammar.specs.Words.{Zero, Unity, Longer, Numeral, Digits, Written, SmoothPart}
+use Rattle.formula_parser.specs.Words.{Zero, Unity, Longer, Numeral, Digits, Written, SmoothPart}
 use Rattle.formula_parser.specs.Scope.{Text}
 use Rattle.formula_parser.specs.Laws.{LambdasAreNotNegative}
 use Rattle.formula_parser.specs.Parsed.{exact, meant_smooth, told_smooth, Smooth}

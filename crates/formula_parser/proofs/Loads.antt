@@ -9,7 +9,7 @@ use Rattle.formula_grammar.specs.Grammar.{Leaf, Factor, Computed, Dot, Group, Ni
 use Rattle.formula_grammar.specs.Grammar.{ThenPart, Part, Smoothing, Offsetting, sum_tokens, product_tokens, inter_tokens, power_tokens, atom_tokens, part_tokens, items_tokens, item_tokens}
 use Rattle.formula_grammar.specs.Codes.{signed_step, sum_code, product_code, inter_code, power_code, atom_code, items_code, offsets_in, offsets_of}
 use Rattle.formula_grammar.specs.Arithmetics.{token, Bare, Led, arith_tokens}
-use Rattle.formula_grammar.specs.Words.{Sign, Plus, Minus, Number, Digits, Signed, Star, Colon, Caret, Close, Step, LoadArith, Multiply, Interact, Raise}
+use Rattle.formula_parser.specs.Words.{Sign, Plus, Minus, Number, Digits, Signed, Star, Colon, Caret, Close, Step, LoadArith, Multiply, Interact, Raise}
 use Rattle.formula_parser.specs.Columns.{Text}
 use Rattle.formula_parser.specs.Arithmetics.{arith_loaded, arith_place, ariths_from, part_said}
 

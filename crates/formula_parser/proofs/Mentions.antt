@@ -1,6 +1,6 @@
 -- Variables, each once.
 use Rattle.std.proofs.Common.{◌≡◌, ◌<◌, ◌+◌, ◌∷◌, ◌++◌, [], ℕ, List, length, flat_map, drop, get_or, refl, sym, ◌∙◌, ap}
-use Rattle.formula_grammar.specs.Words.{Step}
+use Rattle.formula_parser.specs.Words.{Step}
 use Rattle.formula_parser.specs.Scope.{Mention, each_once, with_variable}
 use Rattle.formula_parser.proofs.Unions.{split_at}
 

@@ -6,7 +6,7 @@ use Rattle.std.proofs.lemmas.Bool.{ltb-false}
 use Rattle.std.proofs.lemmas.List.{length-append}
 use Rattle.std.proofs.lemmas.List.Sums.{prefix_len-le-length}
 use Rattle.formula_arith.specs.Codes.{name_index}
-use Rattle.formula_grammar.specs.Words.{ArithStep}
+use Rattle.formula_parser.specs.Words.{ArithStep}
 use Rattle.formula_grammar.specs.declared.reading.ArithStep.TheVariants as step
 use Rattle.formula_parser.specs.Columns.{Text}
 use Rattle.formula_parser.specs.Arithmetics.{column_name, name_loaded, names_from}

@@ -1,7 +1,7 @@
 -- The code of a tree does what the tree means.
 use Rattle.std.proofs.Common.{◌≡◌, ◌<◌, ◌≤◌, ◌+◌, ℕ, length, drop, get_or, Bool, List, [], ◌∷◌, ◌++◌, append-nil, Result, Ok, Err, refl, sym, ◌∙◌, ap, append_assoc}
 use Rattle.std.proofs.lemmas.List.{drop_all}
-use Rattle.formula_grammar.specs.Words.{Span, Sign, Plus, Minus, ArithPart, Step, Multiply, Interact, Raise}
+use Rattle.formula_parser.specs.Words.{Span, Sign, Plus, Minus, ArithPart, Step, Multiply, Interact, Raise}
 use Rattle.formula_grammar.specs.Numerals.{power_of}
 use Rattle.formula_grammar.specs.Arithmetics.{Bare, Led}
 use Rattle.formula_grammar.specs.Grammar.{Sum, First, More, Product, One, Times, Inter, Lone, Cross, Power, Plain, Raised, Atom, Group, Items, Start, Then, ThenPart}

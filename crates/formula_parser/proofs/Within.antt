@@ -3,8 +3,8 @@ use Rattle.std.proofs.Common.{◌≡◌, ◌≤◌, ◌<◌, ◌+◌, ℕ, suc, 
 use Rattle.std.specs.Prelude.{cond}
 use Rattle.std.proofs.lemmas.List.{length-append}
 use Rattle.std.proofs.lemmas.List.Elements.{All-append, All-cons, All-nil}
-use Rattle.formula_grammar.specs.Words.{Sign, Plus, Minus, Kind, Name, ArithWord, OffsetWord, Number, Digits, Signed, Tilde, Star, Colon, Caret}
-use Rattle.formula_grammar.specs.Words.{Open, Close, End, Token, ArithPart, Step, Load, LoadAll, LoadArith, Nothing, Multiply, Interact, Raise}
+use Rattle.formula_parser.specs.Words.{Sign, Plus, Minus, Kind, Name, ArithWord, OffsetWord, Number, Digits, Signed, Tilde, Star, Colon, Caret}
+use Rattle.formula_parser.specs.Words.{Open, Close, End, Token, ArithPart, Step, Load, LoadAll, LoadArith, Nothing, Multiply, Interact, Raise}
 use Rattle.formula_grammar.specs.Numerals.{power_of}
 use Rattle.formula_grammar.specs.declared.fault.ReadFault.{ReadFault}
 use Rattle.formula_grammar.specs.declared.fault.ReadFault.TheVariants.{PowerRange}

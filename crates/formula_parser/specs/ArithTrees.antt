@@ -6,7 +6,7 @@ use Rattle.formula_arith.specs.Arithmetics.{Arithmetic, distinct_names}
 use Rattle.formula_arith.specs.Arithmetics as value
 use Rattle.formula_arith.specs.Codes.{arithmetic_code}
 use Rattle.formula_arith.specs.Texts.{arithmetic_text}
-use Rattle.formula_grammar.specs.Words.{Span, Sign, Plus, Minus}
+use Rattle.formula_parser.specs.Words.{Span, Sign, Plus, Minus}
 use Rattle.formula_grammar.specs.Numerals.{fraction_of, power_of}
 use Rattle.formula_grammar.specs.Arithmetics.{Lead, Bare, Led, Aprod, Apow, Aatom, First, More, One, Times, Plain, Raised, Leaf, Constant, Group}
 use Rattle.formula_grammar.specs.Arithmetics.{Arith as Tree}

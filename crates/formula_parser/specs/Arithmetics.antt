@@ -10,8 +10,8 @@ use Rattle.frac_core.specs.declared.arith.ArithOp.TheVariants as op
 use Rattle.formula_arith.specs.Arithmetics.{with_name}
 use Rattle.formula_arith.specs.Codes.{name_index}
 use Rattle.formula_arith.specs.Texts.{between, name_text}
-use Rattle.formula_grammar.specs.Words.{Span, Sign, Plus, Minus, Numeral, Digits, Kind, Name, Number, Signed}
-use Rattle.formula_grammar.specs.Words.{Star, Caret, Open, Close, Token, ArithPart, ArithStep, Step, LoadArith}
+use Rattle.formula_parser.specs.Words.{Span, Sign, Plus, Minus, Numeral, Digits, Kind, Name, Number, Signed}
+use Rattle.formula_parser.specs.Words.{Star, Caret, Open, Close, Token, ArithPart, ArithStep, Step, LoadArith}
 use Rattle.formula_grammar.specs.declared.reading.ArithStep.TheVariants as step
 use Rattle.formula_grammar.specs.Numerals.{fraction_of, power_of}
 use Rattle.formula_parser.specs.Columns.{Text, column_at, name_at}

@@ -1,6 +1,6 @@
 -- Stated. The columns that the names in a text stand for.
 use Rattle.std.specs.Prelude.{ℕ, List, [], bytes_eq, position, take, drop, slice_index_or, unwrap_or, Option}
-use Rattle.formula_grammar.specs.Words.{Span}
+use Rattle.formula_parser.specs.Words.{Span}
 
 -- bytes
 abbrev pub Text : Type 0

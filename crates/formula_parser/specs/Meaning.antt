@@ -1,7 +1,7 @@
 -- Stated. The meaning of a formula's expressions: a list of distinct terms, or the offset of the first operator whose
 -- meaning has more than 4,096. Operators are evaluated operands first and left first.
 use Rattle.std.specs.Prelude.{ℕ, Bool, true, false, [], ◌∷◌, length, Result, Ok, Err, nat_lt, if◌then◌else◌}
-use Rattle.formula_grammar.specs.Words.{ArithPart, Span, Sign, Plus, Minus}
+use Rattle.formula_parser.specs.Words.{ArithPart, Span, Sign, Plus, Minus}
 use Rattle.formula_grammar.specs.Numerals.{power_of}
 use Rattle.formula_grammar.specs.Arithmetics.{Bare, Led}
 use Rattle.formula_grammar.specs.Grammar.{Sum, First, More, Product, One, Times, Inter, Lone, Cross, Power, Plain, Raised, Atom}

@@ -2,7 +2,7 @@
 use Rattle.std.specs.Prelude.{ℕ, ◌==◌, ◌&&◌, not, Bool, false, List, [], ◌∷◌, ◌++◌, map, flat_map, cond, length, ◌+◌}
 use Rattle.std.specs.List.{filter, list_any, range_with_len}
 use mathlib.Core.Bool.{beq}
-use Rattle.formula_grammar.specs.Words.{ArithPart, Span, Step, Load, LoadAll, LoadArith}
+use Rattle.formula_parser.specs.Words.{ArithPart, Span, Step, Load, LoadAll, LoadArith}
 pub use Rattle.formula_parser.specs.declared.scope.Mention.{Mention}
 pub use Rattle.formula_parser.specs.Columns.{Text, piece, column_of, column_at, name_at}
 use Rattle.frac_core.specs.declared.arith.Arith.{Arith}

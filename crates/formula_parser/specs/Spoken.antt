@@ -1,6 +1,6 @@
 -- Inner. What the code of a formula says over the columns of a table.
 use Rattle.std.specs.Prelude.{◌≡◌, ◌<◌, ◌^◌, ℕ, List, [], All, length, map, Result, Ok, Err}
-use Rattle.formula_grammar.specs.Words.{ArithPart, LoadArith, Reading, Step}
+use Rattle.formula_parser.specs.Words.{ArithPart, LoadArith, Reading, Step}
 use Rattle.formula_parser.specs.Scope.{Mention, Text, arith_term, column_at, dot_terms, name_at, named_term, variables_of}
 use Rattle.formula_parser.specs.Parsed.{Formula, FormulaFault, Term, OutOfMemory, TooManyTerms, IsBySize, meant_smooth, others_of, spoken_term, told_smooth}
 use Rattle.frac_core.specs.declared.arith.Arith.{Arith}

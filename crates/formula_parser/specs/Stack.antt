@@ -1,6 +1,6 @@
 -- Inner. The steps of a formula's code on a stack of meanings, the top first. A missing operand is the empty list.
 use Rattle.std.specs.Prelude.{◌≡◌, ℕ, Bool, List, [], ◌∷◌, Result, Ok, Err}
-use Rattle.formula_grammar.specs.Words.{ArithPart, Span, Step, Load, LoadAll, LoadArith, Nothing, Add, Remove, Multiply, Interact, Raise}
+use Rattle.formula_parser.specs.Words.{ArithPart, Span, Step, Load, LoadAll, LoadArith, Nothing, Add, Remove, Multiply, Interact, Raise}
 pub use Rattle.formula_parser.specs.declared.evaluation.Halt.{Halt}
 pub use Rattle.formula_parser.specs.declared.evaluation.Halt.TheVariants.{OutOfMemory, TooManyTerms}
 use Rattle.formula_parser.specs.Terms.{Term, Terms, plus, minus, cross, times, raised}

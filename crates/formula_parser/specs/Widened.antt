@@ -1,5 +1,5 @@
 -- Inner. The faults of the steps of parsing as faults of the whole.
-use Rattle.formula_grammar.specs.Words.{ReadFault}
+use Rattle.formula_parser.specs.Words.{ReadFault}
 use Rattle.formula_grammar.specs.declared.fault.ReadFault.TheVariants as read
 use Rattle.formula_parser.specs.Stack.{Halt}
 use Rattle.formula_parser.specs.declared.evaluation.Halt.TheVariants as halt

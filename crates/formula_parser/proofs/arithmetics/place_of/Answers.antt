@@ -1,6 +1,6 @@
 use Rattle.std.proofs.Common.{◌∙◌, ap, bytes_eq, position}
 use Rattle.frac_core.specs.declared.arith.Arith.{Arith}
-use Rattle.formula_grammar.specs.Words.{Open}
+use Rattle.formula_parser.specs.Words.{Open}
 use Rattle.formula_parser.specs.Columns.{Text}
 use Rattle.formula_parser.specs.Arithmetics.{tokens_text}
 use Rattle.formula_parser.proofs.Places.{past_all}

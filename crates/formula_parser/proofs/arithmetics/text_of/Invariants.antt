@@ -1,5 +1,5 @@
 use Rattle.std.proofs.Common.{◌≡◌, ◌++◌, drop, string_bytes}
-use Rattle.formula_grammar.specs.Words.{Open}
+use Rattle.formula_parser.specs.Words.{Open}
 use Rattle.formula_parser.specs.Arithmetics.{tokens_text}
 use Rattle.formula_parser.proofs.arithmetics.text_of.Given as goal
 
