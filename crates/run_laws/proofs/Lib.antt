@@ -5,7 +5,7 @@ mod Parsed
 mod Products
 mod Overflows
 mod Sound
-mod Inputs
+mod Faultless
 mod Plain
 mod Predictions
 mod Tested

@@ -36,7 +36,7 @@ use Rattle.report_text.specs.declared.report.Halt.TheVariants.{Refused}
 use Rattle.rq_input.specs.Inputs.{AreTable, HasInputCause, HasTableCause, HasSmooth, HasModelCause, LacksModelInput, LacksProblem, LacksSmoothing}
 use Rattle.rq_input.specs.Models.{IsDesigned, IsModel, IsSmoothed}
 use Rattle.run_laws.specs.Faults.{OneInputFault}
-use Rattle.run_laws.proofs.Inputs.{one_table}
+use Rattle.run_laws.proofs.Faultless.{one_table}
 use Rattle.run_laws.proofs.Parsed.{no_fault, one_formula, one_tree}
 use Rattle.run_laws.proofs.Overflows.{same_first}
 use Rattle.run_laws.proofs.Products.{same_spill}

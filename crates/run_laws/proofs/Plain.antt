@@ -11,7 +11,7 @@ use Rattle.rq_input.specs.Inputs.{IsInput}
 use Rattle.rq_input.specs.Plain.{HasPlainCause}
 use Rattle.rq_input.specs.declared.input.Input.{Input}
 use Rattle.run_laws.specs.Faults.{PlainInputsHaveNoFault}
-use Rattle.run_laws.proofs.Inputs.{input_sound}
+use Rattle.run_laws.proofs.Faultless.{input_sound}
 
 module _ (one : OneFormula) (none : NoFormulaHasFaults) (job : FitJob) (bytes : List ℕ) (input : Input) (is : IsInput job true bytes input) (shaped : IsWellShaped input.problem) where
   pub plain_sound : (refusal : Refusal) → ¬ HasPlainCause job bytes (Refused refusal)

@@ -24,7 +24,7 @@ use Rattle.rq_input.specs.declared.predictions.PredictionInput.{PredictionInput}
 use Rattle.rq_input.proofs.Lists.{zip_item, zip_length}
 use Rattle.rq_input.proofs.PlainInputs.{plain_input}
 use Rattle.run_laws.specs.Faults.{PredictionsHaveNoFault}
-use Rattle.run_laws.proofs.Inputs.{one_table}
+use Rattle.run_laws.proofs.Faultless.{one_table}
 use Rattle.run_laws.proofs.Parsed.{one_formula}
 use Rattle.run_laws.proofs.Plain.{plain_sound}
 use Rattle.run_laws.proofs.Overflows.{none_in_ariths}

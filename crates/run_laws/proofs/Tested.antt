@@ -18,7 +18,7 @@ use Rattle.rq_input.specs.Models.{IsSmoothed}
 use Rattle.rq_input.specs.Tested.{HasTestedCause, IsTested, first_missing}
 use Rattle.rq_input.specs.declared.input.Input.{Input}
 use Rattle.run_laws.specs.Faults.{TestedHaveNoFault}
-use Rattle.run_laws.proofs.Inputs.{input_sound, one_table}
+use Rattle.run_laws.proofs.Faultless.{input_sound, one_table}
 use Rattle.run_laws.proofs.Parsed.{one_formula}
 use Rattle.run_laws.proofs.Sound.{as_many_columns, one_design}
 

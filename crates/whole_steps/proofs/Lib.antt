@@ -15,5 +15,5 @@ pub mod Crossed
 pub mod Lines
 -- the solving step
 pub mod Scales
-pub mod Slopes
+pub mod SlopeNumbers
 pub mod Passed

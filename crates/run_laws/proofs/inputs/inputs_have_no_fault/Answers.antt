@@ -1,4 +1,4 @@
-use Rattle.run_laws.proofs.Inputs.{input_sound}
+use Rattle.run_laws.proofs.Faultless.{input_sound}
 use Rattle.run_laws.proofs.inputs.inputs_have_no_fault.Goals as goal
 
 pub returns : goal.returns

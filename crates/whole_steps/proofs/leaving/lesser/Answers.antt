@@ -1,5 +1,5 @@
 use Rattle.whole_steps.specs.Leavings.{scale_of}
-use Rattle.whole_steps.proofs.Slopes.{scale_some, lesser_by}
+use Rattle.whole_steps.proofs.SlopeNumbers.{scale_some, lesser_by}
 use Rattle.whole_steps.proofs.leaving.lesser.Goals as goal
 
 pub returns : goal.returns

@@ -1,7 +1,7 @@
 -- The slope by its parts.
 use Rattle.std.proofs.Common.{rules, ◌≡◌, ◌+ℤ◌, ◌*ℤ◌, to_z, of_z, refl}
 use mir.Syntax.{w128}
-use Rattle.whole_steps.proofs.Slopes.{slope_number_is}
+use Rattle.whole_steps.proofs.SlopeNumbers.{slope_number_is}
 use Rattle.whole_steps.proofs.leaving.slope_of.Goals as goal
 
 pub returns : goal.returns

@@ -4,7 +4,7 @@ use Rattle.fraction_tableau.proofs.SlopeLaws.{one_least, one_more}
 use Rattle.whole_steps.specs.Stations.{model, at_of, inverse_at}
 use Rattle.whole_steps.specs.Quantiles.{theta_of, number_over}
 use Rattle.whole_steps.specs.Leavings.{scale_of, leaving_of}
-use Rattle.whole_steps.proofs.Slopes.{scale_some, leaves_at, none_leaves}
+use Rattle.whole_steps.proofs.SlopeNumbers.{scale_some, leaves_at, none_leaves}
 use Rattle.whole_steps.proofs.leaving.steepest.Goals as goal
 
 pub loop-position-init : goal.loop-position-init
