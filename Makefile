@@ -17,7 +17,7 @@ export TABLE FORMULA
 .PHONY: demo check try wrong install deb wheel rpackage packages toolchain
 
 demo: toolchain
-	@echo "the first time this proves the program, for half an hour or so"
+	@echo "the first time this proves the program, for an hour or so"
 	(cd crates/quantreg && rt run -- $(JOB)) < "$$TABLE"
 	@echo "the program is $(CURDIR)/$(PROGRAM)"
 
