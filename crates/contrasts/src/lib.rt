@@ -7,7 +7,7 @@
 //!
 //! The crate's one contract: each entry and each name is that of the table in `specs/Coding.antt`.
 //! It stands on `frac_core` for texts alone.
-//! Its cases stand in `layer_cases`.
+//! Its cases stand in `cases`.
 //!
 //! `design_matrix` calls it so:
 //! ```text

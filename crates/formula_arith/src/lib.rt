@@ -15,7 +15,7 @@
 //! with its number and its operands.
 //!
 //! One loop over the code keeps a stack of its own: no call is nested more deeply for a deeper or
-//! longer arithmetic. It stands on `frac_core`. Its cases stand in `layer_cases`.
+//! longer arithmetic. It stands on `frac_core`. Its cases stand in `cases`.
 //!
 //! `design_matrix` calls it so:
 //! ```text

@@ -6,7 +6,7 @@
 //! `number_text` read and write their texts, for every type that implements it. `Arith` holds the
 //! arithmetic of a formula, which layers above read and evaluate. The crate stands on `exact_algebra`, whose field ℚ its clauses speak of, and on
 //! `itoa` for the digits of whole numbers.
-//! Its cases stand in `layer_cases`.
+//! Its cases stand in `cases`.
 //!
 //! `loss_model` adds so, and `rq_words` reads a number so:
 //! ```text

@@ -4,7 +4,7 @@
 //! inverts the matrix, and `scaled_column` one column of weighted entries; or either names the operation that overflowed,
 //! as `specs/Grams.antt` has them. The crate stands on `loss_model` for problems, on `rank_law` for what the matrix is, and
 //! on `basis_inverse` for the entries of lists of lists.
-//! Its cases stand in `layer_cases`.
+//! Its cases stand in `cases`.
 //!
 //! `rank_inversion` calls it so:
 //! ```text

@@ -6,7 +6,7 @@
 //! it has full rank and lawful costs, and that the sum of the absolute coefficients never rises along the path are the
 //! laws of `laws`. The crate stands on `tv_penalty`, whose penalty rows it takes, on `loss_model`, whose problem it gives,
 //! and on `pivot_rule` for what lawful costs are.
-//! Its cases stand in `layer_cases`.
+//! Its cases stand in `cases`.
 //!
 //! `rq_engine` calls it so:
 //! ```text

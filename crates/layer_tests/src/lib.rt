@@ -1,4 +1,4 @@
-//! Tests of what stands beside the solver and is no case of `layer_cases`: streams of bytes that fail (`port_io`), jobs at once (`rq_fan`),
+//! Tests of what stands beside the solver and is no case of `cases`: streams of bytes that fail (`port_io`), jobs at once (`rq_fan`),
 //! what may be handed to another thread, and answers of 64 bits in 128 (`loss_model`); the largest tables (`data_frame`), formulas
 //! (`formula_grammar` and `formula_parser`) and certificates (`cert_text`), and penalty rows of single coefficients (`tv_penalty`); and the
 //! lines of faults and the reports of rank tests and predictions, byte for byte (`report_text`).

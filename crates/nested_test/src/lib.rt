@@ -5,7 +5,7 @@
 //! the scores of these columns and the statistic, as `specs/Nested.antt` defines them, as fractions of any size. Either is
 //! refused only where no memory is found. The crate stands on `gram_inverse` for the inverse of the Gram matrix of the weighted
 //! columns, and on `ratio`.
-//! Its cases stand in `layer_cases`.
+//! Its cases stand in `cases`.
 //!
 //! `rq_engine` calls it so, with the Wilcoxon scores of the process of the restricted problem between:
 //! ```text

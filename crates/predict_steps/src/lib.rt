@@ -5,7 +5,7 @@
 //! the operation that overflowed; and `rearrange` the same steps in the order of their values, as
 //! `specs/Rearranged.antt` defines it, with ends of any size. The laws say that steps have one
 //! rearrangement. It stands on `loss_model`, whose processes are predicted from, and on `ratio`.
-//! Its cases stand in `layer_cases`.
+//! Its cases stand in `cases`.
 //!
 //! `rq_engine` calls it so:
 //! ```text

@@ -2,7 +2,7 @@
 //!
 //! The one contract: `make` gives the bytes of `specs/Tables.antt`, whose cells are those of a linear
 //! congruential generator. It stands on `frac_core` for want of memory and the limit of records.
-//! Its cases stand in `layer_cases`.
+//! Its cases stand in `cases`.
 //!
 //! `rq_engine` calls it so:
 //! ```text

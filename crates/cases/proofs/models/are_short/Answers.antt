@@ -1,7 +1,7 @@
 use Rattle.std.proofs.Common.{◌≡◌, ◌<◌, ◌^◌, All, List, ap, arith, length, subst, take_all}
 use Rattle.std.proofs.lemmas.List.Elements.{All-more}
 use Rattle.formula_parser.specs.declared.formula.Term.{Term}
-use Rattle.layer_cases.proofs.models.are_short.Goals as goal
+use Rattle.cases.proofs.models.are_short.Goals as goal
 
 pub loop-term-preserved : goal.loop-term-preserved
 loop-term-preserved c =

@@ -47,6 +47,23 @@ impl Told {
         }
     }
 
+    /// A line of pieces.
+    pub(crate) fn put_line(&mut self, pieces: &[&str]) {
+        for piece in pieces {
+            self.put(piece);
+        }
+        self.put("\n");
+    }
+
+    /// What was told, or that memory was wanting.
+    pub(crate) fn or_wanting(&self) -> &str {
+        if self.whole {
+            self.text.as_str()
+        } else {
+            "memory was wanting\n"
+        }
+    }
+
     /// What was told apart, behind a mark, where it is something else.
     pub(crate) fn put_other(&mut self, other: &Told) {
         if self.text.as_str() != other.text.as_str() {

@@ -8,17 +8,11 @@ pub(crate) enum Wanted<'a> {
     Fault { status: u8, line: &'a str },
 }
 
-/// What a run reads: lines with semicolons between them; or the text that the cases of a file share, in which `to` comes where
-/// `from` stands first, or all of it is `to`.
+/// What a run reads: lines with semicolons between them; or a text in pieces.
 #[derive(Clone, Copy)]
 pub(crate) enum Input<'a> {
     Lines(&'a str),
-    Changed {
-        shared: &'a str,
-        from: &'a str,
-        to: &'a str,
-    },
-    Whole(&'a str),
+    Text([&'a str; 4]),
 }
 
 /// The words of a run with bars between them, those of a run that reads what it has printed, where there is one, what it reads itself, and
@@ -49,13 +43,16 @@ fn wanted_of(text: &str) -> Wanted<'_> {
     }
 }
 
-// What the line of a case says that is read.
-fn input_of<'a>(shared: &'a str, line: &'a str) -> Input<'a> {
-    match line.split_once(" => ") {
-        Some(("", to)) => Input::Whole(to),
-        Some((from, to)) => Input::Changed { shared, from, to },
-        None => Input::Lines(line),
+// What the line of a case says that is read: a text alone, or the one that is shared, in which another stands in place of its first.
+fn input_of<'a>(shared: &'a str, line: &'a str) -> Option<Input<'a>> {
+    let Some((from, to)) = line.split_once(" => ") else {
+        return Some(Input::Lines(line));
+    };
+    if from.is_empty() {
+        return Some(Input::Text([to, "", "", ""]));
     }
+    let (before, after) = shared.split_once(from)?;
+    Some(Input::Text([before, to, after, "\n"]))
 }
 
 /// The text that the cases of a file share: the line above the first of them.
@@ -67,7 +64,8 @@ pub(crate) fn shared_of(text: &str) -> &str {
     }
 }
 
-/// The case of a text that begins with its words, and may end in a remark on the next one. None, where it lacks a line.
+/// The case of a text that begins with its words, and may end in a remark on the next one. None, where it lacks a line or changes what isn't
+/// shared.
 pub(crate) fn case_of<'a>(shared: &'a str, text: &'a str) -> Option<Case<'a>> {
     let (words, rest) = text.split_once('\n')?;
     let (line, rest) = rest.split_once('\n')?;
@@ -80,7 +78,7 @@ pub(crate) fn case_of<'a>(shared: &'a str, text: &'a str) -> Option<Case<'a>> {
     Some(Case {
         words,
         next,
-        input: input_of(shared, line),
+        input: input_of(shared, line)?,
         wanted: wanted_of(wanted.trim_end()),
     })
 }

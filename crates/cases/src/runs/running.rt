@@ -1,10 +1,10 @@
 //! A run of a case, and what it left.
 
-use crate::case::{Case, Input, Wanted};
+use crate::runs::case::{Case, Input, Wanted};
 use port_io::{MemSink, SureSource};
 use rq_cli::run;
 use rq_fan::Open;
-use std::alloc::{AllocError, Global};
+use std::alloc::Global;
 use std::str::from_utf8;
 use std::thread::Threads;
 
@@ -57,52 +57,45 @@ impl Left {
     }
 }
 
-fn words_of(alloc: Global, line: &str) -> Result<Vec<String>, AllocError> {
+fn words_of(alloc: Global, line: &str) -> Option<Vec<String>> {
     let mut words = Vec::new(alloc);
     if !line.is_empty() {
         for word in line.split('|') {
-            words.push(String::from_str(alloc, word)?)?;
+            words.push(String::from_str(alloc, word).ok()?).ok()?;
         }
     }
-    Ok(words)
+    Some(words)
 }
 
-fn table_of(alloc: Global, lines: &str) -> Result<Vec<u8>, AllocError> {
+// Lines, each with its end.
+fn table_of(alloc: Global, lines: &str) -> Option<Vec<u8>> {
     let mut table = Vec::new(alloc);
     if !lines.is_empty() {
         for line in lines.split(';') {
-            table.extend_from_slice(line.as_bytes())?;
-            table.push(b'\n')?;
+            table.extend_from_slice(line.as_bytes()).ok()?;
+            table.push(b'\n').ok()?;
         }
     }
-    Ok(table)
+    Some(table)
 }
 
-// A text in which `to` stands where `from` stood first; nothing, where that doesn't stand there.
-fn changed(alloc: Global, text: &str, from: &str, to: &str) -> Result<Vec<u8>, AllocError> {
-    let mut made = Vec::new(alloc);
-    if let Some((before, after)) = text.split_once(from) {
-        made.extend_from_slice(before.as_bytes())?;
-        made.extend_from_slice(to.as_bytes())?;
-        made.extend_from_slice(after.as_bytes())?;
-        made.push(b'\n')?;
+fn joined(alloc: Global, pieces: &[&str]) -> Option<Vec<u8>> {
+    let mut bytes = Vec::new(alloc);
+    for piece in pieces {
+        bytes.extend_from_slice(piece.as_bytes()).ok()?;
     }
-    Ok(made)
+    Some(bytes)
 }
 
-fn bytes_of(alloc: Global, input: Input<'_>) -> Result<Vec<u8>, AllocError> {
+fn bytes_of(alloc: Global, input: &Input<'_>) -> Option<Vec<u8>> {
     match input {
         Input::Lines(lines) => table_of(alloc, lines),
-        Input::Changed { shared, from, to } => changed(alloc, shared, from, to),
-        Input::Whole(text) => Vec::from_slice(alloc, text.as_bytes()),
+        Input::Text(pieces) => joined(alloc, pieces),
     }
 }
 
-fn sink(alloc: Global) -> Result<MemSink, AllocError> {
-    match MemSink::new(alloc, ROOM, PIECE, Vec::new(alloc)) {
-        Ok(sink) => Ok(sink),
-        Err(_) => Err(AllocError),
-    }
+fn sink(alloc: Global) -> Option<MemSink> {
+    MemSink::new(alloc, ROOM, PIECE, Vec::new(alloc)).ok()
 }
 
 // The run and its status. The outcome is let go by its type, which takes less to prove than to let go of its kinds here.
@@ -121,34 +114,25 @@ fn status_of<R: Threads + Sync>(
 }
 
 // Runs words on bytes over streams in memory.
-fn run_words<R: Threads + Sync>(
-    rt: &R,
-    alloc: Global,
-    line: &str,
-    bytes: Vec<u8>,
-) -> Result<Left, AllocError> {
+fn run_words<R: Threads + Sync>(rt: &R, alloc: Global, line: &str, bytes: Vec<u8>) -> Option<Left> {
     let words = words_of(alloc, line)?;
     let mut source = SureSource::new(bytes);
     let mut out = sink(alloc)?;
     let mut err = sink(alloc)?;
     let status = status_of(rt, alloc, &words, &mut source, &mut out, &mut err);
-    Ok(Left {
+    Some(Left {
         status,
-        printed: Vec::from_slice(alloc, out.written())?,
-        told: Vec::from_slice(alloc, err.written())?,
+        printed: Vec::from_slice(alloc, out.written()).ok()?,
+        told: Vec::from_slice(alloc, err.written()).ok()?,
     })
 }
 
-/// Runs a case, and on what it has printed the words of a second run, where it has those.
-pub(crate) fn run_case<R: Threads + Sync>(
-    rt: &R,
-    alloc: Global,
-    case: &Case<'_>,
-) -> Result<Left, AllocError> {
-    let bytes = bytes_of(alloc, case.input)?;
+/// Runs a case, and on what it has printed the words of a second run, where it has those. None, where memory was wanting.
+pub(crate) fn run_case<R: Threads + Sync>(rt: &R, alloc: Global, case: &Case<'_>) -> Option<Left> {
+    let bytes = bytes_of(alloc, &case.input)?;
     let left = run_words(rt, alloc, case.words, bytes)?;
     match case.next {
         Some(words) => run_words(rt, alloc, words, left.printed),
-        None => Ok(left),
+        None => Some(left),
     }
 }

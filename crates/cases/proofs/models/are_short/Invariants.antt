@@ -1,5 +1,5 @@
 use Rattle.std.proofs.Common.{◌<◌, ◌^◌, All, length, take}
-use Rattle.layer_cases.proofs.models.are_short.Given as goal
+use Rattle.cases.proofs.models.are_short.Given as goal
 
 abbrev pub invariant-loop-term : goal.invariant-loop-term
 invariant-loop-term l = All (λ t. length t.variables < 2 ^ 32) (take l.term-index l.terms)
