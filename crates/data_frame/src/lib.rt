@@ -25,7 +25,7 @@
 //!
 //! It stands on `csv` for the records, on `indexmap` for the places of names, and on `frac_core`
 //! for numbers and texts.
-//! Its tests stand in the crate `layer_tests`.
+//! Its tests stand in the crate `edge_tests`.
 //!
 //! `rq_input` calls it so:
 //! ```text

@@ -8,7 +8,7 @@
 //! `read_all` and `write_all` carry that over to whole runs.
 //!
 //! It stands on `frac_core` for `OutOfMemory` alone.
-//! Its tests stand in the crate `layer_tests`.
+//! Its tests stand in the crate `edge_tests`.
 //!
 //! `rq_cli` reads and writes so:
 //! ```text

@@ -9,7 +9,7 @@
 //! `nested_test` and `lambda_path` for what a job asks besides, on `rank_inversion` for rank intervals, on `table_maker`
 //! for generated tables, on `cert_text` and `cert_checker` for certificates, and on `report_text` for the types
 //! that it answers with.
-//! Its tests are those of whole runs, in the crates `run_tests` and `cases`.
+//! Its tests are those of whole runs, in the crates `edge_tests` and `cases`.
 //!
 //! `rq_cli` calls it so:
 //! ```text

@@ -4,7 +4,7 @@
 //! relation that the jobs' type states for its `work`, whatever the order in which the jobs end. Where that relation
 //! admits one answer, it is the one that a single thread would give; elsewhere that is tested, by runs without a second
 //! thread. Each half of the list belongs to one side of a `join`: nothing is shared, and nothing is locked. That two
-//! jobs run at once is said by no clause; a test of `layer_tests` shows it, through jobs that wait for each other.
+//! jobs run at once is said by no clause; a test of `edge_tests` shows it, through jobs that wait for each other.
 //!
 //! It stands on `frac_core` for `OutOfMemory` alone.
 //!

@@ -34,10 +34,6 @@ fn values_cross_threads() {
     crosses::<Frac64>();
     crosses::<Op<Frac128>>();
     all_cross::<Frac128>();
-}
-
-#[test]
-fn jobs_cross_threads() {
     crosses::<Job>();
     crosses::<WordFault>();
 }

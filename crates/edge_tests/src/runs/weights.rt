@@ -1,7 +1,8 @@
 //! Runs with weights. The reports were worked out apart from the program: those of two records by hand,
 //! those of a line by the pivot rule in fractions and the least loss over all bases.
 
-use crate::helpers::{Left, ran_on};
+use crate::helpers::{put_record, text_of};
+use crate::runs::helpers::{Left, ran_on};
 use std::alloc::Global;
 use std::process::Abort;
 use std::str::from_utf8;
@@ -13,22 +14,18 @@ fn drawn(state: &mut u32) -> u32 {
 }
 
 // A table with weights from 0 to 3, and the table that has each of its records so many times.
-fn repeated_tables(alloc: Global, number: u32) -> Option<(String, String)> {
+fn repeated_tables(rt: &impl Abort, alloc: Global, number: u32) -> (String, String) {
     let mut state = number;
-    let mut weighted = String::from_str(alloc, "y,x,w\n0,0,1\n").ok()?;
-    let mut repeated = String::from_str(alloc, "y,x\n0,0\n").ok()?;
+    let mut weighted = text_of(rt, alloc, "y,x,w\n0,0,1\n");
+    let mut repeated = text_of(rt, alloc, "y,x\n0,0\n");
     for x in 1..8 {
         let (y, weight) = (drawn(&mut state) % 50, drawn(&mut state) % 4);
-        weighted
-            .push_str(&format!(in alloc; "{y},{x},{weight}\n").ok()?)
-            .ok()?;
+        put_record(rt, alloc, &mut weighted, &[y, x, weight]);
         for _ in 0..weight {
-            repeated
-                .push_str(&format!(in alloc; "{y},{x}\n").ok()?)
-                .ok()?;
+            put_record(rt, alloc, &mut repeated, &[y, x]);
         }
     }
-    Some((weighted, repeated))
+    (weighted, repeated)
 }
 
 // What a report says of the loss; nothing where the run printed none.
@@ -56,7 +53,7 @@ fn words_at(alloc: Global, tenths: u32) -> Option<(String, String)> {
 fn whole_weights_are_repeated_records(rt: HostRuntime) {
     for number in 0..30 {
         let (line, weighing) = words_at(rt.alloc(), number % 9 + 1).expect(&rt, "memory");
-        let (weighted, repeated) = repeated_tables(rt.alloc(), number).expect(&rt, "memory");
+        let (weighted, repeated) = repeated_tables(&rt, rt.alloc(), number);
         let once = ran_on(&rt, rt.alloc(), &weighing, weighted.as_bytes());
         let often = ran_on(&rt, rt.alloc(), &line, repeated.as_bytes());
         assert_same_loss(&rt, loss_of(&once), loss_of(&often), &weighted);

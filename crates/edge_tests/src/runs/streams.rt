@@ -1,10 +1,18 @@
 //! Sources and sinks that fail in their midst: a prefix of the report is printed, and a line is told.
 
-use crate::helpers::{Left, Outputs, REPORT, TABLE, copied, ran};
+use crate::helpers::copied;
+use crate::runs::helpers::{Left, MEDIAN, Outputs, SOUND, assert_printed, expect_left, ran};
 use port_io::MemSource;
 use std::alloc::Global;
 use std::process::Abort;
 use std::thread::Threads;
+
+// A table of one column.
+static TABLE: &str = "y\n1\n2\n3\n";
+
+// Its report at the median.
+static REPORT: &str =
+    "quantreg 1\nrecords 3 dropped 0\ncolumn 1 (Intercept)\ndata 3 penalty 0\npivots 1\nsegment 1 1/2 1/2\ncoef 1 2\nloss 1 1\nscores 0*1\nbasic 2 1/2 1/2\nend\n";
 
 /// The read that fails, the room of standard output, its write that fails, and that of standard error; none fails at 0.
 type Failing = (u32, usize, u32, u32);
@@ -31,9 +39,6 @@ static STREAMS: [(Failing, (u8, usize), &str); 17] = [
     ((0, 4096, 0, 1), (0, 145), ""),
 ];
 
-// The words of the job that TABLE and REPORT belong to.
-const MEDIAN: &str = "process|--formula|y ~ 1|--lo|1/2|--hi|1/2";
-
 // The run of TABLE and REPORT over streams that may fail.
 fn ran_through<R: Abort + Threads + Sync>(
     rt: &R,
@@ -44,23 +49,29 @@ fn ran_through<R: Abort + Threads + Sync>(
     let mut source = MemSource::new(bytes, 4, copied(rt, alloc, &[read]));
     let outputs = Outputs {
         room,
+        piece: 5,
         write,
         telling,
     };
-    ran(rt, alloc, MEDIAN, &mut source, &outputs)
-}
-
-fn assert_left(rt: &impl Abort, left: &Left, (status, printed): (u8, usize), told: &str) {
-    assert!(rt; left.status == status, "{told:?} {printed}");
-    assert!(rt; left.printed.len() == printed, "{told:?}");
-    assert!(rt; REPORT.as_bytes().starts_with(&left.printed), "{told:?}");
-    assert!(rt; left.told.as_slice() == told.as_bytes(), "{told:?}");
+    ran(rt, alloc, MEDIAN, &mut source, outputs)
 }
 
 #[test]
 fn failing_streams_leave_a_prefix_and_a_line(rt: HostRuntime) {
-    for (failing, outcome, told) in &STREAMS {
+    for (failing, (status, length), told) in &STREAMS {
         let left = ran_through(&rt, rt.alloc(), *failing);
-        assert_left(&rt, &left, *outcome, told);
+        expect_left(&rt, &left, *status, (REPORT, *length), told);
     }
+}
+
+// The first read of a generated table's source would fail, and all others too.
+#[test]
+fn the_source_is_left_alone(rt: HostRuntime) {
+    let line = "sample|--number|1|--rows|2|--columns|1|--lo|0|--hi|1";
+    let summary =
+        "quantreg sample 1\nrecords 2 dropped 0\ncolumns 2\nsegments 1\npivots 0\nloss 0 0\nend\n";
+    let fails = copied(&rt, rt.alloc(), &[1, 2, 3]);
+    let mut source = MemSource::new(copied(&rt, rt.alloc(), TABLE.as_bytes()), 4, fails);
+    let left = ran(&rt, rt.alloc(), line, &mut source, SOUND);
+    assert_printed(&rt, &left, summary);
 }

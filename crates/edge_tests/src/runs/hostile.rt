@@ -1,11 +1,11 @@
 //! A table that is cut after each of its bytes, and one whose reading or printing fails at each call.
 //! The answers were worked out by hand from the rules.
 
-use crate::helpers::{
-    Left, SOUND, assert_printed, assert_refused, copied, ran, ran_on, ran_past, sink,
+use crate::helpers::copied;
+use crate::runs::helpers::{
+    Left, Outputs, SOUND, assert_printed, assert_refused, expect_left, ran, ran_on,
 };
 use port_io::{MemSource, SureSource};
-use rq_fan::Open;
 use std::alloc::Global;
 use std::process::Abort;
 use std::thread::Threads;
@@ -56,40 +56,41 @@ fn cut_report(left: usize) -> &'static str {
 }
 
 #[test]
-fn a_table_is_read_byte_by_byte(rt: HostRuntime) {
-    let bytes = copied(&rt, rt.alloc(), LINE.as_bytes());
-    let mut source = MemSource::new(bytes, 1, copied(&rt, rt.alloc(), &[0]));
-    let left = ran(&rt, rt.alloc(), WHOLE, &mut source, &SOUND);
-    assert_printed(&rt, &left, WHOLE_REPORT, "byte by byte");
-}
-
-#[test]
 fn a_cut_table_is_read_as_far_as_it_goes(rt: HostRuntime) {
     for (bytes, told) in CUTS.iter().enumerate() {
         let left = ran_on(&rt, rt.alloc(), WHOLE, &LINE.as_bytes()[..bytes]);
         if told.is_empty() {
-            assert_printed(&rt, &left, cut_report(bytes), told);
+            assert_printed(&rt, &left, cut_report(bytes));
         } else {
-            assert_refused(&rt, &left, 1, told, told);
+            assert_refused(&rt, &left, 1, told);
         }
     }
 }
 
-// The run of the whole table over a source that takes 3 bytes a read, and whose read of this number fails.
-fn ran_with_a_fault<R: Abort + Threads + Sync>(rt: &R, alloc: Global, read: u32) -> Left {
+// The run of the whole table over a source that takes so many bytes a read, and whose read of this number fails.
+fn ran_in_pieces<R: Abort + Threads + Sync>(
+    rt: &R,
+    alloc: Global,
+    piece: usize,
+    read: u32,
+) -> Left {
+    assert!(rt; piece > 0);
     let bytes = copied(rt, alloc, LINE.as_bytes());
-    let mut source = MemSource::new(bytes, 3, copied(rt, alloc, &[read]));
-    ran(rt, alloc, WHOLE, &mut source, &SOUND)
+    let mut source = MemSource::new(bytes, piece, copied(rt, alloc, &[read]));
+    ran(rt, alloc, WHOLE, &mut source, SOUND)
 }
 
 #[test]
 fn each_read_may_fail(rt: HostRuntime) {
     for read in 1..8 {
-        let left = ran_with_a_fault(&rt, rt.alloc(), read);
-        assert_refused(&rt, &left, 3, "quantreg: source: SourceFault\n", "read");
+        let left = ran_in_pieces(&rt, rt.alloc(), 3, read);
+        assert_refused(&rt, &left, 3, "quantreg: source: SourceFault\n");
     }
-    let left = ran_with_a_fault(&rt, rt.alloc(), 8);
-    assert_printed(&rt, &left, WHOLE_REPORT, "no eighth read");
+    // There is no eighth read; and the table is read byte by byte.
+    for (piece, read) in [(3, 8), (1, 0)] {
+        let left = ran_in_pieces(&rt, rt.alloc(), piece, read);
+        assert_printed(&rt, &left, WHOLE_REPORT);
+    }
 }
 
 static SINK_FAULT: &str = "quantreg: sink: SinkFault\n";
@@ -97,9 +98,13 @@ static SINK_FAULT: &str = "quantreg: sink: SinkFault\n";
 // The run of the whole table into a sink that takes 16 bytes a write, and whose write of this number fails.
 fn printed_with_a_fault<R: Abort + Threads + Sync>(rt: &R, alloc: Global, write: u32) -> Left {
     let mut source = SureSource::new(copied(rt, alloc, LINE.as_bytes()));
-    let out = sink(rt, alloc, (4096, 16), write);
-    let err = sink(rt, alloc, (4096, 16), 0);
-    ran_past(rt, alloc, WHOLE, &mut source, (out, err), &Open)
+    let outputs = Outputs {
+        room: 4096,
+        piece: 16,
+        write,
+        telling: 0,
+    };
+    ran(rt, alloc, WHOLE, &mut source, outputs)
 }
 
 #[test]
@@ -108,14 +113,9 @@ fn each_write_may_fail(rt: HostRuntime) {
     for (index, _) in WHOLE_REPORT.as_bytes().chunks(16).enumerate() {
         writes = writes.wrapping_add(1);
         let left = printed_with_a_fault(&rt, rt.alloc(), writes);
-        assert!(rt; left.status == 4, "{writes}");
-        assert!(rt; left.told.as_slice() == SINK_FAULT.as_bytes(), "{writes}");
-        assert!(rt; left.printed.len() == index.wrapping_mul(16), "{writes}");
-        assert!(rt;
-            WHOLE_REPORT.as_bytes().starts_with(&left.printed),
-            "{writes}"
-        );
+        let length = index.wrapping_mul(16);
+        expect_left(&rt, &left, 4, (WHOLE_REPORT, length), SINK_FAULT);
     }
     let left = printed_with_a_fault(&rt, rt.alloc(), writes.wrapping_add(1));
-    assert_printed(&rt, &left, WHOLE_REPORT, "no write is left");
+    assert_printed(&rt, &left, WHOLE_REPORT);
 }

@@ -1,15 +1,14 @@
-//! Tests of what stands beside the solver and is no case of `cases`: streams of bytes that fail (`port_io`), jobs at once (`rq_fan`),
-//! what may be handed to another thread, and answers of 64 bits in 128 (`loss_model`); the largest tables (`data_frame`), formulas
+//! Tests of what a case of `cases` can't hold. Of layers: streams of bytes that fail (`port_io`), jobs at once (`rq_fan`), what may be
+//! handed to another thread, and answers of 64 bits in 128 (`loss_model`); the largest tables (`data_frame`), formulas
 //! (`formula_grammar` and `formula_parser`) and certificates (`cert_text`), and penalty rows of single coefficients (`tv_penalty`); and the
-//! lines of faults and the reports of rank tests and predictions, byte for byte (`report_text`).
+//! lines of faults and the reports of rank tests and predictions, byte for byte (`report_text`). Of whole runs (`rq_cli`): streams
+//! that fail, a table that is cut after each of its bytes, jobs that meet at a gate, tables as large as can be, and drawn weights.
 //!
 //! What is tested is what no clause says, and that the definitions say what was meant: each answer was worked out apart from the program.
 #![tactic(auto)]
 
 #[cfg(test)]
 mod certificates;
-#[cfg(test)]
-mod columns;
 #[cfg(test)]
 mod fault_lines;
 #[cfg(test)]
@@ -19,19 +18,19 @@ mod helpers;
 #[cfg(test)]
 mod jobs;
 #[cfg(test)]
-mod nested;
+mod meeting;
 #[cfg(test)]
 mod penalties;
 #[cfg(test)]
-mod predictions;
-#[cfg(test)]
 mod readings;
-#[cfg(test)]
-mod records;
 #[cfg(test)]
 mod reports;
 #[cfg(test)]
+mod runs;
+#[cfg(test)]
 mod streams;
+#[cfg(test)]
+mod tables;
 #[cfg(test)]
 mod threads;
 #[cfg(test)]

@@ -2,10 +2,10 @@
 ghost use Rattle.std.specs.Prelude.{⊤};
 
 use crate::helpers::push;
-use rq_fan::{Work, run_jobs};
+use crate::meeting::Meeting;
+use rq_fan::{Gate, Work, run_jobs};
 use std::alloc::Global;
 use std::process::Abort;
-use std::sync::atomic::{AtomicBool, Ordering};
 use std::thread::Threads;
 
 /// A job that squares a number.
@@ -57,41 +57,34 @@ fn many_squares_in_order(rt: HostRuntime) {
     }
 }
 
-/// How often a job looks for the other before it gives up.
-const MOST_LOOKS: u32 = 100_000_000;
-
-/// A job that tells that it is under way, and answers whether it saw that the other one is.
+/// A job that passes a gate.
 #[derive(Drop)]
-struct Meeting<'a> {
-    mine: &'a AtomicBool,
-    other: &'a AtomicBool,
+struct Passing<'a> {
+    gate: &'a Meeting,
+    place: u32,
 }
 
-impl<'a> Work for Meeting<'a> {
-    type Answer = bool;
+impl<'a> Work for Passing<'a> {
+    type Answer = u32;
 
     ghost answers = { λ job answer. ⊤ };
 
-    fn work(self) -> bool {
-        self.mine.store(true, Ordering::SeqCst);
-        for _ in 0..MOST_LOOKS {
-            if self.other.load(Ordering::SeqCst) {
-                return true;
-            }
-        }
-        false
+    fn work(self) -> u32 {
+        self.gate.enter(self.place);
+        self.place
     }
 }
 
-static BOTH_MET: [bool; 2] = [true, true];
+static PLACES: [u32; 2] = [0, 1];
 
 #[test]
 fn fan_gate(rt: HostRuntime) {
-    let (first, second) = (AtomicBool::new(false), AtomicBool::new(false));
+    let gate = Meeting::new();
     let mut jobs = Vec::new(rt.alloc());
-    for (mine, other) in [(&first, &second), (&second, &first)] {
-        push(&rt, &mut jobs, Meeting { mine, other });
+    for place in 0..2 {
+        push(&rt, &mut jobs, Passing { gate: &gate, place });
     }
-    let met = run_jobs(&rt, rt.alloc(), jobs).expect(&rt, "memory");
-    assert!(rt; met.as_slice() == BOTH_MET.as_slice());
+    let places = run_jobs(&rt, rt.alloc(), jobs).expect(&rt, "memory");
+    assert!(rt; places.as_slice() == PLACES.as_slice());
+    assert!(rt; gate.took_place());
 }

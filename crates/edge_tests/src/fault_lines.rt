@@ -172,12 +172,6 @@ fn expect_limit(rt: &impl Abort, alloc: Global, place: Place, want: &str) {
     expect_line(rt, alloc, halt, want);
 }
 
-#[test]
-fn a_limit_is_told_with_its_place(rt: HostRuntime) {
-    let want = "quantreg: solver: PivotLimit place=process limit=2\n";
-    expect_limit(&rt, rt.alloc(), Place::Process, want);
-}
-
 // The numerator and the denominator of the quantile of an interval of column 12, and the line.
 static QUANTILES: [(i128, i128, &str); 2] = [
     (
@@ -193,7 +187,9 @@ static QUANTILES: [(i128, i128, &str); 2] = [
 ];
 
 #[test]
-fn an_interval_is_told_by_its_column_and_quantile(rt: HostRuntime) {
+fn a_limit_is_told_with_its_place(rt: HostRuntime) {
+    let want = "quantreg: solver: PivotLimit place=process limit=2\n";
+    expect_limit(&rt, rt.alloc(), Place::Process, want);
     for (n, d, want) in &QUANTILES {
         let place = Place::Interval {
             column: 11,
@@ -203,27 +199,19 @@ fn an_interval_is_told_by_its_column_and_quantile(rt: HostRuntime) {
     }
 }
 
-fn expect_place(rt: &impl Abort, alloc: Global, place: Place, want: &str) {
+fn expect_overflow(rt: &impl Abort, alloc: Global, place: Place, want: &str) {
     let halt = overflow(rt, alloc, place, Quantity::Gram, Add);
     expect_line(rt, alloc, halt, want);
 }
 
 #[test]
-fn the_start_of_a_test_is_told(rt: HostRuntime) {
+fn an_overflow_is_told_with_its_place(rt: HostRuntime) {
     let want =
         "quantreg: solver: Overflow place=full quantity=gram at=5,2 term=9 op=add left=7/2 right=-3\n";
-    expect_place(&rt, rt.alloc(), Place::Full, want);
-}
-
-#[test]
-fn the_costs_of_a_path_are_told(rt: HostRuntime) {
+    expect_overflow(&rt, rt.alloc(), Place::Full, want);
     let want =
         "quantreg: solver: Overflow place=path quantity=gram at=5,2 term=9 op=add left=7/2 right=-3\n";
-    expect_place(&rt, rt.alloc(), Place::Path, want);
-}
-
-#[test]
-fn a_prediction_is_told_by_its_record(rt: HostRuntime) {
+    expect_overflow(&rt, rt.alloc(), Place::Path, want);
     let place = Place::Predict { rec: 4 };
     let halt = overflow(&rt, rt.alloc(), place, Quantity::Prediction, Mul);
     let want =
@@ -236,60 +224,39 @@ fn expect_refusal(rt: &impl Abort, alloc: Global, refusal: Refusal, want: &str) 
 }
 
 #[test]
-fn a_smooth_is_not_taken(rt: HostRuntime) {
+fn what_a_job_does_not_take_is_told(rt: HostRuntime) {
     let want = "quantreg: job: SmoothNotTaken\n";
     expect_refusal(&rt, rt.alloc(), Refusal::SmoothNotTaken, want);
-}
-
-#[test]
-fn a_column_that_is_missing_is_told_as_it_was_given(rt: HostRuntime) {
     let want = "quantreg: test: NoSuchColumn column=0\n";
     expect_refusal(&rt, rt.alloc(), Refusal::NoSuchColumn { column: 0 }, want);
-}
-
-#[test]
-fn a_test_of_all_columns_is_told(rt: HostRuntime) {
     let want = "quantreg: test: AllTested\n";
     expect_refusal(&rt, rt.alloc(), Refusal::AllTested, want);
-}
-
-#[test]
-fn no_prediction_is_told(rt: HostRuntime) {
     let want = "quantreg: predict: NothingToPredict\n";
     expect_refusal(&rt, rt.alloc(), Refusal::NothingToPredict, want);
+    let refusal = Refusal::TooManyPredictions { found: 65 };
+    let want = "quantreg: predict: TooManyPredictions found=65\n";
+    expect_refusal(&rt, rt.alloc(), refusal, want);
+}
+
+fn expect_design(rt: &impl Abort, alloc: Global, fault: DesignFault, want: &str) {
+    expect_refusal(rt, alloc, Refusal::Design(fault), want);
 }
 
 #[test]
-fn many_predictions_are_counted(rt: HostRuntime) {
-    let want = "quantreg: predict: TooManyPredictions found=65\n";
-    expect_refusal(
+fn faults_of_designs_are_told(rt: HostRuntime) {
+    let factor = text(&rt, rt.alloc(), "f");
+    let want = "quantreg: design: UnknownLevel record=3 factor=f\n";
+    expect_design(
         &rt,
         rt.alloc(),
-        Refusal::TooManyPredictions { found: 65 },
+        DesignFault::UnknownLevel { rec: 3, factor },
         want,
     );
-}
-
-#[test]
-fn an_unknown_level_is_told_with_its_record(rt: HostRuntime) {
-    let factor = text(&rt, rt.alloc(), "f");
-    let fault = DesignFault::UnknownLevel { rec: 3, factor };
-    let want = "quantreg: design: UnknownLevel record=3 factor=f\n";
-    expect_refusal(&rt, rt.alloc(), Refusal::Design(fault), want);
-}
-
-#[test]
-fn a_factor_in_an_arithmetic_is_named(rt: HostRuntime) {
     let name = text(&rt, rt.alloc(), "f");
-    let fault = DesignFault::ArithNotNumeric { name };
     let want = "quantreg: design: ArithNotNumeric name=f\n";
-    expect_refusal(&rt, rt.alloc(), Refusal::Design(fault), want);
-}
-
-#[test]
-fn an_arithmetic_of_a_design_is_told(rt: HostRuntime) {
-    let fault = DesignFault::Overflow(spill_of(&rt, Quantity::ArithValue, Mul));
+    expect_design(&rt, rt.alloc(), DesignFault::ArithNotNumeric { name }, want);
+    let spill = spill_of(&rt, Quantity::ArithValue, Mul);
     let want =
         "quantreg: design: Overflow quantity=arith-value at=4,2 term=9 op=mul left=7/2 right=-3\n";
-    expect_refusal(&rt, rt.alloc(), Refusal::Design(fault), want);
+    expect_design(&rt, rt.alloc(), DesignFault::Overflow(spill), want);
 }

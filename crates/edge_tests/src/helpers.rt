@@ -23,6 +23,11 @@ pub(crate) fn add<T: Drop>(rt: &impl Abort, items: &mut List<T>, item: T) {
     assert!(rt; items.push(item).is_ok());
 }
 
+/// The same items.
+pub(crate) fn copied<T: Copy + Drop>(rt: &impl Abort, alloc: Global, items: &[T]) -> Vec<T> {
+    Vec::from_slice(alloc, items).ok().expect(rt, "memory")
+}
+
 /// The fractions of pairs, in a list.
 pub(crate) fn list<F: Exact>(rt: &impl Abort, alloc: Global, values: &[Pair]) -> List<F> {
     let mut made = List::new(alloc);
@@ -37,6 +42,18 @@ pub(crate) fn put(rt: &impl Abort, text: &mut String, piece: &str) {
     if text.push_str(piece).is_err() {
         panic!(rt; "no memory");
     }
+}
+
+/// Adds a record of numbers to a table.
+pub(crate) fn put_record(rt: &impl Abort, alloc: Global, table: &mut String, numbers: &[u32]) {
+    let mut mark = "";
+    for number in numbers {
+        let digits = number.to_string(alloc).ok().expect(rt, "memory");
+        put(rt, table, mark);
+        put(rt, table, digits.as_str());
+        mark = ",";
+    }
+    put(rt, table, "\n");
 }
 
 /// A first piece, another one many times, and a last one.
@@ -54,6 +71,11 @@ pub(crate) fn repeated(
     }
     put(rt, &mut text, last);
     text
+}
+
+/// The text of a piece alone.
+pub(crate) fn text_of(rt: &impl Abort, alloc: Global, piece: &str) -> String {
+    String::from_str(alloc, piece).ok().expect(rt, "memory")
 }
 
 /// The fault is this, as `Debug` writes it.

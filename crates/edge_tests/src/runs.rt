@@ -1,0 +1,8 @@
+//! Whole runs: words and a table go in, and every byte that is written is compared.
+
+mod gates;
+mod helpers;
+mod hostile;
+mod streams;
+mod tables;
+mod weights;
