@@ -5,7 +5,7 @@
 
 use crate::bodies::in_wholes;
 use crate::digest::digest_of;
-use crate::helpers::{Ratio, expect, fraction, push, solve, walk};
+use crate::helpers::{Ratio, data_row, expect, fraction, push, solve, walk};
 use br_pivot::Solved;
 use frac_core::{Exact, Frac128, List};
 use loss_model::{Problem, Process, Row};
@@ -14,24 +14,17 @@ use std::process::Abort;
 use test_kit::{draw, ratio};
 
 /// A number from 100 to 999.
-fn drawn(rt: &impl Abort, state: &mut u32) -> Frac128 {
+fn drawn(state: &mut u32) -> Ratio {
     let below = draw(state, 900);
-    fraction(rt, (i128::from(below) + 100, 1))
+    (i128::from(below) + 100, 1)
 }
 
 fn drawn_row(rt: &impl Abort, alloc: Global, columns: u32, state: &mut u32) -> Row<Frac128> {
     let mut x = Vec::new(alloc);
     for _ in 0..columns {
-        push(rt, &mut x, drawn(rt, state));
+        push(rt, &mut x, fraction(rt, drawn(state)));
     }
-    Row {
-        x: List::from(x),
-        y: drawn(rt, state),
-        up0: fraction(rt, (0, 1)),
-        up1: fraction(rt, (1, 1)),
-        down0: fraction(rt, (1, 1)),
-        down1: fraction(rt, (-1, 1)),
-    }
+    data_row(rt, List::from(x), drawn(state), (1, 1))
 }
 
 fn drawn_table(rt: &impl Abort, alloc: Global, columns: u32) -> Problem<Frac128> {

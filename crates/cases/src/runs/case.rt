@@ -8,11 +8,17 @@ pub(crate) enum Wanted<'a> {
     Fault { status: u8, line: &'a str },
 }
 
-/// What a run reads: lines with semicolons between them; or a text in pieces.
+/// What a run reads: lines with semicolons between them; or the text that the cases of a file share, in which another one stands
+/// between two pieces; or a text alone.
 #[derive(Clone, Copy)]
 pub(crate) enum Input<'a> {
     Lines(&'a str),
-    Text([&'a str; 4]),
+    Changed {
+        before: &'a str,
+        to: &'a str,
+        after: &'a str,
+    },
+    Whole(&'a str),
 }
 
 /// The words of a run with bars between them, those of a run that reads what it has printed, where there is one, what it reads itself, and
@@ -43,16 +49,16 @@ fn wanted_of(text: &str) -> Wanted<'_> {
     }
 }
 
-// What the line of a case says that is read: a text alone, or the one that is shared, in which another stands in place of its first.
+// What the line of a case says that is read. None, where what is changed isn't shared.
 fn input_of<'a>(shared: &'a str, line: &'a str) -> Option<Input<'a>> {
     let Some((from, to)) = line.split_once(" => ") else {
         return Some(Input::Lines(line));
     };
     if from.is_empty() {
-        return Some(Input::Text([to, "", "", ""]));
+        return Some(Input::Whole(to));
     }
     let (before, after) = shared.split_once(from)?;
-    Some(Input::Text([before, to, after, "\n"]))
+    Some(Input::Changed { before, to, after })
 }
 
 /// The text that the cases of a file share: the line above the first of them.

@@ -3,13 +3,11 @@
 ghost use Rattle.std.specs.Prelude.{◌≡◌, ◌<◌, length};
 ghost use Rattle.rank_inversion.specs.GramStops.{IsInverted};
 
-use crate::helpers::{Ratio, expect, fraction};
-use crate::intervals::helpers::problem;
+use crate::helpers::{Data, Ratio, expect, fraction, problem};
 use basis_inverse::Inverse;
 use frac_core::{Exact, Frac64, Frac128};
 use loss_model::Problem;
 use rank_inversion::{Asked, GramInverse, gram_inverse, rank_test};
-use slow_ranks::Data;
 use std::alloc::Global;
 use std::process::Abort;
 use test_kit::{are_data, is_shaped, ratio};
@@ -44,7 +42,7 @@ fn expect_entries<F: Exact>(rt: &impl Abort, inverse: &Inverse<F>)
 }
 
 fn expect_inverse<F: Exact>(rt: &impl Abort, alloc: Global) {
-    let rows = problem::<F>(rt, alloc, 2, WEIGHTED.as_slice());
+    let rows = problem::<F>(rt, alloc, 2, 1, WEIGHTED.as_slice());
     let found = gram(rt, alloc, &rows);
     assert!(rt; found.basis.rows.as_slice() == [0, 1].as_slice());
     expect_entries(rt, &found.inverse);
@@ -68,7 +66,7 @@ const CASES: [Case; 2] = [
 ];
 
 fn expect_test<F: Exact>(rt: &impl Abort, alloc: Global, (column, factors, length): Case) {
-    let rows = problem::<F>(rt, alloc, 2, WEIGHTED.as_slice());
+    let rows = problem::<F>(rt, alloc, 2, 1, WEIGHTED.as_slice());
     let asked = Asked {
         column,
         tau: fraction(rt, (1, 3)),

@@ -11,10 +11,9 @@ use slow_ranks::{
     CRITICAL, Data, Ends, Parts, QUANTILES, RankTest, Ratio, Vertex, after, before, draw,
     draw_table, rank_test,
 };
-use std::alloc::{AllocError, Global};
+use std::alloc::Global;
 use std::num::Wrapping;
 use std::process::Abort;
-use std::test::Fail;
 
 /// An interval that was worked by hand: of a column, at the median, with a critical value. `None` is an
 /// infinite end.
@@ -124,14 +123,14 @@ struct Tested {
 }
 
 impl Tested {
-    fn new(alloc: Global, test: RankTest) -> Result<Tested, AllocError> {
-        let vertices = test.vertices(alloc)?;
-        let values = test.coefficients(alloc)?;
-        Ok(Tested {
+    fn new(rt: &impl Abort, alloc: Global, test: RankTest) -> Tested {
+        let vertices = test.vertices(alloc).ok().expect(rt, "memory");
+        let values = test.coefficients(alloc).ok().expect(rt, "memory");
+        Tested {
             test,
             vertices,
             values,
-        })
+        }
     }
 
     fn ends(&self) -> Ends {
@@ -161,27 +160,23 @@ impl Tested {
     }
 }
 
-fn median_test(
+fn tested(
+    rt: &impl Abort,
     alloc: Global,
     table: (usize, &[Data]),
     column: usize,
-    crit: Parts,
-) -> Result<Tested, AllocError> {
-    Tested::new(
-        alloc,
-        rank_test(alloc, table, column, ([1, 2], fraction(crit)))?,
-    )
+    asked: (Parts, Ratio),
+) -> Tested {
+    let test = rank_test(alloc, table, column, asked)
+        .ok()
+        .expect(rt, "memory");
+    Tested::new(rt, alloc, test)
 }
 
 /// The interval that was worked by hand has the ends that the least losses give, and holds what the dual
 /// vertices say.
-fn expect(
-    rt: &impl Abort,
-    alloc: Global,
-    table: (usize, &[Data]),
-    case: &Case,
-) -> Result<(), AllocError> {
-    let found = median_test(alloc, table, case.column, case.crit)?;
+fn expect(rt: &impl Abort, alloc: Global, table: (usize, &[Data]), case: &Case) {
+    let found = tested(rt, alloc, table, case.column, ([1, 2], fraction(case.crit)));
     let want = Ends {
         low: bound(case.low),
         high: bound(case.high),
@@ -189,36 +184,31 @@ fn expect(
     let ends = found.ends();
     assert!(rt; are_same(ends.low, want.low) && are_same(ends.high, want.high));
     assert!(rt; found.agrees(&want));
-    Ok(())
+    drop(found);
 }
 
 #[test]
-fn interval_of_five(rt: HostRuntime) -> Result<(), Fail> {
-    for case in OF_FIVE.as_slice() {
-        expect(&rt, rt.alloc(), (1, FIVE.as_slice()), case)?;
+fn intervals_by_hand(rt: HostRuntime) {
+    for case in &OF_FIVE {
+        expect(&rt, rt.alloc(), (1, FIVE.as_slice()), case);
     }
-    Ok(())
-}
-
-#[test]
-fn intervals_of_a_line(rt: HostRuntime) -> Result<(), Fail> {
-    for case in OF_LINE.as_slice() {
-        expect(&rt, rt.alloc(), (2, LINE.as_slice()), case)?;
+    for case in &OF_LINE {
+        expect(&rt, rt.alloc(), (2, LINE.as_slice()), case);
     }
-    Ok(())
 }
 
 #[test]
-fn wrong_ends_are_seen(rt: HostRuntime) -> Result<(), Fail> {
-    let found = median_test(rt.alloc(), (1, FIVE.as_slice()), 0, [1, 1])?;
-    for (low, high) in WRONG.as_slice() {
+fn wrong_ends_are_seen(rt: HostRuntime) {
+    let asked = ([1, 2], Ratio::whole(1));
+    let found = tested(&rt, rt.alloc(), (1, FIVE.as_slice()), 0, asked);
+    for (low, high) in &WRONG {
         let ends = Ends {
             low: bound(*low),
             high: bound(*high),
         };
         assert!(rt; !found.agrees(&ends));
     }
-    Ok(())
+    drop(found);
 }
 
 /// How many tables of full rank were tried, and how many ends were finite and infinite.
@@ -248,42 +238,37 @@ impl Counts {
 
 /// The intervals of a column, with a drawn critical value and with one that ties with a statistic;
 /// `false` where the columns are dependent.
-fn try_column(rt: &impl Abort, state: &mut u32, counts: &mut Counts, mut found: Tested) -> bool {
+fn try_column(rt: &impl Abort, state: &mut u32, counts: &mut Counts, found: &mut Tested) -> bool {
     let count = found.values.len();
     if count == 0 {
         return false;
     }
-    counts.try_interval(rt, &found);
+    counts.try_interval(rt, found);
     let place = draw(state, 1000) as usize % count;
     found.test.crit = found.test.tie(found.values.as_slice(), found.values[place]);
-    counts.try_interval(rt, &found);
+    counts.try_interval(rt, found);
     true
 }
 
-fn try_table(
-    rt: &impl Abort,
-    alloc: Global,
-    state: &mut u32,
-    counts: &mut Counts,
-    columns: usize,
-) -> Result<(), AllocError> {
-    let table = draw_table(alloc, state, columns)?;
+fn try_table(rt: &impl Abort, alloc: Global, state: &mut u32, counts: &mut Counts, columns: usize) {
+    let table = draw_table(alloc, state, columns).ok().expect(rt, "memory");
     let tau = QUANTILES[draw(state, 4) as usize];
     let mut has_rank = true;
     for column in 0..columns {
         let crit = fraction(CRITICAL[draw(state, 6) as usize]);
-        let test = rank_test(alloc, (columns, table.as_slice()), column, (tau, crit))?;
-        has_rank = try_column(rt, state, counts, Tested::new(alloc, test)?);
+        let mut found = tested(rt, alloc, (columns, table.as_slice()), column, (tau, crit));
+        has_rank = try_column(rt, state, counts, &mut found);
+        drop(found);
     }
     if has_rank {
         counts.tables = counts.tables.wrapping_add(1);
     }
-    Ok(())
+    drop(table);
 }
 
 /// The numbers of tables and ends come from an enumeration that is no part of this program.
 #[test]
-fn two_ways_agree(rt: HostRuntime) -> Result<(), Fail> {
+fn two_ways_agree(rt: HostRuntime) {
     let mut state = 1;
     let mut counts = Counts {
         tables: 0,
@@ -291,7 +276,7 @@ fn two_ways_agree(rt: HostRuntime) -> Result<(), Fail> {
         infinite: 0,
     };
     for number in 0..79 {
-        try_table(&rt, rt.alloc(), &mut state, &mut counts, number % 3 + 1)?;
+        try_table(&rt, rt.alloc(), &mut state, &mut counts, number % 3 + 1);
     }
     let Counts {
         tables,
@@ -302,5 +287,4 @@ fn two_ways_agree(rt: HostRuntime) -> Result<(), Fail> {
         (tables, finite, infinite) == (60, 220, 208),
         "{tables} {finite} {infinite}"
     );
-    Ok(())
 }

@@ -1,7 +1,8 @@
 //! Intervals of drawn tables, compared with those of a slow program: of a drawn critical value, and of those at, just
 //! below and just above the statistic of a breakpoint. Of the 79 tables 66 have full rank.
 
-use crate::intervals::helpers::{Question, answered, in_wholes, problem};
+use crate::helpers::problem;
+use crate::intervals::helpers::{Question, answered, in_wholes};
 use frac_core::{Exact, Frac128};
 use loss_model::{Bound, Problem};
 use slow_ranks::{
@@ -114,7 +115,7 @@ fn tested_column(
         .expect(rt, "memory");
     let values = test.coefficients(alloc).ok().expect(rt, "memory");
     Tested {
-        problem: problem(rt, alloc, columns, table),
+        problem: problem(rt, alloc, columns, 1, table),
         column,
         test,
         values,

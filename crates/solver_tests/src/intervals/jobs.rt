@@ -1,12 +1,10 @@
 //! Rank intervals as jobs: they enter the gate with their places, and their answers stand in the jobs' order.
 
-use crate::helpers::{Ratio, fraction, push};
-use crate::intervals::helpers::problem;
+use crate::helpers::{Data, Ratio, fraction, problem, push};
 use frac_core::{Exact, Frac128};
 use loss_model::{Bound, Interval, Problem};
 use rank_inversion::IntervalJob;
 use rq_fan::{Gate, run_jobs};
-use slow_ranks::Data;
 use std::alloc::Global;
 use std::process::Abort;
 use std::sync::atomic::{AtomicU64, Ordering};
@@ -72,7 +70,7 @@ fn expect_ends(rt: &impl Abort, found: &Interval<Frac128>, (low, high): (Ratio, 
 
 #[test]
 fn both_columns_of_a_line(rt: HostRuntime) {
-    let line: Problem<Frac128> = problem(&rt, rt.alloc(), 2, &LINE);
+    let line: Problem<Frac128> = problem(&rt, rt.alloc(), 2, 1, &LINE);
     let gate = Tally {
         squares: AtomicU64::new(0),
     };

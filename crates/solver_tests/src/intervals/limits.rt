@@ -1,13 +1,12 @@
 //! Limits below the steps that an interval takes, dependent columns, and operations that overflow, each with its
 //! trail.
 
-use crate::helpers::{Ratio, Step, expect};
+use crate::helpers::{Data, Ratio, Step, expect, problem};
 use crate::intervals::helpers::{
-    Question, answered, expect_steps, problem, stopped, stopped_by_parts, whole_numbers_answer,
+    Question, answered, expect_steps, stopped, stopped_by_parts, whole_numbers_answer,
 };
 use frac_core::{Exact, Frac64, Frac128, OpKind};
 use loss_model::{Quantity, Site, Stop, Trail};
-use slow_ranks::Data;
 use std::alloc::Global;
 use std::process::Abort;
 use test_kit::ratio;
@@ -86,7 +85,7 @@ static LIMITED: [Path; 5] = [
 ];
 
 fn expect_limit<F: Exact>(rt: &impl Abort, alloc: Global, limit: u32, want: &Path) {
-    let rows = problem::<F>(rt, alloc, 1, FIVE.as_slice());
+    let rows = problem::<F>(rt, alloc, 1, 1, FIVE.as_slice());
     let stop = stopped(rt, alloc, &rows, OF_FIVE, limit);
     match &stop {
         Stop::PivotLimit {
@@ -113,13 +112,13 @@ fn limits_below_five_steps(rt: HostRuntime) {
 /// Whole numbers give no interval where a step is left at the limit, or a response has more than 64 bits.
 #[test]
 fn whole_numbers_refuse(rt: HostRuntime) {
-    let rows = problem::<Frac128>(&rt, rt.alloc(), 1, FIVE.as_slice());
+    let rows = problem::<Frac128>(&rt, rt.alloc(), 1, 1, FIVE.as_slice());
     for limit in 0..5 {
         assert!(&rt; !whole_numbers_answer(&rt, rt.alloc(), &rows, OF_FIVE, limit));
     }
     assert!(&rt; whole_numbers_answer(&rt, rt.alloc(), &rows, OF_FIVE, 5));
     drop(rows);
-    let high = problem::<Frac128>(&rt, rt.alloc(), 1, HIGH.as_slice());
+    let high = problem::<Frac128>(&rt, rt.alloc(), 1, 1, HIGH.as_slice());
     assert!(&rt; !whole_numbers_answer(&rt, rt.alloc(), &high, OF_FIVE, 100));
     drop(answered(&rt, rt.alloc(), &high, OF_FIVE, 100));
     drop(high);
@@ -127,7 +126,7 @@ fn whole_numbers_refuse(rt: HostRuntime) {
 
 #[test]
 fn five_steps_suffice(rt: HostRuntime) {
-    let rows = problem::<Frac128>(&rt, rt.alloc(), 1, FIVE.as_slice());
+    let rows = problem::<Frac128>(&rt, rt.alloc(), 1, 1, FIVE.as_slice());
     for limit in [5, 6, 100] {
         drop(answered(&rt, rt.alloc(), &rows, OF_FIVE, limit));
     }
@@ -144,7 +143,7 @@ static DEPENDENT: [Data; 4] = [
 
 #[test]
 fn dependent_columns(rt: HostRuntime) {
-    let rows = problem::<Frac128>(&rt, rt.alloc(), 3, DEPENDENT.as_slice());
+    let rows = problem::<Frac128>(&rt, rt.alloc(), 3, 1, DEPENDENT.as_slice());
     let question = Question {
         column: 1,
         tau: (1, 3),
@@ -339,7 +338,7 @@ static OVERFLOWS: [Overflow; 6] = [
 ];
 
 fn expect_overflow(rt: &impl Abort, alloc: Global, case: &Overflow) {
-    let rows = problem::<Frac64>(rt, alloc, case.columns, case.table);
+    let rows = problem::<Frac64>(rt, alloc, case.columns, 1, case.table);
     let stop = stopped_by_parts(rt, alloc, &rows, case.question, 100);
     match &stop {
         Stop::Overflow { trail, spill } => {

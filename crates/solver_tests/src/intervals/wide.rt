@@ -5,8 +5,8 @@
 ghost use Rattle.std.specs.Prelude.{◌≡◌, ◌<◌, length};
 ghost use Rattle.rank_inversion.specs.GramStops.{IsInverted};
 
-use crate::helpers::Ratio;
-use crate::intervals::helpers::{Question, Wide, answered, wide_problem};
+use crate::helpers::{Ratio, Wide, wide_problem};
+use crate::intervals::helpers::{Question, answered};
 use basis_inverse::{Inverse, start};
 use frac_core::{Exact, Frac128};
 use loss_model::{Bound, End, Problem, Stop};

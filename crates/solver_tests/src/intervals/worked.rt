@@ -1,10 +1,9 @@
 //! Intervals worked by hand, with their trails and all that their ends state.
 
-use crate::helpers::{Ratio, Step, expect};
-use crate::intervals::helpers::{Question, answered, expect_steps, problem};
+use crate::helpers::{Data, Ratio, Step, expect, problem};
+use crate::intervals::helpers::{Question, answered, expect_steps};
 use frac_core::{Exact, Frac64, Frac128};
 use loss_model::{Beyond, Bound, End, Interval, Side, widen_interval};
-use slow_ranks::Data;
 use std::alloc::Global;
 use std::process::Abort;
 use test_kit::ratio;
@@ -267,7 +266,7 @@ fn expect_case<F: Exact>(
     (columns, table): (u32, &[Data]),
     case: &Case,
 ) {
-    let rows = problem::<F>(rt, alloc, columns, table);
+    let rows = problem::<F>(rt, alloc, columns, 1, table);
     let found = answered(rt, alloc, &rows, question_of(case), 100);
     expect_interval(rt, &found, case);
     drop(found);
@@ -276,7 +275,7 @@ fn expect_case<F: Exact>(
 
 // The interval is found in 64 bits, and has the same values in 128.
 fn expect_widened(rt: &impl Abort, alloc: Global, (columns, table): (u32, &[Data]), case: &Case) {
-    let rows = problem::<Frac64>(rt, alloc, columns, table);
+    let rows = problem::<Frac64>(rt, alloc, columns, 1, table);
     let found = answered(rt, alloc, &rows, question_of(case), 100);
     let widened = widen_interval(alloc, &found).ok().expect(rt, "memory");
     expect_interval(rt, &widened, case);
