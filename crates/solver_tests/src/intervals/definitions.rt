@@ -160,7 +160,7 @@ impl Tested {
     }
 }
 
-fn tested(
+fn test_of(
     rt: &impl Abort,
     alloc: Global,
     table: (usize, &[Data]),
@@ -176,7 +176,7 @@ fn tested(
 /// The interval that was worked by hand has the ends that the least losses give, and holds what the dual
 /// vertices say.
 fn expect(rt: &impl Abort, alloc: Global, table: (usize, &[Data]), case: &Case) {
-    let found = tested(rt, alloc, table, case.column, ([1, 2], fraction(case.crit)));
+    let found = test_of(rt, alloc, table, case.column, ([1, 2], fraction(case.crit)));
     let want = Ends {
         low: bound(case.low),
         high: bound(case.high),
@@ -200,7 +200,7 @@ fn intervals_by_hand(rt: HostRuntime) {
 #[test]
 fn wrong_ends_are_seen(rt: HostRuntime) {
     let asked = ([1, 2], Ratio::whole(1));
-    let found = tested(&rt, rt.alloc(), (1, FIVE.as_slice()), 0, asked);
+    let found = test_of(&rt, rt.alloc(), (1, FIVE.as_slice()), 0, asked);
     for (low, high) in &WRONG {
         let ends = Ends {
             low: bound(*low),
@@ -256,7 +256,7 @@ fn try_table(rt: &impl Abort, alloc: Global, state: &mut u32, counts: &mut Count
     let mut has_rank = true;
     for column in 0..columns {
         let crit = fraction(CRITICAL[draw(state, 6) as usize]);
-        let mut found = tested(rt, alloc, (columns, table.as_slice()), column, (tau, crit));
+        let mut found = test_of(rt, alloc, (columns, table.as_slice()), column, (tau, crit));
         has_rank = try_column(rt, state, counts, &mut found);
         drop(found);
     }
