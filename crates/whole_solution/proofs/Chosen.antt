@@ -1,8 +1,8 @@
 -- Sides of all rows beside the rows near the fit, and after a step that far rows are not looked at.
-use Rattle.std.specs.Prelude.{◌≡◌, ◌⊎◌, ℕ, ℤ, ◌*◌, ◌<◌, ◌≤ℤ◌, Bool, true, false, List, All, length, pos}
+use Rattle.std.specs.Prelude.{◌≡◌, ◌⊎◌, ℕ, ℤ, ◌<◌, ◌≤◌, ◌≤ℤ◌, Bool, true, false, List, All, length, pos}
 use Rattle.std.proofs.Common.{arith, refl, sym, ap, subst, ◌∙◌, inl, inr}
 use Rattle.std.proofs.lemmas.Int.{ints}
-use Rattle.exact_algebra.specs.Rational.{ℚ, ◌≤ℚ◌}
+use Rattle.exact_algebra.specs.Rational.{ℚ, ◌+ℚ◌, ◌≤ℚ◌}
 use Rattle.exact_matrices.specs.Selections.{is_among}
 use Rattle.loss_model.specs.declared.vertex.Side.{Side}
 use Rattle.loss_model.specs.declared.vertex.Side.TheVariants.{Basic}
@@ -13,9 +13,9 @@ use Rattle.whole_inverse.specs.Shares.{share, share_at}
 use Rattle.whole_solution.specs.declared.near.Near.{Near}
 use Rattle.whole_solution.specs.declared.ranges.Ranges.{Ranges}
 use Rattle.whole_solution.specs.Standing.{side_in}
-use Rattle.whole_solution.specs.Far.{room, AreOthersFar, IsChosen, IsFarOn, IsListed, IsNear, IsNearOrFar}
+use Rattle.whole_solution.specs.Far.{reaching, room, AreOthersFar, IsChosen, IsFarOn, IsListed, IsNear, IsNearOrFar}
 use Rattle.whole_solution.specs.Ranges.{AreRanges}
-use Rattle.whole_solution.proofs.Keeping.{keeps_on, far_side, far_weaker, reach_left, share-le}
+use Rattle.whole_solution.proofs.Keeping.{keeps_on, far_side}
 use Rattle.whole_solution.proofs.Made.{basic_by}
 use Rattle.whole_solution.proofs.Numbers.{share_above}
 use Rattle.whole_solution.proofs.Same.{residual_same}
@@ -23,10 +23,6 @@ use Rattle.whole_solution.proofs.Same.{residual_same}
 -- a residual that is known
 far_same : (near : List ℕ) (side : Side) (far : ℚ) (i : ℕ) (r s : ℚ) → r ≡ s → IsNearOrFar near side far i r → IsNearOrFar near side far i s
 far_same near side far i r s e h = subst (λ r. IsNearOrFar near side far i r) e h
-
-weaker : (near : List ℕ) (side : Side) (far least : ℚ) (i : ℕ) (r : ℚ) → least ≤ℚ far → IsNearOrFar near side far i r → IsNearOrFar near side least i r
-weaker near side far least i r l (inl h) = inl h
-weaker near side far least i r l (inr h) = inr (far_weaker side far least r l h)
 
 -- rows that were chosen
 module _ (p : Sample) (side : ℕ → Side) (residuals coefs : List ℤ) (d : ℤ) (kept : Ranges) (n : Near) (chosen : IsChosen side residuals coefs d kept n)
@@ -37,41 +33,40 @@ module _ (p : Sample) (side : ℕ → Side) (residuals coefs : List ℤ) (d : �
       record {
         columns = ap length chosen.coef ∙ columns;
         some = subst (λ d. pos 1 ≤ℤ d) (sym chosen.determinant) positive;
-        reach = chosen.reach;
+        reach = subst (λ r. 1 ≤ r) (sym chosen.reach) chosen.some;
         rows = subst (λ m. All (λ i. i < m) n.rows) rows chosen.rows;
         ranges = subst (AreRanges p) (sym chosen.ranges) ranges;
-        others = subst (λ d. AreOthersFar p side n.rows (share (pos (2 * n.reach)) d) (share_at d n.coef)) (sym chosen.determinant)
-            (subst (λ coefs. AreOthersFar p side n.rows (share (pos (2 * n.reach)) d) (share_at d coefs)) (sym chosen.coef)
-            (λ i li. far_same n.rows (side i) (share (pos (2 * n.reach)) d) i (share_at d residuals i) (residual p (share_at d coefs) i) (are i li) (chosen.others i (omega (arith, li, rows)))));
+        others = subst (λ d. AreOthersFar p side n.rows (share (pos n.distance) d) (share_at d n.coef)) (sym chosen.determinant)
+            (subst (λ coefs. AreOthersFar p side n.rows (share (pos n.distance) d) (share_at d coefs)) (sym chosen.coef)
+            (λ i li. far_same n.rows (side i) (share (pos n.distance) d) i (share_at d residuals i) (residual p (share_at d coefs) i) (are i li) (chosen.others i (omega (arith, li, rows)))));
       }
 
   pub far_from_chosen : (b : ℕ → ℚ) → ((k : ℕ) → k < p.columns → share_at d coefs k ≡ b k) → AreOthersFar p side n.rows (share (pos n.reach) n.determinant) b
   far_from_chosen b same =
       subst (λ d. AreOthersFar p side n.rows (share (pos n.reach) d) b) (sym chosen.determinant)
-      (λ i li.
-      weaker n.rows (side i) (share (pos (2 * n.reach)) d) (share (pos n.reach) d) i (residual p b i) (share-le (pos n.reach) (pos (2 * n.reach)) d positive (omega (arith, ints)))
-      (far_same n.rows (side i) (share (pos (2 * n.reach)) d) i (share_at d residuals i) (residual p b i) (are i li ∙ residual_same p (share_at d coefs) b same i) (chosen.others i (omega (arith, li, rows)))))
+      (subst (λ far. AreOthersFar p side n.rows (share (pos far) d) b) (sym chosen.reach)
+      (λ i li. far_same n.rows (side i) (share (pos n.distance) d) i (share_at d residuals i) (residual p b i) (are i li ∙ residual_same p (share_at d coefs) b same i) (chosen.others i (omega (arith, li, rows)))))
 
--- rows that were near an earlier fit, from which no residual has moved by more than the reach
-module _ (p : Sample) (at : ℕ → ℕ) (a : ℕ → ℕ → ℚ) (d : ℤ) (coef : List ℤ) (n : Near) (old made : List Side)
+-- rows that were near an earlier fit, from which no residual has moved by more than what the distance is beyond a reach
+module _ (p : Sample) (at : ℕ → ℕ) (a : ℕ → ℕ → ℚ) (d : ℤ) (coef : List ℤ) (n : Near) (reach : ℕ) (old made : List Side)
     (size : length coef ≡ p.columns) (same : (k : ℕ) → k < p.columns → share_at d coef k ≡ coefficient p at a k) (is_near : IsNear p (side_in old) n)
-    (serves : room (length coef) n.ranges (share_at n.determinant n.coef) (share_at d coef) ≤ℚ share (pos n.reach) n.determinant)
+    (some : 1 ≤ reach) (left : (room (length coef) n.ranges (share_at n.determinant n.coef) (share_at d coef) +ℚ share (pos reach) n.determinant) ≤ℚ share (pos n.distance) n.determinant)
     (each : (i : ℕ) → IsListed n.rows i ⊎ (side_in made i ≡ side_in old i)) where
   abbrev before : ℕ → ℚ
   before = share_at n.determinant n.coef
 
   abbrev far : ℚ
-  far = share (pos (2 * n.reach)) n.determinant
+  far = share (pos n.distance) n.determinant
 
   abbrev least : ℚ
-  least = share (pos n.reach) n.determinant
+  least = share (pos reach) n.determinant
 
   -- a far row is still far
   still_far : (i : ℕ) → i < p.rows → (side : Side) → IsFarOn side far (residual p before i) → IsFarOn side least (residual p (coefficient p at a) i)
   still_far i li side away =
-      let moves = subst (λ m. room m n.ranges before (share_at d coef) ≤ℚ least) size serves in
+      let short = subst (λ m. (room m n.ranges before (share_at d coef) +ℚ least) ≤ℚ far) size left in
       subst (λ r. IsFarOn side least r) (residual_same p (share_at d coef) (coefficient p at a) same i)
-      (keeps_on p n.ranges before (share_at d coef) i (is_near.ranges.each i li) far least (reach_left n.reach n.determinant (room p.columns n.ranges before (share_at d coef)) moves) side away)
+      (keeps_on p n.ranges before (share_at d coef) i (is_near.ranges.each i li) far least short side away)
 
   -- on the side that stands now, unless it is listed
   on_side : (i : ℕ) (r : ℚ) (bound : ℚ) → IsNearOrFar n.rows (side_in old i) bound i r → IsNearOrFar n.rows (side_in made i) bound i r
@@ -82,12 +77,12 @@ module _ (p : Sample) (at : ℕ → ℕ) (a : ℕ → ℕ → ℚ) (d : ℤ) (co
       by (inr e) (inl listed) = inl listed
       by (inr e) (inr away) = inr (subst (λ side. IsFarOn side bound r) (sym e) away)
 
-  pub near_now : IsNear p (side_in made) n
+  pub near_now : IsNear p (side_in made) (reaching n reach)
   near_now =
       record {
         columns = is_near.columns;
         some = is_near.some;
-        reach = is_near.reach;
+        reach = some;
         rows = is_near.rows;
         ranges = is_near.ranges;
         others = λ i li. on_side i (residual p before i) far (is_near.others i li);
@@ -109,8 +104,8 @@ module _ (p : Sample) (at : ℕ → ℕ) (a : ℕ → ℕ → ℚ) (d : ℤ) (co
         by (inl listed) h = near i listed e
         by (inr kept) (inl listed) = near i listed e
         by (inr kept) (inr away) =
-            let some = share_above (pos n.reach) n.determinant is_near.some (omega (arith, ints, is_near.reach)) in
-            kept ∙ far_side p at a i e least some (side_in old i) (still_far i li (side_in old i) away)
+            let above = share_above (pos reach) n.determinant is_near.some (omega (arith, ints, some)) in
+            kept ∙ far_side p at a i e least above (side_in old i) (still_far i li (side_in old i) away)
 
     pub sides_now : (i : ℕ) → i < p.rows → side_in made i ≡ side_at p at a i
     sides_now i li = by (is_among at p.columns i) refl

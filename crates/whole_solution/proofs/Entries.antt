@@ -1,10 +1,10 @@
 -- Ranges of the entries of a column, and of all columns.
 use Rattle.std.specs.Prelude.{◌≡◌, ◌≢◌, ℕ, ℤ, ◌+◌, ◌<◌, ◌≤◌, ◌-ℤ◌, ◌+ℤ◌, neg_ℤ, Bool, true, false, ◌==◌, List, [], ◌∷◌, ◌++◌, length, get_or, unsigned_abs, pos}
-use Rattle.std.proofs.Common.{arith, refl, sym, ap, ap₂, subst, ◌∙◌}
+use Rattle.std.proofs.Common.{arith, refl, sym, ap, subst, ◌∙◌}
 use Rattle.std.proofs.lemmas.Int.{ints}
 use borrow.Author.Tests.{eqb-true, eqb-false}
 use Rattle.exact_algebra.specs.Rational.{ℚ, ◌+ℚ◌, ◌-ℚ◌, whole, ◌≤ℚ◌}
-use Rattle.exact_algebra.proofs.RationalLaws.{≤ℚ_trans, ≤ℚ_refl, whole-add}
+use Rattle.exact_algebra.proofs.RationalLaws.{≤ℚ_trans, whole-add}
 use Rattle.exact_algebra.proofs.WholeNumbers.{whole-le, whole-neg}
 use Rattle.loss_model.specs.Spill.{abs_ℚ}
 use Rattle.whole_inverse.specs.Shares.{whole_at}

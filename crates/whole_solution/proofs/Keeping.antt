@@ -1,11 +1,11 @@
 -- Residuals that are far from 0, and how far the coefficients can take them.
-use Rattle.std.specs.Prelude.{◌≡◌, ℕ, ℤ, ◌≤◌, ◌+◌, ◌*◌, ◌≤ℤ◌, neg_ℤ, unsigned_abs, [], ◌∷◌, false, pos}
+use Rattle.std.specs.Prelude.{◌≡◌, ℕ, ℤ, ◌≤◌, ◌≤ℤ◌, neg_ℤ, unsigned_abs, [], ◌∷◌, false, pos}
 use Rattle.std.proofs.Common.{arith, refl, sym, ap, subst, ◌∙◌}
 use Rattle.std.proofs.lemmas.Int.{ints}
 use Rattle.exact_algebra.specs.Solver.{number, negated, ◌⊞◌, ◌⊟◌, ◌⊠◌, v0, v1, v2}
 use Rattle.exact_algebra.specs.Rational.{ℚ, ◌+ℚ◌, ◌-ℚ◌, ◌*ℚ◌, neg_ℚ, whole, inverse, ◌≤ℚ◌}
 use Rattle.exact_algebra.specs.Order.{cmp_ℚ}
-use Rattle.exact_algebra.proofs.RationalLaws.{ring_ℚ, ≤ℚ_refl, ≤ℚ_trans, ≤ℚ_mul, whole-add}
+use Rattle.exact_algebra.proofs.RationalLaws.{ring_ℚ, ≤ℚ_refl, ≤ℚ_trans, ≤ℚ_mul}
 use Rattle.exact_algebra.proofs.OrderLaws.{cmp_ℚ-Greater, cmp_ℚ-not_Greater, inverse_not_negative}
 use Rattle.exact_algebra.proofs.WholeNumbers.{whole-le}
 use Rattle.exact_algebra.specs.RationalSums.{sum_ℚ}
@@ -89,9 +89,6 @@ share-le a b d h l =
     (subst (λ z. (inverse (whole d) *ℚ whole a) ≤ℚ z) (ring_ℚ (whole b ∷ inverse (whole d) ∷ []) (v1 ⊠ v0) (v0 ⊠ v1) refl)
     (≤ℚ_mul (whole a) (whole b) (inverse (whole d)) (inverse_not_negative (whole d) (whole-le (pos 0) d (omega (arith, ints)))) (whole-le a b l)))
 
-pub share-add : (a b d : ℤ) → share a d +ℚ share b d ≡ (whole a +ℚ whole b) *ℚ inverse (whole d)
-share-add a b d = ring_ℚ (whole a ∷ whole b ∷ inverse (whole d) ∷ []) (v0 ⊠ v2 ⊞ v1 ⊠ v2) ((v0 ⊞ v1) ⊠ v2) refl
-
 -- ---- far on a side
 
 pub far_above : (r : ℤ) (far : ℕ) → pos 0 ≤ℤ r → far ≤ unsigned_abs r → (d : ℤ) → pos 1 ≤ℤ d → share (pos far) d ≤ℚ share r d
@@ -99,11 +96,6 @@ far_above r far up h d p = share-le (pos far) r d p (omega (arith, ints))
 
 pub far_below : (r : ℤ) (far : ℕ) → r ≤ℤ pos 0 → far ≤ unsigned_abs r → (d : ℤ) → pos 1 ≤ℤ d → share (pos far) d ≤ℚ neg_ℚ (share r d)
 far_below r far down h d p = subst (λ z. share (pos far) d ≤ℚ z) (share-neg r d) (share-le (pos far) (neg_ℤ r) d p (omega (arith, ints)))
-
-pub far_weaker : (side : Side) (far least r : ℚ) → least ≤ℚ far → IsFarOn side far r → IsFarOn side least r
-far_weaker Up far least r h away = ≤ℚ_trans least far r h away
-far_weaker Down far least r h away = ≤ℚ_trans least far (neg_ℚ r) h away
-far_weaker Basic far least r h away = absurd away
 
 -- the side of a row that is far on it
 module _ (p : Sample) (at : ℕ → ℕ) (a : ℕ → ℕ → ℚ) (i : ℕ) (outside : is_among at p.columns i ≡ false) (least : ℚ) (some : ¬ (least ≤ℚ whole (pos 0))) where
@@ -122,12 +114,3 @@ module _ (p : Sample) (at : ℕ → ℕ) (a : ℕ → ℕ → ℚ) (i : ℕ) (ou
       λ h. some (≤ℚ_trans least (neg_ℚ r) (whole (pos 0)) away (le_by (whole (pos 0)) r (neg_ℚ r) (whole (pos 0)) h (ring_ℚ (r ∷ []) (v0 ⊟ number (pos 0)) (number (pos 0) ⊟ negated v0) refl))) in
       not_greater (cmp_ℚ r (whole (pos 0))) ((cmp_ℚ-not_Greater r (whole (pos 0))).1 (not_above r below)) ∙ side_by (λ e. below (subst (λ z. whole (pos 0) ≤ℚ z) (sym e) (≤ℚ_refl (whole (pos 0)))))
   far_side Basic away = absurd away
-
--- twice the reach less what all rows can have moved
-pub reach_left : (reach : ℕ) (d : ℤ) (moves : ℚ) → moves ≤ℚ share (pos reach) d → (moves +ℚ share (pos reach) d) ≤ℚ share (pos (2 * reach)) d
-reach_left reach d moves h =
-    let twice : 2 * reach ≡ reach + reach = omega arith in
-    subst (λ z. (moves +ℚ share (pos reach) d) ≤ℚ z)
-    (share-add (pos reach) (pos reach) d ∙ ap (λ z. z *ℚ inverse (whole d)) (sym (whole-add (pos reach) (pos reach)) ∙ ap (λ n. whole (pos n)) (sym twice)))
-    (le_by moves (share (pos reach) d) (moves +ℚ share (pos reach) d) (share (pos reach) d +ℚ share (pos reach) d) h
-    (ring_ℚ (moves ∷ share (pos reach) d ∷ []) (v1 ⊟ v0) ((v1 ⊞ v1) ⊟ (v0 ⊞ v1)) refl))

@@ -48,14 +48,23 @@ module _ (d0 d : ℤ) (p0 : pos 1 ≤ℤ d0) (p : pos 1 ≤ℤ d) where
         ap (λ z. whole d *ℚ z) (most_scaled (whole d0) (not_negative d0 p0) (length coef) near.ranges moved (λ k. whole d0 *ℚ moved k) (λ k lk. refl))
         ∙ most_scaled (whole d) (not_negative d p) (length coef) near.ranges (λ k. whole d0 *ℚ moved k) numbers each
 
-    pub room_within : (reach : ℕ) → moves near coef d (length coef) ≤ℚ whole (pos (reach * unsigned_abs d))
-        → room (length coef) near.ranges (share_at d0 near.coef) (share_at d coef) ≤ℚ share (pos reach) d0
-    room_within reach h =
-        let most = room (length coef) near.ranges (share_at d0 near.coef) (share_at d coef) in
+    -- a number times the size of the second denominator
+    scaled : (n : ℕ) → whole (pos (n * unsigned_abs d)) ≡ times_both (share (pos n) d0)
+    scaled n =
         let positive : d ≡ pos (unsigned_abs d) = omega (arith, ints) in
-        let least : whole (pos (reach * unsigned_abs d)) ≡ times_both (share (pos reach) d0) =
-        whole-mul (pos reach) (pos (unsigned_abs d)) ∙ ap (λ z. whole (pos reach) *ℚ whole z) (sym positive)
-        ∙ ring_ℚ (whole (pos reach) ∷ whole d ∷ []) (v0 ⊠ v1) (v1 ⊠ v0) refl ∙ ap (λ z. whole d *ℚ z) (sym (times (pos reach) d0 p0)) in
-        let all : times_both most ≤ℚ times_both (share (pos reach) d0) =
-        subst (λ z. z ≤ℚ times_both (share (pos reach) d0)) (sym room_is) (subst (λ z. moves near coef d (length coef) ≤ℚ z) least h) in
-        ≤ℚ-from_mul most (share (pos reach) d0) (whole d0) (above d0 p0) (≤ℚ-from_mul (whole d0 *ℚ most) (whole d0 *ℚ share (pos reach) d0) (whole d) (above d p) all)
+        whole-mul (pos n) (pos (unsigned_abs d)) ∙ ap (λ z. whole (pos n) *ℚ whole z) (sym positive)
+        ∙ ring_ℚ (whole (pos n) ∷ whole d ∷ []) (v0 ⊠ v1) (v1 ⊠ v0) refl ∙ ap (λ z. whole d *ℚ z) (sym (times (pos n) d0 p0))
+
+    -- what may have moved and a reach are within a distance
+    pub room_left : (reach distance : ℕ) → (moves near coef d (length coef) +ℚ whole (pos (reach * unsigned_abs d))) ≤ℚ whole (pos (distance * unsigned_abs d))
+        → (room (length coef) near.ranges (share_at d0 near.coef) (share_at d coef) +ℚ share (pos reach) d0) ≤ℚ share (pos distance) d0
+    room_left reach distance h =
+        let most = room (length coef) near.ranges (share_at d0 near.coef) (share_at d coef) in
+        let least = share (pos reach) d0 in
+        let both : times_both (most +ℚ least) ≡ moves near coef d (length coef) +ℚ whole (pos (reach * unsigned_abs d)) =
+        ring_ℚ (whole d ∷ whole d0 ∷ most ∷ least ∷ []) (v0 ⊠ (v1 ⊠ (v2 ⊞ v3))) (v0 ⊠ (v1 ⊠ v2) ⊞ v0 ⊠ (v1 ⊠ v3)) refl ∙ ap₂ (λ x y. x +ℚ y) room_is (sym (scaled reach)) in
+        let all : times_both (most +ℚ least) ≤ℚ times_both (share (pos distance) d0) =
+        subst (λ z. z ≤ℚ times_both (share (pos distance) d0)) (sym both)
+        (subst (λ z. (moves near coef d (length coef) +ℚ whole (pos (reach * unsigned_abs d))) ≤ℚ z) (scaled distance) h) in
+        ≤ℚ-from_mul (most +ℚ least) (share (pos distance) d0) (whole d0) (above d0 p0)
+        (≤ℚ-from_mul (whole d0 *ℚ (most +ℚ least)) (whole d0 *ℚ share (pos distance) d0) (whole d) (above d p) all)

@@ -1,5 +1,5 @@
 -- Inner. Rows far from a fit, which keep their sides while the coefficients move little.
-use Rattle.std.specs.Prelude.{◌≡◌, ◌⊎◌, ℕ, ℤ, ◌<◌, ◌≤◌, ◌≤ℤ◌, ◌*◌, ◌*ℤ◌, ◌+ℤ◌, neg_ℤ, List, All, length, get_or, slice_index, pos}
+use Rattle.std.specs.Prelude.{◌≡◌, ◌⊎◌, ℕ, ℤ, ◌<◌, ◌≤◌, ◌≤ℤ◌, ◌*ℤ◌, ◌+ℤ◌, neg_ℤ, List, All, length, get_or, slice_index, pos}
 use Rattle.exact_algebra.specs.Rational.{ℚ, ◌+ℚ◌, ◌-ℚ◌, neg_ℚ, ◌≤ℚ◌, whole}
 use Rattle.loss_model.specs.declared.vertex.Side.{Side}
 use Rattle.loss_model.specs.declared.vertex.Side.TheVariants.{Up, Down, Basic}
@@ -44,14 +44,18 @@ AreOthersFar p side near far b = (i : ℕ) → i < p.rows → IsNearOrFar near (
 abbrev pub move_of : Near → ℕ → ℤ → ℤ → ℤ
 move_of n k number d = number *ℤ n.determinant +ℤ neg_ℤ (get_or n.coef k (pos 0) *ℤ d)
 
--- at the earlier fit all rows but these were at least twice the reach from it, on these sides
+-- the same rows with another reach
+abbrev pub reaching : Near → ℕ → Near
+reaching n r = record n { reach = r }
+
+-- at the earlier fit all rows but these were at least the distance from it, on these sides
 pub record IsNear (p : Sample) (side : ℕ → Side) (n : Near) : Type 0 where
   pub columns : length n.coef ≡ p.columns
   pub some : pos 1 ≤ℤ n.determinant
   pub reach : 1 ≤ n.reach
   pub rows : All (λ i. i < p.rows) n.rows
   pub ranges : AreRanges p n.ranges
-  pub others : AreOthersFar p side n.rows (share (pos (2 * n.reach)) n.determinant) (share_at n.determinant n.coef)
+  pub others : AreOthersFar p side n.rows (share (pos n.distance) n.determinant) (share_at n.determinant n.coef)
 
 -- how far the first n coefficients may have moved a residual together, times both determinants
 abbrev pub moves : Near → List ℤ → ℤ → ℕ → ℚ
@@ -62,6 +66,7 @@ pub record IsChosen (side : ℕ → Side) (residuals coefs : List ℤ) (d : ℤ)
   pub coef : n.coef ≡ coefs
   pub determinant : n.determinant ≡ d
   pub ranges : n.ranges ≡ kept
-  pub reach : 1 ≤ n.reach
+  pub reach : n.reach ≡ n.distance
+  pub some : 1 ≤ n.distance
   pub rows : All (λ i. i < length residuals) n.rows
-  pub others : (i : ℕ) → i < length residuals → IsNearOrFar n.rows (side i) (share (pos (2 * n.reach)) d) i (share_at d residuals i)
+  pub others : (i : ℕ) → i < length residuals → IsNearOrFar n.rows (side i) (share (pos n.distance) d) i (share_at d residuals i)

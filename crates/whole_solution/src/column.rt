@@ -70,7 +70,7 @@ fn product_of_width(row: &[i64], column: &[i128], width: usize, limit: u64) -> i
 }
 
 /// The same of any width. The common ones have code of their own, for a loop over a few entries takes longer.
-#[inline]
+#[inline(always)]
 fn narrow_product(row: &[i64], column: &[i128], limit: u64) -> i64
     requires same { length row.now ≡ length column.now }
     requires small { All (λ x. unsigned_abs x ≤ limit) row.now }
@@ -103,7 +103,7 @@ impl<'a> Column<'a> {
     }
 
     /// Whether all sums of products are known to have 63 bits.
-    pub(crate) fn is_narrow(&self) -> bool {
+    pub fn is_narrow(&self) -> bool {
         match self.width {
             Width::Narrow => true,
             _ => false,
@@ -122,6 +122,24 @@ impl<'a> Column<'a> {
             Width::Narrow => Some(i128::from(narrow_product(x, self.numbers, self.limit))),
             Width::Wide => Some(product_within(x, self.numbers, self.limit)),
             Width::Unknown => product_of(x, self.numbers),
+        }
+    }
+
+    /// The same, and where `NARROW`, of a column whose products are known to have 63 bits alone: so a loop over rows is compiled for
+    /// numbers of 64 bits.
+    #[inline(always)]
+    pub fn product_in<const NARROW: bool>(&self, x: &[i64]) -> Option<i128>
+        requires column { IsColumn self.now.numbers.now self.now.limit self.now }
+        requires same { length x.now ≡ length self.now.numbers.now }
+        requires small { All (λ e. unsigned_abs e ≤ self.now.limit) x.now }
+        ensures { IfSome result (λ c. (d : ℤ) → share c d ≡ sum_ℚ (length x.now) (λ k. whole_at x.now k *ℚ share_at d self.now.numbers.now k)) }
+    {
+        if !NARROW {
+            return self.product(x);
+        }
+        match self.width {
+            Width::Narrow => Some(i128::from(narrow_product(x, self.numbers, self.limit))),
+            _ => None,
         }
     }
 }

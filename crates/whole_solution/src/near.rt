@@ -1,14 +1,14 @@
 //! Rows near an earlier fit, and how long all others are sure to keep their sides.
 //!
-//! A row is far where its residual at the earlier fit is at least twice the reach. While no residual can have moved by more than
-//! the reach, which a bound on the coefficients says of all rows at once, far rows keep their sides and have residuals of at
-//! least the reach, so that only near rows are looked at.
+//! A row is far where its residual at the earlier fit is at least a distance. How far any residual can have moved since is bounded by
+//! the coefficients, of all rows at once. While that is less than the distance, far rows keep their sides and have residuals of at least
+//! what is left of it, the reach, so that only near rows are looked at.
 ghost use Rattle.std.specs.Prelude.{◌≡◌, ℕ, ℤ, ◌*◌, ◌<◌, ◌≤◌, ◌^◌, ◌≤ℤ◌, All, length, IfOk, IfSome, IsTrue, pos};
-ghost use Rattle.exact_algebra.specs.Rational.{◌≤ℚ◌, whole};
+ghost use Rattle.exact_algebra.specs.Rational.{◌+ℚ◌, ◌≤ℚ◌, whole};
 ghost use Rattle.wide_int.specs.Numbers.{joined, number_of};
 ghost use Rattle.whole_inverse.specs.Shares.{share, share_at};
 ghost use Rattle.whole_solution.specs.Standing.{side_in};
-ghost use Rattle.whole_solution.specs.Far.{move_of, moves, room, IsChosen, IsFarOn, IsListed, IsNearOrFar};
+ghost use Rattle.whole_solution.specs.Far.{move_of, moves, reaching, room, IsChosen, IsFarOn, IsListed, IsNearOrFar};
 
 use crate::ranges::Ranges;
 use crate::sides::is_held;
@@ -19,13 +19,14 @@ use std::cmp::Ordering;
 use whole_inverse::{Obstacle, room_for};
 use wide_int::{Natural, Wide};
 
-/// The rows near an earlier fit, whose coefficients stand over its determinant, as does the reach: the residuals of all other
-/// rows there are at least twice as much. The entries of each column are within its range.
+/// The rows near an earlier fit, whose coefficients stand over its determinant, as do the distance and the reach: the residuals of all
+/// other rows were at least the distance there, and are at least the reach now. The entries of each column are within its range.
 #[derive(Drop)]
 pub struct Near {
     pub rows: List<u32>,
     pub coef: List<i128>,
     pub determinant: i128,
+    pub distance: u128,
     pub reach: u128,
     pub ranges: Ranges,
 }
@@ -72,7 +73,7 @@ fn near_count(rows: usize, columns: usize) -> u64 {
         .saturating_add(2 << (bits / 2))
 }
 
-/// About so many residuals are looked at to choose a reach.
+/// About so many residuals are looked at to choose a distance.
 const SAMPLE: usize = 256;
 
 /// How many residuals stand from one that is looked at to the next.
@@ -112,8 +113,7 @@ fn count_below(sizes: &[u128], bound: u128) -> u64 {
 /// A number and some quarters of it, of which there are at most three.
 fn with_quarters(unit: u128, quarters: u32) -> u128
     requires { unit < 2 ^ 126 }
-    ensures least { unit ≤ result }
-    ensures most { result ≤ 2 * unit }
+    ensures { unit ≤ result }
 {
     match quarters {
         0 => unit,
@@ -123,35 +123,32 @@ fn with_quarters(unit: u128, quarters: u32) -> u128
     }
 }
 
-/// How many reaches there are to choose from.
-const REACHES: u32 = 500;
+/// How many distances there are to choose from.
+const DISTANCES: u32 = 500;
 
 /// A power of 2, or one of three numbers up to the next.
-fn reach_at(step: u32) -> u128
+fn distance_at(step: u32) -> u128
     requires { step < 500 }
-    ensures some { 1 ≤ result }
-    ensures room { result < 2 ^ 126 }
+    ensures { 1 ≤ result }
 {
     with_quarters(1 << (step / 4), step % 4)
 }
 
-/// The least reach below twice which so many sizes are. Any number is lawful: this one leaves few rows near.
-fn reach_of(sizes: &[u128], few: u64) -> u128
-    ensures some { 1 ≤ result }
-    ensures room { result < 2 ^ 126 }
+/// The least distance below which so many sizes are. Any number is lawful: this one leaves few rows near.
+fn distance_of(sizes: &[u128], few: u64) -> u128
+    ensures { 1 ≤ result }
 {
     let mut low: u32 = 0;
-    let mut high: u32 = REACHES - 1;
+    let mut high: u32 = DISTANCES - 1;
     while low < high {
         let step = (low + high) / 2;
-        let reach = reach_at(step);
-        if count_below(sizes, reach + reach) < few {
+        if count_below(sizes, distance_at(step)) < few {
             low = step + 1;
         } else {
             high = step;
         }
     }
-    reach_at(low)
+    distance_at(low)
 }
 
 /// Whether a number is at most another one.
@@ -161,6 +158,17 @@ fn is_within(number: Natural, most: Natural) -> bool
     match number.compare(most) {
         Ordering::Greater => false,
         _ => true,
+    }
+}
+
+/// How many times a divisor goes into a number, or a little more, by leading bits. Nothing is promised of it.
+fn times_in(number: Natural, divisor: u128) -> u128 {
+    let bits = 128 - number.high.leading_zeros();
+    let leading = number.low.checked_shr(bits).unwrap_or(0) | number.high.wrapping_shl(128 - bits);
+    let divisor = divisor.checked_shr(bits).unwrap_or(0);
+    match leading.checked_div(divisor) {
+        Some(times) => times.saturating_add(1),
+        None => u128::MAX,
     }
 }
 
@@ -182,21 +190,22 @@ impl Near {
         let stride = stride_of(residuals.len());
         let sizes = sizes_of(alloc, residuals, stride)?;
         let few = near_count(residuals.len(), coef.len()) / stride as u64;
-        let reach = reach_of(sizes.as_slice(), few);
-        let rows = near_rows(alloc, residuals, sides, reach + reach)?;
+        let distance = distance_of(sizes.as_slice(), few);
+        let rows = near_rows(alloc, residuals, sides, distance)?;
         let coef = List::copy(alloc, coef)?;
         Ok(Near {
             rows,
             coef,
             determinant,
-            reach,
+            distance,
+            reach: distance,
             ranges,
         })
     }
 
-    /// The same in lists of their own.
-    pub(crate) fn copy(&self, alloc: Global) -> Result<Near, Obstacle>
-        ensures { IfOk result (λ n. n ≡ self.now) }
+    /// The same with another reach, in lists of their own.
+    pub(crate) fn with_reach(&self, alloc: Global, reach: u128) -> Result<Near, Obstacle>
+        ensures { IfOk result (λ n. n ≡ reaching self.now reach) }
     {
         let rows = List::copy(alloc, self.rows.as_slice())?;
         let coef = List::copy(alloc, self.coef.as_slice())?;
@@ -205,7 +214,8 @@ impl Near {
             rows,
             coef,
             determinant: self.determinant,
-            reach: self.reach,
+            distance: self.distance,
+            reach,
             ranges,
         })
     }
@@ -252,20 +262,29 @@ impl Near {
         Some(sum)
     }
 
-    /// Whether no residual can have moved by more than the reach.
-    pub(crate) fn serves(&self, coef: &[i128], determinant: i128) -> bool
+    /// What is left of the distance after all that residuals can have moved. None where that is little: then rows are chosen anew before
+    /// a far one may come first.
+    pub(crate) fn reach_left(&self, coef: &[i128], determinant: i128) -> Option<u128>
         requires size { length coef.now ≡ length self.now.coef }
         requires middles { length self.now.ranges.middles ≡ length self.now.coef }
         requires halves { length self.now.ranges.halves ≡ length self.now.coef }
         requires short { length coef.now < 2 ^ 32 }
         requires some { pos 1 ≤ℤ self.now.determinant }
         requires now { pos 1 ≤ℤ determinant }
-        ensures { IsTrue result → room (length coef.now) self.now.ranges (share_at self.now.determinant self.now.coef) (share_at determinant coef.now) ≤ℚ share (pos self.now.reach) self.now.determinant }
+        ensures some { IfSome result (λ reach. 1 ≤ reach) }
+        ensures left { IfSome result (λ reach. (room (length coef.now) self.now.ranges (share_at self.now.determinant self.now.coef) (share_at determinant coef.now) +ℚ share (pos reach) self.now.determinant) ≤ℚ share (pos self.now.distance) self.now.determinant) }
     {
-        let most = Natural::product(self.reach, determinant.unsigned_abs());
-        match self.room_for_moves(coef, determinant) {
-            Some(sum) => is_within(sum, most),
-            None => false,
+        let moved = self.room_for_moves(coef, determinant)?;
+        let over = determinant.unsigned_abs();
+        let reach = self.distance.checked_sub(times_in(moved, over))?;
+        if reach <= self.distance / 4 {
+            return None;
+        }
+        let all = Natural::product(reach, over).plus(moved)?;
+        if is_within(all, Natural::product(self.distance, over)) {
+            Some(reach)
+        } else {
+            None
         }
     }
 }

@@ -13,8 +13,12 @@ use std::alloc::Global;
 use whole_inverse::{Obstacle, room_for};
 use whole_rows::WholeRow;
 
-/// The numerators of the products, one row at a time.
-fn products_by(alloc: Global, rows: &[WholeRow], column: &Column) -> Result<List<i128>, Obstacle>
+/// The numerators of the products, one row at a time; where `NARROW`, of a column whose products are known to have 63 bits alone.
+fn products_by<const NARROW: bool>(
+    alloc: Global,
+    rows: &[WholeRow],
+    column: &Column,
+) -> Result<List<i128>, Obstacle>
     requires column { IsColumn column.now.numbers.now column.now.limit column.now }
     requires wide { All (λ r. length r.x ≡ length column.now.numbers.now) rows.now }
     requires small { All (λ r. All (λ e. unsigned_abs e ≤ column.now.limit) r.x) rows.now }
@@ -25,7 +29,7 @@ fn products_by(alloc: Global, rows: &[WholeRow], column: &Column) -> Result<List
     let mut made = room_for(alloc, rows.len())?;
     for i in 0..rows.len() {
         let row = &rows[i];
-        match column.product(row.x.as_slice()) {
+        match column.product_in::<NARROW>(row.x.as_slice()) {
             Some(number) => made.add(number)?,
             None => return Err(Obstacle::TooWide),
         }
@@ -69,10 +73,10 @@ pub fn row_products(
 {
     let by = Column::of(column, limit);
     if by.is_narrow() {
-        return products_by(alloc, rows, &by);
+        return products_by::<true>(alloc, rows, &by);
     }
     match products_by_halves(alloc, rows, column, limit) {
-        Err(Obstacle::TooWide) => products_by(alloc, rows, &by),
+        Err(Obstacle::TooWide) => products_by::<false>(alloc, rows, &by),
         answer => answer,
     }
 }

@@ -84,8 +84,9 @@ impl<'a> WholeBasis<'a> {
         coefficients(alloc, self.inverse, self.rows, self.basis, n)
     }
 
-    /// The numerator of the residual of a row.
-    pub fn residual_at(&self, coef: &Column, row: u32) -> Result<i128, Obstacle>
+    /// The numerator of the residual of a row; where `NARROW`, by coefficients whose products are known to have 63 bits alone.
+    #[inline]
+    pub fn residual_at<const NARROW: bool>(&self, coef: &Column, row: u32) -> Result<i128, Obstacle>
         requires basis { IsWholeBasis self.now }
         requires column { IsColumn coef.now.numbers.now self.now.limit coef.now }
         requires size { length coef.now.numbers.now ≡ length self.now.inverse.now.columns }
@@ -95,7 +96,7 @@ impl<'a> WholeBasis<'a> {
     {
         let rows = self.rows;
         let chosen = &rows[row as usize];
-        match coef.product(chosen.x.as_slice()) {
+        match coef.product_in::<NARROW>(chosen.x.as_slice()) {
             Some(fit) => residual_of(chosen.y, fit, self.inverse.determinant()),
             None => Err(Obstacle::TooWide),
         }
@@ -192,7 +193,7 @@ impl<'a> WholeBasis<'a> {
         ensures { let s = self.now.inverse.now in let p = sample_of_rows (length s.columns) self.now.rows.now in let at = slice_index self.now.basis.now.rows in
             IfOk result (λ o. is_among at p.columns row ≡ false → o ≡ side_at p at (inverse_of s) row) }
     {
-        let number = self.residual_at(coef, row)?;
+        let number = self.residual_at::<false>(coef, row)?;
         let side = self.free_side(row, number)?;
         Ok(side)
     }
@@ -271,9 +272,9 @@ impl<'a> WholeBasis<'a> {
             IfOk result (IsSided p at (inverse_of s) s.determinant) }
     {
         let coef = self.coefficients(alloc)?;
-        if before
+        if let Some(reach) = before
             .near
-            .serves(coef.as_slice(), self.inverse.determinant())
+            .reach_left(coef.as_slice(), self.inverse.determinant())
         {
             let turned = self.near_sides(
                 alloc,
@@ -283,7 +284,7 @@ impl<'a> WholeBasis<'a> {
                 looked,
             )?;
             if self.holds_basis(turned.sides.as_slice()) {
-                let near = before.near.copy(alloc)?;
+                let near = before.near.with_reach(alloc, reach)?;
                 return Ok(Sided {
                     coef,
                     sides: turned.sides,

@@ -32,7 +32,8 @@ pub struct Look<'a> {
 
 impl<'a> Look<'a> {
     /// The numerator of the coordinate of a row at the position.
-    fn coord_at(&self, row: u32) -> Result<i128, Obstacle>
+    #[inline(always)]
+    fn coord_at<const NARROW: bool>(&self, row: u32) -> Result<i128, Obstacle>
         requires look { IsLook self.now }
         requires row { row < length self.now.near_line.line.basis.now.rows.now }
         ensures { let l = self.now.near_line.line in IfOk result (λ n. share n (over_of l) ≡ coord (model l) (inverse_at l) row l.position) }
@@ -40,25 +41,27 @@ impl<'a> Look<'a> {
         let basis = self.near_line.line.basis;
         let rows = basis.rows;
         let chosen = &rows[row as usize];
-        match self.column.product(chosen.x.as_slice()) {
+        match self.column.product_in::<NARROW>(chosen.x.as_slice()) {
             Some(number) => Ok(number),
             None => Err(Obstacle::TooWide),
         }
     }
 
     /// The numerator of the residual of a row.
-    fn residual_at(&self, row: u32) -> Result<i128, Obstacle>
+    #[inline(always)]
+    fn residual_at<const NARROW: bool>(&self, row: u32) -> Result<i128, Obstacle>
         requires look { IsLook self.now }
         requires row { row < length self.now.near_line.line.basis.now.rows.now }
         ensures { let l = self.now.near_line.line in IfOk result (λ n. share n (over_of l) ≡ residual_of l row) }
     {
         let basis = self.near_line.line.basis;
-        let number = basis.residual_at(&self.coef, row)?;
+        let number = basis.residual_at::<NARROW>(&self.coef, row)?;
         Ok(number)
     }
 
     /// A row as a mover, where it moves.
-    fn mover_at(&self, row: u32) -> Result<Option<Mover>, Obstacle>
+    #[inline(always)]
+    fn mover_at<const NARROW: bool>(&self, row: u32) -> Result<Option<Mover>, Obstacle>
         requires look { IsLook self.now }
         requires row { row < length self.now.near_line.line.basis.now.rows.now }
         ensures { IfOk result (IsMoverAt self.now.near_line.line row) }
@@ -66,11 +69,11 @@ impl<'a> Look<'a> {
         let line = self.near_line.line;
         let sides = line.sides;
         let side = sides[row as usize];
-        let coord = self.coord_at(row)?;
+        let coord = self.coord_at::<NARROW>(row)?;
         if !goes_towards(side, line.direction, coord) {
             return Ok(None);
         }
-        let residual = self.residual_at(row)?;
+        let residual = self.residual_at::<NARROW>(row)?;
         Ok(Some(Mover {
             row,
             residual: residual.unsigned_abs(),
@@ -87,7 +90,7 @@ impl<'a> Look<'a> {
     {
         let near = self.near_line.near;
         let row = near.rows.as_slice()[k];
-        match self.mover_at(row)? {
+        match self.mover_at::<false>(row)? {
             None => Ok(best),
             Some(mover) => {
                 let next = self.near_line.line.joined(best, mover)?;
@@ -97,13 +100,14 @@ impl<'a> Look<'a> {
     }
 
     /// Whether a row doesn't move, or surely comes after a mover. It may be so where this isn't said.
-    fn comes_after(&self, first: &Mover, row: u32) -> bool
+    #[inline(always)]
+    fn comes_after<const NARROW: bool>(&self, first: &Mover, row: u32) -> bool
         requires look { IsLook self.now }
         requires first { IsMover self.now.near_line.line first.now }
         requires row { row < length self.now.near_line.line.basis.now.rows.now }
         ensures { let l = self.now.near_line.line in IsTrue result → is_moving l row ≡ true → comes_before l first.now.row row ≡ true }
     {
-        match self.mover_at(row) {
+        match self.mover_at::<NARROW>(row) {
             Ok(None) => true,
             Ok(Some(here)) => is_surely_less(*first, here),
             Err(_) => false,
@@ -111,7 +115,8 @@ impl<'a> Look<'a> {
     }
 
     /// Whether the first of the movers before a place is that of those up to it too. It may be so where this isn't said.
-    fn stays_first(&self, best: &Option<Mover>, k: usize) -> bool
+    #[inline(always)]
+    fn stays_first<const NARROW: bool>(&self, best: &Option<Mover>, k: usize) -> bool
         requires look { IsLook self.now }
         requires place { k < length self.now.near_line.near.now.rows }
         requires best { IsFirstOf self.now.near_line.line (slice_index self.now.near_line.near.now.rows) k best.now }
@@ -119,14 +124,14 @@ impl<'a> Look<'a> {
     {
         let near = self.near_line.near;
         match best {
-            Some(first) => self.comes_after(first, near.rows.as_slice()[k]),
+            Some(first) => self.comes_after::<NARROW>(first, near.rows.as_slice()[k]),
             None => false,
         }
     }
 
     /// The first place from `start` on whose row may come before the first of the movers so far; the end where none does. That
     /// mover stays the same on the way, and isn't copied.
-    fn next_rival(&self, best: &Option<Mover>, start: usize) -> usize
+    fn next_rival<const NARROW: bool>(&self, best: &Option<Mover>, start: usize) -> usize
         requires look { IsLook self.now }
         requires start { start ≤ length self.now.near_line.near.now.rows }
         requires best { IsFirstOf self.now.near_line.line (slice_index self.now.near_line.near.now.rows) start best.now }
@@ -136,11 +141,27 @@ impl<'a> Look<'a> {
     {
         let end = self.near_line.near.rows.as_slice().len();
         for k in start..end {
-            if !self.stays_first(best, k) {
+            if !self.stays_first::<NARROW>(best, k) {
                 return k;
             }
         }
         end
+    }
+
+    /// The same, in numbers of 64 bits where all products have so many.
+    fn rival_from(&self, best: &Option<Mover>, start: usize) -> usize
+        requires look { IsLook self.now }
+        requires start { start ≤ length self.now.near_line.near.now.rows }
+        requires best { IsFirstOf self.now.near_line.line (slice_index self.now.near_line.near.now.rows) start best.now }
+        ensures from { start ≤ result }
+        ensures within { result ≤ length self.now.near_line.near.now.rows }
+        ensures best { IsFirstOf self.now.near_line.line (slice_index self.now.near_line.near.now.rows) result best.now }
+    {
+        if self.coef.is_narrow() && self.column.is_narrow() {
+            self.next_rival::<true>(best, start)
+        } else {
+            self.next_rival::<false>(best, start)
+        }
     }
 
     /// The first of the near rows that move.
@@ -152,7 +173,7 @@ impl<'a> Look<'a> {
         let mut best = None;
         let mut place = 0;
         for step in 0..end {
-            let rival = self.next_rival(&best, place);
+            let rival = self.rival_from(&best, place);
             if rival >= end {
                 return Ok(best);
             }

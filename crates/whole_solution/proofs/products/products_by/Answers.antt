@@ -9,7 +9,7 @@ use Rattle.whole_solution.proofs.Reading.{product_of_row}
 use Rattle.whole_solution.proofs.products.products_by.Goals as goal
 
 pub loop-i-preserved : goal.loop-i-preserved
-loop-i-preserved c =
+loop-i-preserved g c =
     let rows = c.args.rows.now in
     let column = c.args.column.now.numbers.now in
     let i = c.loop-i.i in

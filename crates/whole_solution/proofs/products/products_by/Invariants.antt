@@ -6,7 +6,7 @@ use Rattle.whole_rows.specs.Wholes.{of_whole}
 use Rattle.whole_solution.proofs.products.products_by.Given as goal
 
 abbrev pub invariant-loop-i : goal.invariant-loop-i
-invariant-loop-i l = record {
+invariant-loop-i g l = record {
   size : length l.made ≡ l.i;
   each : (d : ℤ) (i : ℕ) → i < l.i → share_at d l.made i ≡ sum_ℚ (length l.column.numbers.now) (λ k. of_whole l.rows (λ r. whole_at r.x k) i *ℚ share_at d l.column.numbers.now k);
 }

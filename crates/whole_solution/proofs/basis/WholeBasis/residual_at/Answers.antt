@@ -11,7 +11,7 @@ use Rattle.whole_solution.proofs.Reading.{product_of_row, row_read}
 use Rattle.whole_solution.proofs.basis.WholeBasis.residual_at.Goals as goal
 
 pub returns-in-Some : goal.returns-in-Some
-returns-in-Some c =
+returns-in-Some g c =
     let b = c.args.self.now in
     let s = b.inverse.now in
     let d = s.determinant in

@@ -4,6 +4,7 @@ use mir.Syntax.{w128}
 use Rattle.whole_inverse.specs.Squares.{inverse_of}
 use Rattle.whole_rows.specs.Wholes.{sample_of_rows}
 use Rattle.whole_solution.specs.declared.near.Near.{Near}
+use Rattle.whole_solution.specs.Far.{reaching}
 use Rattle.whole_solution.specs.Standing.{IsSided}
 use Rattle.whole_solution.proofs.Chosen.{near_now, far_now, sides_now}
 use Rattle.whole_solution.proofs.Looked.{each_near, made_near}
@@ -27,20 +28,22 @@ returns-then-holds_basis c =
     let same = c.in_ok-coef.ensures.each in
     let is_near = c.requires.before.near in
     let det : to_z w128 (of_z w128 c.determinant.result) ≡ c.determinant.result = search rules in
-    let serves = rw (c.as_slice.ensures, det, c.determinant.ensures.value) at (c.serves.ensures c.if-serves.true) in
+    let reach = c.in-Some.reach in
+    let some = c.in-Some.ensures.some in
+    let left = rw (c.as_slice.ensures, det, c.determinant.ensures.value) at c.in-Some.ensures.left in
     let looked = c.args.looked.now in
-    let put = rw (c.as_slice-then-serves-2.ensures) at c.in_ok-turned.ensures.each in
+    let put = rw (c.as_slice-in-Some-2.ensures) at c.in_ok-turned.ensures.each in
     let each = each_near p at a old made n.rows looked c.requires.looked put in
     let near = made_near p at a old made n.rows looked c.requires.looked put c.in_ok-turned.ensures.near in
-    let held = rw (c.as_slice-then-serves-3.ensures, c.requires.basis.size) at (c.holds_basis.ensures c.if-holds_basis.true) in
-    let sided : IsSided p at a d (record { coef = coef; sides = made; near = n; weights = weights; residuals = None }) =
+    let held = rw (c.as_slice-in-Some-3.ensures, c.requires.basis.size) at (c.holds_basis.ensures c.if-holds_basis.true) in
+    let sided : IsSided p at a d (record { coef = coef; sides = made; near = reaching n reach; weights = weights; residuals = None }) =
     record {
       columns = size;
       coef = same;
       all_sides = c.in_ok-turned.ensures.size;
-      sides = sides_now p at a d coef n old made size same is_near serves each near held;
-      near = near_now p at a d coef n old made size same is_near serves each;
-      far = far_now p at a d coef n old made size same is_near serves each;
+      sides = sides_now p at a d coef n reach old made size same is_near some left each near held;
+      near = near_now p at a d coef n reach old made size same is_near some left each;
+      far = far_now p at a d coef n reach old made size same is_near some left each;
       weights = c.in_ok-turned.ensures.weights;
       residuals = tt;
     } in

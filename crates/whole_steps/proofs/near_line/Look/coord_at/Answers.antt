@@ -9,7 +9,7 @@ use Rattle.whole_steps.proofs.Coordinates.{column_size, row_coordinate}
 use Rattle.whole_steps.proofs.near_line.Look.coord_at.Goals as goal
 
 pub returns-in-Some : goal.returns-in-Some
-returns-in-Some c =
+returns-in-Some g c =
     let look = c.requires.look in
     let l = c.args.self.now.near_line.line in
     let line = look.near.line in

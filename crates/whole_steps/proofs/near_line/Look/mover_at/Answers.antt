@@ -9,7 +9,7 @@ use Rattle.whole_steps.proofs.Movers.{side_here, moving_is, mover_here}
 use Rattle.whole_steps.proofs.near_line.Look.mover_at.Goals as goal
 
 pub returns-then-not-goes_towards : goal.returns-then-not-goes_towards
-returns-then-not-goes_towards c =
+returns-then-not-goes_towards g c =
     let l = c.args.self.now.near_line.line in
     let line = c.requires.look.near.line in
     let i = c.args.row in
@@ -20,7 +20,7 @@ returns-then-not-goes_towards c =
     moving_is l line i c.requires.row (get_or l.sides.now i Up) n (side_here l line i c.requires.row) there ∙ sym test ∙ c.if-not-goes_towards.true
 
 pub returns : goal.returns
-returns c =
+returns g c =
     let l = c.args.self.now.near_line.line in
     let line = c.requires.look.near.line in
     let i = c.args.row in

@@ -8,7 +8,7 @@ use Rattle.whole_steps.specs.Lines.{model, over_of}
 use Rattle.whole_steps.proofs.near_line.Look.residual_at.Goals as goal
 
 pub returns : goal.returns
-returns c =
+returns g c =
     let look = c.requires.look in
     let l = c.args.self.now.near_line.line in
     let i = c.args.row in
