@@ -1,5 +1,5 @@
 -- Past the step of a walk all rows keep their sides but for both of the step.
-use Rattle.std.specs.Prelude.{◌≡◌, ℕ, ◌<◌, List, slice_index, Option, Some, None, IfSome}
+use Rattle.std.specs.Prelude.{ℕ, ◌<◌, List, slice_index, Option, Some, None, IfSome}
 use Rattle.std.proofs.Common.{sym, ap, subst, ◌∙◌}
 use Rattle.exact_algebra.specs.Fraction.{Fraction}
 use Rattle.exact_algebra.specs.Rational.{ℚ}
