@@ -18,7 +18,7 @@ neg-sum (suc n) c t =
     ∙ ap (λ z. z +ℚ (neg_ℚ (t n) *ℚ c n)) (neg-sum n c t)
 
 -- the column at a position
-column_at : (d : ℤ) (lists : List (List ℤ)) (j : ℕ) (xs : List ℤ) → slice_get lists j ≡ Some xs → (k : ℕ) → share_at d xs k ≡ share_entries d lists j k
+pub column_at : (d : ℤ) (lists : List (List ℤ)) (j : ℕ) (xs : List ℤ) → slice_get lists j ≡ Some xs → (k : ℕ) → share_at d xs k ≡ share_entries d lists j k
 column_at d lists j xs is k = sym (ap (λ (o : Option (List ℤ)). option_map_or (λ xs. share_at d xs k) o (whole (pos 0))) is)
 
 pub balancing_share : (columns : List (List ℤ)) (column totals : List ℤ) (j : ℕ) (w d : ℤ) → slice_get columns j ≡ Some column → length column ≡ length totals

@@ -1,5 +1,5 @@
 -- Products of a list of shares and a list of whole numbers.
-use Rattle.std.proofs.Common.{ℕ, ◌<◌, ◌≡◌, ℤ, pos, ◌+ℤ◌, ◌*ℤ◌, List, [], ◌∷◌, length, refl, sym, ap, ap₂, ◌∙◌, arith}
+use Rattle.std.proofs.Common.{ℕ, ◌<◌, ◌+◌, ◌≡◌, ℤ, pos, ◌+ℤ◌, ◌*ℤ◌, List, [], ◌∷◌, length, refl, sym, ap, ap₂, ◌∙◌, add-one, arith}
 use Rattle.exact_algebra.specs.Solver.{number, ◌⊞◌, ◌⊠◌, v0, v1, v2, v3}
 use Rattle.exact_algebra.specs.Rational.{ℚ, ◌+ℚ◌, ◌*ℚ◌, whole, inverse}
 use Rattle.exact_algebra.proofs.RationalLaws.{whole-add, whole-mul, ring_ℚ}
@@ -26,3 +26,10 @@ share-total (x ∷ xs) [] d e = absurd (omega arith)
 
 pub products_same : (n : ℕ) (g g' h h' : ℕ → ℚ) → ((j : ℕ) → j < n → g j ≡ g' j) → ((j : ℕ) → j < n → h j ≡ h' j) → sum_ℚ n (λ j. g j *ℚ h j) ≡ sum_ℚ n (λ j. g' j *ℚ h' j)
 products_same n g g' h h' eg eh = sum_ℚ-same n (λ j. g j *ℚ h j) (λ j. g' j *ℚ h' j) (λ j lj. ap₂ (λ x y. x *ℚ y) (eg j lj) (eh j lj))
+
+-- one product more
+pub share_product-more : (d s x y : ℤ) (f : ℕ → ℚ) (j : ℕ) → share s d ≡ sum_ℚ j f → share x d *ℚ whole y ≡ f j → share (s +ℤ x *ℤ y) d ≡ sum_ℚ (j + 1) f
+share_product-more d s x y f j before here =
+    rw (add-one) (ap (λ z. z *ℚ inverse (whole d)) (whole-add s (x *ℤ y) ∙ ap (λ z. whole s +ℚ z) (whole-mul x y))
+    ∙ ring_ℚ (whole s ∷ whole x ∷ whole y ∷ inverse (whole d) ∷ []) ((v0 ⊞ v1 ⊠ v2) ⊠ v3) (v0 ⊠ v3 ⊞ (v1 ⊠ v3) ⊠ v2) refl
+    ∙ ap₂ (λ a b. a +ℚ b) before here)

@@ -12,7 +12,7 @@ use loss_model::Basis;
 use std::alloc::Global;
 use whole_inverse::{Obstacle, WholeInverse, room_for};
 use whole_rows::WholeRow;
-use wide_int::sum_of_products;
+use wide_int::{short_product, sum_of_products};
 
 /// The numerators of a column at all positions.
 fn column_of(alloc: Global, inverse: &WholeInverse, k: u32, n: u32) -> Result<List<i128>, Obstacle>
@@ -59,6 +59,23 @@ pub fn product_of(column: &[i128], ys: &[i128]) -> Result<i128, Obstacle>
     }
 }
 
+/// The numerator of a coefficient, where nothing on the way to it is wider than 127 bits: then no list is made of the column.
+fn short_coefficient(inverse: &WholeInverse, k: u32, n: u32, ys: &[i128]) -> Option<i128>
+    requires size { length inverse.now.columns ≡ n }
+    requires square { All (λ c. length c ≡ length inverse.now.columns) inverse.now.columns }
+    requires within { k < n }
+    requires same { length ys.now ≡ n }
+    ensures { IfSome result (λ s. (d : ℤ) → share s d ≡ sum_ℚ n (λ j. shares inverse.now.columns d k j *ℚ whole_at ys.now j)) }
+{
+    let mut sum: i128 = 0;
+    for j in 0..n {
+        let column = inverse.numerators(j);
+        let product = short_product(column[k as usize], ys[j as usize])?;
+        sum = sum.checked_add(product)?;
+    }
+    Some(sum)
+}
+
 /// The numerator of a coefficient.
 fn coefficient_of(
     alloc: Global,
@@ -73,6 +90,9 @@ fn coefficient_of(
     requires same { length ys.now ≡ n }
     ensures { IfOk result (λ s. (d : ℤ) → share s d ≡ sum_ℚ n (λ j. shares inverse.now.columns d k j *ℚ whole_at ys.now j)) }
 {
+    if let Some(number) = short_coefficient(inverse, k, n, ys) {
+        return Ok(number);
+    }
     let column = column_of(alloc, inverse, k, n)?;
     product_of(column.as_slice(), ys)
 }

@@ -1,0 +1,8 @@
+use Rattle.std.proofs.Common.{◌≡◌, ℤ}
+use Rattle.exact_algebra.specs.Rational.{◌*ℚ◌}
+use Rattle.exact_algebra.specs.RationalSums.{sum_ℚ}
+use Rattle.whole_inverse.specs.Shares.{share, shares, whole_at}
+use Rattle.whole_solution.proofs.primal.short_coefficient.Given as goal
+
+abbrev pub invariant-loop-j : goal.invariant-loop-j
+invariant-loop-j l = (d : ℤ) → share l.sum d ≡ sum_ℚ l.j (λ j. shares l.inverse.columns d l.k j *ℚ whole_at l.ys j)
