@@ -83,7 +83,7 @@ fn read_columns(alloc: Global, columns: Vec<StringRecord>) -> Result<Vec<ColumnC
     Ok(stored)
 }
 
-// The table of the records that a reader has left.
+// The table of the records that a reader has left. The header is let go here, once for all ways out of the other function.
 fn read_frame(alloc: Global, reader: &mut Reader<&[u8]>) -> Result<Frame, TableFault>
     requires reading { IsReading reader.old }
     requires small { length (unread reader.old) < 2 ^ 32 }
@@ -93,13 +93,31 @@ fn read_frame(alloc: Global, reader: &mut Reader<&[u8]>) -> Result<Frame, TableF
         ⊎ (table_of_records (left_of reader.old) ≡ Err e)) }
 {
     let mut header = StringRecord::new(alloc);
-    match next_row(reader, &mut header)? {
+    let frame = read_under(alloc, reader, &mut header);
+    drop(header);
+    frame
+}
+
+// The same table, with its header read into `header`.
+fn read_under(
+    alloc: Global,
+    reader: &mut Reader<&[u8]>,
+    header: &mut StringRecord,
+) -> Result<Frame, TableFault>
+    requires reading { IsReading reader.old }
+    requires small { length (unread reader.old) < 2 ^ 32 }
+    ensures table { IfOk result
+        (λ frame. table_of_records (left_of reader.old) ≡ Ok (exact_table frame)) }
+    ensures fault { IfErr result (λ e. (e ≡ TableFault.OutOfMemory)
+        ⊎ (table_of_records (left_of reader.old) ≡ Err e)) }
+{
+    match next_row(reader, header)? {
         NextRecord::End => return Err(TableFault::NoHeader),
         NextRecord::NotText => return Err(TableFault::NotUtf8 { rec: 0 }),
         NextRecord::Row => {}
     }
-    let names = read_names(alloc, &header)?;
-    let body = read_rows(alloc, reader, header.len() as u32, set_aside(&header))?;
+    let names = read_names(alloc, header)?;
+    let body = read_rows(alloc, reader, header.len() as u32, set_aside(header))?;
     let columns = read_columns(alloc, body.columns)?;
     Ok(Frame {
         names,

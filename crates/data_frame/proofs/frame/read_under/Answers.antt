@@ -3,7 +3,7 @@ use Rattle.std.proofs.lemmas.Result.{err_from_is_err_and}
 use Rattle.csv.specs.Records.{fields_of}
 use Rattle.data_frame.specs.Reading.{left_of}
 use Rattle.data_frame.proofs.Tables.{bad_header, bad_row, columns_short, few_rows, header_not_text, header_short, named_columns, no_records, stored_columns, table_is}
-use Rattle.data_frame.proofs.frame.read_frame.Goals as goal
+use Rattle.data_frame.proofs.frame.read_under.Goals as goal
 
 pub returns-in-End-clause-fault : goal.returns-in-End-clause-fault
 returns-in-End-clause-fault c = inr (no_records (left_of c.args.reader.now) (rw c.in-End.is at c.in_ok-next_row.ensures.finds))
