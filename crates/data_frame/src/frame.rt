@@ -1,5 +1,5 @@
 //! A whole table, read from the bytes of a CSV file.
-ghost use Rattle.std.specs.Prelude.{◌≡◌, ◌⊎◌, ◌+◌, ◌-◌, ◌^◌, ◌<◌, All, Ok, Err, length, map, option_map, IfOk, IfErr, IfNone, OnOk, OnSome, Contains};
+ghost use Rattle.std.specs.Prelude.{◌≡◌, ◌⊎◌, ◌+◌, ◌-◌, ◌^◌, ◌<◌, ◌++◌, ◌∷◌, [], All, Ok, Err, length, map, option_map, IfOk, IfErr, IfNone, OnOk, OnSome, Contains};
 ghost use Rattle.csv.specs.Records.{fields_of};
 ghost use Rattle.data_frame.specs.Cells.{column_of};
 ghost use Rattle.data_frame.specs.Tables.{column_named, table_of, table_of_records};
@@ -70,6 +70,22 @@ impl Frame {
     }
 }
 
+// Adds the column of these cells, which are let go.
+fn add_column(
+    alloc: Global,
+    stored: &mut Vec<ColumnCells>,
+    cells: StringRecord,
+) -> Result<(), AllocError>
+    requires { length (fields_of cells) < 2 ^ 32 - 1 }
+    ensures { OnOk result (map (λ s. exact_column (stored_column s)) stored.new.items
+        ≡ map (λ s. exact_column (stored_column s)) stored.old.items ++ column_of (fields_of cells) ∷ []) }
+{
+    let column = read_column(alloc, &cells);
+    drop(cells);
+    stored.push(column?)?;
+    Ok(())
+}
+
 // The columns of these cells, which are let go one after the other.
 fn read_columns(alloc: Global, columns: Vec<StringRecord>) -> Result<Vec<ColumnCells>, AllocError>
     requires { All (λ cells. length (fields_of cells) < 2 ^ 32 - 1) columns.items }
@@ -78,7 +94,7 @@ fn read_columns(alloc: Global, columns: Vec<StringRecord>) -> Result<Vec<ColumnC
 {
     let mut stored = Vec::with_capacity(alloc, columns.len())?;
     for cells in columns {
-        stored.push(read_column(alloc, &cells)?)?;
+        add_column(alloc, &mut stored, cells)?;
     }
     Ok(stored)
 }
@@ -117,13 +133,24 @@ fn read_under(
         NextRecord::Row => {}
     }
     let names = read_names(alloc, header)?;
-    let body = read_rows(alloc, reader, header.len() as u32, set_aside(header))?;
-    let columns = read_columns(alloc, body.columns)?;
-    Ok(Frame {
-        names,
-        records: body.records,
-        columns,
-    })
+    let body = match read_rows(alloc, reader, header.len() as u32, set_aside(header)) {
+        Ok(body) => body,
+        Err(fault) => {
+            drop(names);
+            return Err(fault);
+        }
+    };
+    match read_columns(alloc, body.columns) {
+        Ok(columns) => Ok(Frame {
+            names,
+            records: body.records,
+            columns,
+        }),
+        Err(_) => {
+            drop(names);
+            Err(TableFault::OutOfMemory)
+        }
+    }
 }
 
 /// Reads a table: a header and the records under it.

@@ -25,31 +25,30 @@ returns-in_err-names-clause-fault c =
 pub overflow_cast-len : goal.overflow_cast-len
 overflow_cast-len c = omega (arith, header_short (fields_of c.next_row.new.row) c.in_ok-names.ensures.0, c.len.ensures)
 
-pub returns-in_err-body-clause-fault : goal.returns-in_err-body-clause-fault
-returns-in_err-body-clause-fault c =
-    let p = err_from_is_err_and c.from_residual-in_err-body.result c.from_residual-in_err-body.ensures.1 in
+pub returns-in-Err-clause-fault : goal.returns-in-Err-clause-fault
+returns-in-Err-clause-fault c =
     let takes = rw c.in-Row.is at c.in_ok-next_row.ensures.finds in
-    rw (p.1, p.2) (elim c.in_err-body.ensures [
+    elim c.in-Err.ensures [
       | inl memory ↦ inl memory
       | inr bad ↦ inr (bad_row (left_of c.args.reader.now) _ _ _ takes.next c.in_ok-names.ensures.0 (rw c.len.ensures at bad))
-    ])
+    ]
 
 pub read_columns-requires : goal.read_columns-requires
 read_columns-requires c =
-    let body = c.in_ok-body.ensures in
-    columns_short c.in_ok-body.body.columns.items (left_of c.next_row.new.reader) _ _ body.1 (few_rows _ _ body.0)
+    let body = c.in-Ok.ensures in
+    columns_short c.in-Ok.body.columns.items (left_of c.next_row.new.reader) _ _ body.1 (few_rows _ _ body.0)
 
 pub invariant_of-result : goal.invariant_of-result
 invariant_of-result c =
-    named_columns c.in_ok-columns.columns.items c.in_ok-body.body.columns.items _ (fields_of c.next_row.new.row) c.in_ok-names.names _ _
-    c.in_ok-columns.ensures c.in_ok-body.ensures.1 c.in_ok-names.ensures.1 c.len.ensures c.set_aside.ensures
+    named_columns c.in-Ok-read_columns.columns.items c.in-Ok.body.columns.items _ (fields_of c.next_row.new.row) c.in_ok-names.names _ _
+    c.in-Ok-read_columns.ensures c.in-Ok.ensures.1 c.in_ok-names.ensures.1 c.len.ensures c.set_aside.ensures
 
-pub returns-clause-table : goal.returns-clause-table
-returns-clause-table c =
+pub returns-in-Ok-read_columns-clause-table : goal.returns-in-Ok-read_columns-clause-table
+returns-in-Ok-read_columns-clause-table c =
     let takes = rw c.in-Row.is at c.in_ok-next_row.ensures.finds in
     let header = fields_of c.next_row.new.row in
-    let body = c.in_ok-body.ensures in
-    table_is (left_of c.args.reader.now) header (left_of c.next_row.new.reader) c.in_ok-names.names c.in_ok-body.body.records _ takes.next
+    let body = c.in-Ok.ensures in
+    table_is (left_of c.args.reader.now) header (left_of c.next_row.new.reader) c.in_ok-names.names c.in-Ok.body.records _ takes.next
     c.in_ok-names.ensures.0 (rw c.len.ensures at body.0) c.in_ok-names.ensures.1 body.2
-    (stored_columns c.in_ok-columns.columns.items c.in_ok-body.body.columns.items (left_of c.next_row.new.reader) header _ _
-    c.in_ok-columns.ensures body.1 c.len.ensures c.set_aside.ensures)
+    (stored_columns c.in-Ok-read_columns.columns.items c.in-Ok.body.columns.items (left_of c.next_row.new.reader) header _ _
+    c.in-Ok-read_columns.ensures body.1 c.len.ensures c.set_aside.ensures)
