@@ -265,14 +265,19 @@ pub(crate) fn tally_of(
 ) -> Option<Tally>
     ensures { IfSome result (IsTally rows.now width sides.now) }
 {
+    let unsettled = unsettled_rows(alloc, &[], sides, rows.len())?;
     let nothing = Tally {
         starts: List::new(alloc),
         slopes: List::new(alloc),
         unsettled: List::new(alloc),
     };
-    let unsettled = unsettled_rows(alloc, &[], sides, rows.len())?;
-    let all = turned(alloc, rows, width, &nothing, &[], sides, unsettled)?;
-    let basic = unsettled_rows(alloc, sides, sides, rows.len())?;
+    let all = turned(alloc, rows, width, &nothing, &[], sides, unsettled);
+    drop(nothing);
+    let all = all?;
+    let Some(basic) = unsettled_rows(alloc, sides, sides, rows.len()) else {
+        drop(all);
+        return None;
+    };
     Some(Tally {
         starts: all.starts,
         slopes: all.slopes,

@@ -4,12 +4,12 @@ use Rattle.cert_sums.specs.declared.slopes.Part.TheVariants.{Start, Slope}
 use Rattle.cert_sums.proofs.Unsettled.{no_lines}
 use Rattle.cert_sums.proofs.slopes.tally_of.Goals as goal
 
-pub turned-requires-clause-starts : goal.turned-requires-clause-starts
-turned-requires-clause-starts c =
+pub turned-all-requires-clause-starts : goal.turned-all-requires-clause-starts
+turned-all-requires-clause-starts c =
     let none : c.new.result ≡ [] = search rules in
     rw (none) (λ k l. no_lines Start c.args.rows.now k)
 
-pub turned-requires-clause-slopes : goal.turned-requires-clause-slopes
-turned-requires-clause-slopes c =
+pub turned-all-requires-clause-slopes : goal.turned-all-requires-clause-slopes
+turned-all-requires-clause-slopes c =
     let none : c.new-2.result ≡ [] = search rules in
     rw (none) (λ k l. no_lines Slope c.args.rows.now k)
