@@ -1,5 +1,5 @@
 -- The side of a row, by its place in the basis and by its residual.
-use Rattle.std.specs.Prelude.{◌≡◌, ◌≢◌, ℕ, zero, suc, ◌<◌, Bool, true, false, if◌then◌else◌, ◌==◌, ◌||◌, ◌+◌, ◌++◌, Result, Ok, Err, OnOk, List, [], ◌∷◌, length, slice_index, pos}
+use Rattle.std.specs.Prelude.{◌≡◌, ◌≢◌, ℕ, zero, suc, ◌<◌, Bool, true, false, if◌then◌else◌, ◌==◌, ◌||◌, ◌+◌, ◌++◌, List, [], ◌∷◌, length, slice_index, pos}
 use Rattle.std.specs.List.{list_any}
 use Rattle.std.specs.declared.cmp.Ordering.TheVariants.{Less, Greater}
 use Rattle.std.proofs.Common.{arith, refl, sym, ap, ap₂, ◌∙◌, below_more}

@@ -80,3 +80,15 @@ returns-clause-exact g c =
     let value = g.F.Exact.value in
     let end : c.loop-i.i ≡ length c.args.problem.now.rows = omega (arith, ap length c.as_slice-rows.ensures) in
     partial_sum-whole (total_products (sample value c.args.problem.now) (side_in c.args.sides.now) c.args.part c.args.column) c.loop-i.i _ end refl c.loop-i.invariant.sum
+
+pub bounds-sides-i : goal.bounds-sides-i
+bounds-sides-i g c = omega (arith, ap length c.as_slice-rows.ensures, c.requires.sides, c.loop-i-test.true)
+
+pub bounds-as_slice-column : goal.bounds-as_slice-column
+bounds-as_slice-column g c =
+    let value = g.F.Exact.value in
+    let p = c.args.problem.now in
+    let row = c.index-rows-i.result in
+    let within : c.loop-i.i < length p.rows = omega (arith, ap length c.as_slice-rows.ensures) in
+    let read : row ≡ get_or p.rows c.loop-i.i row = rw c.as_slice-rows.ensures at c.index-rows-i.is in
+    omega (arith, ap length c.as_slice.ensures, row_wide value p c.loop-i.i row within read c.requires.shaped, c.requires.column)

@@ -1,4 +1,4 @@
-use Rattle.std.proofs.Common.{◌≡◌, ◌<◌, slice_index, get_or, arith, refl, sym, zero-add}
+use Rattle.std.proofs.Common.{◌≡◌, ◌<◌, length, slice_index, get_or, arith, refl, sym, ap, zero-add}
 use Rattle.std.proofs.lemmas.Result.{err_from_is_err_and}
 use Rattle.exact_algebra.specs.Fraction.{rational}
 use Rattle.loss_model.specs.declared.spill.Quantity.TheVariants.{Coefficient}
@@ -49,3 +49,17 @@ returns-clause-exact g c =
     let value = g.F.Exact.value in
     let end : c.loop-position.position ≡ c.args.problem.now.columns = omega arith in
     partial_sum-whole (coefficient_products (sample value c.args.problem.now) (slice_index c.args.basis.now.rows) (inverse_entry value c.args.inverse.now) c.args.column) c.loop-position.position _ end refl c.loop-position.invariant
+
+pub bounds-held-position : goal.bounds-held-position
+bounds-held-position g c = omega (arith, ap length c.as_slice-held.ensures, c.requires.basis.same)
+
+pub bounds-rows-row : goal.bounds-rows-row
+bounds-rows-row g c =
+    let here : c.loop-position.position < c.args.problem.now.columns = omega arith in
+    rw (c.as_slice-rows.ensures, c.as_slice-held.ensures) (c.requires.basis.distinct.within c.loop-position.position here)
+
+pub entry-requires-clause-column : goal.entry-requires-clause-column
+entry-requires-clause-column g c κs within = omega (arith, c.requires.basis.size, c.requires.within)
+
+pub entry-requires-clause-position : goal.entry-requires-clause-position
+entry-requires-clause-position g c κs within = omega (arith, c.requires.basis.size)

@@ -1,4 +1,4 @@
-use Rattle.std.proofs.Common.{slice_index, inl, inr}
+use Rattle.std.proofs.Common.{slice_index, inr}
 use Rattle.std.proofs.lemmas.Result.{err_from_is_err_and}
 use Rattle.loss_model.specs.Problem.{sample}
 use Rattle.basis_inverse.specs.Square.{inverse_entry}
