@@ -1,16 +1,12 @@
 //! The parts that are made once for a problem, or once for a column: the inverse of the Gram matrix, and the test.
 
-ghost use Rattle.std.specs.Prelude.{◌≡◌, ◌<◌, length};
-ghost use Rattle.rank_inversion.specs.GramStops.{IsInverted};
-
-use crate::helpers::{Data, Ratio, expect, fraction, problem};
-use basis_inverse::Inverse;
+use crate::helpers::{Data, Ratio, expect, expect_entries, fraction, problem};
+use crate::intervals::helpers::gram;
 use frac_core::{Exact, Frac64, Frac128};
-use loss_model::Problem;
-use rank_inversion::{Asked, GramInverse, gram_inverse, rank_test};
+use rank_inversion::{Asked, rank_test};
 use std::alloc::Global;
 use std::process::Abort;
-use test_kit::{are_data, is_shaped, ratio};
+use test_kit::ratio;
 
 /// Weighted rows: the weighted columns are (1, 2, 3) and (0, 2, 9), with the Gram matrix 14, 31; 31, 85 of
 /// determinant 229.
@@ -19,33 +15,11 @@ static WEIGHTED: [Data; 3] = [([1, 0, 0], 0, 1), ([1, 1, 0], 2, 2), ([1, 3, 0], 
 /// Its inverse, row by row.
 static INVERSE: [[Ratio; 2]; 2] = [[(85, 229), (-31, 229)], [(-31, 229), (14, 229)]];
 
-/// The inverse of the Gram matrix of a problem that meets its conditions.
-fn gram<F: Exact>(rt: &impl Abort, alloc: Global, rows: &Problem<F>) -> GramInverse<F>
-    ensures { IsInverted F.value rows.now result }
-{
-    assert!(rt; is_shaped(rows));
-    assert!(rt; are_data(rows));
-    gram_inverse(alloc, rows)
-        .ok()
-        .expect(rt, "independent columns")
-}
-
-fn expect_entries<F: Exact>(rt: &impl Abort, inverse: &Inverse<F>)
-    requires { length inverse.now.columns ≡ 2 }
-{
-    for column in 0..2 {
-        for position in 0..2 {
-            let found = ratio(inverse.entry(column, position));
-            assert!(rt; found == INVERSE[column as usize][position as usize]);
-        }
-    }
-}
-
 fn expect_inverse<F: Exact>(rt: &impl Abort, alloc: Global) {
     let rows = problem::<F>(rt, alloc, 2, 1, WEIGHTED.as_slice());
     let found = gram(rt, alloc, &rows);
     assert!(rt; found.basis.rows.as_slice() == [0, 1].as_slice());
-    expect_entries(rt, &found.inverse);
+    expect_entries(rt, &found.inverse, &INVERSE);
     drop(found);
     drop(rows);
 }

@@ -1,15 +1,14 @@
 //! Limits below the steps that an interval takes, dependent columns, and operations that overflow, each with its
 //! trail.
 
-use crate::helpers::{Data, Ratio, Step, expect, problem};
+use crate::helpers::{Data, Ratio, Step, expect, expect_steps, is_spill, problem};
 use crate::intervals::helpers::{
-    Question, answered, expect_steps, stopped, stopped_by_parts, whole_numbers_answer,
+    Question, answered, stopped, stopped_by_parts, whole_numbers_answer,
 };
 use frac_core::{Exact, Frac64, Frac128, OpKind};
 use loss_model::{Quantity, Site, Stop, Trail};
 use std::alloc::Global;
 use std::process::Abort;
-use test_kit::ratio;
 
 /// The parts of a trail.
 struct Path {
@@ -27,7 +26,7 @@ fn expect_trail<F: Exact>(rt: &impl Abort, trail: &Trail<F>, want: &Path) {
 }
 
 /// Five responses, an intercept. With the critical value 9/5 the solve takes a step, and each walk two.
-static FIVE: [Data; 5] = [
+const FIVE: &[Data] = &[
     ([1, 0, 0], 1, 1),
     ([1, 0, 0], 2, 1),
     ([1, 0, 0], 3, 1),
@@ -36,7 +35,7 @@ static FIVE: [Data; 5] = [
 ];
 
 /// The same, the last of which is 10^30.
-static HIGH: [Data; 5] = [
+const HIGH: &[Data] = &[
     ([1, 0, 0], 1, 1),
     ([1, 0, 0], 2, 1),
     ([1, 0, 0], 3, 1),
@@ -85,7 +84,7 @@ static LIMITED: [Path; 5] = [
 ];
 
 fn expect_limit<F: Exact>(rt: &impl Abort, alloc: Global, limit: u32, want: &Path) {
-    let rows = problem::<F>(rt, alloc, 1, 1, FIVE.as_slice());
+    let rows = problem::<F>(rt, alloc, 1, 1, FIVE);
     let stop = stopped(rt, alloc, &rows, OF_FIVE, limit);
     match &stop {
         Stop::PivotLimit {
@@ -110,27 +109,40 @@ fn limits_below_five_steps(rt: HostRuntime) {
 }
 
 /// Whole numbers give no interval where a step is left at the limit, or a response has more than 64 bits.
-#[test]
-fn whole_numbers_refuse(rt: HostRuntime) {
-    let rows = problem::<Frac128>(&rt, rt.alloc(), 1, 1, FIVE.as_slice());
-    for limit in 0..5 {
-        assert!(&rt; !whole_numbers_answer(&rt, rt.alloc(), &rows, OF_FIVE, limit));
-    }
-    assert!(&rt; whole_numbers_answer(&rt, rt.alloc(), &rows, OF_FIVE, 5));
+static IN_WHOLES: [(&[Data], u32, bool); 7] = [
+    (FIVE, 0, false),
+    (FIVE, 1, false),
+    (FIVE, 2, false),
+    (FIVE, 3, false),
+    (FIVE, 4, false),
+    (FIVE, 5, true),
+    (HIGH, 100, false),
+];
+
+fn expect_wholes(rt: &impl Abort, alloc: Global, table: &[Data], limit: u32, is_answered: bool) {
+    let rows = problem::<Frac128>(rt, alloc, 1, 1, table);
+    let found = whole_numbers_answer(rt, alloc, &rows, OF_FIVE, limit);
     drop(rows);
-    let high = problem::<Frac128>(&rt, rt.alloc(), 1, 1, HIGH.as_slice());
-    assert!(&rt; !whole_numbers_answer(&rt, rt.alloc(), &high, OF_FIVE, 100));
-    drop(answered(&rt, rt.alloc(), &high, OF_FIVE, 100));
-    drop(high);
+    assert!(rt; found == is_answered, "{limit}");
 }
 
 #[test]
-fn five_steps_suffice(rt: HostRuntime) {
-    let rows = problem::<Frac128>(&rt, rt.alloc(), 1, 1, FIVE.as_slice());
-    for limit in [5, 6, 100] {
-        drop(answered(&rt, rt.alloc(), &rows, OF_FIVE, limit));
+fn whole_numbers_refuse(rt: HostRuntime) {
+    for (table, limit, is_answered) in &IN_WHOLES {
+        expect_wholes(&rt, rt.alloc(), table, *limit, *is_answered);
     }
-    drop(rows);
+}
+
+/// Limits under which there is an interval.
+static ANSWERED: [(&[Data], u32); 4] = [(FIVE, 5), (FIVE, 6), (FIVE, 100), (HIGH, 100)];
+
+#[test]
+fn five_steps_suffice(rt: HostRuntime) {
+    for (table, limit) in &ANSWERED {
+        let rows = problem::<Frac128>(&rt, rt.alloc(), 1, 1, table);
+        drop(answered(&rt, rt.alloc(), &rows, OF_FIVE, *limit));
+        drop(rows);
+    }
 }
 
 /// The third column is the sum of the others; the start leaves the combination -1, -1, 1.
@@ -342,9 +354,7 @@ fn expect_overflow(rt: &impl Abort, alloc: Global, case: &Overflow) {
     let stop = stopped_by_parts(rt, alloc, &rows, case.question, 100);
     match &stop {
         Stop::Overflow { trail, spill } => {
-            assert!(rt; spill.site == case.site);
-            assert!(rt; ratio(spill.left) == case.left);
-            assert!(rt; ratio(spill.right) == case.right);
+            assert!(rt; is_spill(*spill, case.site, case.left, case.right));
             expect_trail(rt, trail, &case.path);
         }
         _ => panic!(rt; "an operation overflows"),

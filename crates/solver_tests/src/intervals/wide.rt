@@ -3,17 +3,15 @@
 //! at which dual values of the restricted problem were found within the bound, and others beyond it, in the same way.
 
 ghost use Rattle.std.specs.Prelude.{◌≡◌, ◌<◌, length};
-ghost use Rattle.rank_inversion.specs.GramStops.{IsInverted};
 
-use crate::helpers::{Ratio, Wide, wide_problem};
-use crate::intervals::helpers::{Question, answered};
-use basis_inverse::{Inverse, start};
+use crate::helpers::{Ratio, Wide, begun, wide_problem};
+use crate::intervals::helpers::{Question, answered, gram};
+use basis_inverse::Inverse;
 use frac_core::{Exact, Frac128};
-use loss_model::{Bound, End, Problem, Stop};
-use rank_inversion::{GramInverse, gram_inverse};
+use loss_model::{Bound, End, Stop};
 use std::alloc::Global;
 use std::process::Abort;
-use test_kit::{are_data, is_shaped, ratio};
+use test_kit::ratio;
 
 /// An intercept, four columns of numbers below 1,000, and the response.
 static TABLE: [Wide; 32] = [
@@ -172,25 +170,13 @@ static INVERSE: [[Ratio; 5]; 5] = [
 #[test]
 fn fractions_overflow(rt: HostRuntime) {
     let gram = wide_problem::<Frac128>(&rt, rt.alloc(), GRAM.as_slice());
-    assert!(&rt; is_shaped(&gram));
-    let stop = start(rt.alloc(), &gram).err().expect(&rt, "a stop");
+    let stop = begun(&rt, rt.alloc(), &gram).err().expect(&rt, "a stop");
     match &stop {
         Stop::Overflow { .. } => {}
         _ => panic!(&rt; "an entry under way has more than 128 bits"),
     }
     drop(stop);
     drop(gram);
-}
-
-/// The inverse of the Gram matrix of a problem that meets its conditions.
-fn gram<F: Exact>(rt: &impl Abort, alloc: Global, rows: &Problem<F>) -> GramInverse<F>
-    ensures { IsInverted F.value rows.now result }
-{
-    assert!(rt; is_shaped(rows));
-    assert!(rt; are_data(rows));
-    gram_inverse(alloc, rows)
-        .ok()
-        .expect(rt, "numbers of 86 bits")
 }
 
 fn expect_entries<F: Exact>(rt: &impl Abort, inverse: &Inverse<F>)

@@ -1,9 +1,9 @@
 //! Intervals worked by hand, with their trails and all that their ends state.
 
-use crate::helpers::{Data, Ratio, Step, expect, problem};
-use crate::intervals::helpers::{Question, answered, expect_steps};
+use crate::helpers::{Data, Ratio, Step, expect, expect_steps, problem};
+use crate::intervals::helpers::{Question, answered};
 use frac_core::{Exact, Frac64, Frac128};
-use loss_model::{Beyond, Bound, End, Interval, Side, widen_interval};
+use loss_model::{Beyond, Bound, End, Interval, Side, Vertex, widen_interval};
 use std::alloc::Global;
 use std::process::Abort;
 use test_kit::ratio;
@@ -219,22 +219,27 @@ fn bound<F: Exact>(found: Bound<F>) -> Option<Ratio> {
     }
 }
 
+fn expect_vertex<F: Exact>(rt: &impl Abort, vertex: &Vertex<F>, want: &Edge) {
+    assert!(rt; vertex.basis.rows.as_slice() == want.basis);
+    assert!(rt; vertex.sides.as_slice() == want.sides);
+    expect(rt, &vertex.coef, want.coef);
+}
+
+// Dual values outside of the bound, or a ray where the end is infinite.
+fn expect_beyond<F: Exact>(rt: &impl Abort, beyond: &Beyond<F>, want: &Edge) {
+    let (is_finite, values) = match beyond {
+        Beyond::Outside(outside) => (true, outside),
+        Beyond::Ray(ray) => (false, ray),
+    };
+    assert!(rt; want.value.is_some() == is_finite);
+    expect(rt, values, want.beyond);
+}
+
 fn expect_end<F: Exact>(rt: &impl Abort, found: &End<F>, want: &Edge) {
     assert!(rt; bound(found.bound) == want.value);
-    assert!(rt; found.vertex.basis.rows.as_slice() == want.basis);
-    assert!(rt; found.vertex.sides.as_slice() == want.sides);
-    expect(rt, &found.vertex.coef, want.coef);
+    expect_vertex(rt, &found.vertex, want);
     expect(rt, &found.inside, want.inside);
-    match &found.beyond {
-        Beyond::Outside(outside) => {
-            assert!(rt; want.value.is_some());
-            expect(rt, outside, want.beyond);
-        }
-        Beyond::Ray(ray) => {
-            assert!(rt; want.value.is_none());
-            expect(rt, ray, want.beyond);
-        }
-    }
+    expect_beyond(rt, &found.beyond, want);
 }
 
 fn expect_interval<F: Exact>(rt: &impl Abort, found: &Interval<F>, case: &Case) {
