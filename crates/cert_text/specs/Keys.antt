@@ -12,11 +12,13 @@ use Rattle.loss_model.specs.Values.{exact_row}
 use Rattle.cert_text.specs.Kept.{basic_rows}
 use Rattle.cert_text.specs.Chains.{high_places, side_at, values_at, moved}
 use Rattle.cert_text.specs.Contents.{Content, exact_move, exact_interval}
-use Rattle.cert_text.specs.Certificates.{anything, segments, vertex_of, if_filled, if_as_many}
-use Rattle.cert_text.specs.Reading.{Reading, on_read, field, fitting, no_more_keys}
+use Rattle.cert_text.specs.Certificates.{anything, segments, sides, vertex_of, if_filled, if_as_many}
+use Rattle.cert_text.specs.Reading.{Reading, on_read, fraction, field, fitting, no_more_keys}
 use Rattle.cert_text.specs.declared.layout.Layout.{Layout}
 use Rattle.cert_text.specs.declared.place.Place.{Place}
 use Rattle.cert_text.specs.declared.read.TopKeys.{TopKeys}
+use Rattle.cert_text.specs.declared.segment.BackKeys.{BackKeys}
+use Rattle.cert_text.specs.declared.segment.FrontKeys.{FrontKeys}
 use Rattle.cert_text.specs.declared.segment.SegmentKeys.{SegmentKeys}
 use Rattle.cert_text.specs.declared.later.LaterKeys.{LaterKeys}
 use Rattle.cert_text.specs.declared.interval.FiniteKeys.{FiniteKeys}
@@ -37,6 +39,39 @@ segment_behind rows k ms =
       loss_lo = exact k.loss_lo;
       loss_hi = exact k.loss_hi;
     })))
+
+-- both parts of its keys
+abbrev pub joined_keys : FrontKeys → BackKeys → SegmentKeys
+joined_keys front back = record {
+  basic_hi = front.basic_hi;
+  basic_lo = front.basic_lo;
+  coef = front.coef;
+  hi = back.hi;
+  lo = back.lo;
+  loss_hi = back.loss_hi;
+  loss_lo = back.loss_lo;
+  sides = back.sides;
+}
+
+-- a segment whose first keys these are, with these members behind them
+abbrev pub segment_behind_front : Option ℕ → FrontKeys → Members → Reading (Segment ℚ)
+segment_behind_front rows front ms =
+    on_read (field (codes "hi") fraction ms) (λ hi.
+    on_read (field (codes "lo") fraction hi.1) (λ lo.
+    on_read (field (codes "loss_hi") fraction lo.1) (λ loss_hi.
+    on_read (field (codes "loss_lo") fraction loss_hi.1) (λ loss_lo.
+    on_read (field (codes "sides") sides loss_lo.1) (λ signs.
+    on_read (fitting (codes "sides") (if_filled rows signs.0 (map exact front.basic_lo) (map exact front.basic_hi))) (λ _.
+    on_read (no_more_keys signs.1) (λ _.
+    Ok (record {
+      lo = lo.0;
+      hi = hi.0;
+      vertex = vertex_of signs.0 (map exact front.coef);
+      basic_lo = map exact front.basic_lo;
+      basic_hi = map exact front.basic_hi;
+      loss_lo = loss_lo.0;
+      loss_hi = loss_hi.0;
+    }))))))))
 
 -- the segment of these keys behind another one, whose rows lie here at its low end
 abbrev pub later_from : Segment ℚ → LaterKeys → List (Place ℚ) → Segment ℚ

@@ -9,7 +9,8 @@ ghost use Rattle.cert_text.specs.Chains.{is_filled};
 ghost use Rattle.cert_text.specs.Contents.{exact_segment};
 ghost use Rattle.cert_text.specs.Kept.{IsKeptSegment};
 ghost use Rattle.cert_text.specs.Certificates.{if_filled, segment_members, segment};
-ghost use Rattle.cert_text.specs.Keys.{segment_behind};
+ghost use Rattle.cert_text.specs.Keys.{segment_behind, segment_behind_front, joined_keys};
+ghost use Rattle.cert_text.specs.declared.segment.FrontKeys.{FrontKeys};
 ghost use Rattle.cert_text.specs.Trees.{segment_tree};
 
 use crate::fault::CertFault;
@@ -36,29 +37,79 @@ struct SegmentKeys {
     sides: Sides,
 }
 
+// The first of them, which are lists.
+#[derive(Drop)]
+struct FrontKeys {
+    basic_hi: List<Frac128>,
+    basic_lo: List<Frac128>,
+    coef: List<Frac128>,
+}
+
+// Those behind them.
+#[derive(Drop)]
+struct BackKeys {
+    hi: Frac128,
+    lo: Frac128,
+    loss_hi: Frac128,
+    loss_lo: Frac128,
+    sides: Sides,
+}
+
 #[tactic(auto, unfolding(crate::specs::Certificates::segment_members))]
-fn segment_keys(alloc: Global, rest: &mut Iter<'_, String, Value>) -> Result<SegmentKeys, CertFault>
-    ensures ok { IfOk result (λ k. (rows : Option ℕ) → segment_members rows (members_view rest.old) ≡ segment_behind rows k (members_view rest.new)) }
+fn front_keys(alloc: Global, rest: &mut Iter<'_, String, Value>) -> Result<FrontKeys, CertFault>
+    ensures ok { IfOk result (λ k. (rows : Option ℕ) → segment_members rows (members_view rest.old) ≡ segment_behind_front rows k (members_view rest.new)) }
     ensures err { IfErr result (λ e. e ≢ CertFault.OutOfMemory → (rows : Option ℕ) → segment_members rows (members_view rest.old) ≡ Err e) }
 {
     let basic_hi = field(alloc, "basic_hi", rest)?;
     let basic_lo = field(alloc, "basic_lo", rest)?;
     let coef = field(alloc, "coef", rest)?;
+    Ok(FrontKeys {
+        basic_hi,
+        basic_lo,
+        coef,
+    })
+}
+
+fn back_keys(alloc: Global, rest: &mut Iter<'_, String, Value>) -> Result<BackKeys, CertFault>
+    ensures ok { IfOk result (λ k. (rows : Option ℕ) → (front : FrontKeys) → segment_behind_front rows front (members_view rest.old) ≡ segment_behind rows (joined_keys front k) (members_view rest.new)) }
+    ensures err { IfErr result (λ e. e ≢ CertFault.OutOfMemory → (rows : Option ℕ) → (front : FrontKeys) → segment_behind_front rows front (members_view rest.old) ≡ Err e) }
+{
     let hi = field(alloc, "hi", rest)?;
     let lo = field(alloc, "lo", rest)?;
     let loss_hi = field(alloc, "loss_hi", rest)?;
     let loss_lo = field(alloc, "loss_lo", rest)?;
     let sides = field(alloc, "sides", rest)?;
-    Ok(SegmentKeys {
-        basic_hi,
-        basic_lo,
-        coef,
+    Ok(BackKeys {
         hi,
         lo,
         loss_hi,
         loss_lo,
         sides,
     })
+}
+
+// Read in two parts, so that the lists are let go once, and not behind each key.
+fn segment_keys(alloc: Global, rest: &mut Iter<'_, String, Value>) -> Result<SegmentKeys, CertFault>
+    ensures ok { IfOk result (λ k. (rows : Option ℕ) → segment_members rows (members_view rest.old) ≡ segment_behind rows k (members_view rest.new)) }
+    ensures err { IfErr result (λ e. e ≢ CertFault.OutOfMemory → (rows : Option ℕ) → segment_members rows (members_view rest.old) ≡ Err e) }
+{
+    let front = front_keys(alloc, rest)?;
+    match back_keys(alloc, rest) {
+        Ok(back) => Ok(SegmentKeys {
+            basic_hi: front.basic_hi,
+            basic_lo: front.basic_lo,
+            coef: front.coef,
+            hi: back.hi,
+            lo: back.lo,
+            loss_hi: back.loss_hi,
+            loss_lo: back.loss_lo,
+            sides: back.sides,
+        }),
+        Err(fault) => {
+            drop(front);
+            Err(fault)
+        }
+    }
 }
 
 fn segment_of(
