@@ -38,8 +38,6 @@ module _ (one : OneFormula) (none : NoFormulaHasFaults) (job : FitJob) (ranked :
     same_model other h = one_formula one job.formula table.names other model h.parsed stated.parsed
 
     sound : (refusal : Refusal) → HasTableCause job ranked table (Refused refusal) → ⊥
-    sound refusals.TooLong h = h.cause
-    sound (refusals.Table fault) h = h.cause
     sound (refusals.Formula fault) h = no_fault one job.formula table.names none model stated.parsed fault h.0 h.1
     sound refusals.RankWithPenalty h =
         let same = one_formula one job.formula table.names h.1.model model h.1.parsed stated.parsed in
@@ -61,14 +59,7 @@ module _ (one : OneFormula) (none : NoFormulaHasFaults) (job : FitJob) (ranked :
             let same = one_design table model job.coding job.weights k.design input.design k.designed is.designed in
             no_program_fault table model input.design k.smoothing input.smoothing (subst (λ (d : Design). IsSmoothed table model d k.smoothing) same k.smoothed) is.smoothed input.problem is.problem shaped fault k.named
             (subst (λ (d : Design). HasProgramCause d k.smoothing fault) same k.cause)
-    sound refusals.SmoothNotTaken h = h.cause
-    sound refusals.NothingToPredict h = h.cause
-    sound (refusals.NoSuchColumn number) h = h.cause
-    sound refusals.AllTested h = h.cause
-    sound (refusals.TooManyPredictions found) h = h.cause
-    sound (refusals.Dependent combination) h = h.cause
-    sound (refusals.CertTooLong n) h = h.cause
-    sound (refusals.Certificate fault) h = h.cause
+    sound refusal h = h.cause
 
   pub input_sound : (bytes : List ℕ) (input : Input) → IsInput job ranked bytes input → IsWellShaped input.problem → (refusal : Refusal) → ¬ HasInputCause job ranked bytes (Refused refusal)
   input_sound bytes input is shaped refusal h = by refusal h
@@ -80,16 +71,4 @@ module _ (one : OneFormula) (none : NoFormulaHasFaults) (job : FitJob) (ranked :
       by : (refusal : Refusal) → HasInputCause job ranked bytes (Refused refusal) → ⊥
       by refusals.TooLong k = k
       by (refusals.Table fault) k = absurd (cc (sym k ∙ is.1))
-      by (refusals.Formula fault) k = on_table (refusals.Formula fault) k
-      by refusals.RankWithPenalty k = on_table refusals.RankWithPenalty k
-      by (refusals.Design fault) k = on_table (refusals.Design fault) k
-      by (refusals.Penalty fault) k = on_table (refusals.Penalty fault) k
-      by (refusals.Program fault) k = on_table (refusals.Program fault) k
-      by refusals.SmoothNotTaken k = on_table refusals.SmoothNotTaken k
-      by refusals.NothingToPredict k = on_table refusals.NothingToPredict k
-      by (refusals.NoSuchColumn number) k = on_table (refusals.NoSuchColumn number) k
-      by refusals.AllTested k = on_table refusals.AllTested k
-      by (refusals.TooManyPredictions found) k = on_table (refusals.TooManyPredictions found) k
-      by (refusals.Dependent combination) k = on_table (refusals.Dependent combination) k
-      by (refusals.CertTooLong n) k = on_table (refusals.CertTooLong n) k
-      by (refusals.Certificate fault) k = on_table (refusals.Certificate fault) k
+      by refusal k = on_table refusal k

@@ -145,38 +145,17 @@ module _ (one : OneFormula) (none : NoFormulaHasFaults) (job : FitJob) (formula 
       no_problem fault h = no_program h.design h.smoothing (subst (λ w. IsDesign table model job.coding w h.design) unweighted h.designed) h.smoothed fault h.named h.cause
 
     no_table_cause : (refusal : Refusal) → ¬ HasTableCause job false table (Refused refusal)
-    no_table_cause refusals.TooLong h = h.cause
-    no_table_cause (refusals.Table fault) h = h.cause
     no_table_cause (refusals.Formula fault) h = no_formula fault h.0 h.1
     no_table_cause refusals.RankWithPenalty h = absurd (cc h.0)
     no_table_cause (refusals.Design fault) h = no_design h.model h.stated.parsed fault h.cause.0 h.cause.1
     no_table_cause (refusals.Penalty fault) h = no_smooth h.model h.stated.parsed fault h.cause
     no_table_cause (refusals.Program fault) h = no_problem h.model h.stated.parsed fault h.cause
-    no_table_cause refusals.SmoothNotTaken h = h.cause
-    no_table_cause refusals.NothingToPredict h = h.cause
-    no_table_cause (refusals.NoSuchColumn number) h = h.cause
-    no_table_cause refusals.AllTested h = h.cause
-    no_table_cause (refusals.TooManyPredictions found) h = h.cause
-    no_table_cause (refusals.Dependent combination) h = h.cause
-    no_table_cause (refusals.CertTooLong length) h = h.cause
-    no_table_cause (refusals.Certificate fault) h = h.cause
+    no_table_cause refusal h = h.cause
 
   pub none_wrong : (refusal : Refusal) → ¬ HasInputCause job false (table_of number rows n) (Refused refusal)
   none_wrong refusals.TooLong h = h
   none_wrong (refusals.Table fault) h = absurd (cc (sym h ∙ is_table number rows n few narrow))
-  none_wrong (refusals.Formula fault) h = no_table_cause h.0 h.1 (refusals.Formula fault) h.2
-  none_wrong refusals.RankWithPenalty h = no_table_cause h.0 h.1 refusals.RankWithPenalty h.2
-  none_wrong (refusals.Design fault) h = no_table_cause h.0 h.1 (refusals.Design fault) h.2
-  none_wrong (refusals.Penalty fault) h = no_table_cause h.0 h.1 (refusals.Penalty fault) h.2
-  none_wrong (refusals.Program fault) h = no_table_cause h.0 h.1 (refusals.Program fault) h.2
-  none_wrong refusals.SmoothNotTaken h = no_table_cause h.0 h.1 refusals.SmoothNotTaken h.2
-  none_wrong refusals.NothingToPredict h = no_table_cause h.0 h.1 refusals.NothingToPredict h.2
-  none_wrong (refusals.NoSuchColumn number) h = no_table_cause h.0 h.1 (refusals.NoSuchColumn number) h.2
-  none_wrong refusals.AllTested h = no_table_cause h.0 h.1 refusals.AllTested h.2
-  none_wrong (refusals.TooManyPredictions found) h = no_table_cause h.0 h.1 (refusals.TooManyPredictions found) h.2
-  none_wrong (refusals.Dependent combination) h = no_table_cause h.0 h.1 (refusals.Dependent combination) h.2
-  none_wrong (refusals.CertTooLong length) h = no_table_cause h.0 h.1 (refusals.CertTooLong length) h.2
-  none_wrong (refusals.Certificate fault) h = no_table_cause h.0 h.1 (refusals.Certificate fault) h.2
+  none_wrong refusal h = no_table_cause h.0 h.1 refusal h.2
 
 -- a generated table of at least one record
 pub no_fault : OneFormula → NoFormulaHasFaults → GeneratedTablesHaveNoFault

@@ -195,21 +195,9 @@ module _ (one : OneFormula) (first : OneFault) (none : NoFormulaHasFaults) (job 
     lacking refusal h = with_model h.model h.stated (of_model job table h.model refusal h.cause)
 
     of_table : (refusal : Refusal) → HasTableCause job ranked table (Refused refusal) → IsOfTable job ranked table refusal
-    of_table refusals.TooLong h = lacking refusals.TooLong h
-    of_table (refusals.Table f) h = lacking (refusals.Table f) h
     of_table (refusals.Formula f) h = of_formula f h.0 h.1 refl
     of_table refusals.RankWithPenalty h = of_smooth h.0 h.1 refl
-    of_table (refusals.Design f) h = lacking (refusals.Design f) h
-    of_table (refusals.Penalty f) h = lacking (refusals.Penalty f) h
-    of_table (refusals.Program f) h = lacking (refusals.Program f) h
-    of_table refusals.SmoothNotTaken h = lacking refusals.SmoothNotTaken h
-    of_table refusals.NothingToPredict h = lacking refusals.NothingToPredict h
-    of_table (refusals.NoSuchColumn number) h = lacking (refusals.NoSuchColumn number) h
-    of_table refusals.AllTested h = lacking refusals.AllTested h
-    of_table (refusals.TooManyPredictions found) h = lacking (refusals.TooManyPredictions found) h
-    of_table (refusals.Dependent combination) h = lacking (refusals.Dependent combination) h
-    of_table (refusals.CertTooLong n) h = lacking (refusals.CertTooLong n) h
-    of_table (refusals.Certificate f) h = lacking (refusals.Certificate f) h
+    of_table refusal h = lacking refusal h
 
     parsed : (model : Formula) → IsParsed job.formula table.names model → (f : FormulaFault) → f ≢ OutOfMemory → IsFault job.formula table.names f → ⊥
     parsed model is f named h = no_fault one job.formula table.names none model is f named h
@@ -247,19 +235,7 @@ module _ (one : OneFormula) (first : OneFault) (none : NoFormulaHasFaults) (job 
     of_bytes : (refusal : Refusal) → HasInputCause job ranked bytes (Refused refusal) → IsOfBytes refusal
     of_bytes refusals.TooLong h = absurd h
     of_bytes (refusals.Table f) h = no_table f h refl
-    of_bytes (refusals.Formula f) h = found_on (refusals.Formula f) h
-    of_bytes refusals.RankWithPenalty h = found_on refusals.RankWithPenalty h
-    of_bytes (refusals.Design f) h = found_on (refusals.Design f) h
-    of_bytes (refusals.Penalty f) h = found_on (refusals.Penalty f) h
-    of_bytes (refusals.Program f) h = found_on (refusals.Program f) h
-    of_bytes refusals.SmoothNotTaken h = found_on refusals.SmoothNotTaken h
-    of_bytes refusals.NothingToPredict h = found_on refusals.NothingToPredict h
-    of_bytes (refusals.NoSuchColumn number) h = found_on (refusals.NoSuchColumn number) h
-    of_bytes refusals.AllTested h = found_on refusals.AllTested h
-    of_bytes (refusals.TooManyPredictions found) h = found_on (refusals.TooManyPredictions found) h
-    of_bytes (refusals.Dependent combination) h = found_on (refusals.Dependent combination) h
-    of_bytes (refusals.CertTooLong n) h = found_on (refusals.CertTooLong n) h
-    of_bytes (refusals.Certificate f) h = found_on (refusals.Certificate f) h
+    of_bytes refusal h = found_on refusal h
 
     same_of_bytes : (a b : Refusal) → IsOfBytes a → IsOfBytes b → a ≡ b
     same_of_bytes a b (no_table f h e) (no_table g k d) = let same : f ≡ g = cc (sym h ∙ k) in e ∙ ap (λ x. refusals.Table x) same ∙ sym d
