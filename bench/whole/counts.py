@@ -1,8 +1,8 @@
 #!/usr/bin/env python3
 """How many instructions some jobs take, which callgrind counts alike in each run, and whether one takes more than its limit.
 
-A time on a busy machine says little of a change by a tenth; this count does. Each limit stands between what the job takes and what it took before it
-had the quick way that is named, both in README.md. Where valgrind isn't installed, all are skipped.
+A time on a busy machine says little of a change by a tenth; this count does. Each limit stands close above what the job takes, so that it takes more
+with a quick way shut, by as much as README.md says. Where valgrind isn't installed, all are skipped.
 
 usage: counts.py PROGRAM
 """
@@ -14,22 +14,23 @@ import sys
 import tempfile
 from pathlib import Path
 
-from ratios import WHOLE, generated
+from ratios import WHOLE, generated, spent
 
 MEDIAN = ["--formula", "y ~ .", "--lo", "1/2", "--hi", "1/2"]
 
-# A job on a table of 1,000 rows and 5 columns, what it shows, and the most that it may take, in millions of instructions.
+# A job on a table of 1,000 rows and 5 columns, or on the certificate of its fits, what it shows, and the most that it may take, in millions of instructions.
 JOBS = [
-    ("process", ["process", *WHOLE], "exchanges and the products of all rows are made in 64 bits", 192),
-    ("ranks", ["ranks", "--formula", "y ~ ."], "the same, and a Wilcoxon score is reduced once", 427),
-    ("at 1/2", ["process", *MEDIAN], "values whose factor is 1 are copied into whole numbers", 23),
+    ("process", ["process", *WHOLE], "loops over rows are compiled for 64 bits, and near rows serve while a quarter of their distance is left", 155.5),
+    ("ranks", ["ranks", "--formula", "y ~ ."], "the same, and a Wilcoxon score is reduced once", 385),
+    ("at 1/2", ["process", *MEDIAN], "values whose factor is 1 are copied into whole numbers", 20),
+    ("check", ["check"], "a run of segments is summed by slopes", 480),
 ]
 
 
-def counted(words, table):
-    """The millions of instructions of a run over a table."""
+def counted(words, read):
+    """The millions of instructions of a run that reads a file."""
     callgrind = ["valgrind", "--tool=callgrind", "--callgrind-out-file=/dev/null"]
-    with open(table, "rb") as given:
+    with open(read, "rb") as given:
         ran = subprocess.run([*callgrind, *words], stdin=given, stdout=subprocess.DEVNULL, stderr=subprocess.PIPE, text=True, check=True)
     return int(re.search(r"Collected : (\d+)", ran.stderr)[1]) / 1e6
 
@@ -41,11 +42,12 @@ def main(program):
         return 0
     failed = False
     with tempfile.TemporaryDirectory() as made:
-        table = generated(Path(made), 1000, 4)
+        table, certificate = generated(Path(made), 1000, 4), Path(made) / "whole.json"
+        spent([program, "certify", *WHOLE], table, certificate, turns=1)
         for name, words, shows, limit in JOBS:
-            took = counted([program, *words], table)
+            took = counted([program, *words], certificate if name == "check" else table)
             failed |= took > limit
-            print(f"{name}: {took:.0f} million instructions, at most {limit}: {shows}")
+            print(f"{name}: {took:.1f} million instructions, at most {limit}: {shows}")
     return 1 if failed else 0
 
 

@@ -75,13 +75,9 @@ def main(program):
         wrote = spent([program, "certify", *WHOLE], table, text, turns=3)
         tell("a run of segments as one", spent([program, "check"], text, turns=3), wrote, 1.4)
         table = generated(room, 1000, 4)
-        whole = spent([program, "process", *WHOLE], table, turns=20)
-        spent([program, "certify", *WHOLE], table, text, turns=1)
-        tell("a run of segments by slopes", spent([program, "check"], text, turns=20), whole, 2)
         ranked = spent([program, "process", *QUARTILES], table)
         spent([program, "certify", *QUARTILES], table, text, turns=1)
         tell("rank intervals by whole numbers", spent([program, "check"], text), ranked, 3)
-        tell("Wilcoxon scores reduced once", spent([program, "ranks", "--formula", "y ~ ."], table, turns=20), whole, 2.45)
         table = room / "levels.csv"
         table.write_text("y,x\n" + "".join(f"{(i * i * 31 + i * 7) % 997},level{i % 120}\n" for i in range(360)), encoding="utf-8")
         factor = ["--formula", "y ~ factor(x)"]
