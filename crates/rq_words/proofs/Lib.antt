@@ -6,5 +6,6 @@ pub mod Orders
 pub mod ShortWords
 pub mod RankRequests
 pub mod FewQuantiles
+mod GivenOptions
 pub mod Samples
 pub mod TestedColumns

@@ -42,7 +42,7 @@ module _ (law : GeneratedTablesHaveNoFault) (lawful : PathHasCosts) (words : Lis
   table_sound : (s : SampleJob) → IsJobOf words (jobs.Sample s) → (refusal : Refusal) → ¬ HasInputCause (sample_fit s) false (sample_table s) (halts.Refused refusal)
   table_sound s asked refusal =
       let known = words_sample (sample_request s) words asked in
-      law (sample_fit s) s.number s.rows s.columns refusal refl refl (g.some s asked) known.rows known.columns
+      law (sample_fit s) s.number s.rows s.columns refusal refl refl known.some known.rows known.columns
 
   sound : (fit : FitJob) (ranked : Bool) (asked : AskFit words fit ranked) (refusal : Refusal) → ¬ HasInputCause fit ranked (table_bytes asked.job []) (halts.Refused refusal)
   sound fit ranked asked refusal =

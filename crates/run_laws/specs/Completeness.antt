@@ -88,12 +88,10 @@ abbrev pub IsNotTooLong : Outcome → Type 0
 IsNotTooLong (Refused (CertTooLong n)) = ⊥
 IsNotTooLong _ = ⊤
 
--- the words ask for a generated table of at least one record, as all words do that ask for one (`--rows` is required, and 0
--- is refused), and its problem has full rank
+-- the words ask for a generated table, and its problem has full rank
 pub record IsGenerated (words : List (List ℕ)) : Type 0 where
   pub first : SampleJob
   pub asked : IsJobOf words (jobs.Sample first)
-  pub some : (job : SampleJob) → IsJobOf words (jobs.Sample job) → 1 ≤ job.rows
   pub rank : (job : SampleJob) (input : Input) → IsJobOf words (jobs.Sample job)
       → IsInput (sample_fit job) false (sample_table job) input → HasFullRank (sample value input.problem)
 
