@@ -242,7 +242,7 @@ module _ (s : Shape) (names : Names) (wants : list_all wants_value s.rules ≡ t
 
   turn_values : (o : Option (Text × List Text)) (w : Walk) (word : Text)
       → (let met = word_met s.rules names w.is_trailing w.waiting w.position word w.held in
-        if is_some o then [] else or_else (word_fault s names w.is_trailing w.waiting word w.held) (step_fault s w.position met.0 met.1)) ≡ []
+      if is_some o then [] else or_else (word_fault s names w.is_trailing w.waiting word w.held) (step_fault s w.position met.0 met.1)) ≡ []
       → HaveValues w.held.rows → HaveValues (walked_from s.rules names o w word).held.rows
   turn_values (Some p) w word none k = k
   turn_values None w word none k =
