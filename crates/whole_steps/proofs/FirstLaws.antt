@@ -16,7 +16,7 @@ module _ (l : Line) (line : IsLine l) where
   unfolding is_moving comes_before
   order i k li h differ = mover_order (model l) (at_of l) (inverse_at l) l.position line.basis l.direction i k li h differ
 
-  trans : (i k m : ℕ) → comes_before l i k ≡ true → comes_before l k m ≡ true → comes_before l i m ≡ true
+  pub trans : (i k m : ℕ) → comes_before l i k ≡ true → comes_before l k m ≡ true → comes_before l i m ≡ true
   unfolding comes_before
   trans = before_trans (model l) (at_of l) (inverse_at l) l.position
 

@@ -16,4 +16,5 @@ pub mod Lines
 -- the solving step
 pub mod Scales
 pub mod SlopeNumbers
+pub mod Marks
 pub mod Passed

@@ -9,4 +9,5 @@ pub mod Entering
 -- the solving step
 pub mod Quantiles
 pub mod Leavings
+pub mod Rivals
 pub mod Passing

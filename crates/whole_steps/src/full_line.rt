@@ -39,7 +39,8 @@ impl<'a> FullLine<'a> {
     }
 
     /// Whether a row doesn't move, or surely comes after a mover. Of ratios whose leading bits agree it isn't said.
-    fn comes_after(&self, first: &Mover, row: u32) -> bool
+    #[inline(always)]
+    pub(crate) fn comes_after(&self, first: &Mover, row: u32) -> bool
         requires full { IsFullLine self.now }
         requires first { IsMover self.now.line first.now }
         requires row { row < length self.now.line.basis.now.rows.now }

@@ -1,5 +1,4 @@
 //! A guess at the row that enters. Nothing is promised of it: it is tested.
-ghost use Rattle.std.specs.Prelude.{IfSome};
 ghost use Rattle.whole_steps.specs.Lines.{IsMover};
 ghost use Rattle.whole_steps.specs.Passing.{IsDescent};
 
@@ -29,18 +28,6 @@ impl<'a> Descent<'a> {
             }
         }
         Ok(found)
-    }
-
-    /// A row as a mover, if it is one.
-    fn mover(&self, row: u32) -> Option<Mover>
-        requires descent { IsDescent self.now }
-        ensures { IfSome result (λ m. IsMover self.now.full.line m) }
-    {
-        let full = self.full;
-        if row as usize >= full.line.sides.len() {
-            return None;
-        }
-        full.mover_at(row)
     }
 
     /// What passing a row adds to the slope.
@@ -100,7 +87,7 @@ impl<'a> Descent<'a> {
                 return Err(Obstacle::TooWide);
             }
             let row = rows[rows.len() / 2];
-            let pivot = match self.mover(row) {
+            let pivot = match self.mover(row as usize) {
                 Some(pivot) => pivot,
                 None => return Err(Obstacle::TooWide),
             };

@@ -42,6 +42,7 @@ mod near_line;
 mod order;
 mod passing;
 mod quantile;
+mod rivals;
 mod sights;
 mod slopes;
 mod solving;

@@ -74,12 +74,10 @@ pub(crate) fn goes_towards(side: Side, direction: Direction, coord: i128) -> boo
 {
     let falls = falls(direction, coord);
     let rises = rises(direction, coord);
-    if side == Side::Up {
-        falls
-    } else if side == Side::Down {
-        rises
-    } else {
-        false
+    match side {
+        Side::Up => falls,
+        Side::Down => rises,
+        Side::Basic => false,
     }
 }
 

@@ -1,13 +1,15 @@
 //! What rows that are passed add to a slope, and the test of the row that enters.
-ghost use Rattle.std.specs.Prelude.{◌≡◌, ℕ, ℤ, ◌<◌, ◌+ℤ◌, ◌*ℤ◌, length, pos, unsigned_abs, ◌&&◌, IfOk, IsTrue};
+ghost use Rattle.std.specs.Prelude.{◌≡◌, ℕ, ℤ, ◌<◌, ◌+ℤ◌, ◌*ℤ◌, length, pos, unsigned_abs, ◌&&◌, IfOk, IfSome, IsTrue};
 ghost use Rattle.exact_algebra.specs.Fraction.{rational};
 ghost use Rattle.exact_algebra.specs.Rational.{◌+ℚ◌};
 ghost use Rattle.whole_steps.specs.Lines.{IsMover, is_moving, comes_before};
+ghost use Rattle.whole_steps.specs.Rivals.{AreMarked, IsRivals};
 ghost use Rattle.whole_steps.specs.Passing.{IsDescent, number_value, first_slope, passing_of, passed_by, slope_until, Enters};
 
 use crate::full_line::FullLine;
 use crate::line::Mover;
 use crate::quantile::Quantile;
+use crate::rivals::Rivals;
 use std::alloc::Global;
 use whole_inverse::Obstacle;
 
@@ -16,6 +18,13 @@ use whole_inverse::Obstacle;
 pub struct Descent<'a> {
     pub full: FullLine<'a>,
     pub theta: Quantile,
+}
+
+/// A guess at the row that enters, and a mover that comes no earlier, with its rivals. Of the row nothing is promised.
+#[derive(Drop)]
+pub(crate) struct Guess {
+    pub row: u32,
+    pub rivals: Rivals,
 }
 
 /// The sum of two costs.
@@ -105,31 +114,35 @@ impl<'a> Descent<'a> {
         Ok(slope)
     }
 
-    /// The slope after all rows that are passed before a row.
-    fn slope_before(&self, target: Mover, start: i128) -> Result<i128, Obstacle>
+    /// The slope after all rows that are passed before a row, of which those that may come before it are marked.
+    fn slope_before(&self, target: Mover, start: i128, marks: &[bool]) -> Result<i128, Obstacle>
         requires descent { IsDescent self.now }
         requires target { IsMover self.now.full.line target }
+        requires marks { AreMarked self.now.full.line target.row marks.now }
         requires start { rational (number_value self.now start) ≡ first_slope self.now }
         ensures { IfOk result (λ n. rational (number_value self.now n) ≡ slope_until self.now target.row) }
     {
         let mut slope = start;
-        for row in 0..self.full.line.sides.len() as u32 {
-            match self.after(row, target, slope) {
-                Ok(next) => slope = next,
-                Err(obstacle) => return Err(obstacle),
+        for row in 0..marks.len() {
+            if marks[row] {
+                match self.after(row as u32, target, slope) {
+                    Ok(next) => slope = next,
+                    Err(obstacle) => return Err(obstacle),
+                }
             }
         }
         Ok(slope)
     }
 
     /// Whether passing a row takes the slope from below 0.
-    fn turns(&self, target: Mover, start: i128) -> Result<bool, Obstacle>
+    fn turns(&self, target: Mover, start: i128, marks: &[bool]) -> Result<bool, Obstacle>
         requires descent { IsDescent self.now }
         requires target { IsMover self.now.full.line target }
+        requires marks { AreMarked self.now.full.line target.row marks.now }
         requires start { rational (number_value self.now start) ≡ first_slope self.now }
         ensures { IfOk result (λ b. IsTrue b → Enters self.now target.row) }
     {
-        let before = self.slope_before(target, start)?;
+        let before = self.slope_before(target, start, marks)?;
         if before >= 0 {
             return Ok(false);
         }
@@ -141,19 +154,45 @@ impl<'a> Descent<'a> {
         Ok(true)
     }
 
-    /// The row that enters, from a guess at it.
-    pub(crate) fn tested(&self, guess: u32, start: i128) -> Result<u32, Obstacle>
+    /// A row as a mover, if it is one.
+    pub(crate) fn mover(&self, row: usize) -> Option<Mover>
         requires descent { IsDescent self.now }
+        ensures { IfSome result (λ m. IsMover self.now.full.line m) }
+    {
+        let full = self.full;
+        if row >= full.line.sides.len() {
+            return None;
+        }
+        full.mover_at(row as u32)
+    }
+
+    /// A row as a mover, with its rivals.
+    pub(crate) fn rivals_at(&self, alloc: Global, row: u32) -> Result<Rivals, Obstacle>
+        requires descent { IsDescent self.now }
+        ensures { IfOk result (IsRivals self.now.full.line) }
+    {
+        match self.mover(row as usize) {
+            Some(mover) => {
+                let rivals = self.full.rivals(alloc, mover)?;
+                Ok(rivals)
+            }
+            None => Err(Obstacle::TooWide),
+        }
+    }
+
+    /// The row that enters, from a guess at it, which comes no later than a mover with these rivals.
+    fn tested(&self, guess: &Guess, start: i128) -> Result<u32, Obstacle>
+        requires descent { IsDescent self.now }
+        requires rivals { IsRivals self.now.full.line guess.now.rivals }
         requires start { rational (number_value self.now start) ≡ first_slope self.now }
         ensures { IfOk result (Enters self.now) }
     {
-        let full = self.full;
-        if guess as usize >= full.line.sides.len() {
-            return Err(Obstacle::TooWide);
-        }
-        match full.mover_at(guess) {
+        match self.mover(guess.row as usize) {
             Some(target) => {
-                if self.turns(target, start)? {
+                if !self.full.is_within(target, &guess.rivals)? {
+                    return Err(Obstacle::TooWide);
+                }
+                if self.turns(target, start, guess.rivals.marks.as_slice())? {
                     Ok(target.row)
                 } else {
                     Err(Obstacle::TooWide)
@@ -162,6 +201,7 @@ impl<'a> Descent<'a> {
             None => Err(Obstacle::TooWide),
         }
     }
+
     /// The row that enters, from a guess by leading bits, or from one in full where that doesn't stand the test.
     pub(crate) fn entering_row(&self, alloc: Global, start: i128) -> Result<u32, Obstacle>
         requires descent { IsDescent self.now }
@@ -169,12 +209,13 @@ impl<'a> Descent<'a> {
         ensures { IfOk result (Enters self.now) }
     {
         if let Ok(guess) = self.first_guess(alloc, start) {
-            if let Ok(row) = self.tested(guess, start) {
+            if let Ok(row) = self.tested(&guess, start) {
                 return Ok(row);
             }
         }
-        let guess = self.guess(alloc, start)?;
-        let row = self.tested(guess, start)?;
+        let row = self.guess(alloc, start)?;
+        let rivals = self.rivals_at(alloc, row)?;
+        let row = self.tested(&Guess { row, rivals }, start)?;
         Ok(row)
     }
 }
