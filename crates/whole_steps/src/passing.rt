@@ -7,6 +7,7 @@ ghost use Rattle.whole_steps.specs.Rivals.{AreMarked, IsRivals};
 ghost use Rattle.whole_steps.specs.Passing.{IsDescent, number_value, first_slope, passing_of, passed_by, slope_until, Enters};
 
 use crate::full_line::FullLine;
+use crate::less::is_surely_less;
 use crate::line::Mover;
 use crate::quantile::Quantile;
 use crate::rivals::Rivals;
@@ -92,6 +93,9 @@ impl<'a> Descent<'a> {
             Some(mover) => {
                 if mover.row == target.row {
                     return Ok(false);
+                }
+                if is_surely_less(mover, target) {
+                    return Ok(true);
                 }
                 let before = full.line.precedes(mover, target)?;
                 Ok(before)

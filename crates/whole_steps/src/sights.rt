@@ -208,7 +208,12 @@ impl<'a> Descent<'a> {
     }
 
     /// The movers among so many rows, which stand so far apart.
-    fn movers_among(&self, alloc: Global, rows: usize, apart: usize) -> Result<List<Mover>, Obstacle>
+    fn movers_among(
+        &self,
+        alloc: Global,
+        rows: usize,
+        apart: usize,
+    ) -> Result<List<Mover>, Obstacle>
         requires descent { IsDescent self.now }
     {
         let mut found = room_for(alloc, SAMPLE)?;

@@ -24,13 +24,13 @@ loop-row-preserved c =
     let slope = to_z w128 c.loop-row.slope-bits in
     let so_far = c.loop-row.invariant in
     elim c.if-marks-row.branch [
-      then-marks-row+in-Ok w ↦
-        let next = w.in-Ok.next in
-        let plain : to_z w128 (of_z w128 next) ≡ next = search rules in
-        rw (w.slope-is, plain) (sum_more d h r i (rational (number_value d slope)) (rational (number_value d next)) so_far (w.in-Ok.ensures {u = tt}))
-    | else-marks-row w ↦
-        let left = unmarked_left d.full.line h.full.line r i c.args.marks.now c.requires.marks c.loop-row-test.true w.if-marks-row.false in
-        rw (w.slope-is) (sum_more d h r i (rational (number_value d slope)) (rational (number_value d slope)) so_far (passed_none d h r i slope left))
+      | then-marks-row+in-Ok w ↦
+          let next = w.in-Ok.next in
+          let plain : to_z w128 (of_z w128 next) ≡ next = search rules in
+          rw (w.slope-is, plain) (sum_more d h r i (rational (number_value d slope)) (rational (number_value d next)) so_far (w.in-Ok.ensures {u = tt}))
+      | else-marks-row w ↦
+          let left = unmarked_left d.full.line h.full.line r i c.args.marks.now c.requires.marks c.loop-row-test.true w.if-marks-row.false in
+          rw (w.slope-is) (sum_more d h r i (rational (number_value d slope)) (rational (number_value d slope)) so_far (passed_none d h r i slope left))
     ]
 
 pub returns : goal.returns
