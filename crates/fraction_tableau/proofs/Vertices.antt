@@ -9,6 +9,7 @@ use Rattle.exact_algebra.specs.Rational.{ℚ}
 use Rattle.exact_matrices.specs.Selections.{is_among}
 use Rattle.loss_model.specs.declared.vertex.Side.{Side}
 use Rattle.loss_model.specs.declared.vertex.Side.TheVariants.{Basic}
+use Rattle.loss_model.specs.Problem.{value_at}
 use Rattle.basis_model.specs.Perturbed.{side_of}
 use Rattle.basis_model.specs.Basis.{side_at}
 use Rattle.pivot_rule.specs.Duals.{dual}
@@ -19,7 +20,7 @@ use Rattle.pivot_rule.proofs.Solved.{any_default}
 use Rattle.tableau_model.specs.Places.{Place, IsPlace, at_of, sample_of}
 use Rattle.fraction_tableau.specs.declared.standing.Standing.{Standing}
 use Rattle.fraction_tableau.specs.Inverses.{HasValueAt}
-use Rattle.fraction_tableau.specs.Standing.{Stands}
+use Rattle.fraction_tableau.specs.Standing.{AreCoefficients, AreSides, AreDuals, Stands}
 
 -- a row of the list is one of its first items
 pub among_from : (basis : List ℕ) (n i : ℕ) → length basis ≡ n → Contains basis i → is_among (slice_index basis) n i ≡ true
@@ -37,48 +38,59 @@ outside_side Less h = absurd (cc h)
 outside_side Equal h = absurd (cc h)
 outside_side Greater h = absurd (cc h)
 
+module _ {F : Type 0} (value : F → Fraction) (h : Place F) (is_place : IsPlace value h) where
+  -- a value by row is the dual value of the row
+  pub dual_by_row : (theta : ℚ) (duals : List F) → AreDuals value h theta duals → (sorted : List ℕ) (basic : List F) (k : ℕ) → HasValueAt value h.rows duals sorted basic k
+      → value_at value basic k ≡ dual (sample_of value h) (at_of h) h.inverse theta (slice_index sorted k)
+  dual_by_row theta duals are sorted basic k here =
+      let within : here.position < h.task.problem.columns = omega (arith, here.within, is_place.size) in
+      here.same ∙ are.each here.position within
+      ∙ sym (dual_at (sample_of value h) (at_of h) h.inverse is_place.is_basis theta here.position within)
+      ∙ ap (dual (sample_of value h) (at_of h) h.inverse theta) here.holds
+
+  module _ (coef : List F) (sides : List Side) (coefs : AreCoefficients value h coef) (are_sides : AreSides value h sides)
+      (sorted : List ℕ) (increasing : IsStrictlyIncreasing sorted) (size : length sorted ≡ length h.rows) (same : (i : ℕ) → Contains sorted i ↔ Contains h.rows i) where
+    basic_here : (i : ℕ) → slice_get sides i ≡ Some Basic → slice_get sides i ≡ Some (side_at (sample_of value h) (at_of h) h.inverse i) → Contains sorted i
+    basic_here i b e = by (is_among (at_of h) h.task.problem.columns i) refl
+      where
+        by : (t : Bool) → is_among (at_of h) h.task.problem.columns i ≡ t → Contains sorted i
+        by true g = (same i).1 (among_in h.rows h.task.problem.columns i is_place.size g)
+        by false g =
+            let same_side : side_at (sample_of value h) (at_of h) h.inverse i ≡ Basic = cc (sym e ∙ b) in
+            absurd (outside_side (sign (sample_of value h) (at_of h) h.inverse i) (sym (side_outside (sample_of value h) (at_of h) h.inverse i g) ∙ same_side))
+
+    basic_there : (i : ℕ) → Contains sorted i → slice_get sides i ≡ Some (side_at (sample_of value h) (at_of h) h.inverse i) → slice_get sides i ≡ Some Basic
+    basic_there i b e =
+        e ∙ ap (λ (s : Side). Some s) (side_basic (sample_of value h) (at_of h) h.inverse i (among_from h.rows h.task.problem.columns i is_place.size ((same i).0 b)))
+
+    -- the vertex needs no dual values
+    pub vertex_by : IsVertexAt value h.task.problem h.rows h.inverse (record { basis = record { rows = sorted }; sides = sides; coef = coef })
+    vertex_by =
+        record {
+          shape = record {
+            ascending = increasing;
+            size = size ∙ is_place.size;
+            coef = coefs.size;
+            sides = are_sides.size;
+            basic = λ i li. (λ b. basic_here i b (are_sides.each i li), λ b. basic_there i b (are_sides.each i li));
+          };
+          rows = same;
+          sides = are_sides.each;
+          coef = coefs.each;
+        }
+
 module _ {F : Type 0} (value : F → Fraction) (h : Place F) (theta : ℚ) (st : Standing F) (sorted : List ℕ)
     (is_place : IsPlace value h) (stands : Stands value h theta st)
     (increasing : IsStrictlyIncreasing sorted) (size : length sorted ≡ length h.rows) (same : (i : ℕ) → Contains sorted i ↔ Contains h.rows i) where
-  basic_here : (i : ℕ) → slice_get st.sides i ≡ Some Basic → slice_get st.sides i ≡ Some (side_at (sample_of value h) (at_of h) h.inverse i) → Contains sorted i
-  basic_here i b e = by (is_among (at_of h) h.task.problem.columns i) refl
-    where
-      by : (t : Bool) → is_among (at_of h) h.task.problem.columns i ≡ t → Contains sorted i
-      by true g = (same i).1 (among_in h.rows h.task.problem.columns i is_place.size g)
-      by false g =
-          let same_side : side_at (sample_of value h) (at_of h) h.inverse i ≡ Basic = cc (sym e ∙ b) in
-          absurd (outside_side (sign (sample_of value h) (at_of h) h.inverse i) (sym (side_outside (sample_of value h) (at_of h) h.inverse i g) ∙ same_side))
-
-  basic_there : (i : ℕ) → Contains sorted i → slice_get st.sides i ≡ Some (side_at (sample_of value h) (at_of h) h.inverse i) → slice_get st.sides i ≡ Some Basic
-  basic_there i b e =
-      e ∙ ap (λ (s : Side). Some s) (side_basic (sample_of value h) (at_of h) h.inverse i (among_from h.rows h.task.problem.columns i is_place.size ((same i).0 b)))
-
   pub is_vertex : IsVertexAt value h.task.problem h.rows h.inverse (record { basis = record { rows = sorted }; sides = st.sides; coef = st.coef })
-  is_vertex =
-      record {
-        shape = record {
-          ascending = increasing;
-          size = size ∙ is_place.size;
-          coef = stands.coef.size;
-          sides = stands.sides.size;
-          basic = λ i li. (λ b. basic_here i b (stands.sides.each i li), λ b. basic_there i b (stands.sides.each i li));
-        };
-        rows = same;
-        sides = stands.sides.each;
-        coef = stands.coef.each;
-      }
+  is_vertex = vertex_by value h is_place st.coef st.sides stands.coef stands.sides sorted increasing size same
 
   pub basic_duals : (basic : List F) → length basic ≡ length sorted → ((k : ℕ) → k < length sorted → HasValueAt value h.rows st.duals sorted basic k)
       → AreBasicDuals value h.task.problem theta h.rows h.inverse (record { basis = record { rows = sorted }; sides = st.sides; coef = st.coef }) basic
   basic_duals basic wide each =
       record {
         size = wide ∙ size ∙ is_place.size;
-        each = λ j lj.
-            let here : HasValueAt value h.rows st.duals sorted basic j = each j (omega (arith, size, is_place.size)) in
-            let within : here.position < h.task.problem.columns = omega (arith, here.within, is_place.size) in
-            here.same ∙ stands.duals.each here.position within
-            ∙ sym (dual_at (sample_of value h) (at_of h) h.inverse is_place.is_basis theta here.position within)
-            ∙ ap (dual (sample_of value h) (at_of h) h.inverse theta) here.holds;
+        each = λ j lj. dual_by_row value h is_place theta st.duals stands.duals sorted basic j (each j (omega (arith, size, is_place.size, lj)));
       }
 
 -- the rows of a basis differ

@@ -34,4 +34,4 @@ mod walking;
 pub use crossings::{Breakpoint, sooner};
 pub use fractions::FractionTableau;
 pub use standing::duals_at;
-pub use vertex::{ascending, by_row};
+pub use vertex::{ascending, by_row, position_of};
