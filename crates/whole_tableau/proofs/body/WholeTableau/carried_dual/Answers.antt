@@ -1,0 +1,14 @@
+-- The value of the last segment.
+use Rattle.std.proofs.Common.{slice_index, ap, ◌∙◌}
+use Rattle.exact_algebra.specs.Fraction.{rational}
+use Rattle.loss_model.specs.Problem.{sample}
+use Rattle.pivot_rule.specs.Duals.{dual}
+use Rattle.whole_tableau.specs.Kept.{place}
+use Rattle.whole_tableau.proofs.body.WholeTableau.carried_dual.Goals as goal
+
+pub returns-in-Some : goal.returns-in-Some
+returns-in-Some g c =
+    let value = g.F.Exact.value in
+    let k = c.args.self.now in
+    let found = c.in-Some.ensures {u = tt} in
+    found.3 ∙ c.requires.carried.each found.0 found.1 ∙ ap (dual (sample value k.problem) (slice_index k.rows) (place value k).inverse (rational (value c.args.theta))) found.2
