@@ -1,3 +1,4 @@
 pub mod Trails
 pub mod Halts
+pub mod Carried
 pub mod Walks

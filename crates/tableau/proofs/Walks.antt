@@ -1,5 +1,5 @@
 -- How a walk begins, goes on and ends.
-use Rattle.std.specs.Prelude.{◌≡◌, ◌⊎◌, ◌≤◌, ℕ, false, List, [], ◌∷◌, ◌++◌, length, filter, slice_index, slice_set}
+use Rattle.std.specs.Prelude.{◌≡◌, ◌⊎◌, ◌≤◌, ℕ, ◌-◌, false, List, [], ◌∷◌, ◌++◌, length, filter, slice_get, slice_index, slice_set}
 use Rattle.std.specs.Ordering.{is_lt}
 use Rattle.std.specs.declared.cmp.Ordering.{Ordering}
 use Rattle.std.specs.declared.cmp.Ordering.TheVariants.{Less, Equal, Greater}
@@ -32,13 +32,15 @@ use Rattle.tableau_model.specs.Places.{Place, Task, at_of, sample_of}
 use Rattle.tableau_model.specs.Questions.{walking}
 use Rattle.tableau_model.specs.Refusals.{IsRefusedOf}
 use Rattle.tableau_model.specs.WalkAnswers.{IsOptimalFrom, IsStepTo, IsSegmentTo, IsSegmentHere}
+use Rattle.whole_tableau.specs.Ends.{IsCarried}
 use Rattle.tableau.specs.declared.solving.Halt.{Halt}
 use Rattle.tableau.specs.declared.solving.Progress.{Progress}
 use Rattle.tableau.specs.declared.walking.Walk.{Walk}
 use Rattle.tableau.specs.Bodies.{place_of}
 use Rattle.tableau.specs.Solving.{IsRefusal, IsHaltOf, IsSolved}
-use Rattle.tableau.specs.Walking.{now_of, here_of, AreSegmentsAfter, IsWalked, IsWalking, IsWalkedOut, IsWalkDone, IsWalkHalted}
+use Rattle.tableau.specs.Walking.{now_of, here_of, IsLastCarried, AreSegmentsAfter, IsWalked, IsWalking, IsWalkedOut, IsWalkDone, IsWalkHalted}
 use Rattle.tableau.proofs.Halts.{at_place}
+use Rattle.tableau.proofs.Carried.{some_weaker, last_put, carried_here, carried_on}
 
 -- of two quantiles that are in order the first is less, or they are the same
 pub less_or_same : (x y : ℚ) → x ≤ℚ y → (x <ℚ y) ⊎ (x ≡ y)
@@ -77,6 +79,7 @@ walk_begins {F} value task hi limit u lo range h =
       solved = trail.lawful;
       optimal = subst (IsOptimalBasis (sample value task.problem) (rational (value lo))) (sym trail.leads) optimal;
       underway = subst (λ b. IsUnderway value task.problem (rational (value lo)) hi b [] [] (rational (value lo)) (place_of value u.tableau).rows (place_of value u.tableau).inverse) (sym trail.leads) underway;
+      carried = tt;
       rise = trail.rise;
       fall = trail.fall;
     }
@@ -145,6 +148,7 @@ module _ {F : Type 0} (value : F → Fraction) (task : Task F) (lo hi : ℚ) whe
         solved = h.solved;
         optimal = h.optimal;
         underway = by k.segments;
+        carried = carried_by k.segments;
         rise = k.trail.rise ∙ h.rise;
         fall = k.trail.fall ∙ h.fall;
       }
@@ -181,6 +185,32 @@ module _ {F : Type 0} (value : F → Fraction) (task : Task F) (lo hi : ℚ) whe
           arrived before.segments e
           (without_segment value task.problem lo hi (basis_after h.first h.solving) h.walked before.segments (now_of value before) (here_of value before).rows (here_of value before).inverse (here_of value after).inverse k.step
           costs costs' h.underway step is_basis ends same)
+
+      -- what is carried to the quantile of the step is carried over the step
+      over : (s : Segment F) → IsCarried value (record { task = task; rows = (here_of value before).rows; inverse = (here_of value before).inverse }) (rational (value k.step.theta)) s
+          → IsCarried value (here_of value after) (now_of value after) s
+      over s c =
+          subst (λ (j : Task F). IsCarried value (record { task = j; rows = (here_of value after).rows; inverse = (here_of value after).inverse }) (now_of value after) s) (sym (k.same ∙ h.same))
+          (subst (λ rows. IsCarried value (record { task = task; rows = rows; inverse = (here_of value after).inverse }) (now_of value after) s) (sym k.rows)
+          (subst (λ now. IsCarried value (record { task = task; rows = slice_set (here_of value before).rows k.step.position k.step.row; inverse = (here_of value after).inverse }) now s)
+          (sym (ap (λ (x : F). rational (value x)) k.now))
+          (carried_on value task lo hi (basis_after h.first h.solving) h.walked before.segments (now_of value before) (here_of value before).rows (here_of value before).inverse (here_of value after).inverse k.step
+          costs costs' h.underway step is_basis s c)))
+
+      carried_by : AreSegmentsAfter value (here_of value before) (now_of value before) (rational (value k.step.theta)) before.segments after.segments
+          → IsLastCarried value (here_of value after) (now_of value after) after.segments
+      carried_by (inl (s, less, seg, e)) =
+          subst (IsLastCarried value (here_of value after) (now_of value after)) (sym e)
+          (last_put (IsCarried value (here_of value after) (now_of value after)) before.segments s
+          (over s (carried_here value task lo hi (basis_after h.first h.solving) h.walked before.segments (now_of value before) (here_of value before).rows (here_of value before).inverse (here_of value after).inverse k.step
+          costs costs' h.underway step is_basis s
+          (at_task before h (λ p. IsSegmentOf value p (record { basis = (here_of value before).rows; lo = now_of value before; hi = rational (value k.step.theta) }) s) seg))))
+      carried_by (inr (same, e)) =
+          subst (IsLastCarried value (here_of value after) (now_of value after)) (sym e)
+          (some_weaker (IsCarried value (here_of value before) (now_of value before)) (IsCarried value (here_of value after) (now_of value after))
+          (λ s c. over s (subst (λ now. IsCarried value (record { task = task; rows = (here_of value before).rows; inverse = (here_of value before).inverse }) now s) same
+          (subst (λ (j : Task F). IsCarried value (record { task = j; rows = (here_of value before).rows; inverse = (here_of value before).inverse }) (now_of value before) s) h.same c)))
+          (slice_get before.segments (length before.segments - 1)) h.carried)
 
   -- a refusal halts the walk
   pub walk_refused : (range limit : ℕ) (w : Walk F) (after : Trail F) (e : Failure F) (halt : Halt F) → IsWalking value task lo hi w → length w.reached.trail.steps ≤ limit

@@ -1,5 +1,5 @@
 -- Inner. A walk over quantiles by a tableau: what a step of it does, what it has done, and why it halts.
-use Rattle.std.specs.Prelude.{◌≡◌, ◌⊎◌, ◌≤◌, ℕ, length, Bool, true, false, List, [], ◌∷◌, ◌++◌, map, filter, slice_set, Some}
+use Rattle.std.specs.Prelude.{◌≡◌, ◌⊎◌, ◌≤◌, ℕ, ◌-◌, length, Bool, true, false, List, [], ◌∷◌, ◌++◌, map, filter, slice_get, slice_set, Some, IfSome}
 use Rattle.exact_algebra.specs.Fraction.{Fraction, rational}
 use Rattle.exact_algebra.specs.Rational.{ℚ}
 use Rattle.loss_model.specs.declared.process.Exchange.{Exchange}
@@ -19,6 +19,7 @@ use Rattle.tableau_model.specs.Places.{Place, Task, IsPlace, sample_of}
 use Rattle.tableau_model.specs.Questions.{walking}
 use Rattle.tableau_model.specs.Refusals.{IsRefusalAt}
 use Rattle.tableau_model.specs.WalkAnswers.{IsStepTo, IsStill, IsSegmentHere}
+use Rattle.whole_tableau.specs.Ends.{IsCarried}
 use Rattle.tableau.specs.declared.solving.Halt.{Halt}
 use Rattle.tableau.specs.declared.solving.Halt.TheVariants.{OutOfMemory, PivotLimit, Refused as Halted}
 use Rattle.tableau.specs.declared.walking.Walk.{Walk}
@@ -38,6 +39,10 @@ module _ {F : Type 0} (value : F → Fraction) where
 
   abbrev pub here_of : Walk F → Place F
   here_of w = place_of value w.reached.tableau
+
+  -- the last of the segments, if there is one, has at its upper end what stands at the place at t
+  abbrev pub IsLastCarried : Place F → ℚ → List (Segment F) → Type 0
+  IsLastCarried h t segments = IfSome (slice_get segments (length segments - 1)) (IsCarried value h t)
 
   -- the segments after a stay: one more where its ends differ
   abbrev pub AreSegmentsAfter : Place F → ℚ → ℚ → List (Segment F) → List (Segment F) → Type 0
@@ -62,7 +67,8 @@ module _ {F : Type 0} (value : F → Fraction) where
   IsWalkedOrStill hi before after false = (after ≡ before) × IsStill value (here_of before) (now_of before) hi
 
   -- by solving steps at lo to an optimal basis, and by walking steps from there, the trail has led to where the
-  -- walk stands, and the segments are those of the stays that the steps have ended
+  -- walk stands, and the segments are those of the stays that the steps have ended, of which the last has at its
+  -- upper end what stands there
   pub record IsWalking (task : Task F) (lo hi : ℚ) (w : Walk F) : Type 0 where
     pub is_place : IsPlace value (here_of w)
     pub same : (here_of w).task ≡ task
@@ -75,6 +81,7 @@ module _ {F : Type 0} (value : F → Fraction) where
     pub solved : AreSolvingSteps value (sample value task.problem) lo first solving
     pub optimal : IsOptimalBasis (sample value task.problem) lo (basis_after first solving)
     pub underway : IsUnderway value task.problem lo hi (basis_after first solving) walked w.segments (now_of w) (here_of w).rows (here_of w).inverse
+    pub carried : IsLastCarried (here_of w) (now_of w) w.segments
     pub rise : w.reached.trail.rise ≡ []
     pub fall : w.reached.trail.fall ≡ []
 

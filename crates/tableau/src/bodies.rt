@@ -1,5 +1,5 @@
 //! A basis as one of the two bodies keeps it, and what the loops ask of it.
-ghost use Rattle.std.specs.Prelude.{◌≡◌, ◌≢◌, ◌<◌, ℕ, IfOk, IfErr, OnOk, length, slice_set, pos};
+ghost use Rattle.std.specs.Prelude.{◌≡◌, ◌≢◌, ◌<◌, ℕ, IfOk, IfErr, IfSome, OnOk, length, option_copied, slice_set, pos};
 ghost use Rattle.exact_algebra.specs.Fraction.{rational};
 ghost use Rattle.exact_algebra.specs.Rational.{ℚ, whole};
 ghost use Rattle.basis_model.specs.Basis.{coord};
@@ -11,6 +11,7 @@ ghost use Rattle.tableau_model.specs.Questions.{Question, solving, walking, IsSt
 ghost use Rattle.tableau_model.specs.Refusals.{IsRefusalAt, IsRefusedOf};
 ghost use Rattle.tableau_model.specs.Answers.{IsOptimalAt, IsSolvingAnswer, IsFitted};
 ghost use Rattle.tableau_model.specs.WalkAnswers.{IsOptimalFrom, IsWalkingAnswer, IsSegmentTo, IsSegmentHere};
+ghost use Rattle.whole_tableau.specs.Ends.{IsCarried};
 ghost use Rattle.tableau.specs.Bodies.{place_of, IsTaken};
 
 use basis_inverse::Inverse;
@@ -109,15 +110,21 @@ impl<'a, F: Exact> Tableau<'a, F> {
         }
     }
 
-    /// The segment of the basis from one quantile to another. What is refused is refused to each walk of
-    /// which this is a segment.
-    pub fn segment(&self, from: F, to: F) -> Result<Segment<F>, Failure<F>>
+    /// The segment of the basis from one quantile to another, where whole numbers take over what the segment before it
+    /// has at its upper end. What is refused is refused to each walk of which this is a segment.
+    pub fn segment(
+        &self,
+        last: Option<&Segment<F>>,
+        from: F,
+        to: F,
+    ) -> Result<Segment<F>, Failure<F>>
+        requires carried { IfSome (option_copied last) (IsCarried F.value (place_of F.value self.now) (rational (F.value from))) }
         ensures segment { IfOk result (IsSegmentHere F.value (place_of F.value self.now) (rational (F.value from)) (rational (F.value to))) }
         ensures refused { (hi : ℚ) → IsSegmentTo F.value (place_of F.value self.now) (rational (F.value from)) hi (rational (F.value to)) → IfErr result (IsRefusedOf (IsRefusalAt F.value F.range (place_of F.value self.now) (walking (rational (F.value from)) hi))) }
     {
         match self {
             Tableau::Fractions(body) => body.segment(from, to),
-            Tableau::Wholes(body) => body.segment(from, to),
+            Tableau::Wholes(body) => body.segment(last, from, to),
         }
     }
 

@@ -12,7 +12,7 @@ ghost use Rattle.tableau_model.specs.WalkAnswers.{IsOptimalFrom, IsStepTo};
 ghost use Rattle.tableau.specs.Bodies.{place_of};
 ghost use Rattle.tableau.specs.Solving.{IsHaltOf, IsRefusal, IsSolved};
 ghost use Rattle.tableau.specs.declared.solving.Halt.TheVariants.{PivotLimit};
-ghost use Rattle.tableau.specs.Walking.{AreSegmentsAfter, IsWalked, IsWalkedOrStill, IsWalking, IsWalkedOut, IsWalkDone, IsWalkHalted, now_of, here_of};
+ghost use Rattle.tableau.specs.Walking.{IsLastCarried, AreSegmentsAfter, IsWalked, IsWalkedOrStill, IsWalking, IsWalkedOut, IsWalkDone, IsWalkHalted, now_of, here_of};
 
 use crate::bodies::Tableau;
 use crate::solving::{Halt, Progress};
@@ -56,6 +56,7 @@ fn put_segment<'a, F: Exact>(
     to: F,
 ) -> Result<(), Failure<F>>
     requires after { rational (F.value from) ≤ℚ rational (F.value to) }
+    requires carried { IsLastCarried F.value (place_of F.value tableau.now) (rational (F.value from)) segments.old }
     ensures segments { OnOk result (AreSegmentsAfter F.value (place_of F.value tableau.now) (rational (F.value from)) (rational (F.value to)) segments.old segments.new) }
     ensures refused { let h = place_of F.value tableau.now in
         (hi : ℚ) → IsStayEnd (sample_of F.value h) (at_of h) h.inverse (rational (F.value from)) hi (rational (F.value to))
@@ -64,7 +65,7 @@ fn put_segment<'a, F: Exact>(
     if !from.compare(to).is_lt() {
         return Ok(());
     }
-    match tableau.segment(from, to) {
+    match tableau.segment(segments.as_slice().last(), from, to) {
         Ok(segment) => match push_segment(segments, segment) {
             Ok(()) => Ok(()),
             Err(refused) => Err(refused),
@@ -91,6 +92,7 @@ impl<'a, F: Exact> Walk<'a, F> {
     /// Makes a walking step. After a refusal the trail is as before.
     fn make_step(&mut self, step: Exchange<F>, hi: F) -> Result<(), Failure<F>>
         requires step { IsStepTo F.value (here_of F.value self.old) (now_of F.value self.old) (rational (F.value hi)) step }
+        requires carried { IsLastCarried F.value (here_of F.value self.old) (now_of F.value self.old) self.old.segments }
         ensures walked { OnOk result (IsWalked F.value (rational (F.value hi)) self.old self.new) }
         ensures refused { IfErr result (IsRefusedOf (IsRefusal F.value F.range (here_of F.value self.old) (walking (now_of F.value self.old) (rational (F.value hi))) self.old.reached.trail self.new.reached.trail)) }
     {
@@ -124,6 +126,7 @@ impl<'a, F: Exact> Walk<'a, F> {
     fn advance(&mut self, hi: F) -> Result<bool, Failure<F>>
         requires costs { HasCosts (sample_of F.value (here_of F.value self.old)) (rational (F.value hi)) }
         requires optimal { IsOptimalFrom F.value (here_of F.value self.old) (now_of F.value self.old) }
+        requires carried { IsLastCarried F.value (here_of F.value self.old) (now_of F.value self.old) self.old.segments }
         ensures next { IfOk result (IsWalkedOrStill F.value (rational (F.value hi)) self.old self.new) }
         ensures refused { IfErr result (IsRefusedOf (IsRefusal F.value F.range (here_of F.value self.old) (walking (now_of F.value self.old) (rational (F.value hi))) self.old.reached.trail self.new.reached.trail)) }
     {
@@ -189,7 +192,7 @@ fn end_walk<'a, F: Exact>(
         now,
     } = walk;
     let mut all = segments;
-    match reached.tableau.segment(now, hi) {
+    match reached.tableau.segment(all.as_slice().last(), now, hi) {
         Ok(segment) => match all.push(segment) {
             Ok(()) => {
                 let trail = reached.into_trail();

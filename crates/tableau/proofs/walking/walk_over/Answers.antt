@@ -32,6 +32,9 @@ advance-requires-clause-optimal g c κs within =
     let h = c.loop.invariant.walking in
     optimal_now value task lo hi w h
 
+pub advance-requires-clause-carried : goal.advance-requires-clause-carried
+advance-requires-clause-carried g c κs within = c.loop.invariant.walking.carried
+
 pub walking_step-requires-clause-costs : goal.walking_step-requires-clause-costs
 walking_step-requires-clause-costs g c κs within =
     let value = g.F.Exact.value in
