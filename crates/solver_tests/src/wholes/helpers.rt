@@ -23,7 +23,7 @@ pub(crate) fn segment_of(
     let tableau = WholeTableau::begin(alloc, problem, &setting)
         .ok()
         .expect(rt, "a start");
-    let segment = tableau.segment(fraction(rt, lo), fraction(rt, hi));
+    let segment = tableau.segment(None, fraction(rt, lo), fraction(rt, hi));
     drop(tableau);
     drop(setting);
     segment.ok().expect(rt, "a segment")
