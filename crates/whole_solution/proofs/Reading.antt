@@ -1,5 +1,5 @@
 -- Rows and items that were read.
-use Rattle.std.specs.Prelude.{◌≡◌, ℕ, zero, suc, ℤ, ◌+◌, ◌<◌, List, [], ◌∷◌, ◌++◌, length, get_or, Option, pos}
+use Rattle.std.specs.Prelude.{◌≡◌, ℕ, zero, suc, ℤ, ◌+◌, ◌<◌, List, [], ◌∷◌, ◌++◌, length, get_or, slice_set, Option, pos}
 use Rattle.std.specs.Option.{option_map_or}
 use Rattle.std.proofs.Common.{arith, refl, sym, ap, ◌∙◌}
 use Rattle.std.proofs.lemmas.Option.{slice_get_read}
@@ -54,6 +54,20 @@ whole_pushed (y ∷ made) x zero f size h e k l = absurd (omega arith)
 whole_pushed (y ∷ made) x (suc n) f size h e zero l = h 0 (omega arith)
 whole_pushed (y ∷ made) x (suc n) f size h e (suc k) l =
     whole_pushed made x n (λ k. f (suc k)) (omega arith) (λ k l. h (suc k) (omega arith)) e k (omega arith)
+
+-- one whole number more that was put in its place, behind which all stay
+pub whole_put : (xs : List ℤ) (n : ℕ) (x : ℤ) (f : ℕ → ℚ) → n < length xs → ((k : ℕ) → k < n → whole_at xs k ≡ f k) → whole x ≡ f n → (k : ℕ) → k < n + 1 → whole_at (slice_set xs n x) k ≡ f k
+whole_put [] n x f size h e k l = absurd (omega arith)
+whole_put (y ∷ xs) zero x f size h e zero l = e
+whole_put (y ∷ xs) zero x f size h e (suc k) l = absurd (omega arith)
+whole_put (y ∷ xs) (suc n) x f size h e zero l = h 0 (omega arith)
+whole_put (y ∷ xs) (suc n) x f size h e (suc k) l = whole_put xs n x (λ k. f (suc k)) (omega arith) (λ k l. h (suc k) (omega arith)) e k (omega arith)
+
+pub whole_behind : (xs : List ℤ) (n : ℕ) (x : ℤ) (k : ℕ) → n < k → whole_at (slice_set xs n x) k ≡ whole_at xs k
+whole_behind [] n x k l = refl
+whole_behind (y ∷ xs) n x zero l = absurd (omega arith)
+whole_behind (y ∷ xs) zero x (suc k) l = refl
+whole_behind (y ∷ xs) (suc n) x (suc k) l = whole_behind xs n x k (omega arith)
 
 -- one side more at the end
 pub side_pushed : (made : List Side) (x : Side) (n : ℕ) (f : ℕ → Side) → length made ≡ n → ((k : ℕ) → k < n → side_in made k ≡ f k) → x ≡ f n → (k : ℕ) → k < n + 1 → side_in (made ++ x ∷ []) k ≡ f k

@@ -232,10 +232,7 @@ impl<'a> WholeBasis<'a> {
             let turn = Turn { from, to: side };
             sides.replace(row, side);
             if !turn.stays() {
-                match weights.turned(alloc, chosen, turn) {
-                    Ok(next) => weights = next,
-                    Err(obstacle) => return Err(obstacle),
-                }
+                weights.turn(chosen, turn)?;
             }
         }
         Ok(Turned { sides, weights })

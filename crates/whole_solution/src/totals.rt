@@ -1,7 +1,7 @@
 //! What all rows weigh by their bounds, kept as rows change sides.
 //!
 //! From one basis to the next few rows change sides, so that the totals are not made anew.
-ghost use Rattle.std.specs.Prelude.{◌≡◌, ℕ, ℤ, ◌<◌, ◌+ℤ◌, ◌*ℤ◌, ◌≤ℤ◌, neg_ℤ, pos, All, List as list, length, IfOk, IfSome, IsTrue};
+ghost use Rattle.std.specs.Prelude.{◌≡◌, ℕ, ℤ, ◌<◌, ◌+ℤ◌, ◌*ℤ◌, ◌≤ℤ◌, neg_ℤ, pos, All, List as list, length, IfOk, IfSome, IsTrue, OnOk};
 ghost use Rattle.exact_algebra.specs.Rational.{◌+ℚ◌, ◌-ℚ◌, ◌*ℚ◌, whole};
 ghost use Rattle.exact_algebra.specs.RationalSums.{sum_ℚ};
 ghost use Rattle.wide_int.specs.Numbers.{number_of, total as sum};
@@ -17,7 +17,7 @@ use basis_model::Part;
 use frac_core::List;
 use loss_model::Side;
 use std::alloc::Global;
-use whole_inverse::{Obstacle, room_for};
+use whole_inverse::Obstacle;
 use whole_rows::WholeRow;
 use wide_int::{Wide, wide_sum};
 
@@ -85,25 +85,20 @@ fn raised(total: i128, weight: i128, number: i64) -> Result<i128, Obstacle>
     }
 }
 
-/// The totals of the columns after a row's entries of some weight were added.
-fn raised_columns(
-    alloc: Global,
-    totals: &[i128],
-    x: &[i64],
-    weight: i128,
-) -> Result<List<i128>, Obstacle>
-    requires { length x.now ≡ length totals.now }
-    ensures size { IfOk result (λ made. length made ≡ length totals.now) }
-    ensures each { IfOk result (λ made. (k : ℕ) → k < length totals.now → whole_at made k ≡ whole_at totals.now k +ℚ (whole_at x.now k *ℚ whole weight)) }
+/// Adds a row's entries of some weight to the totals of the columns.
+fn raise_columns(totals: &mut List<i128>, x: &[i64], weight: i128) -> Result<(), Obstacle>
+    requires { length x.now ≡ length totals.old }
+    ensures size { OnOk result (length totals.new ≡ length totals.old) }
+    ensures each { OnOk result ((k : ℕ) → k < length totals.old → whole_at totals.new k ≡ whole_at totals.old k +ℚ (whole_at x.now k *ℚ whole weight)) }
 {
-    let mut made = room_for(alloc, totals.len())?;
-    for k in 0..totals.len() {
-        let total = raised(totals[k], weight, x[k])?;
-        if made.push(total).is_err() {
-            return Err(Obstacle::OutOfMemory);
-        }
+    let Ok(columns) = u32::try_from(x.len()) else {
+        return Err(Obstacle::TooWide);
+    };
+    for k in 0..columns {
+        let total = raised(totals.as_slice()[k as usize], weight, x[k as usize])?;
+        totals.replace(k, total);
     }
-    Ok(made)
+    Ok(())
 }
 
 impl Totals {
@@ -136,21 +131,15 @@ impl Totals {
         })
     }
 
-    /// The totals after a row has changed sides.
-    fn turned(
-        &self,
-        alloc: Global,
-        chosen: &WholeRow,
-        turn: Turn,
-        part: Part,
-    ) -> Result<Totals, Obstacle>
-        requires { length chosen.now.x ≡ length self.now.columns }
-        ensures { IfOk result (AreRaised chosen.now (bound_of chosen.now part turn.to -ℚ bound_of chosen.now part turn.from) self.now) }
+    /// Adds what a row weighs more after it has changed sides.
+    fn turn(&mut self, chosen: &WholeRow, turn: Turn, part: Part) -> Result<(), Obstacle>
+        requires { length chosen.now.x ≡ length self.old.columns }
+        ensures { OnOk result (AreRaised chosen.now (bound_of chosen.now part turn.to -ℚ bound_of chosen.now part turn.from) self.old self.new) }
     {
         let weight = change(chosen, turn, part)?;
-        let columns = raised_columns(alloc, self.columns.as_slice(), chosen.x.as_slice(), weight)?;
-        let response = raised(self.response, weight, chosen.y)?;
-        Ok(Totals { columns, response })
+        raise_columns(&mut self.columns, chosen.x.as_slice(), weight)?;
+        self.response = raised(self.response, weight, chosen.y)?;
+        Ok(())
     }
 }
 
@@ -198,20 +187,15 @@ impl Weights {
         Ok(Weights { constant, linear })
     }
 
-    /// The weights after a row has changed sides.
-    pub(crate) fn turned(
-        &self,
-        alloc: Global,
-        chosen: &WholeRow,
-        turn: Turn,
-    ) -> Result<Weights, Obstacle>
-        requires constant { length chosen.now.x ≡ length self.now.constant.columns }
-        requires linear { length chosen.now.x ≡ length self.now.linear.columns }
-        ensures { IfOk result (AreTurned chosen.now turn.from turn.to self.now) }
+    /// Adds what a row weighs more after it has changed sides.
+    pub(crate) fn turn(&mut self, chosen: &WholeRow, turn: Turn) -> Result<(), Obstacle>
+        requires constant { length chosen.now.x ≡ length self.old.constant.columns }
+        requires linear { length chosen.now.x ≡ length self.old.linear.columns }
+        ensures { OnOk result (AreTurned chosen.now turn.from turn.to self.old self.new) }
     {
-        let constant = self.constant.turned(alloc, chosen, turn, Part::Constant)?;
-        let linear = self.linear.turned(alloc, chosen, turn, Part::Linear)?;
-        Ok(Weights { constant, linear })
+        self.constant.turn(chosen, turn, Part::Constant)?;
+        self.linear.turn(chosen, turn, Part::Linear)?;
+        Ok(())
     }
 
     /// The weights of rows on new sides, from those on the old ones.
@@ -235,10 +219,7 @@ impl Weights {
                 to: new[i],
             };
             if !turn.stays() {
-                match weights.turned(alloc, &rows[i], turn) {
-                    Ok(next) => weights = next,
-                    Err(obstacle) => return Err(obstacle),
-                }
+                weights.turn(&rows[i], turn)?;
             }
         }
         Ok(weights)

@@ -1,5 +1,5 @@
 -- A product more.
-use Rattle.std.proofs.Common.{rules, ◌≡◌, ◌<◌, ℤ, ◌+ℤ◌, ◌*ℤ◌, [], ◌∷◌, length, get_or, pos, to_z, of_z, arith, refl, sym, ap, ap₂, subst, ◌∙◌}
+use Rattle.std.proofs.Common.{rules, ◌≡◌, ◌<◌, ◌+ℤ◌, ◌*ℤ◌, [], ◌∷◌, length, get_or, pos, to_z, of_z, arith, refl, sym, ap₂, subst, ◌∙◌}
 use mir.Syntax.{w128}
 use Rattle.std.proofs.lemmas.Option.{get_or_from_slice_get}
 use Rattle.exact_algebra.specs.Solver.{number, ◌⊠◌, v0}

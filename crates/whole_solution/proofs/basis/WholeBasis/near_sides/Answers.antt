@@ -14,7 +14,7 @@ use Rattle.whole_solution.proofs.Nearby.{put_none, put_more, put_all}
 use Rattle.whole_solution.proofs.Reading.{row_read, bound_read, side_read}
 use Rattle.whole_solution.proofs.Turning.{weights_put, weights_kept}
 use Rattle.whole_solution.proofs.basis.WholeBasis.near_sides.Goals as goal
-use Rattle.whole_solution.proofs.basis.WholeBasis.near_sides.Goals.{then-not-stays+in-Ok, else-not-stays}
+use Rattle.whole_solution.proofs.basis.WholeBasis.near_sides.Goals.{then-not-stays+in_ok-turn, else-not-stays}
 
 pub loop-k-init : goal.loop-k-init
 loop-k-init c =
@@ -47,12 +47,12 @@ loop-k-preserved c =
     let put : c.replace.new.self ≡ slice_set sides i side = search rules in
     let made = put_more p at (inverse_of s) near c.args.old.now sides k side m.put here within (c.in_ok-side.ensures {u = tt}) in
     rw (put) (elim c.if-not-stays.branch [
-      | then-not-stays+in-Ok w ↦
+      | then-not-stays+in_ok-turn w ↦
           let r = c.index-rows-row.result in
           let x : (k : ℕ) → whole_at r.x k ≡ p.x i k = λ k. sym (row_read rows i r (λ r. whole_at r.x k) within c.index-rows-row.is) in
           let y : whole r.y ≡ p.y i = sym (row_read rows i r (λ r. whole r.y) within c.index-rows-row.is) in
           let bound : (part : Part) (side : Side) → bound_of r part side ≡ bound_part p part i side = λ part side. bound_read n rows i r part side within c.index-rows-row.is in
-          rw (w.weights-is) (record { put = made; weights = weights_put p sides i side r _ weights w.in-Ok.next m.put.size within was x y bound w.in-Ok.ensures m.weights })
+          rw (w.weights-is) (record { put = made; weights = weights_put p sides i side r _ weights w.turn.new.self m.put.size within was x y bound w.in_ok-turn.ensures m.weights })
       | else-not-stays w ↦
           rw (w.weights-is) (record { put = made; weights = weights_kept p sides i side weights m.put.size within (c.stays.ensures w.if-not-stays.false ∙ was) m.weights })
     ])

@@ -14,7 +14,7 @@ use Rattle.whole_solution.specs.Weighing.{bound_of}
 use Rattle.whole_solution.proofs.Moved.{moved_none, moved_more, moved_same, moved_all, turned_read}
 use Rattle.whole_solution.proofs.Reading.{row_read, bound_read, side_read}
 use Rattle.whole_solution.proofs.totals.Weights.after.Goals as goal
-use Rattle.whole_solution.proofs.totals.Weights.after.Goals.{then-not-stays+in-Ok, else-not-stays}
+use Rattle.whole_solution.proofs.totals.Weights.after.Goals.{then-not-stays+in_ok-turn, else-not-stays}
 
 pub loop-i-init : goal.loop-i-init
 loop-i-init c =
@@ -23,13 +23,13 @@ loop-i-init c =
     let new = side_in c.args.new.now in
     rw (c.in_ok-weights.ensures {u = tt}) (record { constant = moved_none p old new Constant c.args.self.now.constant; linear = moved_none p old new Linear c.args.self.now.linear })
 
-pub turned-requires-clause-constant : goal.turned-requires-clause-constant
-turned-requires-clause-constant c =
+pub turn-requires-clause-constant : goal.turn-requires-clause-constant
+turn-requires-clause-constant c =
     let i = c.loop-i.i in
     ap (λ (w : WholeRow). length w.x) c.index-rows-i.is ∙ c.requires.wide i c.index-rows-i.result c.loop-i-test.true ∙ sym c.loop-i.invariant.constant.size
 
-pub turned-requires-clause-linear : goal.turned-requires-clause-linear
-turned-requires-clause-linear c =
+pub turn-requires-clause-linear : goal.turn-requires-clause-linear
+turn-requires-clause-linear c =
     let i = c.loop-i.i in
     ap (λ (w : WholeRow). length w.x) c.index-rows-i.is ∙ c.requires.wide i c.index-rows-i.result c.loop-i-test.true
     ∙ sym c.requires.weights.linear.size ∙ sym c.loop-i.invariant.linear.size
@@ -48,16 +48,16 @@ loop-i-preserved c =
     let was = side_read c.args.old.now i Up in_old in
     let is = side_read c.args.new.now i Up in_new in
     elim c.if-not-stays.branch [
-      | then-not-stays+in-Ok w ↦
+      | then-not-stays+in_ok-turn w ↦
           let r = w.index-rows-i.result in
           let before = c.loop-i.weights in
-          let turned = turned_read r _ _ _ _ before w.in-Ok.next was is w.in-Ok.ensures in
+          let turned = turned_read r _ _ _ _ before w.turn.new.self was is w.in_ok-turn.ensures in
           let x : (k : ℕ) → whole_at r.x k ≡ p.x i k = λ k. sym (row_read rows i r (λ r. whole_at r.x k) c.loop-i-test.true w.index-rows-i.is) in
           let y : whole r.y ≡ p.y i = sym (row_read rows i r (λ r. whole r.y) c.loop-i-test.true w.index-rows-i.is) in
           let bound : (part : Part) (side : Side) → bound_of r part side ≡ bound_part p part i side = λ part side. bound_read (length self.constant.columns) rows i r part side c.loop-i-test.true w.index-rows-i.is in
           rw (w.weights-is) (record {
-            constant = moved_more p old new Constant i self.constant before.constant w.in-Ok.next.constant r x y (bound Constant) m.constant turned.constant;
-            linear = moved_more p old new Linear i self.linear before.linear w.in-Ok.next.linear r x y (bound Linear) m.linear turned.linear;
+            constant = moved_more p old new Constant i self.constant before.constant w.turn.new.self.constant r x y (bound Constant) m.constant turned.constant;
+            linear = moved_more p old new Linear i self.linear before.linear w.turn.new.self.linear r x y (bound Linear) m.linear turned.linear;
           })
       | else-not-stays w ↦
           let same = sym is ∙ c.stays.ensures w.if-not-stays.false ∙ was in
