@@ -47,6 +47,17 @@ module _ (p : Sample) (side : ℕ → Side) (residuals coefs : List ℤ) (d : �
       (subst (λ far. AreOthersFar p side n.rows (share (pos far) d) b) (sym chosen.reach)
       (λ i li. far_same n.rows (side i) (share (pos n.distance) d) i (share_at d residuals i) (residual p b i) (are i li ∙ residual_same p (share_at d coefs) b same i) (chosen.others i (omega (arith, li, rows)))))
 
+-- sides that are those of all rows outside the basis, with no row of this on one
+pub with_basis : (p : Sample) (at : ℕ → ℕ) (a : ℕ → ℕ → ℚ) (made : List Side) → ((i : ℕ) → i < p.rows → is_among at p.columns i ≡ false → side_in made i ≡ side_at p at a i)
+    → ((j : ℕ) → j < p.columns → side_in made (at j) ≡ Basic) → (i : ℕ) → i < p.rows → side_in made i ≡ side_at p at a i
+with_basis p at a made outside basis i li = by (is_among at p.columns i) refl
+  where
+    by : (t : Bool) → is_among at p.columns i ≡ t → side_in made i ≡ side_at p at a i
+    by true e =
+        let place = among_place at p.columns i e in
+        subst (λ i. side_in made i ≡ Basic) place.2 (basis place.0 place.1) ∙ basic_by p at a i e
+    by false e = outside i li e
+
 -- rows that were near an earlier fit, from which no residual has moved by more than what the distance is beyond a reach
 module _ (p : Sample) (at : ℕ → ℕ) (a : ℕ → ℕ → ℚ) (d : ℤ) (coef : List ℤ) (n : Near) (reach : ℕ) (old made : List Side)
     (size : length coef ≡ p.columns) (same : (k : ℕ) → k < p.columns → share_at d coef k ≡ coefficient p at a k) (is_near : IsNear p (side_in old) n)
@@ -108,10 +119,4 @@ module _ (p : Sample) (at : ℕ → ℕ) (a : ℕ → ℕ → ℚ) (d : ℤ) (co
             kept ∙ far_side p at a i e least above (side_in old i) (still_far i li (side_in old i) away)
 
     pub sides_now : (i : ℕ) → i < p.rows → side_in made i ≡ side_at p at a i
-    sides_now i li = by (is_among at p.columns i) refl
-      where
-        by : (t : Bool) → is_among at p.columns i ≡ t → side_in made i ≡ side_at p at a i
-        by true e =
-            let place = among_place at p.columns i e in
-            subst (λ i. side_in made i ≡ Basic) place.2 (basis place.0 place.1) ∙ basic_by p at a i e
-        by false e = outside i li e
+    sides_now = with_basis p at a made outside basis

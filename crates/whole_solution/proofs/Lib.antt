@@ -12,8 +12,8 @@ pub mod Within
 pub mod Keeping
 pub mod Moves
 pub mod Listed
-pub mod Looked
 pub mod Nearby
 pub mod Entries
 pub mod Chosen
+pub mod Past
 pub mod Turning

@@ -1,5 +1,5 @@
 -- Inner. A basis of rows in whole numbers, and what stands there.
-use Rattle.std.specs.Prelude.{◌≡◌, ◌≢◌, ◌⊎◌, ℕ, ℤ, ◌<◌, ◌≤◌, ◌^◌, List, All, IfSome, length, pos, slice_get, slice_index, unwrap_or, unsigned_abs}
+use Rattle.std.specs.Prelude.{◌≡◌, ◌≢◌, ℕ, ℤ, ◌<◌, ◌≤◌, ◌^◌, List, [], ◌∷◌, All, IfSome, length, pos, slice_get, slice_index, unwrap_or, unsigned_abs}
 use Rattle.exact_algebra.specs.Rational.{ℚ}
 use Rattle.exact_matrices.specs.Selections.{AreDistinct}
 use Rattle.loss_model.specs.declared.vertex.Side.{Side}
@@ -13,9 +13,10 @@ use Rattle.whole_solution.specs.declared.basis.WholeBasis.{WholeBasis}
 use Rattle.whole_solution.specs.declared.solution.WholeSolution.{WholeSolution}
 use Rattle.whole_solution.specs.declared.solution.DualNumbers.{DualNumbers}
 use Rattle.whole_solution.specs.declared.solution.Joint.{Joint}
+use Rattle.whole_solution.specs.declared.solution.Nearby.{Nearby}
 use Rattle.whole_solution.specs.declared.solution.Sided.{Sided}
 use Rattle.whole_solution.specs.Weighing.{AreWeights}
-use Rattle.whole_solution.specs.Far.{AreOthersFar, IsListed, IsNear}
+use Rattle.whole_solution.specs.Far.{AreOthersFar, IsNear}
 
 -- the side of row i
 abbrev pub side_in : List Side → ℕ → Side
@@ -43,16 +44,20 @@ pub record IsPast (p : Sample) (at : ℕ → ℕ) (a : ℕ → ℕ → ℚ) (old
   pub basic : old j.left ≡ Basic
   pub others : (i : ℕ) → i < p.rows → i ≢ j.entered → i ≢ j.left → side_at p at a i ≡ old i
 
--- these rows are near, and all other near rows are on the sides on which they were
-pub record AreLookedAt (p : Sample) (at : ℕ → ℕ) (a : ℕ → ℕ → ℚ) (old : ℕ → Side) (near looked : List ℕ) : Type 0 where
-  pub rows : All (λ i. i < p.rows) looked
-  pub are_near : (i : ℕ) → IsListed looked i → IsListed near i
-  pub others : (i : ℕ) → IsListed near i → IsListed looked i ⊎ (side_at p at a i ≡ old i)
+-- both rows of a joint
+abbrev pub both_of : Joint → List ℕ
+both_of j = j.entered ∷ j.left ∷ []
 
 -- the numerators over d are those of the residuals of all rows
 pub record AreResiduals (p : Sample) (at : ℕ → ℕ) (a : ℕ → ℕ → ℚ) (d : ℤ) (residuals : List ℤ) : Type 0 where
   pub size : length residuals ≡ p.rows
   pub each : (i : ℕ) → i < p.rows → share_at d residuals i ≡ residual p (coefficient p at a) i
+
+-- rows that aren't near are far on these sides, and the numerators over d, where they stand there, are those of the residuals of all rows
+pub record IsNearby (p : Sample) (at : ℕ → ℕ) (a : ℕ → ℕ → ℚ) (d : ℤ) (side : ℕ → Side) (n : Nearby) : Type 0 where
+  pub near : IsNear p side n.near
+  pub far : AreOthersFar p side n.near.rows (share (pos n.near.reach) n.near.determinant) (coefficient p at a)
+  pub residuals : IfSome n.residuals (AreResiduals p at a d)
 
 -- the numerators over d are those of the coefficients, and of the residuals where these stand there, the sides are those of the
 -- rows, the weights are theirs on these, and rows that aren't near are far

@@ -7,7 +7,7 @@ ghost use Rattle.basis_model.specs.Basis.{coefficient, side_at};
 ghost use Rattle.whole_inverse.specs.Shares.{share, share_at};
 ghost use Rattle.whole_inverse.specs.Squares.{inverse_of};
 ghost use Rattle.whole_rows.specs.Wholes.{sample_of_rows};
-ghost use Rattle.whole_solution.specs.Standing.{side_in, AreDualNumbers, AreLookedAt, AreResiduals, HasWeights, IsPast, IsSided, IsWholeBasis, IsWholeSolution};
+ghost use Rattle.whole_solution.specs.Standing.{side_in, both_of, AreDualNumbers, AreResiduals, HasWeights, IsNearby, IsPast, IsSided, IsWholeBasis, IsWholeSolution};
 ghost use Rattle.whole_solution.specs.Columns.{IsColumn};
 ghost use Rattle.whole_solution.specs.Far.{IsListed};
 ghost use Rattle.whole_solution.specs.Ranges.{AreRanges};
@@ -63,6 +63,13 @@ struct DualNumbers {
 pub struct Turned {
     pub sides: List<Side>,
     pub weights: Weights,
+}
+
+/// The rows near the fit, and the residuals of all rows where these were made to choose them.
+#[derive(Drop)]
+struct Nearby {
+    pub near: Near,
+    pub residuals: Option<List<i128>>,
 }
 
 /// The rows that have entered a basis and left it, where two bases of a walk meet.
@@ -143,6 +150,41 @@ impl<'a> WholeBasis<'a> {
         }
     }
 
+    /// The rows near this fit, chosen by the residuals of all rows on their sides.
+    fn choose_near(
+        &self,
+        alloc: Global,
+        residuals: List<i128>,
+        coef: &[i128],
+        sides: &[Side],
+        ranges: Ranges,
+    ) -> Result<Nearby, Obstacle>
+        requires basis { IsWholeBasis self.now }
+        requires all { length residuals ≡ length self.now.rows.now }
+        requires residuals { let s = self.now.inverse.now in let p = sample_of_rows (length s.columns) self.now.rows.now in
+            (i : ℕ) → i < p.rows → share_at s.determinant residuals i ≡ residual p (share_at s.determinant coef.now) i }
+        requires size { length coef.now ≡ length self.now.inverse.now.columns }
+        requires each { let s = self.now.inverse.now in let p = sample_of_rows (length s.columns) self.now.rows.now in let at = slice_index self.now.basis.now.rows in
+            (k : ℕ) → k < p.columns → share_at s.determinant coef.now k ≡ coefficient p at (inverse_of s) k }
+        requires sides { length sides.now ≡ length self.now.rows.now }
+        requires ranges { AreRanges (sample_of_rows (length self.now.inverse.now.columns) self.now.rows.now) ranges }
+        ensures { let s = self.now.inverse.now in let p = sample_of_rows (length s.columns) self.now.rows.now in let at = slice_index self.now.basis.now.rows in
+            IfOk result (IsNearby p at (inverse_of s) s.determinant (side_in sides.now)) }
+    {
+        let near = Near::chosen(
+            alloc,
+            residuals.as_slice(),
+            sides,
+            coef,
+            self.inverse.determinant(),
+            ranges,
+        )?;
+        Ok(Nearby {
+            near,
+            residuals: Some(residuals),
+        })
+    }
+
     /// The sides of all rows by their residuals, what these weigh, and the rows near this fit.
     fn sided(
         &self,
@@ -165,20 +207,13 @@ impl<'a> WholeBasis<'a> {
         let residuals = self.residuals(alloc, coef.as_slice())?;
         let sides = self.sides(alloc, residuals.as_slice())?;
         let weights = before.after(alloc, self.rows, old, sides.as_slice())?;
-        let near = Near::chosen(
-            alloc,
-            residuals.as_slice(),
-            sides.as_slice(),
-            coef.as_slice(),
-            self.inverse.determinant(),
-            ranges,
-        )?;
+        let nearby = self.choose_near(alloc, residuals, coef.as_slice(), sides.as_slice(), ranges)?;
         Ok(Sided {
             coef,
             sides,
-            near,
+            near: nearby.near,
             weights,
-            residuals: Some(residuals),
+            residuals: nearby.residuals,
         })
     }
 
@@ -253,18 +288,35 @@ impl<'a> WholeBasis<'a> {
         true
     }
 
-    /// The same as `sided`, from what stood at another basis: where no far row can have changed its side, some of the near rows
-    /// alone are looked at, among which are all that may have.
-    fn sided_after(
+    /// The same as `sided`, from what stood at another basis.
+    fn sided_anew(
         &self,
         alloc: Global,
+        coef: List<i128>,
         before: &WholeSolution,
-        looked: &[u32],
     ) -> Result<Sided, Obstacle>
         requires basis { IsWholeBasis self.now }
+        requires size { length coef ≡ length self.now.inverse.now.columns }
+        requires each { let s = self.now.inverse.now in let p = sample_of_rows (length s.columns) self.now.rows.now in let at = slice_index self.now.basis.now.rows in
+            (k : ℕ) → k < p.columns → share_at s.determinant coef k ≡ coefficient p at (inverse_of s) k }
         requires before { HasWeights (sample_of_rows (length self.now.inverse.now.columns) self.now.rows.now) before.now }
-        requires looked { let s = self.now.inverse.now in let p = sample_of_rows (length s.columns) self.now.rows.now in let at = slice_index self.now.basis.now.rows in
-            AreLookedAt p at (inverse_of s) (side_in before.now.sides) before.now.near.rows looked.now }
+        ensures { let s = self.now.inverse.now in let p = sample_of_rows (length s.columns) self.now.rows.now in let at = slice_index self.now.basis.now.rows in
+            IfOk result (IsSided p at (inverse_of s) s.determinant) }
+    {
+        let ranges = before.near.ranges.copy(alloc)?;
+        self.sided(
+            alloc,
+            coef,
+            ranges,
+            before.sides.as_slice(),
+            &before.weights,
+        )
+    }
+
+    /// The same where no far row can have changed its side, so that the near rows alone are looked at.
+    fn sided_after(&self, alloc: Global, before: &WholeSolution) -> Result<Sided, Obstacle>
+        requires basis { IsWholeBasis self.now }
+        requires before { HasWeights (sample_of_rows (length self.now.inverse.now.columns) self.now.rows.now) before.now }
         ensures { let s = self.now.inverse.now in let p = sample_of_rows (length s.columns) self.now.rows.now in let at = slice_index self.now.basis.now.rows in
             IfOk result (IsSided p at (inverse_of s) s.determinant) }
     {
@@ -278,7 +330,7 @@ impl<'a> WholeBasis<'a> {
                 coef.as_slice(),
                 before.sides.as_slice(),
                 &before.weights,
-                looked,
+                before.near.rows.as_slice(),
             )?;
             if self.holds_basis(turned.sides.as_slice()) {
                 let near = before.near.with_reach(alloc, reach)?;
@@ -291,14 +343,80 @@ impl<'a> WholeBasis<'a> {
                 });
             }
         }
+        self.sided_anew(alloc, coef, before)
+    }
+
+    /// The rows near the fit past a joint. The earlier ones serve while no far row can have come near, if the row that has entered is
+    /// among them: it is on no side any more, and so not far.
+    fn near_past(
+        &self,
+        alloc: Global,
+        before: &WholeSolution,
+        met: Joint,
+        coef: &[i128],
+        sides: &[Side],
+    ) -> Result<Nearby, Obstacle>
+        requires basis { IsWholeBasis self.now }
+        requires before { HasWeights (sample_of_rows (length self.now.inverse.now.columns) self.now.rows.now) before.now }
+        requires past { let s = self.now.inverse.now in let p = sample_of_rows (length s.columns) self.now.rows.now in let at = slice_index self.now.basis.now.rows in
+            IsPast p at (inverse_of s) (side_in before.now.sides) met }
+        requires size { length coef.now ≡ length self.now.inverse.now.columns }
+        requires each { let s = self.now.inverse.now in let p = sample_of_rows (length s.columns) self.now.rows.now in let at = slice_index self.now.basis.now.rows in
+            (k : ℕ) → k < p.columns → share_at s.determinant coef.now k ≡ coefficient p at (inverse_of s) k }
+        requires sides { length sides.now ≡ length self.now.rows.now }
+        requires kept { (i : ℕ) → IsListed (both_of met) i ⊎ (side_in sides.now i ≡ side_in before.now.sides i) }
+        ensures { let s = self.now.inverse.now in let p = sample_of_rows (length s.columns) self.now.rows.now in let at = slice_index self.now.basis.now.rows in
+            IfOk result (IsNearby p at (inverse_of s) s.determinant (side_in sides.now)) }
+    {
+        if before.near.holds(met.entered) {
+            if let Some(reach) = before.near.reach_left(coef, self.inverse.determinant()) {
+                let near = before.near.with_reach(alloc, reach)?;
+                return Ok(Nearby {
+                    near,
+                    residuals: None,
+                });
+            }
+        }
+        let residuals = self.residuals(alloc, coef)?;
         let ranges = before.near.ranges.copy(alloc)?;
-        self.sided(
+        self.choose_near(alloc, residuals, coef, sides, ranges)
+    }
+
+    /// The same as `sided`, past a joint of a walk: all rows but both of its own keep their sides, also where the near rows are to be
+    /// chosen anew.
+    fn sided_past_joint(
+        &self,
+        alloc: Global,
+        before: &WholeSolution,
+        met: Joint,
+    ) -> Result<Sided, Obstacle>
+        requires basis { IsWholeBasis self.now }
+        requires before { HasWeights (sample_of_rows (length self.now.inverse.now.columns) self.now.rows.now) before.now }
+        requires past { let s = self.now.inverse.now in let p = sample_of_rows (length s.columns) self.now.rows.now in let at = slice_index self.now.basis.now.rows in
+            IsPast p at (inverse_of s) (side_in before.now.sides) met }
+        ensures { let s = self.now.inverse.now in let p = sample_of_rows (length s.columns) self.now.rows.now in let at = slice_index self.now.basis.now.rows in
+            IfOk result (IsSided p at (inverse_of s) s.determinant) }
+    {
+        let coef = self.coefficients(alloc)?;
+        let turned = self.near_sides(
             alloc,
-            coef,
-            ranges,
+            coef.as_slice(),
             before.sides.as_slice(),
             &before.weights,
-        )
+            &[met.entered, met.left],
+        )?;
+        let sides = turned.sides;
+        if !self.holds_basis(sides.as_slice()) {
+            return self.sided_anew(alloc, coef, before);
+        }
+        let nearby = self.near_past(alloc, before, met, coef.as_slice(), sides.as_slice())?;
+        Ok(Sided {
+            coef,
+            sides,
+            near: nearby.near,
+            weights: turned.weights,
+            residuals: nearby.residuals,
+        })
     }
 
     /// The dual values, by what the rows weigh on their sides.
@@ -356,8 +474,7 @@ impl<'a> WholeBasis<'a> {
         Ok(solution)
     }
 
-    /// What stands at a basis but for the dual values, from what stood at another one. Past a joint whose row that entered is near both
-    /// of its rows are looked at, and else all near ones.
+    /// What stands at a basis but for the dual values, from what stood at another one.
     fn sided_past(
         &self,
         alloc: Global,
@@ -371,12 +488,10 @@ impl<'a> WholeBasis<'a> {
         ensures { let s = self.now.inverse.now in let p = sample_of_rows (length s.columns) self.now.rows.now in let at = slice_index self.now.basis.now.rows in
             IfOk result (IsSided p at (inverse_of s) s.determinant) }
     {
-        if let Some(met) = joint {
-            if before.near.holds(met.entered) {
-                return self.sided_after(alloc, before, &[met.entered, met.left]);
-            }
+        match joint {
+            Some(met) => self.sided_past_joint(alloc, before, met),
+            None => self.sided_after(alloc, before),
         }
-        self.sided_after(alloc, before, before.near.rows.as_slice())
     }
 
     /// What stands at a basis, from what stood at another one of the same rows. Past a joint of a walk all rows but both of its own

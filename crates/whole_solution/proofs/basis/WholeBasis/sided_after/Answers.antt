@@ -7,7 +7,6 @@ use Rattle.whole_solution.specs.declared.near.Near.{Near}
 use Rattle.whole_solution.specs.Far.{reaching}
 use Rattle.whole_solution.specs.Standing.{IsSided}
 use Rattle.whole_solution.proofs.Chosen.{near_now, far_now, sides_now}
-use Rattle.whole_solution.proofs.Looked.{each_near, made_near}
 use Rattle.whole_solution.proofs.basis.WholeBasis.sided_after.Goals as goal
 
 pub returns-then-holds_basis : goal.returns-then-holds_basis
@@ -31,11 +30,9 @@ returns-then-holds_basis c =
     let reach = c.in-Some.reach in
     let some = c.in-Some.ensures.some in
     let left = rw (c.as_slice.ensures, det, c.determinant.ensures.value) at c.in-Some.ensures.left in
-    let looked = c.args.looked.now in
-    let put = rw (c.as_slice-in-Some-2.ensures) at c.in_ok-turned.ensures.each in
-    let each = each_near p at a old made n.rows looked c.requires.looked put in
-    let near = made_near p at a old made n.rows looked c.requires.looked put c.in_ok-turned.ensures.near in
-    let held = rw (c.as_slice-in-Some-3.ensures, c.requires.basis.size) at (c.holds_basis.ensures c.if-holds_basis.true) in
+    let each = rw (c.as_slice-in-Some-2.ensures, c.as_slice-in-Some-3.ensures) at c.in_ok-turned.ensures.each in
+    let near = rw (c.as_slice-in-Some-3.ensures) at c.in_ok-turned.ensures.near in
+    let held = rw (c.as_slice-in-Some-4.ensures, c.requires.basis.size) at (c.holds_basis.ensures c.if-holds_basis.true) in
     let sided : IsSided p at a d (record { coef = coef; sides = made; near = reaching n reach; weights = weights; residuals = None }) =
     record {
       columns = size;
