@@ -12,7 +12,7 @@ pub mod Within
 pub mod Keeping
 pub mod Moves
 pub mod Listed
-pub mod Nearby
+pub mod Put
 pub mod Entries
 pub mod Chosen
 pub mod Past

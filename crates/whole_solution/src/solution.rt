@@ -217,8 +217,8 @@ impl<'a> WholeBasis<'a> {
         })
     }
 
-    /// The side of a row at this basis, where it is outside this.
-    fn near_side(&self, coef: &Column, row: u32) -> Result<Side, Obstacle>
+    /// The side of a listed row at this basis, where it is outside this.
+    fn listed_side(&self, coef: &Column, row: u32) -> Result<Side, Obstacle>
         requires basis { IsWholeBasis self.now }
         requires column { IsColumn coef.now.numbers.now self.now.limit coef.now }
         requires size { length coef.now.numbers.now ≡ length self.now.inverse.now.columns }
@@ -233,14 +233,14 @@ impl<'a> WholeBasis<'a> {
         Ok(side)
     }
 
-    /// The sides of the near rows at this basis beside the earlier ones of all others, and what rows weigh on these.
-    fn near_sides(
+    /// The sides of the listed rows at this basis beside the earlier ones of all others, and what rows weigh on these.
+    fn listed_sides(
         &self,
         alloc: Global,
         coef: &[i128],
         old: &[Side],
         before: &Weights,
-        near: &[u32],
+        listed: &[u32],
     ) -> Result<Turned, Obstacle>
         requires basis { IsWholeBasis self.now }
         requires size { length coef.now ≡ length self.now.inverse.now.columns }
@@ -248,22 +248,22 @@ impl<'a> WholeBasis<'a> {
             (k : ℕ) → k < p.columns → share_at s.determinant coef.now k ≡ coefficient p at (inverse_of s) k }
         requires old { length old.now ≡ length self.now.rows.now }
         requires before { AreWeights (sample_of_rows (length self.now.inverse.now.columns) self.now.rows.now) (side_in old.now) before.now }
-        requires near { All (λ i. i < length self.now.rows.now) near.now }
+        requires listed { All (λ i. i < length self.now.rows.now) listed.now }
         ensures size { IfOk result (λ made. length made.sides ≡ length self.now.rows.now) }
-        ensures each { IfOk result (λ made. (i : ℕ) → IsListed near.now i ⊎ (side_in made.sides i ≡ side_in old.now i)) }
-        ensures near { let s = self.now.inverse.now in let p = sample_of_rows (length s.columns) self.now.rows.now in let at = slice_index self.now.basis.now.rows in
-            IfOk result (λ made. (i : ℕ) → IsListed near.now i → is_among at p.columns i ≡ false → side_in made.sides i ≡ side_at p at (inverse_of s) i) }
+        ensures each { IfOk result (λ made. (i : ℕ) → IsListed listed.now i ⊎ (side_in made.sides i ≡ side_in old.now i)) }
+        ensures listed { let s = self.now.inverse.now in let p = sample_of_rows (length s.columns) self.now.rows.now in let at = slice_index self.now.basis.now.rows in
+            IfOk result (λ made. (i : ℕ) → IsListed listed.now i → is_among at p.columns i ≡ false → side_in made.sides i ≡ side_at p at (inverse_of s) i) }
         ensures weights { IfOk result (λ made. AreWeights (sample_of_rows (length self.now.inverse.now.columns) self.now.rows.now) (side_in made.sides) made.weights) }
     {
         let rows = self.rows;
         let coef = Column::of(coef, self.limit);
         let mut sides = List::copy(alloc, old)?;
         let mut weights = before.copy(alloc)?;
-        for k in 0..near.len() {
-            let row = near[k];
+        for k in 0..listed.len() {
+            let row = listed[k];
             let chosen = &rows[row as usize];
             let from = sides.as_slice()[row as usize];
-            let side = self.near_side(&coef, row)?;
+            let side = self.listed_side(&coef, row)?;
             let turn = Turn { from, to: side };
             sides.replace(row, side);
             if !turn.stays() {
@@ -325,7 +325,7 @@ impl<'a> WholeBasis<'a> {
             .near
             .reach_left(coef.as_slice(), self.inverse.determinant())
         {
-            let turned = self.near_sides(
+            let turned = self.listed_sides(
                 alloc,
                 coef.as_slice(),
                 before.sides.as_slice(),
@@ -398,7 +398,7 @@ impl<'a> WholeBasis<'a> {
             IfOk result (IsSided p at (inverse_of s) s.determinant) }
     {
         let coef = self.coefficients(alloc)?;
-        let turned = self.near_sides(
+        let turned = self.listed_sides(
             alloc,
             coef.as_slice(),
             before.sides.as_slice(),

@@ -31,7 +31,7 @@ returns-then-holds_basis c =
     let some = c.in-Some.ensures.some in
     let left = rw (c.as_slice.ensures, det, c.determinant.ensures.value) at c.in-Some.ensures.left in
     let each = rw (c.as_slice-in-Some-2.ensures, c.as_slice-in-Some-3.ensures) at c.in_ok-turned.ensures.each in
-    let near = rw (c.as_slice-in-Some-3.ensures) at c.in_ok-turned.ensures.near in
+    let near = rw (c.as_slice-in-Some-3.ensures) at c.in_ok-turned.ensures.listed in
     let held = rw (c.as_slice-in-Some-4.ensures, c.requires.basis.size) at (c.holds_basis.ensures c.if-holds_basis.true) in
     let sided : IsSided p at a d (record { coef = coef; sides = made; near = reaching n reach; weights = weights; residuals = None }) =
     record {

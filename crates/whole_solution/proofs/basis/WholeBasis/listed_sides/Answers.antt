@@ -1,4 +1,4 @@
--- The side of a near row more, and what it weighs there.
+-- The side of a listed row more, and what it weighs there.
 use Rattle.std.proofs.Common.{rules, ◌≡◌, ◌<◌, ℕ, length, get_or, slice_index, slice_set, arith, sym, ◌∙◌}
 use Rattle.loss_model.specs.declared.vertex.Side.{Side}
 use Rattle.loss_model.specs.declared.vertex.Side.TheVariants.{Up}
@@ -10,18 +10,18 @@ use Rattle.whole_inverse.specs.Squares.{inverse_of}
 use Rattle.whole_rows.specs.Wholes.{sample_of_rows}
 use Rattle.whole_solution.specs.Standing.{side_in}
 use Rattle.whole_solution.specs.Weighing.{bound_of}
-use Rattle.whole_solution.proofs.Nearby.{put_none, put_more, put_all}
+use Rattle.whole_solution.proofs.Put.{put_none, put_more, put_all}
 use Rattle.whole_solution.proofs.Reading.{row_read, bound_read, side_read}
 use Rattle.whole_solution.proofs.Turning.{weights_put, weights_kept}
-use Rattle.whole_solution.proofs.basis.WholeBasis.near_sides.Goals as goal
-use Rattle.whole_solution.proofs.basis.WholeBasis.near_sides.Goals.{then-not-stays+in_ok-turn, else-not-stays}
+use Rattle.whole_solution.proofs.basis.WholeBasis.listed_sides.Goals as goal
+use Rattle.whole_solution.proofs.basis.WholeBasis.listed_sides.Goals.{then-not-stays+in_ok-turn, else-not-stays}
 
 pub loop-k-init : goal.loop-k-init
 loop-k-init c =
     let b = c.args.self.now in
     let s = b.inverse.now in
     rw (c.in_ok-sides.ensures, c.in_ok-weights.ensures {u = tt}) (record {
-      put = put_none (sample_of_rows (length s.columns) b.rows.now) (slice_index b.basis.now.rows) (inverse_of s) c.args.near.now c.args.old.now c.requires.old;
+      put = put_none (sample_of_rows (length s.columns) b.rows.now) (slice_index b.basis.now.rows) (inverse_of s) c.args.listed.now c.args.old.now c.requires.old;
       weights = c.requires.before;
     })
 
@@ -33,19 +33,19 @@ loop-k-preserved c =
     let n = length s.columns in
     let p = sample_of_rows n rows in
     let at = slice_index b.basis.now.rows in
-    let near = c.args.near.now in
+    let listed = c.args.listed.now in
     let k = c.loop-k.k in
     let sides = c.loop-k.sides in
     let weights = c.loop-k.weights in
     let m = c.loop-k.invariant in
     let side = c.in_ok-side.side in
-    let i = slice_index near k in
-    let here : k < length near = search rules in
+    let i = slice_index listed k in
+    let here : k < length listed = search rules in
     let within : i < length rows = search rules in
     let in_sides : i < length sides = omega (arith, within, m.put.size) in
     let was : get_or c.as_slice.result.now i Up ≡ side_in sides i = rw (c.as_slice.ensures) (side_read sides i Up in_sides) in
     let put : c.replace.new.self ≡ slice_set sides i side = search rules in
-    let made = put_more p at (inverse_of s) near c.args.old.now sides k side m.put here within (c.in_ok-side.ensures {u = tt}) in
+    let made = put_more p at (inverse_of s) listed c.args.old.now sides k side m.put here within (c.in_ok-side.ensures {u = tt}) in
     rw (put) (elim c.if-not-stays.branch [
       | then-not-stays+in_ok-turn w ↦
           let r = c.index-rows-row.result in
@@ -62,12 +62,12 @@ returns c =
     let b = c.args.self.now in
     let s = b.inverse.now in
     let p = sample_of_rows (length s.columns) b.rows.now in
-    let near = c.args.near.now in
-    let end : c.loop-k.k ≡ length near = omega (arith, c.loop-k-test.false, c.loop-k.auto.k-end) in
+    let listed = c.args.listed.now in
+    let end : c.loop-k.k ≡ length listed = omega (arith, c.loop-k-test.false, c.loop-k.auto.k-end) in
     let all = rw (end) at c.loop-k.invariant.put in
     record {
       size = all.size;
       each = all.each;
-      near = put_all p (slice_index b.basis.now.rows) (inverse_of s) near c.args.old.now c.loop-k.sides all;
+      listed = put_all p (slice_index b.basis.now.rows) (inverse_of s) listed c.args.old.now c.loop-k.sides all;
       weights = c.loop-k.invariant.weights;
     }

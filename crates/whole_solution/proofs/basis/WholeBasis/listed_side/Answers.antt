@@ -6,7 +6,7 @@ use Rattle.whole_inverse.specs.Shares.{share_at}
 use Rattle.whole_inverse.specs.Squares.{inverse_of}
 use Rattle.whole_rows.specs.Wholes.{sample_of_rows}
 use Rattle.whole_solution.proofs.Same.{residual_same}
-use Rattle.whole_solution.proofs.basis.WholeBasis.near_side.Goals as goal
+use Rattle.whole_solution.proofs.basis.WholeBasis.listed_side.Goals as goal
 
 pub free_side-requires-clause-residual : goal.free_side-requires-clause-residual
 free_side-requires-clause-residual c =
