@@ -1,7 +1,6 @@
 -- Sides of all rows beside the rows near the fit, and after a step that far rows are not looked at.
 use Rattle.std.specs.Prelude.{◌≡◌, ◌⊎◌, ℕ, ℤ, ◌<◌, ◌≤◌, ◌≤ℤ◌, Bool, true, false, List, All, length, pos}
 use Rattle.std.proofs.Common.{arith, refl, sym, ap, subst, ◌∙◌, inl, inr}
-use Rattle.std.proofs.lemmas.Int.{ints}
 use Rattle.exact_algebra.specs.Rational.{ℚ, ◌+ℚ◌, ◌≤ℚ◌}
 use Rattle.exact_matrices.specs.Selections.{is_among}
 use Rattle.loss_model.specs.declared.vertex.Side.{Side}
@@ -15,9 +14,8 @@ use Rattle.whole_solution.specs.declared.ranges.Ranges.{Ranges}
 use Rattle.whole_solution.specs.Standing.{side_in}
 use Rattle.whole_solution.specs.Far.{reaching, room, AreOthersFar, IsChosen, IsFarOn, IsListed, IsNear, IsNearOrFar}
 use Rattle.whole_solution.specs.Ranges.{AreRanges}
-use Rattle.whole_solution.proofs.Keeping.{keeps_on, far_side}
+use Rattle.whole_solution.proofs.Keeping.{keeps_on}
 use Rattle.whole_solution.proofs.Made.{basic_by}
-use Rattle.whole_solution.proofs.Numbers.{share_above}
 use Rattle.whole_solution.proofs.Same.{residual_same}
 
 -- a residual that is known
@@ -105,18 +103,3 @@ module _ (p : Sample) (at : ℕ → ℕ) (a : ℕ → ℕ → ℚ) (d : ℤ) (co
       by : IsNearOrFar n.rows (side_in old i) far i (residual p before i) → IsNearOrFar n.rows (side_in old i) least i (residual p (coefficient p at a) i)
       by (inl listed) = inl listed
       by (inr away) = inr (still_far i li (side_in old i) away)
-
-  -- and all sides are those of the rows
-  module _ (near : (i : ℕ) → IsListed n.rows i → is_among at p.columns i ≡ false → side_in made i ≡ side_at p at a i) (basis : (j : ℕ) → j < p.columns → side_in made (at j) ≡ Basic) where
-    outside : (i : ℕ) → i < p.rows → is_among at p.columns i ≡ false → side_in made i ≡ side_at p at a i
-    outside i li e = by (each i) (is_near.others i li)
-      where
-        by : IsListed n.rows i ⊎ (side_in made i ≡ side_in old i) → IsNearOrFar n.rows (side_in old i) far i (residual p before i) → side_in made i ≡ side_at p at a i
-        by (inl listed) h = near i listed e
-        by (inr kept) (inl listed) = near i listed e
-        by (inr kept) (inr away) =
-            let above = share_above (pos reach) n.determinant is_near.some (omega (arith, ints, some)) in
-            kept ∙ far_side p at a i e least above (side_in old i) (still_far i li (side_in old i) away)
-
-    pub sides_now : (i : ℕ) → i < p.rows → side_in made i ≡ side_at p at a i
-    sides_now = with_basis p at a made outside basis

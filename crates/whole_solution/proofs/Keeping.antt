@@ -1,31 +1,26 @@
 -- Residuals that are far from 0, and how far the coefficients can take them.
-use Rattle.std.specs.Prelude.{◌≡◌, ℕ, ℤ, ◌≤◌, ◌≤ℤ◌, neg_ℤ, unsigned_abs, [], ◌∷◌, false, pos}
+use Rattle.std.specs.Prelude.{◌≡◌, ℕ, ℤ, ◌≤◌, ◌≤ℤ◌, neg_ℤ, unsigned_abs, [], ◌∷◌, Bool, true, false, IsTrue, pos, ◌&&◌}
 use Rattle.std.proofs.Common.{arith, refl, sym, ap, subst, ◌∙◌}
+use mathlib.Core.Bool.{◌||◌}
 use Rattle.std.proofs.lemmas.Int.{ints}
 use Rattle.exact_algebra.specs.Solver.{number, negated, ◌⊞◌, ◌⊟◌, ◌⊠◌, v0, v1, v2}
 use Rattle.exact_algebra.specs.Rational.{ℚ, ◌+ℚ◌, ◌-ℚ◌, ◌*ℚ◌, neg_ℚ, whole, inverse, ◌≤ℚ◌}
-use Rattle.exact_algebra.specs.Order.{cmp_ℚ}
-use Rattle.exact_algebra.proofs.RationalLaws.{ring_ℚ, ≤ℚ_refl, ≤ℚ_trans, ≤ℚ_mul}
-use Rattle.exact_algebra.proofs.OrderLaws.{cmp_ℚ-Greater, cmp_ℚ-not_Greater, inverse_not_negative}
+use Rattle.exact_algebra.proofs.RationalLaws.{ring_ℚ, ≤ℚ_trans, ≤ℚ_mul}
+use Rattle.exact_algebra.proofs.OrderLaws.{inverse_not_negative}
 use Rattle.exact_algebra.proofs.WholeNumbers.{whole-le}
 use Rattle.exact_algebra.specs.RationalSums.{sum_ℚ}
 use Rattle.exact_algebra.proofs.RationalSumLaws.{sum_ℚ-same, sum_ℚ-mix}
-use Rattle.exact_matrices.specs.Selections.{is_among}
 use Rattle.loss_model.specs.declared.vertex.Side.{Side}
 use Rattle.loss_model.specs.declared.vertex.Side.TheVariants.{Up, Down, Basic}
 use Rattle.loss_model.specs.Sample.{Sample, residual, fitted}
-use Rattle.basis_model.specs.Perturbed.{side_of}
-use Rattle.basis_model.specs.Basis.{coefficient, outside_row, side_at}
-use Rattle.basis_model.proofs.Signs.{side-residual}
 use Rattle.walk_rule.proofs.Lines.{le_by}
 use Rattle.whole_inverse.specs.Shares.{share}
 use Rattle.whole_solution.specs.declared.ranges.Ranges.{Ranges}
 use Rattle.whole_solution.specs.Far.{room, FarRowsKeep, IsFarOn}
 use Rattle.whole_solution.specs.Ranges.{AreInRanges}
-use Rattle.whole_solution.proofs.Made.{outside_by}
 use Rattle.whole_solution.proofs.Within.{products_stay_in_range}
-use Rattle.whole_solution.proofs.Sizes.{negated_size, not_above, own_size}
-use Rattle.whole_solution.proofs.Numbers.{share-neg, not_greater}
+use Rattle.whole_solution.proofs.Sizes.{negated_size, own_size}
+use Rattle.whole_solution.proofs.Numbers.{share-neg}
 
 -- ---- a row
 
@@ -97,20 +92,10 @@ far_above r far up h d p = share-le (pos far) r d p (omega (arith, ints))
 pub far_below : (r : ℤ) (far : ℕ) → r ≤ℤ pos 0 → far ≤ unsigned_abs r → (d : ℤ) → pos 1 ≤ℤ d → share (pos far) d ≤ℚ neg_ℚ (share r d)
 far_below r far down h d p = subst (λ z. share (pos far) d ≤ℚ z) (share-neg r d) (share-le (pos far) (neg_ℤ r) d p (omega (arith, ints)))
 
--- the side of a row that is far on it
-module _ (p : Sample) (at : ℕ → ℕ) (a : ℕ → ℕ → ℚ) (i : ℕ) (outside : is_among at p.columns i ≡ false) (least : ℚ) (some : ¬ (least ≤ℚ whole (pos 0))) where
-  abbrev r : ℚ
-  r = residual p (coefficient p at a) i
-
-  side_by : ¬ (r ≡ whole (pos 0)) → side_of (cmp_ℚ r (whole (pos 0))) ≡ side_at p at a i
-  side_by other = sym (side-residual p.columns at (outside_row p at a i) other p.rows) ∙ outside_by p at a i outside
-
-  pub far_side : (side : Side) → IsFarOn side least r → side ≡ side_at p at a i
-  far_side Up away =
-      let above : ¬ (r ≤ℚ whole (pos 0)) = λ h. some (≤ℚ_trans least r (whole (pos 0)) away h) in
-      sym (ap side_of ((cmp_ℚ-Greater r (whole (pos 0))).1 above)) ∙ side_by (λ e. above (subst (λ z. z ≤ℚ whole (pos 0)) (sym e) (≤ℚ_refl (whole (pos 0)))))
-  far_side Down away =
-      let below : ¬ (whole (pos 0) ≤ℚ r) =
-      λ h. some (≤ℚ_trans least (neg_ℚ r) (whole (pos 0)) away (le_by (whole (pos 0)) r (neg_ℚ r) (whole (pos 0)) h (ring_ℚ (r ∷ []) (v0 ⊟ number (pos 0)) (number (pos 0) ⊟ negated v0) refl))) in
-      not_greater (cmp_ℚ r (whole (pos 0))) ((cmp_ℚ-not_Greater r (whole (pos 0))).1 (not_above r below)) ∙ side_by (λ e. below (subst (λ z. whole (pos 0) ≤ℚ z) (sym e) (≤ℚ_refl (whole (pos 0)))))
-  far_side Basic away = absurd away
+-- a residual of such a size on the side of its sign
+pub far_on : (side : Side) (r : ℤ) (far : ℕ) (sized above below : Bool) → (IsTrue sized → far ≤ unsigned_abs r) → (IsTrue above → (side ≡ Up) × (pos 0 ≤ℤ r))
+    → (IsTrue below → (side ≡ Down) × (r ≤ℤ pos 0)) → IsTrue (sized && (above || below)) → (d : ℤ) → pos 1 ≤ℤ d → IsFarOn side (share (pos far) d) (share r d)
+far_on side r far true true below size up down h d p = subst (λ s. IsFarOn s (share (pos far) d) (share r d)) (sym (up refl).0) (far_above r far (up refl).1 (size refl) d p)
+far_on side r far true false true size up down h d p = subst (λ s. IsFarOn s (share (pos far) d) (share r d)) (sym (down refl).0) (far_below r far (down refl).1 (size refl) d p)
+far_on side r far true false false size up down h d p = absurd (cc h)
+far_on side r far false above below size up down h d p = absurd (cc h)

@@ -23,6 +23,10 @@ pub raised_whole : (n t w x : ℤ) → n ≡ t +ℤ (w *ℤ x) → whole n ≡ w
 raised_whole n t w x e =
     ap whole e ∙ whole-add t (w *ℤ x) ∙ ap (λ z. whole t +ℚ z) (whole-mul w x ∙ ring_ℚ (whole w ∷ whole x ∷ []) (v0 ⊠ v1) (v1 ⊠ v0) refl)
 
+-- by a product with 0 it is not raised
+pub raised_none : (t x w : ℚ) → whole (pos 0) ≡ w → t ≡ t +ℚ (x *ℚ w)
+raised_none t x w none = ring_ℚ (t ∷ x ∷ []) v0 (v0 ⊞ (v1 ⊠ number (pos 0))) refl ∙ ap (λ w. t +ℚ (x *ℚ w)) none
+
 -- the same of a difference
 pub difference_whole : (n a b : ℤ) (x y : ℚ) → n ≡ a +ℤ neg_ℤ b → whole a ≡ x → whole b ≡ y → whole n ≡ x -ℚ y
 difference_whole n a b x y e is_x is_y =

@@ -5,6 +5,7 @@
 //! what is left of it, the reach, so that only near rows are looked at.
 ghost use Rattle.std.specs.Prelude.{◌≡◌, ℕ, ℤ, ◌*◌, ◌<◌, ◌≤◌, ◌^◌, ◌≤ℤ◌, All, length, IfOk, IfSome, IsTrue, pos};
 ghost use Rattle.exact_algebra.specs.Rational.{◌+ℚ◌, ◌≤ℚ◌, whole};
+ghost use Rattle.loss_model.specs.declared.vertex.Side.TheVariants.{Up, Down};
 ghost use Rattle.wide_int.specs.Numbers.{joined, number_of};
 ghost use Rattle.whole_inverse.specs.Shares.{share, share_at};
 ghost use Rattle.whole_solution.specs.Standing.{side_in};
@@ -31,17 +32,35 @@ pub struct Near {
     pub ranges: Ranges,
 }
 
-/// Whether a residual is at least `far` on a side.
-#[tactic(auto, using(crate::proofs::Keeping::far_above, crate::proofs::Keeping::far_below))]
+/// Whether a residual isn't below 0, on the side above.
+fn is_above(side: Side, residual: i128) -> bool
+    ensures { IsTrue result → (side ≡ Up) × (pos 0 ≤ℤ residual) }
+{
+    match side {
+        Side::Up => residual >= 0,
+        _ => false,
+    }
+}
+
+/// Whether it isn't above 0, on the side below.
+fn is_below(side: Side, residual: i128) -> bool
+    ensures { IsTrue result → (side ≡ Down) × (residual ≤ℤ pos 0) }
+{
+    match side {
+        Side::Down => residual <= 0,
+        _ => false,
+    }
+}
+
+/// Whether a residual is at least `far` on a side. All answers stand before they are joined: nothing foretells the side, and a branch
+/// would often be taken back.
 fn is_far_on(side: Side, residual: i128, far: u128) -> bool
     ensures { IsTrue result → (d : ℤ) → pos 1 ≤ℤ d → IsFarOn side (share (pos far) d) (share residual d) }
 {
-    let size = residual.unsigned_abs();
-    match side {
-        Side::Up => residual >= 0 && size >= far,
-        Side::Down => residual <= 0 && size >= far,
-        Side::Basic => false,
-    }
+    let above = is_above(side, residual);
+    let below = is_below(side, residual);
+    let is_long = residual.unsigned_abs() >= far;
+    is_long & (above | below)
 }
 
 /// The rows whose residual isn't at least `far` on their side.
@@ -172,6 +191,55 @@ fn times_in(number: Natural, divisor: u128) -> u128 {
     }
 }
 
+/// The distance of a walk: below it are some of the least residuals, more of them where there are more columns.
+pub(crate) fn walking_distance(
+    alloc: Global,
+    residuals: &[i128],
+    columns: usize,
+) -> Result<u128, Obstacle>
+    ensures { IfOk result (λ distance. 1 ≤ distance) }
+{
+    let stride = stride_of(residuals.len());
+    let sizes = sizes_of(alloc, residuals, stride)?;
+    let few = near_count(residuals.len(), columns) / stride as u64;
+    Ok(distance_of(sizes.as_slice(), few))
+}
+
+/// How many rows have gone from one side to the other.
+fn passed_rows(old: &[Side], new: &[Side]) -> usize {
+    let mut count: usize = 0;
+    for i in 0..old.len().min(new.len()) {
+        let crosses = (old[i] != new[i]) & (old[i] != Side::Basic) & (new[i] != Side::Basic);
+        count = count.wrapping_add(usize::from(crosses));
+    }
+    count
+}
+
+/// The distance after a step of a solve. Where many rows were passed the next step goes far too, so that no row is worth being kept as near
+/// but for those on the fit; the last steps pass few, and leave the rows near the fit to a walk.
+pub(crate) fn solving_distance(
+    alloc: Global,
+    residuals: &[i128],
+    columns: usize,
+    old: &[Side],
+    new: &[Side],
+) -> Result<u128, Obstacle>
+    ensures { IfOk result (λ distance. 1 ≤ distance) }
+{
+    if passed_rows(old, new) > residuals.len() / 64 {
+        return Ok(1);
+    }
+    let distance = walking_distance(alloc, residuals, columns)?;
+    Ok(distance)
+}
+
+/// How near rows are told from far ones: by a distance, and then by the ranges of the columns.
+#[derive(Drop)]
+pub struct Choice {
+    pub distance: u128,
+    pub ranges: Ranges,
+}
+
 impl Near {
     /// The rows near a fit, for the steps after it.
     pub(crate) fn chosen(
@@ -180,26 +248,23 @@ impl Near {
         sides: &[Side],
         coef: &[i128],
         determinant: i128,
-        ranges: Ranges,
+        choice: Choice,
     ) -> Result<Near, Obstacle>
         requires same { length sides.now ≡ length residuals.now }
         requires few { length residuals.now < 2 ^ 32 }
         requires some { pos 1 ≤ℤ determinant }
-        ensures { IfOk result (IsChosen (side_in sides.now) residuals.now coef.now determinant ranges) }
+        requires distance { 1 ≤ choice.distance }
+        ensures { IfOk result (IsChosen (side_in sides.now) residuals.now coef.now determinant choice.ranges) }
     {
-        let stride = stride_of(residuals.len());
-        let sizes = sizes_of(alloc, residuals, stride)?;
-        let few = near_count(residuals.len(), coef.len()) / stride as u64;
-        let distance = distance_of(sizes.as_slice(), few);
-        let rows = near_rows(alloc, residuals, sides, distance)?;
+        let rows = near_rows(alloc, residuals, sides, choice.distance)?;
         let coef = List::copy(alloc, coef)?;
         Ok(Near {
             rows,
             coef,
             determinant,
-            distance,
-            reach: distance,
-            ranges,
+            distance: choice.distance,
+            reach: choice.distance,
+            ranges: choice.ranges,
         })
     }
 

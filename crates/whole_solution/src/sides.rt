@@ -81,6 +81,7 @@ impl<'a> WholeBasis<'a> {
     }
 
     /// The side of a row, where it is outside the basis. A residual that isn't 0 tells it, without a look at the basis.
+    #[inline]
     pub(crate) fn free_side(&self, row: u32, number: i128) -> Result<Side, Obstacle>
         requires basis { IsWholeBasis self.now }
         requires row { row < length self.now.rows.now }

@@ -1,5 +1,5 @@
 //! All that stands at a basis, together.
-ghost use Rattle.std.specs.Prelude.{◌≡◌, ◌⊎◌, ℕ, ◌<◌, false, All, length, slice_index, IfOk, IfSome, IsTrue};
+ghost use Rattle.std.specs.Prelude.{◌≡◌, ◌⊎◌, ℕ, ◌<◌, ◌≤◌, false, All, length, slice_index, IfOk, IfSome, IsTrue};
 ghost use Rattle.exact_matrices.specs.Selections.{is_among};
 ghost use Rattle.loss_model.specs.Sample.{residual};
 ghost use Rattle.loss_model.specs.declared.vertex.Side.TheVariants.{Basic};
@@ -16,7 +16,7 @@ ghost use Rattle.whole_solution.specs.Weighing.{AreWeights};
 use crate::basis::WholeBasis;
 use crate::column::Column;
 use crate::duals::balancing_numbers;
-use crate::near::Near;
+use crate::near::{Choice, Near, solving_distance, walking_distance};
 use crate::primal::{coefficients, residual_of, residuals};
 use crate::products::row_products;
 use crate::ranges::Ranges;
@@ -150,14 +150,14 @@ impl<'a> WholeBasis<'a> {
         }
     }
 
-    /// The rows near this fit, chosen by the residuals of all rows on their sides.
+    /// The rows near this fit, by the residuals of all rows on their sides.
     fn choose_near(
         &self,
         alloc: Global,
         residuals: List<i128>,
         coef: &[i128],
         sides: &[Side],
-        ranges: Ranges,
+        choice: Choice,
     ) -> Result<Nearby, Obstacle>
         requires basis { IsWholeBasis self.now }
         requires all { length residuals ≡ length self.now.rows.now }
@@ -167,7 +167,8 @@ impl<'a> WholeBasis<'a> {
         requires each { let s = self.now.inverse.now in let p = sample_of_rows (length s.columns) self.now.rows.now in let at = slice_index self.now.basis.now.rows in
             (k : ℕ) → k < p.columns → share_at s.determinant coef.now k ≡ coefficient p at (inverse_of s) k }
         requires sides { length sides.now ≡ length self.now.rows.now }
-        requires ranges { AreRanges (sample_of_rows (length self.now.inverse.now.columns) self.now.rows.now) ranges }
+        requires distance { 1 ≤ choice.distance }
+        requires ranges { AreRanges (sample_of_rows (length self.now.inverse.now.columns) self.now.rows.now) choice.ranges }
         ensures { let s = self.now.inverse.now in let p = sample_of_rows (length s.columns) self.now.rows.now in let at = slice_index self.now.basis.now.rows in
             IfOk result (IsNearby p at (inverse_of s) s.determinant (side_in sides.now)) }
     {
@@ -177,7 +178,7 @@ impl<'a> WholeBasis<'a> {
             sides,
             coef,
             self.inverse.determinant(),
-            ranges,
+            choice,
         )?;
         Ok(Nearby {
             near,
@@ -185,7 +186,7 @@ impl<'a> WholeBasis<'a> {
         })
     }
 
-    /// The sides of all rows by their residuals, what these weigh, and the rows near this fit.
+    /// The sides of all rows by their residuals, and what these weigh.
     fn sided(
         &self,
         alloc: Global,
@@ -207,7 +208,15 @@ impl<'a> WholeBasis<'a> {
         let residuals = self.residuals(alloc, coef.as_slice())?;
         let sides = self.sides(alloc, residuals.as_slice())?;
         let weights = before.after(alloc, self.rows, old, sides.as_slice())?;
-        let nearby = self.choose_near(alloc, residuals, coef.as_slice(), sides.as_slice(), ranges)?;
+        let distance = solving_distance(
+            alloc,
+            residuals.as_slice(),
+            coef.as_slice().len(),
+            old,
+            sides.as_slice(),
+        )?;
+        let choice = Choice { distance, ranges };
+        let nearby = self.choose_near(alloc, residuals, coef.as_slice(), sides.as_slice(), choice)?;
         Ok(Sided {
             coef,
             sides,
@@ -313,39 +322,6 @@ impl<'a> WholeBasis<'a> {
         )
     }
 
-    /// The same where no far row can have changed its side, so that the near rows alone are looked at.
-    fn sided_after(&self, alloc: Global, before: &WholeSolution) -> Result<Sided, Obstacle>
-        requires basis { IsWholeBasis self.now }
-        requires before { HasWeights (sample_of_rows (length self.now.inverse.now.columns) self.now.rows.now) before.now }
-        ensures { let s = self.now.inverse.now in let p = sample_of_rows (length s.columns) self.now.rows.now in let at = slice_index self.now.basis.now.rows in
-            IfOk result (IsSided p at (inverse_of s) s.determinant) }
-    {
-        let coef = self.coefficients(alloc)?;
-        if let Some(reach) = before
-            .near
-            .reach_left(coef.as_slice(), self.inverse.determinant())
-        {
-            let turned = self.listed_sides(
-                alloc,
-                coef.as_slice(),
-                before.sides.as_slice(),
-                &before.weights,
-                before.near.rows.as_slice(),
-            )?;
-            if self.holds_basis(turned.sides.as_slice()) {
-                let near = before.near.with_reach(alloc, reach)?;
-                return Ok(Sided {
-                    coef,
-                    sides: turned.sides,
-                    near,
-                    weights: turned.weights,
-                    residuals: None,
-                });
-            }
-        }
-        self.sided_anew(alloc, coef, before)
-    }
-
     /// The rows near the fit past a joint. The earlier ones serve while no far row can have come near, if the row that has entered is
     /// among them: it is on no side any more, and so not far.
     fn near_past(
@@ -378,8 +354,11 @@ impl<'a> WholeBasis<'a> {
             }
         }
         let residuals = self.residuals(alloc, coef)?;
-        let ranges = before.near.ranges.copy(alloc)?;
-        self.choose_near(alloc, residuals, coef, sides, ranges)
+        let choice = Choice {
+            distance: walking_distance(alloc, residuals.as_slice(), coef.len())?,
+            ranges: before.near.ranges.copy(alloc)?,
+        };
+        self.choose_near(alloc, residuals, coef, sides, choice)
     }
 
     /// The same as `sided`, past a joint of a walk: all rows but both of its own keep their sides, also where the near rows are to be
@@ -490,7 +469,10 @@ impl<'a> WholeBasis<'a> {
     {
         match joint {
             Some(met) => self.sided_past_joint(alloc, before, met),
-            None => self.sided_after(alloc, before),
+            None => {
+                let coef = self.coefficients(alloc)?;
+                self.sided_anew(alloc, coef, before)
+            }
         }
     }
 

@@ -137,6 +137,9 @@ impl Totals {
         ensures { OnOk result (AreRaised chosen.now (bound_of chosen.now part turn.to -ℚ bound_of chosen.now part turn.from) self.old self.new) }
     {
         let weight = change(chosen, turn, part)?;
+        if weight == 0 {
+            return Ok(());
+        }
         raise_columns(&mut self.columns, chosen.x.as_slice(), weight)?;
         self.response = raised(self.response, weight, chosen.y)?;
         Ok(())

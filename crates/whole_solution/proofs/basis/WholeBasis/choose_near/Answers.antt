@@ -26,7 +26,7 @@ returns c =
     let chosen = rw (c.as_slice.ensures, det, c.determinant.ensures.value) at (c.in_ok-near.ensures {u = tt}) in
     let positive = q.basis.shape.positive in
     record {
-      near = near_from_chosen p sides residuals coef d c.args.ranges near chosen q.all q.size positive q.ranges q.residuals;
-      far = far_from_chosen p sides residuals coef d c.args.ranges near chosen q.all q.size positive q.ranges q.residuals at_basis q.each;
+      near = near_from_chosen p sides residuals coef d c.args.choice.ranges near chosen q.all q.size positive q.ranges q.residuals;
+      far = far_from_chosen p sides residuals coef d c.args.choice.ranges near chosen q.all q.size positive q.ranges q.residuals at_basis q.each;
       residuals = record { size = q.all; each = λ i li. q.residuals i li ∙ residual_same p (share_at d coef) at_basis q.each i };
     }
