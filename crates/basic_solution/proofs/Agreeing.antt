@@ -6,9 +6,6 @@ use Rattle.exact_algebra.specs.Rational.{ℚ, ◌-ℚ◌, ◌*ℚ◌, neg_ℚ}
 use Rattle.exact_algebra.proofs.RationalSumLaws.{sum_ℚ-same}
 use Rattle.loss_model.specs.declared.spill.Quantity.TheVariants.{Residual, NonbasicTotal, BasicDual}
 use Rattle.loss_model.specs.declared.spill.Spill.{Spill}
-use Rattle.loss_model.specs.declared.spill.Short.{Short}
-use Rattle.loss_model.specs.declared.spill.Short.TheVariants.{OutOfMemory, Overflow}
-use Rattle.loss_model.specs.Quantities.{IsShortOf}
 use Rattle.loss_model.specs.declared.vertex.Side.{Side}
 use Rattle.loss_model.specs.Sample.{Sample, residual}
 use Rattle.loss_model.specs.Spill.{partial_sum, IsProductSpill, site_of, residual_products, IsResidualSpill}
@@ -70,8 +67,3 @@ module _ (n : ℕ) (a : ℕ → ℕ → ℚ) (t u : ℕ → ℚ) (same : (k : �
   pub balancing_spill-same : {F : Type 0} (value : F → Fraction) (range : ℕ) (part : Part) (j : ℕ) (s : Spill F) → IsBalancingSpill value range n a t part j s → IsBalancingSpill value range n a u part j s
   balancing_spill-same value range part j s h =
       spill-same (balancing_products n a t j) (balancing_products n a u j) refl refl (λ k l. ap neg_ℚ (same k l)) (λ k l. refl) value range (site_of BasicDual j (part_number part) 0) s h
-
--- a refusal for a cause is one for another cause that it gives
-pub short_map : {F : Type 0} (P Q : Spill F → Type 0) (e : Short F) → ((s : Spill F) → P s → Q s) → IsShortOf P e → IsShortOf Q e
-short_map P Q OutOfMemory f h = tt
-short_map P Q (Overflow s) f h = f s h

@@ -1,15 +1,13 @@
 -- The side of a row, by its place in the basis and by its residual.
-use Rattle.std.specs.Prelude.{◌≡◌, ◌≢◌, ℕ, zero, suc, ◌<◌, Bool, true, false, if◌then◌else◌, ◌==◌, ◌||◌, ◌+◌, ◌++◌, List, [], ◌∷◌, length, slice_index, pos}
+use Rattle.std.specs.Prelude.{◌≡◌, ◌≢◌, ℕ, zero, suc, ◌<◌, Bool, true, false, if◌then◌else◌, ◌==◌, ◌||◌, List, [], ◌∷◌, length, slice_index, pos}
 use Rattle.std.specs.List.{list_any}
 use Rattle.std.specs.declared.cmp.Ordering.TheVariants.{Less, Greater}
-use Rattle.std.proofs.Common.{arith, refl, sym, ap, ap₂, ◌∙◌, below_more}
-use Rattle.basic_solution.specs.Bases.{side_in}
+use Rattle.std.proofs.Common.{arith, refl, sym, ap, ap₂, ◌∙◌}
 use borrow.Author.Tests.{eqb-true, eqb-false, eq-eqb, ne_eqb}
 use Rattle.exact_algebra.specs.Rational.{whole}
 use Rattle.exact_algebra.specs.Order.{cmp_ℚ}
 use Rattle.exact_algebra.proofs.OrderLaws.{cmp_ℚ-Equal}
 use Rattle.exact_matrices.specs.Selections.{is_among}
-use Rattle.loss_model.specs.declared.vertex.Side.{Side}
 use Rattle.loss_model.specs.declared.vertex.Side.TheVariants.{Up, Down}
 use Rattle.basis_model.specs.Perturbed.{Nonbasic, side_of, perturbed_side}
 use Rattle.basis_model.proofs.Signs.{side-residual}
@@ -69,20 +67,3 @@ module _ (rows n : ℕ) (at : ℕ → ℕ) (u : Nonbasic) where
   pub side_below : cmp_ℚ u.residual (whole (pos 0)) ≡ Less → Down ≡ perturbed_side rows n at u
   side_below e =
       sym (side-residual n at u (λ z. cc (sym e ∙ (cmp_ℚ-Equal u.residual (whole (pos 0))).1 z)) rows ∙ ap side_of e)
-
--- ---- a list of sides that grows
-
-side_kept : (made : List Side) (s : Side) (i : ℕ) → i < length made → side_in (made ++ s ∷ []) i ≡ side_in made i
-side_kept [] s i l = absurd (omega arith)
-side_kept (x ∷ xs) s zero l = refl
-side_kept (x ∷ xs) s (suc i) l = side_kept xs s i (omega arith)
-
-side_last : (made : List Side) (s : Side) → side_in (made ++ s ∷ []) (length made) ≡ s
-side_last [] s = refl
-side_last (x ∷ xs) s = side_last xs s
-
-pub side_more : (made next : List Side) (s : Side) (row : ℕ) (want : ℕ → Side) → next ≡ made ++ s ∷ [] → length made ≡ row → ((i : ℕ) → i < row → side_in made i ≡ want i) → s ≡ want row → (i : ℕ) → i < row + 1 → side_in next i ≡ want i
-side_more made next s row want is size before here =
-    below_more (λ i. side_in next i ≡ want i) row
-    (λ i l. ap (λ (xs : List Side). side_in xs i) is ∙ side_kept made s i (omega arith) ∙ before i l)
-    (ap (λ (xs : List Side). side_in xs row) is ∙ ap (side_in (made ++ s ∷ [])) (sym size) ∙ side_last made s ∙ here)

@@ -16,11 +16,6 @@ use Rattle.basis_model.specs.declared.part.Part.TheVariants.{Constant, Linear}
 use Rattle.basis_model.specs.Basis.{bound_part}
 use Rattle.basic_solution.specs.Bases.{bound_of, side_in}
 
--- the value of an item of a list
-pub value_read : {F : Type 0} (value : F → Fraction) (xs : List F) (i : ℕ) (x : F) → i < length xs → x ≡ get_or xs i x → rational (value x) ≡ value_at value xs i
-value_read {F} value xs i x within is =
-    sym (ap (λ (o : Option F). option_map_or (λ x. rational (value x)) o (whole (pos 0))) (slice_get_read xs (length xs) i x refl within is))
-
 module _ {F : Type 0} (value : F → Fraction) (p : Problem F) (i : ℕ) (r : Row F) (within : i < length p.rows) (is : r ≡ get_or p.rows i r) where
   -- a number of the row
   pub row_number : (f : Row F → ℚ) → f r ≡ of_row p.rows f i

@@ -1,5 +1,4 @@
 use Rattle.std.proofs.Common.{◌≡◌, ◌<◌, List, length, get_or, true, false, arith, refl, sym, ap, ◌∙◌}
-use Rattle.std.proofs.lemmas.Result.{err_from_is_err_and}
 use Rattle.exact_algebra.specs.Fraction.{rational}
 use Rattle.loss_model.specs.declared.spill.Site.{Site}
 use Rattle.loss_model.specs.declared.vertex.Side.TheVariants.{Up}
@@ -8,8 +7,10 @@ use Rattle.basis_model.specs.Basis.{bound_part}
 use Rattle.basis_model.specs.BasisSpills.{is_basic, total_products}
 use Rattle.basis_model.proofs.Sums.{partial_sum-begun, partial_sum-more, partial_sum-whole}
 use Rattle.basic_solution.specs.Bases.{bound_of, side_in}
-use Rattle.basic_solution.proofs.Rows.{value_read, row_number, row_wide, row_bound, side_read}
+use Rattle.basis_inverse.proofs.Lists.{value_read}
+use Rattle.basic_solution.proofs.Rows.{row_number, row_wide, row_bound, side_read}
 use Rattle.basic_solution.proofs.RowTotals.{outside_before-le, one_more, none_more, passed, total_spill}
+use Rattle.basic_solution.proofs.Exits.{by_exit}
 use Rattle.basic_solution.proofs.columns.total.Goals as goal
 use Rattle.basic_solution.proofs.columns.total.Goals.{then-not-is_basic+in_ok-sum, else-not-is_basic}
 
@@ -40,9 +41,8 @@ returns-in_err-sum-clause-spilled g c =
     ∙ ap (λ (xs : List g.row.F.Denot). value_at value xs c.args.column) c.as_slice.ensures ∙ row_number value p i row within read (λ r. value_at value r.x c.args.column) in
     let weight : rational (value c.bound.result) ≡ bound_part (sample value p) c.args.part i (side i) = c.bound.ensures ∙ ap (bound_of value row c.args.part) here ∙ row_bound value p i row within read c.args.part (side i) in
     let outside : is_basic (side i) ≡ false = sym (ap is_basic here) ∙ sym c.is_basic.ensures ∙ c.if-not-is_basic.true in
-    let q = err_from_is_err_and c.from_residual.result c.from_residual.ensures.1 in
     let spilled = rw (c.new-site.ensures, c.number.ensures) at (c.in_err-sum.ensures {u = tt}).spilled in
-    rw (q.1, q.2)
+    by_exit c.from_residual.result _ _ c.from_residual.ensures.1
     (total_spill (sample value p) side c.args.part c.args.column i value g.F.Exact.range c.loop-i.terms _ _ _ _ within outside c.loop-i.invariant.terms c.loop-i.invariant.sum entry weight spilled)
 
 pub loop-i-preserved : goal.loop-i-preserved

@@ -1,5 +1,4 @@
 use Rattle.std.proofs.Common.{◌≡◌, ◌<◌, length, slice_index, get_or, arith, refl, sym, ap, zero-add}
-use Rattle.std.proofs.lemmas.Result.{err_from_is_err_and}
 use Rattle.exact_algebra.specs.Fraction.{rational}
 use Rattle.loss_model.specs.declared.spill.Quantity.TheVariants.{Coefficient}
 use Rattle.loss_model.specs.Problem.{sample}
@@ -9,6 +8,7 @@ use Rattle.basis_inverse.specs.Square.{inverse_entry}
 use Rattle.basis_model.specs.BasisSpills.{coefficient_products}
 use Rattle.basis_model.proofs.Sums.{partial_sum-begun, partial_sum-more, partial_sum-whole}
 use Rattle.basic_solution.proofs.Rows.{row_number}
+use Rattle.basic_solution.proofs.Exits.{by_exit}
 use Rattle.basic_solution.proofs.primal.coefficient.Goals as goal
 
 pub loop-position-init : goal.loop-position-init
@@ -38,9 +38,8 @@ returns-in_err-total-clause-spilled g c =
     let here : j < p.columns = omega arith in
     let read : r ≡ get_or p.rows (at j) r = rw (c.as_slice-rows.ensures, c.as_slice-held.ensures) at c.index-rows-row.is in
     let response : rational (value r.y) ≡ (sample value p).y (at j) = row_number value p (at j) r (c.requires.basis.distinct.within j here) read (λ r. rational (value r.y)) in
-    let q = err_from_is_err_and c.from_residual.result c.from_residual.ensures.1 in
     let spilled = rw (c.new-site.ensures, ← c.index-rows-row.is) at (c.in_err-total.ensures {u = tt}).spilled in
-    rw (q.1, q.2)
+    by_exit c.from_residual.result _ _ c.from_residual.ensures.1
     (step_spill value g.F.Exact.range (site_of Coefficient c.args.column 0 0) (coefficient_products (sample value p) at (inverse_entry value c.args.inverse.now) c.args.column) j j _ _ _ _
     (sym (zero-add j)) here c.loop-position.invariant c.entry.ensures response spilled)
 

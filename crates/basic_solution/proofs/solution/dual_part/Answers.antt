@@ -1,15 +1,11 @@
-use Rattle.std.proofs.lemmas.Result.{err_from_is_err_and}
+use Rattle.basic_solution.proofs.Exits.{by_exit}
 use Rattle.basic_solution.proofs.solution.dual_part.Goals as goal
 
 pub returns-in_err-constant-clause-spill : goal.returns-in_err-constant-clause-spill
-returns-in_err-constant-clause-spill g c =
-    let q = err_from_is_err_and c.from_residual.result c.from_residual.ensures.1 in
-    rw (q.1, q.2) (c.in_err-constant.ensures {u = tt}).spill
+returns-in_err-constant-clause-spill g c = by_exit c.from_residual.result _ _ c.from_residual.ensures.1 (c.in_err-constant.ensures {u = tt}).spill
 
 pub returns-in_err-linear-clause-spill : goal.returns-in_err-linear-clause-spill
-returns-in_err-linear-clause-spill g c =
-    let q = err_from_is_err_and c.from_residual-in_err-linear.result c.from_residual-in_err-linear.ensures.1 in
-    rw (q.1, q.2) (c.in_err-linear.ensures {u = tt}).spill
+returns-in_err-linear-clause-spill g c = by_exit c.from_residual-in_err-linear.result _ _ c.from_residual-in_err-linear.ensures.1 (c.in_err-linear.ensures {u = tt}).spill
 
 pub returns-clause-duals : goal.returns-clause-duals
 returns-clause-duals g c = record {
