@@ -39,15 +39,15 @@ joined : (xs ys : List Row) → HaveValues xs → HaveValues ys → HaveValues (
 joined [] ys h k = k
 joined (x ∷ xs) ys h k = (h.0, joined xs ys h.1 k)
 
+chosen : (b : Bool) (r : Row) (new rs others : List Row) → HasSome r.values → HaveValues new → HaveValues rs → HaveValues others → HaveValues (if b then new ++ rs else r ∷ others)
+chosen true r new rs others h n k o = joined new rs n k
+chosen false r new rs others h n k o = (h, o)
+
 module _ (id : Text) (change : Row → List Row) (missing : List Row)
     (changed : (r : Row) → HasSome r.values → HaveValues (change r)) (m : HaveValues missing) where
-  chosen : (b : Bool) (r : Row) (rs others : List Row) → HasSome r.values → HaveValues rs → HaveValues others → HaveValues (if b then change r ++ rs else r ∷ others)
-  chosen true r rs others h k o = joined (change r) rs (changed r h) k
-  chosen false r rs others h k o = (h, o)
-
   at_row_values : (rows : List Row) → HaveValues rows → HaveValues (at_row id change missing rows)
   at_row_values [] h = m
-  at_row_values (r ∷ rs) h = chosen (bytes_eq r.id id) r rs (at_row id change missing rs) h.0 h.1 (at_row_values rs h.1)
+  at_row_values (r ∷ rs) h = chosen (bytes_eq r.id id) r (change r) rs (at_row id change missing rs) h.0 (changed r h.0) h.1 (at_row_values rs h.1)
 
 without_values : (id : Text) (rows : List Row) → HaveValues rows → HaveValues (without id rows)
 without_values id rows h = at_row_values id (λ _. []) [] (λ r k. tt) tt rows h
@@ -106,6 +106,14 @@ found_wants q (a ∷ rest) h =
     let both = wants_of_both (wants_value a) (list_all wants_value rest) h in
     picked (q a) a (find q rest) both.0 (found_wants q rest both.1)
 
+-- what the rest of a bundle comes to keeps the values
+abbrev Keeps : (Held → Held × Outcome) → (Held → Kinds) → Type 0
+Keeps onward faults = (h : Held) → faults h ≡ [] → HaveValues h.rows → HaveValues (onward h).0.rows
+
+option_word_values : (o : Option Rule) (id word : Text) (h : Held) → HaveValues h.rows → HaveValues (option_word o id word h).0.rows
+option_word_values None id word h k = k
+option_word_values (Some a) id word h k = k
+
 module _ (c : List Rule) (again : Bool) (wants : list_all wants_value c ≡ true) where
   settled_by : (o : Option Rule) (values : List Text) (rows : List Row) → FoundWants o → option_map_or (λ a. use_fault again a values rows) o [] ≡ [] → HaveValues rows → HaveValues (used_by_id o values rows)
   settled_by None values rows found none h = h
@@ -142,10 +150,6 @@ module _ (c : List Rule) (again : Bool) (wants : list_all wants_value c ≡ true
   long_values None v h found none k = k
   long_values (Some a) v h found none k = taking (takes_values a) a v h found none k
 
-  -- what the rest of a bundle comes to keeps the values
-  abbrev Keeps : (Held → Held × Outcome) → (Held → Kinds) → Type 0
-  Keeps onward faults = (h : Held) → faults h ≡ [] → HaveValues h.rows → HaveValues (onward h).0.rows
-
   short_taking : (takes : Bool) (a : Rule) (v : Option Text) (h : Held) (onward : Held → Held × Outcome) (faults : Held → Kinds) → Keeps onward faults → wants_value a ≡ true
       → (if takes then option_fault c again a v h else or_else (react_fault c again a [] h) (faults (reacted c a [] h))) ≡ [] → HaveValues h.rows
       → HaveValues (if takes then option_met c a v h else onward (reacted c a [] h)).0.rows
@@ -179,10 +183,6 @@ module _ (c : List Rule) (again : Bool) (wants : list_all wants_value c ≡ true
 
   -- ---- one word
 
-  option_word_values : (o : Option Rule) (id word : Text) (h : Held) → HaveValues h.rows → HaveValues (option_word o id word h).0.rows
-  option_word_values None id word h k = k
-  option_word_values (Some a) id word h k = k
-
   plain_values : (waiting : Waiting) (word : Text) (h : Held) → HaveValues h.rows → HaveValues (plain_word c waiting word h).0.rows
   plain_values idle word h k = k
   plain_values (option id) word h k = option_word_values (arg_by_id c id) id word h k
@@ -206,6 +206,71 @@ module _ (c : List Rule) (again : Bool) (wants : list_all wants_value c ≡ true
   flag_word_values (Some p) waiting word h none k =
       let o = arg_by_long c p.0 in
       after_values waiting word (long_met c o p.1 h).0 (long_met c o p.1 h).1 (long_values o p.1 h (found_wants _ c wants) none k)
+
+-- ---- the defaults
+
+default_values : (id : Text) (how : Reading) (defaults : List Text) (rows : List Row) → HaveValues rows → HaveValues (default_rows id how defaults rows)
+default_values id how [] rows k = k
+default_values id how (v ∷ vs) rows k = with_more id how DefaultValue v vs rows k
+
+unless_there : (b : Bool) (a : Rule) (rows : List Row) → HaveValues rows → HaveValues (if b then rows else default_rows a.id (reading_by a) a.defaults rows)
+unless_there true a rows k = k
+unless_there false a rows k = default_values a.id (reading_by a) a.defaults rows k
+
+all_defaults : (rules : List Rule) (rows : List Row) → HaveValues rows → HaveValues (fold with_default rows rules)
+all_defaults [] rows k = k
+all_defaults (a ∷ rest) rows k = all_defaults rest (with_default rows a) (unless_there (has_row a.id rows) a rows k)
+
+-- ---- what must stand
+
+demanded : (x y z : Bool) → check_kinds x y z ≡ [] → z ≡ false
+demanded true y z h = absurd (cc h)
+demanded false true z h = absurd (cc h)
+demanded false false true h = absurd (cc h)
+demanded false false false h = refl
+
+unless_negated : (negates has any : Bool) → negates ≡ false → (not (negates && has) && any) ≡ false → any ≡ false
+unless_negated false has any is h = h
+unless_negated true has any is h = absurd (cc is)
+
+neither : (x y : Bool) → (x || y) ≡ false → (x ≡ false) × (y ≡ false)
+neither false y h = (refl, h)
+neither true y h = absurd (cc h)
+
+so_given : (required given : Bool) → required ≡ true → (required && not given) ≡ false → given ≡ true
+so_given true true is h = refl
+so_given true false is h = absurd (cc h)
+so_given false given is h = absurd (cc is)
+
+given_at : (rows : List Row) (rules : List Rule) (i : ℕ) (a : Rule) → slice_get rules i ≡ Some a → a.required ≡ true
+    → list_any (λ b. b.required && not (is_given b.id rows)) rules ≡ false → is_given a.id rows ≡ true
+given_at rows [] i a at required h = absurd (cc at)
+given_at rows (b ∷ rest) zero a at required h =
+    let same : b ≡ a = cc at in
+    let none = (neither (b.required && not (is_given b.id rows)) _ h).0 in
+    so_given a.required (is_given a.id rows) required (subst (λ (r : Rule). (r.required && not (is_given r.id rows)) ≡ false) same none)
+given_at rows (b ∷ rest) (suc i) a at required h = given_at rows rest i a at required (neither (b.required && not (is_given b.id rows)) _ h).1
+
+-- a row that is found has a value
+abbrev FoundHas : Option Row → Type 0
+FoundHas None = Unit {0}
+FoundHas (Some r) = HasSome r.values
+
+kept : (b : Bool) (r : Row) (o : Option Row) → HasSome r.values → FoundHas o → FoundHas (if b then Some r else o)
+kept true r o h k = h
+kept false r o h k = k
+
+found_has : (q : Row → Bool) (rows : List Row) → HaveValues rows → FoundHas (find q rows)
+found_has q [] h = tt
+found_has q (r ∷ rs) h = kept (q r) r (find q rs) h.0 (found_has q rs h.1)
+
+first_text : (values : List Text) → HasSome values → (text : Text) × (slice_get values 0 ≡ Some text)
+first_text [] h = absurd h
+first_text (v ∷ vs) h = (v, refl)
+
+first_found : (o : Option Row) → FoundHas o → option_map_or (λ r. explicit_source r.source) o false ≡ true → (text : Text) × (option_and_then (λ r. slice_get r.values 0) o ≡ Some text)
+first_found None has h = absurd (cc h)
+first_found (Some r) has h = first_text r.values has
 
 -- ---- the rows of a command that takes the words
 
@@ -256,69 +321,6 @@ module _ (s : Shape) (names : Names) (wants : list_all wants_value s.rules ≡ t
   walk_values (word ∷ rest) w none k =
       let both = no_two _ _ none in
       walk_values rest (walked s.rules names w word) both.1 (turn_values w.stopped w word both.0 k)
-
-  default_values : (id : Text) (how : Reading) (defaults : List Text) (rows : List Row) → HaveValues rows → HaveValues (default_rows id how defaults rows)
-  default_values id how [] rows k = k
-  default_values id how (v ∷ vs) rows k = with_more id how DefaultValue v vs rows k
-
-  unless_there : (b : Bool) (a : Rule) (rows : List Row) → HaveValues rows → HaveValues (if b then rows else default_rows a.id (reading_by a) a.defaults rows)
-  unless_there true a rows k = k
-  unless_there false a rows k = default_values a.id (reading_by a) a.defaults rows k
-
-  all_defaults : (rules : List Rule) (rows : List Row) → HaveValues rows → HaveValues (fold with_default rows rules)
-  all_defaults [] rows k = k
-  all_defaults (a ∷ rest) rows k = all_defaults rest (with_default rows a) (unless_there (has_row a.id rows) a rows k)
-
-  -- ---- what must stand
-
-  demanded : (x y z : Bool) → check_kinds x y z ≡ [] → z ≡ false
-  demanded true y z h = absurd (cc h)
-  demanded false true z h = absurd (cc h)
-  demanded false false true h = absurd (cc h)
-  demanded false false false h = refl
-
-  unless_negated : (negates has any : Bool) → negates ≡ false → (not (negates && has) && any) ≡ false → any ≡ false
-  unless_negated false has any is h = h
-  unless_negated true has any is h = absurd (cc is)
-
-  neither : (x y : Bool) → (x || y) ≡ false → (x ≡ false) × (y ≡ false)
-  neither false y h = (refl, h)
-  neither true y h = absurd (cc h)
-
-  so_given : (required given : Bool) → required ≡ true → (required && not given) ≡ false → given ≡ true
-  so_given true true is h = refl
-  so_given true false is h = absurd (cc h)
-  so_given false given is h = absurd (cc is)
-
-  given_at : (rows : List Row) (rules : List Rule) (i : ℕ) (a : Rule) → slice_get rules i ≡ Some a → a.required ≡ true
-      → list_any (λ b. b.required && not (is_given b.id rows)) rules ≡ false → is_given a.id rows ≡ true
-  given_at rows [] i a at required h = absurd (cc at)
-  given_at rows (b ∷ rest) zero a at required h =
-      let same : b ≡ a = cc at in
-      let none = (neither (b.required && not (is_given b.id rows)) _ h).0 in
-      so_given a.required (is_given a.id rows) required (subst (λ (r : Rule). (r.required && not (is_given r.id rows)) ≡ false) same none)
-  given_at rows (b ∷ rest) (suc i) a at required h = given_at rows rest i a at required (neither (b.required && not (is_given b.id rows)) _ h).1
-
-  -- a row that is found has a value
-  abbrev FoundHas : Option Row → Type 0
-  FoundHas None = Unit {0}
-  FoundHas (Some r) = HasSome r.values
-
-  kept : (b : Bool) (r : Row) (o : Option Row) → HasSome r.values → FoundHas o → FoundHas (if b then Some r else o)
-  kept true r o h k = h
-  kept false r o h k = k
-
-  found_has : (q : Row → Bool) (rows : List Row) → HaveValues rows → FoundHas (find q rows)
-  found_has q [] h = tt
-  found_has q (r ∷ rs) h = kept (q r) r (find q rs) h.0 (found_has q rs h.1)
-
-  first_text : (values : List Text) → HasSome values → (text : Text) × (slice_get values 0 ≡ Some text)
-  first_text [] h = absurd h
-  first_text (v ∷ vs) h = (v, refl)
-
-  first_found : (o : Option Row) → FoundHas o → option_map_or (λ r. explicit_source r.source) o false ≡ true → (text : Text) × (option_and_then (λ r. slice_get r.values 0) o ≡ Some text)
-  first_found None has h = absurd (cc h)
-  first_found (Some r) has h = first_text r.values has
 
   -- an option that must stand is read where the words have no fault
   pub option_given : (words : List Text) (has : Bool) (below : Kinds) (i : ℕ) (a : Rule) → s.subcommand_negates_reqs ≡ false → slice_get s.rules i ≡ Some a → a.required ≡ true
