@@ -3,15 +3,16 @@
 //! The one contract for the layers above: `WholeBasis::solution` gives the coefficients, the sides of all rows and the rows near
 //! the fit, and the two parts of the basic dual values, as they are defined in ℚ for the problem in whole numbers, or refuses;
 //! `solution_after` does so from what stood at another basis, of which it takes what rows weigh that keep their sides. Past a
-//! joint of a walk, which says that all rows but two keep their sides, it makes those of these alone, and else, where no residual can have
-//! moved by more than the reach of the near rows, those of the near rows. `residual_at` and `all_residuals` give the residuals that a caller
-//! needs, which are kept where the near rows were chosen at this basis. Each number is a sum of products that one bound makes safe,
-//! in 64 bits or in halves of 64 bits where that allows, or is multiplied out in 256 bits. It stands on `whole_rows` for the problem, and on `whole_inverse` for the inverse of the basis.
+//! joint of a walk, which says that all rows but two keep their sides, it makes those of these alone, and else those of all rows. A walk
+//! chooses rows near the fit anew where a residual can have moved too far for the earlier ones, and a solve where its step passed few rows.
+//! `residual_at` and `all_residuals` give the residuals that a caller needs, which are kept where they were made at this basis. Each number
+//! is a sum of products that one bound makes safe, in 64 bits or in halves of 64 bits where that allows, or is multiplied out in 256 bits.
+//! It stands on `whole_rows` for the problem, and on `whole_inverse` for the inverse of the basis.
 //!
 //! `whole_tableau` calls it so, at the start and after an exchange:
 //! ```text
 //! let solution = held.solution(alloc)?;
-//! let solution = after.solution_after(self.alloc(), before)?;
+//! let solution = after.solution_after(self.alloc(), before, joint)?;
 //! ```
 #![tactic(auto)]
 

@@ -10,9 +10,10 @@
 //! Slopes are two numerators over the determinant, at a quantile one over the determinant and the quantile's second part.
 //! Crossings and ratios are compared by cross products, and where two ratios agree, by all their entries, with the order of
 //! `lex_rule`; nothing is reduced. In a walk the row that enters is looked for among the rows near the fit; the residuals of all
-//! rows and their coordinates at the position are made only where those don't tell it. In a solve it is found by halving the rows
-//! that are left (Hoare 1961), by the leading bits of their ratios, and in full where these don't lead to it; nothing is promised
-//! of either: the row is then tested in one pass over all rows, and that test is the whole proof.
+//! rows and their coordinates at the position are made only where those don't tell it. In a solve a sample of the rows tells one that
+//! likely comes later, so that its rivals alone are looked at, which may come before it. The row is found among these by halving those
+//! that are left (Hoare 1961), by the leading bits of their ratios, and in full among all rows where these don't lead to it; nothing is
+//! promised of either: the row is then tested in one pass over the rivals, and that test is the whole proof.
 //!
 //! It stands on `whole_solution` for what stands at the basis, and on `fraction_tableau` for the laws of a first crossing.
 //!
