@@ -35,7 +35,8 @@ filled_more {X} read want made next x n is before here =
     }
 
 -- one value more
-pub values_more : {F : Type 0} (value : F → Fraction) {want : ℕ → ℚ} {n : ℕ} (made next : List F) (x : F) → next ≡ made ++ x ∷ [] → IsFilled (value_at value) want made n → rational (value x) ≡ want n → IsFilled (value_at value) want next (n + 1)
+pub values_more : {F : Type 0} (value : F → Fraction) {want : ℕ → ℚ} {n : ℕ} (made next : List F) (x : F) → next ≡ made ++ x ∷ [] → IsFilled (value_at value) want made n
+    → rational (value x) ≡ want n → IsFilled (value_at value) want next (n + 1)
 values_more value {want} {n} made next x = filled_more (λ o. option_map_or (λ x. rational (value x)) o (whole (pos 0))) want made next x n
 
 -- one side more

@@ -22,11 +22,16 @@ module _ {F : Type 0} (value : F → Fraction) (p : Problem F) (i : ℕ) (r : Ro
   row_number f = sym (ap (λ (o : Option (Row F)). option_map_or f o (whole (pos 0))) (slice_get_read p.rows (length p.rows) i r refl within is))
 
   -- what holds of its entries holds of those in the sample
-  pub at_row : (P : (ℕ → ℚ) → Type 0) → P (value_at value r.x) → P ((sample value p).x i)
+  at_row : (P : (ℕ → ℚ) → Type 0) → P (value_at value r.x) → P ((sample value p).x i)
   at_row P h = subst (λ (o : Option (Row F)). P (λ k. option_map_or (λ r. value_at value r.x k) o (whole (pos 0)))) (sym (slice_get_read p.rows (length p.rows) i r refl within is)) h
 
   pub row_wide : IsWellShaped p → length r.x ≡ p.columns
   row_wide shaped = ap (λ (r : Row F). length r.x) is ∙ shaped.entries i r within
+
+  -- and so what holds of a list of them
+  pub at_entries : IsWellShaped p → (xs : List F) → xs ≡ r.x → (P : ℕ → (ℕ → ℚ) → Type 0) → P (length xs) (value_at value xs) → P p.columns ((sample value p).x i)
+  at_entries shaped xs same P h =
+      at_row (P p.columns) (subst (λ n. P n (value_at value r.x)) (row_wide shaped) (subst (λ (ys : List F). P (length ys) (value_at value ys)) same h))
 
   -- a part of its bound
   pub row_bound : (part : Part) (side : Side) → bound_of value r part side ≡ bound_part (sample value p) part i side

@@ -133,7 +133,8 @@ module _ {F : Type 0} {value : F → Fraction} {basis : List ℕ} {left right : 
     pub decides : (count : ℕ) (o : Ordering) → m < count → o ≡ cmp_ℚ (entry_over value by x) (entry_over value and_by y) → is_ne o ≡ true → o ≡ lex_cmp count left_ratio right_ratio
     decides count o within is differ =
         decided by.side and_by.side (length basis) (slice_index basis) by.position (of_ratio value left) (of_ratio value right) count m o (entry_over value by x) (entry_over value and_by y) within agree
-        (entry_is value (length basis) (slice_index basis) by.position (of_ratio value left) by d m x p) (entry_is value (length basis) (slice_index basis) by.position (of_ratio value right) and_by e m y q) is (not_equal o differ)
+        (entry_is value (length basis) (slice_index basis) by.position (of_ratio value left) by d m x p)
+        (entry_is value (length basis) (slice_index basis) by.position (of_ratio value right) and_by e m y q) is (not_equal o differ)
 
     pub agrees : (o : Ordering) → o ≡ cmp_ℚ (entry_over value by x) (entry_over value and_by y) → is_ne o ≡ false → Agree (suc m)
     agrees o is same =
