@@ -16,19 +16,17 @@ ghost use Rattle.cert_checker.specs.Views.{IsSmall, end_of};
 ghost use Rattle.cert_checker.specs.declared.relation.Relation.TheVariants.{AtMost, Below, Equal};
 ghost use Rattle.loss_model.specs.declared.vertex.Side.TheVariants.{Basic};
 
-use crate::exact::widened;
-use crate::formula::{Count, Expression, Negation, Number};
+use crate::formula::{Composed, Count, Negation, Number};
 use crate::leaves::{
     BalanceTerms, DownCost, DualValue, EndView, LossTerms, ObjectiveTerms, RowSum, UpCost, rows,
 };
-use crate::place::{Place, Progress};
+use crate::place::Place;
 use crate::relation::Relation;
-use crate::tests::{Both, Comparison, One, Parts, Tests, TestsOf, Then, decide_each};
-use crate::verdict::{Failure, Halt};
+use crate::tests::{Both, Comparison, ComposedParts, One, Tests, TestsOf, Then, decide_each};
+use crate::verdict::Halt;
 use cert_sums::side;
-use frac_core::{Exact, Frac128, List, OutOfMemory};
-use loss_model::{Problem, Segment, Side, Spill};
-use ratio::Ratio;
+use frac_core::{Exact, Frac128, List};
+use loss_model::{Problem, Segment, Side};
 use std::alloc::Global;
 
 // ---- condition 2
@@ -135,10 +133,18 @@ pub(crate) struct BasicBounds<'a> {
     pub(crate) row: usize,
 }
 
-impl Parts for BasicBounds<'_> {
-    ghost parts = { λ x. bound_parts (sample value128 x.end.problem.now) (end_of x.end) x.row Basic };
+// That a dual value is at most a cost, and at least another one negated.
+type Within<'a> = Both<
+    Comparison<DualValue<'a>, UpCost<'a>>,
+    Comparison<DualValue<'a>, Negation<DownCost<'a>>>,
+>;
 
-    fn decide(self, at: Place, done: u32) -> Result<u32, Failure> {
+impl<'a> ComposedParts for BasicBounds<'a> {
+    type Whole = Within<'a>;
+
+    ghost composed_parts = { λ x. bound_parts (sample value128 x.end.problem.now) (end_of x.end) x.row Basic };
+
+    fn whole(self) -> Within<'a> {
         let problem = self.end.problem;
         let theta = self.end.theta;
         let row = self.row;
@@ -165,37 +171,6 @@ impl Parts for BasicBounds<'_> {
             first: under,
             rest: over,
         }
-        .decide(at, done)
-    }
-
-    fn hold(self, alloc: Global) -> Result<bool, OutOfMemory> {
-        let problem = self.end.problem;
-        let theta = self.end.theta;
-        let row = self.row;
-        let dual = DualValue { end: self.end, row };
-        let at_most = Comparison {
-            left: dual,
-            relation: Relation::AtMost,
-            right: UpCost {
-                problem,
-                theta,
-                row,
-            },
-        };
-        let at_least = Comparison {
-            left: dual,
-            relation: Relation::AtLeast,
-            right: Negation(DownCost {
-                problem,
-                theta,
-                row,
-            }),
-        };
-        Both {
-            first: at_most,
-            rest: at_least,
-        }
-        .hold(alloc)
     }
 }
 
@@ -538,18 +513,13 @@ pub(crate) struct LowEnd<'a> {
     pub(crate) place: usize,
 }
 
-impl Expression for LowEnd<'_> {
-    ghost formula = { λ x. given (lo_at x.list.now x.place) };
+impl Composed for LowEnd<'_> {
+    type Whole = Number;
 
-    fn value(self, _at: Place, done: u32) -> Result<Progress, Spill<Frac128>> {
-        Ok(Progress {
-            value: low_at(self.list, self.place),
-            done,
-        })
-    }
+    ghost composed = { λ x. given (lo_at x.list.now x.place) };
 
-    fn exact(self, alloc: Global) -> Result<Ratio, OutOfMemory> {
-        widened(alloc, low_at(self.list, self.place))
+    fn whole(self) -> Number {
+        Number(low_at(self.list, self.place))
     }
 }
 
@@ -560,18 +530,13 @@ pub(crate) struct HighEnd<'a> {
     pub(crate) place: usize,
 }
 
-impl Expression for HighEnd<'_> {
-    ghost formula = { λ x. given (hi_at x.list.now x.place) };
+impl Composed for HighEnd<'_> {
+    type Whole = Number;
 
-    fn value(self, _at: Place, done: u32) -> Result<Progress, Spill<Frac128>> {
-        Ok(Progress {
-            value: high_at(self.list, self.place),
-            done,
-        })
-    }
+    ghost composed = { λ x. given (hi_at x.list.now x.place) };
 
-    fn exact(self, alloc: Global) -> Result<Ratio, OutOfMemory> {
-        widened(alloc, high_at(self.list, self.place))
+    fn whole(self) -> Number {
+        Number(high_at(self.list, self.place))
     }
 }
 
