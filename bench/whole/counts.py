@@ -20,9 +20,9 @@ MEDIAN = ["--formula", "y ~ .", "--lo", "1/2", "--hi", "1/2"]
 
 # A job on a table of 1,000 rows and 5 columns, or on the certificate of its fits, what it shows, and the most that it may take, in millions of instructions.
 JOBS = [
-    ("process", ["process", *WHOLE], "loops over rows are compiled for 64 bits, and near rows serve while a quarter of their distance is left", 155.5),
-    ("ranks", ["ranks", "--formula", "y ~ ."], "the same, and a Wilcoxon score is reduced once", 385),
-    ("at 1/2", ["process", *MEDIAN], "values whose factor is 1 are copied into whole numbers", 20),
+    ("process", ["process", *WHOLE], "loops over rows are compiled for 64 bits, near rows serve while a quarter of their distance is left, and segments take over ends", 139.2),
+    ("ranks", ["ranks", "--formula", "y ~ ."], "the same, and a Wilcoxon score is reduced once", 369),
+    ("at 1/2", ["process", *MEDIAN], "values whose factor is 1 are copied into whole numbers, and a solve looks at rivals alone", 16.1),
     ("check", ["check"], "a run of segments is summed by slopes", 480),
 ]
 
