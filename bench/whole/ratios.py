@@ -68,7 +68,7 @@ def main(program):
         tell("near rows in a process", spent([program, "process", *WHOLE], table, turns=3), r_seconds("rq.fit.br(x, t[[1]], tau = -1)", table), 0.3)
         table = generated(room, 5000, 1)
         fitted = spent([program, "sample", "--number", "1", "--rows", "5000", "--columns", "1", "--lo", "0", "--hi", "1"], table)
-        tell("marks of rows in one piece", spent([program, "process", *WHOLE], table), fitted, 1.6)
+        tell("marks of rows in one piece", spent([program, "process", *WHOLE], table), fitted, 2)
         table = generated(room, 16384, 4)
         tell("near rows in rank walks", spent([program, "process", *MEDIAN], table), r_seconds("rq.fit.br(x, t[[1]], tau = 0.5, ci = TRUE)", table), 0.25)
         table, text = generated(room, 2000, 9), room / "certificate.json"
