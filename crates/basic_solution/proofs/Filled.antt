@@ -4,6 +4,7 @@ use Rattle.std.specs.Option.{option_map_or}
 use Rattle.std.proofs.Common.{arith, refl, sym, ap, ◌∙◌, below_more, length-append}
 use Rattle.exact_algebra.specs.Fraction.{Fraction, rational}
 use Rattle.exact_algebra.specs.Rational.{ℚ, whole}
+use Rattle.exact_algebra.proofs.Lists.{pushed_before, pushed_last}
 use Rattle.loss_model.specs.declared.vertex.Side.{Side}
 use Rattle.loss_model.specs.declared.vertex.Side.TheVariants.{Basic}
 use Rattle.loss_model.specs.Problem.{value_at}
@@ -13,15 +14,6 @@ use Rattle.basic_solution.specs.Bases.{side_in}
 abbrev pub IsFilled : {X Y : Type 0} → (List X → ℕ → Y) → (ℕ → Y) → List X → ℕ → Type 0
 IsFilled read want made n = record { size : length made ≡ n; each : (i : ℕ) → i < n → read made i ≡ want i }
 
-got_before : {X : Type 0} (made : List X) (x : X) (i : ℕ) → i < length made → slice_get (made ++ x ∷ []) i ≡ slice_get made i
-got_before [] x i l = absurd (omega arith)
-got_before (y ∷ made) x zero l = refl
-got_before (y ∷ made) x (suc i) l = got_before made x i (omega arith)
-
-got_last : {X : Type 0} (made : List X) (x : X) → slice_get (made ++ x ∷ []) (length made) ≡ Some x
-got_last [] x = refl
-got_last (y ∷ made) x = got_last made x
-
 -- one item more, of any items
 filled_more : {X Y : Type 0} (read : Option X → Y) (want : ℕ → Y) (made next : List X) (x : X) (n : ℕ) → next ≡ made ++ x ∷ [] → IsFilled (λ xs i. read (slice_get xs i)) want made n → read (Some x) ≡ want n
     → IsFilled (λ xs i. read (slice_get xs i)) want next (n + 1)
@@ -30,8 +22,8 @@ filled_more {X} read want made next x n is before here =
     record {
       size = omega (arith, ap length is, length-append made (x ∷ []), before.size);
       each = below_more (λ i. read (slice_get next i) ≡ want i) n
-          (λ i l. ap read (ap (at i) is ∙ got_before made x i (omega (arith, l, before.size))) ∙ before.each i l)
-          (ap read (ap (at n) is ∙ ap (slice_get (made ++ x ∷ [])) (sym before.size) ∙ got_last made x) ∙ here);
+          (λ i l. ap read (ap (at i) is ∙ pushed_before made x i (omega (arith, l, before.size))) ∙ before.each i l)
+          (ap read (ap (at n) is ∙ ap (slice_get (made ++ x ∷ [])) (sym before.size) ∙ pushed_last made x) ∙ here);
     }
 
 -- one value more

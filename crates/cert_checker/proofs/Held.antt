@@ -32,16 +32,16 @@ use Rattle.cert_checker.proofs.Ranks.{orthogonal_is, square_is, bound_is}
 use Rattle.cert_checker.proofs.Wholes.{dual_is}
 use Rattle.cert_checker.proofs.Worths.{worth-sum, worth-residual}
 
-parts_upto : (n : ℕ) (f : ℕ → List Part) → ((i : ℕ) → i < n → ArePartsTrue (f i)) → ArePartsTrue (upto n f)
+pub parts_upto : (n : ℕ) (f : ℕ → List Part) → ((i : ℕ) → i < n → ArePartsTrue (f i)) → ArePartsTrue (upto n f)
 parts_upto zero f h = tt
 parts_upto (suc n) f h = parts_joined (upto n f) (f n) (parts_upto n f (λ i l. h i (omega arith))) (h n (omega arith))
 
-unless_own : (b : Bool) (ps : List Part) → (b ≡ false → ArePartsTrue ps) → ArePartsTrue (if b then [] else ps)
+pub unless_own : (b : Bool) (ps : List Part) → (b ≡ false → ArePartsTrue ps) → ArePartsTrue (if b then [] else ps)
 unless_own true ps h = tt
 unless_own false ps h = h refl
 
 -- the comparisons of each column but one
-but_one : (j n : ℕ) (f : ℕ → List Part) → ((k : ℕ) → k < n → k ≢ j → ArePartsTrue (f k)) → ArePartsTrue (others j n f)
+pub but_one : (j n : ℕ) (f : ℕ → List Part) → ((k : ℕ) → k < n → k ≢ j → ArePartsTrue (f k)) → ArePartsTrue (others j n f)
 but_one j n f h = parts_upto n (λ k. if eqb k j then [] else f k) (λ k l. unless_own (eqb k j) (f k) (λ e. h k l (eqb-false k j e)))
 
 module _ (p : Problem Frac128) (t : IntervalProof Frac128) where

@@ -8,6 +8,8 @@ use Rattle.exact_algebra.specs.Rational.{◌+ℚ◌, ◌-ℚ◌, ◌*ℚ◌, who
 use Rattle.exact_algebra.specs.RationalSums.{sum_ℚ}
 use Rattle.exact_algebra.proofs.RationalLaws.{whole-mul, ring_ℚ}
 use Rattle.exact_algebra.proofs.RationalSumLaws.{sum_ℚ-next, sum_ℚ-same, sum_ℚ-scale}
+use Rattle.exact_algebra.proofs.Signs.{whole_product}
+use Rattle.exact_algebra.proofs.Lists.{item_there}
 use Rattle.exact_matrices.specs.Terms.{delta}
 use Rattle.exact_matrices.proofs.TermLaws.{sum_ℚ-delta}
 use Rattle.frac_core.specs.declared.frac128.Frac128.{Frac128}
@@ -25,8 +27,7 @@ use Rattle.cert_sums.specs.declared.table.Table.{Table}
 use Rattle.cert_sums.specs.Tables.{IsTable}
 use Rattle.cert_sums.specs.Duals.{IsDuals}
 use Rattle.cert_sums.specs.Ranks.{left_at}
-use Rattle.cert_sums.proofs.RowsOf.{there, row_of, number_of}
-use Rattle.cert_sums.proofs.Balanced.{whole_product}
+use Rattle.cert_sums.proofs.RowsOf.{row_of, number_of}
 use Rattle.cert_sums.proofs.Follow.{whole-total, positive_product}
 
 module _ (p : Problem Frac128) (t : Table) (h : IsTable p t) (factors : List Frac128) (j : ℕ) (same : length factors ≡ p.columns) (within : j < length factors) (scale : ℕ) (numbers : List ℤ)
@@ -39,7 +40,7 @@ module _ (p : Problem Frac128) (t : Table) (h : IsTable p t) (factors : List Fra
       × (whole w.up.slope ≡ whole (pos t.cost_scale) *ℚ (sample value128 p).up1 i)
   row_left i l =
       let many = h.size in
-      let w = there t.rows i (omega (arith, l, many)) in
+      let w = item_there t.rows i (omega (arith, l, many)) in
       let r = row_of p t h i w.0 w.1 in
       let c = value_at value128 factors in
       let s = sample value128 p in

@@ -8,6 +8,7 @@ use Rattle.exact_algebra.specs.Rational.{ℚ, ◌+ℚ◌, ◌*ℚ◌, neg_ℚ, w
 use Rattle.exact_algebra.specs.RationalSums.{sum_ℚ}
 use Rattle.exact_algebra.proofs.RationalLaws.{whole-add, whole-mul, ring_ℚ}
 use Rattle.exact_algebra.proofs.RationalSumLaws.{sum_ℚ-same, sum_ℚ-mix, sum_ℚ-add}
+use Rattle.exact_algebra.proofs.Lists.{item_there}
 use Rattle.frac_core.specs.declared.frac128.Frac128.{Frac128}
 use Rattle.frac_core.specs.Values.{value as value128}
 use Rattle.loss_model.specs.declared.problem.Problem.{Problem}
@@ -31,7 +32,7 @@ use Rattle.cert_sums.specs.Duals.{at_line, side_in, dual_of}
 use Rattle.cert_sums.specs.Sums.{cell_at}
 use Rattle.cert_sums.specs.Slopes.{part_of, line_on, part_at, is_settled, unsettled_rows, basic_part, basic_at, over_scales, listed_total, sum_at, IsTally, IsReach, IsSummed}
 use Rattle.cert_sums.specs.Ends.{low_dual, high_dual, DoMeet}
-use Rattle.cert_sums.proofs.RowsOf.{there, row_value}
+use Rattle.cert_sums.proofs.RowsOf.{row_value}
 use Rattle.cert_sums.proofs.Balanced.{balanced_from, objective_from}
 use Rattle.cert_sums.proofs.Unsettled.{sum_over, settled_outside, unsettled_sum, unsettled_all}
 
@@ -68,7 +69,7 @@ module _ (p : Problem Frac128) (t : Table) (h : IsTable p t) (theta : ℚ) (v : 
 
   row_split : (i : ℕ) → i < length t.rows → F *ℚ e i ≡ ((V *ℚ part_at Start t.rows v.sides i) +ℚ (At *ℚ part_at Slope t.rows v.sides i)) +ℚ basic_part (side_in v i) (F *ℚ b i)
   row_split i l =
-      let w = there t.rows i l in
+      let w = item_there t.rows i l in
       side_split i w.0 w.1 (side_in v i)
       ∙ ap₂ (λ x y. ((V *ℚ x) +ℚ (At *ℚ y)) +ℚ basic_part (side_in v i) (F *ℚ b i)) (sym (part_is Start i w.0 w.1)) (sym (part_is Slope i w.0 w.1))
 

@@ -9,6 +9,8 @@ use Rattle.exact_algebra.specs.Rational.{ℚ, ◌+ℚ◌, ◌-ℚ◌, ◌*ℚ◌
 use Rattle.exact_algebra.specs.RationalSums.{sum_ℚ}
 use Rattle.exact_algebra.proofs.RationalLaws.{whole-add, whole-mul, ring_ℚ}
 use Rattle.exact_algebra.proofs.RationalSumLaws.{sum_ℚ-next, sum_ℚ-same, sum_ℚ-mix, sum_ℚ-zero}
+use Rattle.exact_algebra.proofs.Signs.{plus-zero}
+use Rattle.exact_algebra.proofs.Lists.{length_pushed}
 use Rattle.loss_model.specs.declared.vertex.Side.{Side}
 use Rattle.loss_model.specs.declared.vertex.Side.TheVariants.{Up, Down, Basic}
 use Rattle.cert_sums.specs.Numbers.{whole_at}
@@ -17,7 +19,6 @@ use Rattle.cert_sums.specs.declared.table.WholeRow.{WholeRow}
 use Rattle.cert_sums.specs.declared.slopes.Part.{Part}
 use Rattle.cert_sums.specs.declared.slopes.Part.TheVariants.{Start, Slope}
 use Rattle.cert_sums.specs.Slopes.{side_of, part_of, line_on, part_at, line_total, part_change, is_settled, unsettled_rows, basic_part, listed_total}
-use Rattle.cert_sums.proofs.Lists.{length_pushed}
 
 -- the sum of a number of each row of a list
 abbrev pub sum_over : List ℕ → (ℕ → ℚ) → ℚ
@@ -28,9 +29,6 @@ pub added_next : (n : ℕ) (f : ℕ → ℚ) (a s r : ℚ) → s ≡ a +ℚ sum_
 added_next n f a s r h e =
     e ∙ ap (λ z. z +ℚ f n) h ∙ ring_ℚ (a ∷ sum_ℚ n f ∷ f n ∷ []) ((v0 ⊞ v1) ⊞ v2) (v0 ⊞ (v1 ⊞ v2)) refl
     ∙ ap (λ z. a +ℚ z) (sym (sum_ℚ-next n f))
-
-pub added_none : (a : ℚ) → a ≡ a +ℚ whole (pos 0)
-added_none a = ring_ℚ (a ∷ []) v0 (v0 ⊞ number (pos 0)) refl
 
 -- a product more
 pub product_more : (s m x y r : ℤ) (c : ℚ) → y ≡ m *ℤ x → r ≡ s +ℤ y → whole x ≡ c → whole r ≡ whole s +ℚ (c *ℚ whole m)

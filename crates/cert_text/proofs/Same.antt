@@ -6,6 +6,7 @@ use mathlib.Core.HLevel.{is_prop→PathP}
 use Rattle.frac_core.specs.declared.frac128.Frac128.{Frac128}
 use Rattle.frac_core.specs.Lowest.{same_fraction, IsWithin-along}
 use Rattle.frac_core.specs.Values.{exact}
+use Rattle.frac_core.proofs.Values.{same_number}
 use Rattle.loss_model.specs.declared.problem.Row.{Row}
 use Rattle.loss_model.specs.declared.vertex.Vertex.{Vertex}
 use Rattle.loss_model.specs.declared.process.Segment.{Segment}
@@ -20,16 +21,11 @@ use Rattle.cert_text.specs.Contents.{exact_vertex, exact_segment, exact_bound, e
 use Rattle.cert_text.specs.Kept.{IsKeptSegment, IsKeptInterval}
 use Rattle.cert_text.specs.Laws.{SameContent}
 
-same_lists : {A B : Type 0} (show : A → B) → ((x y : A) → show x ≡ show y → x ≡ y) → (xs ys : List A) → map show xs ≡ map show ys → xs ≡ ys
+pub same_lists : {A B : Type 0} (show : A → B) → ((x y : A) → show x ≡ show y → x ≡ y) → (xs ys : List A) → map show xs ≡ map show ys → xs ≡ ys
 same_lists show one [] [] h = refl
 same_lists show one [] (y ∷ ys) h = absurd (cc h)
 same_lists show one (x ∷ xs) [] h = absurd (cc h)
 same_lists show one (x ∷ xs) (y ∷ ys) h = ap₂ (λ z zs. z ∷ zs) (one x y (cc h)) (same_lists show one xs ys (cc h))
-
-same_number : (x y : Frac128) → exact x ≡ exact y → x ≡ y
-same_number x y e =
-    let parts = same_fraction (2 ^ 127 - 1) _ _ x.within y.within e in
-    λ i. record { num = (parts i).num; den = (parts i).den; within = IsWithin-along (2 ^ 127 - 1) parts x.within y.within i }
 
 same_numbers : (xs ys : List Frac128) → map exact xs ≡ map exact ys → xs ≡ ys
 same_numbers = same_lists exact same_number

@@ -7,6 +7,7 @@ use Rattle.std.proofs.lemmas.List.Elements.{All-from_recursion, recursion_from_A
 use Rattle.std.proofs.lemmas.List.Folds.{list_any-append}
 use Rattle.std.proofs.lemmas.Map.Made.{AllPairs-from_IsDistinct, IsDistinct-from_AllPairs}
 use Rattle.std.proofs.lemmas.Slice.Eq.{bytes_eq-Decides}
+use mathlib.Core.Bool.{or-false}
 use Rattle.data_frame.specs.Records.{Row, Text, are_text}
 use Rattle.data_frame.specs.Faults.{first_fault, header_fault, name_fault, names_fault, names_of, row_fault, rows_fault, set_aside}
 use Rattle.exact_algebra.specs.Rational.{ℚ}
@@ -79,13 +80,9 @@ or_second : (a b : Bool) → (a || b) ≡ false → b ≡ false
 or_second true b e = absurd (cc e)
 or_second false b e = e
 
-or_false : (a : Bool) → (a || false) ≡ a
-or_false true = refl
-or_false false = refl
-
 -- whether a name stands among those to its left and one more
 seen_more : (name other : Text) (seen : List Text) → list_any (bytes_eq name) (seen ++ other ∷ []) ≡ (list_any (bytes_eq name) seen || bytes_eq name other)
-seen_more name other seen = list_any-append (bytes_eq name) seen (other ∷ []) ∙ ap (λ (b : Bool). list_any (bytes_eq name) seen || b) (or_false (bytes_eq name other))
+seen_more name other seen = list_any-append (bytes_eq name) seen (other ∷ []) ∙ ap (λ (b : Bool). list_any (bytes_eq name) seen || b) (or-false (bytes_eq name other))
 
 Filled : Text → Type 0
 Filled name = (length name == 0) ≡ false

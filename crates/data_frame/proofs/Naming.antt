@@ -5,7 +5,7 @@ use Rattle.std.specs.Str.{bytes_eq}
 use Rattle.std.specs.String.{string_eq}
 use Rattle.std.specs.Prelude.{Contains, IfNone, OnSome, String, is_some, position}
 use Rattle.std.proofs.Math.Seq.{drop-cons}
-use Rattle.std.proofs.lemmas.Bool.{lt-ltb, ltb-true, false_from_ne_true, false≢true}
+use Rattle.std.proofs.lemmas.Bool.{lt-ltb, ltb-true, false_from_ne_true, false≢true, not-false, not-true}
 use Rattle.std.proofs.lemmas.List.Folds.{list_any_at}
 use Rattle.std.proofs.lemmas.List.Quantifiers.{position-Some}
 use Rattle.std.proofs.lemmas.Slice.Eq.{bytes_eq-Decides}
@@ -16,14 +16,6 @@ use Rattle.data_frame.specs.Columns.{cell_at}
 use Rattle.data_frame.specs.Faults.{header_fault, name_fault, names_fault, names_of, set_aside}
 use Rattle.data_frame.specs.declared.fault.TableFault.{TableFault}
 use Rattle.data_frame.specs.declared.fault.TableFault.TheVariants.{DoubleName, EmptyName, TooManyColumns}
-
-not_false : (b : Bool) → not b ≡ false → b ≡ true
-not_false true e = refl
-not_false false e = absurd (cc e)
-
-not_true : (b : Bool) → not b ≡ true → b ≡ false
-not_true true e = absurd (cc e)
-not_true false e = refl
 
 -- a set has a key with these bytes
 any_text : (v : String Global) (ks : List (String Global)) → list_any (string_eq v) ks ≡ list_any (bytes_eq (string_bytes v)) (map string_bytes ks)
@@ -43,7 +35,7 @@ pub double_name : (column : ℕ) (seen : List Text) (name : Text) (v : String Gl
     → new ≡ not (list_any (string_eq v) ks) → new ≡ false → name_fault column seen name ≡ Some (DoubleName column)
 unfolding name_fault
 double_name column seen name v ks new some e keys added old =
-    let there = sym (seen_is v ks name seen e keys) ∙ not_false (list_any (string_eq v) ks) (sym added ∙ old) in
+    let there = sym (seen_is v ks name seen e keys) ∙ not-false (list_any (string_eq v) ks) (sym added ∙ old) in
     rw (some, there) refl
 
 pub good_name : (column : ℕ) (seen : List Text) (name : Text) (v : String Global) (ks : List (String Global)) (new : Bool)
@@ -51,14 +43,14 @@ pub good_name : (column : ℕ) (seen : List Text) (name : Text) (v : String Glob
     → new ≡ not (list_any (string_eq v) ks) → new ≡ true → name_fault column seen name ≡ None
 unfolding name_fault
 good_name column seen name v ks new some e keys added fresh =
-    let absent = sym (seen_is v ks name seen e keys) ∙ not_true (list_any (string_eq v) ks) (sym added ∙ fresh) in
+    let absent = sym (seen_is v ks name seen e keys) ∙ not-true (list_any (string_eq v) ks) (sym added ∙ fresh) in
     rw (some, absent) refl
 
 pub key_added : (seen : List Text) (name : Text) (v : String Global) (ks : List (String Global)) (new : Bool)
     → string_bytes v ≡ name → map string_bytes ks ≡ seen → new ≡ not (list_any (string_eq v) ks) → new ≡ true
     → map string_bytes (insert_key string_eq ks v) ≡ seen ++ name ∷ []
 key_added seen name v ks new e keys added fresh =
-    rw (not_true (list_any (string_eq v) ks) (sym added ∙ fresh), ← e, ← keys) (map-append string_bytes ks (v ∷ []))
+    rw (not-true (list_any (string_eq v) ks) (sym added ∙ fresh), ← e, ← keys) (map-append string_bytes ks (v ∷ []))
 
 few_columns : (n : ℕ) → n ≤ 1024 → nat_lt 1024 n ≡ false
 few_columns n h = false_from_ne_true (nat_lt 1024 n) (λ e. let more = ltb-true 1024 n e in absurd (omega arith))

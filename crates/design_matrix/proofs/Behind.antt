@@ -4,6 +4,7 @@ use Rattle.std.specs.List.{cons_option, list_any}
 use Rattle.std.specs.Option.{option_map_or}
 use Rattle.std.proofs.Common.{◌≡◌, ◌+◌, ◌++◌, ◌&&◌, ℕ, is_none, not, Bool, true, false, List, [], ◌∷◌, Option, Some, None, is_eq, Ordering, map, refl, sym, ap, ◌∙◌}
 use Rattle.std.proofs.lemmas.List.Elements.{filter_map-append}
+use Rattle.std.proofs.lemmas.Bool.{not-false}
 use Rattle.contrasts.specs.declared.Coding.{Coding}
 use Rattle.data_frame.specs.Cells.{numbers, factor, too_wide}
 use Rattle.frac_core.specs.declared.arith.Arith.{Arith}
@@ -24,10 +25,6 @@ use Rattle.design_matrix.proofs.Known.{levels_stay}
 use Rattle.design_matrix.proofs.Shapes.{if_none, none_each}
 use Rattle.design_matrix.proofs.Steps.{append_nothing}
 
-not_not : (b : Bool) → not b ≡ false → b ≡ true
-not_not true e = refl
-not_not false e = absurd (cc e)
-
 module _ {K : Type 0} (order : K → K → Ordering) (total : IsTotalOrder order) where
   -- a cell of one more record, where it is missing or a level already
   one_more : (cells : List K) (o : Option K) → option_map_or (λ x. list_any (λ y. is_eq (order y x)) (levels_of order cells)) o true ≡ true
@@ -44,8 +41,8 @@ module _ {K : Type 0} (order : K → K → Ordering) (total : IsTotalOrder order
 module _ (table : Table) (model : Formula) (coding : Coding) (records : List ℕ) (i : ℕ) where
   values_alike : (as_factor : Bool) (column : Column) → is_unknown as_factor column records i ≡ false
       → bare_values (values_in as_factor column (records ++ i ∷ [])) ≡ bare_values (values_in as_factor column records)
-  values_alike as_factor (factor cells) h = ap (λ l. categorical (map (λ text. text) l) []) (levels_alike text_order texts_total cells records i (not_not _ h))
-  values_alike true (numbers cells) h = ap (λ l. categorical (map number_text l) []) (levels_alike number_order numbers_total cells records i (not_not _ h))
+  values_alike as_factor (factor cells) h = ap (λ l. categorical (map (λ text. text) l) []) (levels_alike text_order texts_total cells records i (not-false _ h))
+  values_alike true (numbers cells) h = ap (λ l. categorical (map number_text l) []) (levels_alike number_order numbers_total cells records i (not-false _ h))
   values_alike false (numbers cells) h = refl
   values_alike as_factor (too_wide rec) h = refl
 

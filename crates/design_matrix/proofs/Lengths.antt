@@ -9,7 +9,7 @@ use Rattle.design_matrix.specs.CodedVariable.{CodedVariable}
 use Rattle.design_matrix.specs.Lists.{each}
 use Rattle.design_matrix.specs.Parts.{Part, chosen, columns_in, term_columns}
 
-length-each : {A B : Type 0} (f : ℕ → A → B) (k : ℕ) (xs : List A) → length (each f k xs) ≡ length xs
+pub length-each : {A B : Type 0} (f : ℕ → A → B) (k : ℕ) (xs : List A) → length (each f k xs) ≡ length xs
 length-each f k [] = refl
 length-each f k (x ∷ xs) = ap suc (length-each f (k + 1) xs)
 
@@ -42,7 +42,7 @@ below n k d h =
 pub filtered_below : (test : ℕ → Bool) (n : ℕ) → All (λ i. i < n) (filter test (range_with_len 0 n))
 filtered_below test n = All-filter test (λ i. i < n) (range_with_len 0 n) (below n)
 
-length-filter-le : (test : ℕ → Bool) (xs : List ℕ) → length (filter test xs) ≤ length xs
+pub length-filter-le : (test : ℕ → Bool) (xs : List ℕ) → length (filter test xs) ≤ length xs
 length-filter-le test [] = omega arith
 length-filter-le test (x ∷ xs) =
     let rest : length (filter test xs) ≤ length xs = length-filter-le test xs in

@@ -1,6 +1,6 @@
 -- The first product of a row, and of rows, that overflows.
 use Rattle.std.proofs.Common.{◌≡◌, ◌<◌, ℕ, zero, suc, List, [], ◌∷◌, length, map, take, get_or, refl, sym, ap, ◌∙◌, arith, subst}
-use Rattle.std.proofs.lemmas.List.{get_or-map, length-map, take-map}
+use Rattle.std.proofs.lemmas.List.{get_or-map, length-map, take-map, get_or_default}
 use Rattle.frac_core.specs.declared.frac128.Frac128.{Frac128}
 use Rattle.loss_model.specs.declared.spill.Spill.{Spill}
 use Rattle.design_matrix.specs.Designs.{OverflowsFirst, OverflowsInColumn, OverflowsInRecord, OverflowsInRow, RecordFits, RowFits}
@@ -28,8 +28,3 @@ pub first_record : (table : Table) (model : Formula) (columns : List (List Part)
 first_record table model columns records place index s h e fits o =
     let P : ℕ → Type 0 = λ i. OverflowsInRecord table model columns place i s in
     record { place = place; there = h; here = subst P e o; before = fits }
-
-pub any_default : {A : Type 0} (xs : List A) (i : ℕ) (d e : A) → i < length xs → get_or xs i d ≡ get_or xs i e
-any_default [] i d e h = absurd (omega arith)
-any_default (x ∷ xs) zero d e h = refl
-any_default (x ∷ xs) (suc i) d e h = any_default xs i d e (omega arith)

@@ -24,7 +24,7 @@ use Rattle.design_matrix.specs.Lists.{each}
 use Rattle.design_matrix.specs.Parts.{Part, column_name, columns_of}
 use Rattle.design_matrix.specs.Predicted.{columns_with, is_predicted, kept_in, lacks_entry, predicted, unknown_fault, unknown_level}
 use Rattle.design_matrix.proofs.Behind.{faults_alike, names_alike}
-use Rattle.design_matrix.proofs.Lengths.{filtered_below}
+use Rattle.design_matrix.proofs.Lengths.{filtered_below, length-filter-le}
 use Rattle.design_matrix.proofs.Shapes.{columns, names_are, rows_are, shaped}
 use Rattle.design_matrix.proofs.Steps.{map_map}
 
@@ -63,16 +63,10 @@ not_kept table model weights i e =
     ap (λ b. (b && is_complete (map (column_of table) (option_to_list weights ++ predictor_names model)) i) && is_ne (weight_sign (weights_in table weights) i))
     (missing (is_present (column_of table model.response) i) (is_complete (map (column_of table) (predictor_names model)) i) e)
 
-filter_few : (test : ℕ → Bool) (xs : List ℕ) → length (filter test xs) ≤ length xs
-filter_few test [] = omega arith
-filter_few test (x ∷ xs) =
-    let rest : length (filter test xs) ≤ length xs = filter_few test xs in
-    elim (test x) as (λ b. length (cond b (x ∷ filter test xs) (filter test xs)) ≤ length (x ∷ xs)) [ true ↦ omega arith | false ↦ omega arith ]
-
 filter_less : (test : ℕ → Bool) (xs : List ℕ) (k : ℕ) → k < length xs → test (get_or xs k 0) ≡ false → length (filter test xs) < length xs
 filter_less test [] k h e = absurd (omega arith)
 filter_less test (x ∷ xs) zero h e =
-    let rest : length (filter test xs) ≤ length xs = filter_few test xs in
+    let rest : length (filter test xs) ≤ length xs = length-filter-le test xs in
     let same : length (filter test (x ∷ xs)) ≡ length (filter test xs) = ap (λ b. length (cond b (x ∷ filter test xs) (filter test xs))) e in
     omega arith
 filter_less test (x ∷ xs) (suc k) h e =

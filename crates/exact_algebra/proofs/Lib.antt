@@ -10,3 +10,7 @@ pub mod WholeNumbers
 -- sums by index
 pub mod IntegerSumLaws
 pub mod RationalSumLaws
+-- signs, answers of comparisons, and lists by place
+pub mod Signs
+pub mod Comparisons
+pub mod Lists

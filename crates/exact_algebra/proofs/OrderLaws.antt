@@ -76,7 +76,7 @@ by_cmp x y P less equal greater = at (le_ℚ x y) (le_ℚ y x) refl refl
     at true false e f = less (not_le y x f)
     at false t e f = greater (not_le x y e)
 
-same_le : (x y : ℚ) → x ≡ y → x ≤ℚ y
+pub same_le : (x y : ℚ) → x ≡ y → x ≤ℚ y
 same_le x y e = subst (λ z. x ≤ℚ z) e (≤ℚ_refl x)
 
 pub cmp_ℚ-Less : (x y : ℚ) → (cmp_ℚ x y ≡ Less) ↔ ¬ (y ≤ℚ x)

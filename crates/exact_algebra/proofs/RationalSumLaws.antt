@@ -1,7 +1,7 @@
 -- Laws of sums of fractions by index. In a loop `for i in 0..n` that adds from the left the invariant
 -- `rational (value total) ≡ sum_ℚ l.i f` is kept by `sum_ℚ-next`.
 --
---     one more term                        sum_ℚ-next n f
+--     one more term, at the end or first   sum_ℚ-next n f, sum_ℚ-first n f
 --     the same or lesser terms             sum_ℚ-same n f g h, sum_ℚ-le n f g h
 --     all terms 0                          sum_ℚ-zero n
 --     a sum, a multiple, a mix of terms    sum_ℚ-add, sum_ℚ-scale, sum_ℚ-mix
@@ -33,6 +33,12 @@ pub ≤ℚ_from : (x y : ℚ) → whole (pos 0) ≤ℚ (y -ℚ x) → x ≤ℚ y
 -- one more term
 pub sum_ℚ-next : (n : ℕ) (f : ℕ → ℚ) → sum_ℚ (n + 1) f ≡ sum_ℚ n f +ℚ f n
 sum_ℚ-next n f = ap (λ m. sum_ℚ m f) (add-one n)
+
+pub sum_ℚ-first : (n : ℕ) (f : ℕ → ℚ) → sum_ℚ (suc n) f ≡ f 0 +ℚ sum_ℚ n (λ k. f (suc k))
+sum_ℚ-first zero f = ring_ℚ (f 0 ∷ []) (number (pos 0) ⊞ v0) (v0 ⊞ number (pos 0)) refl
+sum_ℚ-first (suc n) f =
+    ap (λ z. z +ℚ f (suc n)) (sum_ℚ-first n f)
+    ∙ ring_ℚ (f 0 ∷ sum_ℚ n (λ k. f (suc k)) ∷ f (suc n) ∷ []) ((v0 ⊞ v1) ⊞ v2) (v0 ⊞ (v1 ⊞ v2)) refl
 
 pub sum_ℚ-same : (n : ℕ) (f g : ℕ → ℚ) → ((k : ℕ) → k < n → f k ≡ g k) → sum_ℚ n f ≡ sum_ℚ n g
 sum_ℚ-same zero f g h = refl

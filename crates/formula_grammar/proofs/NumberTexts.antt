@@ -7,6 +7,7 @@ use Rattle.std.specs.Str.Parse.{digits_value, digits_value_after, starts_with_mi
 use Rattle.std.specs.List.{prefix_len}
 use Rattle.std.proofs.lemmas.Bool.Decides.{nat_tests}
 use Rattle.std.proofs.lemmas.List.{take_more, take-take, take-append-drop}
+use Rattle.std.proofs.lemmas.Bool.{and_parts}
 use Rattle.exact_algebra.specs.Fraction.{Fraction}
 use Rattle.frac_core.specs.NumberText.{are_digits, decimal_form, is_exponent_mark, is_number_text, is_point, is_slash, is_zero_digit, with_sign, written, written_body, written_fraction}
 use Rattle.frac_core.specs.NumberReading.{front, rest, scan, scan_decimal, scan_from}
@@ -21,10 +22,6 @@ use Rattle.formula_grammar.specs.Tokens.{begins_number, starts_by}
 value_grows : (n : ℕ) (ds : List ℕ) → n ≤ digits_value_after 10 n ds
 value_grows n [] = omega arith
 value_grows n (d ∷ ds) = omega (arith, value_grows (n * 10 + digit_value d) ds)
-
-both : (b c : Bool) → (b && c) ≡ true → (b ≡ true) × (c ≡ true)
-both true c h = (refl, h)
-both false c h = absurd (cc h)
 
 -- ---- number texts
 
@@ -126,7 +123,7 @@ no_digits false exponent = refl
 more_digits : (ds : List ℕ) (b : ℕ) → are_digits ds ≡ true → is_ascii_digit b ≡ true → are_digits (ds ++ b ∷ []) ≡ true
 more_digits [] b h d = absurd (cc h)
 more_digits (c ∷ cs) b h d =
-    let all = both (nat_lt 0 (length (c ∷ cs))) (all_ascii_digits (c ∷ cs)) h in
+    let all = and_parts (nat_lt 0 (length (c ∷ cs))) (all_ascii_digits (c ∷ cs)) h in
     let one : all_ascii_digits (b ∷ []) ≡ true = rw d refl in
     rw (some_byte c (cs ++ b ∷ [])) (digits_append (c ∷ cs) (b ∷ []) all.1 one)
 

@@ -18,6 +18,7 @@ use Rattle.frac_core.specs.declared.number_reader.NumberFault.TheVariants.{TooWi
 use Rattle.frac_core.proofs.Products.{reduced_is}
 use Rattle.frac_core.proofs.ReaderSteps.{IsUnsigned, reduces, unsigned_body}
 use Rattle.frac_core.specs.Values.{exact}
+use Rattle.frac_core.proofs.Values.{same_number}
 use Rattle.formula_grammar.specs.Magnitudes.{Magnitude, magnitude, magnitude_if, magnitude_of, range}
 use Rattle.formula_grammar.specs.Numerals.{one_fraction, zero_fraction}
 use Rattle.formula_grammar.specs.Numbers.{is_signed}
@@ -54,12 +55,6 @@ text_reads text h = rw (unsigned text h, no_minus text h) (go (written_body text
     go None u = refl
     go (Some x) u = tested x u (nat_le 1 x.den) (nat_le (unsigned_abs x.num) range) (nat_le x.den range) refl refl refl
 
--- fractions of one value are one
-same_exact : (x y : Frac128) → exact x ≡ exact y → x ≡ y
-same_exact x y e =
-    let parts = same_fraction range _ _ x.within y.within e in
-    λ i. record { num = (parts i).num; den = (parts i).den; within = IsWithin-along range parts x.within y.within i }
-
 same_magnitude : (m : Magnitude) (r : Frac128) (u : r.num ≡ pos (unsigned_abs r.num)) → m.fraction ≡ r → m ≡ (let n : Magnitude = record { fraction = r; unsigned = u } in n)
 same_magnitude m r u e = λ i. record { fraction = e i; unsigned = is_prop→PathP (λ i. (e i).num ≡ pos (unsigned_abs (e i).num)) (λ i. ℤ_set (e i).num (pos (unsigned_abs (e i).num))) m.unsigned u i }
 
@@ -69,13 +64,13 @@ read_as text q h e = subst (λ q. ReadsAs q (magnitude_of text)) e (text_reads t
 pub read_unsigned : (text : List ℕ) (r : Frac128) → is_signed text ≡ false → number_of range text ≡ Ok (exact r) → r.num ≡ pos (unsigned_abs r.num)
 read_unsigned text r h e =
     let m = read_as text (Ok (exact r)) h e in
-    subst (λ (x : Frac128). x.num ≡ pos (unsigned_abs x.num)) (same_exact m.0.fraction r m.2) m.0.unsigned
+    subst (λ (x : Frac128). x.num ≡ pos (unsigned_abs x.num)) (same_number m.0.fraction r m.2) m.0.unsigned
 
 pub read_magnitude : (text : List ℕ) (r : Frac128) (u : r.num ≡ pos (unsigned_abs r.num)) → is_signed text ≡ false → number_of range text ≡ Ok (exact r)
     → Some (let m : Magnitude = record { fraction = r; unsigned = u } in m) ≡ magnitude_of text
 read_magnitude text r u h e =
     let m = read_as text (Ok (exact r)) h e in
-    sym (m.1 ∙ ap (λ (x : Magnitude). Some x) (same_magnitude m.0 r u (same_exact m.0.fraction r m.2)))
+    sym (m.1 ∙ ap (λ (x : Magnitude). Some x) (same_magnitude m.0 r u (same_number m.0.fraction r m.2)))
 
 pub read_none : (text : List ℕ) (f : NumberFault) → is_signed text ≡ false → number_of range text ≡ Err f → None ≡ magnitude_of text
 read_none text f h e = sym (read_as text (Err f) h e)
@@ -91,7 +86,7 @@ unfolding one_fraction
 one_exact = lowest_exact 1 1 (omega arith) (omega arith) (omega arith) ∙ quotient-one (pos 1)
 
 pub zero_is : (x : Frac128) → exact x ≡ whole (pos 0) → x ≡ zero_fraction
-zero_is x e = same_exact x zero_fraction (e ∙ sym zero_exact)
+zero_is x e = same_number x zero_fraction (e ∙ sym zero_exact)
 
 pub one_is : (x : Frac128) → exact x ≡ whole (pos 1) → x ≡ one_fraction
-one_is x e = same_exact x one_fraction (e ∙ sym one_exact)
+one_is x e = same_number x one_fraction (e ∙ sym one_exact)

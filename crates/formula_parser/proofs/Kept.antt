@@ -5,6 +5,7 @@ use Rattle.std.specs.List.{list_any}
 use Rattle.std.proofs.lemmas.List.{length-append}
 use Rattle.std.proofs.lemmas.List.Elements.{All-append, All-cons, All-nil, All-head, All-push, All-tail, Contains-get_or}
 use Rattle.std.proofs.lemmas.List.Quantifiers.{position-Some}
+use Rattle.std.proofs.lemmas.Bool.{and_from}
 use Rattle.frac_core.specs.declared.arith.ArithOp.{ArithOp}
 use Rattle.frac_core.specs.declared.arith.ArithOp.TheVariants as op
 use Rattle.formula_grammar.specs.declared.reading.ArithStep.TheVariants as step
@@ -74,11 +75,6 @@ lead_numbered Bare = refl
 lead_numbered (Led Plus n) = refl
 lead_numbered (Led Minus n) = refl
 
-both_true : (a b : Bool) → a ≡ true → b ≡ true → (a && b) ≡ true
-both_true true true e f = refl
-both_true true false e f = f
-both_true false b e f = e
-
 second_true : (a b : Bool) → (a && b) ≡ true → b ≡ true
 second_true true b e = e
 second_true false b e = absurd (cc e)
@@ -101,19 +97,19 @@ module _ (text : Text) (names : List Text) where
     arith_in_range (First Bare p) last h = aprod_in_range p last h
     arith_in_range (First (Led s n) p) last h = aprod_in_range p (Signed s) h.2
     arith_in_range (More a s n p) last h =
-        both_true (has_exponents (arith_said named a)) (product_has (aprod_said named p)) (arith_in_range a last (rest last (arith_tokens a) (token (Signed s) n ∷ aprod_tokens p) h))
+        and_from (has_exponents (arith_said named a)) (product_has (aprod_said named p)) (arith_in_range a last (rest last (arith_tokens a) (token (Signed s) n ∷ aprod_tokens p) h))
         (aprod_in_range p (Signed s) (fine_right text names last (arith_tokens a) (token (Signed s) n ∷ aprod_tokens p) h).2)
 
     aprod_in_range : (p : Aprod) (last : Kind) → Fine text names last (aprod_tokens p) → product_has (aprod_said named p) ≡ true
     aprod_in_range (One p) last h = apow_in_range p last h
     aprod_in_range (Times a n p) last h =
-        both_true (product_has (aprod_said named a)) (power_has (apow_said named p)) (aprod_in_range a last (rest last (aprod_tokens a) (token Star n ∷ apow_tokens p) h))
+        and_from (product_has (aprod_said named a)) (power_has (apow_said named p)) (aprod_in_range a last (rest last (aprod_tokens a) (token Star n ∷ apow_tokens p) h))
         (apow_in_range p Star (fine_right text names last (aprod_tokens a) (token Star n ∷ apow_tokens p) h).2)
 
     apow_in_range : (p : Apow) (last : Kind) → Fine text names last (apow_tokens p) → power_has (apow_said named p) ≡ true
     apow_in_range (Plain a) last h = aatom_in_range a last h
     apow_in_range (Raised a n k m) last h =
-        both_true (atom_has (aatom_said named a)) (is_exponent (power_of k)) (aatom_in_range a last (rest last (aatom_tokens a) (token Caret n ∷ token (Number (Digits k)) m ∷ []) h))
+        and_from (atom_has (aatom_said named a)) (is_exponent (power_of k)) (aatom_in_range a last (rest last (aatom_tokens a) (token Caret n ∷ token (Number (Digits k)) m ∷ []) h))
         (fine_right text names last (aatom_tokens a) (token Caret n ∷ token (Number (Digits k)) m ∷ []) h).2.1
 
     aatom_in_range : (a : Aatom) (last : Kind) → Fine text names last (aatom_tokens a) → atom_has (aatom_said named a) ≡ true

@@ -7,6 +7,7 @@ use Rattle.exact_algebra.specs.Solver.{number, ◌⊠◌, v0}
 use Rattle.exact_algebra.proofs.OrderLaws.{inverse_not_negative}
 use Rattle.exact_algebra.proofs.RationalLaws.{≤ℚ_mul, ring_ℚ}
 use Rattle.exact_algebra.proofs.WholeNumbers.{whole-le}
+use Rattle.exact_algebra.proofs.Signs.{whole_not_negative}
 use Rattle.formula_grammar.specs.Codes.{smooths_of}
 use Rattle.formula_grammar.specs.declared.magnitude.Magnitude.{Magnitude}
 use Rattle.formula_grammar.specs.Numerals.{value_of, value_or_zero}
@@ -14,9 +15,6 @@ use Rattle.formula_parser.specs.Words.{Zero, Unity, Longer, Numeral, Digits, Wri
 use Rattle.formula_parser.specs.Scope.{Text}
 use Rattle.formula_parser.specs.Laws.{LambdasAreNotNegative}
 use Rattle.formula_parser.specs.Parsed.{exact, meant_smooth, told_smooth, Smooth}
-
-whole_not_negative : (n : ℕ) → whole (pos 0) ≤ℚ whole (pos n)
-whole_not_negative n = whole-le (pos 0) (pos n) (omega (arith, ints))
 
 not_negative : (n d : ℕ) → whole (pos 0) ≤ℚ rational (record { num = pos n; den = d })
 not_negative n d =

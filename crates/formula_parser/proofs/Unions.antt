@@ -1,7 +1,7 @@
 -- Lists of terms that grow.
 use Rattle.std.proofs.Common.{◌≡◌, ◌<◌, ◌≤◌, ◌+◌, ◌∷◌, ◌++◌, [], ℕ, zero, suc, ◌-◌, Bool, true, false, List, cond}
 use Rattle.std.proofs.Common.{length, length-append, map, drop, drop-cons, get_or, add-one, refl, sym, ◌∙◌, ap, arith, append_assoc, not, ◌||◌, if◌then◌else◌}
-use mathlib.Core.Bool.{beq}
+use mathlib.Core.Bool.{beq, or-true}
 use Rattle.std.specs.Cmp.Lexicographic.{pointwise}
 use Rattle.formula_parser.specs.Terms.{Term, Terms, is_in, plus, minus, cross, union, unions, with_term, raised, raised_by, times}
 
@@ -66,10 +66,6 @@ term_left a b left left' all i d lt e h =
 
 -- ---- products and powers
 
-or_true : (b : Bool) → (b || true) ≡ true
-or_true true = refl
-or_true false = refl
-
 -- equal Bool lists are in the same lists
 same_list : (a b : Term) → pointwise beq a b ≡ true → a ≡ b
 same_list [] [] h = refl
@@ -105,7 +101,7 @@ with_is_in t u found e = go (is_in u found) refl
   where
     appended : (ts : Terms) → is_in t (ts ++ u ∷ []) ≡ true
     appended [] = rw e refl
-    appended (v ∷ ts) = ap (λ (x : Bool). pointwise beq v t || x) (appended ts) ∙ or_true (pointwise beq v t)
+    appended (v ∷ ts) = ap (λ (x : Bool). pointwise beq v t || x) (appended ts) ∙ or-true (pointwise beq v t)
 
     go : (b : Bool) → is_in u found ≡ b → is_in t (cond b found (found ++ u ∷ [])) ≡ true
     go true d = same_terms u t e found d

@@ -8,17 +8,18 @@ use Rattle.std.specs.Str.{all_ascii_digits}
 use Rattle.std.specs.Str.Parse.{digits_value, starts_with_minus, without_leading_sign}
 use Rattle.std.proofs.Math.Dec.{lit<}
 use Rattle.std.proofs.Math.Nat.{mul-add-mod_self_right, mod-eq_of_lt, pow-le-pow_right}
-use Rattle.std.proofs.lemmas.Bool.{le-leb, lt-ltb, cases_lt}
+use Rattle.std.proofs.lemmas.Bool.{le-leb, lt-ltb, cases_lt, and_parts}
 use Rattle.std.proofs.lemmas.Bool.Decides.{nat_tests}
 use Rattle.std.proofs.lemmas.List.{append-nil, reverse-append, reverse-reverse}
 use Rattle.frac_core.specs.NumberText.{are_digits, decimal_form, decimal_of, in_range, is_zero_digit, number_of, number_text_of, scaled, significand, with_sign, written, written_body, written_fraction}
 use Rattle.exact_algebra.specs.Fraction.{Fraction}
 use Rattle.std.proofs.lemmas.Fmt.{decimal_is_IsNumeral_wide}
 use Rattle.std.proofs.lemmas.Str.Parse.{IsNumeralModel, numerals_by_value, tells_all_ascii_digits}
+use mathlib.Core.Bool.{and-false}
 use Rattle.frac_core.specs.NumberLaws.{AreTooWide, HaveSignificand, ReadsBack}
 use Rattle.frac_core.specs.declared.number_reader.NumberFault.TheVariants.{TooWide}
 use Rattle.frac_core.proofs.DigitSteps.{digits_value-push, grows, next_power, significand-push_other, significand-push_zero, suffix_len-push, zeros-push_other}
-use Rattle.frac_core.proofs.Scanning.{and_false, both, by_first_digits}
+use Rattle.frac_core.proofs.Scanning.{by_first_digits}
 
 -- ---- digits
 
@@ -55,7 +56,7 @@ push_scientific ds c digit h = by (c == 48) refl
 digits_apart : (xs ys : List ℕ) → all_ascii_digits (xs ++ ys) ≡ true → (all_ascii_digits xs ≡ true) × (all_ascii_digits ys ≡ true)
 digits_apart [] ys h = (refl, h)
 digits_apart (x ∷ xs) ys h =
-    let parts = both (is_ascii_digit x) (all_ascii_digits (xs ++ ys)) h in
+    let parts = and_parts (is_ascii_digit x) (all_ascii_digits (xs ++ ys)) h in
     let more = digits_apart xs ys parts.1 in
     (rw (parts.0, more.0) refl, more.1)
 
@@ -64,7 +65,7 @@ backwards [] h = none_scientific
 backwards (x ∷ xs) h =
     let turned : reverse (x ∷ xs) ≡ reverse xs ++ x ∷ [] = reverse-append (x ∷ []) xs in
     let digits = digits_apart (reverse xs) (x ∷ []) (rw turned at h) in
-    subst IsScientific (sym turned) (push_scientific (reverse xs) x (both (is_ascii_digit x) true digits.1).0 (backwards xs digits.0))
+    subst IsScientific (sym turned) (push_scientific (reverse xs) x (and_parts (is_ascii_digit x) true digits.1).0 (backwards xs digits.0))
 
 pub have_significand : HaveSignificand
 have_significand digits h = subst IsScientific (reverse-reverse digits) (backwards (reverse digits) (rw reverse-reverse h))
@@ -77,7 +78,7 @@ Beyond range z m up down = (range < m) ⊎ (((down ≤ up) × (range < m * 10 ^ 
 not_within : (n range : ℕ) → nat_le n range ≡ false → range < n
 not_within n range h = grind (arith, nat_tests)
 
-above_false : (n range : ℕ) → range < n → nat_le n range ≡ false
+pub above_false : (n range : ℕ) → range < n → nat_le n range ≡ false
 above_false n range h = grind (arith, nat_tests)
 
 wide_numerator : (range z m up down : ℕ) → range < m * 10 ^ (up - down) → Beyond range z m up down
@@ -107,7 +108,7 @@ too_wide range z m up down high (inr (inl h)) = rw (above_false (m * 10 ^ (up - 
 too_wide range z m up down high (inr (inr h)) =
     let many : z + 1 ≤ down - up = omega arith in
     let least : 10 ^ (z + 1) ≤ 10 ^ (down - up) = pow-le-pow_right (lit< tt) many in
-    rw (above_false (10 ^ (down - up)) range (omega arith), and_false (nat_le (m * 10 ^ (up - down)) range)) refl
+    rw (above_false (10 ^ (down - up)) range (omega arith), and-false (nat_le (m * 10 ^ (up - down)) range)) refl
 
 pub are_too_wide : AreTooWide
 are_too_wide range z m up down low high = (beyond range z m up down low _ _ refl refl, too_wide range z m up down high)
@@ -168,7 +169,7 @@ fraction_body n d ds es w v positive = by_first_digits ds (47 ∷ es) w.digits r
 no_sign : (ds xs : List ℕ) → all_ascii_digits ds ≡ true → 0 < length ds → (starts_with_minus (ds ++ xs) ≡ false) × (without_leading_sign (ds ++ xs) ≡ ds ++ xs)
 no_sign [] xs digits some = absurd (omega arith)
 no_sign (d ∷ ds) xs digits some =
-    let digit = (both (is_ascii_digit d) (all_ascii_digits ds) digits).0 in
+    let digit = (and_parts (is_ascii_digit d) (all_ascii_digits ds) digits).0 in
     let minus : (d == 45) ≡ false = grind (arith, nat_tests) in
     let plus : (d == 43) ≡ false = grind (arith, nat_tests) in
     (minus, rw (minus, plus) refl)

@@ -10,10 +10,11 @@ use Rattle.std.specs.Str.{all_ascii_digits}
 use Rattle.std.specs.Str.Parse.{digits_value, starts_with_minus, without_leading_sign}
 use Rattle.std.proofs.Math.Dec.{lit<}
 use Rattle.std.proofs.Math.Nat.{div-le_self, one-le-pow}
-use Rattle.std.proofs.lemmas.Bool.{leb-true, ltb-true, le-leb, lt-ltb, false_from_ne_true, ne_eqb}
+use Rattle.std.proofs.lemmas.Bool.{leb-true, ltb-true, le-leb, lt-ltb, false_from_ne_true, ne_eqb, and_parts}
 use Rattle.std.proofs.lemmas.Nat.{pow-add}
 use Rattle.std.proofs.lemmas.List.{append-nil, length-append, take_all}
 use Rattle.std.proofs.lemmas.List.Sums.{suffix_len-le-length}
+use mathlib.Core.Bool.{and-false}
 use Rattle.exact_algebra.specs.Rational.{ℚ, ◌*ℚ◌, inverse, whole}
 use Rattle.exact_algebra.specs.Fraction.{Fraction, rational}
 use Rattle.frac_core.specs.NumberText.{are_digits, number_of, written, decimal_form, decimal_of, in_range, is_exponent_mark, with_sign, written_decimal}
@@ -26,22 +27,17 @@ use Rattle.frac_core.specs.declared.number_reader.Written.{Written}
 use Rattle.frac_core.specs.declared.number_reader.NumberFault.{NumberFault}
 use Rattle.frac_core.specs.declared.number_reader.NumberFault.TheVariants.{TooWide}
 use Rattle.frac_core.proofs.DigitSteps.{grows}
-use Rattle.frac_core.proofs.Scanning.{all-front, front-rest, past-rest, IsPast, both, not_all, written_body-scan}
+use Rattle.frac_core.proofs.Scanning.{all-front, front-rest, past-rest, IsPast, not_all, written_body-scan}
+use Rattle.frac_core.proofs.Signs.{unsigned_abs-signed}
+use Rattle.frac_core.proofs.NumberLaws.{above_false}
 
 -- ---- numbers that are too wide
-
-above_false : (n limit : ℕ) → limit < n → nat_le n limit ≡ false
-above_false n limit h = false_from_ne_true (nat_le n limit) (λ e. let le = leb-true n limit e in absurd (omega arith))
-
-and_false : (b : Bool) → (b && false) ≡ false
-and_false true = refl
-and_false false = refl
 
 pub wide_numerator : (limit m up down : ℕ) → limit < m * 10 ^ (up - down) → within limit (Some (scaled m up down)) ≡ Err TooWide
 wide_numerator limit m up down h = rw (above_false (m * 10 ^ (up - down)) limit h) refl
 
 pub wide_denominator : (limit m up down : ℕ) → limit < 10 ^ (down - up) → within limit (Some (scaled m up down)) ≡ Err TooWide
-wide_denominator limit m up down h = rw (above_false (10 ^ (down - up)) limit h, and_false (nat_le (m * 10 ^ (up - down)) limit)) refl
+wide_denominator limit m up down h = rw (above_false (10 ^ (down - up)) limit h, and-false (nat_le (m * 10 ^ (up - down)) limit)) refl
 
 big_power : (limit k : ℕ) → limit < 2 ^ 127 → 39 ≤ k → limit < 10 ^ k
 big_power limit k small big =
@@ -132,7 +128,7 @@ no_digit_first text none = by (rest text) refl (past-rest text)
 
     by : (xs : List ℕ) → rest text ≡ xs → IsPast xs → are_digits text ≡ false
     by [] e past = rw (← whole [] e) refl
-    by (b ∷ xs) e past = rw (← whole (b ∷ xs) e, past) (and_false (nat_lt 0 (length (b ∷ xs))))
+    by (b ∷ xs) e past = rw (← whole (b ∷ xs) e, past) (and-false (nat_lt 0 (length (b ∷ xs))))
 
 pub more_than_digits : (text : List ℕ) → 0 < length (rest text) → are_digits text ≡ false
 more_than_digits text some = by (rest text) refl (past-rest text)
@@ -141,7 +137,7 @@ more_than_digits text some = by (rest text) refl (past-rest text)
     by [] e past = absurd (omega (arith, ap length e))
     by (b ∷ xs) e past =
         let whole : front text ++ b ∷ xs ≡ text = ap (λ (ys : List ℕ). front text ++ ys) (sym e) ∙ front-rest text in
-        rw (← whole, not_all (front text) xs b past) (and_false (nat_lt 0 (length (front text ++ b ∷ xs))))
+        rw (← whole, not_all (front text) xs b past) (and-false (nat_lt 0 (length (front text ++ b ∷ xs))))
 
 -- ---- what a reader has taken in
 
@@ -193,7 +189,7 @@ length-behind_first (x ∷ xs) = rw (take_tail x xs) (omega arith)
 
 pub digits_append : (xs ys : List ℕ) → all_ascii_digits xs ≡ true → all_ascii_digits ys ≡ true → all_ascii_digits (xs ++ ys) ≡ true
 digits_append [] ys h k = k
-digits_append (x ∷ xs) ys h k = let parts = both (is_ascii_digit x) (all_ascii_digits xs) h in rw (parts.0, digits_append xs ys parts.1 k) refl
+digits_append (x ∷ xs) ys h k = let parts = and_parts (is_ascii_digit x) (all_ascii_digits xs) h in rw (parts.0, digits_append xs ys parts.1 k) refl
 
 -- ---- the value of two numbers and a sign
 
@@ -224,7 +220,7 @@ unsigned_power whole behind false e = unsigned_decimal whole behind e 0
 unsigned_fraction : (above below : List ℕ) → IfSome (written_fraction above below) IsUnsigned
 unsigned_fraction above below =
     if_some (are_digits above && are_digits below && nat_lt 0 (digits_value 10 below)) _
-    (λ h. record { num = refl; den = ltb-true 0 (digits_value 10 below) (both (are_digits above && are_digits below) (nat_lt 0 (digits_value 10 below)) h).1 })
+    (λ h. record { num = refl; den = ltb-true 0 (digits_value 10 below) (and_parts (are_digits above && are_digits below) (nat_lt 0 (digits_value 10 below)) h).1 })
 
 unsigned_form : (whole behind exponent : List ℕ) → IfSome (decimal_form whole behind exponent) IsUnsigned
 unsigned_form whole behind exponent =
@@ -282,11 +278,6 @@ reduces range n d h k = record {
   den = omega (arith, div-le_self d (gcd (unsigned_abs n) d));
 }
 
-abs_signed : (negative : Bool) (m : ℕ) → unsigned_abs (if negative then neg_ℤ (pos m) else pos m) ≡ m
-abs_signed true zero = refl
-abs_signed true (suc m) = refl
-abs_signed false m = refl
-
 not_zero : (d : ℕ) → 1 ≤ d → pos d ≡ pos 0 → ⊥
 not_zero zero h e = absurd (omega arith)
 not_zero (suc d) h e = cc
@@ -298,7 +289,7 @@ some_value (Some x) range m d negative n e ns es hm hd positive none = refl
 some_value None range m d negative n e ns es hm hd positive none =
     elim (none refl) [
       | inl z ↦ absurd (not_zero d positive (sym es ∙ z))
-      | inr beyond ↦ absurd (beyond (reduces range n (unsigned_abs e) (rw (ns, abs_signed negative m) hm) (rw es hd)))
+      | inr beyond ↦ absurd (beyond (reduces range n (unsigned_abs e) (rw (ns, unsigned_abs-signed negative m) hm) (rw es hd)))
     ]
 
 -- their value

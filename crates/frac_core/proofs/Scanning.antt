@@ -5,8 +5,9 @@ use Rattle.std.specs.Char.{is_ascii_digit}
 use Rattle.std.specs.Str.{all_ascii_digits}
 use Rattle.std.specs.Str.Parse.{without_leading_sign}
 use Rattle.std.proofs.lemmas.Bool.Decides.{nat_tests}
-use Rattle.std.proofs.lemmas.Bool.{false≢true, true≢false}
+use Rattle.std.proofs.lemmas.Bool.{false≢true, true≢false, and_parts}
 use Rattle.std.proofs.lemmas.List.{append-nil, append_assoc, take-append-drop}
+use mathlib.Core.Bool.{and-false}
 use Rattle.exact_algebra.specs.Fraction.{Fraction}
 use Rattle.frac_core.specs.NumberText.{are_digits, decimal_form, is_exponent_mark, is_point, is_slash, written_body, written_decimal, written_fraction}
 use Rattle.frac_core.specs.NumberReading.{front, rest, scan, scan_decimal, scan_from}
@@ -43,37 +44,29 @@ after-next p b xs h =
     let size : 1 + position_or_len p xs + 1 ≡ suc (position_or_len p xs + 1) = omega arith in
     rw (h, size) refl
 
-pub both : (b c : Bool) → (b && c) ≡ true → (b ≡ true) × (c ≡ true)
-both true c h = (refl, h)
-both false c h = absurd (cc h)
-
 before-digits : (p : ℕ → Bool) → IsApart p → (ds xs : List ℕ) → all_ascii_digits ds ≡ true → before_first p (ds ++ xs) ≡ ds ++ before_first p xs
 before-digits p apart [] xs h = refl
 before-digits p apart (d ∷ ds) xs h =
-    let parts = both (is_ascii_digit d) (all_ascii_digits ds) h in
+    let parts = and_parts (is_ascii_digit d) (all_ascii_digits ds) h in
     before-next p d (ds ++ xs) (apart d parts.0) ∙ ap (λ (ys : List ℕ). d ∷ ys) (before-digits p apart ds xs parts.1)
 
 after-digits : (p : ℕ → Bool) → IsApart p → (ds xs : List ℕ) → all_ascii_digits ds ≡ true → after_first p (ds ++ xs) ≡ after_first p xs
 after-digits p apart [] xs h = refl
 after-digits p apart (d ∷ ds) xs h =
-    let parts = both (is_ascii_digit d) (all_ascii_digits ds) h in
+    let parts = and_parts (is_ascii_digit d) (all_ascii_digits ds) h in
     after-next p d (ds ++ xs) (apart d parts.0) ∙ after-digits p apart ds xs parts.1
 
 any-digits : (p : ℕ → Bool) → IsApart p → (ds xs : List ℕ) → all_ascii_digits ds ≡ true → list_any p (ds ++ xs) ≡ list_any p xs
 any-digits p apart [] xs h = refl
 any-digits p apart (d ∷ ds) xs h =
-    let parts = both (is_ascii_digit d) (all_ascii_digits ds) h in
+    let parts = and_parts (is_ascii_digit d) (all_ascii_digits ds) h in
     rw (apart d parts.0) (any-digits p apart ds xs parts.1)
 
 -- ---- digits at the front
 
-pub and_false : (c : Bool) → (c && false) ≡ false
-and_false true = refl
-and_false false = refl
-
 pub not_all : (ds xs : List ℕ) (b : ℕ) → is_ascii_digit b ≡ false → all_ascii_digits (ds ++ b ∷ xs) ≡ false
 not_all [] xs b h = rw h refl
-not_all (d ∷ ds) xs b h = rw (not_all ds xs b h) (and_false (is_ascii_digit d))
+not_all (d ∷ ds) xs b h = rw (not_all ds xs b h) (and-false (is_ascii_digit d))
 
 pub all-front : (text : List ℕ) → all_ascii_digits (front text) ≡ true
 all-front [] = refl
@@ -103,13 +96,13 @@ past-rest (c ∷ cs) = step (past-rest cs) (is_ascii_digit c) refl
 
 -- a byte that is no digit makes no fraction
 no_fraction : (ds xs ys : List ℕ) (b : ℕ) → is_ascii_digit b ≡ false → written_fraction (ds ++ b ∷ xs) ys ≡ None
-no_fraction ds xs ys b h = rw (not_all ds xs b h, and_false (nat_lt 0 (length (ds ++ b ∷ xs)))) refl
+no_fraction ds xs ys b h = rw (not_all ds xs b h, and-false (nat_lt 0 (length (ds ++ b ∷ xs)))) refl
 
 no_whole : (ds xs behind exponent : List ℕ) (b : ℕ) → is_ascii_digit b ≡ false → decimal_form (ds ++ b ∷ xs) behind exponent ≡ None
-no_whole ds xs behind exponent b h = rw (append_assoc ds (b ∷ xs) behind, not_all ds (xs ++ behind) b h, and_false (nat_lt 0 (length (ds ++ b ∷ (xs ++ behind))))) refl
+no_whole ds xs behind exponent b h = rw (append_assoc ds (b ∷ xs) behind, not_all ds (xs ++ behind) b h, and-false (nat_lt 0 (length (ds ++ b ∷ (xs ++ behind))))) refl
 
 no_behind : (whole ds xs exponent : List ℕ) (b : ℕ) → is_ascii_digit b ≡ false → decimal_form whole (ds ++ b ∷ xs) exponent ≡ None
-no_behind whole ds xs exponent b h = rw (← append_assoc whole ds (b ∷ xs), not_all (whole ++ ds) xs b h, and_false (nat_lt 0 (length ((whole ++ ds) ++ b ∷ xs)))) refl
+no_behind whole ds xs exponent b h = rw (← append_assoc whole ds (b ∷ xs), not_all (whole ++ ds) xs b h, and-false (nat_lt 0 (length ((whole ++ ds) ++ b ∷ xs)))) refl
 
 slash_among : (text : List ℕ) → list_any is_slash text ≡ true → all_ascii_digits text ≡ false
 slash_among text h = by (all_ascii_digits text) refl
@@ -132,7 +125,7 @@ slash_behind_sign (c ∷ cs) h = minus (c == 45) refl
 
 no_exponent : (whole behind text : List ℕ) → list_any is_slash text ≡ true → decimal_form whole behind text ≡ None
 no_exponent whole behind text h =
-    rw (slash_among (without_leading_sign text) (slash_behind_sign text h), and_false (nat_lt 0 (length (without_leading_sign text))), and_false (are_digits (whole ++ behind))) refl
+    rw (slash_among (without_leading_sign text) (slash_behind_sign text h), and-false (nat_lt 0 (length (without_leading_sign text))), and-false (are_digits (whole ++ behind))) refl
 
 -- ---- the two readings agree
 

@@ -8,4 +8,3 @@ pub mod NumberLaws
 pub mod NumberReading
 pub mod NumberText
 pub mod Values
-pub mod Widths

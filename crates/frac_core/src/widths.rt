@@ -1,7 +1,7 @@
 //! Fractions of 64 bits as such of 128, and back.
 ghost use Rattle.std.specs.Prelude.{◌≡◌, ◌↔◌, ◌-◌, ◌^◌, IfSome, IsNone};
 ghost use Rattle.frac_core.specs.Overflow.{IsWithin};
-ghost use Rattle.frac_core.specs.Widths.{narrow_value, wide_value};
+ghost use Rattle.frac_core.specs.Values.{narrow_value, value as wide_value};
 
 use crate::{Frac64, Frac128};
 

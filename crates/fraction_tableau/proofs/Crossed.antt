@@ -10,6 +10,7 @@ use Rattle.exact_algebra.specs.Rational.{ℚ, ◌-ℚ◌, ◌*ℚ◌, neg_ℚ, i
 use Rattle.exact_algebra.proofs.RationalLaws.{ring_ℚ, ≤ℚ_refl}
 use Rattle.exact_algebra.specs.Order.{cmp_ℚ}
 use Rattle.exact_algebra.proofs.OrderLaws.{by_cmp, le_from_not}
+use Rattle.exact_algebra.proofs.Signs.{not_below}
 use Rattle.loss_model.specs.declared.problem.Row.{Row}
 use Rattle.loss_model.specs.declared.problem.Problem.{Problem}
 use Rattle.loss_model.specs.declared.spill.Spill.{Spill}
@@ -54,16 +55,9 @@ below_test x y =
     (λ h. (λ e. absurd (cc e), λ k. absurd (k (subst (λ z. z ≤ℚ x) h (≤ℚ_refl x)))))
     (λ h. (λ e. absurd (cc e), λ k. absurd (k (le_from_not y x h))))
 
-pub not_below_test : (x y : ℚ) → is_lt (cmp_ℚ x y) ≡ false → y ≤ℚ x
-not_below_test x y h = by (decide y x)
-  where
-    by : (y ≤ℚ x) ⊎ ¬ (y ≤ℚ x) → y ≤ℚ x
-    by (inl k) = k
-    by (inr k) = absurd (cc (sym ((below_test x y).1 k) ∙ h))
-
 -- the same of a test that was made
 pub not_below : (x y : ℚ) (b : Bool) → b ≡ is_lt (cmp_ℚ x y) → b ≡ false → y ≤ℚ x
-not_below x y b e h = not_below_test x y (sym e ∙ h)
+not_below x y b e h = not_below x y (sym e ∙ h)
 
 pub is_below_by : (x y : ℚ) (b : Bool) → b ≡ is_lt (cmp_ℚ x y) → b ≡ true → x <ℚ y
 is_below_by x y b e h = (below_test x y).0 (sym e ∙ h)

@@ -6,6 +6,7 @@ use Rattle.std.proofs.lemmas.Option.{slice_get_read}
 use borrow.Author.Tests.{eqb-true, eqb-false}
 use Rattle.exact_algebra.specs.Fraction.{Fraction, rational}
 use Rattle.exact_algebra.specs.Rational.{ℚ, whole}
+use Rattle.exact_algebra.proofs.Lists.{pushed_last}
 use Rattle.loss_model.specs.Problem.{value_at}
 use Rattle.fraction_tableau.specs.Inverses.{HasValueAt}
 
@@ -13,10 +14,6 @@ pub get_front : {X : Type 0} (xs ys : List X) (k : ℕ) → k < length xs → sl
 get_front [] ys k l = absurd (omega arith)
 get_front (x ∷ xs) ys zero l = refl
 get_front (x ∷ xs) ys (suc k) l = get_front xs ys k (omega arith)
-
-pub get_end : {X : Type 0} (xs : List X) (x : X) → slice_get (xs ++ x ∷ []) (length xs) ≡ Some x
-get_end [] x = refl
-get_end (y ∷ xs) x = get_end xs x
 
 module _ {F : Type 0} (value : F → Fraction) where
   read : Option F → ℚ
@@ -28,7 +25,7 @@ module _ {F : Type 0} (value : F → Fraction) where
 
   pub value_end : (xs : List F) (x : F) → value_at value (xs ++ x ∷ []) (length xs) ≡ rational (value x)
   unfolding read
-  value_end xs x = ap read (get_end xs x)
+  value_end xs x = ap read (pushed_last xs x)
 
   -- an item that was read
   pub value_read : (xs : List F) (i : ℕ) (x : F) → i < length xs → x ≡ get_or xs i x → value_at value xs i ≡ rational (value x)

@@ -8,6 +8,7 @@ use Rattle.std.proofs.lemmas.Option.{slice_get_past, slice_get_read}
 use borrow.Author.Tests.{eqb-true, eqb-false}
 use Rattle.exact_algebra.specs.Fraction.{Fraction, rational}
 use Rattle.exact_algebra.specs.Rational.{ℚ, ◌*ℚ◌, inverse, whole}
+use Rattle.exact_algebra.proofs.Lists.{pushed_last}
 use Rattle.frac_core.specs.Overflow.{Overflows}
 use Rattle.frac_core.specs.declared.exact.OpKind.TheVariants.{Div}
 use Rattle.loss_model.specs.declared.spill.Quantity.TheVariants.{PerturbedRatio}
@@ -33,14 +34,14 @@ use Rattle.fraction_tableau.specs.declared.line.Line.{Line}
 use Rattle.fraction_tableau.specs.declared.line.Mover.{Mover}
 use Rattle.fraction_tableau.specs.Lines.{model, at_of, inverse_of, IsLine, IsOrderSpill, IsLineSpill, at_coordinates, at_ratio, at_tie, IsMover, AreMovers, AreMoversBelow, row_at, is_moving, side_is, coord_is, turned_by}
 use Rattle.fraction_tableau.specs.Descents.{IsDescent, IsDescentSpill}
-use Rattle.fraction_tableau.proofs.Lists.{get_front, get_end}
+use Rattle.fraction_tableau.proofs.Lists.{get_front}
 use Rattle.fraction_tableau.proofs.Items.{row_read}
 use Rattle.fraction_tableau.proofs.Refusals.{short_weaker}
 
 no : true ≡ false → ⊥
 no h = cc
 
-change_turned : (d : Direction) (p : Sample) (at : ℕ → ℕ) (a : ℕ → ℕ → ℚ) (j i : ℕ) → change p at a j d i ≡ turned_by d (coord p a i j)
+pub change_turned : (d : Direction) (p : Sample) (at : ℕ → ℕ) (a : ℕ → ℕ → ℚ) (j i : ℕ) → change p at a j d i ≡ turned_by d (coord p a i j)
 change_turned Upward p at a j i = refl
 change_turned Downward p at a j i = refl
 
@@ -126,7 +127,7 @@ module _ {F : Type 0} (value : F → Fraction) (l : Line F) where
       front k lk = ap (λ (o : Option (Mover F)). option_map_or (λ m. m.row) o 0) (get_front xs (m ∷ []) k lk)
 
       end : row_at (xs ++ m ∷ []) (length xs) ≡ n
-      end = row_read (xs ++ m ∷ []) (length xs) m (get_end xs m) ∙ here
+      end = row_read (xs ++ m ∷ []) (length xs) m (pushed_last xs m) ∙ here
 
       each : (k : ℕ) (x : Mover F) → slice_get (xs ++ m ∷ []) k ≡ Some x → IsMover value l x
       each k x e = by (cases_lt k (length xs)) (k == length xs) refl
@@ -134,7 +135,7 @@ module _ {F : Type 0} (value : F → Fraction) (l : Line F) where
           by : (k < length xs) ⊎ (length xs ≤ k) → (t : Bool) → (k == length xs) ≡ t → IsMover value l x
           by (inl lk) t g = h.each k x (sym (get_front xs (m ∷ []) k lk) ∙ e)
           by (inr past) true g =
-              let same : m ≡ x = cc (sym (get_end xs m) ∙ ap (slice_get (xs ++ m ∷ [])) (sym (eqb-true k (length xs) g)) ∙ e) in
+              let same : m ≡ x = cc (sym (pushed_last xs m) ∙ ap (slice_get (xs ++ m ∷ [])) (sym (eqb-true k (length xs) g)) ∙ e) in
               subst (IsMover value l) same mover
           by (inr past) false g =
               let other : k ≢ length xs = eqb-false k (length xs) g in

@@ -3,6 +3,7 @@ use Rattle.std.specs.Prelude.{◌≡◌, ℕ, ◌<◌, List, length, slice_get, 
 use Rattle.std.proofs.Common.{arith, sym, ap, ap₂, subst, ◌∙◌, inl, inr}
 use Rattle.exact_algebra.specs.Fraction.{Fraction, rational}
 use Rattle.exact_algebra.specs.Rational.{ℚ, ◌+ℚ◌, ◌*ℚ◌}
+use Rattle.exact_algebra.proofs.Lists.{item_there}
 use Rattle.loss_model.specs.declared.spill.Spill.{Spill}
 use Rattle.loss_model.specs.declared.spill.Short.{Short}
 use Rattle.loss_model.specs.declared.vertex.Side.{Side}
@@ -25,7 +26,6 @@ use Rattle.fraction_tableau.specs.Lines.{model, at_of, inverse_of, IsLine, HasSi
 use Rattle.fraction_tableau.specs.Descents.{IsDescentSpill, Enters, first_slope}
 use Rattle.fraction_tableau.specs.Next.{IsDualFault}
 use Rattle.fraction_tableau.specs.Standing.{AreDuals, Stands}
-use Rattle.fraction_tableau.proofs.Items.{get_some}
 use Rattle.fraction_tableau.proofs.Refusals.{short_weaker}
 
 -- with the dual values at theta, the basic solution is what stands at the basis
@@ -40,7 +40,7 @@ standing_by {F} value h theta sol is duals are =
   where
     side_here : (i : ℕ) → i < length h.task.problem.rows → slice_get sol.sides i ≡ Some (side_at (sample_of value h) (places h) h.inverse i)
     side_here i li =
-        let found : (s : Side) × (slice_get sol.sides i ≡ Some s) = get_some sol.sides i (omega (arith, li, is.all_sides)) in
+        let found : (s : Side) × (slice_get sol.sides i ≡ Some s) = item_there sol.sides i (omega (arith, li, is.all_sides)) in
         found.1 ∙ ap (λ (s : Side). Some s) (sym (ap (λ (o : Option Side). unwrap_or o Basic) found.1) ∙ is.sides i li)
 
 module _ {F : Type 0} (value : F → Fraction) (h : Place F) (theta : ℚ) (sol : BasicSolution F) (is : IsSolution value (sample_of value h) (places h) h.inverse sol)

@@ -5,11 +5,13 @@ use Rattle.std.specs.declared.cmp.Ordering.{Ordering}
 use Rattle.std.specs.declared.cmp.Ordering.TheVariants.{Less, Equal, Greater}
 use Rattle.std.proofs.Common.{arith, refl, sym, ap, ap₂, subst, ◌∙◌, inl, inr}
 use borrow.Author.Tests.{eqb-true, eqb-false}
+use Rattle.walk_rule.proofs.Trails.{below_from}
 use Rattle.exact_algebra.specs.Fraction.{Fraction, rational}
 use Rattle.exact_algebra.specs.Rational.{ℚ, ◌+ℚ◌, ◌-ℚ◌, whole, ◌≤ℚ◌}
 use Rattle.exact_algebra.proofs.RationalLaws.{≤ℚ_refl, ≤ℚ_trans}
 use Rattle.exact_algebra.specs.Order.{cmp_ℚ, sign_ℚ}
 use Rattle.exact_algebra.proofs.OrderLaws.{cmp_ℚ-Less, cmp_ℚ-not_Less, sign_ℚ-below, sign_ℚ-not_below, le_from_not}
+use Rattle.exact_algebra.proofs.Signs.{not_below}
 use Rattle.loss_model.specs.declared.spill.Spill.{Spill}
 use Rattle.loss_model.specs.declared.vertex.Side.TheVariants.{Up, Down}
 use Rattle.loss_model.specs.Sample.{Sample, up_cost, down_cost}
@@ -22,21 +24,6 @@ use Rattle.pivot_rule.specs.Steps.{slope, IsLeaving}
 use Rattle.pivot_rule.specs.Spills.{IsStepSpill, of_slope}
 use Rattle.fraction_tableau.specs.declared.slopes.Leaving.{Leaving}
 use Rattle.fraction_tableau.specs.Slopes.{IsLesser, IsLeast, IsSteeper}
-
--- what a test of order says
-pub less_from_test : (x y : ℚ) → is_lt (cmp_ℚ x y) ≡ true → x <ℚ y
-less_from_test x y h = (cmp_ℚ-Less x y).0 (by (cmp_ℚ x y) h)
-  where
-    by : (o : Ordering) → is_lt o ≡ true → o ≡ Less
-    by Less h = refl
-    by Equal h = absurd (cc h)
-    by Greater h = absurd (cc h)
-
-pub at_least_from_test : (x y : ℚ) → is_lt (cmp_ℚ x y) ≡ false → y ≤ℚ x
-at_least_from_test x y h = (cmp_ℚ-not_Less x y).0 (λ e. by (sym (ap is_lt e) ∙ h))
-  where
-    by : true ≡ false → ⊥
-    by h = cc
 
 less_le : (x y z : ℚ) → x <ℚ y → y ≤ℚ z → x <ℚ z
 less_le x y z h k back = h (≤ℚ_trans y z x k back)
@@ -106,7 +93,7 @@ module _ {F : Type 0} (value : F → Fraction) (p : Sample) (at : ℕ → ℕ) (
   down_lesser j up down u d h = record { position = refl; is = d; least = least }
     where
       less : rational (value down) ≤ℚ rational (value up)
-      less = le_from_not (rational (value down)) (rational (value up)) (less_from_test (rational (value down)) (rational (value up)) h)
+      less = le_from_not (rational (value down)) (rational (value up)) (below_from (rational (value down)) (rational (value up)) h)
 
       least : (b : Direction) → slope p at a theta j Downward ≤ℚ slope p at a theta j b
       least Downward = ≤ℚ_refl (slope p at a theta j Downward)
@@ -117,7 +104,7 @@ module _ {F : Type 0} (value : F → Fraction) (p : Sample) (at : ℕ → ℕ) (
   up_lesser j up down u d h = record { position = refl; is = u; least = least }
     where
       less : rational (value up) ≤ℚ rational (value down)
-      less = at_least_from_test (rational (value down)) (rational (value up)) h
+      less = not_below (rational (value down)) (rational (value up)) h
 
       least : (b : Direction) → slope p at a theta j Upward ≤ℚ slope p at a theta j b
       least Upward = ≤ℚ_refl (slope p at a theta j Upward)

@@ -14,6 +14,7 @@ use Rattle.exact_algebra.proofs.RationalLaws.{ring_ℚ}
 use Rattle.exact_algebra.proofs.RationalSumLaws.{sum_ℚ-same, sum_ℚ-zero}
 use Rattle.exact_algebra.specs.Order.{cmp_ℚ}
 use Rattle.exact_algebra.proofs.OrderLaws.{cmp_ℚ-Equal}
+use Rattle.exact_algebra.proofs.Comparisons.{not_equal}
 use Rattle.loss_model.specs.declared.spill.Spill.{Spill}
 use Rattle.loss_model.specs.declared.spill.Short.{Short}
 use Rattle.loss_model.specs.Quantities.{IsShortOf, IsCoordinatesSpill}
@@ -40,11 +41,6 @@ bool_is true o h = sym (ap is_lt (h.0 refl))
 bool_is false Less h = h.1 refl
 bool_is false Equal h = refl
 bool_is false Greater h = refl
-
-not_equal : (o : Ordering) → is_eq o ≡ false → o ≢ Equal
-not_equal Less h e = absurd (cc e)
-not_equal Equal h e = absurd (cc h)
-not_equal Greater h e = absurd (cc e)
 
 module _ {F : Type 0} (value : F → Fraction) (l : Line F) (line : IsLine value l) where
   -- beyond the columns there is no coordinate

@@ -6,6 +6,7 @@ use Rattle.std.specs.declared.cmp.Ordering.TheVariants.{Less, Equal, Greater}
 use Rattle.std.proofs.Common.{arith, refl, sym, ap, ◌∙◌}
 use Rattle.exact_algebra.specs.Fraction.{Fraction}
 use Rattle.exact_algebra.specs.Rational.{ℚ}
+use Rattle.exact_algebra.proofs.Lists.{contains_item}
 use Rattle.exact_matrices.specs.Selections.{is_among}
 use Rattle.loss_model.specs.declared.vertex.Side.{Side}
 use Rattle.loss_model.specs.declared.vertex.Side.TheVariants.{Basic}
@@ -96,7 +97,3 @@ module _ {F : Type 0} (value : F → Fraction) (h : Place F) (theta : ℚ) (st :
 -- the rows of a basis differ
 pub distinct_rows : {F : Type 0} (value : F → Fraction) (h : Place F) → IsPlace value h → (j k : ℕ) → j < k → k < length h.rows → slice_index h.rows j ≢ slice_index h.rows k
 distinct_rows value h is_place j k l lk = is_place.is_basis.distinct.apart j k l (omega (arith, lk, is_place.size))
-
--- an item of a list is in it
-pub itself : (xs : List ℕ) (k : ℕ) → k < length xs → Contains xs (slice_index xs k)
-itself xs k l = (k, l, any_default xs k (slice_index xs k) 0 l)

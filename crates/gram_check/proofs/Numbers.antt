@@ -15,7 +15,8 @@ use Rattle.rank_law.specs.Gram.{gram}
 use Rattle.wide_int.specs.Numbers.{total}
 use Rattle.whole_inverse.specs.Shares.{share, share_at, whole_at}
 use Rattle.whole_inverse.proofs.ShareSums.{share-total}
-use Rattle.whole_solution.proofs.Numbers.{rest_share, share_none, whole_read, share_read}
+use Rattle.whole_inverse.proofs.Lists.{share_read}
+use Rattle.whole_solution.proofs.Numbers.{rest_share, share_none, whole_read}
 use Rattle.gram_check.specs.Equations.{IsSumOf, entry, HasGram}
 use Rattle.gram_check.proofs.NormalEquations.{projection_by_gram, length_by_projection}
 

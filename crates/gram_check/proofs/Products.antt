@@ -2,6 +2,7 @@
 use Rattle.std.specs.Prelude.{◌≡◌, ℕ, zero, suc, ℤ, ◌+◌, ◌<◌, ◌+ℤ◌, ◌*ℤ◌, List, [], ◌∷◌, length, drop, get_or, pos, unsigned_abs}
 use Rattle.std.proofs.Common.{arith, refl, sym, ap, ◌∙◌}
 use Rattle.std.proofs.lemmas.Int.{ints}
+use Rattle.frac_core.proofs.Signs.{zero_by_size}
 use Rattle.wide_int.specs.Numbers.{total}
 use Rattle.wide_int.proofs.Totals.{stepped, total-next}
 
@@ -16,9 +17,6 @@ pub one_product : (xs ys : List ℤ) (i : ℕ) (sum y next : ℤ) → i < length
 one_product xs ys i sum y next lx ly before is made =
     stepped (total xs ys) sum next (get_or xs i (pos 0) *ℤ y) (total (drop (i + 1) xs) (drop (i + 1) ys)) (total (drop i xs) (drop i ys)) before
     (total-next i xs ys (pos 0) lx ly ∙ ap (λ z. (get_or xs i (pos 0) *ℤ z) +ℤ total (drop (i + 1) xs) (drop (i + 1) ys)) (get_same ys i (pos 0) y ly ∙ sym is)) made
-
-pub zero_by_size : (n : ℤ) → unsigned_abs n ≡ 0 → n ≡ pos 0
-zero_by_size n e = omega (arith, ints, e)
 
 -- a number of a list is 0 whose size is
 pub zero_read : (xs : List ℤ) (i : ℕ) (x : ℤ) → i < length xs → x ≡ get_or xs i x → unsigned_abs x ≡ 0 → get_or xs i (pos 0) ≡ pos 0

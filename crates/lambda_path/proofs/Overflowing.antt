@@ -7,27 +7,16 @@ use Rattle.frac_core.specs.Overflow.{Overflows as OverflowsAt}
 use Rattle.frac_core.specs.declared.exact.OpKind.{OpKind}
 use Rattle.frac_core.specs.declared.frac128.Frac128.{Frac128}
 use Rattle.frac_core.specs.Values.{exact, value}
+use Rattle.frac_core.proofs.Values.{same_number}
 use Rattle.loss_model.specs.declared.problem.Row.{Row}
 use Rattle.loss_model.specs.declared.spill.Site.{Site}
 use Rattle.loss_model.specs.declared.spill.Spill.{Spill}
 use Rattle.tv_penalty.specs.Operations.{SitedOperation, IsSpillOf, Overflows, NoneOverflows, OverflowsFirst}
+use Rattle.tv_penalty.proofs.Overflowing.{fits}
 use Rattle.lambda_path.specs.declared.fault.PathFault.{PathFault}
 use Rattle.lambda_path.specs.declared.fault.PathFault.TheVariants.{OutOfMemory, TooManyRows, Overflow}
 use Rattle.lambda_path.specs.Faults.{cost_operations, operations_from}
 use Rattle.lambda_path.specs.Steps.{IsCostFault}
-
--- numbers of one value are the same
-same_value : (x y : Frac128) → exact x ≡ exact y → x ≡ y
-same_value x y e =
-    let parts : value x ≡ value y = same_fraction (2 ^ 127 - 1) (value x) (value y) x.within y.within e in
-    λ i. record { num = (parts i).num; den = (parts i).den; within = IsWithin-along (2 ^ 127 - 1) parts x.within y.within i }
-
--- where the operation on these numbers doesn't overflow, none of these operands does
-pub fits : (site : Site) (l r : Frac128) (left right : ℚ) → exact l ≡ left → exact r ≡ right → (OverflowsAt (2 ^ 127 - 1) site.kind (value l) (value r) → ⊥) → Overflows (record { site = site; left = left; right = right }) → ⊥
-fits site l r left right el er not o =
-    let a : o.0.left ≡ l = same_value o.0.left l (o.1.is_left ∙ sym el) in
-    let b : o.0.right ≡ r = same_value o.0.right r (o.1.is_right ∙ sym er) in
-    not (subst (λ z. OverflowsAt (2 ^ 127 - 1) site.kind (value l) (value z)) b (subst (λ z. OverflowsAt (2 ^ 127 - 1) site.kind (value z) (value o.0.right)) a o.1.overflows))
 
 -- the spill of an operation on these numbers, which overflows; its site is the one before, with its kind
 pub spilt : (from site : Site) (kind : OpKind) (l r : Frac128) (left right : ℚ) (s : Spill Frac128) → from ≡ site → exact l ≡ left → exact r ≡ right → s ≡ record { site = record from { kind = kind }; left = l; right = r }

@@ -12,6 +12,7 @@ use Rattle.exact_algebra.proofs.RationalSumLaws.{sum_ℚ-same, sum_ℚ-scale, �
 use Rattle.exact_algebra.proofs.Inverses.{zero_from_product}
 use Rattle.exact_algebra.specs.Order.{cmp_ℚ}
 use Rattle.exact_algebra.proofs.OrderLaws.{cmp_ℚ-Less, ≤ℚ-minus, ≤ℚ-from_mul, le_from_not}
+use Rattle.exact_algebra.proofs.Signs.{product_not_negative}
 use Rattle.exact_matrices.specs.Terms.{delta}
 use Rattle.exact_matrices.proofs.TermLaws.{if-same, if-other, delta-turned, sum_ℚ-delta}
 use Rattle.loss_model.specs.Sample.{Sample, up_cost, down_cost, fitted, residual, row_loss, loss, Minimises}
@@ -19,7 +20,7 @@ use Rattle.loss_model.specs.Spill.{abs_ℚ}
 use Rattle.loss_model.specs.FullRank.{HasFullRank}
 use Rattle.loss_model.specs.Segment.{Segments, Covers}
 use Rattle.pivot_rule.specs.Duals.{HasCosts}
-use Rattle.pivot_rule.proofs.Entering.{abs_above, abs_below, product_not_negative}
+use Rattle.pivot_rule.proofs.Entering.{abs_above, abs_below}
 use Rattle.lambda_path.specs.Paths.{check_loss, data_loss, absolute_sum, path_loss, IsPathOf}
 use Rattle.lambda_path.specs.Laws.{PathLoss, SumFalls, SumNeverRises, PathHasFullRank, PathHasCosts}
 

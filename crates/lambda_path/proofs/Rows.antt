@@ -8,6 +8,7 @@ use Rattle.std.proofs.lemmas.List.FromFn.{get_or-map-range_with_len, length-map-
 use Rattle.std.proofs.lemmas.Option.{slice_get_cases}
 use borrow.Author.Tests.{eqb-true, eqb-false}
 use Rattle.exact_algebra.specs.Rational.{ℚ, ◌-ℚ◌, ◌*ℚ◌, whole}
+use Rattle.exact_algebra.proofs.Lists.{item_at, mapped_more}
 use Rattle.exact_matrices.specs.Terms.{delta}
 use Rattle.exact_matrices.proofs.TermLaws.{if-same, if-other}
 use Rattle.frac_core.specs.Limits.{most_rows}
@@ -20,14 +21,6 @@ use Rattle.loss_model.specs.Values.{exact_row}
 use Rattle.tv_penalty.specs.Smoothings.{PenaltyOf, placed, unit_row, unit_rows}
 use Rattle.lambda_path.specs.Paths.{IsPathOf}
 use Rattle.lambda_path.specs.Rows.{data_row, penalty_row, rows_of}
-
--- the step of a loop that adds w, which is to g what the item at k is to f
-pub mapped_more : {W X Y : Type 0} (g : W → Y) (f : X → Y) (xs : List X) (k : ℕ) (x : X) (start : List Y) (olds news : List W) (w : W) → k < length xs → x ≡ get_or xs k x → map g olds ≡ start ++ map f (take k xs) → news ≡ olds ++ w ∷ []
-    → g w ≡ f x → map g news ≡ start ++ map f (take (k + 1) xs)
-mapped_more g f xs k x start olds news w within here so_far more made =
-    ap (map g) more ∙ map-append g olds (w ∷ []) ∙ ap (λ y. map g olds ++ y ∷ []) (made ∙ ap f here) ∙ ap (λ z. z ++ f (get_or xs k x) ∷ []) so_far
-    ∙ append_assoc start (map f (take k xs)) (f (get_or xs k x) ∷ [])
-    ∙ ap (λ z. start ++ z) (sym (map-append f (take k xs) (get_or xs k x ∷ [])) ∙ ap (map f) (sym (take_more xs k x within)))
 
 -- what is made of what is made of items
 map_twice : {X Y Z : Type 0} (f : Y → Z) (g : X → Y) (xs : List X) → map (λ x. f (g x)) xs ≡ map f (map g xs)
@@ -84,10 +77,6 @@ length-placed columns k l =
     ∙ (let e : k + suc (columns - (k + 1)) ≡ columns = omega (arith, l) in e)
 
 -- ---- the problem
-
--- the item at a place
-item_at : {X : Type 0} (xs : List X) (i : ℕ) → i < length xs → (x : X) × (slice_get xs i ≡ Some x) × (get_or xs i x ≡ x)
-item_at xs i l = elim (slice_get_cases xs i).1 [ inl w ↦ (w.0, w.2, w.3) | inr h ↦ absurd (omega arith) ]
 
 module _ (p q : Problem Frac128) (first : ℕ) (tau : ℚ) (within : first ≤ p.columns) (columns : q.columns ≡ p.columns) (rows : map exact_row q.rows ≡ rows_of p first tau) where
   abbrev units : List PenaltyOf

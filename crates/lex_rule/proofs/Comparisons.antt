@@ -9,6 +9,7 @@ use Rattle.exact_algebra.specs.Fraction.{Fraction, rational}
 use Rattle.exact_algebra.specs.Rational.{ℚ, ◌*ℚ◌, neg_ℚ, inverse, whole}
 use Rattle.exact_algebra.specs.Order.{cmp_ℚ}
 use Rattle.exact_algebra.proofs.OrderLaws.{cmp_ℚ-Equal, cmp_ℚ_swap}
+use Rattle.exact_algebra.proofs.Comparisons.{differs}
 use Rattle.loss_model.specs.declared.vertex.Side.{Side}
 use Rattle.loss_model.specs.declared.vertex.Side.TheVariants.{Up, Down}
 use Rattle.loss_model.specs.declared.spill.Spill.{Spill}
@@ -27,11 +28,6 @@ pub equal_from : (o : Ordering) → is_ne o ≡ false → o ≡ Equal
 equal_from Less h = absurd (cc h)
 equal_from Equal h = refl
 equal_from Greater h = absurd (cc h)
-
-pub not_equal : (o : Ordering) → is_ne o ≡ true → o ≢ Equal
-not_equal Less h e = cc e
-not_equal Equal h e = absurd (cc h)
-not_equal Greater h e = cc e
 
 -- ---- an entry of a ratio
 
@@ -134,7 +130,7 @@ lt_less Greater = (λ yes. absurd (cc yes), λ e. absurd (cc e))
 -- lists that differ at their first entries compare in the same way with the others
 pub less_from_first : (rows end : ℕ) (o : Ordering) (f g : ℕ → ℚ) → end ≤ rows → o ≡ lex_cmp (suc end) f g → is_ne o ≡ true → IsTrue (is_lt o) ↔ (lex_cmp (suc rows) f g ≡ Less)
 less_from_first rows end o f g l is differ =
-    let same : o ≡ lex_cmp (suc rows) f g = is ∙ sym (lex_cmp-longer (suc end) (suc rows) f g (omega arith) (λ e. not_equal o differ (is ∙ e))) in
+    let same : o ≡ lex_cmp (suc rows) f g = is ∙ sym (lex_cmp-longer (suc end) (suc rows) f g (omega arith) (λ e. differs o differ (is ∙ e))) in
     subst (λ p. IsTrue (is_lt o) ↔ (p ≡ Less)) same (lt_less o)
 
 pub side_cases : (o : Ordering) → (side_of o ≡ Up) ⊎ (side_of o ≡ Down)

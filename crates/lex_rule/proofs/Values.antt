@@ -9,11 +9,7 @@ use Rattle.exact_algebra.specs.Order.{sign_ℚ}
 use Rattle.exact_algebra.proofs.OrderLaws.{sign_ℚ-not_below}
 use Rattle.loss_model.specs.Problem.{value_at}
 use Rattle.loss_model.specs.Spill.{abs_ℚ}
-
--- the value of an item of a list
-pub value_read : {F : Type 0} (value : F → Fraction) (xs : List F) (i : ℕ) (x : F) → i < length xs → x ≡ get_or xs i x → rational (value x) ≡ value_at value xs i
-value_read {F} value xs i x within is =
-    sym (ap (λ (o : Option F). option_map_or (λ x. rational (value x)) o (whole (pos 0))) (slice_get_read xs (length xs) i x refl within is))
+use Rattle.loss_model.proofs.Products.{value_read}
 
 -- a value that isn't negative is its own absolute value
 pub own_size : (x : ℚ) → pos 0 ≤ℤ sign_ℚ x → x ≡ abs_ℚ x

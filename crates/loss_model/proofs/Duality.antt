@@ -19,7 +19,7 @@ abbrev IsBalanced : Sample → (ℕ → ℚ) → Type 0
 IsBalanced p e = (k : ℕ) → k < p.columns → sum_ℚ p.rows (λ i. e i *ℚ p.x i k) ≡ whole (pos 0)
 
 -- a value within its bounds times a difference of parts is at most the cost of the parts
-bounded : (u v e a b : ℚ) → neg_ℚ v ≤ℚ e → e ≤ℚ u → whole (pos 0) ≤ℚ a → whole (pos 0) ≤ℚ b → (e *ℚ (a -ℚ b)) ≤ℚ ((u *ℚ a) +ℚ (v *ℚ b))
+pub bounded : (u v e a b : ℚ) → neg_ℚ v ≤ℚ e → e ≤ℚ u → whole (pos 0) ≤ℚ a → whole (pos 0) ≤ℚ b → (e *ℚ (a -ℚ b)) ≤ℚ ((u *ℚ a) +ℚ (v *ℚ b))
 bounded u v e a b lower upper p q =
     let above = ≤ℚ_mul e u a p upper in
     let below = ≤ℚ_mul (neg_ℚ v) e b q lower in

@@ -8,9 +8,10 @@ use Rattle.exact_algebra.proofs.RationalLaws.{whole-add, whole-mul, ring_ℚ, ri
 use Rattle.exact_algebra.specs.Fraction.{Fraction, rational}
 use Rattle.exact_algebra.proofs.WholeNumbers.{le_from_whole}
 use Rattle.exact_algebra.proofs.OrderLaws.{≤ℚ-minus}
+use Rattle.exact_algebra.proofs.Signs.{product_not_negative, whole_not_negative}
 use Rattle.loss_model.specs.Dual.{mix}
 use Rattle.loss_model.specs.Laws.{IntervalIsMixes}
-use Rattle.loss_model.proofs.Quotients.{inverse_of, whole-quotient, whole-sub, cancel_whole, whole_not_negative, product_not_negative}
+use Rattle.loss_model.proofs.Quotients.{inverse_of, whole-quotient, whole-sub, cancel_whole}
 
 -- how far b is above a, in units of the three denominators
 gap : Fraction → Fraction → Fraction → ℤ

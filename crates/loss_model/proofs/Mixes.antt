@@ -7,10 +7,11 @@ use Rattle.exact_algebra.proofs.RationalLaws.{whole-add, ring_ℚ, ring_by_ℚ, 
 use Rattle.exact_algebra.specs.RationalSums.{sum_ℚ, positive_ℚ, negative_ℚ}
 use Rattle.exact_algebra.proofs.RationalSumLaws.{≤ℚ_add2, sum_ℚ-same, sum_ℚ-mix}
 use Rattle.exact_algebra.proofs.OrderLaws.{≤ℚ-minus, inverse_not_negative}
+use Rattle.exact_algebra.proofs.Signs.{product_not_negative, whole_not_negative}
 use Rattle.loss_model.specs.Sample.{Sample, up_cost, down_cost, residual, row_loss, loss, Minimises}
 use Rattle.loss_model.specs.Dual.{IsFeasible, dual_objective, IsDual, mix}
 use Rattle.loss_model.specs.Laws.{MixIsDual, MinimisesBetween}
-use Rattle.loss_model.proofs.Quotients.{inverse_of, product_not_negative, whole_not_negative}
+use Rattle.loss_model.proofs.Quotients.{inverse_of}
 use Rattle.loss_model.proofs.Duality.{minimum}
 
 -- equal values of all rows are dual alike

@@ -7,7 +7,7 @@ use Rattle.frac_core.specs.declared.frac64.Frac64.{Frac64}
 use Rattle.frac_core.specs.declared.frac128.Frac128.{Frac128}
 use Rattle.frac_core.specs.Limits.{most_rows}
 use Rattle.frac_core.specs.Overflow.{IsWithin}
-use Rattle.frac_core.specs.Widths.{narrow_value, wide_value}
+use Rattle.frac_core.specs.Values.{narrow_value, value as wide_value}
 use Rattle.loss_model.specs.declared.problem.Row.{Row}
 use Rattle.loss_model.specs.declared.problem.Problem.{Problem}
 use Rattle.loss_model.specs.Problem.{IsWellShaped}

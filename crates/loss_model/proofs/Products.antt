@@ -19,6 +19,10 @@ use Rattle.loss_model.specs.Spill.{Products, partial_sum, IsTermSpill, IsSpillOf
 pub value_at-item : {F : Type 0} (value : F → Fraction) (xs : List F) (k : ℕ) (x : F) → k < length xs → x ≡ get_or xs k x → value_at value xs k ≡ rational (value x)
 value_at-item value xs k x l e = ap (λ o. option_map_or (λ x. rational (value x)) o (whole (pos 0))) (slice_get_read xs (length xs) k x refl l e)
 
+-- the value of an item that was read
+pub value_read : {F : Type 0} (value : F → Fraction) (xs : List F) (i : ℕ) (x : F) → i < length xs → x ≡ get_or xs i x → rational (value x) ≡ value_at value xs i
+value_read value xs i x within is = sym (value_at-item value xs i x within is)
+
 pub partial_sum-zero : (t : Products) → t.first ≡ partial_sum t 0
 partial_sum-zero t = ring_ℚ (t.first ∷ []) v0 (v0 ⊞ number (pos 0)) refl
 

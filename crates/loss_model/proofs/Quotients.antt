@@ -9,6 +9,7 @@ use Rattle.exact_algebra.proofs.WholeNumbers.{same_from_whole, whole-le, le_from
 use Rattle.exact_algebra.proofs.Inverses.{*ℚ_cancel}
 use Rattle.exact_algebra.proofs.OrderLaws.{≤ℚ-from_mul}
 use Rattle.exact_algebra.proofs.Quotients.{denominator-times}
+use Rattle.exact_algebra.proofs.Signs.{product_not_negative, whole_not_negative}
 
 whole_nonzero : (n : ℕ) → 1 ≤ n → whole (pos n) ≡ whole (pos 0) → ⊥
 whole_nonzero n h e = absurd (omega (arith, ints, same_from_whole (pos n) (pos 0) e))
@@ -23,12 +24,6 @@ whole-quotient c d h = sym (denominator-times c d h)
 
 pub whole-sub : (a b : ℤ) → whole (a -ℤ b) ≡ whole a -ℚ whole b
 whole-sub a b = whole-add a (neg_ℤ b) ∙ ap (λ z. whole a +ℚ z) (whole-neg b)
-
-pub whole_not_negative : (n : ℕ) → whole (pos 0) ≤ℚ whole (pos n)
-whole_not_negative n = whole-le (pos 0) (pos n) (omega (arith, ints))
-
-pub product_not_negative : (x y : ℚ) → whole (pos 0) ≤ℚ x → whole (pos 0) ≤ℚ y → whole (pos 0) ≤ℚ (x *ℚ y)
-product_not_negative x y h k = subst (λ z. z ≤ℚ (x *ℚ y)) (ring_ℚ (x ∷ []) (v0 ⊠ number (pos 0)) (number (pos 0)) refl) (≤ℚ_mul (whole (pos 0)) y x h k)
 
 -- a positive whole number can be taken away from both sides
 pub cancel_whole : (n : ℕ) (x y : ℚ) → 1 ≤ n → whole (pos n) *ℚ x ≡ whole (pos n) *ℚ y → x ≡ y

@@ -10,6 +10,7 @@ use Rattle.exact_algebra.proofs.RationalSumLaws.{≤ℚ_from}
 use Rattle.exact_algebra.specs.Order.{cmp_ℚ}
 use Rattle.exact_algebra.proofs.OrderLaws.{cmp_ℚ-Less, le_from_not, ≤ℚ-minus, inverse_not_negative}
 use Rattle.exact_algebra.specs.Fraction.{Fraction}
+use Rattle.exact_algebra.proofs.Signs.{product_not_negative}
 use Rattle.loss_model.specs.declared.problem.Problem.{Problem}
 use Rattle.loss_model.specs.declared.vertex.Side.{Side}
 use Rattle.loss_model.specs.declared.vertex.Side.TheVariants.{Up, Down}
@@ -19,7 +20,6 @@ use Rattle.loss_model.specs.Dual.{IsDataRow}
 use Rattle.loss_model.specs.Problem.{sample}
 use Rattle.loss_model.specs.Vertex.{value_of_side, basic_value, dual_value}
 use Rattle.loss_model.specs.Laws.{RankscoresAreBounded, AboveScoresOne, BelowScoresZero, SidesAreScores}
-use Rattle.loss_model.proofs.Quotients.{product_not_negative}
 
 -- what comes before another value differs from it
 less-ne : (x y : ℚ) → cmp_ℚ x y ≡ Less → y ≢ x

@@ -1,6 +1,6 @@
 //! A problem's numbers in 64 bits, where all of them fit.
 ghost use Rattle.std.specs.Prelude.{◌≡◌, ◌↔◌, All, map, IfOk, IfErr, IfSome, IsNone};
-ghost use Rattle.frac_core.specs.Widths.{narrow_value, wide_value};
+ghost use Rattle.frac_core.specs.Values.{narrow_value, value as wide_value};
 ghost use Rattle.loss_model.specs.Problem.{IsWellShaped};
 ghost use Rattle.loss_model.specs.Widths.{row_by, problem_by, IsNarrow, IsNarrowRow};
 ghost use Rattle.loss_model.specs.Unfit.{IsRefusal};

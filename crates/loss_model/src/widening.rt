@@ -1,6 +1,6 @@
 //! What a solver answers in 64 bits, with the same values in 128.
 ghost use Rattle.std.specs.Prelude.{◌≡◌, map, option_map, IfOk};
-ghost use Rattle.frac_core.specs.Widths.{narrow_value, wide_value};
+ghost use Rattle.frac_core.specs.Values.{narrow_value, value as wide_value};
 ghost use Rattle.loss_model.specs.Widths.{vertex_by, segment_by, exchange_by, trail_by, process_by, bound_by, beyond_by, end_by, interval_by, spill_by, stop_by};
 
 use crate::interval::{Beyond, Bound, End, Interval};

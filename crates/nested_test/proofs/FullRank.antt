@@ -10,6 +10,7 @@ use Rattle.exact_algebra.specs.Solver.{number, ◌⊞◌, ◌⊠◌, v0, v1, v2}
 use Rattle.exact_algebra.specs.Rational.{ℚ, ◌+ℚ◌, ◌*ℚ◌, whole}
 use Rattle.exact_algebra.proofs.RationalLaws.{ring_ℚ}
 use Rattle.exact_algebra.specs.RationalSums.{sum_ℚ}
+use Rattle.exact_algebra.proofs.RationalSumLaws.{sum_ℚ-first}
 use Rattle.loss_model.specs.declared.problem.Problem.{Problem}
 use Rattle.loss_model.specs.declared.problem.Row.{Row}
 use Rattle.loss_model.specs.FullRank.{HasFullRank}
@@ -18,13 +19,6 @@ use Rattle.loss_model.specs.Sample.{fitted}
 use Rattle.nested_test.specs.Restricted.{AreTested, is_tested, without, restricted_row, restricted_problem}
 use Rattle.nested_test.specs.Laws.{RestrictedHasFullRank}
 use Rattle.nested_test.proofs.Restrictions.{size_without}
-
--- a sum by its first term
-sum_front : (n : ℕ) (f : ℕ → ℚ) → sum_ℚ (suc n) f ≡ f 0 +ℚ sum_ℚ n (λ k. f (suc k))
-sum_front zero f = ring_ℚ (f 0 ∷ []) (number (pos 0) ⊞ v0) (v0 ⊞ number (pos 0)) refl
-sum_front (suc n) f =
-    ap (λ z. z +ℚ f (suc n)) (sum_front n f)
-    ∙ ring_ℚ (f 0 ∷ sum_ℚ n (λ k. f (suc k)) ∷ f (suc n) ∷ []) ((v0 ⊞ v1) ⊞ v2) (v0 ⊞ (v1 ⊞ v2)) refl
 
 -- some list of this length
 noughts : ℕ → List ℕ
@@ -66,7 +60,7 @@ module _ {F : Type 0} (value : F → Fraction) where
   unfolding along
   sum_is [] b = refl
   sum_is (x ∷ xs) b =
-      sum_front (length xs) (λ k. value_at value (x ∷ xs) k *ℚ b k)
+      sum_ℚ-first (length xs) (λ k. value_at value (x ∷ xs) k *ℚ b k)
       ∙ ap (λ z. (rational (value x) *ℚ b 0) +ℚ z) (sum_is xs (λ j. b (suc j)))
 
   spread_fits : (tested : List ℕ) (k : ℕ) (xs : List F) (c : ℕ → ℚ) → along xs (spread tested k c) ≡ along (without tested k xs) c

@@ -8,13 +8,13 @@ use Rattle.exact_algebra.proofs.RationalLaws.{ring_ℚ}
 use Rattle.exact_algebra.specs.RationalSums.{sum_ℚ}
 use Rattle.exact_algebra.proofs.RationalSumLaws.{sum_ℚ-same, sum_ℚ-scale, sum_ℚ-swap}
 use Rattle.exact_algebra.proofs.OrderLaws.{sign_ℚ-not_below, sign_ℚ-whole}
+use Rattle.exact_algebra.proofs.Signs.{product_not_negative}
 use Rattle.exact_matrices.specs.Terms.{delta}
 use Rattle.exact_matrices.proofs.TermLaws.{sum_ℚ-delta, delta-turned}
 use Rattle.exact_matrices.specs.Matrices.{AreInverse}
 use Rattle.exact_matrices.specs.Selections.{is_among, AreDistinct, among}
 use Rattle.exact_matrices.proofs.SelectionLaws.{sum_ℚ-among, sum_ℚ-split}
 use Rattle.loss_model.specs.Sample.{Sample}
-use Rattle.loss_model.proofs.Quotients.{product_not_negative}
 use Rattle.pivot_rule.proofs.Among.{among_at, among_place}
 use Rattle.rank_law.specs.Gram.{gram}
 use Rattle.rank_law.proofs.Lengths.{squares_not_negative}

@@ -10,6 +10,8 @@ use Rattle.exact_algebra.proofs.RationalLaws.{ring_ℚ, ring_by_ℚ, ≤ℚ_refl
 use Rattle.exact_algebra.proofs.Inverses.{inverse-neg}
 use Rattle.exact_algebra.specs.Order.{cmp_ℚ}
 use Rattle.exact_algebra.proofs.OrderLaws.{cmp_ℚ-Less, cmp_ℚ-Greater, le_from_not}
+use Rattle.exact_algebra.proofs.Comparisons.{is_less, is_greater}
+use Rattle.exact_algebra.proofs.Signs.{neg-neg}
 use Rattle.loss_model.specs.declared.vertex.Side.TheVariants.{Up, Down}
 use Rattle.loss_model.specs.Sample.{Sample}
 use Rattle.loss_model.specs.Spill.{abs_ℚ}
@@ -25,9 +27,9 @@ use Rattle.pivot_rule.specs.Duals.{◌<ℚ◌}
 use Rattle.pivot_rule.specs.Steps.{is_towards, change, moves, is_before}
 use Rattle.pivot_rule.specs.Responses.{response}
 use Rattle.pivot_rule.proofs.Bounds.{is_basic}
-use Rattle.pivot_rule.proofs.Entering.{abs_above, abs_below, double_neg}
+use Rattle.pivot_rule.proofs.Entering.{abs_above, abs_below}
 use Rattle.pivot_rule.proofs.Exchanged.{perturbed_is}
-use Rattle.pivot_rule.proofs.Passing.{mover_outside, less_from}
+use Rattle.pivot_rule.proofs.Passing.{mover_outside}
 use Rattle.pivot_rule.proofs.Sides.{sign, side_outside}
 use Rattle.walk_rule.specs.Walks.{AreExchanged}
 use Rattle.walk_rule.proofs.Lines.{positive_neg, negative_neg, le_by}
@@ -35,17 +37,12 @@ use Rattle.walk_rule.proofs.Lists.{cmp_by, lex_cmp-by, sign_scaled, sign_negated
 use Rattle.walk_rule.proofs.Exchanges.{residual_next, outside_from, outside_test}
 use Rattle.walk_rule.proofs.Moved.{ratios, entries, some, ratio_is, stays_out}
 
-greater_from : (o : Ordering) → is_gt o ≡ true → o ≡ Greater
-greater_from Less h = absurd (cc h)
-greater_from Equal h = absurd (cc h)
-greater_from Greater h = refl
-
 module _ (p : Sample) (at : ℕ → ℕ) (a : ℕ → ℕ → ℚ) (j i : ℕ) where
   -- the size of a coordinate, where what it changes falls or rises
   abs_falling : (d : Direction) → change p at a j d i <ℚ whole (pos 0) → abs_ℚ (coord p a i j) ≡ neg_ℚ (change p at a j d i)
   abs_falling Upward h = abs_below (coord p a i j) (le_from_not (coord p a i j) (whole (pos 0)) h)
   abs_falling Downward h =
-      abs_above (coord p a i j) (le_from_not (whole (pos 0)) (coord p a i j) (negative_neg (coord p a i j) h)) ∙ sym (double_neg (coord p a i j))
+      abs_above (coord p a i j) (le_from_not (whole (pos 0)) (coord p a i j) (negative_neg (coord p a i j) h)) ∙ sym (neg-neg (coord p a i j))
 
   abs_rising : (d : Direction) → whole (pos 0) <ℚ change p at a j d i → abs_ℚ (coord p a i j) ≡ change p at a j d i
   abs_rising Upward h = abs_above (coord p a i j) (le_from_not (whole (pos 0)) (coord p a i j) h)
@@ -76,10 +73,10 @@ module _ (p : Sample) (at : ℕ → ℕ) (a : ℕ → ℕ → ℚ) (basis : IsBa
 
       by : (o : Ordering) → sign p at a i ≡ o → IsKnown
       by Greater e =
-          let falls : ch <ℚ whole (pos 0) = (cmp_ℚ-Less ch (whole (pos 0))).0 (less_from (cmp_ℚ ch (whole (pos 0))) (sym (ap (λ s. is_towards s ch) (side Greater e)) ∙ mover)) in
+          let falls : ch <ℚ whole (pos 0) = (cmp_ℚ-Less ch (whole (pos 0))).0 (is_less (cmp_ℚ ch (whole (pos 0))) (sym (ap (λ s. is_towards s ch) (side Greater e)) ∙ mover)) in
           inl (e, falls, abs_falling p at a j i d falls)
       by Less e =
-          let rises : whole (pos 0) <ℚ ch = (cmp_ℚ-Greater ch (whole (pos 0))).0 (greater_from (cmp_ℚ ch (whole (pos 0))) (sym (ap (λ s. is_towards s ch) (side Less e)) ∙ mover)) in
+          let rises : whole (pos 0) <ℚ ch = (cmp_ℚ-Greater ch (whole (pos 0))).0 (is_greater (cmp_ℚ ch (whole (pos 0))) (sym (ap (λ s. is_towards s ch) (side Less e)) ∙ mover)) in
           inr (e, rises, abs_rising p at a j i d rises)
       by Equal e = absurd (not_zero p.rows p.columns at (outside_row p at a i) li e)
 
@@ -133,7 +130,7 @@ module _ (p : Sample) (at : ℕ → ℕ) (a : ℕ → ℕ → ℚ) (basis : IsBa
       ahead =
           lex_cmp-by (suc p.rows) (λ m. ρ r m -ℚ ρ i m) zeros (ρ r) (ρ i) (λ m. cmp_by (ρ r m -ℚ ρ i m) (whole (pos 0)) (ρ r m) (ρ i m) (ring_ℚ (ρ r m ∷ ρ i m ∷ []) (number (pos 0) ⊟ (v0 ⊟ v1)) (v1 ⊟ v0) refl))
           ∙ lex_cmp_swap (suc p.rows) (ρ i) (ρ r)
-          ∙ ap ordering_reverse (less_from (lex_cmp (suc p.rows) (ρ i) (ρ r)) earlier)
+          ∙ ap ordering_reverse (is_less (lex_cmp (suc p.rows) (ρ i) (ρ r)) earlier)
 
       signed_after : side_at p next b i ≡ side_of (lex_cmp (suc p.rows) (perturbed p.columns next (outside_row p next b i)) zeros)
       signed_after = side_outside p next b i (outside_test p next b after i outside_after)

@@ -5,6 +5,7 @@ use Rattle.std.specs.Prelude.{◌≡◌, ◌≢◌, ◌⊎◌, ℕ, zero, suc, �
 use Rattle.std.specs.Ordering.{ordering_reverse}
 use Rattle.std.specs.declared.cmp.Ordering.TheVariants.{Less, Greater}
 use Rattle.std.proofs.Common.{arith, refl, sym, ap, ap₂, subst, ◌∙◌, inl, inr}
+use Rattle.std.proofs.lemmas.Bool.{and_parts}
 use borrow.Author.Tests.{eqb-true, eqb-false}
 use Rattle.exact_algebra.specs.Solver.{var, number, negated, ◌⊞◌, ◌⊟◌, ◌⊠◌, v0, v1, v2, v3, v4, v5}
 use Rattle.exact_algebra.specs.Rational.{ℚ, ◌+ℚ◌, ◌-ℚ◌, ◌*ℚ◌, neg_ℚ, inverse, whole, ◌≤ℚ◌}
@@ -13,6 +14,7 @@ use Rattle.exact_algebra.specs.RationalSums.{sum_ℚ}
 use Rattle.exact_algebra.proofs.RationalSumLaws.{sum_ℚ-same, sum_ℚ-zero, sum_ℚ-add, sum_ℚ-mix}
 use Rattle.exact_algebra.proofs.Inverses.{inverse-neg}
 use Rattle.exact_algebra.proofs.OrderLaws.{by_cmp}
+use Rattle.exact_algebra.proofs.Signs.{sum_not_negative, product_not_negative}
 use Rattle.exact_matrices.proofs.TermLaws.{if-same, sum_ℚ-replaced}
 use Rattle.loss_model.specs.declared.vertex.Side.{Side}
 use Rattle.loss_model.specs.declared.vertex.Side.TheVariants.{Up, Down, Basic}
@@ -33,7 +35,6 @@ use Rattle.pivot_rule.specs.Steps.{slope, change, moves, is_before, passing, slo
 use Rattle.pivot_rule.specs.Responses.{residual_for, response}
 use Rattle.pivot_rule.proofs.Among.{among_at}
 use Rattle.pivot_rule.proofs.Bounds.{is_basic, bound, dual_is}
-use Rattle.pivot_rule.proofs.Entering.{product_not_negative, sum_not_negative}
 use Rattle.pivot_rule.proofs.Exchanged.{perturbed_is}
 use Rattle.pivot_rule.proofs.Passing.{no, mover_some, mover_outside, mover_order}
 use Rattle.pivot_rule.proofs.Sides.{side_basic, side_outside}
@@ -52,11 +53,6 @@ sum_above n u v h k =
     ∙ ap ordering_reverse (less-trans n zeros v (λ m. u m +ℚ v m) (lex_cmp_swap n v zeros ∙ ap ordering_reverse k)
     (lex_cmp-by n v (λ m. u m +ℚ v m) zeros u (λ m. cmp_by (v m) (u m +ℚ v m) (whole (pos 0)) (u m) (ring_ℚ (u m ∷ v m ∷ []) ((v0 ⊞ v1) ⊟ v1) (v0 ⊟ number (pos 0)) refl))
     ∙ lex_cmp_swap n u zeros ∙ ap ordering_reverse h))
-
-both_true : (s t : Bool) → (s && t) ≡ true → (s ≡ true) × (t ≡ true)
-both_true true true h = (refl, refl)
-both_true true false h = absurd (no (sym h))
-both_true false t h = absurd (no (sym h))
 
 module _ (p : Sample) (at next : ℕ → ℕ) (a b : ℕ → ℕ → ℚ) (theta : ℚ) (j r : ℕ) (d : Direction) (basis : IsBasis p at a) (after : IsBasis p next b) (ex : AreExchanged p.columns at next j r) (lj : j < p.columns)
     (enters : IsEntering p at a theta j d r) where
@@ -136,7 +132,7 @@ module _ (p : Sample) (at next : ℕ → ℕ) (a b : ℕ → ℕ → ℚ) (theta
   not_mover i e = by (is_passed i) refl
     where
       by : (s : Bool) → is_passed i ≡ s → is_passed i ≡ false
-      by true h = absurd (no (sym e ∙ mover_outside p at a j d i (both_true (moves p at a j d i) (is_before p at a j i r) h).0))
+      by true h = absurd (no (sym e ∙ mover_outside p at a j d i (and_parts (moves p at a j d i) (is_before p at a j i r) h).0))
       by false h = h
 
   -- the row that leaves
@@ -216,7 +212,7 @@ module _ (p : Sample) (at next : ℕ → ℕ) (a b : ℕ → ℕ → ℚ) (theta
       by true h f k g l = let here : i ≡ at j = eqb-true i (at j) h in subst (λ i. new i *ℚ R' m i ≡ given true m i) (sym here) (leaves m)
       by false h true k g l = let here : i ≡ r = eqb-true i r k in subst (λ i. new i *ℚ R' m i ≡ given false m i) (sym here) (entered m)
       by false h false k true l =
-          let two : (moves p at a j d i ≡ true) × (is_before p at a j i r ≡ true) = both_true (moves p at a j d i) (is_before p at a j i r) l in
+          let two : (moves p at a j d i ≡ true) × (is_before p at a j i r ≡ true) = and_parts (moves p at a j d i) (is_before p at a j i r) l in
           passed i li two.0 two.1 (eqb-false i r k) m
           ∙ ap (λ y. ((whole (pos 1) *ℚ (old i *ℚ R m i)) +ℚ (neg_ℚ (q m) *ℚ (old i *ℚ c i))) +ℚ (whole (pos 0) +ℚ ((ρ r m *ℚ y) +ℚ (whole (negsuc 0) *ℚ (y *ℚ ρ i m))))) (sym (t_all i l))
       by false h false k false l =
@@ -316,7 +312,7 @@ module _ (p : Sample) (at next : ℕ → ℕ) (a b : ℕ → ℕ → ℚ) (theta
             ∙ sum_above (suc p.rows) (fall k) (λ m. t k *ℚ ρ k m) rest (sign_scaled (suc p.rows) (t k) (ρ k) h ∙ ratio_positive p at a basis j d k inside two.0))
           where
             two : (moves p at a j d k ≡ true) × (is_before p at a j k r ≡ true)
-            two = both_true (moves p at a j d k) (is_before p at a j k r) e
+            two = and_parts (moves p at a j d k) (is_before p at a j k r) e
 
             not_negative : whole (pos 0) ≤ℚ passing p at a theta j k
             not_negative = product_not_negative (abs_ℚ (c k)) (u k +ℚ w k) (abs_not_negative (c k)) (sum_not_negative (u k) (w k) (costs.up k inside) (costs.down k inside))

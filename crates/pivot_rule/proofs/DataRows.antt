@@ -4,8 +4,8 @@ use Rattle.exact_algebra.proofs.OrderLaws.{cmp_ℚ-Less, le_from_not, ≤ℚ-min
 use Rattle.exact_algebra.specs.Rational.{ℚ, ◌+ℚ◌, ◌-ℚ◌, ◌*ℚ◌, whole, ◌≤ℚ◌}
 use Rattle.exact_algebra.proofs.RationalLaws.{ring_ℚ}
 use Rattle.exact_algebra.specs.Solver.{number, negated, ◌⊞◌, ◌⊟◌, ◌⊠◌, v0, v1}
+use Rattle.exact_algebra.proofs.Signs.{product_not_negative}
 use Rattle.loss_model.specs.Dual.{IsDataRow}
-use Rattle.loss_model.proofs.Quotients.{product_not_negative}
 use Rattle.loss_model.specs.Sample.{Sample, up_cost, down_cost}
 use Rattle.pivot_rule.specs.Duals.{HasCosts}
 

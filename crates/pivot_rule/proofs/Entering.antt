@@ -10,6 +10,7 @@ use Rattle.exact_algebra.proofs.RationalLaws.{ring_ℚ, ≤ℚ_refl, ≤ℚ_anti
 use Rattle.exact_algebra.specs.RationalSums.{sum_ℚ}
 use Rattle.exact_algebra.proofs.RationalSumLaws.{sum_ℚ-same, sum_ℚ-zero, sum_ℚ-add, sum_ℚ-scale, sum_ℚ-le, ≤ℚ_add2}
 use Rattle.exact_algebra.proofs.OrderLaws.{by_cmp, le_from_not, ≤ℚ_neg}
+use Rattle.exact_algebra.proofs.Signs.{sum_not_negative, product_not_negative, neg-neg}
 use Rattle.loss_model.specs.declared.vertex.Side.{Side}
 use Rattle.loss_model.specs.declared.vertex.Side.TheVariants.{Up, Down, Basic}
 use Rattle.loss_model.specs.Sample.{Sample, up_cost, down_cost}
@@ -38,15 +39,7 @@ abs_below x h = by (le_ℚ (whole (pos 0)) x) refl
         none ∙ ring_ℚ [] (number (pos 0)) (negated (number (pos 0))) refl ∙ ap neg_ℚ (sym none)
     by false e = refl
 
--- x times y where neither is negative
-pub product_not_negative : (x y : ℚ) → whole (pos 0) ≤ℚ x → whole (pos 0) ≤ℚ y → whole (pos 0) ≤ℚ (x *ℚ y)
-product_not_negative x y hx hy =
-    subst (λ z. z ≤ℚ (x *ℚ y)) (ring_ℚ (x ∷ []) (v0 ⊠ number (pos 0)) (number (pos 0)) refl) (≤ℚ_mul (whole (pos 0)) y x hx hy)
-
-pub sum_not_negative : (x y : ℚ) → whole (pos 0) ≤ℚ x → whole (pos 0) ≤ℚ y → whole (pos 0) ≤ℚ (x +ℚ y)
-sum_not_negative x y hx hy = subst (λ z. z ≤ℚ (x +ℚ y)) (zero-+ℚ (whole (pos 0))) (≤ℚ_add2 (whole (pos 0)) x (whole (pos 0)) y hx hy)
-
-negated_not_negative : (x : ℚ) → x ≤ℚ whole (pos 0) → whole (pos 0) ≤ℚ neg_ℚ x
+pub negated_not_negative : (x : ℚ) → x ≤ℚ whole (pos 0) → whole (pos 0) ≤ℚ neg_ℚ x
 negated_not_negative x h =
     subst (λ z. z ≤ℚ neg_ℚ x) (ring_ℚ [] (negated (number (pos 0))) (number (pos 0)) refl) (≤ℚ_neg x (whole (pos 0)) h)
 
@@ -54,16 +47,13 @@ negated_not_positive : (x : ℚ) → whole (pos 0) ≤ℚ x → neg_ℚ x ≤ℚ
 negated_not_positive x h =
     subst (λ z. neg_ℚ x ≤ℚ z) (ring_ℚ [] (negated (number (pos 0))) (number (pos 0)) refl) (≤ℚ_neg (whole (pos 0)) x h)
 
-pub double_neg : (x : ℚ) → neg_ℚ (neg_ℚ x) ≡ x
-double_neg x = ring_ℚ (x ∷ []) (negated (negated v0)) v0 refl
-
 abs_neg : (x : ℚ) → abs_ℚ (neg_ℚ x) ≡ abs_ℚ x
 abs_neg x =
     by_cmp x (whole (pos 0)) (λ o. abs_ℚ (neg_ℚ x) ≡ abs_ℚ x)
     (λ h. below (le_from_not x (whole (pos 0)) h))
     (λ e. below (subst (λ z. z ≤ℚ whole (pos 0)) (sym e) (≤ℚ_refl (whole (pos 0)))))
     (λ h. let above : whole (pos 0) ≤ℚ x = le_from_not (whole (pos 0)) x h in
-    abs_below (neg_ℚ x) (negated_not_positive x above) ∙ double_neg x ∙ sym (abs_above x above))
+    abs_below (neg_ℚ x) (negated_not_positive x above) ∙ neg-neg x ∙ sym (abs_above x above))
   where
     below : x ≤ℚ whole (pos 0) → abs_ℚ (neg_ℚ x) ≡ abs_ℚ x
     below h = abs_above (neg_ℚ x) (negated_not_negative x h) ∙ sym (abs_below x h)

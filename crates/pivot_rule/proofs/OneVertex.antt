@@ -13,6 +13,7 @@ use Rattle.exact_algebra.specs.Rational.{ℚ, whole}
 use Rattle.loss_model.specs.declared.problem.Problem.{Problem}
 use Rattle.loss_model.specs.declared.vertex.Vertex.{Vertex}
 use Rattle.loss_model.specs.Problem.{value_at, sample}
+use Rattle.loss_model.proofs.Vertices.{ascending}
 use Rattle.basis_model.specs.Basis.{IsBasis}
 use Rattle.pivot_rule.specs.Duals.{dual}
 use Rattle.pivot_rule.specs.Results.{IsVertexAt, AreBasicDuals}
@@ -25,20 +26,17 @@ use Rattle.pivot_rule.proofs.Unique.{same_inverse}
 abbrev pub IsWithin : List ℕ → List ℕ → Type 0
 IsWithin xs ys = (i : ℕ) → Contains xs i → Contains ys i
 
-rises : (xs : List ℕ) → IsStrictlyIncreasing xs → (j k : ℕ) → j < k → k < length xs → slice_index xs j < slice_index xs k
-rises xs h j k l lk = AllPairs-from_increasing xs h j k 0 l lk
-
 -- where the items before k are the same, item k of ys is at most that of xs
 at_most : (xs ys : List ℕ) (k : ℕ) → IsStrictlyIncreasing xs → IsStrictlyIncreasing ys → IsWithin xs ys → ((j : ℕ) → j < k → slice_index xs j ≡ slice_index ys j) → k < length xs → slice_index ys k ≤ slice_index xs k
 at_most xs ys k up up' sub before lk = by (sub (slice_index xs k) (k, lk, any_default xs k (slice_index xs k) 0 lk))
   where
     at : (j : ℕ) → j < length ys → slice_index ys j ≡ slice_index xs k → (j < k) ⊎ (k ≤ j) → (k < j) ⊎ (j ≤ k) → slice_index ys k ≤ slice_index xs k
     at j lj is (inl early) other =
-        let less : slice_index xs j < slice_index xs k = rises xs up j k early lk in
+        let less : slice_index xs j < slice_index xs k = ascending xs up j k early lk in
         let same : slice_index xs j ≡ slice_index ys j = before j early in
         absurd (omega (arith, less, same, is))
     at j lj is (inr past) (inl late) =
-        let less : slice_index ys k < slice_index ys j = rises ys up' k j late lj in
+        let less : slice_index ys k < slice_index ys j = ascending ys up' k j late lj in
         omega (arith, less, is)
     at j lj is (inr past) (inr rest) =
         let here : k ≡ j = omega arith in

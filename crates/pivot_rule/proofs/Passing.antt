@@ -11,6 +11,8 @@ use Rattle.exact_algebra.proofs.RationalLaws.{ring_ℚ, ≤ℚ_refl, ≤ℚ_add}
 use Rattle.exact_algebra.specs.RationalSums.{sum_ℚ}
 use Rattle.exact_algebra.proofs.RationalSumLaws.{sum_ℚ-same, sum_ℚ-le}
 use Rattle.exact_algebra.proofs.OrderLaws.{cmp_ℚ-Equal}
+use Rattle.exact_algebra.proofs.Comparisons.{is_less}
+use Rattle.exact_algebra.proofs.Signs.{sum_not_negative, product_not_negative}
 use Rattle.exact_matrices.proofs.TermLaws.{if-same, if-other, sum_ℚ-replaced}
 use Rattle.exact_matrices.specs.Selections.{is_among, AreDistinct, among}
 use Rattle.exact_matrices.proofs.SelectionLaws.{sum_ℚ-among}
@@ -31,15 +33,9 @@ use Rattle.pivot_rule.proofs.Bounds.{is_basic}
 use Rattle.pivot_rule.specs.Steps.{is_towards, slope, change, moves, is_before, passing, slope_before}
 use Rattle.pivot_rule.proofs.Among.{among_at, among_place}
 use Rattle.pivot_rule.proofs.Sides.{side_basic}
-use Rattle.pivot_rule.proofs.Entering.{product_not_negative, sum_not_negative}
 
 pub no : true ≡ false → ⊥
 no h = cc
-
-pub less_from : (o : Ordering) → is_lt o ≡ true → o ≡ Less
-less_from Less h = refl
-less_from Equal h = absurd (cc h)
-less_from Greater h = absurd (cc h)
 
 -- ---- rows that move
 
@@ -88,7 +84,7 @@ module _ (p : Sample) (at : ℕ → ℕ) (a : ℕ → ℕ → ℚ) (j : ℕ) whe
 
   pub before_trans : (i r s : ℕ) → is_before p at a j i r ≡ true → is_before p at a j r s ≡ true → is_before p at a j i s ≡ true
   before_trans i r s h k =
-      ap is_lt (less-trans (suc p.rows) (ratio p.rows p.columns at j (outside_row p at a i)) (ratio p.rows p.columns at j (outside_row p at a r)) (ratio p.rows p.columns at j (outside_row p at a s)) (less_from _ h) (less_from _ k))
+      ap is_lt (less-trans (suc p.rows) (ratio p.rows p.columns at j (outside_row p at a i)) (ratio p.rows p.columns at j (outside_row p at a r)) (ratio p.rows p.columns at j (outside_row p at a s)) (is_less _ h) (is_less _ k))
 
   pub not_before_itself : (i : ℕ) → is_before p at a j i i ≡ false
   not_before_itself i = ap is_lt (lex_cmp-Equal (suc p.rows) (ratio p.rows p.columns at j (outside_row p at a i)) (ratio p.rows p.columns at j (outside_row p at a i)) (λ m lm. refl))

@@ -9,6 +9,7 @@ use Rattle.exact_algebra.specs.Rational.{ℚ, ◌+ℚ◌, ◌-ℚ◌, ◌*ℚ◌
 use Rattle.exact_algebra.proofs.RationalLaws.{ring_ℚ, ≤ℚ_refl, zero-+ℚ}
 use Rattle.exact_algebra.specs.RationalSums.{sum_ℚ}
 use Rattle.exact_algebra.proofs.RationalSumLaws.{sum_ℚ-same, sum_ℚ-zero, sum_ℚ-add, sum_ℚ-scale, sum_ℚ-swap, ≤ℚ_from, ≤ℚ_add2}
+use Rattle.exact_algebra.proofs.Signs.{negative_below}
 use Rattle.exact_matrices.proofs.MatrixLaws.{sum_ℚ-coordinate}
 use Rattle.exact_matrices.specs.Selections.{among}
 use Rattle.exact_matrices.proofs.SelectionLaws.{sum_ℚ-among}
@@ -21,12 +22,6 @@ use Rattle.pivot_rule.specs.Duals.{HasCosts}
 use Rattle.pivot_rule.proofs.Among.{among_at, among_place}
 use Rattle.pivot_rule.proofs.Bounds.{dual_is, is_basic, bound}
 use Rattle.pivot_rule.proofs.Sides.{sign, side_outside, held_at, value_inside}
-
--- a negated down cost is at most an up cost
-wide : (u d : ℚ) → whole (pos 0) ≤ℚ u → whole (pos 0) ≤ℚ d → neg_ℚ d ≤ℚ u
-wide u d hu hd =
-    ≤ℚ_from (neg_ℚ d) u (subst (λ z. z ≤ℚ (u -ℚ neg_ℚ d)) (zero-+ℚ (whole (pos 0)))
-    (subst (λ z. (whole (pos 0) +ℚ whole (pos 0)) ≤ℚ z) (ring_ℚ (u ∷ d ∷ []) (v0 ⊞ v1) (v0 ⊟ negated v1) refl) (≤ℚ_add2 (whole (pos 0)) u (whole (pos 0)) d hu hd)))
 
 module _ (p : Sample) (at : ℕ → ℕ) (a : ℕ → ℕ → ℚ) (basis : IsBasis p at a) (theta : ℚ) where
   abbrev pub IsWithin : ℕ → ℚ → Type 0
@@ -115,7 +110,7 @@ module _ (p : Sample) (at : ℕ → ℕ) (a : ℕ → ℕ → ℚ) (basis : IsBa
     within costs here i li = by (is_basic p at a i) refl
       where
         all : neg_ℚ (down_cost p theta i) ≤ℚ up_cost p theta i
-        all = wide (up_cost p theta i) (down_cost p theta i) (costs.up i li) (costs.down i li)
+        all = negative_below (up_cost p theta i) (down_cost p theta i) (costs.up i li) (costs.down i li)
 
         on : (o : Ordering) → IsWithin i (value_of_side p theta held i (side_of o))
         on Greater = (all, ≤ℚ_refl (up_cost p theta i))

@@ -7,6 +7,7 @@ use Rattle.exact_algebra.specs.RationalSums.{sum_ℚ}
 use Rattle.exact_algebra.specs.Solver.{number, ◌⊞◌, v0, v1, v2}
 use Rattle.exact_algebra.proofs.RationalLaws.{ring_ℚ}
 use Rattle.exact_algebra.proofs.RationalSumLaws.{sum_ℚ-next}
+use Rattle.exact_algebra.proofs.Signs.{plus-zero}
 use Rattle.frac_core.specs.Overflow.{Overflows}
 use Rattle.frac_core.specs.declared.exact.OpKind.TheVariants.{Add}
 use Rattle.loss_model.specs.declared.spill.Site.{Site}
@@ -14,9 +15,6 @@ use Rattle.loss_model.specs.declared.spill.Spill.{Spill}
 use Rattle.loss_model.specs.Problem.{value_at}
 use Rattle.loss_model.proofs.Products.{value_at-item}
 use Rattle.predict_steps.specs.Spills.{IsOffsetSpill}
-
-pub plus_none : (x : ℚ) → x ≡ x +ℚ whole (pos 0)
-plus_none x = ring_ℚ (x ∷ []) v0 (v0 ⊞ number (pos 0)) refl
 
 module _ {F : Type 0} (value : F → Fraction) (first : ℚ) (offsets : List F) (k : ℕ) (x sum : F) (within : k < length offsets) (here : x ≡ get_or offsets k x)
     (before : rational (value sum) ≡ first +ℚ sum_ℚ k (value_at value offsets)) where

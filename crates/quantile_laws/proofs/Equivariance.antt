@@ -6,7 +6,7 @@ use Rattle.exact_algebra.specs.Rational.{ℚ, ◌+ℚ◌, ◌-ℚ◌, ◌*ℚ◌
 use Rattle.exact_algebra.proofs.RationalLaws.{ring_ℚ, ring_by_ℚ, *ℚ-inverse, ≤ℚ_mul, ≤ℚ_total}
 use Rattle.exact_algebra.specs.RationalSums.{sum_ℚ, positive_ℚ, negative_ℚ}
 use Rattle.exact_algebra.proofs.RationalSumLaws.{parts_ℚ, sum_ℚ-same, sum_ℚ-scale, sum_ℚ-add, sum_ℚ-swap, sum_ℚ-zero}
-use Rattle.exact_algebra.proofs.OrderLaws.{le_from_not, ≤ℚ_neg}
+use Rattle.exact_algebra.proofs.OrderLaws.{le_from_not, ≤ℚ_neg, same_le}
 use Rattle.exact_matrices.specs.Terms.{delta}
 use Rattle.exact_matrices.specs.Matrices.{AreInverse}
 use Rattle.exact_matrices.proofs.TermLaws.{delta-turned, sum_ℚ-delta}
@@ -16,7 +16,7 @@ use Rattle.loss_model.specs.Complements.{IsComplementary}
 use Rattle.loss_model.proofs.Duality.{orthogonal, positive_when, negative_when, positive_below, negative_below, sides as by_sides, complements as shown}
 use Rattle.quantile_laws.specs.Equivariance.{scaled, negated, shifted, combined, times, ScaleEquivariance, HasMirroredCosts, DataRowsAreMirrored}
 use Rattle.quantile_laws.specs.Equivariance.{SignEquivariance, NegativeEquivariance, ShiftEquivariance, DesignEquivariance, DualEquivariance, answered, ResponsesMayMove, ResidualsMayStretch}
-use Rattle.quantile_laws.proofs.Slack.{by_same, complements}
+use Rattle.quantile_laws.proofs.Slack.{complements}
 
 -- coefficients minimise where all others lose, times a factor that isn't negative, what some coefficients lose elsewhere
 carried : (p q : Sample) (theta sigma a : ℚ) (b c : ℕ → ℚ) → whole (pos 0) ≤ℚ a → Minimises p theta b → loss q sigma c ≡ a *ℚ loss p theta b
@@ -74,7 +74,7 @@ scale p theta a b h least =
     known = le_from_not (whole (pos 0)) a h
 
     nonzero : a ≢ whole (pos 0)
-    nonzero e = h (by_same a (whole (pos 0)) e)
+    nonzero e = h (same_le a (whole (pos 0)) e)
 
     back : (x : ℚ) → x ≡ a *ℚ (inverse a *ℚ x)
     back x = ring_by_ℚ (a ∷ inverse a ∷ x ∷ []) v2 (v0 ⊠ (v1 ⊠ v2)) (minus v2) (v0 ⊠ v1) (number (pos 1)) refl (*ℚ-inverse a nonzero)

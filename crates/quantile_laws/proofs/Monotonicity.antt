@@ -9,11 +9,12 @@ use Rattle.exact_algebra.specs.RationalSums.{sum_ℚ, positive_ℚ, negative_ℚ
 use Rattle.exact_algebra.proofs.RationalSumLaws.{parts_ℚ, ≤ℚ_add2, sum_ℚ-le, sum_ℚ-same, sum_ℚ-mix, sum_ℚ-scale, sum_ℚ-swap, sum_ℚ-zero}
 use Rattle.exact_algebra.proofs.OrderLaws.{≤ℚ-minus, ≤ℚ-from_mul, ≤ℚ_cancel, le_from_not, inverse_not_negative, cmp_ℚ-Less}
 use Rattle.exact_algebra.specs.Order.{cmp_ℚ}
+use Rattle.exact_algebra.proofs.Signs.{whole_not_negative}
 use Rattle.loss_model.specs.Strict.{◌<ℚ◌}
 use Rattle.loss_model.specs.Sample.{Sample, fitted, residual, row_loss, loss, Minimises}
 use Rattle.loss_model.specs.Dual.{mix}
 use Rattle.loss_model.specs.Segment.{Segments, Covers}
-use Rattle.loss_model.proofs.Quotients.{inverse_of, whole_not_negative}
+use Rattle.loss_model.proofs.Quotients.{inverse_of}
 use Rattle.quantile_laws.specs.Monotonicity.{LossIsAffine, LeastLossIsConcave, LeastLossIsOne, MinimiseAlong, LeastLossIsContinuous, loss_slope, LossIsLine}
 use Rattle.quantile_laws.specs.Monotonicity.{SlopeFalls, SlopeFallsAlong, AreObservations, centroid, at_centroid, CentroidNeverFalls, CentroidNeverFallsAlong}
 use Rattle.quantile_laws.proofs.Counts.{sum_cut}

@@ -10,18 +10,18 @@ use Rattle.exact_algebra.specs.RationalSums.{positive_ℚ, negative_ℚ}
 use Rattle.exact_algebra.proofs.RationalSumLaws.{parts_ℚ, ≤ℚ_add2, ≤ℚ_from, sum_ℚ-same, sum_ℚ-scale}
 use Rattle.exact_algebra.proofs.WholeNumbers.{whole-le}
 use Rattle.exact_algebra.proofs.Inverses.{zero_or_not, one-zero, zero_from_product}
-use Rattle.exact_algebra.proofs.OrderLaws.{≤ℚ-minus, le_from_not, not_le, inverse_not_negative}
+use Rattle.exact_algebra.proofs.OrderLaws.{≤ℚ-minus, le_from_not, not_le, inverse_not_negative, same_le}
+use Rattle.exact_algebra.proofs.Signs.{product_not_negative}
 use Rattle.exact_matrices.specs.Terms.{delta}
 use Rattle.exact_matrices.proofs.TermLaws.{if-same, if-other}
 use Rattle.loss_model.specs.Strict.{◌<ℚ◌}
 use Rattle.loss_model.specs.Sample.{Sample, up_cost, down_cost, residual, row_loss, loss}
 use Rattle.loss_model.specs.Complements.{IsComplementary, residual_change}
 use Rattle.loss_model.specs.Dual.{IsDual}
-use Rattle.loss_model.proofs.Quotients.{product_not_negative}
 use Rattle.loss_model.proofs.Duality.{slack, moved, positive_when, negative_when, positive_below, negative_below, cost_above, cost_below, minimum}
 use Rattle.basis_model.specs.Basis.{IsBasis}
 use Rattle.quantile_laws.specs.Uniqueness.{FitsBasisAlone, OthersLoseAsLittle}
-use Rattle.quantile_laws.proofs.Slack.{by_same, complements}
+use Rattle.quantile_laws.proofs.Slack.{complements}
 
 -- ---- a step that turns no sign
 
@@ -90,7 +90,7 @@ one_step r f = by (zero_or_not r)
         (≤ℚ_from (whole (pos 1)) (size f +ℚ whole (pos 1)) (subst (λ z. whole (pos 0) ≤ℚ z) (ring_ℚ (size f ∷ []) v0 ((v0 ⊞ number (pos 1)) ⊟ number (pos 1)) refl) (size_known f))) h)
 
     nonzero : size f +ℚ whole (pos 1) ≢ whole (pos 0)
-    nonzero e = wide (by_same (size f +ℚ whole (pos 1)) (whole (pos 0)) e)
+    nonzero e = wide (same_le (size f +ℚ whole (pos 1)) (whole (pos 0)) e)
 
     known : whole (pos 0) ≤ℚ inverse (size f +ℚ whole (pos 1))
     known = inverse_not_negative (size f +ℚ whole (pos 1)) (le_from_not (whole (pos 0)) (size f +ℚ whole (pos 1)) wide)
@@ -151,7 +151,7 @@ all_steps (suc n) r f = join (all_steps n r f) (one_step (r n) (f n))
 
 -- a short step turns no sign
 stays_above : (t r f : ℚ) → whole (pos 0) ≤ℚ t → IsShort t r f → whole (pos 0) <ℚ r → whole (pos 0) ≤ℚ (r +ℚ (t *ℚ f))
-stays_above t r f known (inl e) h = absurd (h (by_same r (whole (pos 0)) e))
+stays_above t r f known (inl e) h = absurd (h (same_le r (whole (pos 0)) e))
 stays_above t r f known (inr k) h =
     let up = le_from_not (whole (pos 0)) r h in
     let below = ≤ℚ_mul (neg_ℚ f) (size f) t known (at_most_size f).1 in
@@ -159,7 +159,7 @@ stays_above t r f known (inr k) h =
     ((≤ℚ-minus (t *ℚ neg_ℚ f) r).0 (≤ℚ_trans (t *ℚ neg_ℚ f) (t *ℚ size f) r below (subst (λ z. (t *ℚ size f) ≤ℚ z) (size_above r up) k)))
 
 stays_below : (t r f : ℚ) → whole (pos 0) ≤ℚ t → IsShort t r f → r <ℚ whole (pos 0) → (r +ℚ (t *ℚ f)) ≤ℚ whole (pos 0)
-stays_below t r f known (inl e) h = absurd (h (by_same (whole (pos 0)) r (sym e)))
+stays_below t r f known (inl e) h = absurd (h (same_le (whole (pos 0)) r (sym e)))
 stays_below t r f known (inr k) h =
     let down = le_from_not r (whole (pos 0)) h in
     let above = ≤ℚ_mul f (size f) t known (at_most_size f).0 in
@@ -219,7 +219,7 @@ module _ (p : Sample) (at : ℕ → ℕ) (a : ℕ → ℕ → ℚ) (theta : ℚ)
               ∙ ring_ℚ (step.0 ∷ sign ∷ []) (v0 ⊠ (v1 ⊠ number (pos 0))) (number (pos 0)) refl in
               ap (λ z. e (at m) *ℚ z) none
               ∙ ring_ℚ (e (at m) ∷ up_cost p theta (at m) ∷ []) (v0 ⊠ number (pos 0)) (v1 ⊠ number (pos 0)) refl ∙ ap (λ z. up_cost p theta (at m) *ℚ z) (sym none)
-              ∙ sym (cost_above (up_cost p theta (at m)) (down_cost p theta (at m)) (residual p other (at m)) (by_same (whole (pos 0)) (residual p other (at m)) (sym none)))
+              ∙ sym (cost_above (up_cost p theta (at m)) (down_cost p theta (at m)) (residual p other (at m)) (same_le (whole (pos 0)) (residual p other (at m)) (sym none)))
 
       c : IsComplementary p theta (residual p b) e
       c = complements p theta b e d
@@ -256,7 +256,7 @@ module _ (p : Sample) (at : ℕ → ℕ) (a : ℕ → ℕ → ℚ) (theta : ℚ)
             (sym own
             ∙ ap (λ z. p.y (at j) -ℚ z) (sum_ℚ-same p.columns (λ k. p.x (at j) k *ℚ other k) (λ k. p.x (at j) k *ℚ b k) (λ k l. ap (λ z. p.x (at j) k *ℚ z) (same k l)))
             ∙ alone.fitted j within)
-            (λ none. step.1 (by_same step.0 (whole (pos 0)) none))),
+            (λ none. step.1 (same_le step.0 (whole (pos 0)) none))),
       )
 
   -- a value at its upper bound lets the row rise, and one at its lower bound lets it fall

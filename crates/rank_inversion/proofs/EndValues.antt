@@ -1,6 +1,7 @@
 -- The dual values of the rows of a basis on a walk, and the end that is made of them.
 use Rattle.std.specs.Prelude.{◌≡◌, ℕ, ◌<◌, List, length, slice_index}
 use Rattle.std.proofs.Common.{sym, ap, ◌∙◌}
+use Rattle.rank_tableau.proofs.Handed.{value_there, along_ray}
 use Rattle.exact_algebra.specs.Fraction.{Fraction, rational}
 use Rattle.exact_algebra.specs.Rational.{ℚ, ◌+ℚ◌, ◌*ℚ◌, inverse}
 use Rattle.loss_model.specs.declared.vertex.Vertex.{Vertex}
@@ -20,14 +21,6 @@ use Rattle.rank_inversion.specs.Courses.{tau_of, family_of}
 use Rattle.rank_inversion.specs.Nexts.{IsValueOfRow}
 use Rattle.rank_inversion.specs.Stations.{sample_at, rows_at, entries_at}
 
--- the dual value of the row at a position, where the column weighs s
-pub value_there : (way : Way) (p : Sample) (j : ℕ) (tau : ℚ) (at : ℕ → ℕ) (a : ℕ → ℕ → ℚ) → IsBasis p at a → j < p.columns → (t s : ℚ) → s ≡ parameter_of way t → (k : ℕ) → k < p.columns
-    → dual_in (tested way p tau j) at a t (at k) ≡ dual_value p at a tau k +ℚ (a j k *ℚ s)
-value_there rise p j tau at a basis lj t s e k lk =
-    dual_at (tested rise p tau j) at a basis t k lk ∙ (values p tau j at a t k lj).0 ∙ ap (λ z. dual_value p at a tau k +ℚ (a j k *ℚ z)) (sym e)
-value_there fall p j tau at a basis lj t s e k lk =
-    dual_at (tested fall p tau j) at a basis t k lk ∙ (values p tau j at a t k lj).1 ∙ ap (λ z. dual_value p at a tau k +ℚ (a j k *ℚ z)) (sym e)
-
 module _ {F : Type 0} (value : F → Fraction) (v : Station F) (basis : IsBasis (sample_at value v) (rows_at value v) (entries_at value v)) (lj : v.course.column < v.tableau.now.problem.columns) where
   pub values_of : (t : ℚ) (weight : F) → rational (value weight) ≡ parameter_of (way_of v.course.way) t → (vertex : Vertex F) (list : List F) → length list ≡ length vertex.basis.rows
       → ((k : ℕ) → k < length vertex.basis.rows → IsValueOfRow value v weight (slice_index vertex.basis.rows k) (value_at value list k))
@@ -41,8 +34,3 @@ module _ {F : Type 0} (value : F → Fraction) (v : Station F) (basis : IsBasis 
             ∙ sym (value_there (way_of v.course.way) (sample_at value v) v.course.column (tau_of value v.course) (rows_at value v) (entries_at value v) basis lj t (rational (value weight)) e here.position here.within)
             ∙ ap (dual_in (family_of value (sample_at value v) v.course) (rows_at value v) (entries_at value v) t) here.holds;
       }
-
--- an entry of the ray
-pub along_ray : (way : Way) (a : ℕ → ℕ → ℚ) (j k m : ℕ) (x : ℚ) → x ≡ a m k *ℚ inverse (a j k) → along way x ≡ ray way a j k m
-along_ray rise a j k m x e = e
-along_ray fall a j k m x e = ap (along fall) e

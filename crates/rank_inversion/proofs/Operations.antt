@@ -1,6 +1,7 @@
 -- An operation by its operands.
 use Rattle.std.specs.Prelude.{◌≡◌, ℕ}
 use Rattle.std.proofs.Common.{refl, sym, subst}
+use Rattle.gram_matrix.proofs.Rows.{operation}
 use Rattle.exact_algebra.specs.Fraction.{Fraction, rational}
 use Rattle.exact_algebra.specs.Rational.{ℚ}
 use Rattle.frac_core.specs.declared.exact.OpKind.{OpKind}
@@ -11,12 +12,6 @@ use Rattle.loss_model.specs.declared.spill.Short.TheVariants.{OutOfMemory, Overf
 use Rattle.loss_model.specs.declared.spill.Spill.{Spill}
 use Rattle.loss_model.specs.Quantities.{IsShortOf}
 use Rattle.loss_model.specs.Spill.{IsOperation}
-
-pub operation : {F : Type 0} (value : F → Fraction) (range : ℕ) (site : Site) (kind : OpKind) (left right : F) (x y : ℚ) (s : Spill F)
-    → s ≡ record { site = record site { kind = kind }; left = left; right = right } → Overflows range kind (value left) (value right)
-    → rational (value left) ≡ x → rational (value right) ≡ y → IsOperation value range (record site { kind = kind }) x y s
-operation value range site kind left right x y s is over is_left is_right =
-    subst (IsOperation value range (record site { kind = kind }) x y) (sym is) (record { named = refl; is_left = is_left; is_right = is_right; overflows = over })
 
 -- what follows from what a spill says follows from what a refusal says
 pub short_weaker : {F : Type 0} (P Q : Spill F → Type 0) → ((s : Spill F) → P s → Q s) → (e : Short F) → IsShortOf P e → IsShortOf Q e

@@ -4,6 +4,8 @@ use Rattle.std.specs.List.Sorted.{IsStrictlyIncreasing}
 use Rattle.std.specs.Ordering.{is_gt}
 use Rattle.std.proofs.Common.{refl, sym, ap, ap₂, subst, ◌∙◌, inl, inr, arith}
 use Rattle.std.proofs.lemmas.Bool.{cases_lt}
+use Rattle.gram_matrix.proofs.Rows.{operation}
+use Rattle.basis_inverse.proofs.Lists.{value_more}
 use Rattle.exact_algebra.specs.Fraction.{Fraction, rational}
 use Rattle.exact_algebra.specs.Solver.{negated, ◌⊠◌, v0}
 use Rattle.exact_algebra.specs.Rational.{ℚ, ◌-ℚ◌, ◌*ℚ◌, inverse, whole, ◌≤ℚ◌}
@@ -54,7 +56,6 @@ use Rattle.rank_inversion.specs.Stops.{of_square, of_ray}
 use Rattle.rank_steps.proofs.Directions.{one_direction, moving_some}
 use Rattle.rank_tableau.proofs.Breaks.{crossed, turned_twice, first_is_next, never_none}
 use Rattle.rank_inversion.proofs.EndValues.{values_of}
-use Rattle.rank_inversion.proofs.Operations.{operation}
 use Rattle.rank_inversion.proofs.Spills.{cost_here, gap_here, quotient_here, entered_here, break_here, order_here}
 
 -- the square of the parameter is that of what the column weighs
@@ -72,17 +73,6 @@ not_above_by x y b e h = by (decide x y)
     by : (x ≤ℚ y) ⊎ ¬ (x ≤ℚ y) → x ≤ℚ y
     by (inl k) = k
     by (inr k) = absurd (cc (sym ((above_test x y).1 k) ∙ (sym e ∙ h)))
-
--- one more value at the end of a list
-pub list_more : {F : Type 0} (value : F → Fraction) (xs ys : List F) (x : F) (n : ℕ) (want : ℕ → ℚ) → ys ≡ xs ++ x ∷ [] → length xs ≡ n
-    → ((j : ℕ) → j < n → value_at value xs j ≡ want j) → rational (value x) ≡ want n → (j : ℕ) → j < n + 1 → value_at value ys j ≡ want j
-list_more {F} value xs ys x n want same size each last j lj = ap (λ (l : List F). value_at value l j) same ∙ by (cases_lt j n)
-  where
-    by : (j < n) ⊎ (n ≤ j) → value_at value (xs ++ x ∷ []) j ≡ want j
-    by (inl l) = value_front value xs x j (omega (arith, l, size)) ∙ each j l
-    by (inr past) =
-        let here : j ≡ n = omega (arith, lj, past) in
-        ap (value_at value (xs ++ x ∷ [])) (here ∙ sym size) ∙ value_end value xs x ∙ last ∙ ap want (sym here)
 
 -- a breakpoint has a position, and the first row that moves there makes a step
 break_within : (way : Way) (p : Sample) (j : ℕ) (tau : ℚ) (at : ℕ → ℕ) (a : ℕ → ℕ → ℚ) (from t : ℚ) (k : ℕ) (d : Direction) → IsNextBreak (tested way p tau j) at a from t k d → k < p.columns

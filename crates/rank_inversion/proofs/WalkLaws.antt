@@ -1,6 +1,7 @@
 -- How a walk begins, goes on, ends and halts.
 use Rattle.std.specs.Prelude.{◌≡◌, ◌<◌, ◌≤◌, ◌++◌, ◌∷◌, [], ℕ, List, length, slice_index, slice_set, pos}
 use Rattle.std.proofs.Common.{refl, sym, ap, subst, ◌∙◌}
+use Rattle.rank_tableau.proofs.Along.{nothing_at, when_is}
 use Rattle.exact_algebra.specs.Fraction.{Fraction, rational}
 use Rattle.exact_algebra.specs.Solver.{number, negated}
 use Rattle.exact_algebra.specs.Rational.{ℚ, neg_ℚ, whole}
@@ -36,16 +37,6 @@ use Rattle.rank_inversion.specs.Courses.{tau_of, bound_of, parameter_at, family_
 use Rattle.rank_inversion.specs.Looks.{IsStepAt, IsEndOf, IsSpillAt}
 use Rattle.rank_inversion.specs.Stops.{IsRankSpill}
 use Rattle.rank_inversion.specs.Walks.{IsHaltOf, IsBegun, IsAdvanced, IsAlong, IsEnded, IsAtLimit, IsSpilled, IsHalted}
-
--- the parameter is 0 where the column weighs nothing
-nothing_at : (way : Way) (x : ℚ) → x ≡ whole (pos 0) → parameter_of way x ≡ whole (pos 0)
-nothing_at rise x e = ap neg_ℚ e ∙ ring_ℚ [] (negated (number (pos 0))) (number (pos 0)) refl
-nothing_at fall x e = e
-
--- the parameter of a step
-when_is : {F : Type 0} (value : F → Fraction) (way : Way) (x : F) → when_on way value x ≡ parameter_of way (rational (value x))
-when_is value rise x = refl
-when_is value fall x = refl
 
 module _ {F : Type 0} (value : F → Fraction) (c : Course F) where
   pub along_begins : (w : Walk F) → IsBegun value c w → IsAlong value w.tableau.problem c w.tableau.rows w

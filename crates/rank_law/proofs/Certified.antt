@@ -9,6 +9,7 @@ use Rattle.exact_algebra.specs.Solver.{number, negated}
 use Rattle.exact_algebra.specs.Rational.{ℚ, neg_ℚ, whole, ◌≤ℚ◌}
 use Rattle.exact_algebra.proofs.RationalLaws.{ring_ℚ, ≤ℚ_refl, ≤ℚ_trans}
 use Rattle.exact_algebra.proofs.OrderLaws.{≤ℚ_neg}
+use Rattle.exact_algebra.proofs.Signs.{negative_below}
 use Rattle.loss_model.specs.declared.problem.Problem.{Problem}
 use Rattle.loss_model.specs.declared.vertex.Side.{Side}
 use Rattle.loss_model.specs.declared.vertex.Side.TheVariants.{Up, Down, Basic}
@@ -133,11 +134,6 @@ shows value p proof m =
 
 -- ---- bounds
 
--- a negated down cost is at most an up cost
-wide : (u d : ℚ) → whole (pos 0) ≤ℚ u → whole (pos 0) ≤ℚ d → neg_ℚ d ≤ℚ u
-wide u d hu hd =
-    ≤ℚ_trans (neg_ℚ d) (whole (pos 0)) u (subst (λ z. neg_ℚ d ≤ℚ z) (ring_ℚ [] (negated (number (pos 0))) (number (pos 0)) refl) (≤ℚ_neg (whole (pos 0)) d hd)) hu
-
 pub bounds : {F : Type 0} (value : F → Fraction) (p : Problem F) → BoundsByBasics value p
 bounds value p theta v basic vertex costs tested i li = by (get_or v.sides i Basic) side_is
   where
@@ -154,8 +150,8 @@ bounds value p theta v basic vertex costs tested i li = by (get_or v.sides i Bas
     by side h = subst IsWithin (sym (ap (λ (o : Option Side). option_map_or (value_of_side s theta (basic_value value v basic) i) o (whole (pos 0))) h)) (on side h)
       where
         on : (side : Side) → slice_get v.sides i ≡ Some side → IsWithin (value_of_side s theta (basic_value value v basic) i side)
-        on Up h = (wide (up_cost s theta i) (down_cost s theta i) (costs i li).0 (costs i li).1, ≤ℚ_refl (up_cost s theta i))
-        on Down h = (≤ℚ_refl (neg_ℚ (down_cost s theta i)), wide (up_cost s theta i) (down_cost s theta i) (costs i li).0 (costs i li).1)
+        on Up h = (negative_below (up_cost s theta i) (down_cost s theta i) (costs i li).0 (costs i li).1, ≤ℚ_refl (up_cost s theta i))
+        on Down h = (≤ℚ_refl (neg_ℚ (down_cost s theta i)), negative_below (up_cost s theta i) (down_cost s theta i) (costs i li).0 (costs i li).1)
         on Basic h =
             let there : Contains v.basis.rows i = (vertex.basic i li).0 h in
             let at : slice_index v.basis.rows there.0 ≡ i = get_or_default v.basis.rows there.0 0 i there.1 ∙ there.2 in

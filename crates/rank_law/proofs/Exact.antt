@@ -7,13 +7,13 @@ use Rattle.exact_algebra.proofs.RationalLaws.{ring_ℚ, ≤ℚ_trans, ≤ℚ_ant
 use Rattle.exact_algebra.specs.RationalSums.{sum_ℚ, positive_ℚ, negative_ℚ}
 use Rattle.exact_algebra.proofs.RationalSumLaws.{sum_ℚ-le, parts_ℚ}
 use Rattle.exact_algebra.proofs.OrderLaws.{≤ℚ-minus}
+use Rattle.exact_algebra.proofs.Signs.{sum_not_negative, product_not_negative}
 use Rattle.loss_model.specs.Sample.{Sample, up_cost, down_cost, residual, row_loss, loss}
-use Rattle.loss_model.proofs.Quotients.{product_not_negative}
-use Rattle.loss_model.proofs.Duality.{sum_of_residuals}
+use Rattle.loss_model.proofs.Duality.{sum_of_residuals, bounded}
 use Rattle.rank_law.specs.Restricted.{IsFeasibleWithout, restricted_objective, IsOptimalAt, rank_statistic, IsProjection, squared_length, rank_bound, Holds}
 use Rattle.rank_law.specs.Bounds.{IsAtLeast, IsAtMost, IsAbove, IsBelow, IsInside, IsBeyond, IsHighEnd, IsLowEnd, IsShownHigh, IsShownLow}
 use Rattle.rank_law.specs.Laws.{FitIsInside, BoundIsNotNegative, WalkBegins, RiseGoesOn, FallGoesOn, RiseIsEndless, FallIsEndless, ExactInterval, NothingBeyond, AllAreWithin, EndsAreInOrder}
-use Rattle.rank_law.proofs.Values.{either, not_less, sum_not_negative, not_negative_is, square_falls, square_grows, square_between}
+use Rattle.rank_law.proofs.Values.{either, not_less, not_negative_is, square_falls, square_grows, square_between}
 use Rattle.rank_law.proofs.Optimal.{falls, optimal_between, rising_ray, falling_ray, objective_by_residuals}
 use Rattle.rank_law.proofs.Lengths.{one_length, squares_not_negative}
 use Rattle.loss_model.specs.declared.interval.Bound.{Bound}
@@ -49,14 +49,6 @@ bound_not_negative p j tau crit c hc ht hu =
     (squares_not_negative p.rows _)
 
 -- ---- the fit to all columns
-
--- a value within its bounds times a difference of parts is at most the cost of the parts
-bounded : (u v e a b : ℚ) → neg_ℚ v ≤ℚ e → e ≤ℚ u → whole (pos 0) ≤ℚ a → whole (pos 0) ≤ℚ b → (e *ℚ (a -ℚ b)) ≤ℚ ((u *ℚ a) +ℚ (v *ℚ b))
-bounded u v e a b lower upper ha hb =
-    (≤ℚ-minus (e *ℚ (a -ℚ b)) ((u *ℚ a) +ℚ (v *ℚ b))).1
-    (not_negative_is (((u -ℚ e) *ℚ a) +ℚ ((e -ℚ neg_ℚ v) *ℚ b)) _
-    (ring_ℚ (u ∷ v ∷ e ∷ a ∷ b ∷ []) ((v0 ⊟ v2) ⊠ v3 ⊞ (v2 ⊟ negated v1) ⊠ v4) ((v0 ⊠ v3 ⊞ v1 ⊠ v4) ⊟ v2 ⊠ (v3 ⊟ v4)) refl)
-    (sum_not_negative _ _ (product_not_negative (u -ℚ e) a ((≤ℚ-minus e u).0 upper) ha) (product_not_negative (e -ℚ neg_ℚ v) b ((≤ℚ-minus (neg_ℚ v) e).0 lower) hb)))
 
 pub fit_is_inside : FitIsInside
 fit_is_inside p j tau crit q b e lj d bound =

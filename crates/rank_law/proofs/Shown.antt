@@ -4,7 +4,8 @@ use Rattle.std.proofs.Common.{refl, sym, subst, inl, inr}
 use Rattle.exact_algebra.specs.Solver.{number, negated, v0}
 use Rattle.exact_algebra.specs.Rational.{ℚ, neg_ℚ, whole, ◌≤ℚ◌}
 use Rattle.exact_algebra.proofs.RationalLaws.{ring_ℚ}
-use Rattle.exact_algebra.proofs.OrderLaws.{≤ℚ_neg, le_from_not}
+use Rattle.exact_algebra.proofs.OrderLaws.{≤ℚ_neg, le_from_not, same_le}
+use Rattle.exact_algebra.proofs.Signs.{neg-neg}
 use Rattle.loss_model.specs.declared.vertex.Side.{Side}
 use Rattle.loss_model.specs.declared.vertex.Side.TheVariants.{Up, Down, Basic}
 use Rattle.loss_model.specs.Sample.{Sample, up_cost, down_cost, fitted, residual}
@@ -14,7 +15,6 @@ use Rattle.loss_model.specs.Complements.{IsComplementary, residual_change}
 use Rattle.rank_law.specs.Restricted.{rank_statistic}
 use Rattle.rank_law.specs.Bounds.{IsInside, IsBeyond}
 use Rattle.rank_law.specs.Shown.{AreBySides, IsStatedInside, IsStatedBeyond, IsRowAlong, IsStatedRay, HighConditionsShow, LowConditionsShow}
-use Rattle.rank_law.proofs.Values.{le_same}
 use Rattle.rank_law.proofs.Optimal.{complementary, rising_ray, falling_ray}
 
 -- values by sides on which the numbers r lie agree with them
@@ -28,18 +28,15 @@ by_sides p theta r e side on own =
     above : (i : ℕ) (s : Side) → IsOn s (r i) → e i ≡ value_of_side p theta e i s → whole (pos 0) <ℚ r i → e i ≡ up_cost p theta i
     above i Up h k up = k
     above i Down h k up = absurd (up h)
-    above i Basic h k up = absurd (up (le_same (r i) (whole (pos 0)) h))
+    above i Basic h k up = absurd (up (same_le (r i) (whole (pos 0)) h))
 
     below : (i : ℕ) (s : Side) → IsOn s (r i) → e i ≡ value_of_side p theta e i s → r i <ℚ whole (pos 0) → e i ≡ neg_ℚ (down_cost p theta i)
     below i Up h k down = absurd (down h)
     below i Down h k down = k
-    below i Basic h k down = absurd (down (le_same (whole (pos 0)) (r i) (sym h)))
+    below i Basic h k down = absurd (down (same_le (whole (pos 0)) (r i) (sym h)))
 
 nothing : neg_ℚ (whole (pos 0)) ≡ whole (pos 0)
 nothing = ring_ℚ [] (negated (number (pos 0))) (number (pos 0)) refl
-
-back : (x : ℚ) → neg_ℚ (neg_ℚ x) ≡ x
-back x = ring_ℚ (x ∷ []) (negated (negated v0)) v0 refl
 
 -- and values agree with the residuals' change along a ray
 pub by_ray : (p : Sample) (theta : ℚ) (ray e : ℕ → ℚ) → IsStatedRay p theta ray e → IsComplementary p theta (residual_change p ray) e
@@ -50,12 +47,12 @@ by_ray p theta ray e h =
     }
   where
     above : (i : ℕ) → IsRowAlong p theta ray e i → fitted p ray i <ℚ whole (pos 0) → e i ≡ up_cost p theta i
-    above i (inl flat) down = absurd (down (le_same (whole (pos 0)) (fitted p ray i) (sym flat)))
+    above i (inl flat) down = absurd (down (same_le (whole (pos 0)) (fitted p ray i) (sym flat)))
     above i (inr (inl falls)) down = falls.1
     above i (inr (inr rises)) down = absurd (rises.0 (le_from_not (fitted p ray i) (whole (pos 0)) down))
 
     below : (i : ℕ) → IsRowAlong p theta ray e i → whole (pos 0) <ℚ fitted p ray i → e i ≡ neg_ℚ (down_cost p theta i)
-    below i (inl flat) up = absurd (up (le_same (fitted p ray i) (whole (pos 0)) flat))
+    below i (inl flat) up = absurd (up (same_le (fitted p ray i) (whole (pos 0)) flat))
     below i (inr (inl falls)) up = absurd (up (le_from_not (fitted p ray i) (whole (pos 0)) falls.0))
     below i (inr (inr rises)) up = rises.1
 

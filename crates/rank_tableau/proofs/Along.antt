@@ -38,12 +38,12 @@ use Rattle.rank_tableau.specs.Ends.{IsEndOf}
 use Rattle.rank_tableau.specs.Walks.{here_of, IsStepAt, IsAdvanced, IsAlong, IsEnded}
 
 -- the parameter is 0 where the column weighs nothing
-nothing_at : (way : Way) (x : ℚ) → x ≡ whole (pos 0) → parameter_of way x ≡ whole (pos 0)
+pub nothing_at : (way : Way) (x : ℚ) → x ≡ whole (pos 0) → parameter_of way x ≡ whole (pos 0)
 nothing_at rise x e = ap neg_ℚ e ∙ ring_ℚ [] (negated (number (pos 0))) (number (pos 0)) refl
 nothing_at fall x e = e
 
 -- the parameter of a step
-when_is : {F : Type 0} (value : F → Fraction) (way : Way) (x : F) → when_on way value x ≡ parameter_of way (rational (value x))
+pub when_is : {F : Type 0} (value : F → Fraction) (way : Way) (x : F) → when_on way value x ≡ parameter_of way (rational (value x))
 when_is value rise x = refl
 when_is value fall x = refl
 

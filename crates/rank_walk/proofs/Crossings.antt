@@ -6,6 +6,7 @@ use Rattle.exact_algebra.specs.Rational.{ℚ, ◌+ℚ◌, ◌-ℚ◌, ◌*ℚ◌
 use Rattle.exact_algebra.proofs.RationalLaws.{ring_ℚ}
 use Rattle.exact_algebra.proofs.RationalSumLaws.{sum_ℚ-same, sum_ℚ-scale}
 use Rattle.exact_algebra.proofs.Inverses.{inverse-neg}
+use Rattle.exact_algebra.proofs.Signs.{neg-neg}
 use Rattle.exact_matrices.specs.Terms.{delta}
 use Rattle.exact_matrices.specs.Matrices.{coordinate}
 use Rattle.exact_matrices.proofs.MatrixLaws.{coordinate-delta}
@@ -15,7 +16,6 @@ use Rattle.basis_model.specs.declared.part.Part.TheVariants.{Linear}
 use Rattle.basis_model.specs.Basis.{dual_value}
 use Rattle.walk_rule.specs.Families.{rising_value, falling_value, slope_part}
 use Rattle.walk_rule.specs.Walks.{Crosses}
-use Rattle.pivot_rule.proofs.Entering.{double_neg}
 use Rattle.walk_rule.proofs.Lines.{le_by, negative_neg}
 use Rattle.walk_rule.proofs.Slopes.{crossing}
 use Rattle.loss_model.specs.Strict.{◌<ℚ◌}
@@ -61,7 +61,7 @@ module _ (p : Sample) (j : ℕ) (tau : ℚ) (at : ℕ → ℕ) (a : ℕ → ℕ 
   root_same c l x e = ap (λ z. c *ℚ inverse (neg_ℚ z)) e ∙ ap (λ z. c *ℚ z) (inverse-neg g) ∙ ring_ℚ (c ∷ inverse g ∷ []) (v0 ⊠ negated v1) (negated (v0 ⊠ v1)) refl
 
   root_turned : (c l x : ℚ) → l ≡ neg_ℚ g → c *ℚ inverse (neg_ℚ l) ≡ c *ℚ inverse g
-  root_turned c l x e = ap (λ z. c *ℚ inverse (neg_ℚ z)) e ∙ ap (λ z. c *ℚ inverse z) (double_neg g)
+  root_turned c l x e = ap (λ z. c *ℚ inverse (neg_ℚ z)) e ∙ ap (λ z. c *ℚ inverse z) (neg-neg g)
 
   below : (l : ℚ) → l ≡ g → (l <ℚ whole (pos 0)) ↔ (g <ℚ whole (pos 0))
   below l e = (λ h k. h (subst (λ z. whole (pos 0) ≤ℚ z) (sym e) k), λ h k. h (subst (λ z. whole (pos 0) ≤ℚ z) e k))
@@ -81,8 +81,8 @@ module _ (p : Sample) (j : ℕ) (tau : ℚ) (at : ℕ → ℕ) (a : ℕ → ℕ 
   rise_up s =
       let c = crossing (rising_value p tau j) at a k Upward (neg_ℚ s) in
       let l = slope_part (rising_value p tau j) at a Linear k Upward in
-      let line : l ≡ g = up_line (coordinate p.columns a (λ m. neg_ℚ (delta j m)) k) ∙ ap neg_ℚ rises_by ∙ double_neg g in (
-        λ h. ((below l line).0 (c.0 h).0, turned s _ ((c.0 h).1 ∙ root_same (up_cost p tau (at k) -ℚ dual) l s line) ∙ double_neg _),
+      let line : l ≡ g = up_line (coordinate p.columns a (λ m. neg_ℚ (delta j m)) k) ∙ ap neg_ℚ rises_by ∙ neg-neg g in (
+        λ h. ((below l line).0 (c.0 h).0, turned s _ ((c.0 h).1 ∙ root_same (up_cost p tau (at k) -ℚ dual) l s line) ∙ neg-neg _),
         λ h. c.1 ((below l line).1 h.0, ap neg_ℚ h.1 ∙ sym (root_same (up_cost p tau (at k) -ℚ dual) l s line)),
       )
 
@@ -93,7 +93,7 @@ module _ (p : Sample) (j : ℕ) (tau : ℚ) (at : ℕ → ℕ) (a : ℕ → ℕ 
       let l = slope_part (rising_value p tau j) at a Linear k Downward in
       let line : l ≡ neg_ℚ g = down_line (coordinate p.columns a (λ m. neg_ℚ (delta j m)) k) ∙ rises_by in (
         λ h. ((above l line).0 (c.0 h).0, turned s _ ((c.0 h).1 ∙ root_turned (down_cost p tau (at k) +ℚ dual) l s line) ∙ sym (down_c (down_cost p tau (at k)))),
-        λ h. c.1 ((above l line).1 h.0, ap neg_ℚ (h.1 ∙ down_c (down_cost p tau (at k))) ∙ double_neg _ ∙ sym (root_turned (down_cost p tau (at k) +ℚ dual) l s line)),
+        λ h. c.1 ((above l line).1 h.0, ap neg_ℚ (h.1 ∙ down_c (down_cost p tau (at k))) ∙ neg-neg _ ∙ sym (root_turned (down_cost p tau (at k) +ℚ dual) l s line)),
       )
 
   fall_up : (s : ℚ) → Crosses (falling_value p tau j) at a s k Upward ↔ ((whole (pos 0) <ℚ g) × (s ≡ (up_cost p tau (at k) -ℚ dual) *ℚ inverse g))

@@ -12,6 +12,7 @@ use Rattle.exact_algebra.specs.Rational.{ℚ, ◌-ℚ◌, ◌*ℚ◌, neg_ℚ, w
 use Rattle.exact_algebra.proofs.RationalLaws.{ring_ℚ, ≤ℚ_trans, ≤ℚ_antisym}
 use Rattle.exact_algebra.proofs.RationalSumLaws.{sum_ℚ-same}
 use Rattle.exact_algebra.proofs.OrderLaws.{by_sign, ≤ℚ_neg}
+use Rattle.exact_algebra.proofs.Signs.{neg-neg}
 use Rattle.exact_matrices.specs.Terms.{delta}
 use Rattle.loss_model.specs.declared.problem.Problem.{Problem}
 use Rattle.loss_model.specs.declared.vertex.Side.{Side}
@@ -25,7 +26,6 @@ use Rattle.basis_model.specs.Basis.{IsBasis, coefficient, side_at}
 use Rattle.pivot_rule.specs.Results.{IsVertexAt}
 use Rattle.pivot_rule.proofs.Among.{among_place}
 use Rattle.pivot_rule.proofs.Bounds.{is_basic}
-use Rattle.pivot_rule.proofs.Entering.{double_neg}
 use Rattle.pivot_rule.proofs.Sides.{sign, side_basic, side_outside, on_side}
 use Rattle.walk_rule.specs.Families.{Family, by_weight, basic_at, dual_in}
 use Rattle.walk_rule.specs.Walks.{IsNextBreak}
@@ -70,10 +70,10 @@ ray_of p tau d r e f same values h i li = by_sign (fitted p r i) (λ s. IsRowAlo
     none = ring_ℚ [] (negated (number (pos 0))) (number (pos 0)) refl
 
     back : neg_ℚ (fitted p d i) ≤ℚ whole (pos 0) → whole (pos 0) ≤ℚ fitted p r i
-    back h = subst (λ z. whole (pos 0) ≤ℚ z) (double_neg (fitted p d i) ∙ sym fit) (subst (λ z. z ≤ℚ neg_ℚ (neg_ℚ (fitted p d i))) none (≤ℚ_neg (neg_ℚ (fitted p d i)) (whole (pos 0)) h))
+    back h = subst (λ z. whole (pos 0) ≤ℚ z) (neg-neg (fitted p d i) ∙ sym fit) (subst (λ z. z ≤ℚ neg_ℚ (neg_ℚ (fitted p d i))) none (≤ℚ_neg (neg_ℚ (fitted p d i)) (whole (pos 0)) h))
 
     forth : whole (pos 0) ≤ℚ neg_ℚ (fitted p d i) → fitted p r i ≤ℚ whole (pos 0)
-    forth h = subst (λ z. z ≤ℚ whole (pos 0)) (double_neg (fitted p d i) ∙ sym fit) (subst (λ z. neg_ℚ (neg_ℚ (fitted p d i)) ≤ℚ z) none (≤ℚ_neg (whole (pos 0)) (neg_ℚ (fitted p d i)) h))
+    forth h = subst (λ z. z ≤ℚ whole (pos 0)) (neg-neg (fitted p d i) ∙ sym fit) (subst (λ z. neg_ℚ (neg_ℚ (fitted p d i)) ≤ℚ z) none (≤ℚ_neg (whole (pos 0)) (neg_ℚ (fitted p d i)) h))
 
 -- ---- the vertex of a basis
 

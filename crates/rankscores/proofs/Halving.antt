@@ -11,7 +11,7 @@ use Rattle.exact_algebra.proofs.OrderLaws.{inverse_not_negative, le_from_not, no
 use Rattle.exact_algebra.proofs.Quotients.{by_quotient, denominator-times}
 use Rattle.exact_algebra.proofs.RationalLaws.{whole-add, whole-mul, ring_by_ℚ, *ℚ-inverse, ≤ℚ_mul, ≤ℚ_refl, ≤ℚ_trans}
 use Rattle.exact_algebra.proofs.WholeNumbers.{whole-le, le_from_whole}
-use Rattle.loss_model.proofs.Quotients.{whole_not_negative}
+use Rattle.exact_algebra.proofs.Signs.{whole_not_negative}
 
 -- ---- no fraction is above all whole numbers
 

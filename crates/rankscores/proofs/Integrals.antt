@@ -7,8 +7,9 @@ use Rattle.exact_algebra.specs.RationalSums.{positive_ℚ, negative_ℚ}
 use Rattle.exact_algebra.proofs.OrderLaws.{inverse_not_negative, le_from_not, ≤ℚ-minus, ≤ℚ_neg}
 use Rattle.exact_algebra.proofs.RationalLaws.{whole-add, ring_ℚ, ring_by_ℚ, *ℚ-inverse, ≤ℚ_antisym, ≤ℚ_mul, ≤ℚ_refl, ≤ℚ_trans}
 use Rattle.exact_algebra.proofs.RationalSumLaws.{parts_ℚ, ≤ℚ_add2, ≤ℚ_from}
+use Rattle.exact_algebra.proofs.Signs.{sum_not_negative, product_not_negative, whole_not_negative}
 use Rattle.loss_model.specs.Strict.{◌<ℚ◌}
-use Rattle.loss_model.proofs.Quotients.{inverse_of, product_not_negative, whole_not_negative}
+use Rattle.loss_model.proofs.Quotients.{inverse_of}
 use Rattle.rankscores.specs.Integrals.{line, IsArea}
 use Rattle.rankscores.specs.Laws.{LineMixes, TrapezoidIsIntegral}
 use Rattle.rankscores.specs.Trapezoids.{trapezoid}
@@ -23,10 +24,6 @@ two = inverse_of 2 (omega arith)
 
 pub h_not_negative : whole (pos 0) ≤ℚ h
 h_not_negative = inverse_not_negative (whole (pos 2)) (whole_not_negative 2)
-
--- a sum of what isn't negative
-pub sum_not_negative : (x y : ℚ) → whole (pos 0) ≤ℚ x → whole (pos 0) ≤ℚ y → whole (pos 0) ≤ℚ (x +ℚ y)
-sum_not_negative x y p q = subst (λ z. z ≤ℚ (x +ℚ y)) (ring_ℚ [] (number (pos 0) ⊞ number (pos 0)) (number (pos 0)) refl) (≤ℚ_add2 (whole (pos 0)) x (whole (pos 0)) y p q)
 
 -- ---- trapezoids
 

@@ -9,6 +9,7 @@ use Rattle.std.proofs.lemmas.Option.{slice_get_read}
 use Rattle.std.specs.Option.{option_map_or}
 use Rattle.exact_algebra.specs.Fraction.{Fraction, rational}
 use Rattle.exact_algebra.specs.Rational.{ℚ, ◌+ℚ◌, ◌-ℚ◌, ◌*ℚ◌, inverse, whole}
+use Rattle.exact_algebra.proofs.Lists.{contains_item}
 use Rattle.loss_model.specs.declared.problem.Row.{Row}
 use Rattle.loss_model.specs.declared.problem.Problem.{Problem}
 use Rattle.loss_model.specs.declared.process.Segment.{Segment}
@@ -18,17 +19,10 @@ use Rattle.loss_model.specs.declared.vertex.Vertex.{Vertex}
 use Rattle.loss_model.specs.Problem.{of_row, sample, value_at}
 use Rattle.loss_model.specs.Vertex.{IsVertexOf, basic_value, dual_value}
 use Rattle.loss_model.proofs.Vertices.{basic_value-at, dual_value-at}
+use Rattle.loss_model.proofs.Products.{value_at-item}
 use Rattle.rankscores.specs.declared.pair.ScorePair.{ScorePair}
 use Rattle.rankscores.specs.Scores.{IsScored, dual_of, row_score, score}
 use Rattle.rankscores.specs.Spills.{score_site, IsEndSpill, IsScoreSpill}
-
--- an item of a list is in it
-itself : (xs : List ℕ) (k : ℕ) → k < length xs → Contains xs (slice_index xs k)
-itself xs k l = (k, l, cc (sym (slice_get-get_or xs k (slice_index xs k) l) ∙ slice_get-get_or xs k 0 l))
-
--- an item that was read
-value_read : {F : Type 0} (value : F → Fraction) (xs : List F) (i : ℕ) (x : F) → i < length xs → x ≡ get_or xs i x → value_at value xs i ≡ rational (value x)
-value_read value xs i x within is = ap (λ o. option_map_or (λ x. rational (value x)) o (whole (pos 0))) (slice_get_read xs (length xs) i x refl within is)
 
 -- a number of a row that was read
 row_read : {F : Type 0} (rows : List (Row F)) (number : Row F → ℚ) (i : ℕ) (r : Row F) → i < length rows → r ≡ get_or rows i r → of_row rows number i ≡ number r
@@ -37,7 +31,7 @@ row_read rows number i r within is = ap (λ o. option_map_or number o (whole (po
 module _ {F : Type 0} (value : F → Fraction) (p : Problem F) (v : Vertex F) (basic : List F) (theta : F) (shape : IsVertexOf p v) (place row : ℕ) (within : place < length v.basis.rows) (at : row ≡ slice_index v.basis.rows place)
     (inside : row < length p.rows) where
   there : Contains v.basis.rows row
-  there = subst (Contains v.basis.rows) (sym at) (itself v.basis.rows place within)
+  there = subst (Contains v.basis.rows) (sym at) (contains_item v.basis.rows place within)
 
   -- the dual value of the row is that of its place
   dual_at_place : dual_value value p v basic (rational (value theta)) row ≡ value_at value basic place
@@ -87,7 +81,7 @@ module _ {F : Type 0} (value : F → Fraction) (p : Problem F) (n : ℕ) (v : Ve
   inside_read = subst (λ i. i < length p.rows) (sym at_read) (inside place 0 within)
 
   dual_read : rational (value x) ≡ value_at value basic place
-  dual_read = sym (value_read value basic place x (omega (arith, within, size)) (x_is ∙ ap (λ xs. get_or xs place x) held))
+  dual_read = sym (value_at-item value basic place x (omega (arith, within, size)) (x_is ∙ ap (λ xs. get_or xs place x) held))
 
   pub penalty_read : n ≤ row → rational (value x) ≡ row_score value p n v basic theta row
   penalty_read later = dual_read ∙ sym (dual_at_place value p v basic theta shape place row within at_read inside_read) ∙ later_score value p n v basic theta row later

@@ -4,6 +4,7 @@ use Rattle.exact_algebra.specs.Solver.{number, ◌⊞◌, ◌⊟◌, ◌⊠◌, 
 use Rattle.exact_algebra.specs.Fraction.{Fraction, rational}
 use Rattle.exact_algebra.specs.Rational.{ℚ, ◌+ℚ◌, ◌-ℚ◌, whole}
 use Rattle.exact_algebra.proofs.RationalLaws.{ring_ℚ}
+use Rattle.exact_algebra.proofs.Signs.{plus-zero}
 use Rattle.loss_model.specs.declared.problem.Problem.{Problem}
 use Rattle.loss_model.specs.declared.process.Segment.{Segment}
 use Rattle.loss_model.specs.declared.vertex.Side.TheVariants.{Up, Down}
@@ -46,6 +47,3 @@ module _ {F : Type 0} (value : F → Fraction) (p : Problem F) (s : Segment F) (
 -- a segment at which the row is basic adds its cross product
 pub basic_on : (t u w x : ℚ) → u ≡ t → w ≡ u +ℚ x → w +ℚ whole (pos 0) ≡ t +ℚ x
 basic_on t u w x e f = ring_ℚ (w ∷ []) (v0 ⊞ number (pos 0)) v0 refl ∙ f ∙ ap (λ z. z +ℚ x) e
-
-pub closed_none : (t : ℚ) → t ≡ t +ℚ whole (pos 0)
-closed_none t = ring_ℚ (t ∷ []) v0 (v0 ⊞ number (pos 0)) refl

@@ -10,17 +10,17 @@ use Rattle.exact_algebra.proofs.Inverses.{one-zero}
 use Rattle.exact_algebra.proofs.OrderLaws.{cmp_ℚ-Less, inverse_not_negative, le_from_not, ≤ℚ-minus}
 use Rattle.exact_algebra.proofs.RationalLaws.{ring_ℚ, ring_by_ℚ, *ℚ-inverse, ≤ℚ_add, ≤ℚ_refl}
 use Rattle.exact_algebra.proofs.RationalSumLaws.{sum_ℚ-le, sum_ℚ-mix, sum_ℚ-same, sum_ℚ-scale, sum_ℚ-swap, sum_ℚ-zero, ≤ℚ_from}
+use Rattle.exact_algebra.proofs.Signs.{sum_not_negative, product_not_negative}
 use Rattle.loss_model.specs.Dual.{IsDataRow, rankscore}
 use Rattle.loss_model.specs.Laws.{RankscoresAreBounded}
 use Rattle.loss_model.specs.Sample.{Sample}
 use Rattle.loss_model.specs.Segment.{Covers, Segments}
 use Rattle.loss_model.specs.Strict.{◌<ℚ◌}
-use Rattle.loss_model.proofs.Quotients.{product_not_negative}
 use Rattle.rankscores.specs.Integrals.{line, IsIntegral}
 use Rattle.rankscores.specs.Laws.{AreFeasible, AreProper, ScoresAreBounded, WilcoxonIsBalanced, WilcoxonIsBounded, WilcoxonIsSum, WilcoxonSumsToZero}
 use Rattle.rankscores.specs.Trapezoids.{score_area}
 use Rattle.rankscores.specs.Wilcoxon.{half, score_along, IsWilcoxon}
-use Rattle.rankscores.proofs.Integrals.{h, length-one, sum_not_negative, trapezoid_at_least, trapezoid_at_most, trapezoid_is, two}
+use Rattle.rankscores.proofs.Integrals.{h, length-one, trapezoid_at_least, trapezoid_at_most, trapezoid_is, two}
 
 -- ---- the sum
 

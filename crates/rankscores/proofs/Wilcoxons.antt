@@ -5,6 +5,7 @@ use Rattle.std.proofs.lemmas.Bool.{ltb-false, ltb-true}
 use Rattle.std.proofs.lemmas.List.{length-append}
 use Rattle.exact_algebra.specs.Rational.{◌-ℚ◌, whole}
 use Rattle.exact_algebra.specs.Fraction.{Fraction, rational}
+use Rattle.exact_algebra.proofs.Lists.{pushed_before, pushed_last}
 use Rattle.loss_model.specs.declared.problem.Problem.{Problem}
 use Rattle.loss_model.specs.declared.process.Segment.{Segment}
 use Rattle.loss_model.specs.Problem.{sample, value_at}
@@ -12,16 +13,6 @@ use Rattle.loss_model.specs.Segment.{Covers, segments_of}
 use Rattle.rankscores.specs.Rows.{area_to}
 use Rattle.rankscores.specs.Wilcoxon.{half, AreWilcoxon, IsWilcoxon}
 use Rattle.rankscores.proofs.WilcoxonLaws.{is_sum, proper}
-
--- an item of a list stays where it is, and what is added stands behind all
-kept_item : {X : Type 0} (xs : List X) (x : X) (i : ℕ) → i < length xs → slice_get (xs ++ x ∷ []) i ≡ slice_get xs i
-kept_item [] x i l = absurd (omega (arith, l))
-kept_item (y ∷ xs) x zero l = refl
-kept_item (y ∷ xs) x (suc i) l = kept_item xs x i (omega (arith, l))
-
-last_item : {X : Type 0} (xs : List X) (x : X) → slice_get (xs ++ x ∷ []) (length xs) ≡ Some x
-last_item [] x = refl
-last_item (y ∷ xs) x = last_item xs x
 
 module _ {F : Type 0} (value : F → Fraction) (p : Problem F) (segments : List (Segment F)) where
   -- the scores of the first k rows
@@ -47,13 +38,13 @@ module _ {F : Type 0} (value : F → Fraction) (p : Problem F) (segments : List 
       by : (i : ℕ) (t : Bool) → nat_lt i k ≡ t → i < k + 1 → IsWilcoxon (sample value p) (segments_of value p segments) i (value_at (λ x. x) (scores ++ x ∷ []) i)
       by i true e l =
           let before : i < k = ltb-true i k e in
-          subst (IsWilcoxon (sample value p) (segments_of value p segments) i) (ap (λ o. option_map_or (λ y. rational y) o (whole (pos 0))) (sym (kept_item scores x i (omega (arith, before, so_far.size))))) (so_far.each i before)
+          subst (IsWilcoxon (sample value p) (segments_of value p segments) i) (ap (λ o. option_map_or (λ y. rational y) o (whole (pos 0))) (sym (pushed_before scores x i (omega (arith, before, so_far.size))))) (so_far.each i before)
       by i false e l =
           let same : length scores ≡ i = omega (arith, ltb-false i k e, l, so_far.size) in
           let row : k ≡ i = omega (arith, ltb-false i k e, l) in
           subst (λ n. IsWilcoxon (sample value p) (segments_of value p segments) n (value_at (λ x. x) (scores ++ x ∷ []) n)) row
           (subst (λ n. IsWilcoxon (sample value p) (segments_of value p segments) k (value_at (λ x. x) (scores ++ x ∷ []) n)) so_far.size
-          (subst (IsWilcoxon (sample value p) (segments_of value p segments) k) (ap (λ o. option_map_or (λ y. rational y) o (whole (pos 0))) (sym (last_item scores x))) new))
+          (subst (IsWilcoxon (sample value p) (segments_of value p segments) k) (ap (λ o. option_map_or (λ y. rational y) o (whole (pos 0))) (sym (pushed_last scores x))) new))
 
   pub first_all : (k : ℕ) (scores : List Fraction) → k ≡ length p.rows → AreFirst k scores → AreWilcoxon value p segments scores
   first_all k scores end all =

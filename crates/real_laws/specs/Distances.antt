@@ -8,8 +8,9 @@ use Rattle.exact_algebra.proofs.RationalLaws.{ring_ℚ, ring_by_ℚ, *ℚ-invers
 use Rattle.exact_algebra.proofs.RationalSumLaws.{≤ℚ_add2, ≤ℚ_from}
 use Rattle.exact_algebra.proofs.OrderLaws.{≤ℚ-minus, le_from_not}
 use Rattle.exact_algebra.proofs.WholeNumbers.{le_from_whole}
+use Rattle.exact_algebra.proofs.Signs.{product_not_negative}
 use Rattle.loss_model.specs.Strict.{◌<ℚ◌}
-use Rattle.loss_model.proofs.Quotients.{inverse_of, product_not_negative}
+use Rattle.loss_model.proofs.Quotients.{inverse_of}
 use Rattle.real_laws.specs.Fractions.{greater_ℚ, left_at_most, right_at_most, greater_is_least}
 
 -- ---- order

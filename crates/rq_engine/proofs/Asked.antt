@@ -5,11 +5,12 @@ use Rattle.std.proofs.Common.{◌≡◌, ℕ, ◌<◌, ◌^◌, Bool, true, fals
 use Rattle.std.specs.Prelude.{⊤}
 use Rattle.std.specs.List.{list_any}
 use Rattle.std.proofs.lemmas.List.Elements.{All-cons, All-nil}
+use Rattle.std.proofs.lemmas.Bool.{or_parts}
 use Rattle.exact_algebra.specs.Fraction.{rational}
 use Rattle.exact_algebra.specs.Rational.{ℚ, le_ℚ}
 use Rattle.frac_core.specs.declared.frac128.Frac128.{Frac128}
-use Rattle.frac_core.specs.Values.{value}
-use Rattle.rq_words.specs.Requests.{fit_request, number, path_request, rank_request, sample_request, test_request}
+use Rattle.frac_core.specs.Values.{exact, value}
+use Rattle.rq_words.specs.Requests.{fit_request, path_request, rank_request, sample_request, test_request}
 use Rattle.rq_words.specs.Requests as request
 use Rattle.rq_words.specs.Words.{zero, one, is_outside}
 use Rattle.rq_words.specs.declared.job.Job.{Job}
@@ -24,20 +25,16 @@ use Rattle.rq_engine.specs.Asks.{IsFitAsk, IsInner, IsPathAsk, IsRankAskOf, IsTe
 use Rattle.rq_engine.specs.Jobs.{IsJobOf, sample_fit}
 use Rattle.rq_engine.specs.SampleAsks.{IsSampleAsk}
 
-either_false : (a b : Bool) → (a || b) ≡ false → (a ≡ false) × (b ≡ false)
-either_false true b h = absurd (cc h)
-either_false false b h = (refl, h)
-
 inner_by : (tau : ℚ) → is_outside tau ≡ false → IsInner tau
 inner_by tau h =
-    let both = either_false (le_ℚ tau zero) (le_ℚ one tau) h in
+    let both = or_parts (le_ℚ tau zero) (le_ℚ one tau) h in
     (λ low. absurd (cc (low.le, both.0)), λ high. absurd (cc (high.le, both.1)))
 
-all_inner : (taus : List Frac128) → list_any is_outside (map number taus) ≡ false → All (λ tau. IsInner (rational (value tau))) taus
+all_inner : (taus : List Frac128) → list_any is_outside (map exact taus) ≡ false → All (λ tau. IsInner (rational (value tau))) taus
 all_inner [] h = All-nil (λ tau. IsInner (rational (value tau)))
 all_inner (tau ∷ taus) h =
-    let both = either_false (is_outside (number tau)) (list_any is_outside (map number taus)) h in
-    All-cons (λ tau. IsInner (rational (value tau))) tau taus (inner_by (number tau) both.0) (all_inner taus both.1)
+    let both = or_parts (is_outside (exact tau)) (list_any is_outside (map exact taus)) h in
+    All-cons (λ tau. IsInner (rational (value tau))) tau taus (inner_by (exact tau) both.0) (all_inner taus both.1)
 
 rank_by : (rank : Option RankAsk) → IsSoundOf (option_map rank_request rank) → IsRankAskOf rank
 rank_by None h = tt

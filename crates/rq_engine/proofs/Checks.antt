@@ -1,6 +1,6 @@
 -- A certificate that was read is within the limits; why it has no verdict.
 use Rattle.std.proofs.Common.{◌≡◌, ◌*◌, ◌≤◌, ◌||◌, ℕ, Bool, true, false, List, Ok, Err, length, nat_lt, if◌then◌else◌, arith, refl, ap₂, subst}
-use Rattle.std.proofs.lemmas.Bool.{ltb-false}
+use Rattle.std.proofs.lemmas.Bool.{ltb-false, or_parts}
 use Rattle.std.proofs.lemmas.List.{length-map}
 use Rattle.serde_json.specs.Find.{as_object}
 use Rattle.frac_core.specs.Limits.{most_columns, most_rows}
@@ -37,17 +37,13 @@ not_large bytes c h =
     let found = small (is_too_large all.0) TooLarge all.0 c all.1 in
     subst (λ (c : Content). is_too_large c ≡ false) found.1 found.0
 
-either : (a b : Bool) → (a || b) ≡ false → (a ≡ false) × (b ≡ false)
-either true b h = absurd (cc h)
-either false b h = (refl, h)
-
 pub read_within : (bytes : List ℕ) (cert : Cert) → cert_of bytes ≡ Ok (content cert) → IsWithinLimits cert
 read_within bytes cert h =
     let c = content cert in
-    let columns = either (nat_lt most_columns c.problem.columns) _ (not_large bytes c h) in
-    let rows = either (nat_lt most_rows (length c.problem.rows)) _ columns.1 in
-    let segments = either (nat_lt most_segments (length c.segments)) _ rows.1 in
-    let intervals = either (nat_lt most_intervals (length c.intervals)) (nat_lt most_sides (length c.problem.rows * length c.segments)) segments.1 in
+    let columns = or_parts (nat_lt most_columns c.problem.columns) _ (not_large bytes c h) in
+    let rows = or_parts (nat_lt most_rows (length c.problem.rows)) _ columns.1 in
+    let segments = or_parts (nat_lt most_segments (length c.segments)) _ rows.1 in
+    let intervals = or_parts (nat_lt most_intervals (length c.intervals)) (nat_lt most_sides (length c.problem.rows * length c.segments)) segments.1 in
     let sides = ap₂ (λ (rows segments : ℕ). rows * segments) (length-map cert.problem.rows exact_row) (length-map cert.segments exact_segment) in
     record {
       columns = ltb-false most_columns c.problem.columns columns.0;

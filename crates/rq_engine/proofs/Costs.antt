@@ -1,5 +1,6 @@
 -- Data rows and penalty rows have costs at every quantile.
 use Rattle.std.proofs.Common.{◌≡◌, ◌⊎◌, ◌<◌, ◌≤◌, ℕ, zero, suc, [], ◌∷◌, length, pos, arith, inl, inr, refl, sym, ap, subst, ◌∙◌}
+use Rattle.std.proofs.lemmas.Bool.{cases_lt}
 use Rattle.exact_algebra.proofs.OrderLaws.{cmp_ℚ-Less, ≤ℚ-minus}
 use Rattle.exact_algebra.specs.Fraction.{rational}
 use Rattle.exact_algebra.specs.Rational.{ℚ, ◌+ℚ◌, ◌*ℚ◌, whole, ◌≤ℚ◌}
@@ -45,12 +46,6 @@ penalty_costs p theta i row =
     down : down_cost p theta i ≡ p.up0 i
     down = ap (λ z. z +ℚ (p.down1 i *ℚ theta)) row.down0 ∙ ap (λ z. p.up0 i +ℚ (z *ℚ theta)) row.down1 ∙ steady (p.up0 i)
 
--- one of two numbers below another, or not
-below_or_not : (i n : ℕ) → (i < n) ⊎ (n ≤ i)
-below_or_not i zero = inr (omega arith)
-below_or_not zero (suc n) = inl (omega arith)
-below_or_not (suc i) (suc n) = elim (below_or_not i n) [ inl l ↦ inl (omega (arith, l)) | inr l ↦ inr (omega (arith, l)) ]
-
 -- at a quantile the costs of an input's rows are not negative, and their sums are above 0
 pub input_costs : (input : Input) (theta : ℚ) → whole (pos 0) ≤ℚ theta → theta ≤ℚ whole (pos 1) → HasRows input → HasCosts (sample value input.problem) theta
 input_costs input theta low high rows =
@@ -60,7 +55,7 @@ input_costs input theta low high rows =
     p = sample value input.problem
 
     costed : (i : ℕ) → i < length input.problem.rows → IsCosted p theta i
-    costed i l = elim (below_or_not i (length input.design.rows)) [
+    costed i l = elim (cases_lt i (length input.design.rows)) [
       | inl before ↦ row_costs p theta i low high (rows.are_data i before)
       | inr behind ↦ penalty_costs p theta i (rows.are_penalties i behind l)
     ]

@@ -38,7 +38,7 @@ abbrev problem_front : List (Row ℚ) → ℚ
 problem_front [] = whole (pos 0)
 problem_front (r ∷ rs) = front r.x
 
-front_value : (xs : List Frac128) → value_at value xs 0 ≡ front (map exact xs)
+pub front_value : (xs : List Frac128) → value_at value xs 0 ≡ front (map exact xs)
 front_value [] = refl
 front_value (x ∷ xs) = refl
 

@@ -9,6 +9,7 @@ use Rattle.exact_algebra.specs.Order.{cmp_ℚ}
 use Rattle.exact_algebra.specs.Rational.{ℚ, ◌+ℚ◌, ◌-ℚ◌, ◌*ℚ◌, neg_ℚ, whole}
 use Rattle.exact_algebra.proofs.RationalLaws.{ring_ℚ}
 use Rattle.exact_algebra.specs.Solver.{number, negated, ◌⊞◌, ◌⊟◌, ◌⊠◌, v0, v1}
+use Rattle.exact_algebra.proofs.Lists.{item_at}
 use Rattle.frac_core.specs.declared.frac128.Frac128.{Frac128}
 use Rattle.frac_core.specs.Values.{exact, value}
 use Rattle.loss_model.specs.declared.problem.Row.{Row}
@@ -54,10 +55,6 @@ is_data_row weight p i h above = record {
 -- a place where an item stands is one of the list
 there : {X : Type 0} (xs : List X) (i : ℕ) (x : X) → slice_get xs i ≡ Some x → i < length xs
 there xs i x here = elim (slice_get_cases xs i).1 [ inl w ↦ w.1 | inr h ↦ absurd (cc (sym h.1 ∙ here)) ]
-
--- the item at a place
-item_at : {X : Type 0} (xs : List X) (i : ℕ) → i < length xs → (x : X) × (slice_get xs i ≡ Some x) × (get_or xs i x ≡ x)
-item_at xs i l = elim (slice_get_cases xs i).1 [ inl w ↦ (w.0, w.2, w.3) | inr h ↦ absurd (omega arith) ]
 
 module _ (design : Design) (smoothing : Smoothing) (p : Problem Frac128) (lists : length smoothing.columns ≡ length design.rows) (rows : map exact_row p.rows ≡ rows_of design smoothing) where
   count : length p.rows ≡ row_count design smoothing

@@ -9,7 +9,7 @@ use Rattle.exact_algebra.specs.RationalSums.{sum_ℚ, positive_ℚ, negative_ℚ
 use Rattle.exact_algebra.specs.Solver.{number, negated, ◌⊞◌, ◌⊟◌, ◌⊠◌, v0, v1, v2, v3}
 use Rattle.exact_algebra.proofs.OrderLaws.{≤ℚ-minus}
 use Rattle.exact_algebra.proofs.RationalLaws.{ring_ℚ, +ℚ_assoc, zero-+ℚ, ≤ℚ_total}
-use Rattle.exact_algebra.proofs.RationalSumLaws.{sum_ℚ-same}
+use Rattle.exact_algebra.proofs.RationalSumLaws.{sum_ℚ-same, sum_ℚ-first}
 use Rattle.exact_algebra.specs.Fraction.{rational}
 use Rattle.frac_core.specs.declared.frac128.Frac128.{Frac128}
 use Rattle.frac_core.specs.Values.{exact, value}
@@ -33,17 +33,13 @@ use Rattle.rq_program.proofs.Rows.{wide_rows_of}
 
 -- ---- sums from the front
 
-sum_front : (n : ℕ) (f : ℕ → ℚ) → sum_ℚ (suc n) f ≡ f zero +ℚ sum_ℚ n (λ k. f (suc k))
-sum_front zero f = ring_ℚ (f zero ∷ []) (number (pos 0) ⊞ v0) (v0 ⊞ number (pos 0)) refl
-sum_front (suc n) f = ap (λ z. z +ℚ f (suc n)) (sum_front n f) ∙ +ℚ_assoc (f zero) (sum_ℚ n (λ k. f (suc k))) (f (suc n))
-
 -- entries times coefficients, by index and one after the other
 sum_along : (n : ℕ) (xs : List Frac128) (b : ℕ → ℚ) → n ≡ length xs → sum_ℚ n (λ k. value_at value xs k *ℚ b k) ≡ along (map exact xs) b
 sum_along zero [] b e = refl
 sum_along zero (x ∷ xs) b e = absurd (cc e)
 sum_along (suc n) [] b e = absurd (cc e)
 sum_along (suc n) (x ∷ xs) b e =
-    sum_front n (λ k. value_at value (x ∷ xs) k *ℚ b k) ∙ ap (λ z. (exact x *ℚ b zero) +ℚ z) (sum_along n xs (λ k. b (suc k)) (cc e))
+    sum_ℚ-first n (λ k. value_at value (x ∷ xs) k *ℚ b k) ∙ ap (λ z. (exact x *ℚ b zero) +ℚ z) (sum_along n xs (λ k. b (suc k)) (cc e))
 
 -- ---- rows
 
@@ -68,7 +64,7 @@ loss_by_rows : (n : ℕ) (rs : List (Row Frac128)) (theta : ℚ) (b : ℕ → �
 unfolding rows_of_loss row_of_loss
 loss_by_rows n [] theta b wide = refl
 loss_by_rows n (r ∷ rs) theta b wide =
-    sum_front (length rs) (row_loss (sample value (record { columns = n; rows = r ∷ rs })) theta b)
+    sum_ℚ-first (length rs) (row_loss (sample value (record { columns = n; rows = r ∷ rs })) theta b)
     ∙ ap₂ ◌+ℚ◌ (ap lost (sum_along n r.x b (sym (All-head (λ q. length q.x ≡ n) r rs wide)))) (loss_by_rows n rs theta b (All-tail (λ q. length q.x ≡ n) r rs wide))
   where
     -- by what is fitted

@@ -6,6 +6,7 @@ use Rattle.std.proofs.lemmas.List.{get_or-map, length-append, length-map, length
 use Rattle.std.proofs.lemmas.List.Elements.{All-append, All-map}
 use Rattle.std.proofs.lemmas.Slice.Zip.{get_or-zip, length-zip}
 use Rattle.exact_algebra.specs.Rational.{ℚ, neg_ℚ, whole}
+use Rattle.exact_algebra.proofs.Lists.{mapped_more, map_replicate}
 use Rattle.frac_core.specs.declared.frac128.Frac128.{Frac128}
 use Rattle.frac_core.specs.Values.{exact}
 use Rattle.loss_model.specs.declared.problem.Row.{Row}
@@ -18,18 +19,6 @@ use Rattle.tv_penalty.specs.declared.PenaltyRow.{PenaltyRow}
 use Rattle.tv_penalty.specs.declared.Smoothing.{Smoothing}
 use Rattle.rq_program.specs.Programs.{data_row, penalty_row, rows_of, columns_of, AreTogether}
 use Rattle.rq_program.specs.Faults.{row_count}
-
-map_replicate : {X Y : Type 0} (f : X → Y) (n : ℕ) (x : X) → map f (replicate n x) ≡ replicate n (f x)
-map_replicate f zero x = refl
-map_replicate f (suc n) x = ap (λ z. f x ∷ z) (map_replicate f n x)
-
--- the step of a loop that adds w, which is to g what the item at k is to f
-pub mapped_more : {W X Y : Type 0} (g : W → Y) (f : X → Y) (xs : List X) (k : ℕ) (x : X) (start : List Y) (olds news : List W) (w : W) → k < length xs → x ≡ get_or xs k x → map g olds ≡ start ++ map f (take k xs) → news ≡ olds ++ w ∷ []
-    → g w ≡ f x → map g news ≡ start ++ map f (take (k + 1) xs)
-mapped_more g f xs k x start olds news w within here so_far more made =
-    ap (map g) more ∙ map-append g olds (w ∷ []) ∙ ap (λ y. map g olds ++ y ∷ []) (made ∙ ap f here) ∙ ap (λ z. z ++ f (get_or xs k x) ∷ []) so_far
-    ∙ append_assoc start (map f (take k xs)) (f (get_or xs k x) ∷ [])
-    ∙ ap (λ z. start ++ z) (sym (map-append f (take k xs) (get_or xs k x ∷ [])) ∙ ap (map f) (sym (take_more xs k x within)))
 
 -- the same of two lists, item by item
 pub mapped_zip_more : {W X Y Z : Type 0} (g : W → Z) (f : X × Y → Z) (xs : List X) (ys : List Y) (k : ℕ) (x : X) (y : Y) (start : List Z) (olds news : List W) (w : W) → k < length xs → length ys ≡ length xs → x ≡ get_or xs k x

@@ -9,6 +9,7 @@ use Rattle.std.proofs.Math.Dec.{lit<}
 use Rattle.std.proofs.lemmas.Bool.{cases_lt, le-leb, lt-ltb}
 use Rattle.std.proofs.lemmas.Bool.Decides.{nat_tests}
 use Rattle.std.proofs.lemmas.Str.Parse.{IsNumeralModel, digits_value_short, numerals_by_value, parse_digits, tells_all_ascii_digits}
+use mathlib.Core.Bool.{and-false}
 use Rattle.rq_words.specs.Words.{has_digits}
 
 own : IsNumeralModel (λ ds. all_ascii_digits ds ≡ true) (digits_value 10)
@@ -18,17 +19,13 @@ same_digits : (text : List ℕ) → list_all is_ascii_digit text ≡ all_ascii_d
 same_digits [] = refl
 same_digits (c ∷ cs) = ap (λ (t : Bool). is_ascii_digit c && t) (same_digits cs)
 
-and_false : (b : Bool) → (b && false) ≡ false
-and_false true = refl
-and_false false = refl
-
 pub too_long : (places : ℕ) (text : List ℕ) → places < length text → has_digits places text ≡ false
 too_long places text h = let long : nat_le (length text) places ≡ false = grind (arith, nat_tests) in rw long refl
 
 pub other_byte : (places : ℕ) (text : List ℕ) → list_all is_ascii_digit text ≡ false → has_digits places text ≡ false
 other_byte places text h =
     let digits : all_ascii_digits text ≡ false = sym (same_digits text) ∙ h in
-    rw (digits, and_false (nat_lt 0 (length text)), and_false (nat_le (length text) places)) refl
+    rw (digits, and-false (nat_lt 0 (length text)), and-false (nat_le (length text) places)) refl
 
 -- what `parse` makes of at most ten digits
 pub parsed : {E : Type 0} (places : ℕ) (text : List ℕ) (r : Result ℕ E) → ParsesUnsigned 64 10 text r → list_all is_ascii_digit text ≡ true

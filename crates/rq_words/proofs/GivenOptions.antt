@@ -4,6 +4,7 @@ use Rattle.std.specs.Prelude.{find, fold, nat_lt, slice_get, drop, encode_utf8, 
 use Rattle.std.specs.List.{list_all, list_any}
 use Rattle.std.specs.Option.{option_map_or}
 use Rattle.std.specs.Str.{bytes_eq, chars}
+use Rattle.std.proofs.lemmas.Bool.{and_parts, or_parts}
 use Rattle.clap.specs.Lexer.{long_of, short_of}
 use Rattle.clap.specs.Facts.{explicit_source, unwrap_or_range}
 use Rattle.clap.specs.Kinds.{Kinds, check_kinds, or_else}
@@ -92,10 +93,6 @@ used_values again a (v ∷ vs) rows faulty wants none h = used_as_values (action
 
 -- ---- the walk over the words, by rules whose uses all want a value
 
-wants_of_both : (x y : Bool) → (x && y) ≡ true → (x ≡ true) × (y ≡ true)
-wants_of_both true y h = (refl, h)
-wants_of_both false y h = absurd (cc h)
-
 picked : (b : Bool) (a : Rule) (o : Option Rule) → wants_value a ≡ true → FoundWants o → FoundWants (if b then Some a else o)
 picked true a o wants found = wants
 picked false a o wants found = found
@@ -103,7 +100,7 @@ picked false a o wants found = found
 found_wants : (q : Rule → Bool) (rules : List Rule) → list_all wants_value rules ≡ true → FoundWants (find q rules)
 found_wants q [] h = tt
 found_wants q (a ∷ rest) h =
-    let both = wants_of_both (wants_value a) (list_all wants_value rest) h in
+    let both = and_parts (wants_value a) (list_all wants_value rest) h in
     picked (q a) a (find q rest) both.0 (found_wants q rest both.1)
 
 -- what the rest of a bundle comes to keeps the values
@@ -233,10 +230,6 @@ unless_negated : (negates has any : Bool) → negates ≡ false → (not (negate
 unless_negated false has any is h = h
 unless_negated true has any is h = absurd (cc is)
 
-neither : (x y : Bool) → (x || y) ≡ false → (x ≡ false) × (y ≡ false)
-neither false y h = (refl, h)
-neither true y h = absurd (cc h)
-
 so_given : (required given : Bool) → required ≡ true → (required && not given) ≡ false → given ≡ true
 so_given true true is h = refl
 so_given true false is h = absurd (cc h)
@@ -247,9 +240,9 @@ given_at : (rows : List Row) (rules : List Rule) (i : ℕ) (a : Rule) → slice_
 given_at rows [] i a at required h = absurd (cc at)
 given_at rows (b ∷ rest) zero a at required h =
     let same : b ≡ a = cc at in
-    let none = (neither (b.required && not (is_given b.id rows)) _ h).0 in
+    let none = (or_parts (b.required && not (is_given b.id rows)) _ h).0 in
     so_given a.required (is_given a.id rows) required (subst (λ (r : Rule). (r.required && not (is_given r.id rows)) ≡ false) same none)
-given_at rows (b ∷ rest) (suc i) a at required h = given_at rows rest i a at required (neither (b.required && not (is_given b.id rows)) _ h).1
+given_at rows (b ∷ rest) (suc i) a at required h = given_at rows rest i a at required (or_parts (b.required && not (is_given b.id rows)) _ h).1
 
 -- a row that is found has a value
 abbrev FoundHas : Option Row → Type 0

@@ -2,6 +2,7 @@
 use Rattle.std.proofs.Common.{◌≡◌, Bool, true, false, not, ◌&&◌, List, [], ◌∷◌, Option, Some, None, Result, Ok, Err, refl, subst, codes, drop, if◌then◌else◌}
 use Rattle.std.specs.List.{list_any}
 use Rattle.std.specs.Option.{option_map_or}
+use Rattle.std.proofs.lemmas.Bool.{and_parts}
 use Rattle.clap.specs.Words.{Row, Text}
 use Rattle.exact_algebra.specs.Rational.{ℚ, le_ℚ, ◌≤ℚ◌}
 use Rattle.contrasts.specs.declared.Coding.{Coding}
@@ -84,17 +85,13 @@ words_in_order (job ∷ rest) r h =
     let kind = found_ok (kind_of job) (λ kind. words_of_job kind (job ∷ rest)) UnknownJob _ h in
     job_in_order kind.0 (job ∷ rest) r kind.1
 
-pub both : (a b : Bool) → (a && b) ≡ true → (a ≡ true) × (b ≡ true)
-both true b h = (refl, h)
-both false b h = absurd (cc h)
-
 abbrev IsRange : ℚ → ℚ → Type 0
 IsRange lo hi = (zero ≤ℚ lo) × (lo ≤ℚ hi) × (hi ≤ℚ one)
 
 pub range_of : (lo hi : ℚ) → is_in_order lo hi ≡ true → IsRange lo hi
 range_of lo hi order =
-    let high = both (le_ℚ zero lo && le_ℚ lo hi) (le_ℚ hi one) order in
-    let within = both (le_ℚ zero lo) (le_ℚ lo hi) high.0 in
+    let high = and_parts (le_ℚ zero lo && le_ℚ lo hi) (le_ℚ hi one) order in
+    let within = and_parts (le_ℚ zero lo) (le_ℚ lo hi) high.0 in
     (record { le = within.0 }, record { le = within.1 }, record { le = high.1 })
 
 -- the range of a process that the words ask for
@@ -118,9 +115,9 @@ pub record IsPathRange (p : PathRequest) : Type 0 where
 
 path_by : (p : PathRequest) → is_path_range p.tau p.fit.lo p.fit.hi ≡ true → IsPathRange p
 path_by p h =
-    let ordered = both (le_ℚ zero p.tau && le_ℚ p.tau one && not (le_ℚ p.fit.lo zero)) (le_ℚ p.fit.lo p.fit.hi) h in
-    let low = both (le_ℚ zero p.tau && le_ℚ p.tau one) (not (le_ℚ p.fit.lo zero)) ordered.0 in
-    let tau = both (le_ℚ zero p.tau) (le_ℚ p.tau one) low.0 in
+    let ordered = and_parts (le_ℚ zero p.tau && le_ℚ p.tau one && not (le_ℚ p.fit.lo zero)) (le_ℚ p.fit.lo p.fit.hi) h in
+    let low = and_parts (le_ℚ zero p.tau && le_ℚ p.tau one) (not (le_ℚ p.fit.lo zero)) ordered.0 in
+    let tau = and_parts (le_ℚ zero p.tau) (le_ℚ p.tau one) low.0 in
     record { tau_low = record { le = tau.0 }; tau_high = record { le = tau.1 }; low = λ l. denied (le_ℚ p.fit.lo zero) low.1 l.le; ordered = record { le = ordered.1 } }
   where
     denied : (b : Bool) → not b ≡ true → b ≡ true → ⊥

@@ -2,6 +2,7 @@
 use Rattle.std.proofs.Common.{◌≡◌, Bool, true, false, not, List, [], ◌∷◌, Option, Some, None, Ok, refl, sym, ap, subst, codes, drop, if◌then◌else◌, option_map, option_and_then}
 use Rattle.std.specs.List.{list_any}
 use Rattle.std.specs.Option.{option_map_or}
+use Rattle.std.proofs.lemmas.Bool.{not-false}
 use Rattle.clap.specs.Words.{Row, Text}
 use Rattle.exact_algebra.specs.Rational.{ℚ, le_ℚ, ◌≤ℚ◌}
 use Rattle.contrasts.specs.declared.Coding.{Coding}
@@ -34,10 +35,6 @@ pub record AreSound (n : OptionNumbers) : Type 0 where
   pub crit : option_map_or (λ crit. not (le_ℚ zero crit)) n.crit false ≡ false
   pub tested : ascends n.tested ≡ true
 
-denied : (b : Bool) → not b ≡ false → b ≡ true
-denied true h = refl
-denied false h = absurd (cc h)
-
 pub are_sound : (kind : Kind) (n : OptionNumbers) → fault_of kind n ≡ None → AreSound n
 unfolding fault_of
 are_sound kind n h =
@@ -46,7 +43,7 @@ are_sound kind n h =
     let taus = untold (option_map_or (list_any is_outside) n.taus false) BadTauForRank _ half.1 in
     let crit = untold (option_map_or (λ crit. not (le_ℚ zero crit)) n.crit false) NegativeLimit _ taus.1 in
     let tested = untold (not (ascends n.tested)) NotAscending None crit.1 in
-    record { taus = taus.0; crit = crit.0; tested = denied (ascends n.tested) tested.0 }
+    record { taus = taus.0; crit = crit.0; tested = not-false (ascends n.tested) tested.0 }
 
 sound_by : (crit : Option ℚ) (taus : Option (List ℚ)) → option_map_or (list_any is_outside) taus false ≡ false → option_map_or (λ crit. not (le_ℚ zero crit)) crit false ≡ false
     → (r : RankRequest) → option_and_then (λ (crit : ℚ). option_map (λ (taus : List ℚ). record { crit = crit; taus = taus }) taus) crit ≡ Some r → IsSound r
@@ -54,7 +51,7 @@ sound_by None taus inner sign r h = absurd (cc h)
 sound_by (Some crit) None inner sign r h = absurd (cc h)
 sound_by (Some crit) (Some taus) inner sign r h =
     let is : record { crit = crit; taus = taus } ≡ r = cc h in
-    subst IsSound is (record { crit = record { le = denied (le_ℚ zero crit) sign }; taus = inner })
+    subst IsSound is (record { crit = record { le = not-false (le_ℚ zero crit) sign }; taus = inner })
 
 -- a request for intervals, if there is one
 abbrev pub IsSoundOf : Option RankRequest → Type 0

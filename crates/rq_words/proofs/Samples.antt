@@ -4,7 +4,7 @@ use Rattle.std.proofs.Common.{◌≡◌, ◌∙◌, ℕ, ◌≤◌, ◌&&◌, �
 use Rattle.std.specs.List.{list_any}
 use Rattle.std.specs.Option.{option_map_or}
 use Rattle.std.specs.Str.Parse.{digits_value}
-use Rattle.std.proofs.lemmas.Bool.{leb-true}
+use Rattle.std.proofs.lemmas.Bool.{leb-true, and_parts}
 use Rattle.clap.specs.Simple.{argument_words, built, names_of}
 use Rattle.clap.specs.Words.{Kinds, Row, Text, first_of, matches_of}
 use Rattle.clap.specs.Words as clap
@@ -23,7 +23,7 @@ use Rattle.rq_words.specs.declared.job.WordFault.{WordFault}
 use Rattle.rq_words.specs.declared.job.WordFault.TheVariants.{BadContrasts, BadNumber, BadOption, UnknownJob}
 use Rattle.rq_words.proofs.FewQuantiles.{step_both}
 use Rattle.rq_words.proofs.GivenOptions.{option_given}
-use Rattle.rq_words.proofs.Orders.{both, checked_in_order, no_fault, range_of, short_ok, step_ok}
+use Rattle.rq_words.proofs.Orders.{checked_in_order, no_fault, range_of, short_ok, step_ok}
 
 -- ---- numbers within their limits
 
@@ -37,8 +37,8 @@ unfolding count
 count_within places least most r text fault h =
     let n = digits_value 10 text in
     let is = counted (has_digits places text && nat_le least n && nat_le n most) n r fault h in
-    let upper = both (has_digits places text && nat_le least n) (nat_le n most) is.0 in
-    let lower = both (has_digits places text) (nat_le least n) upper.0 in
+    let upper = and_parts (has_digits places text && nat_le least n) (nat_le n most) is.0 in
+    let lower = and_parts (has_digits places text) (nat_le least n) upper.0 in
     subst (λ m. (least ≤ m) × (m ≤ most)) is.1 (leb-true least n lower.1, leb-true n most upper.1)
 
 option_within : (places least most r : ℕ) (o : Option Text) (fault : WordFault) → option_map_or (λ text. ok_or (count places least most text) fault) o (Ok 0) ≡ Ok r → r ≤ most
@@ -85,7 +85,7 @@ numbers_within found n h =
 -- ---- the words of the command
 
 -- what is found where words are taken
-found_both : {A B : Type 0} (o : Option A) (next : A → Result B WordFault) (fault : WordFault) (x : B) → option_map_or next o (Err fault) ≡ Ok x → (a : A) × (o ≡ Some a) × (next a ≡ Ok x)
+pub found_both : {A B : Type 0} (o : Option A) (next : A → Result B WordFault) (fault : WordFault) (x : B) → option_map_or next o (Err fault) ≡ Ok x → (a : A) × (o ≡ Some a) × (next a ≡ Ok x)
 found_both (Some a) next fault x h = (a, refl, h)
 found_both None next fault x h = absurd (cc h)
 

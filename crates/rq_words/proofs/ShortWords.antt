@@ -28,6 +28,7 @@ use Rattle.rq_words.specs.declared.command.Kind.TheVariants as kind
 use Rattle.rq_words.proofs.Orders.{found_ok, no_fault, step_ok}
 use Rattle.rq_words.specs.declared.job.WordFault.{WordFault}
 use Rattle.rq_words.specs.declared.job.WordFault.TheVariants.{BadContrasts, BadOption, UnknownJob}
+use Rattle.rq_words.proofs.Samples.{found_both}
 
 -- an argument that is used by its values, as they stand in the words, and by no others
 record IsOption (a : Rule) : Type 0 where
@@ -335,11 +336,6 @@ not_long : {B : Type 0} (b : Bool) (r : Result B WordFault) (fault : WordFault) 
 not_long true r fault x h = absurd (cc h)
 not_long false r fault x h = (refl, h)
 
-some_ok : {A B : Type 0} (o : Option A) (step : A → Result B WordFault) (fault : WordFault) (x : B) → option_map_or step o (Err fault) ≡ Ok x
-    → (a : A) × (o ≡ Some a) × (step a ≡ Ok x)
-some_ok (Some a) step fault x h = (a, refl, h)
-some_ok None step fault x h = absurd (cc h)
-
 -- the formula that a request has, if it is of a fit of a table
 abbrev formula_in : Request → Text
 formula_in (request.Process f) = f.formula
@@ -378,7 +374,7 @@ unfolding words_of_job
 job_short kind words r h =
     let app = command_of (options_of kind) in
     let short = not_long (list_any is_long (drop 1 words)) _ BadOption _ h in
-    let found = some_ok (read_by app words) (checked kind) BadOption _ short.1 in
+    let found = found_both (read_by app words) (checked kind) BadOption _ short.1 in
     let rows : Rows (2 ^ 31) (matches_of app words) =
     found_short (2 ^ 31) (built app).top.rules (names_of (built app)) (drop 1 words) (options kind) (short_words (drop 1 words) short.0) in
     let same = matched app words found.0 found.1 in

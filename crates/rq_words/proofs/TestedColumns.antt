@@ -5,7 +5,7 @@ use Rattle.std.specs.List.{AllByRecursion, list_any, slice_index, slice_split}
 use Rattle.std.specs.List.Sorted.{IsStrictlyIncreasing}
 use Rattle.std.specs.Option.{option_map_or}
 use Rattle.std.specs.Str.Parse.{digits_value}
-use Rattle.std.proofs.lemmas.Bool.{leb-true}
+use Rattle.std.proofs.lemmas.Bool.{leb-true, and_parts}
 use Rattle.std.proofs.lemmas.Bool.Decides.{nat_tests}
 use Rattle.clap.specs.Words.{Row, Text, first_of}
 use Rattle.frac_core.specs.Limits.{most_rows}
@@ -21,7 +21,7 @@ use Rattle.rq_words.specs.declared.command.Kind.TheVariants as kind
 use Rattle.rq_words.specs.declared.job.WordFault.{WordFault}
 use Rattle.rq_words.specs.declared.job.WordFault.TheVariants.{BadContrasts, BadNumber, BadOption, UnknownJob}
 use Rattle.rq_words.proofs.FewQuantiles.{joined_few, step_both}
-use Rattle.rq_words.proofs.Orders.{both, found_ok, no_fault, short_ok, step_ok}
+use Rattle.rq_words.proofs.Orders.{found_ok, no_fault, short_ok, step_ok}
 use Rattle.rq_words.proofs.RankRequests.{are_sound}
 use Rattle.rq_words.proofs.Samples.{same_numbers}
 
@@ -45,7 +45,7 @@ unfolding count
 count_small text x h =
     let n = digits_value 10 text in
     let is = picked (has_digits 3 text && nat_le 0 n && nat_le n 999) n x h in
-    subst (λ n. n ≤ 999) is.1 (leb-true n 999 (both (has_digits 3 text && nat_le 0 n) (nat_le n 999) is.0).1)
+    subst (λ n. n ≤ 999) is.1 (leb-true n 999 (and_parts (has_digits 3 text && nat_le 0 n) (nat_le n 999) is.0).1)
 
 read_small : (texts : List Text) (xs : List ℕ) → all_read (count 3 0 999) texts ≡ Some xs → AreSmall xs
 unfolding all_read
@@ -147,13 +147,13 @@ module _ (columns : ℕ) (few : columns < 2 ^ 32) where
       by false e = refl
 
   next_ascends : (least x : ℕ) (xs : List ℕ) → ascends_from least (map given_number (x ∷ xs)) ≡ true → ascends_from (given_number x + 1) (map given_number xs) ≡ true
-  next_ascends least x xs h = (both (nat_le least (given_number x)) _ h).1
+  next_ascends least x xs h = (and_parts (nat_le least (given_number x)) _ h).1
 
   below_next : (x y : ℕ) (xs : List ℕ) → x < columns → y < columns → ascends_from (given_number x + 1) (map given_number (y ∷ xs)) ≡ true → x < y
   below_next x y xs p q h =
       let e : given_number x ≡ x + 1 = number_within x p in
       let f : given_number y ≡ y + 1 = number_within y q in
-      let le = leb-true (given_number x + 1) (given_number y) (both (nat_le (given_number x + 1) (given_number y)) _ h).0 in
+      let le = leb-true (given_number x + 1) (given_number y) (and_parts (nat_le (given_number x + 1) (given_number y)) _ h).0 in
       omega (arith, e, f, le)
 
   rising : (least : ℕ) (xs : List ℕ) → AllByRecursion (λ k. k < columns) xs → ascends_from least (map given_number xs) ≡ true

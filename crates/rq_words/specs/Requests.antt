@@ -2,8 +2,7 @@
 use Rattle.std.specs.Prelude.{ℕ, ◌+◌, ◌-◌, ◌^◌, ◌==◌, if◌then◌else◌, List, map, Option, option_map, Result}
 use Rattle.std.specs.Result.{result_map_both}
 use Rattle.exact_algebra.specs.Rational.{ℚ}
-use Rattle.exact_algebra.specs.Fraction.{rational}
-use Rattle.frac_core.specs.declared.frac128.Frac128.{Frac128}
+use Rattle.frac_core.specs.Values.{exact}
 use Rattle.contrasts.specs.declared.Coding.{Coding}
 use Rattle.rq_words.specs.declared.job.Job.{Job}
 use Rattle.rq_words.specs.declared.job.Job.TheVariants as job
@@ -14,10 +13,6 @@ use Rattle.rq_words.specs.declared.job.SampleJob.{SampleJob}
 use Rattle.rq_words.specs.declared.job.TestJob.{TestJob}
 use Rattle.rq_words.specs.declared.job.WordFault.{WordFault}
 use Rattle.rq_words.specs.declared.numbers.Numbers.{Numbers}
-
--- the value of a fraction
-abbrev pub number : Frac128 → ℚ
-number x = rational (record { num = x.num; den = x.den })
 
 -- the numbers of the options, in the order in which they are read
 pub record OptionNumbers : Type 0 where
@@ -84,28 +79,28 @@ pub data Request : Type 0 where
 -- the numbers of the options that were read
 abbrev pub option_numbers : Numbers → OptionNumbers
 option_numbers n = record {
-  lo = number n.lo;
-  hi = number n.hi;
-  crit = option_map number n.crit;
-  taus = option_map (map number) n.taus;
+  lo = exact n.lo;
+  hi = exact n.hi;
+  crit = option_map exact n.crit;
+  taus = option_map (map exact) n.taus;
   limit = n.limit;
   number = n.number;
   rows = n.rows;
   columns = n.columns;
   tested = n.tested;
-  tau = number n.tau;
+  tau = exact n.tau;
 }
 
 -- the rank intervals that a job asks for
 abbrev pub rank_request : RankAsk → RankRequest
-rank_request r = record { crit = number r.crit; taus = map number r.taus }
+rank_request r = record { crit = exact r.crit; taus = map exact r.taus }
 
 -- the fit that a job asks for
 abbrev pub fit_request : FitJob → FitRequest
 fit_request f = record {
   formula = f.formula;
-  lo = number f.lo;
-  hi = number f.hi;
+  lo = exact f.lo;
+  hi = exact f.hi;
   weights = f.weights;
   coding = f.coding;
   limit = f.limit;
@@ -118,8 +113,8 @@ sample_request s = record {
   number = s.number;
   rows = s.rows;
   columns = s.columns;
-  lo = number s.lo;
-  hi = number s.hi;
+  lo = exact s.lo;
+  hi = exact s.hi;
   limit = s.limit;
 }
 
@@ -129,7 +124,7 @@ test_request t = record { fit = fit_request t.fit; tested = t.tested }
 
 -- the path that a job asks for
 abbrev pub path_request : PathJob → PathRequest
-path_request p = record { fit = fit_request p.fit; tau = number p.tau }
+path_request p = record { fit = fit_request p.fit; tau = exact p.tau }
 
 -- what a job asks for
 abbrev pub request_of : Job → Request

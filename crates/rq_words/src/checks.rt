@@ -2,7 +2,8 @@
 ghost use Rattle.std.specs.Prelude.{◌≡◌};
 ghost use Rattle.std.specs.List.{list_any};
 ghost use Rattle.exact_algebra.specs.Rational.{le_ℚ};
-ghost use Rattle.rq_words.specs.Requests.{number, option_numbers};
+ghost use Rattle.frac_core.specs.Values.{exact};
+ghost use Rattle.rq_words.specs.Requests.{option_numbers};
 ghost use Rattle.rq_words.specs.Words.{ascends, fault_of, has_range as has_range_of, is_in_order, is_outside, is_path_range as is_path_range_of};
 
 use crate::WordFault;
@@ -12,21 +13,21 @@ use frac_core::{Exact, Frac128};
 use std::cmp::Ordering;
 
 fn is_at_most(x: Frac128, y: Frac128) -> bool
-    ensures { result ≡ le_ℚ (number x) (number y) }
+    ensures { result ≡ le_ℚ (exact x) (exact y) }
 {
     x.compare(y) != Ordering::Greater
 }
 
 // Whether `0 <= lo <= hi <= 1`.
 fn is_range(lo: Frac128, hi: Frac128) -> bool
-    ensures { result ≡ is_in_order (number lo) (number hi) }
+    ensures { result ≡ is_in_order (exact lo) (exact hi) }
 {
     is_at_most(Frac128::zero(), lo) && is_at_most(lo, hi) && is_at_most(hi, Frac128::one())
 }
 
 // Whether `0 <= tau <= 1` and `0 < lo <= hi`.
 fn is_path_range(tau: Frac128, lo: Frac128, hi: Frac128) -> bool
-    ensures { result ≡ is_path_range_of (number tau) (number lo) (number hi) }
+    ensures { result ≡ is_path_range_of (exact tau) (exact lo) (exact hi) }
 {
     is_at_most(Frac128::zero(), tau)
         && is_at_most(tau, Frac128::one())
@@ -36,13 +37,13 @@ fn is_path_range(tau: Frac128, lo: Frac128, hi: Frac128) -> bool
 
 // Whether a quantile isn't strictly between 0 and 1.
 fn is_outside(tau: Frac128) -> bool
-    ensures { result ≡ is_outside (number tau) }
+    ensures { result ≡ is_outside (exact tau) }
 {
     is_at_most(tau, Frac128::zero()) || is_at_most(Frac128::one(), tau)
 }
 
 fn has_outside(taus: &[Frac128]) -> bool
-    ensures { result ≡ list_any (λ tau. is_outside (number tau)) taus.now }
+    ensures { result ≡ list_any (λ tau. is_outside (exact tau)) taus.now }
 {
     taus.iter().any(|tau| is_outside(*tau))
 }

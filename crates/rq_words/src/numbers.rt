@@ -4,7 +4,8 @@ ghost use Rattle.std.specs.Result.{result_map_both, result_ok};
 ghost use Rattle.std.specs.Char.{is_ascii_digit};
 ghost use Rattle.std.specs.List.{list_all};
 ghost use Rattle.std.specs.Str.Parse.{digits_value};
-ghost use Rattle.rq_words.specs.Requests.{number, option_numbers};
+ghost use Rattle.frac_core.specs.Values.{exact};
+ghost use Rattle.rq_words.specs.Requests.{option_numbers};
 ghost use Rattle.rq_words.specs.Words.{column_numbers, count, given, has_digits, number_option, number_text, numbers_of, over_all, quantiles, unranked};
 
 use crate::WordFault;
@@ -76,7 +77,7 @@ fn bad_number(alloc: Global, option: &str) -> WordFault
 
 #[tactic(auto, unfolding(crate::specs::Words::number_text))]
 fn fraction(text: &str) -> Option<Frac128>
-    ensures { option_map number result ≡ number_text text.now }
+    ensures { option_map exact result ≡ number_text text.now }
 {
     read_number(text).ok()
 }
@@ -88,8 +89,8 @@ fn fraction_or(
     other: Frac128,
 ) -> Result<Frac128, WordFault>
     ensures { (result ≡ Err WordFault.OutOfMemory)
-        ⊎ (result_map_both number (λ e. e) result
-        ≡ number_option options.now name.now (number other) number_text) }
+        ⊎ (result_map_both exact (λ e. e) result
+        ≡ number_option options.now name.now (exact other) number_text) }
 {
     match options.get(name) {
         None => Ok(other),
@@ -106,7 +107,7 @@ fn fraction_if_given(
     name: &str,
 ) -> Result<Option<Frac128>, WordFault>
     ensures { (result ≡ Err WordFault.OutOfMemory)
-        ⊎ (result_map_both (option_map number) (λ e. e) result
+        ⊎ (result_map_both (option_map exact) (λ e. e) result
         ≡ number_option options.now name.now None (given number_text)) }
 {
     match options.get(name) {
@@ -123,7 +124,7 @@ const MOST_QUANTILES: usize = 64;
 
 // The quantiles between commas, `None` where one is none or there are too many.
 fn quantiles(alloc: Global, text: &str) -> Result<Option<List<Frac128>>, OutOfMemory>
-    ensures { IfOk result (λ found. option_map (map number) found ≡ quantiles text.now) }
+    ensures { IfOk result (λ found. option_map (map exact) found ≡ quantiles text.now) }
 {
     let mut taus = List::new(alloc);
     for piece in text.split(',') {
@@ -144,7 +145,7 @@ fn quantiles_if_given(
     name: &str,
 ) -> Result<Option<List<Frac128>>, WordFault>
     ensures { (result ≡ Err WordFault.OutOfMemory)
-        ⊎ (result_map_both (option_map (map number)) (λ e. e) result
+        ⊎ (result_map_both (option_map (map exact)) (λ e. e) result
         ≡ number_option options.now name.now None (given quantiles)) }
 {
     match options.get(name) {

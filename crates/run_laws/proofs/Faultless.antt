@@ -24,7 +24,7 @@ use Rattle.run_laws.proofs.Parsed.{no_fault, one_formula}
 use Rattle.run_laws.proofs.Same.{same_table}
 use Rattle.run_laws.proofs.Sound.{no_design_fault, no_penalty_fault, no_program_fault, one_design}
 
-read_once : (r : Result (TableOf ℚ) TableFault) (a b : TableOf ℚ) → r ≡ Ok a → r ≡ Ok b → a ≡ b
+pub read_once : (r : Result (TableOf ℚ) TableFault) (a b : TableOf ℚ) → r ≡ Ok a → r ≡ Ok b → a ≡ b
 read_once r a b h k = cc (sym h ∙ k)
 
 module _ (one : OneFormula) (none : NoFormulaHasFaults) (job : FitJob) (ranked : Bool) where

@@ -25,6 +25,7 @@ use Rattle.design_matrix.specs.declared.design.Design.{Design}
 use Rattle.design_matrix.specs.declared.design.DesignRow.{DesignRow}
 use Rattle.design_matrix.specs.declared.fault.DesignFault.{DesignFault}
 use Rattle.design_matrix.specs.declared.fault.DesignFault.TheVariants as designs
+use Rattle.design_matrix.proofs.Lengths.{length-each}
 use Rattle.tv_penalty.specs.Faults.{IsFirstFault, setting_of}
 use Rattle.tv_penalty.specs.Faults.{HasCause as HasPenaltyCause}
 use Rattle.tv_penalty.specs.declared.fault.PenaltyFault.{PenaltyFault}
@@ -45,15 +46,11 @@ use Rattle.run_laws.proofs.GeneratedFormula.{AreColumns, dot_formula, no_formula
 use Rattle.run_laws.proofs.GeneratedDesign.{all_exact_full, kept_number, no_design_fault}
 use Rattle.run_laws.proofs.GeneratedDesign.{columns_number as columns_few}
 use Rattle.run_laws.specs.Faults.{GeneratedTablesHaveNoFault}
-
--- a design has a row for each record that is kept, and a name for each of its columns
-each_number : {A B : Type 0} (f : ℕ → A → B) (k : ℕ) (xs : List A) → length (each f k xs) ≡ length xs
-each_number f k [] = refl
-each_number f k (x ∷ xs) = ap suc (each_number f (k + 1) xs)
+use Rattle.run_laws.proofs.Faultless.{read_once}
 
 rows_of : (table : Table) (model : Formula) (coding : Coding) (weights : Option Column) (records : List ℕ) → length (design_of table model coding weights records).rows ≡ length records
 unfolding design_of
-rows_of table model coding weights records = each_number _ 0 records
+rows_of table model coding weights records = length-each _ 0 records
 
 names_of : (table : Table) (model : Formula) (coding : Coding) (weights : Option Column) (records : List ℕ) → length (design_of table model coding weights records).names ≡ length (columns_of table model coding records)
 unfolding design_of
@@ -67,9 +64,6 @@ no_rows smoothing intercept rows is = sym (length-map smoothing.rows exact_penal
 no_names : (smoothing : Smoothing) (intercept : Bool) (rows : List DesignRow) → exact_smoothing smoothing ≡ smoothing_of intercept rows [] → length smoothing.names ≡ 0
 unfolding smoothing_of
 no_names smoothing intercept rows is = ap (λ s. length s.names) is
-
-read_once : (r : Result (TableOf ℚ) TableFault) (a b : TableOf ℚ) → r ≡ Ok a → r ≡ Ok b → a ≡ b
-read_once r a b h k = cc (sym h ∙ k)
 
 module _ (one : OneFormula) (none : NoFormulaHasFaults) (job : FitJob) (formula : job.formula ≡ dot_formula) (unweighted : job.weights ≡ None) (number rows n : ℕ) (some : 1 ≤ rows) (few : rows ≤ most_rows) (narrow : n ≤ 100) where
   module _ (table : Table) (is : AreTable (table_of number rows n) table) where

@@ -25,7 +25,7 @@ use Rattle.rq_cli.specs.Outcomes.{IsAnswered, Stream, WereRead}
 use Rattle.run_laws.specs.PathReports.{IsLeastPath, LosesLeast, coefficients, loss_of}
 
 -- what holds of all items holds at each place
-at_place : {A : Type 0} (P : A → Type 0) (Q : Option A → Type 0) → ((x : A) → P x → Q (Some x)) → (xs : List A) → All P xs → (j : ℕ) → j < length xs → Q (slice_get xs j)
+pub at_place : {A : Type 0} (P : A → Type 0) (Q : Option A → Type 0) → ((x : A) → P x → Q (Some x)) → (xs : List A) → All P xs → (j : ℕ) → j < length xs → Q (slice_get xs j)
 at_place P Q f [] h j l = absurd (omega (arith, l))
 at_place P Q f (x ∷ xs) h zero l = f x (h 0 x (omega arith))
 at_place P Q f (x ∷ xs) h (suc j) l = at_place P Q f xs (λ k d m. h (suc k) d (omega (arith, m))) j (omega (arith, l))

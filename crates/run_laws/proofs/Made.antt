@@ -5,6 +5,8 @@ use Rattle.std.proofs.lemmas.Option.{slice_get_within, slice_get-get_or}
 use Rattle.cert_checker.specs.Tests.{Part, Test, ArePartsTrue, AreTrue, upto}
 use Rattle.cert_checker.specs.Conditions.{each}
 use Rattle.cert_checker.proofs.Decided.{joined, parts_joined}
+use Rattle.cert_checker.proofs.Held.{parts_upto}
+use Rattle.cert_checker.proofs.Wholes.{true_upto}
 
 -- what holds of all items holds of the one at a place
 pub item_at : {A : Type 0} (P : A → Type 0) (xs : List A) → All P xs → (i : ℕ) (x : A) → slice_get xs i ≡ Some x → P x
@@ -13,21 +15,13 @@ item_at P xs all i x e =
     let same : get_or xs i x ≡ x = cc (sym (slice_get-get_or xs i x l) ∙ e) in
     subst P same (all i x l)
 
-pub all_upto : (n : ℕ) (f : ℕ → List Test) → ((i : ℕ) → i < n → AreTrue (f i)) → AreTrue (upto n f)
-all_upto zero f h = tt
-all_upto (suc n) f h = joined (upto n f) (f n) (all_upto n f (λ i l. h i (omega (arith, l)))) (h n (omega arith))
-
-pub parts_upto : (n : ℕ) (f : ℕ → List Part) → ((i : ℕ) → i < n → ArePartsTrue (f i)) → ArePartsTrue (upto n f)
-parts_upto zero f h = tt
-parts_upto (suc n) f h = parts_joined (upto n f) (f n) (parts_upto n f (λ i l. h i (omega (arith, l)))) (h n (omega arith))
-
 of_option : {A : Type 0} (o : Option A) (f : A → List Test) → ((x : A) → o ≡ Some x → AreTrue (f x)) → AreTrue (option_map_or f o [])
 of_option (Some x) f h = h x refl
 of_option None f h = tt
 
 -- the tests of each item of a list
 pub all_each : {A : Type 0} (xs : List A) (f : ℕ → A → List Test) → ((i : ℕ) (x : A) → slice_get xs i ≡ Some x → AreTrue (f (i + 1) x)) → AreTrue (each xs f)
-all_each xs f h = all_upto (length xs) (λ i. option_map_or (f (i + 1)) (slice_get xs i) []) (λ i l. of_option (slice_get xs i) (f (i + 1)) (h i))
+all_each xs f h = true_upto (length xs) (λ i. option_map_or (f (i + 1)) (slice_get xs i) []) (λ i l. of_option (slice_get xs i) (f (i + 1)) (h i))
 
 -- the tests of an item, if there is one
 pub all_of : {A : Type 0} (xs : List A) (i : ℕ) (f : A → List Test) → ((x : A) → slice_get xs i ≡ Some x → AreTrue (f x)) → AreTrue (option_map_or f (slice_get xs i) [])

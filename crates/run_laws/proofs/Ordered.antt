@@ -3,7 +3,7 @@ use Rattle.std.proofs.Common.{◌≡◌, ◌⊎◌, ◌<◌, ◌≤◌, ◌&&◌
 use Rattle.std.specs.List.Sorted.{IsNonDecreasingBy, IsSortedByKey, IsStableByKey}
 use Rattle.std.specs.Ordering.{is_lt, nat_cmp}
 use Rattle.std.specs.declared.cmp.Ordering.TheVariants.{Less, Equal, Greater}
-use Rattle.std.proofs.lemmas.Bool.{ltb-true, lt-ltb}
+use Rattle.std.proofs.lemmas.Bool.{ltb-true, lt-ltb, cases_lt}
 use Rattle.std.proofs.lemmas.List.Sorted.{IsNonDecreasingBy-from_sort}
 
 is_less : (b c : Bool) → is_lt (cond b Less (cond c Equal Greater)) ≡ b
@@ -17,11 +17,6 @@ not_less a b l = by (nat_lt a b) refl
     by : (t : Bool) → nat_lt a b ≡ t → nat_lt a b ≡ false
     by true e = let m = ltb-true a b e in absurd (omega (arith, l, m))
     by false e = e
-
-below_or_not : (i n : ℕ) → (i < n) ⊎ (n ≤ i)
-below_or_not i zero = inr (omega arith)
-below_or_not zero (suc n) = inl (omega arith)
-below_or_not (suc i) (suc n) = elim (below_or_not i n) [ inl l ↦ inl (omega (arith, l)) | inr l ↦ inr (omega (arith, l)) ]
 
 module _ {X : Type 0} (n : X → ℕ) where
   -- neither comes before the other
@@ -68,7 +63,7 @@ module _ {X : Type 0} (n : X → ℕ) where
 
   -- the first items of two lists that are alike have the same number
   no_lower : (x y : X) (xs ys : List X) → FromOn (n y) ys → Alike (x ∷ xs) (y ∷ ys) → n y ≤ n x
-  no_lower x y xs ys from alike = elim (below_or_not (n x) (n y)) [
+  no_lower x y xs ys from alike = elim (cases_lt (n x) (n y)) [
     | inl l ↦ absurd (cc (sym (first_ties x xs) ∙ alike x ∙ none_tie x (n y) (y ∷ ys) l (from_first y ys from)))
     | inr l ↦ l
   ]

@@ -8,6 +8,7 @@ use Rattle.frac_core.specs.declared.arith.Arith.{Arith}
 use Rattle.frac_core.specs.declared.exact.Op.{Op}
 use Rattle.frac_core.specs.declared.exact.OpKind.TheVariants.{Sub}
 use Rattle.frac_core.specs.declared.frac128.Frac128.{Frac128}
+use Rattle.frac_core.proofs.Values.{same_number}
 use Rattle.formula_arith.specs.Evaluations.{IsFirstOverflow, IsOverflowOf, NoneOverflows}
 use Rattle.formula_arith.specs.Values.{Operation}
 use Rattle.loss_model.specs.declared.spill.Spill.{Spill}
@@ -17,7 +18,6 @@ use Rattle.design_matrix.specs.Computed.{arith_operations, expressions, less}
 use Rattle.design_matrix.specs.Designs.{AllFit, ArithsFit, OverflowsFirst, OverflowsInAriths, OverflowsInRecord, OverflowsInResponse, RecordFits, ResponseFits, arith_site, in_ariths, in_entries, in_response, offset_site, subtraction}
 use Rattle.design_matrix.specs.Parts.{Part}
 use Rattle.run_laws.proofs.Products.{none_in_row, same_in_row, same_spill}
-use Rattle.run_laws.proofs.Same.{same_number}
 
 -- ---- lists of operations
 

@@ -2,6 +2,8 @@
 use Rattle.std.proofs.Common.{◌≡◌, ◌≢◌, ℕ, List, map, Result, Ok, refl, sym, ap, subst, ◌∙◌}
 use Rattle.std.specs.List.Sorted.{IsStableByKey}
 use Rattle.std.specs.Ordering.{nat_cmp}
+use Rattle.cert_text.proofs.Same.{same_lists}
+use Rattle.frac_core.proofs.Values.{same_number}
 use Rattle.formula_grammar.specs.Codes.{has_intercept, offsets_of, smooths_of}
 use Rattle.formula_grammar.specs.Faults.{IsFormula, NoFormulaHasFaults}
 use Rattle.formula_grammar.specs.Grammar.{OneFormula}
@@ -17,7 +19,6 @@ use Rattle.formula_parser.specs.declared.formula.Smooth.{Smooth}
 use Rattle.formula_parser.specs.declared.fault.FormulaFault.{FormulaFault}
 use Rattle.formula_parser.specs.declared.fault.FormulaFault.TheVariants.{OutOfMemory, Syntax, UnknownName, TooDeep, TooManyTerms, PowerRange, NumberTooWide}
 use Rattle.run_laws.proofs.Ordered.{one_order}
-use Rattle.run_laws.proofs.Same.{same_lists, same_number}
 
 same_smooth : (a b : Smooth) → told_smooth a ≡ told_smooth b → a ≡ b
 same_smooth a b e =

@@ -33,8 +33,9 @@ use Rattle.cert_checker.specs.Conditions.{losses, costs, ends, first_end, order_
 use Rattle.cert_checker.proofs.Decided.{joined}
 use Rattle.cert_checker.proofs.Shown.{row_dual}
 use Rattle.cert_checker.proofs.Worths.{worth-sum, worth-loss}
+use Rattle.cert_checker.proofs.Wholes.{true_upto}
 use Rattle.run_laws.specs.Sound.{IsSoundEnd, IsSoundSegment, AreCosts, AreSound}
-use Rattle.run_laws.proofs.Made.{item_at, all_upto, all_each, all_of}
+use Rattle.run_laws.proofs.Made.{item_at, all_each, all_of}
 
 -- ---- form
 
@@ -60,7 +61,7 @@ segment_formed p j s h =
 costs_true : (p : Problem Frac128) (lo hi : ℚ) → lo ≤ℚ hi → AreCosts p lo → AreCosts p hi → AreTrue (costs (sample value128 p) lo hi)
 costs_true p lo hi ordered low high = (
   (ordered, tt),
-  all_upto (length p.rows) (row_costs (sample value128 p) lo hi) (λ i l.
+  true_upto (length p.rows) (row_costs (sample value128 p) lo hi) (λ i l.
       let a = low i l in
       let b = high i l in
       ((a.0, tt), ((a.1, tt), ((b.0, tt), ((b.1, tt), tt))))),
@@ -122,7 +123,7 @@ module _ (p : Problem Frac128) (from to : ℚ) (segments : List (Segment Frac128
   ends_true =
       let some = c.some in (
         (whole-le (pos 1) (pos (length segments)) (omega (arith, ints, some)), tt),
-        all_upto (length segments) (λ j. first_end segments from j ++ (order_of_ends segments j ++ joint_end segments to j))
+        true_upto (length segments) (λ j. first_end segments from j ++ (order_of_ends segments j ++ joint_end segments to j))
             (λ j l. joined (first_end segments from j) _ (begins j) (joined (order_of_ends segments j) (joint_end segments to j) (in_order j l) (joined_at j l))),
       )
 
@@ -144,7 +145,7 @@ module _ (p : Problem Frac128) (e : End) (sides : length e.vertex.sides ≡ leng
   module _ (stated : Frac128) (sound : IsSoundEnd p e.vertex e.theta e.basic stated) where
     bounds_true : (condition j : ℕ) → AreTrue (bounds condition (sample value128 p) j e)
     bounds_true condition j =
-        all_upto (length p.rows) (λ i. bound_test condition j (sample value128 p) e i (side_in e.vertex i)) (λ i l.
+        true_upto (length p.rows) (λ i. bound_test condition j (sample value128 p) e i (side_in e.vertex i)) (λ i l.
         bound_true condition j i (side_in e.vertex i)
         (subst (λ z. z ≤ℚ up_cost (sample value128 p) e.theta i) (sym (dual_is i l)) (sound.dual.feasible.upper i l))
         (subst (λ z. neg_ℚ (down_cost (sample value128 p) e.theta i) ≤ℚ z) (sym (dual_is i l)) (sound.dual.feasible.lower i l)))
@@ -159,7 +160,7 @@ module _ (p : Problem Frac128) (e : End) (sides : length e.vertex.sides ≡ leng
 
     balances_true : (j before : ℕ) → AreTrue (balance_tests (sample value128 p) j before e)
     balances_true j before =
-        all_upto p.columns (λ k. one 6 j (before + k + 1) (balance (sample value128 p) e k) Equal (given (whole (pos 0)))) (λ k l. ((balance_is k l, tt), tt))
+        true_upto p.columns (λ k. one 6 j (before + k + 1) (balance (sample value128 p) e k) Equal (given (whole (pos 0)))) (λ k l. ((balance_is k l, tt), tt))
 
     objective_is : worth (objective (sample value128 p) e) ≡ rational (value128 stated)
     objective_is =
@@ -224,7 +225,7 @@ module _ (p : Problem Frac128) (lo hi : Frac128) (segments : List (Segment Frac1
   -- where two segments meet
   meets : (j : ℕ) (s next : Segment Frac128) → slice_get segments j ≡ Some s → slice_get segments (j + 1) ≡ Some next → AreTrue (joint_tests (sample value128 p) (j + 1) s next)
   meets j s next here behind =
-      all_upto (length p.rows)
+      true_upto (length p.rows)
       (λ i. one 8 (j + 1) (i + 1) (dual_at_row (sample value128 p) (high_of s) i) Equal (dual_at_row (sample value128 p) (low_of next) i))
       (λ i l.
       let low = low_of next in

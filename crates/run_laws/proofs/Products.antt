@@ -17,8 +17,8 @@ use Rattle.design_matrix.specs.Products.{Fits, IsValue, product, product_onto}
 use Rattle.loss_model.specs.declared.spill.Site.{Site}
 use Rattle.std.proofs.lemmas.List.{get_or-take, length-take}
 use Rattle.frac_core.specs.Values.{value, exact}
+use Rattle.frac_core.proofs.Values.{same_number}
 use native.Mathlib.Decide.{dec_lt}
-use Rattle.run_laws.proofs.Same.{same_number}
 
 -- what equals a fraction in lowest terms within the range reduces to one
 reduces_within : (range : ℕ) (v : Fraction) (n : ℤ) (d : ℕ) → IsWithin range v → 1 ≤ d → rational v ≡ rational (record { num = n; den = d }) → ReducesWithin range n d

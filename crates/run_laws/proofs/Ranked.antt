@@ -15,6 +15,7 @@ use Rattle.exact_algebra.proofs.OrderLaws.{cmp_ℚ-Less, cmp_ℚ-Equal, cmp_ℚ-
 use Rattle.exact_algebra.proofs.RationalLaws.{ring_ℚ, ≤ℚ_refl}
 use Rattle.exact_algebra.proofs.RationalSumLaws.{sum_ℚ-same, sum_ℚ-scale}
 use Rattle.exact_algebra.proofs.WholeNumbers.{le_from_whole}
+use Rattle.exact_algebra.proofs.Lists.{item_there}
 use Rattle.frac_core.specs.declared.frac128.Frac128.{Frac128}
 use Rattle.frac_core.specs.Values.{value as value128}
 use Rattle.loss_model.specs.declared.problem.Problem.{Problem}
@@ -48,18 +49,9 @@ use Rattle.run_laws.specs.Sound.{IsSoundEnding, IsSoundInterval}
 use Rattle.cert_checker.proofs.Decided.{joined, parts_joined}
 use Rattle.cert_checker.proofs.Shown.{row_dual}
 use Rattle.cert_checker.proofs.Worths.{worth-sum, worth-less_others, worth-residual}
-use Rattle.run_laws.proofs.Made.{parts_upto}
+use Rattle.cert_checker.proofs.Held.{parts_upto, unless_own, but_one}
 
 -- ---- the other columns
-
-spared : (b : Bool) (xs : List Part) → (b ≡ false → ArePartsTrue xs) → ArePartsTrue (if b then [] else xs)
-spared true xs h = tt
-spared false xs h = h refl
-
-others_true : (j n : ℕ) (f : ℕ → List Part) → ((k : ℕ) → k < n → k ≢ j → ArePartsTrue (f k)) → ArePartsTrue (others j n f)
-others_true j n f h =
-    parts_upto n (λ k. if eqb k j then [] else f k) (λ k l.
-    spared (eqb k j) (f k) (λ e. h k l (λ same. absurd (cc (sym (eq-eqb k j same) ∙ e)))))
 
 -- ---- the projection
 
@@ -95,13 +87,10 @@ module _ (p : Sample) (j : ℕ) (c : ℕ → ℚ) (own : c j ≡ whole (pos 0)) 
 
 -- ---- one end
 
-there : {A : Type 0} (xs : List A) (i : ℕ) → i < length xs → (x : A) × (slice_get xs i ≡ Some x)
-there xs i l = elim (slice_get_cases xs i).1 [ inl here ↦ (here.0, here.2) | inr past ↦ absurd (omega (arith, l, past.0)) ]
-
 -- a row has the side that is found for it
 side_is : (v : Vertex Frac128) (i : ℕ) → i < length v.sides → slice_get v.sides i ≡ Some (side_in v i)
 side_is v i l =
-    let at = there v.sides i l in
+    let at = item_there v.sides i l in
     at.1 ∙ ap Some (sym (ap (λ (o : Option Side). option_map_or (λ side. side) o Basic) at.1))
 
 along_is : (p : Sample) (ray : ℕ → ℚ) (i : ℕ) → worth (along_formula p ray i) ≡ fitted p ray i
@@ -161,7 +150,7 @@ module _ (p : Problem Frac128) (a : IntervalProof Frac128) (meets : MeetsConditi
 
       balances_true : ArePartsTrue (balance_parts asked (values_of asked v basic))
       balances_true =
-          others_true a.column p.columns (λ k. part (balance (sample value128 p) (values_of asked v basic) k) Equal (given (whole (pos 0))))
+          but_one a.column p.columns (λ k. part (balance (sample value128 p) (values_of asked v basic) k) Equal (given (whole (pos 0))))
           (λ k l other. (balance_is k ∙ feasible.balanced k l other, tt))
 
     -- the square of the statistic, as the formulas have it
@@ -281,7 +270,7 @@ module _ (p : Problem Frac128) (a : IntervalProof Frac128) (meets : MeetsConditi
       (
         (meets.projection.own, tt),
         (
-          others_true a.column p.columns (λ k. part (orthogonal_formula (sample value128 p) a.column factors k) Equal (given (whole (pos 0))))
+          but_one a.column p.columns (λ k. part (orthogonal_formula (sample value128 p) a.column factors k) Equal (given (whole (pos 0))))
               (λ k l other. (orthogonal_is (sample value128 p) a.column factors meets.projection.own k ∙ meets.projection.orthogonal k l other, tt)),
           ((subst (λ z. whole (pos 0) <ℚ z) (sym (square_is (sample value128 p) a.column factors meets.projection.own)) meets.positive, tt), tt),
         ),

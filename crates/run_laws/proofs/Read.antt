@@ -9,6 +9,7 @@ use Rattle.exact_algebra.specs.Order.{cmp_ℚ}
 use Rattle.exact_algebra.specs.Rational.{ℚ, ◌-ℚ◌, ◌*ℚ◌, whole, ◌≤ℚ◌}
 use Rattle.exact_algebra.proofs.RationalLaws.{ring_ℚ, ≤ℚ_refl, ≤ℚ_mul}
 use Rattle.exact_algebra.proofs.OrderLaws.{≤ℚ-minus, le_from_not, cmp_ℚ-Less}
+use Rattle.exact_algebra.proofs.Signs.{product_not_negative}
 use Rattle.exact_matrices.specs.Terms.{delta}
 use Rattle.frac_core.specs.declared.frac128.Frac128.{Frac128}
 use Rattle.frac_core.specs.Values.{value}
@@ -17,7 +18,6 @@ use Rattle.loss_model.specs.declared.process.Segment.{Segment}
 use Rattle.loss_model.specs.Sample.{loss, Minimises}
 use Rattle.loss_model.specs.Problem.{sample, value_at}
 use Rattle.loss_model.specs.Segment.{Segments, of_segment, segments_of}
-use Rattle.loss_model.proofs.Quotients.{product_not_negative}
 use Rattle.quantile_laws.specs.Counts.{HasIntercept, MinimumSplitsWeights, SidesSplitWeights, SidesSplitCounts}
 use Rattle.quantile_laws.specs.Monotonicity.{AreObservations, MinimiseAlong, CentroidNeverFallsAlong}
 use Rattle.quantile_laws.specs.Monotonicity.{LeastLossIsContinuous, LossIsLine, SlopeFallsAlong, loss_slope}
@@ -29,12 +29,7 @@ use Rattle.run_laws.specs.Reports.{printed, IsReadFit}
 use Rattle.run_laws.specs.ReadFits.{IsSplitSegment, CentroidRises, AreConcaveLosses, IsReadOff, lo_at, hi_at, loss_lo_at, loss_hi_at}
 use Rattle.run_laws.proofs.Rows.{has_intercept, units}
 use Rattle.run_laws.proofs.Fits.{IsRightRead, records}
-
--- what holds of all items holds at each place
-at_place : {A : Type 0} (P : A → Type 0) (Q : Option A → Type 0) → ((x : A) → P x → Q (Some x)) → (xs : List A) → All P xs → (j : ℕ) → j < length xs → Q (slice_get xs j)
-at_place P Q f [] h j l = absurd (omega (arith, l))
-at_place P Q f (x ∷ xs) h zero l = f x (h 0 x (omega arith))
-at_place P Q f (x ∷ xs) h (suc j) l = at_place P Q f xs (λ k d m. h (suc k) d (omega (arith, m))) j (omega (arith, l))
+use Rattle.run_laws.proofs.LeastPaths.{at_place}
 
 -- ---- the marks
 

@@ -34,6 +34,7 @@ use Rattle.rq_program.specs.Programs.{data_row, penalty_row, rows_of}
 use Rattle.rq_words.specs.declared.job.FitJob.{FitJob}
 use Rattle.rq_input.specs.Inputs.{IsModelInput}
 use Rattle.rq_input.specs.declared.input.Input.{Input}
+use Rattle.rq_input.proofs.Intercepts.{front_value}
 use Rattle.quantile_laws.specs.Counts.{HasIntercept}
 use Rattle.quantile_laws.specs.Monotonicity.{AreObservations}
 
@@ -93,10 +94,6 @@ at_data (d ∷ ds) (s ∷ ss) ps number x same h (suc i) l =
 abbrev front : List ℚ → ℚ
 front [] = whole (pos 0)
 front (x ∷ xs) = x
-
-front_value : (xs : List Frac128) → value_at value xs 0 ≡ front (map exact xs)
-front_value [] = refl
-front_value (x ∷ xs) = refl
 
 front_joined : (xs ys : List ℚ) → front xs ≡ whole (pos 1) → front (xs ++ ys) ≡ whole (pos 1)
 front_joined [] ys h = absurd (one-zero (sym h))

@@ -1,22 +1,13 @@
 -- What is seen alike is the same: fractions of 128 bits by their values, and what is made of them.
 use Rattle.std.proofs.Common.{◌≡◌, ◌^◌, ◌-◌, List, [], ◌∷◌, Option, Some, None, map, option_map, refl, ap, ap₂}
+use Rattle.cert_text.proofs.Same.{same_lists}
 use Rattle.frac_core.specs.declared.frac128.Frac128.{Frac128}
 use Rattle.frac_core.specs.Lowest.{same_fraction, IsWithin-along}
 use Rattle.frac_core.specs.Values.{exact}
+use Rattle.frac_core.proofs.Values.{same_number}
 use Rattle.data_frame.specs.Views.{exact_column, exact_table}
 use Rattle.data_frame.specs.Cells.{ColumnOf, numbers, factor, too_wide}
 use Rattle.data_frame.specs.Tables.{TableOf}
-
-pub same_lists : {A B : Type 0} (show : A → B) → ((x y : A) → show x ≡ show y → x ≡ y) → (xs ys : List A) → map show xs ≡ map show ys → xs ≡ ys
-same_lists show one [] [] h = refl
-same_lists show one [] (y ∷ ys) h = absurd (cc h)
-same_lists show one (x ∷ xs) [] h = absurd (cc h)
-same_lists show one (x ∷ xs) (y ∷ ys) h = ap₂ (λ z zs. z ∷ zs) (one x y (cc h)) (same_lists show one xs ys (cc h))
-
-pub same_number : (x y : Frac128) → exact x ≡ exact y → x ≡ y
-same_number x y e =
-    let parts = same_fraction (2 ^ 127 - 1) _ _ x.within y.within e in
-    λ i. record { num = (parts i).num; den = (parts i).den; within = IsWithin-along (2 ^ 127 - 1) parts x.within y.within i }
 
 same_cell : (x y : Option Frac128) → option_map exact x ≡ option_map exact y → x ≡ y
 same_cell None None e = refl

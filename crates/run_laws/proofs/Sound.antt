@@ -2,9 +2,11 @@
 use Rattle.std.proofs.Common.{◌≡◌, ◌≢◌, ◌+◌, ℕ, true, List, [], ◌∷◌, Option, length, map, zip, min, arith, inl, inr, refl, sym, ap, ◌∙◌}
 use Rattle.std.proofs.lemmas.List.{length-append, length-map}
 use Rattle.std.proofs.lemmas.Slice.Zip.{length-zip}
+use Rattle.cert_text.proofs.Same.{same_lists}
 use Rattle.contrasts.specs.declared.Coding.{Coding}
 use Rattle.frac_core.specs.declared.frac128.Frac128.{Frac128}
 use Rattle.frac_core.specs.Values.{exact}
+use Rattle.frac_core.proofs.Values.{same_number}
 use Rattle.loss_model.specs.declared.problem.Problem.{Problem}
 use Rattle.loss_model.specs.declared.spill.Spill.{Spill}
 use Rattle.loss_model.specs.Problem.{IsWellShaped}
@@ -31,7 +33,6 @@ use Rattle.rq_program.specs.declared.fault.ProgramFault.{ProgramFault}
 use Rattle.rq_program.specs.declared.fault.ProgramFault.TheVariants as programs
 use Rattle.rq_input.specs.Models.{IsProblemOf, IsSmoothed}
 use Rattle.run_laws.proofs.Overflows.{none_first}
-use Rattle.run_laws.proofs.Same.{same_lists, same_number}
 
 -- ---- the design
 

@@ -7,7 +7,7 @@ use Rattle.std.proofs.lemmas.List.Elements.{All-cons, All-nil}
 use Rattle.exact_algebra.specs.Fraction.{rational}
 use Rattle.exact_algebra.specs.Rational.{ℚ}
 use Rattle.frac_core.specs.declared.frac128.Frac128.{Frac128}
-use Rattle.frac_core.specs.Values.{value}
+use Rattle.frac_core.specs.Values.{exact, value}
 use Rattle.loss_model.specs.declared.interval.Bound.{Bound}
 use Rattle.loss_model.specs.declared.interval.Bound.TheVariants.{Finite, Infinite}
 use Rattle.loss_model.specs.declared.interval.Beyond.{Beyond}
@@ -32,7 +32,7 @@ use Rattle.cert_text.specs.Limits.{IsWithinLimits}
 use Rattle.cert_text.specs.Trees.{cert_text}
 use Rattle.cert_text.specs.declared.cert.Cert.{Cert}
 use Rattle.cert_checker.specs.Intervals.{beyond_list}
-use Rattle.rq_words.specs.Requests.{fit_request, number, rank_request}
+use Rattle.rq_words.specs.Requests.{fit_request, rank_request}
 use Rattle.rq_words.specs.declared.job.FitJob.{FitJob}
 use Rattle.rq_words.specs.declared.job.RankAsk.{RankAsk}
 use Rattle.rq_words.specs.declared.job.Job.TheVariants as jobs
@@ -125,7 +125,7 @@ module _ (words : List (List ℕ)) (job : FitJob) (asked : IsJobOf words (jobs.C
   few_asked n few None e = omega arith
   few_asked n few (Some rank) e =
       let taus = certify_few words (fit_request job) (rank_request rank) asked (ap (option_map rank_request) e) in
-      omega (arith, asked_count rank.crit n rank.taus few, taus, length-map rank.taus number)
+      omega (arith, asked_count rank.crit n rank.taus few, taus, length-map rank.taus exact)
 
   -- ---- the certificate of a right fit
 

@@ -24,6 +24,7 @@ use Rattle.walk_rule.specs.Direction.TheVariants.{Upward, Downward}
 use Rattle.walk_rule.specs.Duals.{◌<ℚ◌}
 use Rattle.walk_rule.specs.Steps.{slope, HasNoNegativeSlope, is_towards, change, moves, is_before, passing, slope_before, IsLeaving, IsEntering, IsSolvingStep}
 use Rattle.walk_rule.specs.Walks.{IsFirstMover}
+use Rattle.walk_rule.proofs.Lists.{lex_cmp-by}
 use Rattle.scaled_model.specs.Scaled.{IsScaled, unscaled}
 use Rattle.scaled_model.proofs.ScalingLaws.{coord-scaled, residual-scaled, side_at-scaled, slope-scaled, perturbed_side-positive}
 
@@ -33,10 +34,6 @@ cmp_both l x y h = by_cmp x y (λ o. cmp_ℚ (l *ℚ x) (l *ℚ y) ≡ o)
     (λ n. (cmp_ℚ-Less (l *ℚ x) (l *ℚ y)).1 (λ g. n (≤ℚ-from_mul y x l h g)))
     (λ e. (cmp_ℚ-Equal (l *ℚ x) (l *ℚ y)).1 (ap (λ z. l *ℚ z) e))
     (λ n. (cmp_ℚ-Greater (l *ℚ x) (l *ℚ y)).1 (λ g. n (≤ℚ-from_mul x y l h g)))
-
-lex_cmp-both : (n : ℕ) (u v u' v' : ℕ → ℚ) → ((i : ℕ) → cmp_ℚ (u i) (v i) ≡ cmp_ℚ (u' i) (v' i)) → lex_cmp n u v ≡ lex_cmp n u' v'
-lex_cmp-both zero u v u' v' h = refl
-lex_cmp-both (suc n) u v u' v' h = ap₂ ordering_then (lex_cmp-both n u v u' v' h) (h n)
 
 turned-mul : (o : Side) (l x : ℚ) → turned o (l *ℚ x) ≡ l *ℚ turned o x
 turned-mul Up l x = refl
@@ -67,7 +64,7 @@ module _ (p q : Sample) (s : ℕ → ℚ) (ly lc : ℚ) (h : IsScaled p q s ly l
   pub is_before-scaled : (j i r : ℕ) → j < p.columns → i < p.rows → r < p.rows → is_before q at a j i r ≡ is_before p at (unscaled s a) j i r
   is_before-scaled j i r lj li lr =
       ap is_lt (ap (λ k. lex_cmp (suc k) (ratio q.rows q.columns at j (outside_row q at a i)) (ratio q.rows q.columns at j (outside_row q at a r))) h.rows
-      ∙ lex_cmp-both (suc p.rows) (ratio q.rows q.columns at j (outside_row q at a i)) (ratio q.rows q.columns at j (outside_row q at a r)) (ratio p.rows p.columns at j (outside_row p at (unscaled s a) i))
+      ∙ lex_cmp-by (suc p.rows) (ratio q.rows q.columns at j (outside_row q at a i)) (ratio q.rows q.columns at j (outside_row q at a r)) (ratio p.rows p.columns at j (outside_row p at (unscaled s a) i))
       (ratio p.rows p.columns at j (outside_row p at (unscaled s a) r)) by)
     where
       first : (k : ℕ) → k < p.rows → ratio q.rows q.columns at j (outside_row q at a k) zero ≡ ly *ℚ ratio p.rows p.columns at j (outside_row p at (unscaled s a) k) zero

@@ -6,6 +6,7 @@ use Rattle.exact_algebra.specs.Fraction.{Fraction, rational}
 use Rattle.exact_algebra.specs.Rational.{ℚ, whole, ◌≤ℚ◌}
 use Rattle.exact_algebra.proofs.RationalLaws.{≤ℚ_refl, ≤ℚ_trans}
 use Rattle.exact_algebra.proofs.OrderLaws.{le_from_not}
+use Rattle.exact_algebra.proofs.Lists.{pushed_last, contains_item}
 use Rattle.loss_model.specs.declared.process.Exchange.{Exchange}
 use Rattle.loss_model.specs.declared.process.Segment.{Segment}
 use Rattle.loss_model.specs.Sample.{Sample}
@@ -27,8 +28,6 @@ use Rattle.walk_rule.proofs.Slopes.{slope_is, dual_is, optimal_to, none_before, 
 use Rattle.walk_rule.proofs.Stays.{duals_stay, optimal_stays}
 use Rattle.walk_rule.proofs.Trails.{list_exchanged, below_from}
 use Rattle.tableau_model.specs.Places.{Place, Task}
-use Rattle.fraction_tableau.proofs.Lists.{get_end}
-use Rattle.fraction_tableau.proofs.Vertices.{itself}
 use Rattle.whole_tableau.specs.Ends.{IsCarried}
 
 -- what follows for each value follows for that of an option
@@ -40,7 +39,7 @@ some_weaker P Q h (Some x) k = h x k
 pub last_put : {A : Type 0} (P : A → Type 0) (xs : List A) (x : A) → P x → IfSome (slice_get (xs ++ x ∷ []) (length (xs ++ x ∷ []) - 1)) P
 last_put P xs x h =
     let place : length (xs ++ x ∷ []) - 1 ≡ length xs = omega (arith, length_push xs x) in
-    subst (λ o. IfSome o P) (sym (ap (slice_get (xs ++ x ∷ [])) place ∙ get_end xs x)) h
+    subst (λ o. IfSome o P) (sym (ap (slice_get (xs ++ x ∷ [])) place ∙ pushed_last xs x)) h
 
 module _ {F : Type 0} (value : F → Fraction) (task : Task F) (lo hi : ℚ) (start : List ℕ) (steps : List (Exchange F)) (segments : List (Segment F)) (now : ℚ) (basis : List ℕ) (a b : ℕ → ℕ → ℚ) (x : Exchange F)
     (costs : HasCosts (sample value task.problem) lo) (costs' : HasCosts (sample value task.problem) hi) (u : IsUnderway value task.problem lo hi start steps segments now basis a)
@@ -102,7 +101,7 @@ module _ {F : Type 0} (value : F → Fraction) (task : Task F) (lo hi : ℚ) (st
       record {
         size = stands.1.size ∙ sym stands.0.shape.size;
         rows = λ k lk.
-            let held : Contains basis (slice_index s.vertex.basis.rows k) = (stands.0.rows (slice_index s.vertex.basis.rows k)).0 (itself s.vertex.basis.rows k lk) in
+            let held : Contains basis (slice_index s.vertex.basis.rows k) = (stands.0.rows (slice_index s.vertex.basis.rows k)).0 (contains_item s.vertex.basis.rows k lk) in
             subst (λ i. i < q.rows) (any_default basis held.0 0 (slice_index s.vertex.basis.rows k) held.1 ∙ held.2)
             (u.is_basis.distinct.within held.0 (subst (λ n. held.0 < n) u.size held.1));
         each = λ k lk. stands.1.each k (subst (λ n. k < n) stands.0.shape.size lk);

@@ -20,12 +20,13 @@ use denote.Ref.{Bor}
 use Rattle.frac_core.specs.declared.frac128.Frac128.{Frac128}
 use Rattle.exact_algebra.specs.Order.{cmp_ℚ}
 use Rattle.frac_core.specs.Values.{exact, value}
+use Rattle.frac_core.proofs.Values.{same_number}
 use Rattle.loss_model.proofs.Products.{value_at-item}
 use Rattle.design_matrix.specs.Laws.{AreDistinctCells, LevelsOfNumbers}
 use Rattle.design_matrix.specs.Levels.{levels_of, number_order}
 use Rattle.tv_penalty.specs.Smoothings.{knot_at}
 use Rattle.tv_penalty.specs.Views.{AreAscending}
-use Rattle.tv_penalty.proofs.Values.{parts_equivalence, parts_same, parts_ties, same_parts, same_value, total_numbers}
+use Rattle.tv_penalty.proofs.Values.{parts_equivalence, parts_same, parts_ties, same_parts, total_numbers}
 
 module _ {K : Type 0} (order : K → K → Ordering) (total : IsTotalOrder order) where
   abbrev Before : K → K → Type 0
@@ -97,7 +98,7 @@ sorted_levels law cells sorted moved up =
         let y = get_or (dedup same_parts sorted) k d in
         let held : Contains cells y = Contains-permutation sorted cells y (IsPermutation-sym cells sorted moved) (Contains-from_dedup same_parts sorted y (All-contains_itself (dedup same_parts sorted) k d l)) in
         let level = All-contains (λ cell. Any (λ l. exact l ≡ exact cell) (levels_of number_order cells)) cells y ls.complete held in
-        subst (Contains (levels_of number_order cells)) (same_value level.1 y level.4) (level.0, level.2, level.3)
+        subst (Contains (levels_of number_order cells)) (same_number level.1 y level.4) (level.0, level.2, level.3)
 
     back : All (Contains (dedup same_parts sorted)) (levels_of number_order cells)
     back k d l =

@@ -9,6 +9,7 @@ use Rattle.loss_model.proofs.Products.{value_at-item}
 use Rattle.design_matrix.specs.Lists.{each}
 use Rattle.exact_algebra.specs.Order.{cmp_ℚ}
 use Rattle.exact_algebra.specs.Rational.{ℚ, whole}
+use Rattle.exact_algebra.proofs.Lists.{mapped_more, map_replicate}
 use Rattle.frac_core.specs.Values.{exact, value}
 use Rattle.tv_penalty.specs.Smoothings.{knot_at, placed, with_columns}
 use Rattle.tv_penalty.specs.Views.{AreAscending}
@@ -39,14 +40,6 @@ columns_of_knots false xs = omega arith
 columns_of_knots true [] = omega arith
 columns_of_knots true (x ∷ xs) = omega arith
 
--- a loop's step: one more item, which is to g what f makes of the item at k
-pub mapped_more : {W X Y : Type 0} (g : W → Y) (f : X → Y) (xs : List X) (k : ℕ) (x : X) (start : List Y) (olds news : List W) (w : W) → k < length xs → x ≡ get_or xs k x → map g olds ≡ start ++ map f (take k xs) → news ≡ olds ++ w ∷ []
-    → g w ≡ f x → map g news ≡ start ++ map f (take (k + 1) xs)
-mapped_more g f xs k x start olds news w within here so_far more made =
-    ap (map g) more ∙ map-append g olds (w ∷ []) ∙ ap (λ y. map g olds ++ y ∷ []) (made ∙ ap f here) ∙ ap (λ z. z ++ f (get_or xs k x) ∷ []) so_far
-    ∙ append_assoc start (map f (take k xs)) (f (get_or xs k x) ∷ [])
-    ∙ ap (λ z. start ++ z) (sym (map-append f (take k xs) (get_or xs k x ∷ [])) ∙ ap (map f) (sym (take_more xs k x within)))
-
 -- the same of the items themselves
 pub pushed_more : {X Y : Type 0} (same : Y → Y) (f : X → Y) (xs : List X) (k : ℕ) (x : X) (start olds news : List Y) (w : Y) → k < length xs → x ≡ get_or xs k x → olds ≡ start ++ map f (take k xs) → news ≡ olds ++ w ∷ [] → w ≡ f x
     → news ≡ start ++ map f (take (k + 1) xs)
@@ -66,10 +59,6 @@ each_pushed g see f xs k x start olds news w within here so_far more made =
     ap (map g) more ∙ map-append g olds (w ∷ []) ∙ ap₂ (λ z y. z ++ y ∷ []) so_far (made ∙ ap (λ y. f k (see y)) here ∙ ap (λ m. f m (see (get_or xs k x))) (sym n))
     ∙ append_assoc start (each f 0 (map see (take k xs))) (f (0 + length (map see (take k xs))) (see (get_or xs k x)) ∷ [])
     ∙ ap (λ z. start ++ z) (sym (each_more f 0 (map see (take k xs)) (see (get_or xs k x))) ∙ ap (each f 0) (sym (map-append see (take k xs) (get_or xs k x ∷ [])) ∙ ap (map see) (sym (take_more xs k x within))))
-
-map_replicate : {X Y : Type 0} (f : X → Y) (n : ℕ) (x : X) → map f (replicate n x) ≡ replicate n (f x)
-map_replicate f zero x = refl
-map_replicate f (suc n) x = ap (λ z. f x ∷ z) (map_replicate f n x)
 
 -- noughts, the entries, and noughts up to the last column
 pub placed_is : (columns before after : ℕ) (nought nought' : Frac128) (entries front both zeros lent all : List Frac128) → exact nought ≡ whole (pos 0) → exact nought' ≡ whole (pos 0)

@@ -11,18 +11,18 @@ use Rattle.frac_core.specs.declared.exact.OpKind.{OpKind}
 use Rattle.frac_core.specs.declared.exact.OpKind.TheVariants.{Sub}
 use Rattle.frac_core.specs.declared.frac128.Frac128.{Frac128}
 use Rattle.frac_core.specs.Values.{exact, value}
+use Rattle.frac_core.proofs.Values.{same_number}
 use Rattle.loss_model.specs.declared.spill.Site.{Site}
 use Rattle.loss_model.specs.declared.spill.Spill.{Spill}
 use Rattle.tv_penalty.specs.Operations.{IsSpillOf, NoneOverflows, SitedOperation, Overflows, OverflowsFirst, knot_site, operation_at}
 use Rattle.tv_penalty.specs.Smoothings.{bend_of}
 use Rattle.tv_penalty.specs.Views.{bend_seen}
-use Rattle.tv_penalty.proofs.Values.{same_value}
 
 -- where the operation on these numbers doesn't overflow, none of these operands does
 pub fits : (site : Site) (l r : Frac128) (left right : ℚ) → exact l ≡ left → exact r ≡ right → (OverflowsAt (2 ^ 127 - 1) site.kind (value l) (value r) → ⊥) → Overflows (record { site = site; left = left; right = right }) → ⊥
 fits site l r left right el er not o =
-    let a : o.0.left ≡ l = same_value o.0.left l (o.1.is_left ∙ sym el) in
-    let b : o.0.right ≡ r = same_value o.0.right r (o.1.is_right ∙ sym er) in
+    let a : o.0.left ≡ l = same_number o.0.left l (o.1.is_left ∙ sym el) in
+    let b : o.0.right ≡ r = same_number o.0.right r (o.1.is_right ∙ sym er) in
     not (subst (λ z. OverflowsAt (2 ^ 127 - 1) site.kind (value l) (value z)) b (subst (λ z. OverflowsAt (2 ^ 127 - 1) site.kind (value z) (value o.0.right)) a o.1.overflows))
 
 -- the spill of an operation on these numbers, which overflows

@@ -2,32 +2,24 @@
 use Rattle.std.proofs.Common.{◌≡◌, ◌^◌, ◌-◌, Bool, true, false, ◌&&◌, is_eq, eqb, int_eq, Less, refl, sym, ap, subst, ◌∙◌}
 use Rattle.std.specs.Cmp.{IsTotalOrder, IsEquivalence, both_ways, Equal-is, on_total, tied_itself}
 use Rattle.std.specs.Ordering.{eq_by_cmp}
-use Rattle.std.proofs.lemmas.Bool.{eqb-true}
+use Rattle.std.proofs.lemmas.Bool.{eqb-true, and_parts, and_from}
 use Rattle.std.proofs.lemmas.Bool.Decides.{Decides-eqb, Decides-int_eq}
 use Rattle.exact_algebra.specs.Rational.{ℚ}
 use Rattle.exact_algebra.proofs.RationalLaws.{≤ℚ_trans}
 use Rattle.exact_algebra.specs.Order.{cmp_ℚ}
 use Rattle.exact_algebra.proofs.OrderLaws.{cmp_ℚ-Less, cmp_ℚ-Equal, cmp_ℚ_swap, le_from_not}
+use Rattle.exact_algebra.proofs.Signs.{below_trans}
 use Rattle.frac_core.specs.Lowest.{same_fraction, IsWithin-along}
 use Rattle.frac_core.specs.declared.frac128.Frac128.{Frac128}
 use Rattle.frac_core.specs.Values.{exact, value}
+use Rattle.frac_core.proofs.Values.{same_number}
 use Rattle.design_matrix.specs.Levels.{number_order}
-
--- numbers of one value are the same
-pub same_value : (x y : Frac128) → exact x ≡ exact y → x ≡ y
-same_value x y e =
-    let parts : value x ≡ value y = same_fraction (2 ^ 127 - 1) (value x) (value y) x.within y.within e in
-    λ i. record { num = (parts i).num; den = (parts i).den; within = IsWithin-along (2 ^ 127 - 1) parts x.within y.within i }
-
-cmp_ℚ-trans : (x y z : ℚ) → cmp_ℚ x y ≡ Less → cmp_ℚ y z ≡ Less → cmp_ℚ x z ≡ Less
-cmp_ℚ-trans x y z p q =
-    (cmp_ℚ-Less x z).1 (λ back. (cmp_ℚ-Less y z).0 q (≤ℚ_trans z x y back (le_from_not x y ((cmp_ℚ-Less x y).0 p))))
 
 pub total_values : IsTotalOrder cmp_ℚ
 total_values =
     record {
       antisymm = λ x y. cmp_ℚ_swap y x;
-      trans = cmp_ℚ-trans;
+      trans = below_trans;
       congr = λ x y z e. ap (λ v. cmp_ℚ v z) ((cmp_ℚ-Equal x y).0 e);
     }
 
@@ -38,32 +30,23 @@ total_numbers = on_total exact total_values
 abbrev pub same_parts : Frac128 → Frac128 → Bool
 same_parts x y = int_eq x.num y.num && eqb x.den y.den
 
-both : (a b : Bool) → (a && b) ≡ true → (a ≡ true) × (b ≡ true)
-both true true h = (refl, refl)
-both true false h = absurd (cc h)
-both false b h = absurd (cc h)
-
-true_twice : (a b : Bool) → a ≡ true → b ≡ true → (a && b) ≡ true
-true_twice true b p q = q
-true_twice false b p q = absurd (cc p)
-
 pub parts_same : (x y : Frac128) → same_parts x y ≡ true → x ≡ y
 parts_same x y h =
-    let tests = both (int_eq x.num y.num) (eqb x.den y.den) h in
+    let tests = and_parts (int_eq x.num y.num) (eqb x.den y.den) h in
     let n = (Decides-int_eq x.num y.num).0 tests.0 in
     let d = eqb-true x.den y.den tests.1 in
     let parts : value x ≡ value y = λ i. record { num = n i; den = d i } in
     λ i. record { num = n i; den = d i; within = IsWithin-along (2 ^ 127 - 1) parts x.within y.within i }
 
 same_itself : (x : Frac128) → same_parts x x ≡ true
-same_itself x = true_twice (int_eq x.num x.num) (eqb x.den x.den) ((Decides-int_eq x.num x.num).1 refl) ((Decides-eqb x.den x.den).1 refl)
+same_itself x = and_from (int_eq x.num x.num) (eqb x.den x.den) ((Decides-int_eq x.num x.num).1 refl) ((Decides-eqb x.den x.den).1 refl)
 
 -- the test is true just at numbers that compare as equal
 pub parts_ties : (x y : Frac128) → same_parts x y ≡ eq_by_cmp number_order x y
 parts_ties x y =
     both_ways (same_parts x y) (eq_by_cmp number_order x y)
     (λ h. ap (eq_by_cmp number_order x) (sym (parts_same x y h)) ∙ ap is_eq (tied_itself total_numbers x))
-    (λ h. subst (λ z. same_parts x z ≡ true) (same_value x y ((cmp_ℚ-Equal (exact x) (exact y)).0 ((Equal-is (number_order x y)).0 h))) (same_itself x))
+    (λ h. subst (λ z. same_parts x z ≡ true) (same_number x y ((cmp_ℚ-Equal (exact x) (exact y)).0 ((Equal-is (number_order x y)).0 h))) (same_itself x))
 
 pub parts_equivalence : IsEquivalence same_parts
 parts_equivalence = record {

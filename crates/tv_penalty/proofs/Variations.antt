@@ -10,7 +10,7 @@ use Rattle.exact_algebra.proofs.OrderLaws.{by_cmp}
 use Rattle.exact_algebra.specs.Rational.{ℚ, ◌≤ℚ◌, ◌+ℚ◌, ◌-ℚ◌, ◌*ℚ◌, neg_ℚ, inverse, whole}
 use Rattle.exact_algebra.proofs.RationalLaws.{ring_ℚ, +ℚ_assoc, zero-+ℚ}
 use Rattle.exact_algebra.specs.RationalSums.{sum_ℚ}
-use Rattle.exact_algebra.proofs.RationalSumLaws.{sum_ℚ-same}
+use Rattle.exact_algebra.proofs.RationalSumLaws.{sum_ℚ-same, sum_ℚ-first}
 use Rattle.exact_algebra.specs.Solver.{number, negated, ◌⊞◌, ◌⊟◌, ◌⊠◌, v0, v1, v2, v3, v4}
 use Rattle.frac_core.specs.declared.frac128.Frac128.{Frac128}
 use Rattle.frac_core.specs.Values.{exact}
@@ -69,10 +69,6 @@ along_bend knots n k v =
     ∙ ring_ℚ (below ∷ above ∷ v k ∷ v (k + 1) ∷ v (k + 2) ∷ []) (v0 ⊠ v2 ⊞ (negated (v0 ⊞ v1) ⊠ v3 ⊞ (v1 ⊠ v4 ⊞ number (pos 0)))) ((v4 ⊟ v3) ⊠ v1 ⊟ (v3 ⊟ v2) ⊠ v0) refl
     ∙ ap (λ m. ((v m -ℚ v (k + 1)) *ℚ inverse (knot_at knots m -ℚ knot_at knots (k + 1))) -ℚ slope knots v k) (sym next)
 
-sum_first : (n : ℕ) (f : ℕ → ℚ) → sum_ℚ (suc n) f ≡ f zero +ℚ sum_ℚ n (λ j. f (suc j))
-sum_first zero f = ring_ℚ (f zero ∷ []) (number (pos 0) ⊞ v0) (v0 ⊞ number (pos 0)) refl
-sum_first (suc n) f = ap (λ z. z +ℚ f (suc n)) (sum_first n f) ∙ +ℚ_assoc (f zero) (sum_ℚ n (λ j. f (suc j))) (f (suc n))
-
 penalty_append : (xs ys : List PenaltyOf) (b : ℕ → ℚ) → penalty (xs ++ ys) b ≡ penalty xs b +ℚ penalty ys b
 penalty_append [] ys b = sym (zero-+ℚ (penalty ys b))
 penalty_append (x ∷ xs) ys b =
@@ -97,7 +93,7 @@ module _ (intercept : Bool) (columns before : ℕ) (p : PartOf) (b : ℕ → ℚ
       ap₂ (λ u z. (p.lambda *ℚ abs_ℚ u) +ℚ z) (row_costs k) (rows_cost n (k + 1) ∙ ap (λ z. p.lambda *ℚ z) (sum_ℚ-same n (λ j. jump (k + 1 + j)) (λ j. jump (k + suc j)) (λ j l. ap jump (omega arith))))
       ∙ ring_ℚ (p.lambda ∷ jump k ∷ sum_ℚ n (λ j. jump (k + suc j)) ∷ []) (v0 ⊠ v1 ⊞ v0 ⊠ v2) (v0 ⊠ (v1 ⊞ v2)) refl
       ∙ ap (λ m. p.lambda *ℚ (jump m +ℚ sum_ℚ n (λ j. jump (k + suc j)))) (omega arith)
-      ∙ ap (λ z. p.lambda *ℚ z) (sym (sum_first n (λ j. jump (k + j))))
+      ∙ ap (λ z. p.lambda *ℚ z) (sym (sum_ℚ-first n (λ j. jump (k + j))))
 
   -- all rows of the smooth
   smooth_costs : p.bends ≡ bends_of p.knots → penalty (each (bend_row intercept columns before p) 0 p.bends) b ≡ p.lambda *ℚ total_variation p.knots (values intercept (λ j. b (before + j)))

@@ -13,6 +13,8 @@ use Rattle.exact_algebra.proofs.RationalLaws.{ring_ℚ, ≤ℚ_antisym}
 use Rattle.exact_algebra.proofs.Inverses.{inverse-neg}
 use Rattle.exact_algebra.specs.Order.{cmp_ℚ}
 use Rattle.exact_algebra.proofs.OrderLaws.{cmp_ℚ-Less, cmp_ℚ-Greater, le_from_not}
+use Rattle.exact_algebra.proofs.Comparisons.{is_less, is_greater}
+use Rattle.exact_algebra.proofs.Signs.{neg-neg}
 use Rattle.exact_matrices.proofs.TermLaws.{if-same, if-other}
 use Rattle.loss_model.specs.declared.vertex.Side.TheVariants.{Up, Down}
 use Rattle.loss_model.specs.Sample.{Sample}
@@ -30,19 +32,14 @@ use Rattle.pivot_rule.specs.Steps.{is_towards, change, moves, is_before}
 use Rattle.pivot_rule.specs.Responses.{residual_for, response}
 use Rattle.pivot_rule.proofs.Among.{among_at, among_place}
 use Rattle.pivot_rule.proofs.Bounds.{is_basic}
-use Rattle.pivot_rule.proofs.Entering.{abs_above, abs_below, double_neg}
+use Rattle.pivot_rule.proofs.Entering.{abs_above, abs_below}
 use Rattle.pivot_rule.proofs.Exchanged.{perturbed_is}
-use Rattle.pivot_rule.proofs.Passing.{mover_some, mover_outside, less_from}
+use Rattle.pivot_rule.proofs.Passing.{mover_some, mover_outside}
 use Rattle.pivot_rule.proofs.Sides.{sign, side_basic, side_outside}
 use Rattle.walk_rule.specs.Walks.{side_towards, AreExchanged}
 use Rattle.walk_rule.proofs.Lines.{le_by}
 use Rattle.walk_rule.proofs.Lists.{inverse_above, sign_scaled, sign_negated, sign_kept}
 use Rattle.walk_rule.proofs.Exchanges.{residual_next, coord_own, residual_own, outside_from, outside_test}
-
-is_greater : (o : Ordering) → is_gt o ≡ true → o ≡ Greater
-is_greater Less h = absurd (cc h)
-is_greater Equal h = absurd (cc h)
-is_greater Greater h = refl
 
 module _ (p : Sample) (at : ℕ → ℕ) (a : ℕ → ℕ → ℚ) (basis : IsBasis p at a) (j : ℕ) (d : Direction) where
   -- the perturbed ratio of row i, entry by entry
@@ -88,7 +85,7 @@ module _ (p : Sample) (at : ℕ → ℕ) (a : ℕ → ℕ → ℚ) (basis : IsBa
   change_above : (i : ℕ) → moves p at a j d i ≡ true → sign p at a i ≡ Greater → change p at a j d i <ℚ whole (pos 0)
   change_above i h e =
       (cmp_ℚ-Less (change p at a j d i) (whole (pos 0))).0
-      (less_from (cmp_ℚ (change p at a j d i) (whole (pos 0))) (sym (ap (λ s. is_towards s (change p at a j d i)) (side_above i (mover_outside p at a j d i h) e)) ∙ h))
+      (is_less (cmp_ℚ (change p at a j d i) (whole (pos 0))) (sym (ap (λ s. is_towards s (change p at a j d i)) (side_above i (mover_outside p at a j d i h) e)) ∙ h))
 
   change_below : (i : ℕ) → moves p at a j d i ≡ true → sign p at a i ≡ Less → whole (pos 0) <ℚ change p at a j d i
   change_below i h e =
@@ -104,11 +101,11 @@ module _ (p : Sample) (at : ℕ → ℕ) (a : ℕ → ℕ → ℚ) (basis : IsBa
 
   abs_falling : (d : Direction) (i : ℕ) → change p at a j d i <ℚ whole (pos 0) → abs_ℚ (c i) ≡ neg_ℚ (change p at a j d i)
   abs_falling Upward i h = abs_below (c i) (le_from_not (c i) (whole (pos 0)) h)
-  abs_falling Downward i h = abs_above (c i) (subst (λ z. whole (pos 0) ≤ℚ z) (double_neg (c i)) (neg_above (neg_ℚ (c i)) h)) ∙ sym (double_neg (c i))
+  abs_falling Downward i h = abs_above (c i) (subst (λ z. whole (pos 0) ≤ℚ z) (neg-neg (c i)) (neg_above (neg_ℚ (c i)) h)) ∙ sym (neg-neg (c i))
 
   abs_rising : (d : Direction) (i : ℕ) → whole (pos 0) <ℚ change p at a j d i → abs_ℚ (c i) ≡ change p at a j d i
   abs_rising Upward i h = abs_above (c i) (le_from_not (whole (pos 0)) (c i) h)
-  abs_rising Downward i h = abs_below (c i) (subst (λ z. z ≤ℚ whole (pos 0)) (double_neg (c i)) (neg_below (neg_ℚ (c i)) h))
+  abs_rising Downward i h = abs_below (c i) (subst (λ z. z ≤ℚ whole (pos 0)) (neg-neg (c i)) (neg_below (neg_ℚ (c i)) h))
 
   -- ---- the row that enters
 
@@ -228,7 +225,7 @@ module _ (p : Sample) (at : ℕ → ℕ) (a : ℕ → ℕ → ℚ) (basis : IsBa
           test = outside_test p at a basis i out
 
           first_of : moves p at a j d i ≡ true → lex_cmp (suc p.rows) (ratios r) (ratios i) ≡ Less
-          first_of h = less_from (lex_cmp (suc p.rows) (ratios r) (ratios i)) (later h)
+          first_of h = is_less (lex_cmp (suc p.rows) (ratios r) (ratios i)) (later h)
 
           above : sign p at a i ≡ Greater → change p at a j d i <ℚ whole (pos 0) → lex_cmp (suc p.rows) (ratios r) (λ m. entries i m *ℚ inverse (neg_ℚ (change p at a j d i))) ≡ Less
           above e h =

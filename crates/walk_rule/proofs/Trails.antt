@@ -10,6 +10,7 @@ use Rattle.exact_algebra.specs.Rational.{ℚ, whole, ◌≤ℚ◌}
 use Rattle.exact_algebra.proofs.RationalLaws.{≤ℚ_refl, ≤ℚ_trans}
 use Rattle.exact_algebra.specs.Order.{cmp_ℚ}
 use Rattle.exact_algebra.proofs.OrderLaws.{cmp_ℚ-Less, le_from_not}
+use Rattle.exact_algebra.proofs.Comparisons.{is_less}
 use Rattle.exact_matrices.proofs.TermLaws.{if-same, if-other}
 use Rattle.loss_model.specs.declared.process.Exchange.{Exchange}
 use Rattle.loss_model.specs.declared.process.Trail.{Trail}
@@ -19,7 +20,6 @@ use Rattle.pivot_rule.specs.Duals.{HasCosts, ◌<ℚ◌}
 use Rattle.pivot_rule.specs.Responses.{exchanged_rows}
 use Rattle.pivot_rule.specs.Trails.{basis_after, AreSolvingSteps, IsOptimalBasis}
 use Rattle.pivot_rule.proofs.Unique.{same_inverse, one_step, no_step, one_trail, same_items}
-use Rattle.pivot_rule.proofs.Passing.{less_from}
 use Rattle.walk_rule.specs.Families.{Family, theta_of, over_quantiles, rising_value, falling_value}
 use Rattle.walk_rule.specs.Walks.{AreExchanged, IsWalkingStep}
 use Rattle.walk_rule.specs.WalkTrails.{AreWalkingSteps, value_after, HasWalkingStep, IsWalkEnd, is_below, is_within, IsProcessTrail, ReachesProcessLimit}
@@ -121,7 +121,7 @@ module _ {F : Type 0} (value : F → Fraction) (p : Sample) (theta : ℚ) (costs
 -- ---- processes
 
 pub below_from : (x y : ℚ) → is_lt (cmp_ℚ x y) ≡ true → x <ℚ y
-below_from x y h = (cmp_ℚ-Less x y).0 (less_from (cmp_ℚ x y) h)
+below_from x y h = (cmp_ℚ-Less x y).0 (is_less (cmp_ℚ x y) h)
 
 module _ {F : Type 0} (value : F → Fraction) (p : Sample) (lo hi : ℚ) (costs : HasCosts p lo) (costs' : HasCosts p hi) where
   abbrev when : F → ℚ

@@ -7,6 +7,7 @@ use borrow.Author.Tests.{ltb-true}
 use Rattle.exact_algebra.specs.Solver.{◌⊠◌, v0, v1, v2}
 use Rattle.exact_algebra.specs.Rational.{ℚ, ◌*ℚ◌, whole}
 use Rattle.exact_algebra.proofs.RationalLaws.{whole-mul, ring_ℚ}
+use Rattle.exact_algebra.proofs.Signs.{whole_product}
 use Rattle.loss_model.proofs.Quotients.{whole-quotient}
 use Rattle.whole_model.proofs.LowestTerms.{lowest_of}
 
@@ -17,12 +18,9 @@ pub record IsOver (n : ℕ) (c : ℕ → ℤ) (d : ℕ) (v : ℕ → ℚ) : Type
 pub one_le : (a b : ℕ) → 1 ≤ a → 1 ≤ b → 1 ≤ a * b
 one_le a b h k = let p : zero < a * b = mul-pos (omega arith) (omega arith) in omega arith
 
-pub whole-times : (a b : ℕ) → whole (pos (a * b)) ≡ whole (pos a) *ℚ whole (pos b)
-whole-times a b = whole-mul (pos a) (pos b)
-
 -- over a product of two denominators
 pub over_product : (n : ℕ) (c : ℕ → ℤ) (d g : ℕ) (v : ℕ → ℚ) → IsOver n c (d * g) v → (k : ℕ) → k < n → whole (c k) ≡ (whole (pos d) *ℚ whole (pos g)) *ℚ v k
-over_product n c d g v over k l = over.each k l ∙ ap (λ z. z *ℚ v k) (whole-times d g)
+over_product n c d g v over k l = over.each k l ∙ ap (λ z. z *ℚ v k) (whole_product d g)
 
 -- c/d in the first n places, and m/b in the next
 abbrev extended : ℕ → (ℕ → ℤ) → ℕ → ℤ → ℕ → ℕ → ℤ
@@ -34,12 +32,12 @@ extended_is n c d m b v over e = record { each = λ k l. by k l (ltb k n) refl }
     by : (k : ℕ) → k < suc n → (t : Bool) → ltb k n ≡ t → whole (cond t (c k *ℤ pos b) (m *ℤ pos d)) ≡ whole (pos (d * b)) *ℚ v k
     by k l true h =
         whole-mul (c k) (pos b) ∙ ap (λ z. z *ℚ whole (pos b)) (over.each k (ltb-true k n h))
-        ∙ ring_ℚ (whole (pos d) ∷ whole (pos b) ∷ v k ∷ []) ((v0 ⊠ v2) ⊠ v1) ((v0 ⊠ v1) ⊠ v2) refl ∙ ap (λ z. z *ℚ v k) (sym (whole-times d b))
+        ∙ ring_ℚ (whole (pos d) ∷ whole (pos b) ∷ v k ∷ []) ((v0 ⊠ v2) ⊠ v1) ((v0 ⊠ v1) ⊠ v2) refl ∙ ap (λ z. z *ℚ v k) (sym (whole_product d b))
     by k l false h =
         let last : n ≡ k = omega (arith, ltb-false k n h) in
         whole-mul m (pos d) ∙ ap (λ z. z *ℚ whole (pos d)) e
         ∙ ring_ℚ (whole (pos d) ∷ whole (pos b) ∷ v n ∷ []) ((v1 ⊠ v2) ⊠ v0) ((v0 ⊠ v1) ⊠ v2) refl
-        ∙ ap (λ z. z *ℚ v n) (sym (whole-times d b)) ∙ ap (λ i. whole (pos (d * b)) *ℚ v i) last
+        ∙ ap (λ z. z *ℚ v n) (sym (whole_product d b)) ∙ ap (λ i. whole (pos (d * b)) *ℚ v i) last
 
 -- the first n places of a vector of fractions over one denominator
 pub record CommonDenominator (n : ℕ) (v : ℕ → ℚ) : Type 0 where

@@ -8,13 +8,14 @@ use Rattle.exact_algebra.specs.Solver.{number, ◌⊠◌, v0, v1, v2, v3}
 use Rattle.exact_algebra.specs.Rational.{ℚ, ◌*ℚ◌, inverse, quotient, whole}
 use Rattle.exact_algebra.proofs.RationalLaws.{whole-mul, ring_ℚ, ring_by_ℚ}
 use Rattle.exact_algebra.proofs.Quotients.{quotient_from}
+use Rattle.exact_algebra.proofs.Signs.{whole_product}
 use Rattle.loss_model.specs.declared.problem.Row.{Row}
 use Rattle.loss_model.specs.declared.problem.Problem.{Problem}
 use Rattle.loss_model.specs.Problem.{value_at, sample}
 use Rattle.whole_model.specs.Scaled.{row_values, values, unit, over_at, scaled}
 use Rattle.whole_model.specs.Laws.{LossInIntegers, MinimisesInIntegers, DualsInIntegers, ListIsOver}
 use Rattle.loss_model.proofs.Quotients.{inverse_of, whole-quotient}
-use Rattle.whole_model.proofs.CommonDenominators.{one_le, whole-times}
+use Rattle.whole_model.proofs.CommonDenominators.{one_le}
 use Rattle.whole_model.proofs.Scales.{Scales, loss_scaled}
 use Rattle.whole_model.proofs.Integers.{minima, duals}
 
@@ -49,7 +50,7 @@ whole-over q v h d =
     whole-mul v.num (pos (q / v.den))
     ∙ ap (λ k. whole v.num *ℚ whole (pos k)) (ap (λ n. n / v.den) d.is ∙ mul-div_cancel_left d.factor (omega arith))
     ∙ ring_by_ℚ (whole v.num ∷ whole (pos v.den) ∷ whole (pos d.factor) ∷ inverse (whole (pos v.den)) ∷ []) (v0 ⊠ v2) ((v1 ⊠ v2) ⊠ (v0 ⊠ v3)) (v0 ⊠ v2) (number (pos 1)) (v1 ⊠ v3) refl (sym (inverse_of v.den h))
-    ∙ ap (λ z. z *ℚ rational v) (sym (whole-times v.den d.factor) ∙ ap (λ n. whole (pos n)) (sym d.is))
+    ∙ ap (λ z. z *ℚ rational v) (sym (whole_product v.den d.factor) ∙ ap (λ n. whole (pos n)) (sym d.is))
 
 nothing : (q : ℕ) → whole (pos 0) ≡ whole (pos q) *ℚ whole (pos 0)
 nothing q = ring_ℚ (whole (pos q) ∷ []) (number (pos 0)) (v0 ⊠ number (pos 0)) refl

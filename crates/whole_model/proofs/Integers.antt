@@ -10,6 +10,7 @@ use Rattle.exact_algebra.proofs.RationalSumLaws.{sum_ℚ-same, sum_ℚ-scale}
 use Rattle.exact_algebra.proofs.WholeNumbers.{whole-neg, whole-sum}
 use Rattle.exact_algebra.specs.Fraction.{Fraction, rational}
 use Rattle.exact_algebra.proofs.Quotients.{quotient_from}
+use Rattle.exact_algebra.proofs.Signs.{whole_product}
 use Rattle.loss_model.specs.Sample.{Sample}
 use Rattle.loss_model.specs.Sample as exact
 use Rattle.loss_model.specs.Dual.{mix}
@@ -17,14 +18,14 @@ use Rattle.loss_model.specs.Dual as exact_dual
 use Rattle.whole_model.specs.Scaled.{Scaled, up_cost, down_cost, loss, Minimises, IsFeasible, IsDual, between, mixed}
 use Rattle.whole_model.specs.Laws.{DualsShowMinimumInIntegers, MixIsDualInIntegers}
 use Rattle.loss_model.proofs.Quotients.{inverse_of, whole-quotient}
-use Rattle.whole_model.proofs.CommonDenominators.{IsOver, over_product, one_le, whole-times, common_denominator}
+use Rattle.whole_model.proofs.CommonDenominators.{IsOver, over_product, one_le, common_denominator}
 use Rattle.whole_model.proofs.Units.{positive_whole, order_of, equation_of}
 use Rattle.whole_model.proofs.Scales.{Scales, up_scaled, down_scaled, loss_scaled}
 use Rattle.loss_model.proofs.Duality.{minimum}
 use Rattle.loss_model.proofs.Mixes as mixes
 
 whole-3 : (a b c : ℕ) → whole (pos (a * (b * c))) ≡ whole (pos a) *ℚ (whole (pos b) *ℚ whole (pos c))
-whole-3 a b c = whole-times a (b * c) ∙ ap (λ z. whole (pos a) *ℚ z) (whole-times b c)
+whole-3 a b c = whole_product a (b * c) ∙ ap (λ z. whole (pos a) *ℚ z) (whole_product b c)
 
 module _ (q : ℕ) (p : Sample) (w : Scaled) (s : Scales q p w) (qp : 1 ≤ q) (theta : Fraction) (tp : 1 ≤ theta.den) where
   abbrev Q : ℚ
@@ -49,8 +50,8 @@ module _ (q : ℕ) (p : Sample) (w : Scaled) (s : Scales q p w) (qp : 1 ≤ q) (
       where
         unit_is : whole (pos ((q * (theta.den * q)) * (d * d'))) ≡ (Q *ℚ (t *ℚ Q)) *ℚ (whole (pos d) *ℚ whole (pos d'))
         unit_is =
-            whole-times (q * (theta.den * q)) (d * d') ∙ ap (λ z. z *ℚ whole (pos (d * d'))) (whole-3 q theta.den q)
-            ∙ ap (λ z. (Q *ℚ (t *ℚ Q)) *ℚ z) (whole-times d d')
+            whole_product (q * (theta.den * q)) (d * d') ∙ ap (λ z. z *ℚ whole (pos (d * d'))) (whole-3 q theta.den q)
+            ∙ ap (λ z. (Q *ℚ (t *ℚ Q)) *ℚ z) (whole_product d d')
 
     pub minima : exact.Minimises p (rational theta) v ↔ Minimises w theta c d
     minima = (
@@ -143,7 +144,7 @@ module _ (q : ℕ) (p : Sample) (w : Scaled) (s : Scales q p w) (qp : 1 ≤ q) (
         where
           unit_is : whole (pos ((theta.den * d) * (q * (q * g)))) ≡ (t *ℚ D) *ℚ (Q *ℚ (Q *ℚ G))
           unit_is =
-              whole-times (theta.den * d) (q * (q * g)) ∙ ap (λ z. z *ℚ whole (pos (q * (q * g)))) (whole-times theta.den d)
+              whole_product (theta.den * d) (q * (q * g)) ∙ ap (λ z. z *ℚ whole (pos (q * (q * g)))) (whole_product theta.den d)
               ∙ ap (λ z. (t *ℚ D) *ℚ z) (whole-3 q q g)
 
       pub duals : exact_dual.IsDual p (rational theta) v f ↔ IsDual w theta c d e g

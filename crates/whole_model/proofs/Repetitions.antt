@@ -6,15 +6,9 @@ use Rattle.exact_algebra.specs.Solver.{number, negated, ◌⊞◌, ◌⊠◌, v0
 use Rattle.exact_algebra.specs.Rational.{ℚ, ◌+ℚ◌, ◌-ℚ◌, ◌*ℚ◌, ◌≤ℚ◌, neg_ℚ, whole}
 use Rattle.exact_algebra.proofs.RationalLaws.{whole-add, ring_ℚ}
 use Rattle.exact_algebra.specs.RationalSums.{sum_ℚ, positive_ℚ, negative_ℚ}
+use Rattle.exact_algebra.proofs.RationalSumLaws.{sum_ℚ-first}
 use Rattle.loss_model.specs.Sample.{loss, row_loss, Minimises}
 use Rattle.whole_model.specs.Repeated.{Observation, WholeWeightsCount, often, once, weighted}
-
--- the first term apart
-first_apart : (n : ℕ) (f : ℕ → ℚ) → sum_ℚ (suc n) f ≡ f 0 +ℚ sum_ℚ n (λ i. f (suc i))
-first_apart zero f = ring_ℚ (f 0 ∷ []) (number (pos 0) ⊞ v0) (v0 ⊞ number (pos 0)) refl
-first_apart (suc n) f =
-    ap (λ z. z +ℚ f (suc n)) (first_apart n f)
-    ∙ ring_ℚ (f 0 ∷ sum_ℚ n (λ i. f (suc i)) ∷ f (suc n) ∷ []) ((v0 ⊞ v1) ⊞ v2) (v0 ⊞ (v1 ⊞ v2)) refl
 
 module _ (columns : ℕ) (theta : ℚ) (b : ℕ → ℚ) where
   -- what a record loses by its weight
@@ -28,7 +22,7 @@ module _ (columns : ℕ) (theta : ℚ) (b : ℕ → ℚ) where
   loss_total : (rs : List (ℚ × Observation)) → loss (weighted columns rs) theta b ≡ total rs
   loss_total [] = refl
   loss_total (r ∷ rs) =
-      first_apart (length rs) (row_loss (weighted columns (r ∷ rs)) theta b)
+      sum_ℚ-first (length rs) (row_loss (weighted columns (r ∷ rs)) theta b)
       ∙ ap (λ z. cost r +ℚ z) (loss_total rs)
 
   total_both : (rs ss : List (ℚ × Observation)) → total (rs ++ ss) ≡ total rs +ℚ total ss

@@ -9,10 +9,11 @@ use Rattle.exact_algebra.specs.RationalSums.{sum_ℚ, positive_ℚ, negative_ℚ
 use Rattle.exact_algebra.proofs.RationalSumLaws.{sum_ℚ-same, sum_ℚ-scale}
 use Rattle.exact_algebra.proofs.WholeNumbers.{whole-sum, whole-positive, whole-negative}
 use Rattle.exact_algebra.specs.Fraction.{Fraction, rational}
+use Rattle.exact_algebra.proofs.Signs.{product_not_negative, whole_not_negative}
 use Rattle.loss_model.specs.Sample.{Sample}
 use Rattle.loss_model.specs.Sample as exact
 use Rattle.whole_model.specs.Scaled.{Scaled, up_cost, down_cost, residual, row_loss, loss}
-use Rattle.loss_model.proofs.Quotients.{whole-quotient, whole-sub, product_not_negative, whole_not_negative}
+use Rattle.loss_model.proofs.Quotients.{whole-quotient, whole-sub}
 use Rattle.loss_model.proofs.Duality.{positive_when, negative_when, positive_below, negative_below}
 use Rattle.whole_model.proofs.CommonDenominators.{IsOver}
 

@@ -7,12 +7,9 @@ use Rattle.exact_algebra.specs.Rational.{ℚ, ◌*ℚ◌, whole, ◌≤ℚ◌}
 use Rattle.exact_algebra.proofs.RationalLaws.{ring_ℚ, ≤ℚ_mul}
 use Rattle.exact_algebra.proofs.WholeNumbers.{whole-le, le_from_whole, same_from_whole}
 use Rattle.exact_algebra.proofs.Inverses.{*ℚ_cancel}
-use Rattle.exact_algebra.proofs.OrderLaws.{≤ℚ-from_mul, le_from_not}
+use Rattle.exact_algebra.proofs.OrderLaws.{≤ℚ-from_mul, le_from_not, same_le}
+use Rattle.exact_algebra.proofs.Signs.{positive_nonzero}
 use Rattle.loss_model.specs.Strict.{◌<ℚ◌}
-use Rattle.rank_law.proofs.Values.{le_same}
-
-nonzero : (u : ℚ) → whole (pos 0) <ℚ u → u ≢ whole (pos 0)
-nonzero u h e = h (le_same u (whole (pos 0)) e)
 
 pub positive_whole : (n : ℕ) → 1 ≤ n → whole (pos 0) <ℚ whole (pos n)
 positive_whole n h k = absurd (omega (arith, ints, le_from_whole (pos n) (pos 0) k))
@@ -31,7 +28,7 @@ order_of u a b x y h e f = (
 pub equation_of : (u : ℚ) (a b : ℤ) (x y : ℚ) → whole (pos 0) <ℚ u → whole a ≡ u *ℚ x → whole b ≡ u *ℚ y → (x ≡ y) ↔ (a ≡ b)
 equation_of u a b x y h e f = (
   λ same. same_from_whole a b (e ∙ ap (λ z. u *ℚ z) same ∙ sym f),
-  λ same. *ℚ_cancel x y u (nonzero u h) (sym e ∙ ap whole same ∙ f),
+  λ same. *ℚ_cancel x y u (positive_nonzero u h) (sym e ∙ ap whole same ∙ f),
 )
 
 -- so one is 0 where the other is

@@ -9,13 +9,14 @@ use Rattle.exact_algebra.specs.RationalSums.{sum_ℚ}
 use Rattle.exact_algebra.proofs.RationalSumLaws.{sum_ℚ-same, sum_ℚ-scale}
 use Rattle.exact_algebra.proofs.WholeNumbers.{whole-sum}
 use Rattle.exact_algebra.specs.Fraction.{Fraction, rational}
+use Rattle.exact_algebra.proofs.Signs.{whole_product}
 use Rattle.loss_model.specs.declared.problem.Problem.{Problem}
 use Rattle.loss_model.specs.Problem.{sample}
 use Rattle.loss_model.specs.Sample.{Sample}
 use Rattle.loss_model.specs.Sample as samples
 use Rattle.whole_model.specs.Scaled.{Scaled, scaled, unit}
 use Rattle.loss_model.proofs.Quotients.{whole-quotient, whole-sub}
-use Rattle.whole_model.proofs.CommonDenominators.{IsOver, over_product, one_le, whole-times, common_denominator}
+use Rattle.whole_model.proofs.CommonDenominators.{IsOver, over_product, one_le, common_denominator}
 use Rattle.whole_model.proofs.Units.{positive_whole, positive_product, order_of, zero_of}
 use Rattle.whole_model.proofs.Integers.{lower_of, upper_of, balanced_of}
 use Rattle.whole_model.proofs.Scales.{Scales}
@@ -97,7 +98,7 @@ module _ (q : ℕ) (p : Sample) (w : Scaled) (s : Scales q p w) (qp : 1 ≤ q) (
       record {
         each = λ i l.
             whole-mul (c i) (pos q) ∙ ap (λ z. z *ℚ Q) (over.each i l)
-            ∙ ring_ℚ (whole (pos d) ∷ f i ∷ Q ∷ []) ((v0 ⊠ v1) ⊠ v2) ((v2 ⊠ v0) ⊠ v1) refl ∙ ap (λ z. z *ℚ f i) (sym (whole-times q d));
+            ∙ ring_ℚ (whole (pos d) ∷ f i ∷ Q ∷ []) ((v0 ⊠ v1) ⊠ v2) ((v2 ⊠ v0) ⊠ v1) refl ∙ ap (λ z. z *ℚ f i) (sym (whole_product q d));
       }
 
   module _ (theta xi : Fraction) (tp : 1 ≤ theta.den) (xp : 1 ≤ xi.den) where

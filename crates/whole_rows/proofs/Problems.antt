@@ -5,6 +5,7 @@ use Rattle.std.proofs.Common.{refl, sym, ap, subst, ◌∙◌, get_or, inl, inr,
 use Rattle.std.proofs.lemmas.Option.{slice_get_cases, get_or_from_slice_get}
 use Rattle.exact_algebra.specs.Fraction.{Fraction, rational}
 use Rattle.exact_algebra.specs.Rational.{ℚ, whole, ◌≤ℚ◌}
+use Rattle.exact_algebra.proofs.Signs.{positive_nonzero}
 use Rattle.loss_model.specs.declared.problem.Row.{Row}
 use Rattle.loss_model.specs.declared.problem.Problem.{Problem}
 use Rattle.loss_model.specs.Problem.{value_at, sample, IsWellShaped}
@@ -13,7 +14,7 @@ use Rattle.scaled_model.specs.Scaled.{IsScaled}
 use Rattle.whole_rows.specs.declared.factor.Factor.{Factor}
 use Rattle.whole_rows.specs.declared.rows.WholeRow.{WholeRow}
 use Rattle.whole_rows.specs.Wholes.{factor_value, factor_at, IsPositive, IsWholeRow, ArePaired, sample_of_rows}
-use Rattle.whole_rows.proofs.WholeValues.{positive_share, positive_some}
+use Rattle.whole_rows.proofs.WholeValues.{positive_share}
 use Rattle.whole_rows.proofs.Pairs.{paired_read}
 
 pub factor_positive : (f : Factor) → IsPositive f → ¬ (factor_value f ≤ℚ whole (pos 0))
@@ -25,7 +26,7 @@ factor_some fs h k lk = by (slice_get_cases fs k).1
     by : (((f : Factor) × (k < length fs) × (slice_get fs k ≡ Some f) × (get_or fs k f ≡ f)) ⊎ ((length fs ≤ k) × (slice_get fs k ≡ None))) → factor_at fs k ≢ whole (pos 0)
     by (inl p) e =
         let there : IsPositive p.0 = subst IsPositive p.3 (h k p.0 lk) in
-        positive_some (factor_value p.0) (factor_positive p.0 there) (sym (ap (λ (o : Option Factor). option_map_or factor_value o (whole (pos 1))) p.2) ∙ e)
+        positive_nonzero (factor_value p.0) (factor_positive p.0 there) (sym (ap (λ (o : Option Factor). option_map_or factor_value o (whole (pos 1))) p.2) ∙ e)
     by (inr p) e =
         let past : length fs ≤ k = p.0 in
         absurd (omega arith)

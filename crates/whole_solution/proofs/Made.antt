@@ -14,10 +14,11 @@ use Rattle.basis_model.proofs.Signs.{side-residual, perturbed_side-same}
 use Rattle.basis_model.specs.Basis.{coefficient, coord, outside_row, side_at}
 use Rattle.lex_rule.specs.Scan.{AreZeroBetween, IsNextAt}
 use Rattle.whole_inverse.specs.Shares.{share, share_at, whole_at}
+use Rattle.whole_inverse.proofs.Lists.{share_read}
 use Rattle.whole_rows.specs.declared.rows.WholeRow.{WholeRow}
 use Rattle.whole_rows.specs.Wholes.{of_whole, sample_of_rows}
 use Rattle.whole_solution.specs.Outside.{outside_of}
-use Rattle.whole_solution.proofs.Numbers.{share_zero, share_back, share_read, share_some, share_none}
+use Rattle.whole_solution.proofs.Numbers.{share_zero, share_back, share_some, share_none}
 use Rattle.lex_rule.proofs.Signs.{at_held, at_own}
 use Rattle.whole_solution.proofs.Reading.{row_read}
 

@@ -12,18 +12,15 @@ use Rattle.exact_algebra.proofs.RationalLaws.{whole-add, whole-mul, *ℚ-inverse
 use Rattle.exact_algebra.specs.Order.{cmp_ℚ}
 use Rattle.exact_algebra.proofs.OrderLaws.{cmp_ℚ-Greater, cmp_ℚ-not_Greater, ≤ℚ-from_mul}
 use Rattle.exact_algebra.proofs.WholeNumbers.{same_from_whole, le_from_whole, whole-le, whole-neg}
+use Rattle.exact_algebra.proofs.Signs.{whole_nonzero}
 use Rattle.loss_model.specs.declared.vertex.Side.TheVariants.{Up, Down}
 use Rattle.basis_model.specs.Perturbed.{side_of}
 use Rattle.lex_rule.specs.Scan.{AreZeroAt}
 use Rattle.whole_inverse.specs.Shares.{share, share_at, whole_at}
-
-nonzero : (d : ℤ) → pos 1 ≤ℤ d → whole d ≢ whole (pos 0)
-nonzero d h e =
-    let z = same_from_whole d (pos 0) e in
-    omega (arith, ints)
+use Rattle.whole_inverse.proofs.Lists.{share_read}
 
 pub times : (r d : ℤ) → pos 1 ≤ℤ d → whole d *ℚ share r d ≡ whole r
-times r d h = ring_by_ℚ (whole r ∷ whole d ∷ inverse (whole d) ∷ []) (v1 ⊠ (v0 ⊠ v2)) v0 v0 (v1 ⊠ v2) (number (pos 1)) refl (*ℚ-inverse (whole d) (nonzero d h))
+times r d h = ring_by_ℚ (whole r ∷ whole d ∷ inverse (whole d) ∷ []) (v1 ⊠ (v0 ⊠ v2)) v0 v0 (v1 ⊠ v2) (number (pos 1)) refl (*ℚ-inverse (whole d) (whole_nonzero d h))
 
 none : (d : ℤ) → whole d *ℚ whole (pos 0) ≡ whole (pos 0)
 none d = ring_ℚ (whole d ∷ []) (v0 ⊠ number (pos 0)) (number (pos 0)) refl
@@ -86,11 +83,8 @@ share_zero d xs k e = share_whole d xs k ∙ ap (λ z. z *ℚ inverse (whole d))
 
 pub share_back : (d : ℤ) → pos 1 ≤ℤ d → (xs : List ℤ) (k : ℕ) → share_at d xs k ≡ whole (pos 0) → whole_at xs k ≡ whole (pos 0)
 share_back d h xs k e =
-    sym (ring_by_ℚ (whole_at xs k ∷ whole d ∷ inverse (whole d) ∷ []) (v1 ⊠ (v0 ⊠ v2)) v0 v0 (v1 ⊠ v2) (number (pos 1)) refl (*ℚ-inverse (whole d) (nonzero d h)))
+    sym (ring_by_ℚ (whole_at xs k ∷ whole d ∷ inverse (whole d) ∷ []) (v1 ⊠ (v0 ⊠ v2)) v0 v0 (v1 ⊠ v2) (number (pos 1)) refl (*ℚ-inverse (whole d) (whole_nonzero d h)))
     ∙ ap (λ z. whole d *ℚ z) (sym (share_whole d xs k) ∙ e) ∙ none d
-
-pub share_read : (d : ℤ) (xs : List ℤ) (k : ℕ) → k < length xs → share (get_or xs k (pos 0)) d ≡ share_at d xs k
-share_read d xs k l = sym (ap (λ (o : Option ℤ). option_map_or (λ n. share n d) o (whole (pos 0))) (slice_get-get_or xs k (pos 0) l))
 
 pub share_some : (r d : ℤ) → pos 1 ≤ℤ d → r ≢ pos 0 → share r d ≢ whole (pos 0)
 share_some r d h some e = some (same_from_whole r (pos 0) (sym (times r d h) ∙ ap (λ z. whole d *ℚ z) e ∙ none d))
@@ -102,5 +96,5 @@ pub rest_share : (y d f r : ℤ) (s : ℚ) → pos 1 ≤ℤ d → r ≡ (y *ℤ 
 rest_share y d f r s h e g =
     ap (λ z. share z d) e
     ∙ ap (λ z. z *ℚ inverse (whole d)) (whole-add (y *ℤ d) (neg_ℤ f) ∙ ap₂ (λ u v. u +ℚ v) (whole-mul y d) (whole-neg f))
-    ∙ ring_by_ℚ (whole y ∷ whole d ∷ whole f ∷ inverse (whole d) ∷ []) ((v0 ⊠ v1 ⊞ negated v2) ⊠ v3) (v0 ⊟ v2 ⊠ v3) v0 (v1 ⊠ v3) (number (pos 1)) refl (*ℚ-inverse (whole d) (nonzero d h))
+    ∙ ring_by_ℚ (whole y ∷ whole d ∷ whole f ∷ inverse (whole d) ∷ []) ((v0 ⊠ v1 ⊞ negated v2) ⊠ v3) (v0 ⊟ v2 ⊠ v3) v0 (v1 ⊠ v3) (number (pos 1)) refl (*ℚ-inverse (whole d) (whole_nonzero d h))
     ∙ ap (λ z. whole y -ℚ z) g

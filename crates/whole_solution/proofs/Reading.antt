@@ -6,6 +6,7 @@ use Rattle.std.proofs.lemmas.Option.{slice_get_read}
 use Rattle.exact_algebra.specs.Rational.{ℚ, ◌*ℚ◌, neg_ℚ, whole}
 use Rattle.exact_algebra.specs.RationalSums.{sum_ℚ}
 use Rattle.exact_algebra.proofs.RationalSumLaws.{sum_ℚ-same}
+use Rattle.exact_algebra.proofs.Lists.{length_pushed}
 use Rattle.whole_inverse.specs.Shares.{share, share_at, whole_at}
 use Rattle.whole_rows.specs.declared.rows.WholeRow.{WholeRow}
 use Rattle.whole_rows.specs.Wholes.{of_whole, sample_of_rows}
@@ -78,10 +79,3 @@ side_pushed (y ∷ made) x zero f size h e k l = absurd (omega arith)
 side_pushed (y ∷ made) x (suc n) f size h e zero l = h 0 (omega arith)
 side_pushed (y ∷ made) x (suc n) f size h e (suc k) l =
     side_pushed made x n (λ k. f (suc k)) (omega arith) (λ k l. h (suc k) (omega arith)) e k (omega arith)
-
-pub size_pushed : {X : Type 0} (made : List X) (x : X) (n : ℕ) → length made ≡ n → length (made ++ x ∷ []) ≡ n + 1
-size_pushed [] x n e = omega (arith, e)
-size_pushed (y ∷ made) x zero e = absurd (omega arith)
-size_pushed (y ∷ made) x (suc n) e =
-    let h = size_pushed made x n (omega arith) in
-    omega arith

@@ -4,10 +4,9 @@ use Rattle.exact_algebra.specs.Solver.{number, ◌⊞◌, ◌⊠◌, v0, v1, v2,
 use Rattle.exact_algebra.specs.Rational.{ℚ, ◌+ℚ◌, ◌*ℚ◌, whole, inverse}
 use Rattle.exact_algebra.proofs.RationalLaws.{whole-add, whole-mul, ring_ℚ}
 use Rattle.exact_algebra.specs.RationalSums.{sum_ℚ}
-use Rattle.exact_algebra.proofs.RationalSumLaws.{sum_ℚ-same}
+use Rattle.exact_algebra.proofs.RationalSumLaws.{sum_ℚ-same, sum_ℚ-first}
 use Rattle.wide_int.specs.Numbers.{total}
 use Rattle.whole_inverse.specs.Shares.{share, share_at, whole_at}
-use Rattle.whole_inverse.proofs.ShareSums.{sum-first}
 
 share-more : (d x y t : ℤ) → share (x *ℤ y +ℤ t) d ≡ (share x d *ℚ whole y) +ℚ share t d
 share-more d x y t =
@@ -20,7 +19,7 @@ share-total [] [] d e = ring_ℚ (inverse (whole d) ∷ []) (number (pos 0) ⊠ 
 share-total (x ∷ xs) (y ∷ ys) d e =
     share-more d x y (total xs ys)
     ∙ ap (λ z. (share x d *ℚ whole y) +ℚ z) (share-total xs ys d (omega arith))
-    ∙ sym (sum-first (length xs) (λ k. share_at d (x ∷ xs) k *ℚ whole_at (y ∷ ys) k))
+    ∙ sym (sum_ℚ-first (length xs) (λ k. share_at d (x ∷ xs) k *ℚ whole_at (y ∷ ys) k))
 share-total [] (y ∷ ys) d e = absurd (omega arith)
 share-total (x ∷ xs) [] d e = absurd (omega arith)
 

@@ -2,6 +2,7 @@
 use Rattle.std.specs.Prelude.{◌≡◌, ◌⊎◌, ℤ, neg_ℤ, unsigned_abs, [], ◌∷◌, pos, negsuc}
 use Rattle.std.proofs.Common.{arith, refl, sym, ap, subst, ◌∙◌, inl, inr}
 use Rattle.std.proofs.lemmas.Int.{ints}
+use Rattle.basis_model.proofs.Ratios.{abs_not_negative}
 use Rattle.exact_algebra.specs.Solver.{number, negated, ◌⊞◌, ◌⊟◌, ◌⊠◌, v0, v1}
 use Rattle.exact_algebra.specs.Rational.{ℚ, ◌+ℚ◌, ◌*ℚ◌, neg_ℚ, whole, ◌≤ℚ◌}
 use Rattle.exact_algebra.proofs.RationalLaws.{ring_ℚ, ≤ℚ_refl, ≤ℚ_trans, ≤ℚ_mul}
@@ -9,14 +10,11 @@ use Rattle.exact_algebra.proofs.RationalSumLaws.{≤ℚ_add2}
 use Rattle.exact_algebra.proofs.OrderLaws.{le_from_not}
 use Rattle.exact_algebra.proofs.WholeNumbers.{whole-le, whole-neg}
 use Rattle.loss_model.specs.Spill.{abs_ℚ}
-use Rattle.pivot_rule.proofs.Entering.{abs_above, abs_below}
+use Rattle.pivot_rule.proofs.Entering.{abs_above, abs_below, negated_not_negative}
 use Rattle.walk_rule.proofs.Lines.{decide, le_by}
 
 pub not_above : (x : ℚ) → ¬ (whole (pos 0) ≤ℚ x) → x ≤ℚ whole (pos 0)
 not_above x h = le_from_not x (whole (pos 0)) h
-
-negated_up : (x : ℚ) → x ≤ℚ whole (pos 0) → whole (pos 0) ≤ℚ neg_ℚ x
-negated_up x h = le_by x (whole (pos 0)) (whole (pos 0)) (neg_ℚ x) h (ring_ℚ (x ∷ []) (number (pos 0) ⊟ v0) (negated v0 ⊟ number (pos 0)) refl)
 
 -- a size is one of both
 pub size_by : (x : ℚ) (P : ℚ → Type 0) → P x → P (neg_ℚ x) → P (abs_ℚ x)
@@ -33,7 +31,7 @@ own_size x = by (decide (whole (pos 0)) x)
     by (inl h) = subst (λ z. x ≤ℚ z) (sym (abs_above x h)) (≤ℚ_refl x)
     by (inr h) =
         let down = not_above x h in
-        subst (λ z. x ≤ℚ z) (sym (abs_below x down)) (≤ℚ_trans x (whole (pos 0)) (neg_ℚ x) down (negated_up x down))
+        subst (λ z. x ≤ℚ z) (sym (abs_below x down)) (≤ℚ_trans x (whole (pos 0)) (neg_ℚ x) down (negated_not_negative x down))
 
 pub negated_size : (x : ℚ) → neg_ℚ x ≤ℚ abs_ℚ x
 negated_size x = by (decide (whole (pos 0)) x)
@@ -43,13 +41,6 @@ negated_size x = by (decide (whole (pos 0)) x)
         let down : neg_ℚ x ≤ℚ whole (pos 0) = le_by (whole (pos 0)) x (neg_ℚ x) (whole (pos 0)) h (ring_ℚ (x ∷ []) (v0 ⊟ number (pos 0)) (number (pos 0) ⊟ negated v0) refl) in
         subst (λ z. neg_ℚ x ≤ℚ z) (sym (abs_above x h)) (≤ℚ_trans (neg_ℚ x) (whole (pos 0)) x down h)
     by (inr h) = subst (λ z. neg_ℚ x ≤ℚ z) (sym (abs_below x (not_above x h))) (≤ℚ_refl (neg_ℚ x))
-
-pub size_not_negative : (x : ℚ) → whole (pos 0) ≤ℚ abs_ℚ x
-size_not_negative x = by (decide (whole (pos 0)) x)
-  where
-    by : (whole (pos 0) ≤ℚ x) ⊎ ¬ (whole (pos 0) ≤ℚ x) → whole (pos 0) ≤ℚ abs_ℚ x
-    by (inl up) = ≤ℚ_trans (whole (pos 0)) x (abs_ℚ x) up (own_size x)
-    by (inr down) = ≤ℚ_trans (whole (pos 0)) (neg_ℚ x) (abs_ℚ x) (negated_up x (not_above x down)) (negated_size x)
 
 -- the size of a whole number
 pub abs_whole : (z : ℤ) → abs_ℚ (whole z) ≡ whole (pos (unsigned_abs z))
@@ -92,7 +83,7 @@ module _ (x y t : ℚ) (small : abs_ℚ x ≤ℚ t) where
       by (inr h) =
           let down = not_above y h in
           subst (λ z. (x *ℚ y) ≤ℚ (t *ℚ z)) (sym (abs_below y down))
-          (subst (λ z. z ≤ℚ (t *ℚ neg_ℚ y)) (ring_ℚ (x ∷ y ∷ []) (negated v0 ⊠ negated v1) (v0 ⊠ v1) refl) (scaled_up (neg_ℚ x) t (neg_ℚ y) negated_below (negated_up y down)))
+          (subst (λ z. z ≤ℚ (t *ℚ neg_ℚ y)) (ring_ℚ (x ∷ y ∷ []) (negated v0 ⊠ negated v1) (v0 ⊠ v1) refl) (scaled_up (neg_ℚ x) t (neg_ℚ y) negated_below (negated_not_negative y down)))
 
   pub product_above : (neg_ℚ (whole (pos 1)) *ℚ (x *ℚ y)) ≤ℚ (t *ℚ abs_ℚ y)
   product_above = by (decide (whole (pos 0)) y)
@@ -104,4 +95,4 @@ module _ (x y t : ℚ) (small : abs_ℚ x ≤ℚ t) where
       by (inr h) =
           let down = not_above y h in
           subst (λ z. (neg_ℚ (whole (pos 1)) *ℚ (x *ℚ y)) ≤ℚ (t *ℚ z)) (sym (abs_below y down))
-          (subst (λ z. z ≤ℚ (t *ℚ neg_ℚ y)) (ring_ℚ (x ∷ y ∷ []) (v0 ⊠ negated v1) (negated (number (pos 1)) ⊠ (v0 ⊠ v1)) refl) (scaled_up x t (neg_ℚ y) below (negated_up y down)))
+          (subst (λ z. z ≤ℚ (t *ℚ neg_ℚ y)) (ring_ℚ (x ∷ y ∷ []) (v0 ⊠ negated v1) (negated (number (pos 1)) ⊠ (v0 ⊠ v1)) refl) (scaled_up x t (neg_ℚ y) below (negated_not_negative y down)))

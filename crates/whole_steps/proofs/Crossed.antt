@@ -5,15 +5,16 @@ use Rattle.std.proofs.lemmas.Int.{ints}
 use Rattle.exact_algebra.specs.Fraction.{rational}
 use Rattle.exact_algebra.specs.Rational.{ℚ, ◌*ℚ◌, neg_ℚ, inverse, whole, ◌≤ℚ◌}
 use Rattle.exact_algebra.proofs.RationalLaws.{≤ℚ_refl}
+use Rattle.exact_algebra.proofs.Signs.{not_below}
 use Rattle.basis_model.specs.declared.part.Part.TheVariants.{Constant, Linear}
 use Rattle.pivot_rule.specs.declared.direction.Direction.{Direction}
 use Rattle.walk_rule.specs.Families.{over_quantiles, IsOptimalIn}
 use Rattle.walk_rule.specs.Walks.{Crosses, IsNextBreak}
 use Rattle.walk_rule.proofs.Breaks.{as_computed}
 use Rattle.walk_rule.proofs.Slopes.{crossing}
+use Rattle.walk_rule.proofs.Trails.{below_from}
 use Rattle.fraction_tableau.specs.declared.crossings.Breakpoint.{Breakpoint}
 use Rattle.fraction_tableau.specs.Crossings.{IsFirst, IsFirstOf}
-use Rattle.fraction_tableau.proofs.SlopeLaws.{less_from_test, at_least_from_test}
 use Rattle.fraction_tableau.proofs.Soonest.{IsCrossingTowards as IsTowards}
 use Rattle.whole_inverse.specs.Shares.{share}
 use Rattle.whole_solution.proofs.Numbers.{share-neg}
@@ -29,10 +30,10 @@ nonzero d h e = omega (arith, ints)
 
 module _ (s : Station) (j : ℕ) (d : Direction) (positive : pos 1 ≤ℤ over_of s) (fall : ℤ) (linear : share fall (over_of s) ≡ slope_at s Linear j d) where
   pub stays : pos 0 ≤ℤ fall → ¬ falls_at s j d
-  stays up falls = falls (subst (λ z. whole (pos 0) ≤ℚ z) linear (at_least_from_test (share fall (over_of s)) (whole (pos 0)) (sym (below_false fall (over_of s) positive up))))
+  stays up falls = falls (subst (λ z. whole (pos 0) ≤ℚ z) linear (not_below (share fall (over_of s)) (whole (pos 0)) (sym (below_false fall (over_of s) positive up))))
 
   pub falls_by : fall <ℤ pos 0 → falls_at s j d
-  falls_by below up = less_from_test (share fall (over_of s)) (whole (pos 0)) (sym (below_true fall (over_of s) positive below)) (subst (λ z. whole (pos 0) ≤ℚ z) (sym linear) up)
+  falls_by below up = below_from (share fall (over_of s)) (whole (pos 0)) (sym (below_true fall (over_of s) positive below)) (subst (λ z. whole (pos 0) ≤ℚ z) (sym linear) up)
 
   pub quotient_by : (level : ℤ) → share level (over_of s) ≡ slope_at s Constant j d → pos 0 ≤ℤ level → fall <ℤ pos 0 → share (pos (unsigned_abs level)) (pos (unsigned_abs fall)) ≡ quotient_at s j d
   quotient_by level constant up below =

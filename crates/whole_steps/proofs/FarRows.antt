@@ -15,6 +15,7 @@ use Rattle.loss_model.specs.Spill.{abs_ℚ}
 use Rattle.basis_model.proofs.LexicographicLaws.{lex_cmp-first}
 use Rattle.basis_model.specs.Perturbed.{turned, perturbed_side}
 use Rattle.basis_model.specs.Basis.{coord, outside_row, side_at}
+use Rattle.basis_model.proofs.Ratios.{abs_not_negative}
 use Rattle.pivot_rule.proofs.Passing.{mover_outside}
 use Rattle.pivot_rule.proofs.Sides.{side_outside}
 use Rattle.whole_inverse.specs.Shares.{share, share_at}
@@ -33,7 +34,7 @@ use Rattle.whole_steps.proofs.FirstLaws.{first_of_all}
 use Rattle.whole_steps.proofs.Movers.{turned-times}
 use Rattle.whole_steps.proofs.Signs.{share_not_below}
 use Rattle.whole_solution.proofs.Within.{products_stay_in_range}
-use Rattle.whole_solution.proofs.Sizes.{none_from, scaled_up, size_not_negative}
+use Rattle.whole_solution.proofs.Sizes.{none_from, scaled_up}
 use Rattle.whole_steps.proofs.Ties.{moving_coord}
 
 -- ---- quotients
@@ -129,7 +130,7 @@ module _ (l : Line) (line : IsLine l) where
             (≤ℚ_trans (share (pos reach) (pos e)) (size *ℚ ratio_of l m.row 0) (share (pos most) (over_of l) *ℚ ratio_of l m.row 0)
             (≤ℚ_trans (share (pos reach) (pos e)) (size *ℚ ratio_of l i 0) (size *ℚ ratio_of l m.row 0)
             (subst (λ z. share (pos reach) (pos e) ≤ℚ z) (sym (entry_times i moving)) on_side)
-            (≤ℚ_mul (ratio_of l i 0) (ratio_of l m.row 0) size (size_not_negative (coord (model l) (inverse_at l) i l.position)) back))
+            (≤ℚ_mul (ratio_of l i 0) (ratio_of l m.row 0) size (abs_not_negative (coord (model l) (inverse_at l) i l.position)) back))
             (scaled_up size (share (pos most) (over_of l)) (ratio_of l m.row 0) small up))))
           where
             size : ℚ

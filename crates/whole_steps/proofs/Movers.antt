@@ -2,6 +2,8 @@
 use Rattle.std.specs.Prelude.{◌≡◌, ◌≢◌, ℕ, ℤ, ◌<◌, ◌≤◌, ◌≤ℤ◌, unsigned_abs, true, [], ◌∷◌, length, get_or, pos}
 use Rattle.std.proofs.Common.{arith, refl, sym, ap, ap₂, ◌∙◌}
 use Rattle.std.proofs.lemmas.Int.{ints}
+use Rattle.frac_core.proofs.Signs.{some_size}
+use Rattle.fraction_tableau.proofs.Moving.{change_turned}
 use Rattle.exact_algebra.specs.Solver.{negated, ◌⊠◌, v0, v1}
 use Rattle.exact_algebra.specs.Rational.{ℚ, ◌*ℚ◌, inverse, whole}
 use Rattle.exact_algebra.proofs.RationalLaws.{ring_ℚ}
@@ -30,10 +32,6 @@ use Rattle.whole_steps.specs.Lines.{turned_by, model, at_of, inverse_at, over_of
 use Rattle.whole_steps.specs.Ties.{IsTied}
 use Rattle.whole_steps.proofs.Signs.{abs_share, turned_share}
 
-change_turned : (d : Direction) (p : Sample) (at : ℕ → ℕ) (a : ℕ → ℕ → ℚ) (j i : ℕ) → change p at a j d i ≡ turned_by d (coord p a i j)
-change_turned Upward p at a j i = refl
-change_turned Downward p at a j i = refl
-
 pub turned-times : (o : Side) (x y : ℚ) → turned o (x *ℚ y) ≡ turned o x *ℚ y
 turned-times Up x y = refl
 turned-times Down x y = ring_ℚ (x ∷ y ∷ []) (negated (v0 ⊠ v1)) (negated v0 ⊠ v1) refl
@@ -41,9 +39,6 @@ turned-times Basic x y = refl
 
 nonzero : (d : ℤ) → pos 1 ≤ℤ d → d ≢ pos 0
 nonzero d h e = omega (arith, ints)
-
-size_some : (c : ℤ) → c ≢ pos 0 → 1 ≤ unsigned_abs c
-size_some c h = omega (arith, ints)
 
 -- the side that was read
 pub side_here : (l : Line) → IsLine l → (i : ℕ) → i < length l.basis.now.rows.now → get_or l.sides.now i Up ≡ side_at (model l) (at_of l) (inverse_at l) i
@@ -73,7 +68,7 @@ module _ (l : Line) (line : IsLine l) (i : ℕ) (li : i < length l.basis.now.row
         record {
           row = li;
           moves = h;
-          some = size_some c (λ e. moving_some h (sym coord_is ∙ share_none c (over_of l) e));
+          some = some_size c (λ e. moving_some h (sym coord_is ∙ share_none c (over_of l) e));
           size = sym (abs_share c (over_of l) line.held.shape.positive) ∙ ap abs_ℚ coord_is;
           ratio_is =
               share-quotient (pos (unsigned_abs r)) (pos (unsigned_abs c)) (over_of l) (nonzero (over_of l) line.held.shape.positive)

@@ -13,9 +13,9 @@ use Rattle.pivot_rule.specs.declared.direction.Direction.{Direction}
 use Rattle.pivot_rule.specs.Steps.{slope, IsEntering}
 use Rattle.pivot_rule.proofs.Passing.{not_before_itself}
 use Rattle.whole_inverse.specs.Squares.{inverse_of}
+use Rattle.whole_inverse.proofs.Lists.{share_read}
 use Rattle.whole_rows.specs.declared.rows.WholeRow.{WholeRow}
 use Rattle.whole_rows.specs.Wholes.{sample_of_rows}
-use Rattle.whole_solution.proofs.Numbers.{share_read}
 use Rattle.whole_solution.proofs.Reading.{row_read}
 use Rattle.whole_steps.specs.declared.line.Line.{Line}
 use Rattle.whole_steps.specs.declared.line.Mover.{Mover}

@@ -9,13 +9,9 @@ use Rattle.exact_algebra.proofs.RationalLaws.{whole-add, whole-mul, *ℚ-inverse
 use Rattle.exact_algebra.proofs.OrderLaws.{≤ℚ-from_mul}
 use Rattle.exact_algebra.proofs.Inverses.{inverse-mul}
 use Rattle.exact_algebra.proofs.WholeNumbers.{same_from_whole, le_from_whole, whole-le}
+use Rattle.exact_algebra.proofs.Signs.{whole_nonzero}
 use Rattle.pivot_rule.specs.Duals.{◌<ℚ◌}
 use Rattle.whole_inverse.specs.Shares.{share}
-
-nonzero : (d : ℤ) → pos 1 ≤ℤ d → whole d ≢ whole (pos 0)
-nonzero d h e =
-    let z = same_from_whole d (pos 0) e in
-    omega (arith, ints)
 
 size_is : (z : ℤ) → pos 1 ≤ℤ z → pos (unsigned_abs z) ≡ z
 size_is z h = omega (arith, ints)
@@ -38,7 +34,7 @@ module _ (d t : ℤ) (hd : pos 1 ≤ℤ d) (ht : pos 1 ≤ℤ t) where
       scaled_share n
       ∙ ap (λ z. z *ℚ (inverse (whole d) *ℚ inverse (whole t))) (ap whole e ∙ whole-add (c *ℤ t) (l *ℤ s) ∙ ap₂ (λ x y. x +ℚ y) (whole-mul c t) (whole-mul l s))
       ∙ ring_by_ℚ (whole c ∷ whole t ∷ whole l ∷ whole s ∷ inverse (whole d) ∷ inverse (whole t) ∷ []) ((v0 ⊠ v1 ⊞ v2 ⊠ v3) ⊠ (v4 ⊠ v5)) (v0 ⊠ v4 ⊞ (v2 ⊠ v4) ⊠ (v3 ⊠ v5)) (v0 ⊠ v4) (v1 ⊠ v5) (number (pos 1)) refl
-      (*ℚ-inverse (whole t) (nonzero t ht))
+      (*ℚ-inverse (whole t) (whole_nonzero t ht))
 
   -- a size times a number that is affine
   pub weighed_share : (m c l s w n : ℤ) → w ≡ (c *ℤ t) +ℤ (l *ℤ s) → n ≡ m *ℤ w → share n (pos (unsigned_abs (d *ℤ t))) ≡ share m d *ℚ (whole c +ℚ (whole l *ℚ share s t))
@@ -46,7 +42,7 @@ module _ (d t : ℤ) (hd : pos 1 ≤ℤ d) (ht : pos 1 ≤ℤ t) where
       scaled_share n
       ∙ ap (λ z. z *ℚ (inverse (whole d) *ℚ inverse (whole t))) (ap whole en ∙ whole-mul m w ∙ ap (λ z. whole m *ℚ z) (ap whole ew ∙ whole-add (c *ℤ t) (l *ℤ s) ∙ ap₂ (λ x y. x +ℚ y) (whole-mul c t) (whole-mul l s)))
       ∙ ring_by_ℚ (whole m ∷ whole c ∷ whole t ∷ whole l ∷ inverse (whole d) ∷ inverse (whole t) ∷ whole s ∷ []) ((v0 ⊠ (v1 ⊠ v2 ⊞ v3 ⊠ v6)) ⊠ (v4 ⊠ v5)) ((v0 ⊠ v4) ⊠ (v1 ⊞ v3 ⊠ (v6 ⊠ v5))) ((v0 ⊠ v4) ⊠ v1) (v2 ⊠ v5) (number (pos 1)) refl
-      (*ℚ-inverse (whole t) (nonzero t ht))
+      (*ℚ-inverse (whole t) (whole_nonzero t ht))
 
 pub share-sum : (a b e : ℤ) → share (a +ℤ b) e ≡ share a e +ℚ share b e
 share-sum a b e =
@@ -58,7 +54,7 @@ module _ (e : ℕ) (some : 1 ≤ e) where
   above = omega (arith, ints, some)
 
   times : (n : ℤ) → whole (pos e) *ℚ share n (pos e) ≡ whole n
-  times n = ring_by_ℚ (whole n ∷ whole (pos e) ∷ inverse (whole (pos e)) ∷ []) (v1 ⊠ (v0 ⊠ v2)) v0 v0 (v1 ⊠ v2) (number (pos 1)) refl (*ℚ-inverse (whole (pos e)) (nonzero (pos e) above))
+  times n = ring_by_ℚ (whole n ∷ whole (pos e) ∷ inverse (whole (pos e)) ∷ []) (v1 ⊠ (v0 ⊠ v2)) v0 v0 (v1 ⊠ v2) (number (pos 1)) refl (*ℚ-inverse (whole (pos e)) (whole_nonzero (pos e) above))
 
   raised : (m n : ℤ) → share m (pos e) ≤ℚ share n (pos e) → m ≤ℤ n
   raised m n l =

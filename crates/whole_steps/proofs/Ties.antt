@@ -25,6 +25,7 @@ use Rattle.whole_rows.specs.Wholes.{of_whole}
 use Rattle.whole_solution.proofs.Reading.{row_read}
 use Rattle.exact_matrices.specs.Matrices.{coordinate}
 use Rattle.exact_algebra.proofs.RationalSumLaws.{sum_ℚ-same}
+use Rattle.exact_algebra.proofs.Comparisons.{is_equal, not_equal, differs}
 use Rattle.whole_inverse.proofs.Turned.{share-quotient}
 use Rattle.whole_solution.proofs.Numbers.{share-neg}
 use Rattle.whole_steps.specs.declared.line.Line.{Line}
@@ -39,21 +40,6 @@ bool_is true o h = sym (ap is_lt (h.0 refl))
 bool_is false Less h = h.1 refl
 bool_is false Equal h = refl
 bool_is false Greater h = refl
-
-not_equal : (o : Ordering) → is_eq o ≡ false → o ≢ Equal
-not_equal Less h e = absurd (cc e)
-not_equal Equal h e = absurd (cc h)
-not_equal Greater h e = absurd (cc e)
-
-pub equal_is : (o : Ordering) → is_eq o ≡ true → o ≡ Equal
-equal_is Less h = absurd (cc h)
-equal_is Equal h = refl
-equal_is Greater h = absurd (cc h)
-
-pub differs : (o : Ordering) → is_ne o ≡ true → o ≢ Equal
-differs Less h e = absurd (cc e)
-differs Equal h e = absurd (cc h)
-differs Greater h e = absurd (cc e)
 
 module _ (l : Line) (line : IsLine l) where
   pub moving_outside : (i : ℕ) → is_moving l i ≡ true → IsOutside (model l).columns (at_of l) i

@@ -1,5 +1,5 @@
 use Rattle.std.proofs.Common.{◌<◌, length, arith, ◌∙◌}
-use Rattle.basis_inverse.proofs.Lists.{value_read}
+use Rattle.loss_model.proofs.Products.{value_read}
 use Rattle.basic_solution.proofs.Filled.{sides_more}
 use Rattle.basic_solution.proofs.Exits.{by_exit, by_cause}
 use Rattle.basic_solution.proofs.signs.sides.Goals as goal

@@ -5,11 +5,12 @@ use Rattle.std.specs.Option.{option_map_or}
 use Rattle.std.proofs.lemmas.Option.{slice_get_read}
 use Rattle.exact_algebra.specs.Fraction.{rational}
 use Rattle.exact_algebra.specs.Rational.{ℚ, ◌-ℚ◌, ◌*ℚ◌, whole}
+use Rattle.exact_algebra.proofs.Lists.{length_pushed}
 use Rattle.exact_matrices.specs.Terms.{delta}
 use Rattle.frac_core.specs.declared.frac128.Frac128.{Frac128}
 use Rattle.frac_core.specs.Values.{value as value128}
 use Rattle.loss_model.specs.Problem.{value_at}
-use Rattle.cert_sums.proofs.Lists.{length_pushed, whole_pushed}
+use Rattle.cert_sums.proofs.Lists.{whole_pushed}
 use Rattle.cert_sums.proofs.projection.left_factors.Goals as goal
 
 pub loop-k-preserved : goal.loop-k-preserved

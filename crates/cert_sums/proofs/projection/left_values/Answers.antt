@@ -4,10 +4,11 @@ use Rattle.std.specs.Prelude.{slice_get, Some, Option, ◌*ℤ◌}
 use Rattle.std.specs.Option.{option_map_or}
 use Rattle.std.proofs.lemmas.Option.{slice_get_read}
 use Rattle.exact_algebra.specs.Rational.{whole}
+use Rattle.exact_algebra.proofs.Lists.{length_pushed}
 use Rattle.wide_int.specs.Numbers.{total}
 use Rattle.cert_sums.specs.Ranks.{left_at}
 use Rattle.cert_sums.specs.declared.table.WholeRow.{WholeRow}
-use Rattle.cert_sums.proofs.Lists.{length_pushed, whole_pushed}
+use Rattle.cert_sums.proofs.Lists.{whole_pushed}
 use Rattle.cert_sums.proofs.projection.left_values.Goals as goal
 
 pub loop-i-preserved : goal.loop-i-preserved

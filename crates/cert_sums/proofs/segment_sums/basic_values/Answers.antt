@@ -1,8 +1,9 @@
 -- A value more.
 use Rattle.std.proofs.Common.{rules, ◌≡◌, ℕ, ◌++◌, ◌∷◌, [], get_or}
 use Rattle.exact_algebra.specs.Rational.{whole}
+use Rattle.exact_algebra.proofs.Lists.{length_pushed}
 use Rattle.cert_sums.specs.Slopes.{basic_at}
-use Rattle.cert_sums.proofs.Lists.{length_pushed, whole_pushed}
+use Rattle.cert_sums.proofs.Lists.{whole_pushed}
 use Rattle.cert_sums.proofs.segment_sums.basic_values.Goals as goal
 
 pub loop-j-preserved : goal.loop-j-preserved

@@ -2,13 +2,14 @@
 use Rattle.std.proofs.Common.{rules, ◌≡◌, ℕ, get_or, to_z, of_z, ap, ◌∙◌}
 use mir.Syntax.{w128}
 use Rattle.exact_algebra.specs.Rational.{◌+ℚ◌, ◌*ℚ◌, whole}
+use Rattle.exact_algebra.proofs.Signs.{plus-zero}
 use Rattle.cert_sums.specs.Numbers.{whole_at}
 use Rattle.cert_sums.specs.Sums.{cell_at}
-use Rattle.cert_sums.proofs.Unsettled.{added_next, added_none}
+use Rattle.cert_sums.proofs.Unsettled.{added_next}
 use Rattle.cert_sums.proofs.slopes.with_rows.Goals as goal
 
 pub loop-j-init : goal.loop-j-init
-loop-j-init c = added_none _
+loop-j-init c = plus-zero _
 
 pub loop-j-preserved : goal.loop-j-preserved
 loop-j-preserved c =

@@ -1,5 +1,6 @@
 use Rattle.std.proofs.Common.{All, ap, below_more, inl, inr, map, refl, subst, sym, ℕ, ◌∙◌, get_or, ◌+◌}
 use Rattle.std.proofs.lemmas.Result.{err_from_is_err_and}
+use Rattle.std.proofs.lemmas.List.{get_or_default}
 use Rattle.frac_core.specs.Values.{exact}
 use Rattle.data_frame.specs.Views.{lent_column}
 use Rattle.design_matrix.specs.Cells.{number_at}
@@ -7,7 +8,7 @@ use Rattle.design_matrix.specs.Computed.{CanEvaluate, offsets_at}
 use Rattle.design_matrix.specs.Designs.{ArithsFit, OverflowsInAriths, OverflowsInResponse, RecordFits, ResponseFits, in_ariths, in_entries, in_response, exact_row, row_of}
 use Rattle.design_matrix.specs.Views.{columns_seen, weights_seen}
 use Rattle.design_matrix.proofs.Evaluable.{each_one, expressions_all, offsets_can}
-use Rattle.design_matrix.proofs.Overflows.{any_default, first_record}
+use Rattle.design_matrix.proofs.Overflows.{first_record}
 use Rattle.design_matrix.proofs.Steps.{each_told}
 use Rattle.design_matrix.proofs.rows.design_rows.Goals as goal
 
@@ -80,7 +81,7 @@ loop-place-preserved c =
     record {
       made = each_told exact_row (row_of coder.frame.now (lent_column c.args.used.now.response) coder.model.now.offsets (weights_seen c.args.used.now.weights) (columns_seen c.args.columns.now)) coder.records.now _ index _ _ _
           c.loop-place-test.true
-          (any_default coder.records.now c.loop-place.place 0 index c.loop-place-test.true) c.loop-place.invariant.made c.in_ok-push.ensures.items
+          (get_or_default coder.records.now c.loop-place.place 0 index c.loop-place-test.true) c.loop-place.invariant.made c.in_ok-push.ensures.items
           (λ i. record { rec = index + 1; x = entries i; y = c.in_ok-y.ensures.exact i; weight = c.weight.ensures i });
       fits = below_more P _ c.loop-place.invariant.fits (record {
         ariths = subst (λ l. ArithsFit coder.frame.now l index) ariths c.in_ok-check_ariths.ensures.fits;

@@ -1,8 +1,8 @@
 use Rattle.std.specs.Ordering.{is_lt}
 use Rattle.std.proofs.Common.{Some, refl, sym, ap, subst, ◌∙◌, inr}
 use Rattle.exact_algebra.specs.Fraction.{rational}
+use Rattle.exact_algebra.proofs.Signs.{not_below}
 use Rattle.fraction_tableau.specs.Crossings.{IsSooner}
-use Rattle.fraction_tableau.proofs.Crossed.{not_below_test}
 use Rattle.fraction_tableau.proofs.crossings.sooner.Goals as goal
 
 pub returns-else-is_lt : goal.returns-else-is_lt
@@ -12,4 +12,4 @@ returns-else-is_lt g c =
     let value = g.F.Exact.value in
     subst (λ x. IsSooner value x c.args.second (Some one)) (sym c.in-Some-Some.is-0)
     (subst (λ y. IsSooner value (Some one) y (Some one)) (sym c.in-Some-Some.is-1)
-    (inr (refl, not_below_test (rational (value two.theta)) (rational (value one.theta)) (sym (c.is_lt.ensures ∙ ap is_lt c.compare.ensures) ∙ c.if-is_lt.false))))
+    (inr (refl, not_below (rational (value two.theta)) (rational (value one.theta)) (sym (c.is_lt.ensures ∙ ap is_lt c.compare.ensures) ∙ c.if-is_lt.false))))

@@ -1,7 +1,7 @@
 -- A row that is refused is refused to all.
 use Rattle.std.proofs.Common.{◌<◌, length, arith, ◌∙◌}
 use Rattle.std.proofs.lemmas.Result.{err_from_is_err_and}
-use Rattle.basis_inverse.proofs.Lists.{value_read}
+use Rattle.loss_model.proofs.Products.{value_read}
 use Rattle.basic_solution.proofs.Rows.{side_read}
 use Rattle.fraction_tableau.proofs.movers.movers.Goals as goal
 

@@ -1,9 +1,9 @@
 use Rattle.std.specs.Ordering.{is_lt}
 use Rattle.std.proofs.Common.{refl, sym, ap, ◌∙◌, inr}
 use Rattle.exact_algebra.specs.Fraction.{rational}
-use Rattle.fraction_tableau.proofs.SlopeLaws.{at_least_from_test}
+use Rattle.exact_algebra.proofs.Signs.{not_below}
 use Rattle.fraction_tableau.proofs.slopes.steeper.Goals as goal
 
 pub returns-else-is_lt : goal.returns-else-is_lt
 returns-else-is_lt g c =
-    inr (refl, at_least_from_test (rational (g.F.Exact.value c.args.second.slope)) (rational (g.F.Exact.value c.args.first.slope)) (sym (c.is_lt.ensures ∙ ap is_lt c.compare.ensures) ∙ c.if-is_lt.false))
+    inr (refl, not_below (rational (g.F.Exact.value c.args.second.slope)) (rational (g.F.Exact.value c.args.first.slope)) (sym (c.is_lt.ensures ∙ ap is_lt c.compare.ensures) ∙ c.if-is_lt.false))

@@ -2,7 +2,8 @@ use Rattle.std.proofs.Common.{◌≡◌, ◌<◌, ◌∷◌, [], length, length-
 use Rattle.exact_algebra.specs.Fraction.{rational}
 use Rattle.exact_algebra.specs.Rational.{◌+ℚ◌, ◌*ℚ◌}
 use Rattle.loss_model.specs.Problem.{value_at}
-use Rattle.basis_inverse.proofs.Lists.{value_read, value_more}
+use Rattle.loss_model.proofs.Products.{value_read}
+use Rattle.basis_inverse.proofs.Lists.{value_more}
 use Rattle.fraction_tableau.proofs.standing.duals_at.Goals as goal
 
 pub loop-position-preserved : goal.loop-position-preserved

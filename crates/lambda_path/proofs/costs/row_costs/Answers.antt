@@ -1,11 +1,12 @@
 use Rattle.std.proofs.Common.{inl, inr, ap, refl, ◌∙◌}
 use Rattle.std.proofs.lemmas.Result.{err_from_is_err_and}
+use Rattle.tv_penalty.proofs.Overflowing.{fits}
 use Rattle.exact_algebra.specs.Rational.{◌-ℚ◌}
 use Rattle.frac_core.specs.declared.exact.OpKind.TheVariants.{Mul, Sub}
 use Rattle.frac_core.specs.Values.{exact}
 use Rattle.loss_model.specs.declared.spill.Quantity.TheVariants.{PathCost}
 use Rattle.loss_model.specs.Spill.{site_of}
-use Rattle.lambda_path.proofs.Overflowing.{fits, spilt}
+use Rattle.lambda_path.proofs.Overflowing.{spilt}
 use Rattle.lambda_path.proofs.costs.row_costs.Goals as goal
 
 pub returns-in_err-left-clause-spill : goal.returns-in_err-left-clause-spill

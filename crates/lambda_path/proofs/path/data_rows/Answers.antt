@@ -1,10 +1,10 @@
 use Rattle.std.proofs.Common.{[]}
 use Rattle.std.proofs.lemmas.Result.{err_from_is_err_and}
+use Rattle.exact_algebra.proofs.Lists.{mapped_more}
 use Rattle.frac_core.specs.Values.{exact}
 use Rattle.loss_model.specs.Values.{exact_row}
 use Rattle.lambda_path.specs.Rows.{data_row}
 use Rattle.lambda_path.proofs.Overflowing.{fault_at, fits_more}
-use Rattle.lambda_path.proofs.Rows.{mapped_more}
 use Rattle.lambda_path.proofs.path.data_rows.Goals as goal
 
 pub returns-in_err-data_row-clause-fault : goal.returns-in_err-data_row-clause-fault

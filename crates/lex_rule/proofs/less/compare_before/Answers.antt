@@ -1,14 +1,15 @@
 use Rattle.std.proofs.Common.{◌≡◌, ℕ, suc, ◌<◌, ◌+◌, List, length, slice_index, slice_index_or, arith, refl, sym, ap, ◌∙◌, true, false}
 use Rattle.std.specs.Ordering.{is_ne}
 use Rattle.std.proofs.lemmas.Result.{err_from_is_err_and}
+use Rattle.loss_model.proofs.Products.{value_read}
 use Rattle.exact_algebra.specs.Fraction.{rational}
 use Rattle.exact_algebra.specs.Rational.{neg_ℚ}
+use Rattle.exact_algebra.proofs.Comparisons.{differs}
 use Rattle.basis_model.proofs.LexicographicLaws.{lex_cmp-Equal}
 use Rattle.basis_model.specs.Perturbed.{perturbed, ratio_on}
 use Rattle.lex_rule.specs.Compared.{of_ratio}
 use Rattle.lex_rule.specs.Scan.{IsNextAt, AreZeroBetween}
-use Rattle.lex_rule.proofs.Values.{value_read}
-use Rattle.lex_rule.proofs.Comparisons.{equal_from, not_equal, entry_is, held_entry, agree_between, agree_more, decided, same_entry, spill_on}
+use Rattle.lex_rule.proofs.Comparisons.{equal_from, entry_is, held_entry, agree_between, agree_more, decided, same_entry, spill_on}
 use Rattle.lex_rule.proofs.less.compare_before.Goals as goal
 
 pub returns-then-is_ne-clause-exact : goal.returns-then-is_ne-clause-exact
@@ -25,7 +26,7 @@ returns-then-is_ne-clause-exact g c =
     let left_is = entry_is value n at j u by c.requires.left_divisor 0 c.args.ratios.0.now.residual refl in
     let right_is = entry_is value n at j v and_by c.requires.right_divisor 0 c.args.ratios.1.now.residual refl in
     let differ : is_ne c.in_ok-first.first ≡ true = sym c.is_ne.ensures ∙ c.if-is_ne.true in
-    decided by.side and_by.side n at j u v (suc c.args.end) 0 c.in_ok-first.first _ _ (omega arith) (λ i l. absurd (omega arith)) left_is right_is (c.in_ok-first.ensures {u = tt}).exact (not_equal c.in_ok-first.first differ)
+    decided by.side and_by.side n at j u v (suc c.args.end) 0 c.in_ok-first.first _ _ (omega arith) (λ i l. absurd (omega arith)) left_is right_is (c.in_ok-first.ensures {u = tt}).exact (differs c.in_ok-first.first differ)
 
 pub rows-init : goal.rows-init
 rows-init g c =
@@ -101,7 +102,7 @@ returns-then-is_ne-2-clause-exact g c =
     let left_is = entry_is value n at j u by c.requires.left_divisor (suc (at k)) c.neg-left_entry.result left_entry in
     let right_is = entry_is value n at j v and_by c.requires.right_divisor (suc (at k)) c.neg-right_entry.result right_entry in
     let differ : is_ne c.in_ok-order.order ≡ true = sym c.is_ne-in-Some.ensures ∙ c.if-is_ne-2.true in
-    decided by.side and_by.side n at j u v (suc c.args.end) (suc (at k)) c.in_ok-order.order _ _ (omega (arith, next.below)) agree left_is right_is (c.in_ok-order.ensures {u = tt}).exact (not_equal c.in_ok-order.order differ)
+    decided by.side and_by.side n at j u v (suc c.args.end) (suc (at k)) c.in_ok-order.order _ _ (omega (arith, next.below)) agree left_is right_is (c.in_ok-order.ensures {u = tt}).exact (differs c.in_ok-order.order differ)
 
 pub rows-preserved : goal.rows-preserved
 rows-preserved g c =

@@ -1,9 +1,9 @@
 use Rattle.std.proofs.Common.{◌≡◌, ◌<◌, length, arith, refl, sym, ap, ◌∙◌}
 use Rattle.exact_algebra.specs.Fraction.{rational}
 use Rattle.loss_model.specs.Spill.{abs_ℚ}
+use Rattle.loss_model.proofs.Products.{value_read}
 use Rattle.basis_model.proofs.Ratios.{abs_nonzero}
 use Rattle.lex_rule.specs.Compared.{of_ratio}
-use Rattle.lex_rule.proofs.Values.{value_read}
 use Rattle.lex_rule.proofs.less.divisor.Goals as goal
 
 pub returns-clause-divides : goal.returns-clause-divides

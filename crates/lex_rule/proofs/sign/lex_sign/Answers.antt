@@ -3,10 +3,10 @@ use Rattle.exact_algebra.specs.Fraction.{rational}
 use Rattle.exact_algebra.specs.Rational.{ℚ, neg_ℚ, whole}
 use Rattle.exact_algebra.specs.Order.{cmp_ℚ}
 use Rattle.loss_model.specs.Problem.{value_at}
+use Rattle.loss_model.proofs.Products.{value_read}
 use Rattle.basis_model.specs.Perturbed.{nonbasic, side_of}
 use Rattle.lex_rule.specs.Scan.{IsNextAt, AreZeroBetween}
 use Rattle.basis_model.proofs.Signs.{side-residual}
-use Rattle.lex_rule.proofs.Values.{value_read}
 use Rattle.lex_rule.proofs.Signs.{at_held, at_own}
 use Rattle.lex_rule.proofs.sign.lex_sign.Goals as goal
 

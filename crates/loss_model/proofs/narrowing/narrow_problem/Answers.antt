@@ -1,5 +1,5 @@
 use Rattle.std.proofs.Common.{◌≡◌, map, ap, ◌∙◌}
-use Rattle.frac_core.specs.Widths.{narrow_value, wide_value}
+use Rattle.frac_core.specs.Values.{narrow_value, value as wide_value}
 use Rattle.loss_model.specs.Widths.{row_by}
 use Rattle.loss_model.proofs.Narrowed.{shaped_alike, rows_fit}
 use Rattle.loss_model.proofs.narrowing.narrow_problem.Goals as goal

@@ -1,4 +1,4 @@
-use Rattle.frac_core.specs.Widths.{narrow_value, wide_value}
+use Rattle.frac_core.specs.Values.{narrow_value, value as wide_value}
 use Rattle.loss_model.specs.Widths.{exchange_by}
 use Rattle.loss_model.proofs.Widened.{one_more_alike}
 use Rattle.loss_model.proofs.widening.widen_steps.Goals as goal

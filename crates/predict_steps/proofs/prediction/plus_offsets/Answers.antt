@@ -1,11 +1,12 @@
 use Rattle.std.proofs.Common.{true, refl}
 use Rattle.std.proofs.lemmas.Result.{err_from_is_err_and}
 use Rattle.exact_algebra.specs.Fraction.{rational}
-use Rattle.predict_steps.proofs.Predicted.{offset_more, offset_spill, plus_none}
+use Rattle.exact_algebra.proofs.Signs.{plus-zero}
+use Rattle.predict_steps.proofs.Predicted.{offset_more, offset_spill}
 use Rattle.predict_steps.proofs.prediction.plus_offsets.Goals as goal
 
 pub loop-k-init : goal.loop-k-init
-loop-k-init g c = plus_none _
+loop-k-init g c = plus-zero _
 
 pub loop-k-preserved : goal.loop-k-preserved
 loop-k-preserved g c =

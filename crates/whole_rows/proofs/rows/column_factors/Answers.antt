@@ -1,8 +1,8 @@
 -- A factor more.
 use Rattle.std.proofs.Common.{rules, ◌≡◌, ◌++◌, ◌∷◌, []}
 use Rattle.std.proofs.lemmas.List.Elements.{All-push}
+use Rattle.exact_algebra.proofs.Lists.{length_pushed}
 use Rattle.whole_rows.specs.Wholes.{IsPositive}
-use Rattle.whole_rows.proofs.Pairs.{length_more}
 use Rattle.whole_rows.proofs.rows.column_factors.Goals as goal
 
 pub loop-k-preserved : goal.loop-k-preserved
@@ -11,6 +11,6 @@ loop-k-preserved g c =
     let factor = c.reduced_factor.result in
     let grown : c.push.new.self ≡ made ++ factor ∷ [] = search rules in
     rw (grown) (record {
-      size = length_more made factor c.loop-k.k c.loop-k.invariant.size;
+      size = length_pushed made factor c.loop-k.k c.loop-k.invariant.size;
       positive = All-push IsPositive made factor c.loop-k.invariant.positive c.reduced_factor.ensures;
     })

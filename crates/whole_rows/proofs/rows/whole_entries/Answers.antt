@@ -6,7 +6,8 @@ use Rattle.std.proofs.lemmas.List.{length_push}
 use Rattle.std.proofs.lemmas.Option.{slice_get-get_or}
 use Rattle.exact_algebra.specs.Rational.{ℚ, ◌*ℚ◌, whole}
 use Rattle.loss_model.specs.Problem.{value_at}
-use Rattle.basis_inverse.proofs.Lists.{read_more, value_read}
+use Rattle.loss_model.proofs.Products.{value_read}
+use Rattle.basis_inverse.proofs.Lists.{read_more}
 use Rattle.whole_rows.specs.declared.factor.Factor.{Factor}
 use Rattle.whole_rows.specs.Wholes.{factor_at, factor_value}
 use Rattle.whole_rows.proofs.rows.whole_entries.Goals as goal

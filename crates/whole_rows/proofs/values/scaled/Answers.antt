@@ -3,7 +3,7 @@ use Rattle.std.proofs.Common.{rules, ◌≡◌, ◌++◌, ◌∷◌, [], ap₂, 
 use Rattle.std.proofs.lemmas.List.{length_push}
 use Rattle.exact_algebra.specs.Rational.{◌*ℚ◌}
 use Rattle.loss_model.specs.Problem.{value_at}
-use Rattle.basis_inverse.proofs.Lists.{value_read}
+use Rattle.loss_model.proofs.Products.{value_read}
 use Rattle.whole_rows.specs.Wholes.{factor_at}
 use Rattle.whole_rows.proofs.ValueLists.{value_pushed}
 use Rattle.whole_rows.proofs.values.scaled.Goals as goal

@@ -1,7 +1,8 @@
 -- A side more.
 use Rattle.std.proofs.Common.{rules, ◌≡◌, ◌++◌, ◌∷◌, [], refl}
+use Rattle.exact_algebra.proofs.Lists.{length_pushed}
 use Rattle.loss_model.specs.declared.vertex.Side.TheVariants.{Basic}
-use Rattle.whole_solution.proofs.Reading.{side_pushed, size_pushed}
+use Rattle.whole_solution.proofs.Reading.{side_pushed}
 use Rattle.whole_solution.proofs.sides.basic_sides.Goals as goal
 
 pub loop-preserved : goal.loop-preserved
@@ -9,6 +10,6 @@ loop-preserved c =
     let made = c.loop.made in
     let grown : c.push.new.self ≡ made ++ Basic ∷ [] = search rules in
     rw (grown) (record {
-      size = size_pushed made Basic c.loop.counter c.loop.invariant.size;
+      size = length_pushed made Basic c.loop.counter c.loop.invariant.size;
       each = side_pushed made Basic c.loop.counter (λ i. Basic) c.loop.invariant.size c.loop.invariant.each refl;
     })

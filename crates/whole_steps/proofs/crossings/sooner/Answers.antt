@@ -1,8 +1,8 @@
 -- The first is not after the second.
 use Rattle.std.proofs.Common.{Some, refl, sym, subst, ◌∙◌, inr}
 use Rattle.exact_algebra.specs.Fraction.{rational}
+use Rattle.exact_algebra.proofs.Signs.{not_below}
 use Rattle.fraction_tableau.specs.Crossings.{IsSooner}
-use Rattle.fraction_tableau.proofs.Crossed.{not_below_test}
 use Rattle.whole_steps.specs.Crossings.{quotient_value}
 use Rattle.whole_steps.proofs.crossings.sooner.Goals as goal
 
@@ -12,4 +12,4 @@ returns-else-is_before-clause-sooner c =
     let two = c.in-Some-Some.two in
     subst (λ x. IsSooner quotient_value x c.args.second (Some one)) (sym c.in-Some-Some.is-0)
     (subst (λ y. IsSooner quotient_value (Some one) y (Some one)) (sym c.in-Some-Some.is-1)
-    (inr (refl, not_below_test (rational (quotient_value two.theta)) (rational (quotient_value one.theta)) (sym c.is_before.ensures ∙ c.if-is_before.false))))
+    (inr (refl, not_below (rational (quotient_value two.theta)) (rational (quotient_value one.theta)) (sym c.is_before.ensures ∙ c.if-is_before.false))))

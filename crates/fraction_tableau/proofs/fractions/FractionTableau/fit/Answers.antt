@@ -1,8 +1,9 @@
 use Rattle.std.proofs.Common.{length, slice_index, sym, ap, ◌∙◌}
 use Rattle.exact_algebra.specs.Fraction.{rational}
+use Rattle.exact_algebra.proofs.Lists.{contains_item}
 use Rattle.fraction_tableau.specs.Kept.{place}
 use Rattle.fraction_tableau.proofs.Places.{kept_is_place}
-use Rattle.fraction_tableau.proofs.Vertices.{distinct_rows, itself, is_vertex, basic_duals}
+use Rattle.fraction_tableau.proofs.Vertices.{distinct_rows, is_vertex, basic_duals}
 use Rattle.fraction_tableau.proofs.fractions.FractionTableau.fit.Goals as goal
 
 pub ascending-requires : goal.ascending-requires
@@ -18,7 +19,7 @@ by_row-requires-clause-same g c κs within =
 
 pub by_row-requires-clause-members : goal.by_row-requires-clause-members
 by_row-requires-clause-members g c κs within =
-    rw c.as_slice.ensures (λ k lk. ((c.in_ok-sorted.ensures {u = tt}).same (slice_index c.in_ok-sorted.sorted k)).0 (itself c.in_ok-sorted.sorted k lk))
+    rw c.as_slice.ensures (λ k lk. ((c.in_ok-sorted.ensures {u = tt}).same (slice_index c.in_ok-sorted.sorted k)).0 (contains_item c.in_ok-sorted.sorted k lk))
 
 pub returns : goal.returns
 returns g c =

@@ -1,8 +1,9 @@
 use Rattle.std.proofs.Common.{slice_index}
 use Rattle.std.proofs.lemmas.Result.{err_from_is_err_and}
+use Rattle.exact_algebra.proofs.Lists.{contains_item}
 use Rattle.fraction_tableau.specs.Kept.{place}
 use Rattle.fraction_tableau.proofs.Places.{kept_is_place}
-use Rattle.fraction_tableau.proofs.Vertices.{distinct_rows, itself}
+use Rattle.fraction_tableau.proofs.Vertices.{distinct_rows}
 use Rattle.fraction_tableau.proofs.Stayed.{segment_here}
 use Rattle.fraction_tableau.proofs.fractions.FractionTableau.stay.Goals as goal
 
@@ -15,7 +16,7 @@ ascending-requires g c =
 pub ends_at-requires-clause-members : goal.ends_at-requires-clause-members
 ends_at-requires-clause-members g c κs within =
     let ordered = rw (c.as_slice.ensures, c.basis.ensures.rows) at (c.in_ok-sorted.ensures {u = tt}) in
-    rw c.as_slice-2.ensures (λ k lk. (ordered.same (slice_index c.in_ok-sorted.sorted k)).0 (itself c.in_ok-sorted.sorted k lk))
+    rw c.as_slice-2.ensures (λ k lk. (ordered.same (slice_index c.in_ok-sorted.sorted k)).0 (contains_item c.in_ok-sorted.sorted k lk))
 
 pub returns-in_err-low-clause-refused : goal.returns-in_err-low-clause-refused
 returns-in_err-low-clause-refused g c = λ hi stay.

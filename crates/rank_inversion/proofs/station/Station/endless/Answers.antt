@@ -1,7 +1,7 @@
 use Rattle.std.proofs.Common.{slice_index}
 use Rattle.std.proofs.lemmas.Result.{err_from_is_err_and}
+use Rattle.exact_algebra.proofs.Lists.{contains_item}
 use Rattle.loss_model.specs.Spill.{AtSome}
-use Rattle.fraction_tableau.proofs.Vertices.{itself}
 use Rattle.rank_inversion.specs.Nexts.{IsSpillHere, IsWeighingSpill, IsRaySpill}
 use Rattle.rank_inversion.proofs.Operations.{short_weaker}
 use Rattle.rank_inversion.proofs.StationLaws.{break_some, break_spill, ray_spill, values_there, endless_is}
@@ -10,7 +10,7 @@ use Rattle.rank_inversion.proofs.station.Station.endless.Goals as goal
 pub basic_values-requires-clause-members : goal.basic_values-requires-clause-members
 basic_values-requires-clause-members g c κs within =
     let vertex = c.in_ok-vertex.vertex in
-    rw c.as_slice.ensures (λ k lk. ((c.in_ok-vertex.ensures {u = tt}).rows (slice_index vertex.basis.rows k)).0 (itself vertex.basis.rows k lk))
+    rw c.as_slice.ensures (λ k lk. ((c.in_ok-vertex.ensures {u = tt}).rows (slice_index vertex.basis.rows k)).0 (contains_item vertex.basis.rows k lk))
 
 pub returns-in_err-inside-clause-spill : goal.returns-in_err-inside-clause-spill
 returns-in_err-inside-clause-spill g c =

@@ -1,13 +1,14 @@
 use Rattle.std.specs.Ordering.{is_gt}
 use Rattle.std.proofs.Common.{refl, ap, ◌∙◌}
 use Rattle.std.proofs.lemmas.Result.{err_from_is_err_and}
+use Rattle.gram_matrix.proofs.Rows.{operation}
 use Rattle.frac_core.specs.declared.exact.OpKind.TheVariants.{Mul}
 use Rattle.loss_model.specs.declared.spill.Quantity.TheVariants.{Statistic}
 use Rattle.loss_model.specs.Spill.{site_of}
 use Rattle.fraction_tableau.specs.Lines.{IsOrderSpill}
 use Rattle.rank_inversion.specs.Nexts.{IsSpillHere}
 use Rattle.rank_inversion.specs.Stations.{sample_at, rows_at, entries_at}
-use Rattle.rank_inversion.proofs.Operations.{operation, short_weaker}
+use Rattle.rank_inversion.proofs.Operations.{short_weaker}
 use Rattle.rank_inversion.proofs.StationLaws.{crossings_spill, square_spill, past_here, stuck_here, step_here, order_spill}
 use Rattle.rank_inversion.proofs.station.Station.found.Goals as goal
 

@@ -1,13 +1,13 @@
 -- A row more, and at the end those of the basis.
 use Rattle.std.proofs.Common.{rules, ◌≡◌, ◌++◌, ◌∷◌, [], false, length, slice_index, get_or, pos, to_z, of_z, arith, ◌∙◌}
 use mir.Syntax.{w128}
+use Rattle.exact_algebra.proofs.Lists.{length_pushed}
 use Rattle.exact_matrices.specs.Selections.{is_among}
 use Rattle.basis_model.specs.Basis.{side_at}
 use Rattle.whole_inverse.specs.Squares.{inverse_of}
+use Rattle.whole_inverse.proofs.Lists.{share_read}
 use Rattle.whole_rows.specs.Wholes.{sample_of_rows}
 use Rattle.whole_solution.proofs.Basics.{all_put, side_pushed_where}
-use Rattle.whole_solution.proofs.Numbers.{share_read}
-use Rattle.whole_solution.proofs.Reading.{size_pushed}
 use Rattle.whole_solution.proofs.basis.WholeBasis.sides.Goals as goal
 
 pub loop-row-preserved : goal.loop-row-preserved
@@ -20,7 +20,7 @@ loop-row-preserved c =
     let i = c.loop-row.row in
     let grown : c.push.new.self ≡ made ++ x ∷ [] = search rules in
     rw (grown) (record {
-      size = size_pushed made x i c.loop-row.invariant.size;
+      size = length_pushed made x i c.loop-row.invariant.size;
       each = side_pushed_where (λ i. is_among at (length s.columns) i ≡ false) made x i (side_at (sample_of_rows (length s.columns) b.rows.now) at (inverse_of s)) c.loop-row.invariant.size c.loop-row.invariant.each
           (c.in_ok-side.ensures {u = tt});
     })

@@ -1,9 +1,9 @@
 -- A column more.
 use Rattle.std.proofs.Common.{rules, ◌≡◌, ◌++◌, ◌∷◌, [], length, to_z, of_z}
 use mir.Syntax.{w64}
+use Rattle.exact_algebra.proofs.Lists.{length_pushed}
 use Rattle.whole_inverse.specs.Shares.{whole_at}
 use Rattle.whole_rows.specs.Wholes.{of_whole}
-use Rattle.whole_solution.proofs.Reading.{size_pushed}
 use Rattle.whole_solution.proofs.Entries.{column_more}
 use Rattle.whole_solution.proofs.ranges.Ranges.of.Goals as goal
 
@@ -19,7 +19,7 @@ loop-k-preserved c =
     let more_halves : c.add-in-loop-k.new.self ≡ halves ++ half ∷ [] = search rules in
     let em : to_z w64 (of_z w64 middle) ≡ middle = search rules in
     rw (more_middles, more_halves) (record {
-      middles = size_pushed middles middle c.loop-k.k before.middles;
-      halves = size_pushed halves half c.loop-k.k before.halves;
+      middles = length_pushed middles middle c.loop-k.k before.middles;
+      halves = length_pushed halves half c.loop-k.k before.halves;
       each = column_more (λ i k. of_whole rows (λ r. whole_at r.x k) i) (length rows) c.loop-k.k middles halves middle half before.middles before.halves before.each (rw (em) at c.half_of-half.ensures);
     })

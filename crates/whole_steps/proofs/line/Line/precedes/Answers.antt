@@ -1,7 +1,8 @@
 -- By the cross products.
 use Rattle.std.proofs.Common.{rules, ◌≡◌, ◌*◌, true, false, sym, ap₂, ◌∙◌}
 use Rattle.std.specs.Ordering.{is_eq, nat_cmp}
-use Rattle.whole_steps.proofs.Ties.{equal_is, first_decides}
+use Rattle.exact_algebra.proofs.Comparisons.{is_equal}
+use Rattle.whole_steps.proofs.Ties.{first_decides}
 use Rattle.whole_steps.proofs.line.Line.precedes.Goals as goal
 
 pub break_tie-requires-clause-equal : goal.break_tie-requires-clause-equal
@@ -10,7 +11,7 @@ break_tie-requires-clause-equal c =
     let n = c.args.right in
     let is : c.compare-order.result ≡ nat_cmp (m.residual * n.coord) (n.residual * m.coord) = c.compare-order.ensures ∙ ap₂ nat_cmp c.product-one.ensures c.product-two.ensures in
     let same : is_eq c.compare-order.result ≡ true = search rules in
-    sym is ∙ equal_is c.compare-order.result same
+    sym is ∙ is_equal c.compare-order.result same
 
 pub returns : goal.returns
 returns c =

@@ -1,7 +1,7 @@
 -- The numerator that was read.
 use Rattle.std.proofs.Common.{rules, ◌≡◌, ◌<◌, length, get_or, pos, to_z, of_z, arith, ◌∙◌}
 use mir.Syntax.{w128}
-use Rattle.whole_solution.proofs.Numbers.{share_read}
+use Rattle.whole_inverse.proofs.Lists.{share_read}
 use Rattle.whole_steps.specs.Stations.{over_of}
 use Rattle.whole_steps.proofs.station.Station.dual_at.Goals as goal
 

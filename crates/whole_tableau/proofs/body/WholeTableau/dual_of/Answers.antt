@@ -2,6 +2,7 @@
 use Rattle.std.proofs.Common.{rules, ◌≡◌, ◌<◌, length, slice_index, get_or, pos, arith, sym, ap, ap₂, ◌∙◌}
 use Rattle.exact_algebra.specs.Fraction.{rational}
 use Rattle.exact_algebra.specs.Rational.{◌+ℚ◌, ◌*ℚ◌, inverse}
+use Rattle.exact_algebra.proofs.Signs.{positive_nonzero}
 use Rattle.loss_model.specs.Problem.{sample}
 use Rattle.pivot_rule.specs.Duals.{dual}
 use Rattle.pivot_rule.proofs.Sides.{dual_at}
@@ -10,13 +11,12 @@ use Rattle.whole_inverse.specs.Shares.{share}
 use Rattle.whole_inverse.proofs.Lists.{share_read}
 use Rattle.whole_rows.specs.Wholes.{factor_value}
 use Rattle.whole_tableau.specs.Kept.{place}
-use Rattle.whole_tableau.proofs.Factors.{positive_some}
 use Rattle.whole_tableau.proofs.Vertices.{dual_by}
 use Rattle.whole_tableau.proofs.body.WholeTableau.dual_of.Goals as goal
 
 pub value-requires-clause-factor : goal.value-requires-clause-factor
 value-requires-clause-factor g c κs within =
-    rw ((c.in_ok-reading.ensures {u = tt}).factor) (positive_some (factor_value c.args.self.now.setting.wholes.cost) c.solution-solution.ensures.kept.setting.cost)
+    rw ((c.in_ok-reading.ensures {u = tt}).factor) (positive_nonzero (factor_value c.args.self.now.setting.wholes.cost) c.solution-solution.ensures.kept.setting.cost)
 
 pub returns : goal.returns
 returns g c =
