@@ -1,10 +1,10 @@
 -- Certificates that say the same are the same.
-use Rattle.std.proofs.Common.{◌≡◌, ◌^◌, ◌-◌, ◌∷◌, [], All, List, map, refl, ap, ap₂}
+use Rattle.std.proofs.Common.{◌≡◌, ◌-◌, All, List, map, refl, ap}
 use Rattle.std.proofs.Props.{props}
 use mathlib.Core.Path.{PathP}
 use mathlib.Core.HLevel.{is_prop→PathP}
+use Rattle.exact_algebra.proofs.Lists.{same_lists}
 use Rattle.frac_core.specs.declared.frac128.Frac128.{Frac128}
-use Rattle.frac_core.specs.Lowest.{same_fraction, IsWithin-along}
 use Rattle.frac_core.specs.Values.{exact}
 use Rattle.frac_core.proofs.Values.{same_number}
 use Rattle.loss_model.specs.declared.problem.Row.{Row}
@@ -20,12 +20,6 @@ use Rattle.loss_model.specs.Values.{exact_row}
 use Rattle.cert_text.specs.Contents.{exact_vertex, exact_segment, exact_bound, exact_beyond, exact_end, exact_interval}
 use Rattle.cert_text.specs.Kept.{IsKeptSegment, IsKeptInterval}
 use Rattle.cert_text.specs.Laws.{SameContent}
-
-pub same_lists : {A B : Type 0} (show : A → B) → ((x y : A) → show x ≡ show y → x ≡ y) → (xs ys : List A) → map show xs ≡ map show ys → xs ≡ ys
-same_lists show one [] [] h = refl
-same_lists show one [] (y ∷ ys) h = absurd (cc h)
-same_lists show one (x ∷ xs) [] h = absurd (cc h)
-same_lists show one (x ∷ xs) (y ∷ ys) h = ap₂ (λ z zs. z ∷ zs) (one x y (cc h)) (same_lists show one xs ys (cc h))
 
 same_numbers : (xs ys : List Frac128) → map exact xs ≡ map exact ys → xs ≡ ys
 same_numbers = same_lists exact same_number

@@ -2,7 +2,7 @@
 use Rattle.std.specs.Cmp.{IsTotalOrder}
 use Rattle.std.specs.List.{cons_option, list_any}
 use Rattle.std.specs.Option.{option_map_or}
-use Rattle.std.proofs.Common.{◌≡◌, ◌+◌, ◌++◌, ◌&&◌, ℕ, is_none, not, Bool, true, false, List, [], ◌∷◌, Option, Some, None, is_eq, Ordering, map, refl, sym, ap, ◌∙◌}
+use Rattle.std.proofs.Common.{◌≡◌, ◌+◌, ◌++◌, ◌&&◌, ℕ, is_none, Bool, true, false, List, [], ◌∷◌, Option, Some, None, is_eq, Ordering, map, refl, sym, ap, ◌∙◌}
 use Rattle.std.proofs.lemmas.List.Elements.{filter_map-append}
 use Rattle.std.proofs.lemmas.Bool.{not-false}
 use Rattle.contrasts.specs.declared.Coding.{Coding}

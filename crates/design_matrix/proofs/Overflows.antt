@@ -1,6 +1,6 @@
 -- The first product of a row, and of rows, that overflows.
-use Rattle.std.proofs.Common.{◌≡◌, ◌<◌, ℕ, zero, suc, List, [], ◌∷◌, length, map, take, get_or, refl, sym, ap, ◌∙◌, arith, subst}
-use Rattle.std.proofs.lemmas.List.{get_or-map, length-map, take-map, get_or_default}
+use Rattle.std.proofs.Common.{◌≡◌, ◌<◌, ℕ, List, [], length, map, take, get_or, sym, ap, ◌∙◌, arith, subst}
+use Rattle.std.proofs.lemmas.List.{get_or-map, length-map, take-map}
 use Rattle.frac_core.specs.declared.frac128.Frac128.{Frac128}
 use Rattle.loss_model.specs.declared.spill.Spill.{Spill}
 use Rattle.design_matrix.specs.Designs.{OverflowsFirst, OverflowsInColumn, OverflowsInRecord, OverflowsInRow, RecordFits, RowFits}

@@ -1,5 +1,5 @@
 -- Lists by place: the items there, and what one item more leaves as it was.
-use Rattle.std.proofs.Common.{◌≡◌, ◌<◌, ◌+◌, ℕ, zero, suc, List, [], ◌∷◌, ◌++◌, length, map, replicate, take, get_or, slice_get, slice_index, Contains, Some, arith, refl, sym, ap, ◌∙◌, append_assoc, inl, inr}
+use Rattle.std.proofs.Common.{◌≡◌, ◌<◌, ◌+◌, ℕ, zero, suc, List, [], ◌∷◌, ◌++◌, length, map, replicate, take, get_or, slice_get, slice_index, Contains, Some, arith, refl, sym, ap, ap₂, ◌∙◌, append_assoc, inl, inr}
 use Rattle.std.proofs.lemmas.List.{map-append, take_more}
 use Rattle.std.proofs.lemmas.Option.{slice_get_cases, slice_get-get_or}
 
@@ -37,3 +37,10 @@ mapped_more g f xs k x start olds news w within here so_far more made =
     ap (map g) more ∙ map-append g olds (w ∷ []) ∙ ap (λ y. map g olds ++ y ∷ []) (made ∙ ap f here) ∙ ap (λ z. z ++ f (get_or xs k x) ∷ []) so_far
     ∙ append_assoc start (map f (take k xs)) (f (get_or xs k x) ∷ [])
     ∙ ap (λ z. start ++ z) (sym (map-append f (take k xs) (get_or xs k x ∷ [])) ∙ ap (map f) (sym (take_more xs k x within)))
+
+-- lists are the same whose items show the same
+pub same_lists : {A B : Type 0} (show : A → B) → ((x y : A) → show x ≡ show y → x ≡ y) → (xs ys : List A) → map show xs ≡ map show ys → xs ≡ ys
+same_lists show one [] [] h = refl
+same_lists show one [] (y ∷ ys) h = absurd (cc h)
+same_lists show one (x ∷ xs) [] h = absurd (cc h)
+same_lists show one (x ∷ xs) (y ∷ ys) h = ap₂ (λ z zs. z ∷ zs) (one x y (cc h)) (same_lists show one xs ys (cc h))

@@ -10,7 +10,6 @@ use Rattle.exact_algebra.specs.Fraction.{Fraction, rational}
 use Rattle.exact_algebra.specs.Rational.{ℚ, quotient, whole}
 use Rattle.exact_algebra.proofs.Quotients.{quotient-one}
 use Rattle.frac_core.specs.Gcd.{gcd, gcd-is}
-use Rattle.frac_core.specs.Lowest.{same_fraction, IsWithin-along}
 use Rattle.frac_core.specs.NumberText.{in_range, number_of, with_sign, written, written_body}
 use Rattle.frac_core.specs.declared.frac128.Frac128.{Frac128}
 use Rattle.frac_core.specs.declared.number_reader.NumberFault.{NumberFault}

@@ -10,7 +10,7 @@ use Rattle.std.specs.Str.{all_ascii_digits}
 use Rattle.std.specs.Str.Parse.{digits_value, starts_with_minus, without_leading_sign}
 use Rattle.std.proofs.Math.Dec.{lit<}
 use Rattle.std.proofs.Math.Nat.{div-le_self, one-le-pow}
-use Rattle.std.proofs.lemmas.Bool.{leb-true, ltb-true, le-leb, lt-ltb, false_from_ne_true, ne_eqb, and_parts}
+use Rattle.std.proofs.lemmas.Bool.{leb-true, ltb-true, le-leb, lt-ltb, ne_eqb, and_parts}
 use Rattle.std.proofs.lemmas.Nat.{pow-add}
 use Rattle.std.proofs.lemmas.List.{append-nil, length-append, take_all}
 use Rattle.std.proofs.lemmas.List.Sums.{suffix_len-le-length}

@@ -1,5 +1,5 @@
 -- The definition of number text cuts a text at its first `/`, `e` and `.`; read from left to right it gives the same.
-use Rattle.std.proofs.Common.{◌≡◌, ◌∙◌, ℕ, ◌+◌, ◌++◌, ◌==◌, ◌&&◌, ◌||◌, suc, Bool, true, false, cond, List, [], ◌∷◌, Option, None, codes, length, take, drop, arith, refl, sym, ap, nat_lt, if◌then◌else◌}
+use Rattle.std.proofs.Common.{◌≡◌, ◌∙◌, ℕ, ◌+◌, ◌++◌, ◌==◌, ◌||◌, suc, Bool, true, false, cond, List, [], ◌∷◌, Option, None, codes, length, take, drop, arith, refl, sym, ap, nat_lt, if◌then◌else◌}
 use Rattle.std.specs.List.{before_first, after_first, list_any, position_or_len, prefix_len}
 use Rattle.std.specs.Char.{is_ascii_digit}
 use Rattle.std.specs.Str.{all_ascii_digits}

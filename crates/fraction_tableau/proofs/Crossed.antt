@@ -1,5 +1,5 @@
 -- A crossing as it is computed at a basis, and what the first one of all is.
-use Rattle.std.specs.Prelude.{◌≡◌, ◌≢◌, ◌⊎◌, ◌↔◌, IsTrue, ℕ, ◌<◌, Bool, true, false, List, [], ◌∷◌, length, slice_get, slice_index, get_or, Option, Some, None, pos}
+use Rattle.std.specs.Prelude.{◌≡◌, ◌≢◌, ◌↔◌, IsTrue, ℕ, ◌<◌, Bool, true, false, List, [], ◌∷◌, length, slice_get, slice_index, get_or, Option, Some, None, pos}
 use Rattle.std.specs.Ordering.{is_lt, is_gt}
 use Rattle.std.specs.Option.{option_map_or}
 use Rattle.std.proofs.Common.{arith, refl, sym, ap, ap₂, subst, ◌∙◌, inl, inr}
@@ -31,7 +31,7 @@ use Rattle.walk_rule.specs.SlopeLaws.{crossing_of}
 use Rattle.walk_rule.specs.WalkSpills.{IsMeetingSpill, IsCrossingSpill}
 use Rattle.walk_rule.proofs.Breaks.{as_computed}
 use Rattle.walk_rule.proofs.Crossings.{quotient_is, rise_is}
-use Rattle.walk_rule.proofs.Lines.{decide, le_by}
+use Rattle.walk_rule.proofs.Lines.{le_by}
 use Rattle.walk_rule.proofs.Slopes.{crossing}
 use Rattle.fraction_tableau.specs.declared.crossings.Affine.{Affine}
 use Rattle.fraction_tableau.specs.declared.crossings.Breakpoint.{Breakpoint}

@@ -2,17 +2,14 @@
 use Rattle.std.proofs.Common.{◌≡◌, ◌^◌, ◌-◌, ◌+◌, ◌<◌, ◌++◌, ℕ, suc, List, [], ◌∷◌, length, get_or, take, drop, length-take-le, take-append-drop, append_assoc, arith, inl, inr, refl, sym, ap, subst, ◌∙◌}
 use Rattle.std.proofs.lemmas.List.{take_more, drop_more}
 use Rattle.exact_algebra.specs.Rational.{ℚ}
-use Rattle.frac_core.specs.Lowest.{same_fraction, IsWithin-along}
 use Rattle.frac_core.specs.Overflow.{Overflows as OverflowsAt}
 use Rattle.frac_core.specs.declared.exact.OpKind.{OpKind}
 use Rattle.frac_core.specs.declared.frac128.Frac128.{Frac128}
 use Rattle.frac_core.specs.Values.{exact, value}
-use Rattle.frac_core.proofs.Values.{same_number}
 use Rattle.loss_model.specs.declared.problem.Row.{Row}
 use Rattle.loss_model.specs.declared.spill.Site.{Site}
 use Rattle.loss_model.specs.declared.spill.Spill.{Spill}
-use Rattle.tv_penalty.specs.Operations.{SitedOperation, IsSpillOf, Overflows, NoneOverflows, OverflowsFirst}
-use Rattle.tv_penalty.proofs.Overflowing.{fits}
+use Rattle.tv_penalty.specs.Operations.{SitedOperation, IsSpillOf, NoneOverflows, OverflowsFirst}
 use Rattle.lambda_path.specs.declared.fault.PathFault.{PathFault}
 use Rattle.lambda_path.specs.declared.fault.PathFault.TheVariants.{OutOfMemory, TooManyRows, Overflow}
 use Rattle.lambda_path.specs.Faults.{cost_operations, operations_from}

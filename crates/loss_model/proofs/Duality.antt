@@ -11,7 +11,6 @@ use Rattle.loss_model.specs.declared.vertex.Side.{Side}
 use Rattle.loss_model.specs.declared.vertex.Side.TheVariants.{Up, Down, Basic}
 use Rattle.loss_model.specs.Sample.{Sample, up_cost, down_cost, fitted, residual, row_loss, loss}
 use Rattle.loss_model.specs.Dual.{IsFeasible, dual_objective, IsDual}
-use Rattle.loss_model.specs.Complements.{residual_change}
 use Rattle.loss_model.specs.Vertex.{value_of_side, IsOn}
 use Rattle.loss_model.specs.Laws.{WeakDuality, DualsShowMinimum, DualsAreGreatest, ComplementsShowDuals, ResidualsMove, SidesShowDuals}
 

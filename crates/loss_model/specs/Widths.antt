@@ -1,5 +1,5 @@
 -- Inner. The shared types with their numbers replaced by a function's, and which problems have numbers of 64 bits.
-use Rattle.std.specs.Prelude.{◌-◌, ◌^◌, List, map, All, option_map}
+use Rattle.std.specs.Prelude.{◌-◌, ◌^◌, map, All, option_map}
 use Rattle.frac_core.specs.declared.frac128.Frac128.{Frac128}
 use Rattle.frac_core.specs.Overflow.{IsWithin}
 use Rattle.frac_core.specs.Values.{value as wide_value}

@@ -6,7 +6,7 @@ use Rattle.std.proofs.Common.{arith, inl, inr, refl, sym, ap, ap₂, ◌∙◌}
 use Rattle.std.proofs.lemmas.List.{length-map}
 use Rattle.std.proofs.lemmas.Option.{slice_get-map, slice_get_cases}
 use Rattle.exact_algebra.specs.Fraction.{Fraction, rational}
-use Rattle.exact_algebra.specs.Solver.{number, ◌⊞◌, ◌⊠◌, v0, v1, v2}
+use Rattle.exact_algebra.specs.Solver.{number, ◌⊞◌, ◌⊠◌, v0, v1}
 use Rattle.exact_algebra.specs.Rational.{ℚ, ◌+ℚ◌, ◌*ℚ◌, whole}
 use Rattle.exact_algebra.proofs.RationalLaws.{ring_ℚ}
 use Rattle.exact_algebra.specs.RationalSums.{sum_ℚ}

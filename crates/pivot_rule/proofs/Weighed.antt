@@ -6,9 +6,9 @@ use Rattle.std.specs.declared.cmp.Ordering.TheVariants.{Less, Equal, Greater}
 use Rattle.std.proofs.Common.{refl, sym, ap, subst, ◌∙◌}
 use Rattle.exact_algebra.specs.Solver.{number, negated, ◌⊞◌, ◌⊟◌, ◌⊠◌, v0, v1, v2}
 use Rattle.exact_algebra.specs.Rational.{ℚ, ◌+ℚ◌, ◌-ℚ◌, ◌*ℚ◌, neg_ℚ, whole, ◌≤ℚ◌}
-use Rattle.exact_algebra.proofs.RationalLaws.{ring_ℚ, ≤ℚ_refl, zero-+ℚ}
+use Rattle.exact_algebra.proofs.RationalLaws.{ring_ℚ, ≤ℚ_refl}
 use Rattle.exact_algebra.specs.RationalSums.{sum_ℚ}
-use Rattle.exact_algebra.proofs.RationalSumLaws.{sum_ℚ-same, sum_ℚ-zero, sum_ℚ-add, sum_ℚ-scale, sum_ℚ-swap, ≤ℚ_from, ≤ℚ_add2}
+use Rattle.exact_algebra.proofs.RationalSumLaws.{sum_ℚ-same, sum_ℚ-zero, sum_ℚ-add, sum_ℚ-scale, sum_ℚ-swap, ≤ℚ_from}
 use Rattle.exact_algebra.proofs.Signs.{negative_below}
 use Rattle.exact_matrices.proofs.MatrixLaws.{sum_ℚ-coordinate}
 use Rattle.exact_matrices.specs.Selections.{among}

@@ -1,20 +1,16 @@
 -- The dual values of the rows of a basis on a walk, and the end that is made of them.
 use Rattle.std.specs.Prelude.{◌≡◌, ℕ, ◌<◌, List, length, slice_index}
 use Rattle.std.proofs.Common.{sym, ap, ◌∙◌}
-use Rattle.rank_tableau.proofs.Handed.{value_there, along_ray}
+use Rattle.rank_tableau.proofs.Handed.{value_there}
 use Rattle.exact_algebra.specs.Fraction.{Fraction, rational}
-use Rattle.exact_algebra.specs.Rational.{ℚ, ◌+ℚ◌, ◌*ℚ◌, inverse}
+use Rattle.exact_algebra.specs.Rational.{ℚ}
 use Rattle.loss_model.specs.declared.vertex.Vertex.{Vertex}
-use Rattle.loss_model.specs.Sample.{Sample}
 use Rattle.loss_model.specs.Problem.{value_at}
-use Rattle.basis_model.specs.Basis.{IsBasis, dual_value}
+use Rattle.basis_model.specs.Basis.{IsBasis}
 use Rattle.walk_rule.specs.Families.{dual_in}
-use Rattle.walk_rule.proofs.Balanced.{dual_at}
 use Rattle.walk_rule.proofs.Tested.{values}
-use Rattle.rank_walk.specs.RankWalks.{Way, rise, fall, tested, ray}
 use Rattle.rank_walk.specs.Crossings.{parameter_of}
 use Rattle.rank_walk.specs.Ends.{AreValuesOf}
-use Rattle.rank_steps.specs.Ways.{along}
 use Rattle.rank_inversion.specs.declared.station.Station.{Station}
 use Rattle.rank_steps.specs.Ways.{way_of}
 use Rattle.rank_inversion.specs.Courses.{tau_of, family_of}

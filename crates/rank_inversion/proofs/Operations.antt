@@ -1,17 +1,9 @@
 -- An operation by its operands.
-use Rattle.std.specs.Prelude.{◌≡◌, ℕ}
-use Rattle.std.proofs.Common.{refl, sym, subst}
 use Rattle.gram_matrix.proofs.Rows.{operation}
-use Rattle.exact_algebra.specs.Fraction.{Fraction, rational}
-use Rattle.exact_algebra.specs.Rational.{ℚ}
-use Rattle.frac_core.specs.declared.exact.OpKind.{OpKind}
-use Rattle.frac_core.specs.Overflow.{Overflows}
-use Rattle.loss_model.specs.declared.spill.Site.{Site}
 use Rattle.loss_model.specs.declared.spill.Short.{Short}
 use Rattle.loss_model.specs.declared.spill.Short.TheVariants.{OutOfMemory, Overflow}
 use Rattle.loss_model.specs.declared.spill.Spill.{Spill}
 use Rattle.loss_model.specs.Quantities.{IsShortOf}
-use Rattle.loss_model.specs.Spill.{IsOperation}
 
 -- what follows from what a spill says follows from what a refusal says
 pub short_weaker : {F : Type 0} (P Q : Spill F → Type 0) → ((s : Spill F) → P s → Q s) → (e : Short F) → IsShortOf P e → IsShortOf Q e

@@ -1,11 +1,9 @@
 -- What stands at a basis on a walk, and what is found and handed out there.
-use Rattle.std.specs.Prelude.{◌≡◌, ◌≢◌, ◌⊎◌, ◌↔◌, ℕ, ◌+◌, ◌<◌, ◌≤◌, ◌++◌, Bool, true, false, List, [], ◌∷◌, length, slice_index, Contains, get_or, Some, None, pos}
+use Rattle.std.specs.Prelude.{◌≡◌, ◌≢◌, ◌⊎◌, ◌↔◌, ℕ, ◌<◌, ◌≤◌, Bool, true, false, List, [], ◌∷◌, length, slice_index, Contains, get_or, Some, None, pos}
 use Rattle.std.specs.List.Sorted.{IsStrictlyIncreasing}
 use Rattle.std.specs.Ordering.{is_gt}
 use Rattle.std.proofs.Common.{refl, sym, ap, ap₂, subst, ◌∙◌, inl, inr, arith}
-use Rattle.std.proofs.lemmas.Bool.{cases_lt}
 use Rattle.gram_matrix.proofs.Rows.{operation}
-use Rattle.basis_inverse.proofs.Lists.{value_more}
 use Rattle.exact_algebra.specs.Fraction.{Fraction, rational}
 use Rattle.exact_algebra.specs.Solver.{negated, ◌⊠◌, v0}
 use Rattle.exact_algebra.specs.Rational.{ℚ, ◌-ℚ◌, ◌*ℚ◌, inverse, whole, ◌≤ℚ◌}
@@ -38,7 +36,7 @@ use Rattle.fraction_tableau.specs.LeastRatio.{IsFirstMoverOrNone}
 use Rattle.fraction_tableau.specs.Lines.{IsOrderSpill}
 use Rattle.fraction_tableau.proofs.Crossed.{above_test}
 use Rattle.fraction_tableau.proofs.Inverses.{basis_of}
-use Rattle.fraction_tableau.proofs.Lists.{value_front, value_end, value_read}
+use Rattle.fraction_tableau.proofs.Lists.{value_read}
 use Rattle.fraction_tableau.proofs.NextSteps.{standing_by}
 use Rattle.fraction_tableau.proofs.Places.{kept_is_place}
 use Rattle.fraction_tableau.proofs.Vertices.{is_vertex}

@@ -3,9 +3,7 @@ use Rattle.std.specs.Prelude.{◌≡◌, ◌<◌, ◌≤◌, ◌++◌, ◌∷◌
 use Rattle.std.proofs.Common.{refl, sym, ap, subst, ◌∙◌}
 use Rattle.rank_tableau.proofs.Along.{nothing_at, when_is}
 use Rattle.exact_algebra.specs.Fraction.{Fraction, rational}
-use Rattle.exact_algebra.specs.Solver.{number, negated}
-use Rattle.exact_algebra.specs.Rational.{ℚ, neg_ℚ, whole}
-use Rattle.exact_algebra.proofs.RationalLaws.{ring_ℚ}
+use Rattle.exact_algebra.specs.Rational.{ℚ, whole}
 use Rattle.exact_matrices.specs.Exchange.{exchanged}
 use Rattle.loss_model.specs.declared.interval.End.{End}
 use Rattle.loss_model.specs.declared.problem.Problem.{Problem}
@@ -27,7 +25,6 @@ use Rattle.rank_walk.specs.Ends.{IsEndAt}
 use Rattle.rank_walk.specs.Intervals.{when_on}
 use Rattle.rank_walk.specs.Loops.{IsWalking}
 use Rattle.rank_walk.specs.RankWalks.{Way, rise, fall, tested}
-use Rattle.rank_walk.specs.Crossings.{parameter_of}
 use Rattle.rank_walk.proofs.Loops as loop
 use Rattle.rank_inversion.specs.declared.course.Course.{Course}
 use Rattle.rank_inversion.specs.declared.walking.Walk.{Walk}

@@ -1,19 +1,19 @@
 -- Which values hold.
-use Rattle.std.specs.Prelude.{◌≡◌, ◌⊎◌, ℕ, ◌<◌, [], ◌∷◌, pos}
+use Rattle.std.specs.Prelude.{◌≡◌, ◌⊎◌, ℕ, ◌<◌, [], pos}
 use Rattle.std.proofs.Common.{refl, sym, subst, ◌∙◌, inl, inr}
-use Rattle.exact_algebra.specs.Solver.{number, negated, ◌⊞◌, ◌⊟◌, ◌⊠◌, v0, v1, v2, v3, v4}
-use Rattle.exact_algebra.specs.Rational.{ℚ, ◌+ℚ◌, ◌-ℚ◌, ◌*ℚ◌, neg_ℚ, whole, ◌≤ℚ◌}
+use Rattle.exact_algebra.specs.Solver.{number, ◌⊠◌}
+use Rattle.exact_algebra.specs.Rational.{ℚ, ◌-ℚ◌, ◌*ℚ◌, whole, ◌≤ℚ◌}
 use Rattle.exact_algebra.proofs.RationalLaws.{ring_ℚ, ≤ℚ_trans, ≤ℚ_antisym}
 use Rattle.exact_algebra.specs.RationalSums.{sum_ℚ, positive_ℚ, negative_ℚ}
 use Rattle.exact_algebra.proofs.RationalSumLaws.{sum_ℚ-le, parts_ℚ}
 use Rattle.exact_algebra.proofs.OrderLaws.{≤ℚ-minus}
-use Rattle.exact_algebra.proofs.Signs.{sum_not_negative, product_not_negative}
+use Rattle.exact_algebra.proofs.Signs.{product_not_negative}
 use Rattle.loss_model.specs.Sample.{Sample, up_cost, down_cost, residual, row_loss, loss}
 use Rattle.loss_model.proofs.Duality.{sum_of_residuals, bounded}
 use Rattle.rank_law.specs.Restricted.{IsFeasibleWithout, restricted_objective, IsOptimalAt, rank_statistic, IsProjection, squared_length, rank_bound, Holds}
 use Rattle.rank_law.specs.Bounds.{IsAtLeast, IsAtMost, IsAbove, IsBelow, IsInside, IsBeyond, IsHighEnd, IsLowEnd, IsShownHigh, IsShownLow}
 use Rattle.rank_law.specs.Laws.{FitIsInside, BoundIsNotNegative, WalkBegins, RiseGoesOn, FallGoesOn, RiseIsEndless, FallIsEndless, ExactInterval, NothingBeyond, AllAreWithin, EndsAreInOrder}
-use Rattle.rank_law.proofs.Values.{either, not_less, not_negative_is, square_falls, square_grows, square_between}
+use Rattle.rank_law.proofs.Values.{either, not_less, square_falls, square_grows, square_between}
 use Rattle.rank_law.proofs.Optimal.{falls, optimal_between, rising_ray, falling_ray, objective_by_residuals}
 use Rattle.rank_law.proofs.Lengths.{one_length, squares_not_negative}
 use Rattle.loss_model.specs.declared.interval.Bound.{Bound}

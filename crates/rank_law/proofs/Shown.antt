@@ -1,11 +1,10 @@
 -- What the stated ends of an interval show.
-use Rattle.std.specs.Prelude.{◌≡◌, ℕ, ◌<◌, [], ◌∷◌, pos}
+use Rattle.std.specs.Prelude.{◌≡◌, ℕ, ◌<◌, [], pos}
 use Rattle.std.proofs.Common.{refl, sym, subst, inl, inr}
-use Rattle.exact_algebra.specs.Solver.{number, negated, v0}
+use Rattle.exact_algebra.specs.Solver.{number, negated}
 use Rattle.exact_algebra.specs.Rational.{ℚ, neg_ℚ, whole, ◌≤ℚ◌}
 use Rattle.exact_algebra.proofs.RationalLaws.{ring_ℚ}
 use Rattle.exact_algebra.proofs.OrderLaws.{≤ℚ_neg, le_from_not, same_le}
-use Rattle.exact_algebra.proofs.Signs.{neg-neg}
 use Rattle.loss_model.specs.declared.vertex.Side.{Side}
 use Rattle.loss_model.specs.declared.vertex.Side.TheVariants.{Up, Down, Basic}
 use Rattle.loss_model.specs.Sample.{Sample, up_cost, down_cost, fitted, residual}

@@ -1,7 +1,7 @@
 -- What words say of the job that they ask for, where it fits a table: its formula is short, its range lies in 0 to 1 and
 -- is that for ranks, and it asks for rank intervals with a critical value of at least 0 at quantiles strictly between 0
 -- and 1. A generated table is no larger than tables that are made.
-use Rattle.std.proofs.Common.{◌≡◌, ℕ, ◌<◌, ◌^◌, Bool, true, false, ◌||◌, All, List, [], ◌∷◌, Option, Some, None, length, map, option_map, refl}
+use Rattle.std.proofs.Common.{◌≡◌, ℕ, ◌<◌, ◌^◌, false, All, List, [], ◌∷◌, Option, Some, None, length, map, option_map, refl}
 use Rattle.std.specs.Prelude.{⊤}
 use Rattle.std.specs.List.{list_any}
 use Rattle.std.proofs.lemmas.List.Elements.{All-cons, All-nil}

@@ -1,5 +1,5 @@
 -- A certificate that was read is within the limits; why it has no verdict.
-use Rattle.std.proofs.Common.{◌≡◌, ◌*◌, ◌≤◌, ◌||◌, ℕ, Bool, true, false, List, Ok, Err, length, nat_lt, if◌then◌else◌, arith, refl, ap₂, subst}
+use Rattle.std.proofs.Common.{◌≡◌, ◌*◌, ◌≤◌, ℕ, Bool, true, false, List, Ok, Err, length, nat_lt, if◌then◌else◌, arith, refl, ap₂, subst}
 use Rattle.std.proofs.lemmas.Bool.{ltb-false, or_parts}
 use Rattle.std.proofs.lemmas.List.{length-map}
 use Rattle.serde_json.specs.Find.{as_object}

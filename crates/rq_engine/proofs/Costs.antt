@@ -1,5 +1,5 @@
 -- Data rows and penalty rows have costs at every quantile.
-use Rattle.std.proofs.Common.{◌≡◌, ◌⊎◌, ◌<◌, ◌≤◌, ℕ, zero, suc, [], ◌∷◌, length, pos, arith, inl, inr, refl, sym, ap, subst, ◌∙◌}
+use Rattle.std.proofs.Common.{◌≡◌, ◌<◌, ◌≤◌, ℕ, [], ◌∷◌, length, pos, inl, inr, refl, sym, ap, subst, ◌∙◌}
 use Rattle.std.proofs.lemmas.Bool.{cases_lt}
 use Rattle.exact_algebra.proofs.OrderLaws.{cmp_ℚ-Less, ≤ℚ-minus}
 use Rattle.exact_algebra.specs.Fraction.{rational}

@@ -1,7 +1,5 @@
 -- What a problem loses: by its rows one after the other, first the data rows and then the penalty rows.
-use Rattle.std.proofs.Common.{◌≡◌, ℕ, zero, suc, ◌+◌, ◌++◌, ◌<◌, Bool, true, false, cond, List, [], ◌∷◌, Some, All, length, map, get_or, replicate, zip, pos, arith, refl, sym, ap, ap₂, subst, ◌∙◌}
-use Rattle.std.specs.List.{slice_get}
-use Rattle.std.specs.Option.{option_map_or}
+use Rattle.std.proofs.Common.{◌≡◌, ℕ, zero, suc, ◌+◌, ◌++◌, Bool, true, false, cond, List, [], ◌∷◌, All, length, map, replicate, zip, pos, refl, sym, ap, ap₂, subst, ◌∙◌}
 use Rattle.std.proofs.lemmas.List.{length-map, length-replicate}
 use Rattle.std.proofs.lemmas.List.Elements.{All-head, All-tail}
 use Rattle.exact_algebra.specs.Rational.{ℚ, ◌+ℚ◌, ◌-ℚ◌, ◌*ℚ◌, ◌≤ℚ◌, neg_ℚ, le_ℚ, whole}
@@ -9,27 +7,22 @@ use Rattle.exact_algebra.specs.RationalSums.{sum_ℚ, positive_ℚ, negative_ℚ
 use Rattle.exact_algebra.specs.Solver.{number, negated, ◌⊞◌, ◌⊟◌, ◌⊠◌, v0, v1, v2, v3}
 use Rattle.exact_algebra.proofs.OrderLaws.{≤ℚ-minus}
 use Rattle.exact_algebra.proofs.RationalLaws.{ring_ℚ, +ℚ_assoc, zero-+ℚ, ≤ℚ_total}
-use Rattle.exact_algebra.proofs.RationalSumLaws.{sum_ℚ-same, sum_ℚ-first}
-use Rattle.exact_algebra.specs.Fraction.{rational}
+use Rattle.exact_algebra.proofs.RationalSumLaws.{sum_ℚ-first}
 use Rattle.frac_core.specs.declared.frac128.Frac128.{Frac128}
 use Rattle.frac_core.specs.Values.{exact, value}
 use Rattle.loss_model.specs.declared.problem.Row.{Row}
-use Rattle.loss_model.specs.declared.problem.Problem.{Problem}
-use Rattle.loss_model.specs.Problem.{of_row, sample, value_at}
+use Rattle.loss_model.specs.Problem.{sample, value_at}
 use Rattle.loss_model.specs.Sample.{loss, residual, row_loss}
 use Rattle.loss_model.specs.Spill.{abs_ℚ}
 use Rattle.loss_model.proofs.Duality.{cost_above, cost_below}
 use Rattle.loss_model.specs.Values.{exact_row}
-use Rattle.design_matrix.specs.declared.design.Design.{Design}
 use Rattle.design_matrix.specs.declared.design.DesignRow.{DesignRow}
 use Rattle.tv_penalty.specs.declared.PenaltyRow.{PenaltyRow}
-use Rattle.tv_penalty.specs.declared.Smoothing.{Smoothing}
-use Rattle.tv_penalty.specs.Smoothings.{exact_penalty, exact_smoothing}
+use Rattle.tv_penalty.specs.Smoothings.{exact_penalty}
 use Rattle.tv_penalty.specs.Variation.{along, penalty}
 use Rattle.tv_penalty.proofs.Variations.{along_append, along_same, along_zeros}
-use Rattle.rq_program.specs.Losses.{LossIsPenalised, check_loss, record_residual, records_loss, smooth_part}
-use Rattle.rq_program.specs.Programs.{AreTogether, columns_of, data_row, penalty_row, rows_of}
-use Rattle.rq_program.proofs.Rows.{wide_rows_of}
+use Rattle.rq_program.specs.Losses.{LossIsPenalised, check_loss, record_residual, records_loss}
+use Rattle.rq_program.specs.Programs.{data_row, penalty_row}
 
 -- ---- sums from the front
 

@@ -1,5 +1,5 @@
 -- An option that must stand has a value in the rows that `clap` finds: each use has one, and so has each default.
-use Rattle.std.proofs.Common.{◌≡◌, ℕ, zero, suc, Bool, true, false, not, ◌&&◌, ◌||◌, List, [], ◌∷◌, ◌++◌, Option, Some, None, refl, subst, length, if◌then◌else◌, is_some}
+use Rattle.std.proofs.Common.{◌≡◌, ℕ, zero, suc, Bool, true, false, not, ◌&&◌, List, [], ◌∷◌, ◌++◌, Option, Some, None, refl, subst, length, if◌then◌else◌, is_some}
 use Rattle.std.specs.Prelude.{find, fold, nat_lt, slice_get, drop, encode_utf8, option_and_then}
 use Rattle.std.specs.List.{list_all, list_any}
 use Rattle.std.specs.Option.{option_map_or}

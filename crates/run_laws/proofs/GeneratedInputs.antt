@@ -1,13 +1,10 @@
 -- The bytes of a generated table have no fault by the formula that is fitted to them.
-use Rattle.std.proofs.Common.{◌≡◌, ◌≢◌, ℕ, suc, ◌+◌, ◌≤◌, Bool, true, false, get_or, List, [], ◌∷◌, Option, None, Result, Ok, map, length, codes, arith, inl, inr, refl, sym, ap, subst, ◌∙◌}
+use Rattle.std.proofs.Common.{◌≡◌, ◌≢◌, ℕ, ◌≤◌, Bool, true, false, get_or, List, [], Option, None, map, length, codes, arith, inl, inr, refl, sym, ap, subst, ◌∙◌}
 use Rattle.std.specs.List.{AllByRecursion, range_with_len}
 use Rattle.std.proofs.lemmas.List.{length-map}
-use Rattle.exact_algebra.specs.Rational.{ℚ}
 use Rattle.frac_core.specs.Limits.{most_columns, most_rows}
-use Rattle.data_frame.specs.Tables.{TableOf}
 use Rattle.data_frame.specs.Tables.{table_of as table_of_bytes}
 use Rattle.data_frame.specs.Views.{exact_column, exact_table}
-use Rattle.data_frame.specs.declared.fault.TableFault.{TableFault}
 use Rattle.table_maker.specs.Tables.{table_of}
 use Rattle.formula_grammar.specs.Faults.{NoFormulaHasFaults}
 use Rattle.formula_grammar.specs.Grammar.{OneFormula}
@@ -19,7 +16,6 @@ use Rattle.contrasts.specs.declared.Coding.{Coding}
 use Rattle.design_matrix.specs.Cells.{Column, Table, kept}
 use Rattle.design_matrix.specs.Designs.{design_of, exact_row}
 use Rattle.design_matrix.specs.Faults.{HasCause as HasDesignCause, IsDesign}
-use Rattle.design_matrix.specs.Lists.{each}
 use Rattle.design_matrix.specs.Parts.{column_name, columns_of}
 use Rattle.design_matrix.specs.declared.design.Design.{Design}
 use Rattle.design_matrix.specs.declared.design.DesignRow.{DesignRow}

@@ -1,11 +1,9 @@
 -- Tests that are all true, item by item.
-use Rattle.std.proofs.Common.{◌≡◌, ℕ, zero, suc, ◌+◌, ◌<◌, List, [], All, length, get_or, slice_get, Option, Some, None, arith, refl, sym, subst, ◌∙◌}
+use Rattle.std.proofs.Common.{◌≡◌, ℕ, ◌+◌, List, [], All, length, get_or, slice_get, Option, Some, None, refl, sym, subst, ◌∙◌}
 use Rattle.std.specs.Option.{option_map_or}
 use Rattle.std.proofs.lemmas.Option.{slice_get_within, slice_get-get_or}
-use Rattle.cert_checker.specs.Tests.{Part, Test, ArePartsTrue, AreTrue, upto}
+use Rattle.cert_checker.specs.Tests.{Test, AreTrue}
 use Rattle.cert_checker.specs.Conditions.{each}
-use Rattle.cert_checker.proofs.Decided.{joined, parts_joined}
-use Rattle.cert_checker.proofs.Held.{parts_upto}
 use Rattle.cert_checker.proofs.Wholes.{true_upto}
 
 -- what holds of all items holds of the one at a place

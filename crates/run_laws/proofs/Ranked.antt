@@ -1,11 +1,10 @@
 -- A rank interval that meets its conditions makes the conditions on the intervals of a certificate true.
-use Rattle.std.proofs.Common.{◌≡◌, ◌≢◌, ℕ, ◌<◌, Bool, true, false, cond, eqb, List, [], ◌∷◌, ◌++◌, length, slice_get, Option, Some, pos, negsuc, if◌then◌else◌, inl, inr, arith, refl, sym, ap, subst, ◌∙◌}
+use Rattle.std.proofs.Common.{◌≡◌, ℕ, ◌<◌, Bool, true, false, cond, eqb, List, [], ◌∷◌, ◌++◌, length, slice_get, Option, Some, pos, negsuc, inl, inr, arith, refl, sym, ap, subst, ◌∙◌}
 use Rattle.std.specs.Option.{option_map_or}
 use Rattle.std.specs.declared.cmp.Ordering.{Ordering}
 use Rattle.std.specs.declared.cmp.Ordering.TheVariants.{Less, Equal as Same, Greater}
 use Rattle.std.proofs.lemmas.Int.{ints}
-use Rattle.std.proofs.lemmas.Bool.{eq-eqb, eqb-true}
-use Rattle.std.proofs.lemmas.Option.{slice_get_cases}
+use Rattle.std.proofs.lemmas.Bool.{eqb-true}
 use Rattle.exact_algebra.specs.Fraction.{rational}
 use Rattle.exact_algebra.specs.Order.{cmp_ℚ}
 use Rattle.exact_algebra.specs.Rational.{ℚ, ◌-ℚ◌, ◌*ℚ◌, neg_ℚ, whole, ◌≤ℚ◌}
@@ -36,20 +35,20 @@ use Rattle.rank_law.specs.Restricted.{IsFeasibleWithout, column_sum, projected, 
 use Rattle.rank_law.specs.Shown.{IsRowAlong, IsStatedRay}
 use Rattle.rank_law.specs.Certified.{AreInOrder, MeetsConditions, MeetsHighBound, MeetsInside, MeetsLowBound, MeetsOutside, bound_of, length_of}
 use Rattle.cert_checker.specs.Formulas as formula
-use Rattle.cert_checker.specs.Formulas.{Formula, given, worth}
-use Rattle.cert_checker.specs.Tests.{Holds, Part, ArePartsTrue, AreTrue, part}
+use Rattle.cert_checker.specs.Formulas.{given, worth}
+use Rattle.cert_checker.specs.Tests.{Holds, ArePartsTrue, AreTrue, part}
 use Rattle.cert_checker.specs.declared.relation.Relation.TheVariants.{Equal}
 use Rattle.cert_checker.specs.declared.way.Way.{Way}
 use Rattle.cert_checker.specs.declared.way.Way.TheVariants.{Low, High}
 use Rattle.cert_checker.specs.Conditions.{End, side_in, dual_at_row, balance, bound_parts, residual_formula}
 use Rattle.cert_checker.specs.Intervals.{along_formula, balance_parts, basic_parts, beyond_tests, data_parts, end_form, end_tests, finite_tests, infinite_tests, inside_tests}
-use Rattle.cert_checker.specs.Intervals.{interval_form, interval_tests, order_tests, orthogonal_formula, others, projected_formula, question_of, Question, rank_bound_formula, ray_parts}
+use Rattle.cert_checker.specs.Intervals.{interval_form, interval_tests, order_tests, orthogonal_formula, projected_formula, question_of, Question, rank_bound_formula, ray_parts}
 use Rattle.cert_checker.specs.Intervals.{ray_parts_by, side_parts, sign_of, square_formula, unit_of, values_of, weighted, whole_tests, within_parts}
 use Rattle.run_laws.specs.Sound.{IsSoundEnding, IsSoundInterval}
 use Rattle.cert_checker.proofs.Decided.{joined, parts_joined}
 use Rattle.cert_checker.proofs.Shown.{row_dual}
 use Rattle.cert_checker.proofs.Worths.{worth-sum, worth-less_others, worth-residual}
-use Rattle.cert_checker.proofs.Held.{parts_upto, unless_own, but_one}
+use Rattle.cert_checker.proofs.Held.{parts_upto, but_one}
 
 -- ---- the other columns
 

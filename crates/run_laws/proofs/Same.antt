@@ -1,8 +1,7 @@
 -- What is seen alike is the same: fractions of 128 bits by their values, and what is made of them.
-use Rattle.std.proofs.Common.{◌≡◌, ◌^◌, ◌-◌, List, [], ◌∷◌, Option, Some, None, map, option_map, refl, ap, ap₂}
-use Rattle.cert_text.proofs.Same.{same_lists}
+use Rattle.std.proofs.Common.{◌≡◌, ◌-◌, Option, Some, None, option_map, refl, ap}
+use Rattle.exact_algebra.proofs.Lists.{same_lists}
 use Rattle.frac_core.specs.declared.frac128.Frac128.{Frac128}
-use Rattle.frac_core.specs.Lowest.{same_fraction, IsWithin-along}
 use Rattle.frac_core.specs.Values.{exact}
 use Rattle.frac_core.proofs.Values.{same_number}
 use Rattle.data_frame.specs.Views.{exact_column, exact_table}

@@ -1,11 +1,9 @@
 -- The solving step at a basis of a scaled problem is the one at the basis of the problem.
 use Rattle.std.specs.Prelude.{◌≡◌, ℕ, zero, suc, ◌<◌, Bool, true, false, ◌&&◌, if◌then◌else◌, [], ◌∷◌, pos}
-use Rattle.std.specs.Ordering.{ordering_then, is_lt}
-use Rattle.std.specs.declared.cmp.Ordering.{Ordering}
-use Rattle.std.specs.declared.cmp.Ordering.TheVariants.{Less, Equal, Greater}
+use Rattle.std.specs.Ordering.{is_lt}
 use Rattle.std.proofs.Common.{refl, sym, ap, ap₂, subst, ◌∙◌, arith}
-use Rattle.exact_algebra.specs.Solver.{number, negated, ◌⊞◌, ◌⊟◌, ◌⊠◌, v0, v1, v2, v3, v4, v5, v6}
-use Rattle.exact_algebra.specs.Rational.{ℚ, ◌+ℚ◌, ◌-ℚ◌, ◌*ℚ◌, neg_ℚ, whole, inverse, ◌≤ℚ◌}
+use Rattle.exact_algebra.specs.Solver.{number, negated, ◌⊞◌, ◌⊠◌, v0, v1, v2, v3, v4, v5, v6}
+use Rattle.exact_algebra.specs.Rational.{ℚ, ◌+ℚ◌, ◌*ℚ◌, neg_ℚ, whole, inverse, ◌≤ℚ◌}
 use Rattle.exact_algebra.proofs.RationalLaws.{≤ℚ_mul, ring_ℚ}
 use Rattle.exact_algebra.specs.RationalSums.{sum_ℚ}
 use Rattle.exact_algebra.proofs.RationalSumLaws.{sum_ℚ-same, sum_ℚ-scale}
@@ -13,16 +11,15 @@ use Rattle.exact_algebra.specs.Order.{cmp_ℚ}
 use Rattle.exact_algebra.proofs.OrderLaws.{cmp_ℚ-Less, cmp_ℚ-Equal, cmp_ℚ-Greater, by_cmp, ≤ℚ-from_mul, le_from_not}
 use Rattle.loss_model.specs.declared.vertex.Side.{Side}
 use Rattle.loss_model.specs.declared.vertex.Side.TheVariants.{Up, Down, Basic}
-use Rattle.loss_model.specs.Sample.{Sample, residual, up_cost, down_cost}
+use Rattle.loss_model.specs.Sample.{Sample, residual}
 use Rattle.loss_model.specs.Spill.{abs_ℚ}
 use Rattle.walk_rule.specs.Lexicographic.{lex_cmp}
-use Rattle.walk_rule.specs.Perturbed.{Nonbasic, held_coordinate, perturbed, perturbed_side, turned, ratio_on, ratio}
+use Rattle.walk_rule.specs.Perturbed.{Nonbasic, perturbed, perturbed_side, turned, ratio_on, ratio}
 use Rattle.walk_rule.proofs.Signs.{perturbed_side-same, perturbed-same}
-use Rattle.walk_rule.specs.Basis.{coord, coefficient, outside_row, side_at}
+use Rattle.walk_rule.specs.Basis.{coord, coefficient, outside_row}
 use Rattle.walk_rule.specs.Direction.{Direction}
 use Rattle.walk_rule.specs.Direction.TheVariants.{Upward, Downward}
-use Rattle.walk_rule.specs.Duals.{◌<ℚ◌}
-use Rattle.walk_rule.specs.Steps.{slope, HasNoNegativeSlope, is_towards, change, moves, is_before, passing, slope_before, IsLeaving, IsEntering, IsSolvingStep}
+use Rattle.walk_rule.specs.Steps.{slope, HasNoNegativeSlope, is_towards, change, moves, is_before, passing, slope_before, IsSolvingStep}
 use Rattle.walk_rule.specs.Walks.{IsFirstMover}
 use Rattle.walk_rule.proofs.Lists.{lex_cmp-by}
 use Rattle.scaled_model.specs.Scaled.{IsScaled, unscaled}

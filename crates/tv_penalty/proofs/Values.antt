@@ -1,15 +1,13 @@
 -- Fractions of the program: equal values are one, and their order is total.
-use Rattle.std.proofs.Common.{◌≡◌, ◌^◌, ◌-◌, Bool, true, false, ◌&&◌, is_eq, eqb, int_eq, Less, refl, sym, ap, subst, ◌∙◌}
+use Rattle.std.proofs.Common.{◌≡◌, ◌^◌, ◌-◌, Bool, true, ◌&&◌, is_eq, eqb, int_eq, refl, sym, ap, subst, ◌∙◌}
 use Rattle.std.specs.Cmp.{IsTotalOrder, IsEquivalence, both_ways, Equal-is, on_total, tied_itself}
 use Rattle.std.specs.Ordering.{eq_by_cmp}
 use Rattle.std.proofs.lemmas.Bool.{eqb-true, and_parts, and_from}
 use Rattle.std.proofs.lemmas.Bool.Decides.{Decides-eqb, Decides-int_eq}
-use Rattle.exact_algebra.specs.Rational.{ℚ}
-use Rattle.exact_algebra.proofs.RationalLaws.{≤ℚ_trans}
 use Rattle.exact_algebra.specs.Order.{cmp_ℚ}
-use Rattle.exact_algebra.proofs.OrderLaws.{cmp_ℚ-Less, cmp_ℚ-Equal, cmp_ℚ_swap, le_from_not}
+use Rattle.exact_algebra.proofs.OrderLaws.{cmp_ℚ-Equal, cmp_ℚ_swap}
 use Rattle.exact_algebra.proofs.Signs.{below_trans}
-use Rattle.frac_core.specs.Lowest.{same_fraction, IsWithin-along}
+use Rattle.frac_core.specs.Lowest.{IsWithin-along}
 use Rattle.frac_core.specs.declared.frac128.Frac128.{Frac128}
 use Rattle.frac_core.specs.Values.{exact, value}
 use Rattle.frac_core.proofs.Values.{same_number}

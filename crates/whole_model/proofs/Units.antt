@@ -1,5 +1,5 @@
 -- Fractions in units of 1/u, where these are whole numbers: their order, and when they are equal.
-use Rattle.std.specs.Prelude.{◌≡◌, ◌≢◌, ◌↔◌, ℕ, ◌≤◌, [], ◌∷◌, ℤ, pos, ◌≤ℤ◌}
+use Rattle.std.specs.Prelude.{◌≡◌, ◌↔◌, ℕ, ◌≤◌, [], ◌∷◌, ℤ, pos, ◌≤ℤ◌}
 use Rattle.std.proofs.Common.{arith, refl, sym, ap, subst, ◌∙◌}
 use Rattle.std.proofs.lemmas.Int.{ints}
 use Rattle.exact_algebra.specs.Solver.{number, ◌⊠◌, v0}
@@ -7,7 +7,7 @@ use Rattle.exact_algebra.specs.Rational.{ℚ, ◌*ℚ◌, whole, ◌≤ℚ◌}
 use Rattle.exact_algebra.proofs.RationalLaws.{ring_ℚ, ≤ℚ_mul}
 use Rattle.exact_algebra.proofs.WholeNumbers.{whole-le, le_from_whole, same_from_whole}
 use Rattle.exact_algebra.proofs.Inverses.{*ℚ_cancel}
-use Rattle.exact_algebra.proofs.OrderLaws.{≤ℚ-from_mul, le_from_not, same_le}
+use Rattle.exact_algebra.proofs.OrderLaws.{≤ℚ-from_mul, le_from_not}
 use Rattle.exact_algebra.proofs.Signs.{positive_nonzero}
 use Rattle.loss_model.specs.Strict.{◌<ℚ◌}
 

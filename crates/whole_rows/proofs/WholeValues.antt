@@ -1,14 +1,12 @@
 -- A value times a factor, from the quotient that was multiplied back.
-use Rattle.std.specs.Prelude.{◌≡◌, ◌≢◌, ℕ, ℤ, ◌<◌, ◌≤◌, ◌≤ℤ◌, ◌*ℤ◌, List, [], ◌∷◌, ◌++◌, length, Option, pos}
-use Rattle.std.specs.Option.{option_map_or}
-use Rattle.std.proofs.Common.{refl, sym, ap, ap₂, subst, ◌∙◌, get_or, arith}
+use Rattle.std.specs.Prelude.{◌≡◌, ℕ, ℤ, ◌≤◌, ◌≤ℤ◌, ◌*ℤ◌, [], ◌∷◌, pos}
+use Rattle.std.proofs.Common.{refl, sym, ap, subst, ◌∙◌, arith}
 use Rattle.std.proofs.lemmas.Int.{ints}
-use Rattle.std.proofs.lemmas.Option.{slice_get_read, slice_get-get_or}
 use Rattle.exact_algebra.specs.Solver.{number, negated, ◌⊠◌, v0, v1, v2, v3, v4}
 use Rattle.exact_algebra.specs.Rational.{ℚ, ◌*ℚ◌, whole, inverse, quotient, ◌≤ℚ◌}
-use Rattle.exact_algebra.proofs.RationalLaws.{whole-mul, *ℚ-inverse, ring_ℚ, ring_by_ℚ, ≤ℚ_mul, ≤ℚ_refl}
-use Rattle.exact_algebra.proofs.WholeNumbers.{same_from_whole, le_from_whole, whole-le}
-use Rattle.exact_algebra.proofs.Signs.{positive_nonzero, whole_nonzero}
+use Rattle.exact_algebra.proofs.RationalLaws.{whole-mul, *ℚ-inverse, ring_ℚ, ring_by_ℚ, ≤ℚ_mul}
+use Rattle.exact_algebra.proofs.WholeNumbers.{le_from_whole, whole-le}
+use Rattle.exact_algebra.proofs.Signs.{whole_nonzero}
 use Rattle.whole_inverse.specs.Shares.{share}
 
 steps : (q n o d u i j : ℚ) → d *ℚ i ≡ whole (pos 1) → u *ℚ j ≡ whole (pos 1) → q *ℚ (d *ℚ u) ≡ n *ℚ o → q ≡ (o *ℚ j) *ℚ (n *ℚ i)

@@ -6,7 +6,6 @@ use Rattle.std.proofs.lemmas.Option.{slice_get_read}
 use Rattle.exact_algebra.specs.Rational.{ℚ, ◌*ℚ◌, neg_ℚ, whole}
 use Rattle.exact_algebra.specs.RationalSums.{sum_ℚ}
 use Rattle.exact_algebra.proofs.RationalSumLaws.{sum_ℚ-same}
-use Rattle.exact_algebra.proofs.Lists.{length_pushed}
 use Rattle.whole_inverse.specs.Shares.{share, share_at, whole_at}
 use Rattle.whole_rows.specs.declared.rows.WholeRow.{WholeRow}
 use Rattle.whole_rows.specs.Wholes.{of_whole, sample_of_rows}

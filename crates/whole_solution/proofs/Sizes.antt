@@ -2,7 +2,6 @@
 use Rattle.std.specs.Prelude.{◌≡◌, ◌⊎◌, ℤ, neg_ℤ, unsigned_abs, [], ◌∷◌, pos, negsuc}
 use Rattle.std.proofs.Common.{arith, refl, sym, ap, subst, ◌∙◌, inl, inr}
 use Rattle.std.proofs.lemmas.Int.{ints}
-use Rattle.basis_model.proofs.Ratios.{abs_not_negative}
 use Rattle.exact_algebra.specs.Solver.{number, negated, ◌⊞◌, ◌⊟◌, ◌⊠◌, v0, v1}
 use Rattle.exact_algebra.specs.Rational.{ℚ, ◌+ℚ◌, ◌*ℚ◌, neg_ℚ, whole, ◌≤ℚ◌}
 use Rattle.exact_algebra.proofs.RationalLaws.{ring_ℚ, ≤ℚ_refl, ≤ℚ_trans, ≤ℚ_mul}

@@ -9,15 +9,12 @@ use Rattle.exact_algebra.specs.Rational.{ℚ, ◌*ℚ◌, inverse, whole}
 use Rattle.exact_algebra.proofs.RationalLaws.{ring_ℚ}
 use Rattle.loss_model.specs.declared.vertex.Side.{Side}
 use Rattle.loss_model.specs.declared.vertex.Side.TheVariants.{Up, Down, Basic}
-use Rattle.loss_model.specs.Sample.{Sample}
 use Rattle.loss_model.specs.Spill.{abs_ℚ}
 use Rattle.basis_model.specs.Perturbed.{turned, side_of, perturbed_side}
 use Rattle.basis_model.proofs.Signs.{side-residual}
 use Rattle.basis_model.specs.Basis.{coord, outside_row, side_at}
 use Rattle.exact_algebra.specs.Order.{cmp_ℚ}
-use Rattle.pivot_rule.specs.declared.direction.Direction.{Direction}
-use Rattle.pivot_rule.specs.declared.direction.Direction.TheVariants.{Upward, Downward}
-use Rattle.pivot_rule.specs.Steps.{is_towards, change}
+use Rattle.pivot_rule.specs.Steps.{is_towards}
 use Rattle.pivot_rule.proofs.Passing.{mover_some, mover_outside}
 use Rattle.pivot_rule.proofs.Sides.{side_outside}
 use Rattle.whole_inverse.specs.Shares.{share}

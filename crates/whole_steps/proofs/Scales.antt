@@ -1,5 +1,5 @@
 -- Numbers over a scale.
-use Rattle.std.specs.Prelude.{◌≡◌, ◌≢◌, ℕ, ℤ, ◌≤◌, ◌+ℤ◌, ◌*ℤ◌, ◌≤ℤ◌, ◌<ℤ◌, unsigned_abs, [], ◌∷◌, pos}
+use Rattle.std.specs.Prelude.{◌≡◌, ℕ, ℤ, ◌≤◌, ◌+ℤ◌, ◌*ℤ◌, ◌≤ℤ◌, ◌<ℤ◌, unsigned_abs, [], ◌∷◌, pos}
 use Rattle.std.proofs.Common.{arith, refl, sym, ap, ap₂, subst, ◌∙◌}
 use Rattle.std.proofs.lemmas.Int.{ints}
 use Rattle.exact_algebra.specs.Integers.{mul_positive}
@@ -8,7 +8,7 @@ use Rattle.exact_algebra.specs.Rational.{◌+ℚ◌, ◌*ℚ◌, inverse, whole,
 use Rattle.exact_algebra.proofs.RationalLaws.{whole-add, whole-mul, *ℚ-inverse, ring_ℚ, ring_by_ℚ, ≤ℚ_mul}
 use Rattle.exact_algebra.proofs.OrderLaws.{≤ℚ-from_mul}
 use Rattle.exact_algebra.proofs.Inverses.{inverse-mul}
-use Rattle.exact_algebra.proofs.WholeNumbers.{same_from_whole, le_from_whole, whole-le}
+use Rattle.exact_algebra.proofs.WholeNumbers.{le_from_whole, whole-le}
 use Rattle.exact_algebra.proofs.Signs.{whole_nonzero}
 use Rattle.pivot_rule.specs.Duals.{◌<ℚ◌}
 use Rattle.whole_inverse.specs.Shares.{share}

@@ -25,7 +25,7 @@ use Rattle.whole_rows.specs.Wholes.{of_whole}
 use Rattle.whole_solution.proofs.Reading.{row_read}
 use Rattle.exact_matrices.specs.Matrices.{coordinate}
 use Rattle.exact_algebra.proofs.RationalSumLaws.{sum_ℚ-same}
-use Rattle.exact_algebra.proofs.Comparisons.{is_equal, not_equal, differs}
+use Rattle.exact_algebra.proofs.Comparisons.{not_equal, differs}
 use Rattle.whole_inverse.proofs.Turned.{share-quotient}
 use Rattle.whole_solution.proofs.Numbers.{share-neg}
 use Rattle.whole_steps.specs.declared.line.Line.{Line}
