@@ -1,5 +1,7 @@
 //! The laws of losses and dual values. No function here does anything: its contract is the law.
 
+ghost use Rattle.loss_model.specs.FullRank.{DependenceRefutes};
+ghost use Rattle.loss_model.specs.Greedy.{StartIsUnique};
 ghost use Rattle.loss_model.specs.Laws.{WeakDuality, DualsShowMinimum, DualsAreGreatest, ComplementsShowDuals, ResidualsMove, SidesShowDuals, VertexIsDual, MixIsDual, IntervalIsMixes, MinimisesBetween, CoversEveryValue, RankscoresAreBounded, AboveScoresOne, BelowScoresZero, SidesAreScores};
 
 use crate::problem::Problem;
@@ -50,4 +52,14 @@ pub fn rankscores_outside<F: Exact>(problem: &Problem<F>, vertex: &Vertex<F>)
     ensures above { AboveScoresOne }
     ensures below { BelowScoresZero }
     ensures vertex { SidesAreScores F.value problem.now vertex.now }
+{}
+
+/// Columns of which a combination, not all of its factors 0, is 0 in every row haven't full rank.
+pub fn dependence_refutes_full_rank()
+    ensures { DependenceRefutes }
+{}
+
+/// After each number of rows there is one greedy start at most.
+pub fn one_greedy_start()
+    ensures { StartIsUnique }
 {}

@@ -13,8 +13,6 @@
 //! ```
 #![tactic(auto)]
 
-pub mod full_rank;
-pub mod greedy;
 mod interval;
 pub mod laws;
 mod loss;

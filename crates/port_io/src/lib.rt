@@ -14,9 +14,9 @@
 //! ```text
 //! match read_all(alloc, source) {
 //!     Ok(bytes) => Ok(bytes),
-//!     Err(ReadFault::Failed) => Err(Trouble::Source),
-//!     Err(ReadFault::TooLong) => Err(Trouble::Halt(Halt::Refused(Refusal::TooLong))),
-//!     Err(ReadFault::OutOfMemory) => Err(Trouble::Halt(Halt::OutOfMemory)),
+//!     Err(ReadFault::Failed) => Err(Fault::Source),
+//!     Err(ReadFault::TooLong) => Err(Fault::Halt(Halt::Refused(Refusal::TooLong))),
+//!     Err(ReadFault::OutOfMemory) => Err(Fault::Halt(Halt::OutOfMemory)),
 //! }
 //!
 //! match write_all(out, text) {

@@ -19,7 +19,6 @@
 
 mod crossings;
 mod entering;
-mod entries;
 mod levels;
 mod way;
 

@@ -225,7 +225,7 @@ halt_line (Rejected rejection) = rejection_line rejection
 
 -- the line of each fault
 abbrev pub fault_line : Fault → List ℕ
-fault_line (faults.Usage fault) = usage_line fault.now
+fault_line (faults.Usage fault) = usage_line fault
 fault_line faults.Source = source_line
 fault_line faults.Sink = sink_line
-fault_line (faults.Halt halt) = halt_line halt.now
+fault_line (faults.Halt halt) = halt_line halt

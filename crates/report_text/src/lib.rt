@@ -16,7 +16,10 @@
 //!     Err(_) => Err(Halt::OutOfMemory),
 //! }
 //!
-//! Trouble::Halt(halt) => fault_line(alloc, &Fault::Halt(halt)),
+//! match fault_line(alloc, &fault) {
+//!     Ok(line) => write_line(err, &line, Outcome::of(fault)),
+//!     Err(_) => ..
+//! }
 //! ```
 #![tactic(auto)]
 

@@ -174,11 +174,15 @@ pub enum Halt {
     Rejected(Rejection),
 }
 
-/// What is told on standard error.
-#[derive(Clone, Copy)]
-pub enum Fault<'a> {
-    Usage(&'a WordFault),
+/// Why a run has no report, or none that was printed: what is told on standard error.
+#[derive(Drop)]
+pub enum Fault {
+    /// The words are no job's.
+    Usage(WordFault),
+    /// The source failed.
     Source,
+    /// A sink failed.
     Sink,
-    Halt(&'a Halt),
+    /// No memory was found, the input has no report, or a certificate is rejected.
+    Halt(Halt),
 }

@@ -7,6 +7,7 @@ use Rattle.port_io.specs.Counts.{CountsFaults}
 use Rattle.port_io.specs.Told.{AppendsPart}
 use Rattle.rq_engine.specs.Answers as engine
 use Rattle.rq_engine.specs.Jobs.{IsJobOf}
+use Rattle.report_text.specs.FaultText.{fault_line}
 use Rattle.report_text.specs.ReportText.{report_text}
 use Rattle.report_text.specs.declared.report.Report.{Report}
 use Rattle.report_text.specs.declared.report.Refusal.TheVariants.{TooLong, Table, Formula, RankWithPenalty, Design, Penalty, Program, Dependent}
@@ -15,8 +16,9 @@ use Rattle.report_text.specs.declared.report.Halt.{Halt}
 use Rattle.report_text.specs.declared.report.Halt.TheVariants as halts
 use Rattle.rq_cli.specs.Outcomes.{Stream, OnDone, OnFault, outcome_line, AskSource, Reads, WereRead, HasCause, IsAnswered, IsErrorFault, IsFault, WasTried, IsRun}
 use Rattle.rq_cli.specs.Steps.{outcome_of, WasTold, WasPrinted}
+use Rattle.report_text.specs.declared.report.Fault.{Fault}
+use Rattle.report_text.specs.declared.report.Fault.TheVariants as faults
 use Rattle.rq_cli.specs.declared.outcome.Outcome.{Outcome}
-use Rattle.rq_cli.specs.declared.trouble.Trouble.TheVariants as troubles
 use Rattle.rq_cli.specs.declared.outcome.Outcome.TheVariants.{Done, Refused, Usage, SourceFault, SinkFault, OutOfMemory, PivotLimit, Overflow, Rejected}
 
 -- a write whose answer isn't looked at
@@ -24,6 +26,14 @@ pub tried : {T E : Type 0} (r : Result T E) (before now : Stream) (line : List �
     → WasTried before now line
 tried (Ok x) before now line ok err counted = inl ok
 tried (Err e) before now line ok err counted = inr (counted.rose, err)
+
+-- the line of a fault is that of the outcome
+pub told_line : (fault : Fault) → fault_line fault ≡ outcome_line (outcome_of fault)
+told_line (faults.Usage fault) = refl
+told_line faults.Source = refl
+told_line faults.Sink = refl
+told_line (faults.Halt (halts.Refused refusal)) = refl
+told_line (faults.Halt other) = refl
 
 -- the engine never finds an input too long
 never_long : (job : Job) (bytes : List ℕ) → engine.HasCause job bytes (halts.Refused TooLong) → ⊥
@@ -53,7 +63,7 @@ left_alone words job asked none reads = none (record { job = job; asked = asked;
 
 -- the cause of a halt is that of its outcome
 pub halt_cause : (words : List (List ℕ)) (source source' : Stream) (job : Job) (bytes : List ℕ) → WereRead words source source' job bytes → (halt : Halt) → engine.HasCause job bytes halt
-    → IsFault words source source' (outcome_of (troubles.Halt halt))
+    → IsFault words source source' (outcome_of (faults.Halt halt))
 halt_cause words source source' job bytes read (halts.Refused TooLong) cause = absurd (never_long job bytes cause)
 halt_cause words source source' job bytes read (halts.Refused (Table fault)) cause = record { job = job; bytes = bytes; read = read; cause = cause }
 halt_cause words source source' job bytes read (halts.Refused (Formula fault)) cause = record { job = job; bytes = bytes; read = read; cause = cause }

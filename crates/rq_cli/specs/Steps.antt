@@ -8,32 +8,32 @@ use Rattle.rq_engine.specs.Jobs.{IsJobOf}
 use Rattle.report_text.specs.FaultText.{sink_line}
 use Rattle.report_text.specs.ReportText.{report_text}
 use Rattle.report_text.specs.declared.report.Report.{Report}
+use Rattle.report_text.specs.declared.report.Fault.{Fault}
+use Rattle.report_text.specs.declared.report.Fault.TheVariants as faults
 use Rattle.report_text.specs.declared.report.Halt.TheVariants as halts
 use Rattle.rq_cli.specs.Outcomes.{Stream, outcome_line, IsFault, WasTried}
 use Rattle.rq_cli.specs.declared.outcome.Outcome.{Outcome}
 use Rattle.rq_cli.specs.declared.outcome.Outcome.TheVariants as outcomes
 use Rattle.rq_cli.specs.declared.outcome.Outcome.TheVariants.{Done, SinkFault}
-use Rattle.rq_cli.specs.declared.trouble.Trouble.{Trouble}
-use Rattle.rq_cli.specs.declared.trouble.Trouble.TheVariants as troubles
-use Rattle.rq_cli.specs.declared.trouble.Trouble.TheVariants.{Words, Source}
 
--- the outcome of a run that ends with this trouble
-abbrev pub outcome_of : Trouble → Outcome
-outcome_of (Words fault) = outcomes.Usage fault
-outcome_of Source = outcomes.SourceFault
-outcome_of (troubles.Halt (halts.Refused refusal)) = outcomes.Refused refusal
-outcome_of (troubles.Halt halts.OutOfMemory) = outcomes.OutOfMemory
-outcome_of (troubles.Halt (halts.PivotLimit place limit trail)) = outcomes.PivotLimit place limit trail
-outcome_of (troubles.Halt (halts.Overflow place trail spill)) = outcomes.Overflow place trail spill
-outcome_of (troubles.Halt (halts.Rejected rejection)) = outcomes.Rejected rejection
+-- the outcome of a run that ends with this fault
+abbrev pub outcome_of : Fault → Outcome
+outcome_of (faults.Usage fault) = outcomes.Usage fault
+outcome_of faults.Source = outcomes.SourceFault
+outcome_of faults.Sink = outcomes.SinkFault
+outcome_of (faults.Halt (halts.Refused refusal)) = outcomes.Refused refusal
+outcome_of (faults.Halt halts.OutOfMemory) = outcomes.OutOfMemory
+outcome_of (faults.Halt (halts.PivotLimit place limit trail)) = outcomes.PivotLimit place limit trail
+outcome_of (faults.Halt (halts.Overflow place trail spill)) = outcomes.Overflow place trail spill
+outcome_of (faults.Halt (halts.Rejected rejection)) = outcomes.Rejected rejection
 
--- the words have this trouble, whatever the source holds
-abbrev pub IsWordTrouble : List (List ℕ) → Trouble → Type 0
-IsWordTrouble words trouble = (before now : Stream) → IsFault words before now (outcome_of trouble)
+-- the words have this fault, whatever the source holds
+abbrev pub IsWordFault : List (List ℕ) → Fault → Type 0
+IsWordFault words fault = (before now : Stream) → IsFault words before now (outcome_of fault)
 
--- reading the source for the job has this trouble, whatever words ask for it
-abbrev pub IsSourceTrouble : Job → (before now : Stream) → Trouble → Type 0
-IsSourceTrouble job before now trouble = (words : List (List ℕ)) → IsJobOf words job → IsFault words before now (outcome_of trouble)
+-- reading the source for the job has this fault, whatever words ask for it
+abbrev pub IsSourceFault : Job → (before now : Stream) → Fault → Type 0
+IsSourceFault job before now fault = (words : List (List ℕ)) → IsJobOf words job → IsFault words before now (outcome_of fault)
 
 -- the line of the fault was added
 pub record IsTold (fault outcome : Outcome) (err err' : Stream) : Type 0 where

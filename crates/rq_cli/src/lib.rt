@@ -24,7 +24,6 @@
 mod outcome;
 mod system;
 mod top;
-mod trouble;
 
 pub use outcome::Outcome;
 pub use system::{arguments, program, status};

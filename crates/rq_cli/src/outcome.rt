@@ -1,11 +1,12 @@
 //! What comes of a run, and its exit status.
 ghost use Rattle.std.specs.Prelude.{◌≡◌};
 ghost use Rattle.rq_cli.specs.Codes.{code_of};
+ghost use Rattle.rq_cli.specs.Steps.{outcome_of};
 
 use cert_checker::Rejection;
 use frac_core::Frac128;
 use loss_model::{Spill, Trail};
-use report_text::{Place, Refusal, Report};
+use report_text::{Fault, Halt, Place, Refusal, Report};
 use rq_words::WordFault;
 
 /// What came of a run.
@@ -41,6 +42,22 @@ pub enum Outcome {
 }
 
 impl Outcome {
+    /// The outcome of a run that ends with a fault.
+    pub(crate) fn of(fault: Fault) -> Outcome
+        ensures { result ≡ outcome_of fault }
+    {
+        match fault {
+            Fault::Usage(fault) => Outcome::Usage(fault),
+            Fault::Source => Outcome::SourceFault,
+            Fault::Sink => Outcome::SinkFault,
+            Fault::Halt(Halt::Refused(refusal)) => Outcome::Refused(refusal),
+            Fault::Halt(Halt::OutOfMemory) => Outcome::OutOfMemory,
+            Fault::Halt(Halt::PivotLimit { place, limit, trail }) => Outcome::PivotLimit { place, limit, trail },
+            Fault::Halt(Halt::Overflow { place, trail, spill }) => Outcome::Overflow { place, trail, spill },
+            Fault::Halt(Halt::Rejected(rejection)) => Outcome::Rejected(rejection),
+        }
+    }
+
     /// The exit status of the program.
     pub fn code(&self) -> u8
         ensures { result ≡ code_of self.now }

@@ -5,12 +5,11 @@ ghost use Rattle.rq_engine.specs.Jobs.{IsJobOf};
 ghost use Rattle.report_text.specs.ReportText.{report_text};
 ghost use Rattle.rq_cli.specs.Outcomes.{outcome_line, stream, AskSource, IsAnswered, IsFault, IsRun, Reads, Takes};
 ghost use Rattle.port_io.specs.Told.{most_bytes};
-ghost use Rattle.rq_cli.specs.Steps.{outcome_of, IsSourceTrouble, IsWordTrouble, WasTold, WasPrinted};
+ghost use Rattle.rq_cli.specs.Steps.{outcome_of, IsSourceFault, IsWordFault, WasTold, WasPrinted};
 
 use crate::outcome::Outcome;
-use crate::trouble::Trouble;
 use port_io::{Failed, ReadFault, Sink, Source, read_all, write_all};
-use report_text::{Halt, MEMORY_LINE, Refusal, Report, SINK_LINE, SOURCE_LINE, report_bytes};
+use report_text::{Fault, Halt, MEMORY_LINE, Refusal, Report, SINK_LINE, SOURCE_LINE, fault_line, report_bytes};
 use rq_engine::answer;
 use rq_fan::Gate;
 use rq_words::{Job, WordFault, read_words};
@@ -57,7 +56,7 @@ pub fn run<R: Threads + Sync, S: Source, K: Sink, E: Sink, G: Gate>(
 {
     match work(rt, alloc, words, source, gate) {
         Ok((report, text)) => print(report, &text, out, err),
-        Err(trouble) => tell(alloc, trouble, err),
+        Err(fault) => tell(alloc, fault, err),
     }
 }
 
@@ -68,25 +67,25 @@ fn work<R: Threads + Sync, S: Source, G: Gate>(
     words: &[String],
     source: &mut S,
     gate: &G,
-) -> Result<(Report, Vec<u8>), Trouble>
+) -> Result<(Report, Vec<u8>), Fault>
     ensures answered { IfOk result (λ done. IsAnswered (map string_bytes words.now)
         (stream (S.left source.old) (S.faults source.old)) (stream (S.left source.new) (S.faults source.new)) done.0) }
     ensures text { IfOk result (λ done. done.1.items ≡ report_text done.0) }
-    ensures cause { IfErr result (λ trouble. IsFault (map string_bytes words.now)
-        (stream (S.left source.old) (S.faults source.old)) (stream (S.left source.new) (S.faults source.new)) (outcome_of trouble)) }
+    ensures cause { IfErr result (λ fault. IsFault (map string_bytes words.now)
+        (stream (S.left source.old) (S.faults source.old)) (stream (S.left source.new) (S.faults source.new)) (outcome_of fault)) }
     ensures steady { OnOk result (S.faults source.new ≤ S.faults source.old) }
-    ensures grew { IfErr result (λ trouble. S.faults source.old < S.faults source.new → trouble ≡ Trouble.Source) }
+    ensures grew { IfErr result (λ fault. S.faults source.old < S.faults source.new → fault ≡ Fault.Source) }
     ensures unread { ¬ AskSource (map string_bytes words.now) → source.new ≡ source.old }
 {
     let job = match read_job(alloc, words) {
         Ok(job) => job,
-        Err(trouble) => return Err(trouble),
+        Err(fault) => return Err(fault),
     };
     let bytes = match read_source(alloc, &job, source) {
         Ok(bytes) => bytes,
-        Err(trouble) => {
+        Err(fault) => {
             drop(job);
-            return Err(trouble);
+            return Err(fault);
         }
     };
     match written(rt, alloc, &job, &bytes, gate) {
@@ -96,7 +95,7 @@ fn work<R: Threads + Sync, S: Source, G: Gate>(
         }
         Err(halt) => {
             drop(job);
-            Err(Trouble::Halt(halt))
+            Err(Fault::Halt(halt))
         }
     }
 }
@@ -129,14 +128,14 @@ fn written<R: Threads + Sync, G: Gate>(
 }
 
 // The job that the words ask for.
-fn read_job(alloc: Global, words: &[String]) -> Result<Job, Trouble>
+fn read_job(alloc: Global, words: &[String]) -> Result<Job, Fault>
     ensures asked { IfOk result (IsJobOf (map string_bytes words.now)) }
-    ensures refused { IfErr result (IsWordTrouble (map string_bytes words.now)) }
+    ensures refused { IfErr result (IsWordFault (map string_bytes words.now)) }
 {
     match read_words(alloc, words) {
         Ok(job) => Ok(job),
-        Err(WordFault::OutOfMemory) => Err(Trouble::Halt(Halt::OutOfMemory)),
-        Err(fault) => Err(Trouble::Words(fault)),
+        Err(WordFault::OutOfMemory) => Err(Fault::Halt(Halt::OutOfMemory)),
+        Err(fault) => Err(Fault::Usage(fault)),
     }
 }
 
@@ -157,14 +156,14 @@ fn reads(job: &Job) -> bool
 }
 
 // The bytes that a job takes from the source.
-fn read_source<S: Source>(alloc: Global, job: &Job, source: &mut S) -> Result<Vec<u8>, Trouble>
+fn read_source<S: Source>(alloc: Global, job: &Job, source: &mut S) -> Result<Vec<u8>, Fault>
     ensures taken { IfOk result (λ bytes. Takes job.now
         (stream (S.left source.old) (S.faults source.old)) (stream (S.left source.new) (S.faults source.new)) bytes.items) }
     ensures short { IfOk result (λ bytes. length bytes.items ≤ most_bytes) }
-    ensures cause { IfErr result (λ trouble. IsSourceTrouble job.now
-        (stream (S.left source.old) (S.faults source.old)) (stream (S.left source.new) (S.faults source.new)) trouble) }
+    ensures cause { IfErr result (λ fault. IsSourceFault job.now
+        (stream (S.left source.old) (S.faults source.old)) (stream (S.left source.new) (S.faults source.new)) fault) }
     ensures steady { OnOk result (S.faults source.new ≤ S.faults source.old) }
-    ensures grew { IfErr result (λ trouble. S.faults source.old < S.faults source.new → trouble ≡ Trouble.Source) }
+    ensures grew { IfErr result (λ fault. S.faults source.old < S.faults source.new → fault ≡ Fault.Source) }
     ensures unread { ¬ Reads job.now → source.new ≡ source.old }
 {
     if !reads(job) {
@@ -172,9 +171,9 @@ fn read_source<S: Source>(alloc: Global, job: &Job, source: &mut S) -> Result<Ve
     }
     match read_all(alloc, source) {
         Ok(bytes) => Ok(bytes),
-        Err(ReadFault::Failed) => Err(Trouble::Source),
-        Err(ReadFault::TooLong) => Err(Trouble::Halt(Halt::Refused(Refusal::TooLong))),
-        Err(ReadFault::OutOfMemory) => Err(Trouble::Halt(Halt::OutOfMemory)),
+        Err(ReadFault::Failed) => Err(Fault::Source),
+        Err(ReadFault::TooLong) => Err(Fault::Halt(Halt::Refused(Refusal::TooLong))),
+        Err(ReadFault::OutOfMemory) => Err(Fault::Halt(Halt::OutOfMemory)),
     }
 }
 
@@ -198,19 +197,19 @@ fn print<K: Sink, E: Sink>(report: Report, text: &[u8], out: &mut K, err: &mut E
 
 // Writes the line of what went wrong, or that of want of memory where the line finds none. The line
 // of a failing source is a constant, so it needs none.
-fn tell<E: Sink>(alloc: Global, trouble: Trouble, err: &mut E) -> Outcome
+fn tell<E: Sink>(alloc: Global, fault: Fault, err: &mut E) -> Outcome
     ensures { let before = stream (E.written err.old) (E.faults err.old) in
         let now = stream (E.written err.new) (E.faults err.new) in
-        WasTold (outcome_of trouble) result before now ⊎ ((trouble ≢ Trouble.Source) × WasTold Outcome.OutOfMemory result before now) }
+        WasTold (outcome_of fault) result before now ⊎ ((fault ≢ Fault.Source) × WasTold Outcome.OutOfMemory result before now) }
 {
-    if let Trouble::Source = trouble {
-        drop(trouble);
+    if let Fault::Source = fault {
+        drop(fault);
         return write_line(err, SOURCE_LINE, Outcome::SourceFault);
     }
-    match trouble.line(alloc) {
-        Ok(line) => write_line(err, &line, trouble.outcome()),
+    match fault_line(alloc, &fault) {
+        Ok(line) => write_line(err, &line, Outcome::of(fault)),
         Err(_) => {
-            drop(trouble);
+            drop(fault);
             write_line(err, MEMORY_LINE, Outcome::OutOfMemory)
         }
     }

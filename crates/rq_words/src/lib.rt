@@ -11,8 +11,8 @@
 //! ```text
 //! match read_words(alloc, words) {
 //!     Ok(job) => Ok(job),
-//!     Err(WordFault::OutOfMemory) => Err(Trouble::Halt(Halt::OutOfMemory)),
-//!     Err(fault) => Err(Trouble::Words(fault)),
+//!     Err(WordFault::OutOfMemory) => Err(Fault::Halt(Halt::OutOfMemory)),
+//!     Err(fault) => Err(Fault::Usage(fault)),
 //! }
 //! ```
 #![tactic(auto)]

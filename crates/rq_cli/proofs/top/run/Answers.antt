@@ -10,6 +10,6 @@ returns-in-Ok-clause-ran g c =
 pub returns-in-Err-clause-ran : goal.returns-in-Err-clause-ran
 returns-in-Err-clause-ran g c =
     elim c.tell.ensures [
-      | inl told ↦ told_run _ _ _ _ _ _ _ (outcome_of c.in-Err.trouble) c.tell.result c.in-Err.ensures.cause (λ grew. ap outcome_of (c.in-Err.ensures.grew grew)) refl told
+      | inl told ↦ told_run _ _ _ _ _ _ _ (outcome_of c.in-Err.fault) c.tell.result c.in-Err.ensures.cause (λ grew. ap outcome_of (c.in-Err.ensures.grew grew)) refl told
       | inr told ↦ memory_run _ _ _ _ _ _ _ c.tell.result (λ grew. told.0 (c.in-Err.ensures.grew grew)) refl told.1
     ]

@@ -1,4 +1,4 @@
-use Rattle.loss_model.proofs.full_rank.dependence_refutes_full_rank.Goals as goal
+use Rattle.loss_model.proofs.laws.dependence_refutes_full_rank.Goals as goal
 
 pub returns : goal.returns
 returns c = λ p b h full. h.some (full b h.zero h.column h.within)
