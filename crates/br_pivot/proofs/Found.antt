@@ -1,5 +1,5 @@
 -- What a solve over a tableau has found, with the inverse of its basis.
-use Rattle.std.specs.Prelude.{◌≡◌, ℕ, List, slice_index}
+use Rattle.std.specs.Prelude.{ℕ, List, slice_index}
 use Rattle.std.proofs.Common.{sym, subst}
 use Rattle.exact_algebra.specs.Fraction.{Fraction}
 use Rattle.exact_algebra.specs.Rational.{ℚ}
@@ -13,7 +13,6 @@ use Rattle.pivot_rule.specs.Steps.{HasNoNegativeSlope}
 use Rattle.pivot_rule.specs.Trails.{IsSolvingTrail}
 use Rattle.pivot_rule.specs.Results.{IsVertexAt, AreBasicDuals}
 use Rattle.pivot_rule.proofs.Solved.{vertex_is_optimal}
-use Rattle.tableau_model.specs.Places.{Place}
 use Rattle.tableau.specs.declared.solving.Solution.{Solution}
 use Rattle.tableau.specs.Bodies.{place_of, IsTaken}
 use Rattle.tableau.specs.Solving.{IsSolution as IsFound}

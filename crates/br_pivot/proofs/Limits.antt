@@ -1,6 +1,6 @@
 -- Where a trail reaches the limit, the answer is neither a solution nor a dependence.
-use Rattle.std.specs.Prelude.{◌≡◌, ℕ, ◌≤◌, length, slice_index}
-use Rattle.std.proofs.Common.{Result, Ok, Err, inl}
+use Rattle.std.specs.Prelude.{ℕ, ◌≤◌, length, slice_index}
+use Rattle.std.proofs.Common.{Ok, Err, inl}
 use Rattle.exact_algebra.specs.Fraction.{Fraction}
 use Rattle.exact_algebra.specs.Rational.{ℚ}
 use Rattle.loss_model.specs.declared.problem.Problem.{Problem}
@@ -15,7 +15,7 @@ use Rattle.pivot_rule.proofs.Unique.{one_trail}
 use Rattle.br_pivot.specs.declared.solve.Solved.{Solved}
 use Rattle.br_pivot.specs.Answers.{IsOptimum, IsAnswer}
 use Rattle.br_pivot.specs.Solutions.{IsSolution}
-use Rattle.br_pivot.specs.Solves.{IsLimited, IsLimitAnswer}
+use Rattle.br_pivot.specs.Solves.{IsLimited}
 use Rattle.fraction_tableau.proofs.Inverses.{basis_of, ends_of}
 
 module _ {F : Type 0} (value : F → Fraction) (range : ℕ) (p : Problem F) (theta : ℚ) (limit : ℕ) where

@@ -1,6 +1,6 @@
 -- Inner. A basis on a walk, and what stands there.
-use Rattle.std.specs.Prelude.{◌≡◌, ℕ, ◌<◌, slice_index, pos}
-use Rattle.exact_algebra.specs.Fraction.{Fraction, rational}
+use Rattle.std.specs.Prelude.{ℕ, ◌<◌, slice_index}
+use Rattle.exact_algebra.specs.Fraction.{Fraction}
 use Rattle.exact_algebra.specs.Rational.{ℚ, ◌-ℚ◌}
 use Rattle.frac_core.specs.declared.exact.OpKind.TheVariants.{Sub, Div}
 use Rattle.loss_model.specs.declared.spill.Spill.{Spill}

@@ -1,7 +1,7 @@
 -- Inner. The test of a column, as it is made.
-use Rattle.std.specs.Prelude.{◌≡◌, ℕ, length, pos}
+use Rattle.std.specs.Prelude.{◌≡◌, length, pos}
 use Rattle.exact_algebra.specs.Fraction.{Fraction, rational}
-use Rattle.exact_algebra.specs.Rational.{ℚ, whole}
+use Rattle.exact_algebra.specs.Rational.{whole}
 use Rattle.loss_model.specs.declared.problem.Problem.{Problem}
 use Rattle.loss_model.specs.Problem.{value_at, sample}
 use Rattle.loss_model.specs.Strict.{◌<ℚ◌}

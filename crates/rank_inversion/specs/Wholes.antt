@@ -1,5 +1,5 @@
 -- Inner. What rank intervals in whole numbers begin with, and both walks from there.
-use Rattle.std.specs.Prelude.{◌≡◌, ◌-◌, ℕ, length}
+use Rattle.std.specs.Prelude.{◌-◌, ℕ, length}
 use Rattle.exact_algebra.specs.Fraction.{Fraction}
 use Rattle.exact_algebra.specs.Rational.{ℚ}
 use Rattle.loss_model.specs.declared.problem.Problem.{Problem}

@@ -40,8 +40,8 @@ use Rattle.rq_words.specs.declared.job.RankAsk.{RankAsk}
 use Rattle.report_text.specs.declared.report.Fit.{Fit}
 use Rattle.report_text.specs.declared.report.Halt.{Halt}
 use Rattle.report_text.specs.declared.report.Place.TheVariants as places
-use Rattle.report_text.specs.declared.report.Halt.TheVariants.{Refused, OutOfMemory, PivotLimit, Overflow, Rejected}
-use Rattle.report_text.specs.declared.report.Refusal.TheVariants.{TooLong, Dependent}
+use Rattle.report_text.specs.declared.report.Halt.TheVariants.{Refused, OutOfMemory, PivotLimit, Overflow}
+use Rattle.report_text.specs.declared.report.Refusal.TheVariants.{Dependent}
 use Rattle.report_text.specs.declared.report.Refusal.TheVariants as refusals
 use Rattle.rq_input.proofs.Lists.{filter_count}
 use Rattle.rq_engine.specs.Fit.{IsOptimalAt, IsOptimalWithin, IsRightFit, IsRightProcess, IsRightSegment, mixed_dual}

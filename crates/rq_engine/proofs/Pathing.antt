@@ -32,10 +32,10 @@ use Rattle.rq_engine.specs.Halts.{path_halt, stop_halt}
 use Rattle.rq_engine.specs.Paths.{HasPathCause, IsPathFitOf, IsPathProblem, first_penalised}
 use Rattle.rq_engine.specs.Stops.{most}
 use Rattle.rq_program.specs.declared.fault.ProgramFault.TheVariants as programs
-use Rattle.report_text.specs.declared.report.Refusal.TheVariants.{TooLong, Dependent}
+use Rattle.report_text.specs.declared.report.Refusal.TheVariants.{Dependent}
 use Rattle.report_text.specs.declared.report.Refusal.TheVariants as refusals
 use Rattle.report_text.specs.declared.report.Halt.{Halt}
-use Rattle.report_text.specs.declared.report.Halt.TheVariants.{Refused, OutOfMemory, PivotLimit, Overflow, Rejected}
+use Rattle.report_text.specs.declared.report.Halt.TheVariants.{Refused, OutOfMemory, PivotLimit, Overflow}
 use Rattle.rq_input.specs.Plain.{HasPlainCause, IsPlain}
 use Rattle.rq_engine.specs.Answers.{HasPathFitCause}
 

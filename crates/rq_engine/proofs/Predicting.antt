@@ -32,10 +32,10 @@ use Rattle.rq_engine.specs.Fit.{IsRightProcess}
 use Rattle.rq_engine.specs.Lacking.{IsUnpredictedRow}
 use Rattle.rq_engine.specs.Predicted.{HasPredictedCause, IsPredictFitOf, IsPredictionBy, IsRowSpill}
 use Rattle.rq_engine.specs.Stops.{most}
-use Rattle.report_text.specs.declared.report.Refusal.TheVariants.{TooLong, Dependent}
+use Rattle.report_text.specs.declared.report.Refusal.TheVariants.{Dependent}
 use Rattle.report_text.specs.declared.report.Refusal.TheVariants as refusals
 use Rattle.report_text.specs.declared.report.Halt.{Halt}
-use Rattle.report_text.specs.declared.report.Halt.TheVariants.{Refused, OutOfMemory, PivotLimit, Overflow, Rejected}
+use Rattle.report_text.specs.declared.report.Halt.TheVariants.{Refused, OutOfMemory, PivotLimit, Overflow}
 use Rattle.rq_input.specs.Predictions.{HasPredictionCause, IsPrediction}
 use Rattle.rq_input.specs.Rows.{HasRows}
 use Rattle.rq_engine.specs.Answers.{HasPredictCause}

@@ -20,7 +20,7 @@ use Rattle.rq_program.specs.Programs.{AreTogether, columns_of}
 use Rattle.rq_words.specs.declared.job.FitJob.{FitJob}
 use Rattle.report_text.specs.declared.report.Refusal.TheVariants as refusals
 use Rattle.report_text.specs.declared.report.Halt.{Halt}
-use Rattle.report_text.specs.declared.report.Halt.TheVariants.{Refused, OutOfMemory, PivotLimit, Overflow, Rejected}
+use Rattle.report_text.specs.declared.report.Halt.TheVariants.{Refused, OutOfMemory}
 use Rattle.rq_input.specs.Inputs.{HasModelCause, HasTableCause}
 use Rattle.rq_input.specs.Models.{IsModel}
 use Rattle.rq_input.specs.Rows.{HasRows}

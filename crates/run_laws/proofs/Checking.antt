@@ -13,7 +13,7 @@ use Rattle.report_text.specs.declared.report.Report.TheVariants as reports
 use Rattle.report_text.specs.declared.report.Refusal.TheVariants as refusals
 use Rattle.report_text.specs.declared.report.Place.TheVariants as places
 use Rattle.report_text.specs.declared.report.Halt.{Halt}
-use Rattle.report_text.specs.declared.report.Halt.TheVariants.{Refused, OutOfMemory, PivotLimit, Overflow, Rejected}
+use Rattle.report_text.specs.declared.report.Halt.TheVariants.{Refused, OutOfMemory, Overflow, Rejected}
 use Rattle.rq_engine.specs.Answers.{HasCause, IsRight}
 use Rattle.rq_engine.specs.Checks.{IsCertOf}
 use Rattle.run_laws.specs.Certificates.{IsUndecided}

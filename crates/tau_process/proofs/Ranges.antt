@@ -1,6 +1,6 @@
 -- What is answered to a walk: a process, or the stop of what halts it.
-use Rattle.std.specs.Prelude.{◌≡◌, ◌⊎◌, ◌≤◌, ℕ, length, Some}
-use Rattle.std.proofs.Common.{Result, Ok, Err, refl, sym, subst, inl, inr}
+use Rattle.std.specs.Prelude.{◌≡◌, ◌≤◌, ℕ, length, Some}
+use Rattle.std.proofs.Common.{Ok, Err, refl, sym, subst, inl, inr}
 use Rattle.exact_algebra.specs.Fraction.{Fraction}
 use Rattle.exact_algebra.specs.Rational.{ℚ, ◌≤ℚ◌}
 use Rattle.loss_model.specs.declared.problem.Problem.{Problem}
@@ -13,12 +13,12 @@ use Rattle.loss_model.specs.Problem.{sample, value_at}
 use Rattle.loss_model.specs.Segment.{Covers, segments_of}
 use Rattle.loss_model.specs.StartStop.{IsStartStop, IsDependent}
 use Rattle.pivot_rule.specs.Duals.{HasCosts}
-use Rattle.pivot_rule.specs.Trails.{AtBasis, basis_after, ReachesLimit}
+use Rattle.pivot_rule.specs.Trails.{basis_after}
 use Rattle.pivot_rule.proofs.Solved.{full_rank}
 use Rattle.walk_rule.specs.Families.{over_quantiles}
 use Rattle.walk_rule.specs.Stays.{AreOptimalSegments}
 use Rattle.walk_rule.specs.WalkSpills.{IsStaySpill}
-use Rattle.walk_rule.specs.WalkTrails.{theta_value, is_below, value_after, IsWalkEnd, ReachesWalkLimit, ReachesProcessLimit}
+use Rattle.walk_rule.specs.WalkTrails.{theta_value, is_below, value_after, IsWalkEnd}
 use Rattle.walk_rule.proofs.Trails.{one_process}
 use Rattle.walk_rule.proofs.Walked.{walk_covers}
 use Rattle.tableau_model.specs.declared.refusal.Refusal.TheVariants.{Overflow as Spilled}

@@ -1,5 +1,5 @@
 -- Factors that are 1.
-use Rattle.std.proofs.Common.{◌≡◌, ℤ, pos, [], ◌∷◌, arith, refl, sym, ap, ap₂, ◌∙◌}
+use Rattle.std.proofs.Common.{◌≡◌, pos, [], ◌∷◌, arith, refl, sym, ap, ap₂, ◌∙◌}
 use Rattle.std.proofs.lemmas.Int.{ints}
 use Rattle.exact_algebra.specs.Fraction.{Fraction, rational}
 use Rattle.exact_algebra.specs.Rational.{ℚ, ◌*ℚ◌, inverse, quotient, whole}

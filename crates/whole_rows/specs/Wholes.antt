@@ -1,5 +1,5 @@
 -- Inner. Rows in whole numbers, as the sample that they are.
-use Rattle.std.specs.Prelude.{◌≡◌, ℕ, ℤ, ◌<◌, ◌≤ℤ◌, List, length, slice_get, Option, Some, pos}
+use Rattle.std.specs.Prelude.{◌≡◌, ℕ, ◌<◌, ◌≤ℤ◌, List, length, slice_get, Some, pos}
 use Rattle.std.specs.Option.{option_map_or}
 use Rattle.exact_algebra.specs.Fraction.{Fraction, rational}
 use Rattle.exact_algebra.specs.Rational.{ℚ, ◌*ℚ◌, whole}

@@ -1,7 +1,7 @@
 -- A row whose weight is above 0, and whose other costs follow from it.
 use Rattle.std.specs.Ordering.{is_eq, is_lt}
 use Rattle.std.specs.Option.{option_map_or}
-use Rattle.std.proofs.Common.{◌≡◌, ◌<◌, ℕ, true, pos, Ordering, Less, Option, List, length, get_or, refl, sym, ap, ◌∙◌}
+use Rattle.std.proofs.Common.{◌≡◌, ◌<◌, ℕ, true, pos, Less, Option, List, length, get_or, refl, sym, ap, ◌∙◌}
 use Rattle.exact_algebra.specs.Fraction.{rational}
 use Rattle.exact_algebra.specs.Rational.{ℚ, whole, neg_ℚ}
 use Rattle.exact_algebra.specs.Order.{cmp_ℚ}

@@ -1,4 +1,4 @@
-use Rattle.std.proofs.Common.{ℤ, pos, ◌≤ℤ◌, arith, subst}
+use Rattle.std.proofs.Common.{pos, ◌≤ℤ◌, arith, subst}
 use Rattle.std.proofs.lemmas.Int.{ints}
 use Rattle.exact_algebra.specs.Fraction.{rational}
 use Rattle.exact_algebra.proofs.OrderLaws.{sign_ℚ-not_below}

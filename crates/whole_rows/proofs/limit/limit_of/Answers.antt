@@ -1,4 +1,4 @@
-use Rattle.std.proofs.Common.{rules, ◌≡◌, ◌<◌, ◌≤◌, unsigned_abs, get_or, arith, below_more, length, subst, sym, ap, ◌∙◌, ℕ}
+use Rattle.std.proofs.Common.{◌≤◌, unsigned_abs, get_or, arith, below_more, subst}
 use Rattle.std.specs.List.{All}
 use Rattle.std.proofs.lemmas.List.{get_or_default}
 use Rattle.std.proofs.lemmas.List.Elements.{All-weaker}

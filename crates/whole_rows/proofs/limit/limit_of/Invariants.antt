@@ -1,4 +1,4 @@
-use Rattle.std.proofs.Common.{◌≡◌, ℕ, ◌<◌, ◌≤◌, unsigned_abs, get_or}
+use Rattle.std.proofs.Common.{ℕ, ◌<◌, ◌≤◌, unsigned_abs, get_or}
 use Rattle.std.specs.List.{All}
 use Rattle.whole_rows.specs.declared.rows.WholeRow.{WholeRow}
 use Rattle.whole_rows.proofs.limit.limit_of.Given as goal

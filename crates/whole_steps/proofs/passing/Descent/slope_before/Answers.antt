@@ -2,8 +2,7 @@
 use Rattle.std.proofs.Common.{rules, ◌≡◌, length, to_z, of_z, arith}
 use mir.Syntax.{w128}
 use Rattle.exact_algebra.specs.Fraction.{rational}
-use Rattle.exact_algebra.specs.Rational.{◌+ℚ◌}
-use Rattle.whole_steps.specs.Passing.{number_value, passed_by}
+use Rattle.whole_steps.specs.Passing.{number_value}
 use Rattle.whole_steps.proofs.Marks.{unmarked_left}
 use Rattle.whole_steps.proofs.Passed.{passed_none, sum_none, sum_more, sum_all}
 use Rattle.whole_steps.proofs.passing.Descent.slope_before.Goals as goal
