@@ -7,12 +7,10 @@ use Rattle.loss_model.specs.declared.process.Segment.{Segment}
 use Rattle.serde_json.specs.View.{view}
 use Rattle.serde_json.specs.declared.value.Value.{Value}
 use Rattle.frac_core.specs.Values.{exact}
-use Rattle.loss_model.specs.Values.{exact_row}
 use Rattle.cert_text.specs.Trees.{linked_tree, linked_trees}
-use Rattle.cert_text.specs.Chains.{high_places, low_places, keeps_value, keep_values, is_filled, follows_any, are_chained, is_chained}
+use Rattle.cert_text.specs.Chains.{high_places, low_places, keeps_value, keep_values, is_filled, follows_any, are_chained}
 use Rattle.cert_text.specs.Kept.{basic_rows}
-use Rattle.cert_text.specs.Contents.{exact_place, exact_segment, content}
-use Rattle.cert_text.specs.declared.cert.Cert.{Cert}
+use Rattle.cert_text.specs.Contents.{exact_place, exact_segment}
 use Rattle.cert_text.specs.declared.place.Place.{Place}
 use Rattle.cert_text.proofs.InRationals.{places_exact}
 use Rattle.cert_text.proofs.Lists.{first_items, last_pushed}
@@ -55,10 +53,6 @@ filled_exact : (rows : ℕ) (s : Segment Frac128) → is_filled rows s.vertex.si
 filled_exact rows s =
     let stars = length (basic_rows s.vertex.sides) in
     ap₂ (λ m n. (length s.vertex.sides == rows) && ((stars == m) && (stars == n))) (length-map s.basic_lo exact) (length-map s.basic_hi exact)
-
-pub chained_content : (c : Cert) (rows : ℕ) (ss : List (Segment Frac128)) → rows ≡ length c.problem.rows → ss ≡ c.segments
-    → is_chained (content c) ≡ are_chained rows None (map exact_segment ss)
-chained_content c rows ss hr hs = ap₂ (λ n l. are_chained n None (map exact_segment l)) (length-map c.problem.rows exact_row ∙ sym hr) (sym hs)
 
 module _ (rows : ℕ) (ss : List (Segment Frac128)) (i : ℕ) (s : Segment Frac128) (lt : i < length ss) (here : s ≡ get_or ss i s)
     (before : are_chained rows None (map exact_segment ss)

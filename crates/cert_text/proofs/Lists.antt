@@ -26,9 +26,6 @@ regroup : {A : Type 0} (found : List A) (a : A) (r : Reading (List A))
 regroup found a (Ok xs) = ap Ok (sym (append_assoc found (a ∷ []) xs))
 regroup found a (Err e) = refl
 
-pub none_read : {A : Type 0} (read : Option A → Reader A) (all : Items) → IsReadUpTo read all 0 all []
-none_read read all = same (items_from read None 0 all)
-
 one_read : {A : Type 0} (read : Option A → Reader A) (all : Items) (i : ℕ) (d : Data) (rest : Items) (found : List A) (a : A)
     → IsReadUpTo read all i (item d rest) found → read (last_or None found) d ≡ Ok a → IsReadUpTo read all (i + 1) rest (found ++ a ∷ [])
 unfolding items_from

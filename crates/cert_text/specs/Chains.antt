@@ -1,5 +1,5 @@
 -- Stated. How a segment follows the one before it: where each row lies, which rows move, and what stays as it was.
-use Rattle.std.specs.Prelude.{◌≡◌, ℕ, ◌+◌, List, [], ◌∷◌, ◌==◌, ◌&&◌, Bool, true}
+use Rattle.std.specs.Prelude.{ℕ, ◌+◌, List, [], ◌∷◌, ◌==◌, ◌&&◌, Bool, true}
 use Rattle.std.specs.Prelude.{false, not, Option, Some, None, length, nat_le, slice_get, slice_set, if◌then◌else◌}
 use Rattle.std.specs.Ordering.{match_ordering}
 use Rattle.exact_algebra.specs.Rational.{ℚ}
@@ -110,6 +110,3 @@ are_chained rows before (s ∷ ss) = is_filled rows s.vertex.sides s.basic_lo s.
 -- a certificate whose text may say of each later segment only what changes
 abbrev pub is_chained : Content → Bool
 is_chained c = are_chained (length c.problem.rows) None c.segments
-
-abbrev pub IsChained : Content → Type 0
-IsChained c = is_chained c ≡ true

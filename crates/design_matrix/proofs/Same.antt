@@ -12,10 +12,6 @@ and_right : (a b : Bool) → (a && b) ≡ true → b ≡ true
 and_right true b e = e
 and_right false b e = absurd (cc e)
 
-and_no : (a : Bool) → false ≡ (a && false)
-and_no true = refl
-and_no false = refl
-
 same_length : (ls rs : List Variable) → same_variables ls rs ≡ true → length ls ≡ length rs
 same_length [] [] e = refl
 same_length [] (w ∷ ws) e = absurd (cc e)

@@ -138,9 +138,6 @@ each_all f xs i ys h e = e ∙ ap (λ l. each f 0 l) (take_all i xs h)
 pub rest_is : {A : Type 0} (xs : List A) (n : ℕ) → take (length xs - n) (drop n xs) ≡ drop n xs
 rest_is xs n = let e : length (drop n xs) ≡ length xs - n = length-drop n xs in take_all (length xs - n) (drop n xs) (omega arith)
 
-pub front_is : {A : Type 0} (xs : List A) (n : ℕ) → take (n - 0) xs ≡ take n xs
-front_is xs n = ap (λ k. take k xs) (let e : n - 0 ≡ n = omega arith in e)
-
 pub spanned_now : (n : ℕ) (a b y : Bool) → n ≡ 1 → a ≡ true → true ≡ cond (nat_eq n 1) (a || b) y
 spanned_now n a b y e f = sym (at_one n (a || b) y e ∙ ap (λ t. t || b) f)
 
@@ -185,18 +182,6 @@ flat_more f start xs i x old new h e p q =
     ∙ ap (λ l. start ++ (flat_map f (take i xs) ++ l)) (sym (flat_one f x))
     ∙ ap (λ l. start ++ l) (sym (flat_map-append f (take i xs) (x ∷ [])))
     ∙ ap (λ l. start ++ flat_map f l) (sym (take_more xs i x h ∙ ap (λ y. take i xs ++ (y ∷ [])) (sym e)))
-
-pub mapped_told : {X A B : Type 0} (told : X → B) (f : A → B) (start : List B) (xs : List A) (i : ℕ) (x : A) (old new : List X) (y : X)
-    → i < length xs → x ≡ get_or xs i x → map told old ≡ start ++ map f (take i xs) → new ≡ old ++ (y ∷ []) → told y ≡ f x
-    → map told new ≡ start ++ map f (take (i + 1) xs)
-mapped_told told f start xs i x old new y h e p q s =
-    ap (λ l. map told l) q
-    ∙ map-append told old (y ∷ [])
-    ∙ ap (λ l. l ++ (told y ∷ [])) p
-    ∙ append_assoc start (map f (take i xs)) (told y ∷ [])
-    ∙ ap (λ z. start ++ (map f (take i xs) ++ (z ∷ []))) s
-    ∙ ap (λ l. start ++ l) (sym (map-append f (take i xs) (x ∷ [])))
-    ∙ ap (λ l. start ++ map f l) (sym (take_more xs i x h ∙ ap (λ y. take i xs ++ (y ∷ [])) (sym e)))
 
 pub told_more : {V B X Y : Type 0} (value : V → B) (f : Y → B) (told : X → Y) (xs : List X) (i : ℕ) (x : X) (old new : List V) (v : V)
     → i < length xs → x ≡ get_or xs i x → map value old ≡ map f (map told (take i xs)) → new ≡ old ++ (v ∷ []) → value v ≡ f (told x)

@@ -69,10 +69,6 @@ module _ (values : List ℚ) (code : List ArithOp) (i : ℕ) (op : ArithOp) (sta
   left_operations : code_operations values code [] ≡ h.done ++ (step_operations op stack ++ code_operations values (drop (i + 1) code) (act values op stack))
   left_operations = h.all ∙ ap (λ (c : List ArithOp). h.done ++ code_operations values c stack) (split_at code i op within is)
 
-  -- there is room for those of the step
-  pub step_room : numbered_in code < 2 ^ 32 → count + numbered op < 2 ^ 32
-  step_room short = omega (arith, short, count_more code i op count within is h.room)
-
   -- the step is done
   pub goes_on : (next : List ℚ) (more : ℕ) → next ≡ act values op stack → more ≡ numbered op → NoneOverflows (step_operations op stack) → Underway values code (i + 1) next (count + more)
   goes_on next more e counts fits = record {

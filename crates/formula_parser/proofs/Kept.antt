@@ -24,10 +24,6 @@ use Rattle.formula_parser.proofs.Within.{Fine, fine_left, fine_right}
 
 -- ---- the length of the code
 
-abbrev signed_long : (s : Sign) → length (arith_signed_step s ∷ []) ≡ 1
-signed_long Plus = refl
-signed_long Minus = refl
-
 lead_long : (l : Lead) → length (lead_steps l) ≤ length (lead_tokens l)
 lead_long Bare = omega arith
 lead_long (Led Plus n) = omega arith

@@ -101,9 +101,6 @@ module _ {F : Type 0} (value : F → Fraction) (l : Line F) where
 
   -- ---- row by row
 
-  pub below_none : AreMoversBelow value l 0 []
-  below_none = record { each = λ k m e. absurd (cc e); all = λ i li h. absurd (omega arith); below = λ k lk. absurd (omega arith); apart = λ j k less lk. absurd (omega arith) }
-
   pub below_skip : (n : ℕ) (xs : List (Mover F)) → AreMoversBelow value l n xs → is_moving value l n ≡ false → AreMoversBelow value l (n + 1) xs
   below_skip n xs h still =
       record {

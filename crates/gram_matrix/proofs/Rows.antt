@@ -1,10 +1,9 @@
 -- The Gram matrix, from what is read and added.
-use Rattle.std.specs.Prelude.{◌≡◌, ◌≢◌, ◌⊎◌, ℕ, zero, suc, ◌+◌, ◌<◌, ◌≤◌, ◌++◌, List, [], ◌∷◌, length, get_or, slice_get, Option, Some, None, pos}
+use Rattle.std.specs.Prelude.{◌≡◌, ◌⊎◌, ℕ, ◌+◌, ◌<◌, ◌≤◌, List, [], ◌∷◌, length, get_or, slice_get, Option, Some, pos}
 use Rattle.std.specs.Option.{option_map_or}
 use Rattle.std.proofs.Common.{arith, refl, sym, ap, subst, ◌∙◌, inl, inr}
 use Rattle.std.proofs.lemmas.Bool.{cases_lt}
-use Rattle.std.proofs.lemmas.List.{length_push}
-use Rattle.std.proofs.lemmas.Option.{slice_get_past, slice_get_read, slice_get_within, slice_get-get_or}
+use Rattle.std.proofs.lemmas.Option.{slice_get_past, slice_get_read}
 use Rattle.exact_algebra.specs.Fraction.{Fraction, rational}
 use Rattle.exact_algebra.specs.Solver.{number, ◌⊠◌, v0, v1}
 use Rattle.exact_algebra.specs.Rational.{ℚ, ◌+ℚ◌, ◌*ℚ◌, whole}
@@ -20,9 +19,9 @@ use Rattle.loss_model.specs.declared.spill.Spill.{Spill}
 use Rattle.loss_model.specs.Problem.{value_at, sample, IsWellShaped}
 use Rattle.loss_model.specs.Spill.{IsOperation}
 use Rattle.loss_model.proofs.Products.{value_at-item}
-use Rattle.rank_law.specs.Gram.{gram, IsGramOf}
+use Rattle.rank_law.specs.Gram.{gram}
 use Rattle.gram_matrix.specs.Grams.{scaled}
-use Rattle.gram_matrix.specs.GramRows.{AreScaled, IsGramRow, AreGramRows}
+use Rattle.gram_matrix.specs.GramRows.{AreScaled, AreGramRows}
 
 -- an operation by its operands
 pub operation : {F : Type 0} (value : F → Fraction) (range : ℕ) (site : Site) (kind : OpKind) (left right : F) (x y : ℚ) (s : Spill F)
@@ -98,56 +97,3 @@ module _ {F : Type 0} (value : F → Fraction) (p : Problem F) where
       let row = h l r (slice_get_read rows (length rows) l r refl ll is) in
       let wide : length r.x ≡ p.columns = row.width in
       sym (value_at-item value r.x k x (omega (arith, lk, wide)) entry) ∙ row.each k lk ∙ symmetric l k
-
-  -- one row more
-  pub rows_more : (rows : List (Row F)) (r : Row F) → AreGramRows value p rows → IsGramRow value p (length rows) r → AreGramRows value p (rows ++ r ∷ [])
-  rows_more rows r h row k x is = by (cases_lt k (length rows))
-    where
-      front : (xs ys : List (Row F)) (k : ℕ) → k < length xs → slice_get (xs ++ ys) k ≡ slice_get xs k
-      front [] ys k l = absurd (omega (arith, l))
-      front (x ∷ xs) ys zero l = refl
-      front (x ∷ xs) ys (suc k) l = front xs ys k (omega (arith, l))
-
-      end : (xs : List (Row F)) (x : Row F) → slice_get (xs ++ x ∷ []) (length xs) ≡ Some x
-      end [] x = refl
-      end (y ∷ xs) x = end xs x
-
-      within : k < length rows + 1
-      within = subst (λ n. k < n) (length_push rows r) (slice_get_within (rows ++ r ∷ []) k x is)
-
-      by : (k < length rows) ⊎ (length rows ≤ k) → IsGramRow value p k x
-      by (inl lk) = h k x (sym (front rows (r ∷ []) k lk) ∙ is)
-      by (inr past) =
-          let last : k ≡ length rows = omega (arith, past, within) in
-          let same : r ≡ x = cc (sym (end rows r) ∙ ap (slice_get (rows ++ r ∷ [])) (sym last) ∙ is) in
-          subst (λ y. IsGramRow value p k y) same (subst (λ n. IsGramRow value p n r) (sym last) row)
-
-  -- all rows are a problem
-  pub shaped_rows : (rows : List (Row F)) → IsWellShaped p → AreGramRows value p rows → length rows ≡ p.columns → IsWellShaped (record { columns = p.columns; rows = rows })
-  shaped_rows rows shaped h all =
-      record {
-        some = shaped.some;
-        columns = shaped.columns;
-        rows = let few : p.columns ≤ 128 = shaped.columns in omega (arith, all, few);
-        entries = λ k d lk. (h k (get_or rows k d) (slice_get-get_or rows k d lk)).width;
-      }
-
-  pub gram_of : (rows : List (Row F)) → AreGramRows value p rows → length rows ≡ p.columns → IsGramOf (sample value p) (sample value (record { columns = p.columns; rows = rows }))
-  gram_of rows h all =
-      record {
-        rows = all;
-        columns = refl;
-        entries = entry;
-      }
-    where
-      none : (xs : List (Row F)) (k : ℕ) → k < length xs → slice_get xs k ≢ None
-      none [] k l e = absurd (omega (arith, l))
-      none (x ∷ xs) zero l e = absurd (cc e)
-      none (x ∷ xs) (suc k) l e = none xs k (omega (arith, l)) e
-
-      entry : (k l : ℕ) → k < p.columns → l < p.columns → (sample value (record { columns = p.columns; rows = rows })).x k l ≡ gram (sample value p) k l
-      entry k l lk ll = by (slice_get rows k) refl
-        where
-          by : (o : Option (Row F)) → slice_get rows k ≡ o → (sample value (record { columns = p.columns; rows = rows })).x k l ≡ gram (sample value p) k l
-          by (Some r) e = ap (λ (o : Option (Row F)). option_map_or (λ r. value_at value r.x l) o (whole (pos 0))) e ∙ (h k r e).each l ll
-          by None e = absurd (none rows k (omega (arith, lk, all)) e)

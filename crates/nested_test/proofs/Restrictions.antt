@@ -56,10 +56,6 @@ unfolding Rises
 rises_within [] k n h = omega (arith, h)
 rises_within (t ∷ ts) k n h = omega (arith, h.0, rises_within ts (t + 1) n h.1)
 
--- so there are at most as many as there are columns
-pub few_tested : (tested : List ℕ) (n : ℕ) → AreTested n tested → length tested ≤ n
-few_tested tested n h = omega (arith, rises_within tested 0 n (all_rise tested n h))
-
 -- and they are different columns
 pub distinct_tested : (tested : List ℕ) (n : ℕ) → AreTested n tested → AreDistinct (slice_index tested) (length tested) n
 distinct_tested tested n h = record {

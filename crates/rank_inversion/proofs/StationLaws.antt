@@ -195,9 +195,6 @@ module _ {F : Type 0} (value : F → Fraction) (v : Station F) where
         same_theta : rational (value b.theta) ≡ parameter_at value v.course weight
         same_theta = sym (turned_twice (way_of v.course.way) (rational (value b.theta))) ∙ ap (parameter_of (way_of v.course.way)) (sym turned)
 
-        same_weight : parameter_of (way_of v.course.way) (rational (value b.theta)) ≡ rational (value weight)
-        same_weight = sym turned
-
         pub square_spill : (range : ℕ) (s : Spill F) → IsOperation value range (site_of Statistic 0 0 1) (rational (value weight)) (rational (value weight)) s → IsSpillHere value range v from s
         square_spill range s h =
             of_square (rational (value b.theta)) b.position b.direction next

@@ -31,9 +31,6 @@ module _ {F : Type 0} (value : F → Fraction) (k : Kept F) (c : Course F) (from
   facts =
       step_facts (way_of c.way) (sample value k.problem) c.column (tau_of value c) (slice_index k.rows) (inverse_entry value k.square) _ (parameter_at value c from) (parameter_at value c x.theta) x.position x.row step
 
-  pub step_position : x.position < k.problem.columns
-  step_position = facts.0
-
   pub step_row : x.row < length k.problem.rows
   step_row = facts.1
 

@@ -18,7 +18,6 @@ use Rattle.loss_model.specs.Dual.{rankscore}
 use Rattle.loss_model.specs.Problem.{sample}
 use Rattle.loss_model.specs.Segment.{dual_at, segments_of}
 use Rattle.loss_model.proofs.Vertices.{ascending}
-use Rattle.rankscores.specs.Scores.{score}
 use Rattle.rankscores.specs.Rows.{cross, cross_to, run_length, score_cross, segment_cross, IsIntegrable}
 
 module _ {F : Type 0} (value : F → Fraction) (p : Problem F) (segments : List (Segment F)) (i : ℕ) where
@@ -50,10 +49,6 @@ module _ {F : Type 0} (value : F → Fraction) (p : Problem F) (segments : List 
   module _ (j : ℕ) (s : Segment F) (there : slice_get segments j ≡ Some s) where
     cross_is : score_cross (sample value p) (segments_of value p segments) i j ≡ segment_cross value p s i
     cross_is = ap (λ o. cross (low o) (high o) (low_score o) (high_score o)) there
-
-    -- the score at the end of the segment
-    pub score_there : score value p s.vertex s.basic_hi s.hi i ≡ rankscore (sample value p) ((segments_of value p segments).hi j) ((segments_of value p segments).at_hi j) i
-    score_there = sym (ap high_score there)
 
     -- an open run ends where the next segment begins
     pub run_joined : (t : ℚ) (run : Option F) (end : F) → j < length segments → IsIntegrable value p segments i → AreTo j t run end → IfSome run (λ _. rational (value end) ≡ rational (value s.lo))

@@ -62,10 +62,6 @@ pub double-next : (k : ℕ) → double (suc k) ≡ double k +ℚ double k
 unfolding double power
 double-next k = whole-add (pos (power k)) (pos (power k))
 
-pub double_not_negative : (k : ℕ) → whole (pos 0) ≤ℚ double k
-unfolding double
-double_not_negative k = whole_not_negative (power k)
-
 index_below : (k : ℕ) → whole (pos k) ≤ℚ double k
 unfolding double
 index_below k = whole-le (pos k) (pos (power k)) (omega (arith, ints, power-above k))

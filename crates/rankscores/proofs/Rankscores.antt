@@ -1,6 +1,5 @@
 -- The rankscore of the basic row at a place of the list.
 use Rattle.std.proofs.Common.{◌≡◌, ◌≢◌, ◌<◌, ◌≤◌, ◌+◌, ℕ, Bool, List, [], ◌∷◌, ◌++◌, All, length, map, get_or, slice_index, take, Contains, pos, arith, refl, sym, ap, subst, ◌∙◌, if◌then◌else◌}
-use Rattle.std.proofs.Math.Seq.{take-length}
 use Rattle.std.proofs.lemmas.Bool.{le-ltb, lt-ltb}
 use Rattle.std.proofs.lemmas.List.{map-append, take_more}
 use Rattle.std.proofs.lemmas.List.Elements.{All-append, All-cons, All-nil}
@@ -20,7 +19,7 @@ use Rattle.loss_model.specs.Vertex.{IsVertexOf, basic_value, dual_value}
 use Rattle.loss_model.proofs.Vertices.{basic_value-at, dual_value-at}
 use Rattle.loss_model.proofs.Products.{value_at-item}
 use Rattle.rankscores.specs.declared.pair.ScorePair.{ScorePair}
-use Rattle.rankscores.specs.Scores.{IsScored, dual_of, row_score, score}
+use Rattle.rankscores.specs.Scores.{dual_of, row_score, score}
 use Rattle.rankscores.specs.Spills.{score_site, IsEndSpill, IsScoreSpill}
 
 -- a number of a row that was read
@@ -119,9 +118,6 @@ module _ {F : Type 0} (value : F → Fraction) (p : Problem F) (n : ℕ) (s : Se
     pub at_lo : All low_end pairs
     pub at_hi : All high_end pairs
 
-  pub scored_none : AreScored 0 []
-  scored_none = record { rows = refl; at_lo = All-nil low_end; at_hi = All-nil high_end }
-
   pub scored_more : (k : ℕ) (pairs next : List (ScorePair F)) (pair : ScorePair F) → k < length s.vertex.basis.rows → AreScored k pairs
       → pair.row ≡ slice_index s.vertex.basis.rows k → low_end pair → high_end pair → next ≡ pairs ++ pair ∷ [] → AreScored (k + 1) next
   scored_more k pairs next pair within so_far row lo hi grown =
@@ -131,7 +127,3 @@ module _ {F : Type 0} (value : F → Fraction) (p : Problem F) (n : ℕ) (s : Se
         at_lo = All-append low_end pairs (pair ∷ []) so_far.at_lo (All-cons low_end pair [] lo (All-nil low_end));
         at_hi = All-append high_end pairs (pair ∷ []) so_far.at_hi (All-cons high_end pair [] hi (All-nil high_end));
       })
-
-  pub scored_all : (k : ℕ) (pairs : List (ScorePair F)) → k ≡ length s.vertex.basis.rows → AreScored k pairs → IsScored value p n s pairs
-  scored_all k pairs end all =
-      record { rows = all.rows ∙ ap (λ k. take k s.vertex.basis.rows) end ∙ take-length s.vertex.basis.rows; at_lo = all.at_lo; at_hi = all.at_hi }

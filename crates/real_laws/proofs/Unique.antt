@@ -21,9 +21,6 @@ use Rattle.real_laws.proofs.RingLaws.{none, less, solved, solved_by, from_differ
 use Rattle.real_laws.proofs.Minima.{cost_same, loss_same, row_bounded, total_of_residuals, shown}
 
 module _ (R : OrderedRing) where
-  by_same : (x y : R.Number) → x ≡ y → R.at_most x y
-  by_same x y e = subst (λ z. R.at_most x z) e (R.reflexive x)
-
   -- what is at most another, x + z of them at most y + w
   cancelled : (x y z w : R.Number) → R.at_most x y → R.at_most (R.sum y w) (R.sum x z) → R.at_most w z
   cancelled x y z w h k =

@@ -32,16 +32,16 @@ use Rattle.report_text.specs.declared.report.Fit.{Fit}
 use Rattle.report_text.specs.declared.report.Refusal.TheVariants as refusals
 use Rattle.report_text.specs.declared.report.Halt.{Halt}
 use Rattle.report_text.specs.declared.report.Halt.TheVariants.{Refused, OutOfMemory, PivotLimit, Overflow, Rejected}
-use Rattle.rq_input.specs.Inputs.{HasInputCause, IsInput}
+use Rattle.rq_input.specs.Inputs.{IsInput}
 use Rattle.rq_input.specs.declared.input.Input.{Input}
 use Rattle.rq_input.specs.Rows.{HasRows}
 use Rattle.rq_engine.specs.Fit.{IsRightFit}
 use Rattle.rq_engine.specs.Intervals.{AreRightIntervals, asked_by}
 use Rattle.rq_engine.specs.Stops.{HasProblemCause}
 use Rattle.rq_engine.proofs.Fits.{process_scorable}
-use Rattle.rq_engine.specs.Answers.{HasCertifyCause, HasFitCause, IsCertified}
+use Rattle.rq_engine.specs.Answers.{HasCertifyCause, IsCertified}
 use Rattle.rq_engine.specs.Certifying.{HasCertifiedCause, IsKept, IsLengthHalt}
-use Rattle.rq_engine.proofs.Causes.{input_cause, problem_cause}
+use Rattle.rq_engine.proofs.Causes.{problem_cause}
 use Rattle.rq_engine.proofs.Listed.{listed_vertex}
 
 -- ---- what a certificate keeps
@@ -121,14 +121,6 @@ pub fit_ended : (job : FitJob) (fit : Fit) → IsRightFit value job fit → All 
 fit_ended job fit right = intervals_kept value fit.problem job.limit right.shaped.columns (asked_by job.rank fit.problem.columns) fit.intervals right.intervals
 
 -- ---- causes
-
-certify_cause : (job : FitJob) (bytes : List ℕ) (halt : Halt) → HasFitCause job (is_some job.rank) bytes halt → HasCertifyCause job bytes halt
-certify_cause job bytes (Refused (refusals.CertTooLong n)) h = absurd h.2.cause
-certify_cause job bytes halt h = h
-
--- why there is no input is why there is no certificate
-pub input_certify : (job : FitJob) (bytes : List ℕ) (halt : Halt) → HasInputCause job (is_some job.rank) bytes halt → HasCertifyCause job bytes halt
-input_certify job bytes halt h = certify_cause job bytes halt (input_cause job (is_some job.rank) bytes halt h)
 
 -- why a problem has no fit is why its input has no certificate
 pub problem_certified : (job : FitJob) (input : Input) (halt : Halt) → HasProblemCause job (length input.design.rows) input.problem halt → HasCertifiedCause job input halt

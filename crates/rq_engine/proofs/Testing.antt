@@ -17,7 +17,6 @@ use Rattle.loss_model.specs.FullRank.{HasFullRank}
 use Rattle.loss_model.specs.declared.problem.Row.{Row}
 use Rattle.loss_model.specs.Problem.{IsWellShaped, of_row, sample}
 use Rattle.loss_model.specs.Segment.{Covers, segments_of}
-use Rattle.loss_model.specs.StartStop.{IsStartStop}
 use Rattle.pivot_rule.specs.Duals.{HasCosts}
 use Rattle.pivot_rule.proofs.DataRows.{data_costs}
 use Rattle.tau_process.specs.Processes.{IsProcess}
@@ -132,22 +131,12 @@ pub input_data : (input : Input) → HasRows input → length input.smoothing.ro
 input_data input rows none i l = rows.are_data i (omega (arith, rows.size, none, l))
 
 module _ (job : TestJob) (input : Input) where
-  -- the start of the whole problem stops
-  pub start_stop : (stop : Stop Frac128) → IsStartStop value most input.problem stop → HasTestCause job input (stop_halt places.Full stop)
-  start_stop stops.OutOfMemory h = tt
-  start_stop (stops.PivotLimit limit trail) h = absurd h
-  start_stop (stops.Overflow trail spill) h = h
-  start_stop (stops.Dependent combination) h = h
-
   -- the problem without the tested columns has no scores
   pub scored_cause : HasFullRank (sample value input.problem) → (halt : Halt) → HasScoredCause job.fit (restricted_problem job.tested input.problem) halt → HasTestCause job input halt
   scored_cause rank (Refused (Dependent combination)) h = absurd h
   scored_cause rank (PivotLimit place limit trail) h = (rank, h)
   scored_cause rank (Overflow places.Full trail spill) h = absurd h
   scored_cause rank halt h = h
-
-  pub wilcoxon_size : (q : Process Frac128) (wilcoxon : List Fraction) → AreScoredBy job.fit (restricted_problem job.tested input.problem) q wilcoxon → length wilcoxon ≡ length input.problem.rows
-  wilcoxon_size q wilcoxon by = by.scores.size ∙ length-map input.problem.rows (restricted_row job.tested)
 
 -- ---- the bytes of an input
 

@@ -16,17 +16,14 @@ use Rattle.design_matrix.specs.declared.design.PredictRow.{PredictRow}
 use Rattle.design_matrix.specs.declared.fault.DesignFault.{DesignFault}
 use Rattle.design_matrix.specs.declared.fault.DesignFault.TheVariants as designs
 use Rattle.rq_words.specs.declared.job.FitJob.{FitJob}
-use Rattle.report_text.specs.declared.report.Refusal.{Refusal}
 use Rattle.report_text.specs.declared.report.Refusal.TheVariants as refusals
 use Rattle.report_text.specs.declared.report.Halt.{Halt}
-use Rattle.report_text.specs.declared.report.Halt.TheVariants.{Refused, OutOfMemory, PivotLimit, Overflow, Rejected}
-use Rattle.rq_input.specs.Halts.{design_halt}
-use Rattle.rq_input.specs.Inputs.{AreTable, HasModelCause}
+use Rattle.report_text.specs.declared.report.Halt.TheVariants.{Refused, OutOfMemory}
+use Rattle.rq_input.specs.Inputs.{HasModelCause}
 use Rattle.rq_input.specs.Models.{IsModel}
-use Rattle.rq_input.specs.Plain.{HasPlainCause, HasPlainTableCause, IsPlainModel}
-use Rattle.rq_input.specs.Predicting.{HasRow, HasRowsCause, LacksRowOf}
-use Rattle.rq_input.specs.Predictions.{ArePredicted, HasEntries, HasPredictionCause, HasRecordsCause, LacksPredictions}
-use Rattle.rq_input.specs.Rows.{HasRows}
+use Rattle.rq_input.specs.Plain.{HasPlainTableCause, IsPlainModel}
+use Rattle.rq_input.specs.Predicting.{HasRow, LacksRowOf}
+use Rattle.rq_input.specs.Predictions.{ArePredicted, HasEntries}
 use Rattle.rq_input.specs.declared.input.Input.{Input}
 use Rattle.rq_input.proofs.Inputs.{model_cause, no_names}
 use Rattle.rq_input.proofs.Lists.{filter_count, zip_length, zip_map}
@@ -41,35 +38,6 @@ module _ (job : FitJob) where
   model_plain table model stated (Refused (refusals.Program fault)) h = model_cause job true table model stated (Refused (refusals.Program fault)) h
   model_plain table model stated OutOfMemory h = tt
   model_plain table model stated halt h = absurd h
-
-  -- and why a table has none is why its bytes have none
-  pub table_plain : (bytes : List ℕ) (table : Table) → AreTable bytes table → (halt : Halt) → HasPlainTableCause job table halt → HasPlainCause job bytes halt
-  table_plain bytes table are (Refused refusals.TooLong) h = absurd h.cause
-  table_plain bytes table are (Refused (refusals.Table fault)) h = absurd h.cause
-  table_plain bytes table are (Refused (refusals.Formula fault)) h = (table, are, h)
-  table_plain bytes table are (Refused refusals.RankWithPenalty) h = absurd h
-  table_plain bytes table are (Refused refusals.SmoothNotTaken) h = (table, are, h)
-  table_plain bytes table are (Refused (refusals.Design fault)) h = (table, are, h)
-  table_plain bytes table are (Refused (refusals.Penalty fault)) h = (table, are, h)
-  table_plain bytes table are (Refused (refusals.Program fault)) h = (table, are, h)
-  table_plain bytes table are (Refused refusals.NothingToPredict) h = (table, are, h)
-  table_plain bytes table are (Refused (refusals.NoSuchColumn number)) h = (table, are, h)
-  table_plain bytes table are (Refused refusals.AllTested) h = (table, are, h)
-  table_plain bytes table are (Refused (refusals.TooManyPredictions found)) h = (table, are, h)
-  table_plain bytes table are (Refused (refusals.Dependent combination)) h = (table, are, h)
-  table_plain bytes table are (Refused (refusals.CertTooLong length)) h = (table, are, h)
-  table_plain bytes table are (Refused (refusals.Certificate fault)) h = (table, are, h)
-  table_plain bytes table are OutOfMemory h = tt
-  table_plain bytes table are (PivotLimit place limit trail) h = (table, are, h)
-  table_plain bytes table are (Overflow place trail spill) h = (table, are, h)
-  table_plain bytes table are (Rejected rejection) h = (table, are, h)
-
-  -- bytes without an input ask for no predictions
-  pub plain_prediction : (bytes : List ℕ) (halt : Halt) → HasPlainCause job bytes halt → HasPredictionCause job bytes halt
-  plain_prediction bytes (Refused (refusals.Design fault)) h = inl h
-  plain_prediction bytes (Refused refusals.NothingToPredict) h = absurd h.2.cause
-  plain_prediction bytes (Refused (refusals.TooManyPredictions found)) h = absurd h.2.cause
-  plain_prediction bytes halt h = h
 
 -- ---- the rows
 
@@ -137,12 +105,6 @@ module _ (table : Table) (model : Formula) (coding : Coding) (design : Design) w
     })
   ]
 
-  -- why there are no rows of records that aren't too many
-  pub rows_cause : 1 ≤ length (predicted table model) → length (predicted table model) ≤ 64 → (fault : DesignFault) → LacksRowOf table model coding design fault → HasRowsCause table model coding design (design_halt fault)
-  rows_cause some few fault (inl memory) = subst (λ f. HasRowsCause table model coding design (design_halt f)) (sym memory) tt
-  rows_cause some few designs.OutOfMemory (inr lacks) = tt
-  rows_cause some few fault (inr lacks) = (some, few, lacks)
-
 -- without smooths the columns of the problem are those of the design
 plain_columns : (job : FitJob) (table : Table) (model : Formula) (input : Input) → IsPlainModel job table model input → length input.design.names ≡ input.problem.columns
 plain_columns job table model input by =
@@ -152,18 +114,3 @@ plain_columns job table model input by =
 pub problem_entries : (job : FitJob) (table : Table) (model : Formula) (input : Input) → IsPlainModel job table model input → (rows : List PredictRow) → All (HasEntries (length input.design.names)) rows
     → All (HasEntries input.problem.columns) rows
 problem_entries job table model input by rows all = subst (λ n. All (HasEntries n) rows) (plain_columns job table model input by) all
-
--- why the records of a table's design aren't predicted is why its bytes have no predictions
-pub rows_prediction : (job : FitJob) (bytes : List ℕ) (table : Table) → AreTable bytes table → (model : Formula) (input : Input) → IsPlainModel job table model input → HasRows input → (halt : Halt)
-    → HasRowsCause table model job.coding input.design halt → HasPredictionCause job bytes halt
-rows_prediction job bytes table are model input by rows halt h = of halt h
-  where
-    lacking : (refusal : Refusal) → HasRecordsCause table model job.coding input.design refusal → (table : Table) × AreTable bytes table × LacksPredictions job table refusal
-    lacking refusal h = (table, are, record { model = model; input = input; by = by; rows = rows; cause = h })
-
-    of : (halt : Halt) → HasRowsCause table model job.coding input.design halt → HasPredictionCause job bytes halt
-    of (Refused (refusals.Design fault)) h = inr (lacking (refusals.Design fault) h)
-    of (Refused refusals.NothingToPredict) h = lacking refusals.NothingToPredict h
-    of (Refused (refusals.TooManyPredictions found)) h = lacking (refusals.TooManyPredictions found) h
-    of OutOfMemory h = tt
-    of halt h = absurd h

@@ -147,10 +147,6 @@ words_unranked (job ∷ rest) r h =
     let kind = found_ok (kind_of job) (λ kind. words_of_job kind (job ∷ rest)) UnknownJob _ h in
     job_unranked kind.0 (job ∷ rest) r kind.1
 
--- predictions ask for no rank intervals
-pub predict_unranked : (words : List Text) (f : FitRequest) → words_of words ≡ Ok (request.Predict f) → f.rank ≡ None
-predict_unranked words f h = words_unranked words (request.Predict f) h
-
 -- nor does a test
 pub test_unranked : (words : List Text) (t : TestRequest) → words_of words ≡ Ok (request.Test t) → t.fit.rank ≡ None
 test_unranked words t h = words_unranked words (request.Test t) h

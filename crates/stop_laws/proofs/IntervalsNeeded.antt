@@ -1,22 +1,18 @@
 -- Each stop of a rank interval was needed.
-use Rattle.std.specs.Prelude.{ℕ, ◌*◌, ◌<◌, slice_index}
-use Rattle.std.proofs.Common.{sym, subst, inl, inr}
+use Rattle.std.specs.Prelude.{ℕ, ◌*◌, ◌<◌}
+use Rattle.std.proofs.Common.{sym, subst}
 use Rattle.exact_algebra.specs.Fraction.{Fraction}
 use Rattle.exact_algebra.specs.Rational.{ℚ}
 use Rattle.loss_model.specs.declared.problem.Problem.{Problem}
 use Rattle.loss_model.specs.declared.stop.Stop.{Stop}
 use Rattle.loss_model.specs.declared.stop.Stop.TheVariants.{OutOfMemory, PivotLimit, Overflow, Dependent}
-use Rattle.loss_model.specs.declared.process.Trail.{Trail}
-use Rattle.loss_model.specs.FullRank.{HasFullRank}
 use Rattle.loss_model.specs.Problem.{sample}
-use Rattle.loss_model.specs.Sample.{Sample}
-use Rattle.pivot_rule.proofs.Solved.{full_rank}
 use Rattle.pivot_rule.specs.Duals.{HasCosts}
 use Rattle.walk_rule.specs.WalkTrails.{ReachesIntervalLimit}
 use Rattle.pivot_bound.specs.BoundLaws.{further_bases}
 use Rattle.pivot_bound.proofs.Bounds.{interval_within}
 use Rattle.stop_laws.specs.NeededStops.{IsNeeded}
-use Rattle.stop_laws.proofs.Needed.{below, dependent, solve_full}
+use Rattle.stop_laws.proofs.Needed.{below, dependent}
 use Rattle.rank_inversion.specs.Stops.{IsIntervalStop}
 use Rattle.stop_laws.proofs.IntervalsSpilled.{of_interval}
 
@@ -29,8 +25,3 @@ module _ {F : Type 0} (value : F → Fraction) (range : ℕ) (p : Problem F) (j 
       (λ long. interval_within value (sample value p) tau j h.1.0 shown trail costs lj long)
   interval_needed (Overflow trail spill) costs lj h = of_interval value range spill p j tau crit limit trail h
   interval_needed (Dependent combination) costs lj h = dependent (sample value p) _ h.dependence
-
--- where the trail of an interval reaches a limit, the columns are independent
-pub interval_full : {F : Type 0} (value : F → Fraction) (p : Sample) (j : ℕ) (tau bound : ℚ) (limit : ℕ) (trail : Trail F) → ReachesIntervalLimit value p tau j bound limit trail → HasFullRank p
-interval_full value p j tau bound limit trail (inl h) = solve_full value p tau limit trail h
-interval_full value p j tau bound limit trail (inr h) = full_rank p (slice_index h.basis) h.lawful.optimal.a h.lawful.optimal.is_basis

@@ -77,10 +77,6 @@ module _ {F : Type 0} (value : F → Fraction) (positive : (x : F) → 1 ≤ (va
   pub unit_positive : (p : Problem F) → 1 ≤ unit value p
   unit_positive p = one_le_values p.rows
 
-  -- the rows one by one
-  abbrev Row_over : ℕ → Row F → Type 0
-  Row_over q r = AllDivide q (row_values value r)
-
   at_row : (q : ℕ) (n : Row F → ℤ) (x : Row F → ℚ) (rows : List (Row F)) → ((r : Row F) → AllDivide q (row_values value r) → whole (n r) ≡ whole (pos q) *ℚ x r) → AllDivide q (values value rows) → (i : ℕ)
       → whole (option_map_or n (slice_get rows i) (pos 0)) ≡ whole (pos q) *ℚ option_map_or x (slice_get rows i) (whole (pos 0))
   at_row q n x [] each h i = nothing q

@@ -16,7 +16,7 @@ use Rattle.loss_model.specs.Sample.{Sample, residual, fitted}
 use Rattle.walk_rule.proofs.Lines.{le_by}
 use Rattle.whole_inverse.specs.Shares.{share}
 use Rattle.whole_solution.specs.declared.ranges.Ranges.{Ranges}
-use Rattle.whole_solution.specs.Far.{room, FarRowsKeep, IsFarOn}
+use Rattle.whole_solution.specs.Far.{room, IsFarOn}
 use Rattle.whole_solution.specs.Ranges.{AreInRanges}
 use Rattle.whole_solution.proofs.Within.{products_stay_in_range}
 use Rattle.whole_solution.proofs.Sizes.{negated_size, own_size}
@@ -72,9 +72,6 @@ module _ (p : Sample) (ranges : Ranges) (from to : ℕ → ℚ) (i : ℕ) (withi
     keeps_on Up away = keeps_up away
     keeps_on Down away = keeps_down away
     keeps_on Basic away = absurd away
-
-pub far_rows_keep : FarRowsKeep
-far_rows_keep p ranges from to far least i within short = (keeps_up p ranges from to i within far least short, keeps_down p ranges from to i within far least short)
 
 -- ---- shares in order
 

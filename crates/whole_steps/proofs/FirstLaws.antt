@@ -92,6 +92,3 @@ module _ (l : Line) (line : IsLine l) where
   pub first_of_all : (m : Mover) → IsFirstMoverOf l (λ i. i) (length l.basis.now.rows.now) m → IsFirstMover (model l) (at_of l) (inverse_at l) l.position l.direction m.row
   unfolding is_moving comes_before
   first_of_all m h = record { row = h.mover.row; mover = h.mover.moves; least = h.least }
-
-  pub some_first : IsFirstOf l (λ i. i) (length l.basis.now.rows.now) None → (i : ℕ) × (i < length l.basis.now.rows.now) × (is_moving l i ≡ true) → ⊥
-  some_first h (i, li, moving) = no (sym moving ∙ h i li)

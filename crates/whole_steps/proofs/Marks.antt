@@ -1,21 +1,11 @@
 -- Rows that may come before a mover.
-use Rattle.std.specs.Prelude.{◌≡◌, ℕ, zero, suc, ◌+◌, ◌<◌, Bool, true, false, ◌&&◌, List, [], ◌∷◌, ◌++◌, get_or, length, IsTrue}
-use Rattle.std.proofs.Common.{arith, refl, sym, ap₂, ◌∙◌}
+use Rattle.std.specs.Prelude.{◌≡◌, ℕ, ◌<◌, Bool, true, false, ◌&&◌, List, get_or, length, IsTrue}
+use Rattle.std.proofs.Common.{refl, sym, ap₂, ◌∙◌}
 use Rattle.pivot_rule.proofs.Passing.{not_before_itself}
 use Rattle.whole_steps.specs.declared.line.Line.{Line}
 use Rattle.whole_steps.specs.Lines.{model, at_of, inverse_at, IsLine, is_moving, comes_before}
 use Rattle.whole_steps.specs.Rivals.{AreMarked}
 use Rattle.whole_steps.proofs.FirstLaws.{no, trans}
-
--- what holds where there is no mark holds of one item more
-pub unmarked_more : (Q : ℕ → Type 0) (marks : List Bool) (mark : Bool) (n : ℕ) → length marks ≡ n → ((i : ℕ) → i < n → get_or marks i false ≡ false → Q i) → (mark ≡ false → Q n)
-    → (i : ℕ) → i < n + 1 → get_or (marks ++ mark ∷ []) i false ≡ false → Q i
-unmarked_more Q [] mark zero size h own zero l e = own e
-unmarked_more Q [] mark zero size h own (suc i) l e = absurd (omega arith)
-unmarked_more Q [] mark (suc n) size h own i l e = absurd (omega arith)
-unmarked_more Q (x ∷ marks) mark zero size h own i l e = absurd (omega arith)
-unmarked_more Q (x ∷ marks) mark (suc n) size h own zero l e = h 0 (omega arith) e
-unmarked_more Q (x ∷ marks) mark (suc n) size h own (suc i) l e = unmarked_more (λ i. Q (suc i)) marks mark n (omega arith) (λ i l. h (suc i) (omega arith)) own i (omega arith) e
 
 module _ (l : Line) (line : IsLine l) where
   not_itself : (i : ℕ) → comes_before l i i ≡ false
