@@ -53,10 +53,7 @@ width_same coding (Computed values) = refl
 
 width_near : (coding : Coding) (n : ℕ) → n ≤ width_of coding n + 1
 width_near Treatment n = omega arith
-width_near Sas n = omega arith
-width_near Sum n = omega arith
-width_near Helmert n = omega arith
-width_near Indicator n = omega arith
+width_near other n = omega arith
 
 levels_near : (coding : Coding) (values : Values) → levels_held values ≤ width_held coding values + 1
 levels_near coding (Numbers cells records) = omega arith

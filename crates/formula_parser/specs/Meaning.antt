@@ -58,11 +58,8 @@ module _ (only : Span → Bool → Term) (computed : ArithPart → Term) (all : 
   -- only items that are products have terms
   abbrev pub items_meaning : Items → Result Terms ℕ
   items_meaning (Start l (TermItem p)) = sum_meaning (First l p)
-  items_meaning (Start l (Nil m)) = Ok []
-  items_meaning (Start l (Intercept m)) = Ok []
-  items_meaning (StartPart p) = Ok []
-  items_meaning (StartPlus n p) = Ok []
   items_meaning (Then j x n (TermItem p)) = items_meaning j >>= λ a. product_meaning p >>= λ b. limited n (combined x a b)
   items_meaning (Then j x n (Nil m)) = items_meaning j
   items_meaning (Then j x n (Intercept m)) = items_meaning j
   items_meaning (ThenPart j n p) = items_meaning j
+  items_meaning other = Ok []

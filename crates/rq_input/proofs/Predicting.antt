@@ -46,23 +46,9 @@ module _ (job : FitJob) where
   pub table_plain : (bytes : List ℕ) (table : Table) → AreTable bytes table → (halt : Halt) → HasPlainTableCause job table halt → HasPlainCause job bytes halt
   table_plain bytes table are (Refused refusals.TooLong) h = absurd h.cause
   table_plain bytes table are (Refused (refusals.Table fault)) h = absurd h.cause
-  table_plain bytes table are (Refused (refusals.Formula fault)) h = (table, are, h)
   table_plain bytes table are (Refused refusals.RankWithPenalty) h = absurd h
-  table_plain bytes table are (Refused refusals.SmoothNotTaken) h = (table, are, h)
-  table_plain bytes table are (Refused (refusals.Design fault)) h = (table, are, h)
-  table_plain bytes table are (Refused (refusals.Penalty fault)) h = (table, are, h)
-  table_plain bytes table are (Refused (refusals.Program fault)) h = (table, are, h)
-  table_plain bytes table are (Refused refusals.NothingToPredict) h = (table, are, h)
-  table_plain bytes table are (Refused (refusals.NoSuchColumn number)) h = (table, are, h)
-  table_plain bytes table are (Refused refusals.AllTested) h = (table, are, h)
-  table_plain bytes table are (Refused (refusals.TooManyPredictions found)) h = (table, are, h)
-  table_plain bytes table are (Refused (refusals.Dependent combination)) h = (table, are, h)
-  table_plain bytes table are (Refused (refusals.CertTooLong length)) h = (table, are, h)
-  table_plain bytes table are (Refused (refusals.Certificate fault)) h = (table, are, h)
   table_plain bytes table are OutOfMemory h = tt
-  table_plain bytes table are (PivotLimit place limit trail) h = (table, are, h)
-  table_plain bytes table are (Overflow place trail spill) h = (table, are, h)
-  table_plain bytes table are (Rejected rejection) h = (table, are, h)
+  table_plain bytes table are other h = (table, are, h)
 
   -- bytes without an input ask for no predictions
   pub plain_prediction : (bytes : List ℕ) (halt : Halt) → HasPlainCause job bytes halt → HasPredictionCause job bytes halt

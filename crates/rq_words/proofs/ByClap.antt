@@ -33,13 +33,7 @@ all_options app names required i h = rw take_all refl
 pub simple : (kind : Kind) → is_simple_and_free (command_of (options_of kind)) ≡ true
 unfolding clap_on_literals
 simple Process = refl
-simple Ranks = refl
-simple Certify = refl
-simple Check = refl
-simple Sample = refl
-simple Test = refl
-simple Predict = refl
-simple Path = refl
+simple other = refl
 
 first_of_and : (a b : Bool) → (a && b) ≡ true → a ≡ true
 first_of_and true b h = refl
