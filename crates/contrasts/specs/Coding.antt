@@ -6,11 +6,8 @@ use Rattle.contrasts.specs.declared.Coding.TheVariants.{Treatment, Sas, Sum, Hel
 
 -- the number of columns of a coding of k levels
 abbrev pub width_of : Coding → ℕ → ℕ
-width_of Treatment k = k - 1
-width_of Sas k = k - 1
-width_of Sum k = k - 1
-width_of Helmert k = k - 1
 width_of Indicator k = k
+width_of other k = k - 1
 
 -- the entry of column j at level l, of k levels
 abbrev pub entry_of : Coding → ℕ → ℕ → ℕ → ℤ

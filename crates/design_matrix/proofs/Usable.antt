@@ -7,7 +7,7 @@ use Rattle.std.specs.List.{flat_map}
 use Rattle.std.specs.Option.{option_or}
 use Rattle.std.specs.declared.alloc.Global.{Global}
 use Rattle.contrasts.specs.declared.Coding.{Coding}
-use Rattle.contrasts.specs.declared.Coding.TheVariants.{Treatment, Sas, Sum, Helmert, Indicator}
+use Rattle.contrasts.specs.declared.Coding.TheVariants.{Treatment}
 use Rattle.contrasts.specs.Coding.{width_of}
 use Rattle.design_matrix.specs.declared.coded.CodedVariable.{CodedVariable as Held}
 use Rattle.design_matrix.specs.declared.coded.Values.{Values}
@@ -53,10 +53,7 @@ width_same coding (Computed values) = refl
 
 width_near : (coding : Coding) (n : ℕ) → n ≤ width_of coding n + 1
 width_near Treatment n = omega arith
-width_near Sas n = omega arith
-width_near Sum n = omega arith
-width_near Helmert n = omega arith
-width_near Indicator n = omega arith
+width_near other n = omega arith
 
 levels_near : (coding : Coding) (values : Values) → levels_held values ≤ width_held coding values + 1
 levels_near coding (Numbers cells records) = omega arith

@@ -2,7 +2,7 @@
 use Rattle.std.proofs.Common.{◌≡◌, ℕ, List, [], ◌∷◌, ◌++◌, Option, Some, None, option_and_then, refl, sym, ◌∙◌, ap, append_assoc}
 use Rattle.formula_grammar.specs.Words.{Sign, Plus, Digits, Kind, Number, Signed, Star, Colon, Caret, Close, End, Token}
 use Rattle.formula_grammar.specs.Grammar.{token, Bare, Led, Sum, First, More, Product, One, Times, Inter, Lone, Cross, Power, Plain, Raised, Atom}
-use Rattle.formula_grammar.specs.Grammar.{Leaf, Factor, Computed, Dot, Group, Offset, Part, Smoothing, Offsetting, Item, Nil, Intercept, Term, Items, Start, StartPart}
+use Rattle.formula_grammar.specs.Grammar.{Leaf, Computed, Group, Offset, Part, Smoothing, Offsetting, Item, Nil, Intercept, Term, Items, Start, StartPart}
 use Rattle.formula_grammar.specs.Grammar.{StartPlus, Then, ThenPart, Head, Formula, sum_tokens, product_tokens, inter_tokens, power_tokens, atom_tokens, part_tokens, offset_tokens, item_tokens, items_tokens, formula_tokens, OneFormula}
 use Rattle.formula_grammar.proofs.Automaton.{Left, Lefts, no_lefts, Front, Leads, After, PartFront, Nowhere, BehindPlus, BehindItems, Around, Bottom, Inside, Slot, TermSlot, OffsetSlot, State, Begin, Computing, Fresh}
 use Rattle.formula_grammar.proofs.Automaton.{Wants, Has, HasItems, Done, onto_inter, onto_product, product_of, onto_sum, onto_items, signed, closing, ending, behind, behind_items, onto_part, slot_end, slot_step, step_at, run}
@@ -108,10 +108,7 @@ reads_slot c a n rest =
 -- A product may stand where a sign or an item may.
 opens_atom : (a : Atom) (o : Around) (rest : List Token) → run (Fresh o) (atom_tokens a ++ rest) ≡ run (Wants no_lefts o) (atom_tokens a ++ rest)
 opens_atom (Leaf x n) o rest = refl
-opens_atom (Factor w p x n c) o rest = refl
-opens_atom (Computed w p a c) o rest = refl
-opens_atom (Dot n) o rest = refl
-opens_atom (Group n s c) o rest = refl
+opens_atom other o rest = refl
 
 opens_power : (p : Power) (o : Around) (rest : List Token) → run (Fresh o) (power_tokens p ++ rest) ≡ run (Wants no_lefts o) (power_tokens p ++ rest)
 opens_power (Plain a) o rest = opens_atom a o rest
@@ -162,17 +159,15 @@ mutual
       ∙ reads_atom a l o (token Caret n ∷ token (Number (Digits k)) m ∷ rest)
 
   reads_atom : (a : Atom) (l : Lefts) (o : Around) (rest : List Token) → run (Wants l o) (atom_tokens a ++ rest) ≡ run (Has (Plain a) l o) rest
-  reads_atom (Leaf x n) l o rest = refl
-  reads_atom (Factor w p x n c) l o rest = refl
   reads_atom (Computed w p a c) l o rest =
       ap (run (Computing (TermSlot w p l o) (Begins Top))) (append_assoc (arith_tokens a) (token Close c ∷ []) rest)
       ∙ reads_slot (TermSlot w p l o) a c rest
-  reads_atom (Dot n) l o rest = refl
   reads_atom (Group m s c) l o rest =
       ap (run (Fresh (Inside (Leads Bare) m l o))) (append_assoc (sum_tokens s) (token Close c ∷ []) rest)
       ∙ reads_sum s m l o (token Close c ∷ rest)
       ∙ product_close (last_sum s) (Inside (front_sum s) m l o) c rest
       ∙ ap (λ (t : Sum). run (Has (Plain (Group m t c)) l o) rest) (whole_sum s)
+  reads_atom other l o rest = refl
 
 abbrev has_item : Item → Head → Front Items → State
 has_item (Nil n) h f = HasItems (onto_items f (Nil n)) h
@@ -207,9 +202,7 @@ item_next (Intercept m) h f n k rest w = refl
 items_next : (j : Items) (h : Head) (n : ℕ) (k : Kind) (rest : List Token) → IsNext k → run (has_items j h) (token k n ∷ rest) ≡ option_and_then (λ s. run s rest) (behind_items j h n k)
 items_next (Start l i) h n k rest w = item_next i h (Leads l) n k rest w
 items_next (Then j x m i) h n k rest w = item_next i h (After j x m) n k rest w
-items_next (StartPart p) h n k rest w = refl
-items_next (StartPlus m p) h n k rest w = refl
-items_next (ThenPart j m p) h n k rest w = refl
+items_next other h n k rest w = refl
 
 -- a smooth or an offset behind its front
 abbrev fronted : PartFront → Front Items

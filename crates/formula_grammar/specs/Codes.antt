@@ -43,14 +43,11 @@ abbrev mutual
 abbrev pub items_code : Items → List Step
 items_code (Start Bare (Term p)) = product_code p
 items_code (Start (Led x n) (Term p)) = Nothing ∷ (product_code p ++ (signed_step x n ∷ []))
-items_code (Start l (Nil m)) = Nothing ∷ []
-items_code (Start l (Intercept m)) = Nothing ∷ []
-items_code (StartPart p) = Nothing ∷ []
-items_code (StartPlus n p) = Nothing ∷ []
 items_code (Then j x n (Term p)) = items_code j ++ (product_code p ++ (signed_step x n ∷ []))
 items_code (Then j x n (Nil m)) = items_code j
 items_code (Then j x n (Intercept m)) = items_code j
 items_code (ThenPart j n p) = items_code j
+items_code other = Nothing ∷ []
 
 -- `+ 1` and `- 0` put the intercept there, `- 1` and `+ 0` take it away
 abbrev pub intercept_by : Item → Sign → Bool → Bool

@@ -5,7 +5,7 @@ use Rattle.std.proofs.lemmas.List.{length-append}
 use Rattle.frac_core.specs.declared.arith.Arith.{Arith}
 use Rattle.formula_grammar.specs.Numerals.{power_of}
 use Rattle.formula_grammar.specs.Grammar.{Sum, First, More, Product, One, Times, Inter, Lone, Cross, Power, Plain, Raised, Atom}
-use Rattle.formula_grammar.specs.Grammar.{Leaf, Factor, Computed, Dot, Group, Nil, Intercept, Term, Items, Start, StartPart, StartPlus, Then}
+use Rattle.formula_grammar.specs.Grammar.{Computed, Group, Nil, Intercept, Term, Items, Start, StartPart, StartPlus, Then}
 use Rattle.formula_grammar.specs.Grammar.{ThenPart, Part, Smoothing, Offsetting, sum_tokens, product_tokens, inter_tokens, power_tokens, atom_tokens, part_tokens, items_tokens, item_tokens}
 use Rattle.formula_grammar.specs.Codes.{signed_step, sum_code, product_code, inter_code, power_code, atom_code, items_code, offsets_in, offsets_of}
 use Rattle.formula_grammar.specs.Arithmetics.{token, Bare, Led, arith_tokens}
@@ -57,26 +57,19 @@ mutual
       omega (arith, loads_append (atom_code a) (Raise (power_of k) m ∷ []), length-append (atom_tokens a) (token Caret m ∷ token (Number (Digits k)) q ∷ []), atom_loads a)
 
   atom_loads : (a : Atom) → 2 * loads (atom_code a) ≤ length (atom_tokens a)
-  atom_loads (Leaf x m) = omega arith
-  atom_loads (Factor w o x m c) = omega arith
   atom_loads (Computed w o a c) = omega (arith, length-append (arith_tokens a) (token Close c ∷ []))
-  atom_loads (Dot m) = omega arith
   atom_loads (Group o s c) = omega (arith, length-append (sum_tokens s) (token Close c ∷ []), sum_loads s)
+  atom_loads other = omega arith
 
 pub items_loads : (j : Items) → 2 * loads (items_code j) ≤ length (items_tokens j)
 items_loads (Start Bare (Term p)) = product_loads p
 items_loads (Start (Led x m) (Term p)) = sum_loads (First (Led x m) p)
-items_loads (Start Bare (Nil m)) = omega arith
-items_loads (Start (Led x q) (Nil m)) = omega arith
-items_loads (Start Bare (Intercept m)) = omega arith
-items_loads (Start (Led x q) (Intercept m)) = omega arith
-items_loads (StartPart p) = omega arith
-items_loads (StartPlus m p) = omega arith
 items_loads (Then j x m (Term p)) =
     omega (arith, three (items_code j) (product_code p) (signed_step x m ∷ []), signed_loads x m, length-append (items_tokens j) (token (Signed x) m ∷ product_tokens p), items_loads j, product_loads p)
 items_loads (Then j x m (Nil q)) = omega (arith, length-append (items_tokens j) (token (Signed x) m ∷ item_tokens (Nil q)), items_loads j)
 items_loads (Then j x m (Intercept q)) = omega (arith, length-append (items_tokens j) (token (Signed x) m ∷ item_tokens (Intercept q)), items_loads j)
 items_loads (ThenPart j m p) = omega (arith, length-append (items_tokens j) (token (Signed Plus) m ∷ part_tokens p), items_loads j)
+items_loads other = omega arith
 
 -- ---- offsets
 

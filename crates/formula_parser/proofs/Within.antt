@@ -158,18 +158,13 @@ module _ (text : Text) (names : List Text) where
     pub items_within : (j : Items) (last : Kind) → In last (items_tokens j) → Code (items_code j)
     items_within (Start Bare (Term p)) last h = product_within p last h
     items_within (Start (Led x m) (Term p)) last h = sum_within (First (Led x m) p) last h
-    items_within (Start Bare (Nil m)) last h = one Nothing tt
-    items_within (Start (Led x q) (Nil m)) last h = one Nothing tt
-    items_within (Start Bare (Intercept m)) last h = one Nothing tt
-    items_within (Start (Led x q) (Intercept m)) last h = one Nothing tt
-    items_within (StartPart p) last h = one Nothing tt
-    items_within (StartPlus m p) last h = one Nothing tt
     items_within (Then j x m (Term p)) last h =
         both (items_code j) (product_code p ++ (signed_step x m ∷ [])) (items_within j last (front last (items_tokens j) (token (Signed x) m ∷ product_tokens p) h))
         (both (product_code p) (signed_step x m ∷ []) (product_within p (Signed x) (behind last (items_tokens j) (token (Signed x) m) (product_tokens p) h)) (signed x m))
     items_within (Then j x m (Nil q)) last h = items_within j last (front last (items_tokens j) _ h)
     items_within (Then j x m (Intercept q)) last h = items_within j last (front last (items_tokens j) _ h)
     items_within (ThenPart j m p) last h = items_within j last (front last (items_tokens j) (token (Signed Plus) m ∷ part_tokens p) h)
+    items_within other last h = one Nothing tt
 
     part_within : (p : Part) (last : Kind) → In last (part_tokens p) → All (IsWithin n) (offsets_in p)
     part_within (Smoothing s) last h = All-nil (IsWithin n)

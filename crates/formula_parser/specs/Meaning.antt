@@ -5,7 +5,7 @@ use Rattle.formula_parser.specs.Words.{ArithPart, Span, Sign, Plus, Minus}
 use Rattle.formula_grammar.specs.Numerals.{power_of}
 use Rattle.formula_grammar.specs.Arithmetics.{Bare, Led}
 use Rattle.formula_grammar.specs.Grammar.{Sum, First, More, Product, One, Times, Inter, Lone, Cross, Power, Plain, Raised, Atom}
-use Rattle.formula_grammar.specs.Grammar.{Leaf, Factor, Computed, Dot, Group, Nil, Intercept, Items, Start, StartPart, StartPlus, Then, ThenPart}
+use Rattle.formula_grammar.specs.Grammar.{Leaf, Factor, Computed, Dot, Group, Nil, Intercept, Items, Start, Then, ThenPart}
 use Rattle.formula_grammar.specs.ArithCodes.{part_of}
 use Rattle.formula_grammar.specs.Grammar.{Term as TermItem}
 use Rattle.formula_parser.specs.Terms.{Term, Terms, plus, minus, cross, times, raised}
@@ -58,11 +58,8 @@ module _ (only : Span → Bool → Term) (computed : ArithPart → Term) (all : 
   -- only items that are products have terms
   abbrev pub items_meaning : Items → Result Terms ℕ
   items_meaning (Start l (TermItem p)) = sum_meaning (First l p)
-  items_meaning (Start l (Nil m)) = Ok []
-  items_meaning (Start l (Intercept m)) = Ok []
-  items_meaning (StartPart p) = Ok []
-  items_meaning (StartPlus n p) = Ok []
   items_meaning (Then j x n (TermItem p)) = items_meaning j >>= λ a. product_meaning p >>= λ b. limited n (combined x a b)
   items_meaning (Then j x n (Nil m)) = items_meaning j
   items_meaning (Then j x n (Intercept m)) = items_meaning j
   items_meaning (ThenPart j n p) = items_meaning j
+  items_meaning other = Ok []

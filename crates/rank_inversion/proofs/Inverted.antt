@@ -8,7 +8,7 @@ use Rattle.loss_model.specs.declared.problem.Problem.{Problem}
 use Rattle.loss_model.specs.declared.process.Exchange.{Exchange}
 use Rattle.loss_model.specs.declared.spill.Spill.{Spill}
 use Rattle.loss_model.specs.declared.stop.Stop.{Stop}
-use Rattle.loss_model.specs.declared.stop.Stop.TheVariants.{OutOfMemory, PivotLimit, Overflow, Dependent}
+use Rattle.loss_model.specs.declared.stop.Stop.TheVariants.{PivotLimit, Overflow, Dependent}
 use Rattle.loss_model.specs.Problem.{value_at, sample}
 use Rattle.loss_model.specs.Sample.{Sample}
 use Rattle.loss_model.specs.StartStop.{IsDependent}
@@ -229,7 +229,5 @@ module _ {F : Type 0} (value : F → Fraction) (p : Problem F) (asked : Asked F)
 
   pub stop_limited : (range : ℕ) (stop : Stop F) → IsIntervalStop value range p asked.column (rational (value asked.tau)) (rational (value asked.crit)) limit stop
       → IsLimited value p asked.column (rational (value asked.tau)) (rational (value asked.crit)) limit → IsLimitAnswer {A = Interval F} (Err stop)
-  stop_limited range OutOfMemory h reached = tt
-  stop_limited range (PivotLimit shown trail) h reached = tt
-  stop_limited range (Overflow trail s) h reached = tt
   stop_limited range (Dependent combination) h reached = not_dependent combination h reached
+  stop_limited range other h reached = tt

@@ -51,13 +51,7 @@ abbrev pub printed : Quantity → ℕ → ℕ → ℕ → PrintedIndices
 printed quantities.Coordinate i j k = Two (i + 1) (j + 1)
 printed quantities.Coefficient i j k = One (i + 1)
 printed quantities.Residual i j k = One (i + 1)
-printed quantities.NonbasicTotal i j k = Two (i + 1) j
-printed quantities.BasicDual i j k = Two (i + 1) j
-printed quantities.DualValue i j k = Two (i + 1) j
-printed quantities.CostValue i j k = Two (i + 1) j
-printed quantities.Slope i j k = Two (i + 1) j
 printed quantities.CostSum i j k = One (i + 1)
-printed quantities.Crossing i j k = Two (i + 1) j
 printed quantities.PerturbedRatio i j k = Three (i + 1) (j + 1) k
 printed quantities.ExchangedEntry i j k = Two (i + 1) (j + 1)
 printed quantities.Loss i j k = One i
@@ -72,9 +66,9 @@ printed quantities.DesignEntry i j k = Two i (j + 1)
 printed quantities.PenaltyEntry i j k = Two (i + 1) (j + 1)
 printed quantities.CheckSum i j k = Three i j k
 printed quantities.Prediction i j k = Two i (j + 1)
-printed quantities.PathCost i j k = Two (i + 1) j
 printed quantities.ArithValue i j k = Two i (j + 1)
 printed quantities.OffsetResponse i j k = One i
+printed other i j k = Two (i + 1) j
 
 -- the indices of a site as they are printed
 abbrev pub indices : Site → PrintedIndices

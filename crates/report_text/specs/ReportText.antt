@@ -261,10 +261,6 @@ report_text (Path fit) = path_text fit
 -- path has no more data rows than rows, and its segments have their values
 abbrev pub IsPrintable : Report → Type 0
 IsPrintable (Process fit) = (length fit.scores ≡ length fit.process.segments) × (fit.data_rows ≤ length fit.problem.rows)
-IsPrintable (Ranks ranks) = ⊤
-IsPrintable (Certificate cert) = ⊤
-IsPrintable (Checked cert) = ⊤
-IsPrintable (Sample fit) = ⊤
 IsPrintable (Test fit) = length fit.scores ≡ length fit.tested
-IsPrintable (Predict fit) = ⊤
 IsPrintable (Path fit) = (fit.data_rows ≤ length fit.problem.rows) × All IsPaired fit.process.segments
+IsPrintable other = ⊤

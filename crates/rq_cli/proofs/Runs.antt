@@ -10,8 +10,7 @@ use Rattle.rq_engine.specs.Jobs.{IsJobOf}
 use Rattle.report_text.specs.FaultText.{fault_line}
 use Rattle.report_text.specs.ReportText.{report_text}
 use Rattle.report_text.specs.declared.report.Report.{Report}
-use Rattle.report_text.specs.declared.report.Refusal.TheVariants.{TooLong, Table, Formula, RankWithPenalty, Design, Penalty, Program, Dependent}
-use Rattle.report_text.specs.declared.report.Refusal.TheVariants.{CertTooLong, Certificate, NoSuchColumn, AllTested, SmoothNotTaken, NothingToPredict, TooManyPredictions}
+use Rattle.report_text.specs.declared.report.Refusal.TheVariants.{TooLong}
 use Rattle.report_text.specs.declared.report.Halt.{Halt}
 use Rattle.report_text.specs.declared.report.Halt.TheVariants as halts
 use Rattle.rq_cli.specs.Outcomes.{Stream, OnDone, OnFault, outcome_line, AskSource, Reads, WereRead, HasCause, IsAnswered, IsErrorFault, IsFault, WasTried, IsRun}
@@ -38,24 +37,12 @@ told_line (faults.Halt other) = refl
 -- the engine never finds an input too long
 never_long : (job : Job) (bytes : List ℕ) → engine.HasCause job bytes (halts.Refused TooLong) → ⊥
 never_long (jobs.Process fit) bytes cause = cause
-never_long (jobs.Ranks fit) bytes cause = cause
-never_long (jobs.Certify fit) bytes cause = cause
-never_long jobs.Check bytes cause = cause
-never_long (jobs.Test job) bytes cause = cause
-never_long (jobs.Predict fit) bytes cause = cause
-never_long (jobs.Path job) bytes cause = cause
-never_long (jobs.Sample sample) bytes cause = cause
+never_long other bytes cause = cause
 
 -- want of memory needs no cause
 pub memory_cause : (job : Job) (bytes : List ℕ) → engine.HasCause job bytes halts.OutOfMemory
 memory_cause (jobs.Process fit) bytes = tt
-memory_cause (jobs.Ranks fit) bytes = tt
-memory_cause (jobs.Certify fit) bytes = tt
-memory_cause jobs.Check bytes = tt
-memory_cause (jobs.Test job) bytes = tt
-memory_cause (jobs.Predict fit) bytes = tt
-memory_cause (jobs.Path job) bytes = tt
-memory_cause (jobs.Sample sample) bytes = tt
+memory_cause other bytes = tt
 
 -- where words ask for no job that reads the source, theirs doesn't
 pub left_alone : (words : List (List ℕ)) (job : Job) → IsJobOf words job → ¬ AskSource words → ¬ Reads job
@@ -65,24 +52,8 @@ left_alone words job asked none reads = none (record { job = job; asked = asked;
 pub halt_cause : (words : List (List ℕ)) (source source' : Stream) (job : Job) (bytes : List ℕ) → WereRead words source source' job bytes → (halt : Halt) → engine.HasCause job bytes halt
     → IsFault words source source' (outcome_of (faults.Halt halt))
 halt_cause words source source' job bytes read (halts.Refused TooLong) cause = absurd (never_long job bytes cause)
-halt_cause words source source' job bytes read (halts.Refused (Table fault)) cause = record { job = job; bytes = bytes; read = read; cause = cause }
-halt_cause words source source' job bytes read (halts.Refused (Formula fault)) cause = record { job = job; bytes = bytes; read = read; cause = cause }
-halt_cause words source source' job bytes read (halts.Refused RankWithPenalty) cause = record { job = job; bytes = bytes; read = read; cause = cause }
-halt_cause words source source' job bytes read (halts.Refused SmoothNotTaken) cause = record { job = job; bytes = bytes; read = read; cause = cause }
-halt_cause words source source' job bytes read (halts.Refused (Design fault)) cause = record { job = job; bytes = bytes; read = read; cause = cause }
-halt_cause words source source' job bytes read (halts.Refused (Penalty fault)) cause = record { job = job; bytes = bytes; read = read; cause = cause }
-halt_cause words source source' job bytes read (halts.Refused (Program fault)) cause = record { job = job; bytes = bytes; read = read; cause = cause }
-halt_cause words source source' job bytes read (halts.Refused NothingToPredict) cause = record { job = job; bytes = bytes; read = read; cause = cause }
-halt_cause words source source' job bytes read (halts.Refused (NoSuchColumn number)) cause = record { job = job; bytes = bytes; read = read; cause = cause }
-halt_cause words source source' job bytes read (halts.Refused AllTested) cause = record { job = job; bytes = bytes; read = read; cause = cause }
-halt_cause words source source' job bytes read (halts.Refused (TooManyPredictions found)) cause = record { job = job; bytes = bytes; read = read; cause = cause }
-halt_cause words source source' job bytes read (halts.Refused (Dependent combination)) cause = record { job = job; bytes = bytes; read = read; cause = cause }
-halt_cause words source source' job bytes read (halts.Refused (CertTooLong length)) cause = record { job = job; bytes = bytes; read = read; cause = cause }
-halt_cause words source source' job bytes read (halts.Refused (Certificate fault)) cause = record { job = job; bytes = bytes; read = read; cause = cause }
 halt_cause words source source' job bytes read halts.OutOfMemory cause = tt
-halt_cause words source source' job bytes read (halts.PivotLimit place limit trail) cause = record { job = job; bytes = bytes; read = read; cause = cause }
-halt_cause words source source' job bytes read (halts.Overflow place trail spill) cause = record { job = job; bytes = bytes; read = read; cause = cause }
-halt_cause words source source' job bytes read (halts.Rejected rejection) cause = record { job = job; bytes = bytes; read = read; cause = cause }
+halt_cause words source source' job bytes read other cause = record { job = job; bytes = bytes; read = read; cause = cause }
 
 keeps : (bytes : Option (List ℕ)) → Keeps bytes bytes
 keeps None = tt
@@ -140,13 +111,7 @@ module _ (words : List (List ℕ)) (source source' out out' err err' : Stream) w
   fault_cause : (fault : Outcome) → IsFault words source source' fault → HasCause words source source' out out' err err' fault
   fault_cause (Done _) h = absurd h
   fault_cause SinkFault h = absurd h
-  fault_cause (Refused _) h = h
-  fault_cause (Usage _) h = h
-  fault_cause SourceFault h = h
-  fault_cause OutOfMemory h = h
-  fault_cause (PivotLimit _ _ _) h = h
-  fault_cause (Overflow _ _ _) h = h
-  fault_cause (Rejected _) h = h
+  fault_cause other h = h
 
   -- the line of a fault that was told, or half of it
   pub told_run : (fault outcome : Outcome) → IsFault words source source' fault → (source.faults < source'.faults → fault ≡ SourceFault) → out' ≡ out → WasTold fault outcome err err' → IsRun words source source' out out' err err' outcome

@@ -31,7 +31,7 @@ use Rattle.rq_words.specs.declared.job.FitJob.{FitJob}
 use Rattle.report_text.specs.declared.report.Fit.{Fit}
 use Rattle.report_text.specs.declared.report.Refusal.TheVariants as refusals
 use Rattle.report_text.specs.declared.report.Halt.{Halt}
-use Rattle.report_text.specs.declared.report.Halt.TheVariants.{Refused, OutOfMemory, PivotLimit, Overflow, Rejected}
+use Rattle.report_text.specs.declared.report.Halt.TheVariants.{Refused, OutOfMemory, PivotLimit, Overflow}
 use Rattle.rq_input.specs.Inputs.{IsInput}
 use Rattle.rq_input.specs.declared.input.Input.{Input}
 use Rattle.rq_input.specs.Rows.{HasRows}
@@ -142,21 +142,8 @@ certified_certify job bytes input is rows halt h = by halt h
 
     by : (halt : Halt) → HasCertifiedCause job input halt → HasCertifyCause job bytes halt
     by (Refused (refusals.CertTooLong n)) h = record { cert = h.0; right = (input, is, h.1); long = h.2 }
-    by (Refused (refusals.Certificate fault)) h = absurd h
     by (Refused (refusals.Dependent combination)) h = problem_cause job ranked bytes input is rows (Refused (refusals.Dependent combination)) h
-    by (Refused refusals.TooLong) h = absurd h
-    by (Refused (refusals.Table fault)) h = absurd h
-    by (Refused (refusals.Formula fault)) h = absurd h
-    by (Refused refusals.RankWithPenalty) h = absurd h
-    by (Refused refusals.SmoothNotTaken) h = absurd h
-    by (Refused (refusals.Design fault)) h = absurd h
-    by (Refused (refusals.Penalty fault)) h = absurd h
-    by (Refused (refusals.Program fault)) h = absurd h
-    by (Refused refusals.NothingToPredict) h = absurd h
-    by (Refused (refusals.NoSuchColumn number)) h = absurd h
-    by (Refused refusals.AllTested) h = absurd h
-    by (Refused (refusals.TooManyPredictions found)) h = absurd h
     by OutOfMemory h = tt
     by (PivotLimit place limit trail) h = problem_cause job ranked bytes input is rows (PivotLimit place limit trail) h
     by (Overflow place trail spill) h = problem_cause job ranked bytes input is rows (Overflow place trail spill) h
-    by (Rejected rejection) h = absurd h
+    by other h = absurd h

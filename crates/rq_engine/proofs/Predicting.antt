@@ -56,9 +56,7 @@ module _ (segments : List (Segment Frac128)) (row : PredictRow) where
 pub predict_stop : (job : FitJob) (asked : PredictionInput) (stop : Stop Frac128) → IsProcessStop value most asked.input.problem (rational (value job.lo)) (rational (value job.hi)) job.limit stop
     → HasPredictedCause job asked (stop_halt places.Process stop)
 predict_stop job asked stops.OutOfMemory h = tt
-predict_stop job asked (stops.PivotLimit limit trail) h = h
-predict_stop job asked (stops.Overflow trail spill) h = h
-predict_stop job asked (stops.Dependent combination) h = h
+predict_stop job asked other h = h
 
 -- so is a row that has none, after the process
 pub predict_short : (job : FitJob) (asked : PredictionInput) (q : Process Frac128) → HasResults value asked.input.problem (rational (value job.lo)) (rational (value job.hi)) q → length q.trail.steps ≤ job.limit

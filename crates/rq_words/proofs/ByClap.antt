@@ -11,7 +11,7 @@ use Rattle.clap.specs.declared.error.kind.ErrorKind.TheVariants as kind
 use Rattle.clap.proofs.OnLiterals.{clap_on_literals}
 use Rattle.rq_words.specs.Commands.{command_of, option_rule, options_of, read_by, some_if_none, with_rules}
 use Rattle.rq_words.specs.declared.command.Kind.{Kind}
-use Rattle.rq_words.specs.declared.command.Kind.TheVariants.{Process, Ranks, Certify, Check, Sample, Test, Predict, Path}
+use Rattle.rq_words.specs.declared.command.Kind.TheVariants.{Process}
 
 -- the options of these names
 abbrev pub options_named : Bool → List (Bor Text) → List Rule
@@ -33,13 +33,7 @@ all_options app names required i h = rw take_all refl
 pub simple : (kind : Kind) → is_simple_and_free (command_of (options_of kind)) ≡ true
 unfolding clap_on_literals
 simple Process = refl
-simple Ranks = refl
-simple Certify = refl
-simple Check = refl
-simple Sample = refl
-simple Test = refl
-simple Predict = refl
-simple Path = refl
+simple other = refl
 
 first_of_and : (a b : Bool) → (a && b) ≡ true → a ≡ true
 first_of_and true b h = refl

@@ -99,24 +99,12 @@ rank_few (Some crit) (Some taus) h = h
 
 -- the intervals of a certificate that is asked for
 abbrev HasFew : Request → Type 0
-HasFew (request.Process f) = Unit {0}
-HasFew (request.Ranks f) = Unit {0}
 HasFew (request.Certify f) = IsFewOf f.rank
-HasFew request.Check = Unit {0}
-HasFew (request.Sample s) = Unit {0}
-HasFew (request.Test t) = Unit {0}
-HasFew (request.Predict f) = Unit {0}
-HasFew (request.Path p) = Unit {0}
+HasFew other = Unit {0}
 
 request_few : (kind : Kind) (found : List Row) (n : OptionNumbers) (chosen : Coding) → AreFew n.taus → HasFew (request_for kind found n chosen)
-request_few kind.Process found n chosen h = tt
-request_few kind.Ranks found n chosen h = tt
 request_few kind.Certify found n chosen h = rank_few n.crit n.taus h
-request_few kind.Check found n chosen h = tt
-request_few kind.Sample found n chosen h = tt
-request_few kind.Test found n chosen h = tt
-request_few kind.Predict found n chosen h = tt
-request_few kind.Path found n chosen h = tt
+request_few other found n chosen h = tt
 
 checked_few : (kind : Kind) (found : List Row) (r : Request) → checked kind found ≡ Ok r → HasFew r
 unfolding checked

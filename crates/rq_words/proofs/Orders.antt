@@ -44,23 +44,17 @@ in_order kind n h = by (has_range kind n) _ h
 -- the range of a request that has one of its own is in order
 abbrev IsOrdered : Request → Type 0
 IsOrdered (request.Process f) = is_in_order f.lo f.hi ≡ true
-IsOrdered (request.Ranks f) = Unit {0}
 IsOrdered (request.Certify f) = is_in_order f.lo f.hi ≡ true
-IsOrdered request.Check = Unit {0}
 IsOrdered (request.Sample s) = is_in_order s.lo s.hi ≡ true
-IsOrdered (request.Test t) = Unit {0}
 IsOrdered (request.Predict f) = is_in_order f.lo f.hi ≡ true
 IsOrdered (request.Path p) = is_path_range p.tau p.fit.lo p.fit.hi ≡ true
+IsOrdered other = Unit {0}
 
 request_in_order : (kind : Kind) (found : List Row) (n : OptionNumbers) (chosen : Coding) → has_range kind n ≡ true → IsOrdered (request_for kind found n chosen)
-request_in_order kind.Process found n chosen h = h
 request_in_order kind.Ranks found n chosen h = tt
-request_in_order kind.Certify found n chosen h = h
 request_in_order kind.Check found n chosen h = tt
-request_in_order kind.Sample found n chosen h = h
 request_in_order kind.Test found n chosen h = tt
-request_in_order kind.Predict found n chosen h = h
-request_in_order kind.Path found n chosen h = h
+request_in_order other found n chosen h = h
 
 pub checked_in_order : (kind : Kind) (found : List Row) (r : Request) → checked kind found ≡ Ok r → IsOrdered r
 unfolding checked
@@ -135,14 +129,9 @@ IsOverAll (request.Test t) = (zero ≡ t.fit.lo) × (one ≡ t.fit.hi)
 IsOverAll _ = Unit {0}
 
 request_over_all : (kind : Kind) (found : List Row) (n : OptionNumbers) (chosen : Coding) → IsOverAll (request_for kind found n chosen)
-request_over_all kind.Process found n chosen = tt
 request_over_all kind.Ranks found n chosen = (refl, refl)
-request_over_all kind.Certify found n chosen = tt
-request_over_all kind.Check found n chosen = tt
-request_over_all kind.Sample found n chosen = tt
 request_over_all kind.Test found n chosen = (refl, refl)
-request_over_all kind.Predict found n chosen = tt
-request_over_all kind.Path found n chosen = tt
+request_over_all other found n chosen = tt
 
 checked_over_all : (kind : Kind) (found : List Row) (r : Request) → checked kind found ≡ Ok r → IsOverAll r
 unfolding checked

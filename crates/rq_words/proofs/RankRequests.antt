@@ -77,11 +77,8 @@ same_rank : (kind : Kind) (found : List Row) (n : OptionNumbers) (chosen : Codin
 same_rank kind.Process found n chosen f h sound = subst IsSoundOf (ap rank_in h) sound
 same_rank kind.Ranks found n chosen f h sound = subst IsSoundOf (ap rank_in h) sound
 same_rank kind.Certify found n chosen f h sound = subst IsSoundOf (ap rank_in h) sound
-same_rank kind.Check found n chosen f h sound = absurd h
-same_rank kind.Sample found n chosen f h sound = absurd h
-same_rank kind.Test found n chosen f h sound = absurd h
 same_rank kind.Predict found n chosen f h sound = subst IsSoundOf (ap rank_in h) tt
-same_rank kind.Path found n chosen f h sound = absurd h
+same_rank other found n chosen f h sound = absurd h
 
 module _ (asked : Request) (f : FitRequest) (is : IsFitOf asked f) where
   checked_sound : (kind : Kind) (found : List Row) → checked kind found ≡ Ok asked → IsSoundOf f.rank
@@ -116,14 +113,9 @@ IsUnranked (request.Predict f) = f.rank ≡ None
 IsUnranked _ = Unit {0}
 
 request_unranked : (kind : Kind) (found : List Row) (n : OptionNumbers) (chosen : Coding) → IsUnranked (request_for kind found n chosen)
-request_unranked kind.Process found n chosen = tt
-request_unranked kind.Ranks found n chosen = tt
-request_unranked kind.Certify found n chosen = tt
-request_unranked kind.Check found n chosen = tt
-request_unranked kind.Sample found n chosen = tt
 request_unranked kind.Test found n chosen = refl
 request_unranked kind.Predict found n chosen = refl
-request_unranked kind.Path found n chosen = tt
+request_unranked other found n chosen = tt
 
 checked_unranked : (kind : Kind) (found : List Row) (r : Request) → checked kind found ≡ Ok r → IsUnranked r
 unfolding checked

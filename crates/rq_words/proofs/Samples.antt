@@ -112,14 +112,8 @@ pub record IsSoundSample (s : SampleRequest) : Type 0 where
   pub columns : s.columns ≤ 100
 
 same_sample : (asked : Kind) (found : List Row) (n : OptionNumbers) (chosen : Coding) (s : SampleRequest) → request_for asked found n chosen ≡ request.Sample s → (asked ≡ kind.Sample) × (sample n ≡ s)
-same_sample kind.Process found n chosen s h = absurd (cc h)
-same_sample kind.Ranks found n chosen s h = absurd (cc h)
-same_sample kind.Certify found n chosen s h = absurd (cc h)
-same_sample kind.Check found n chosen s h = absurd (cc h)
 same_sample kind.Sample found n chosen s h = (refl, cc h)
-same_sample kind.Test found n chosen s h = absurd (cc h)
-same_sample kind.Predict found n chosen s h = absurd (cc h)
-same_sample kind.Path found n chosen s h = absurd (cc h)
+same_sample other found n chosen s h = absurd (cc h)
 
 module _ (s : SampleRequest) where
   checked_sample : (kind : Kind) (words : List Text) (found : List Row) → read_by (command_of (options_of kind)) words ≡ Some found → checked kind found ≡ Ok (request.Sample s) → IsSoundSample s

@@ -301,14 +301,8 @@ module _ (most : ℕ) where
 -- ---- the options of jobs
 
 options : (kind : Kind) → AllByRecursion IsOption (built (command_of (options_of kind))).top.rules
-options kind.Process = search rules
-options kind.Ranks = search rules
-options kind.Certify = search rules
 options kind.Check = tt
-options kind.Sample = search rules
-options kind.Test = search rules
-options kind.Predict = search rules
-options kind.Path = search rules
+options other = search rules
 
 short_words : (words : List Text) → list_any is_long words ≡ false → AllByRecursion (IsShort (2 ^ 31)) words
 short_words [] h = tt
@@ -352,14 +346,9 @@ HasShortFormula r = IsShort (2 ^ 31) (formula_in r)
 
 request_short : (kind : Kind) (found : List Row) (n : OptionNumbers) (chosen : Coding) → IsShort (2 ^ 31) (text_or_empty (first_of (codes "formula") found))
     → HasShortFormula (request_for kind found n chosen)
-request_short kind.Process found n chosen h = h
-request_short kind.Ranks found n chosen h = h
-request_short kind.Certify found n chosen h = h
 request_short kind.Check found n chosen h = lit< tt
 request_short kind.Sample found n chosen h = lit< tt
-request_short kind.Test found n chosen h = h
-request_short kind.Predict found n chosen h = h
-request_short kind.Path found n chosen h = h
+request_short other found n chosen h = h
 
 checked_short : (kind : Kind) (found : List Row) (r : Request) → checked kind found ≡ Ok r → IsShort (2 ^ 31) (text_or_empty (first_of (codes "formula") found)) → HasShortFormula r
 unfolding checked

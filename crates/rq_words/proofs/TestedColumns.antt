@@ -100,14 +100,8 @@ IsAscending (request.Test t) = ascends (map given_number t.tested) ≡ true
 IsAscending _ = Unit {0}
 
 request_ascending : (kind : Kind) (found : List Row) (n : OptionNumbers) (chosen : Coding) → AreSmall n.tested → ascends n.tested ≡ true → IsAscending (request_for kind found n chosen)
-request_ascending kind.Process found n chosen small h = tt
-request_ascending kind.Ranks found n chosen small h = tt
-request_ascending kind.Certify found n chosen small h = tt
-request_ascending kind.Check found n chosen small h = tt
-request_ascending kind.Sample found n chosen small h = tt
 request_ascending kind.Test found n chosen small h = ap ascends (all_given_back n.tested small) ∙ h
-request_ascending kind.Predict found n chosen small h = tt
-request_ascending kind.Path found n chosen small h = tt
+request_ascending other found n chosen small h = tt
 
 checked_ascending : (kind : Kind) (found : List Row) (r : Request) → checked kind found ≡ Ok r → IsAscending r
 unfolding checked

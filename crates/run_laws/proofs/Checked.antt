@@ -23,14 +23,8 @@ use Rattle.run_laws.proofs.Complete.{none_beyond, one_request, were_told}
 
 -- words that ask for a check ask for no other job
 check_alone : (job : Job) → request_of job ≡ request_of jobs.Check → job ≡ jobs.Check
-check_alone (jobs.Process fit) same = absurd (cc same)
-check_alone (jobs.Ranks fit) same = absurd (cc same)
-check_alone (jobs.Certify fit) same = absurd (cc same)
 check_alone jobs.Check same = refl
-check_alone (jobs.Predict fit) same = absurd (cc same)
-check_alone (jobs.Test job) same = absurd (cc same)
-check_alone (jobs.Path job) same = absurd (cc same)
-check_alone (jobs.Sample sample) same = absurd (cc same)
+check_alone other same = absurd (cc same)
 
 module _ (same : SameContent) (words : List (List ℕ)) (source source' : Stream) (bytes : List ℕ) (cert : Cert) (w : IsPassing words source bytes cert) where
   is_check : (job : Job) → IsJobOf words job → job ≡ jobs.Check

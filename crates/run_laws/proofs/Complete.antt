@@ -69,36 +69,24 @@ module _ (words : List (List ℕ)) where
 
   -- words that ask for a fit ask for no check
   pub no_check : (job : Job) (fit : FitJob) (ranked : Bool) → IsFitJob job fit ranked → request_of jobs.Check ≡ request_of job → ⊥
-  no_check (jobs.Process a) fit ranked is same = absurd (cc same)
-  no_check (jobs.Ranks a) fit ranked is same = absurd (cc same)
-  no_check (jobs.Certify a) fit ranked is same = absurd (cc same)
   no_check jobs.Check fit ranked is same = is
-  no_check (jobs.Predict a) fit ranked is same = absurd (cc same)
   no_check (jobs.Test a) fit ranked is same = is
   no_check (jobs.Path a) fit ranked is same = is
-  no_check (jobs.Sample a) fit ranked is same = absurd (cc same)
+  no_check other fit ranked is same = absurd (cc same)
 
   -- nor for a path
   pub no_path : (job : Job) (fit : FitJob) (ranked : Bool) → IsFitJob job fit ranked → (path : PathJob) → request_of (jobs.Path path) ≡ request_of job → ⊥
-  no_path (jobs.Process a) fit ranked is path same = absurd (cc same)
-  no_path (jobs.Ranks a) fit ranked is path same = absurd (cc same)
-  no_path (jobs.Certify a) fit ranked is path same = absurd (cc same)
   no_path jobs.Check fit ranked is path same = is
-  no_path (jobs.Predict a) fit ranked is path same = absurd (cc same)
   no_path (jobs.Test a) fit ranked is path same = is
   no_path (jobs.Path a) fit ranked is path same = is
-  no_path (jobs.Sample a) fit ranked is path same = absurd (cc same)
+  no_path other fit ranked is path same = absurd (cc same)
 
   -- nor for a rank test
   pub no_test : (job : Job) (fit : FitJob) (ranked : Bool) → IsFitJob job fit ranked → (test : TestJob) → request_of (jobs.Test test) ≡ request_of job → ⊥
-  no_test (jobs.Process a) fit ranked is test same = absurd (cc same)
-  no_test (jobs.Ranks a) fit ranked is test same = absurd (cc same)
-  no_test (jobs.Certify a) fit ranked is test same = absurd (cc same)
   no_test jobs.Check fit ranked is test same = is
   no_test (jobs.Test a) fit ranked is test same = is
-  no_test (jobs.Predict a) fit ranked is test same = absurd (cc same)
   no_test (jobs.Path a) fit ranked is test same = is
-  no_test (jobs.Sample a) fit ranked is test same = absurd (cc same)
+  no_test other fit ranked is test same = absurd (cc same)
 
 -- a report that is right for bytes is right for others of the same table
 right_same : (job : Job) (report : Report) (a b : List ℕ) → table_bytes job a ≡ table_bytes job b → IsRight job a report → IsRight job b report
@@ -131,14 +119,8 @@ module _ (source source' : Stream) (bytes : List ℕ) (told : source.bytes ≡ S
 
 -- what a job that reads the source takes from it
 takes_all : (source source' : Stream) (job : Job) (bytes : List ℕ) → Reads job → Takes job source source' bytes → TakesAll source.bytes source'.bytes bytes
-takes_all source source' (jobs.Process fit) bytes reads taken = taken
-takes_all source source' (jobs.Ranks fit) bytes reads taken = taken
-takes_all source source' (jobs.Certify fit) bytes reads taken = taken
-takes_all source source' jobs.Check bytes reads taken = taken
-takes_all source source' (jobs.Predict fit) bytes reads taken = taken
-takes_all source source' (jobs.Test job) bytes reads taken = taken
-takes_all source source' (jobs.Path job) bytes reads taken = taken
 takes_all source source' (jobs.Sample job) bytes reads taken = absurd reads
+takes_all source source' other bytes reads taken = taken
 
 module _ (words : List (List ℕ)) (source source' : Stream) (bytes : List ℕ) (fit : FitJob) (ranked : Bool) (asked : AskFit words fit ranked) (told : Reads asked.job → source.bytes ≡ Some bytes) where
   -- a job of these words that reads the source takes the bytes that it tells
@@ -384,10 +366,7 @@ module _ (lawful : PathHasCosts) (words : List (List ℕ)) (source source' : Str
       → (limit ≡ fit.limit) × (limit < parts_of place * further_bases (sample value problem))
   limit_below places.Process fit problem limit trail h = (h.shown, h.below)
   limit_below (places.Interval column tau) fit problem limit trail h = (h.shown, h.below)
-  limit_below places.Check fit problem limit trail h = absurd h
-  limit_below (places.Predict rec) fit problem limit trail h = absurd h
-  limit_below places.Full fit problem limit trail h = absurd h
-  limit_below places.Path fit problem limit trail h = absurd h
+  limit_below other fit problem limit trail h = absurd h
 
   pub ample : (out out' err err' : Stream) (place : Place) (limit : ℕ) (trail : Trail Frac128)
       → ((fit : FitJob) (problem : Problem Frac128) → WasPosed words source source' fit problem → (parts_of place * further_bases (sample value problem)) ≤ fit.limit)

@@ -229,18 +229,11 @@ module _ (words : List (List ℕ)) (source source' : Stream) where
           at : (place : Place) → IsFitHalt (halts.PivotLimit place limit trail) → ⊥
           at places.Process h = reached h.fit h.lacks.input h.was h.lacks.cause.1
           at (places.Interval column tau) h = no_results h.fit h.lacks.input h.was _ _ h.lacks.cause.process h.lacks.cause.results
-          at places.Check h = h.lacks.cause
-          at (places.Predict rec) h = h.lacks.cause
-          at places.Full h = h.lacks.cause
-          at places.Path h = h.lacks.cause
+          at other h = h.lacks.cause
 
           at_rows : (place : Place) → IsPredictHalt (halts.PivotLimit place limit trail) → ⊥
           at_rows places.Process h = reached h.fit h.lacks.asked.input h.was h.lacks.cause.1
-          at_rows (places.Interval column tau) h = h.lacks.cause
-          at_rows places.Check h = h.lacks.cause
-          at_rows (places.Predict rec) h = h.lacks.cause
-          at_rows places.Full h = h.lacks.cause
-          at_rows places.Path h = h.lacks.cause
+          at_rows other h = h.lacks.cause
 
           by : IsFitHalt (halts.PivotLimit place limit trail) ⊎ IsPredictHalt (halts.PivotLimit place limit trail) → ⊥
           by (inl h) = at place h

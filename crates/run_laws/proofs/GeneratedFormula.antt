@@ -47,18 +47,13 @@ begins i = record { formula = dot_tree; rest = drop i (formula_tokens dot_tree);
 
 -- no token passes a limit
 within : (i : ℕ) → i < 4 → limit_at (formula_tokens dot_tree) i ≡ None
-within zero l = refl
-within (suc zero) l = refl
-within (suc (suc zero)) l = refl
-within (suc (suc (suc zero))) l = refl
 within (suc (suc (suc (suc i)))) l = absurd (omega (arith, l))
+within other l = refl
 
 clean : IsCleanBelow (formula_tokens dot_tree) 4
 clean i l read_fault.OutOfMemory h = h
 clean i l (read_fault.Syntax n) h = h.1 (begins (i + 1))
-clean i l (read_fault.TooDeep n) h = absurd (cc (sym (within i l) ∙ h.1))
-clean i l (read_fault.PowerRange n) h = absurd (cc (sym (within i l) ∙ h.1))
-clean i l (read_fault.NumberTooWide n) h = absurd (cc (sym (within i l) ∙ h.1))
+clean i l other h = absurd (cc (sym (within i l) ∙ h.1))
 
 is_formula : IsFormula (tokens dot_formula) dot_tree
 is_formula = record { reads = reads; clean = subst (λ ts. IsCleanBelow ts (length ts)) (sym reads) clean }

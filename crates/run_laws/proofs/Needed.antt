@@ -86,19 +86,12 @@ reached : (fit : FitJob) (ranked : Bool) (bytes : List ℕ) (place : Place) (lim
     → ReachesLimitAt place fit h.input.problem limit trail
 reached fit ranked bytes places.Process limit trail ask h = reached_process fit h.input.problem limit trail (low_costs fit ask h.input h.rows) h.cause.0 h.cause.1
 reached fit ranked bytes (places.Interval column tau) limit trail ask h = reached_interval fit h.input column tau limit trail ask h.rows h.cause.stopped
-reached fit ranked bytes places.Check limit trail ask h = absurd h.cause
-reached fit ranked bytes (places.Predict rec) limit trail ask h = absurd h.cause
-reached fit ranked bytes places.Full limit trail ask h = absurd h.cause
-reached fit ranked bytes places.Path limit trail ask h = absurd h.cause
+reached fit ranked bytes other limit trail ask h = absurd h.cause
 
 predict_reached : (fit : FitJob) (bytes : List ℕ) (place : Place) (limit : ℕ) (trail : Trail Frac128) → IsFitAsk fit → (h : LacksPredictFit fit bytes (PivotLimit place limit trail))
     → ReachesLimitAt place fit h.asked.input.problem limit trail
 predict_reached fit bytes places.Process limit trail ask h = reached_process fit h.asked.input.problem limit trail (low_costs fit ask h.asked.input h.rows) h.cause.0 h.cause.1
-predict_reached fit bytes (places.Interval column tau) limit trail ask h = absurd h.cause
-predict_reached fit bytes places.Check limit trail ask h = absurd h.cause
-predict_reached fit bytes (places.Predict rec) limit trail ask h = absurd h.cause
-predict_reached fit bytes places.Full limit trail ask h = absurd h.cause
-predict_reached fit bytes places.Path limit trail ask h = absurd h.cause
+predict_reached fit bytes other limit trail ask h = absurd h.cause
 
 -- a job and its bytes, of which the input was read
 module _ (lawful : PathHasCosts) (words : List (List ℕ)) (source source' : Stream) where
@@ -127,10 +120,7 @@ module _ (lawful : PathHasCosts) (words : List (List ℕ)) (source source' : Str
         reached_process job.fit q limit trail costs h.cause.1.0 h.cause.1.1,
       )
   test_limited job bytes read (places.Interval column tau) limit trail h = absurd h.cause.1
-  test_limited job bytes read places.Check limit trail h = absurd h.cause.1
-  test_limited job bytes read places.Full limit trail h = absurd h.cause.1
-  test_limited job bytes read (places.Predict rec) limit trail h = absurd h.cause.1
-  test_limited job bytes read places.Path limit trail h = absurd h.cause.1
+  test_limited job bytes read other limit trail h = absurd h.cause.1
 
   -- so is that of a path
   path_limited : (job : PathJob) (bytes : List ℕ) → WereRead words source source' (jobs.Path job) bytes → (place : Place) (limit : ℕ) (trail : Trail Frac128) → LacksPathFit job bytes (PivotLimit place limit trail)
@@ -146,10 +136,7 @@ module _ (lawful : PathHasCosts) (words : List (List ℕ)) (source source' : Str
         reached_process job.fit lacks.problem limit trail costs h.cause.0 lacks.cause,
       )
   path_limited job bytes read (places.Interval column tau) limit trail h = absurd h.cause
-  path_limited job bytes read places.Check limit trail h = absurd h.cause
-  path_limited job bytes read (places.Predict rec) limit trail h = absurd h.cause
-  path_limited job bytes read places.Full limit trail h = absurd h.cause
-  path_limited job bytes read places.Path limit trail h = absurd h.cause
+  path_limited job bytes read other limit trail h = absurd h.cause
 
   pub limit_needed : (place : Place) (limit : ℕ) (trail : Trail Frac128) → IsHalted words source source' (PivotLimit place limit trail) → IsLimitedAt words source source' place limit trail
   limit_needed place limit trail h = by h.job h.read h.cause
@@ -259,10 +246,8 @@ module _ (lawful : PathHasCosts) (words : List (List ℕ)) (source source' : Str
       by (jobs.Ranks fit) cause = of fit true h.bytes cause
       by (jobs.Certify fit) cause = of fit (is_some fit.rank) h.bytes cause
       by jobs.Check cause = absurd cause
-      by (jobs.Predict fit) cause = absurd cause.cause
-      by (jobs.Test job) cause = absurd cause.cause
-      by (jobs.Path job) cause = absurd cause.cause
       by (jobs.Sample job) cause = of (sample_fit job) false (sample_table job) cause
+      by other cause = absurd cause.cause
   overflow_needed places.Full trail spill h = by h.job h.cause
     where
       by : (job : Job) → engine.HasCause job h.bytes (Overflow places.Full trail spill) → DoesOverflow value most spill

@@ -134,19 +134,12 @@ module _ (words : List (List ℕ)) (first : PathJob) (asked : IsJobOf words (job
 
       no_stop : (job : PathJob) (other : List ℕ) → WereRead words source source' (jobs.Path job) other → (place : Place) (limit : ℕ) (trail : Trail Frac128) → LacksPathFit job other (halts.PivotLimit place limit trail) → ⊥
       no_stop job other read places.Process limit trail h = let lacks = h.cause.1 in no_input job other read h.plain h.is h.rows.shaped (few_rows job h.plain lacks.problem lacks.path lacks.shaped)
-      no_stop job other read (places.Interval column tau) limit trail h = h.cause
-      no_stop job other read places.Check limit trail h = h.cause
-      no_stop job other read places.Full limit trail h = h.cause
-      no_stop job other read (places.Predict rec) limit trail h = h.cause
-      no_stop job other read places.Path limit trail h = h.cause
+      no_stop job other read rest limit trail h = h.cause
 
       no_spill : (job : PathJob) (other : List ℕ) → WereRead words source source' (jobs.Path job) other → (place : Place) (trail : Trail Frac128) (spill : Spill Frac128) → LacksPathFit job other (halts.Overflow place trail spill) → ⊥
       no_spill job other read places.Process trail spill h = let lacks = h.cause in no_input job other read h.plain h.is h.rows.shaped (few_rows job h.plain lacks.problem lacks.path lacks.shaped)
       no_spill job other read places.Path trail spill h = no_input job other read h.plain h.is h.rows.shaped h.cause.1
-      no_spill job other read (places.Interval column tau) trail spill h = h.cause
-      no_spill job other read places.Check trail spill h = h.cause
-      no_spill job other read places.Full trail spill h = h.cause
-      no_spill job other read (places.Predict rec) trail spill h = h.cause
+      no_spill job other read rest trail spill h = h.cause
 
       no_path : (report : Report) → IsAnswered words source source' report → ⊥
       no_path report a =

@@ -52,14 +52,8 @@ module _ (law : PredictionsHaveNoFault) (words : List (List ℕ)) (source source
   too_long n h = alone h.job h.read.asked (λ (job : Job). engine.HasCause job h.bytes (halts.Refused (refusals.CertTooLong n)) → ⊥) (λ fit cause. cause.2.cause) h.cause
 
   right_predicts : (fit : FitJob) (other : List ℕ) (report : Report) → WereRead words source source' (jobs.Predict fit) other → IsRight (jobs.Predict fit) other report → ⊥
-  right_predicts fit other (reports.Process f) read right = right
-  right_predicts fit other (reports.Ranks f) read right = right
-  right_predicts fit other (reports.Certificate c) read right = right
-  right_predicts fit other (reports.Checked c) read right = right
   right_predicts fit other (reports.Predict f) read right = no_rows fit other read right.0 right.1 right.2.shaped
-  right_predicts fit other (reports.Test f) read right = right
-  right_predicts fit other (reports.Path f) read right = right
-  right_predicts fit other (reports.Sample f) read right = right
+  right_predicts fit other rest read right = right
 
   reported : (report : Report) → IsAnswered words source source' report → ⊥
   reported report a =

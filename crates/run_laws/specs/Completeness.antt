@@ -277,10 +277,7 @@ TestLimitIsAnswered =
 abbrev pub parts_of : Place → ℕ
 parts_of places.Process = 2
 parts_of (places.Interval column tau) = 3
-parts_of places.Check = 0
-parts_of (places.Predict rec) = 0
-parts_of places.Full = 0
-parts_of places.Path = 0
+parts_of other = 0
 
 -- where the limit is at least so many times these bases, it stops neither the process nor the interval
 abbrev pub AmpleLimitIsNeverReached : Type 0

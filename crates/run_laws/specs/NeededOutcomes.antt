@@ -44,9 +44,7 @@ IsFitJob (jobs.Ranks job) fit ranked = (job ≡ fit) × (true ≡ ranked)
 IsFitJob (jobs.Certify job) fit ranked = (job ≡ fit) × (is_some job.rank ≡ ranked)
 IsFitJob (jobs.Predict job) fit ranked = (job ≡ fit) × (true ≡ ranked)
 IsFitJob (jobs.Sample job) fit ranked = (sample_fit job ≡ fit) × (false ≡ ranked)
-IsFitJob (jobs.Test job) fit ranked = ⊥
-IsFitJob (jobs.Path job) fit ranked = ⊥
-IsFitJob jobs.Check fit ranked = ⊥
+IsFitJob other fit ranked = ⊥
 
 -- the bytes of the table that a job fits: those of the generated table, or those that it took from the source
 abbrev pub table_bytes : Job → List ℕ → List ℕ

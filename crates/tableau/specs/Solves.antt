@@ -39,7 +39,5 @@ IsLimited {F} value p theta limit = (trail : Trail F) × ReachesLimit value p th
 -- an answer where a trail reaches the limit: PivotLimit, or an overflow or want of memory before
 abbrev pub IsLimitAnswer : {A F : Type 0} → Result A (Stop F) → Type 0
 IsLimitAnswer (Ok solved) = ⊥
-IsLimitAnswer (Err OutOfMemory) = Unit {0}
-IsLimitAnswer (Err (PivotLimit shown trail)) = Unit {0}
-IsLimitAnswer (Err (Overflow trail spill)) = Unit {0}
 IsLimitAnswer (Err (Dependent combination)) = ⊥
+IsLimitAnswer other = Unit {0}
