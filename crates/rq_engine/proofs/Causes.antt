@@ -4,9 +4,9 @@ use Rattle.std.proofs.Common.{ℕ, Bool, List, Result, Ok, Err, length}
 use Rattle.report_text.specs.declared.report.Refusal.TheVariants.{TooLong, Dependent}
 use Rattle.report_text.specs.declared.report.Refusal.TheVariants as refusals
 use Rattle.report_text.specs.declared.report.Halt.{Halt}
-use Rattle.report_text.specs.declared.report.Halt.TheVariants.{Refused, OutOfMemory, PivotLimit, Overflow, Rejected}
+use Rattle.report_text.specs.declared.report.Halt.TheVariants.{Refused, OutOfMemory, PivotLimit, Overflow}
 use Rattle.rq_words.specs.declared.job.FitJob.{FitJob}
-use Rattle.rq_input.specs.Inputs.{HasInputCause, IsInput}
+use Rattle.rq_input.specs.Inputs.{IsInput}
 use Rattle.rq_input.specs.Rows.{HasRows}
 use Rattle.rq_input.specs.declared.input.Input.{Input}
 use Rattle.rq_engine.specs.Stops.{HasProblemCause}
@@ -16,16 +16,6 @@ use Rattle.rq_engine.specs.Answers.{HasFitCause}
 pub halt_along : {A : Type 0} (r : Result A Halt) (P Q : Halt → Type 0) → IfErr r P → ((halt : Halt) → P halt → Q halt) → IfErr r Q
 halt_along (Ok x) P Q h f = tt
 halt_along (Err halt) P Q h f = f halt h
-
--- why there is no input is why there is no fit
-pub input_cause : (job : FitJob) (ranked : Bool) (bytes : List ℕ) (halt : Halt) → HasInputCause job ranked bytes halt → HasFitCause job ranked bytes halt
-input_cause job ranked bytes (Refused (Dependent combination)) h = absurd h.2.cause
-input_cause job ranked bytes (Refused (refusals.CertTooLong long)) h = absurd h.2.cause
-input_cause job ranked bytes (Refused (refusals.Certificate fault)) h = absurd h.2.cause
-input_cause job ranked bytes (PivotLimit place limit trail) h = absurd h.2.cause
-input_cause job ranked bytes (Overflow place trail spill) h = absurd h.2.cause
-input_cause job ranked bytes (Rejected rejection) h = absurd h.2.cause
-input_cause job ranked bytes halt h = h
 
 -- and so is why the problem of an input has no fit
 pub problem_cause : (job : FitJob) (ranked : Bool) (bytes : List ℕ) (input : Input) → IsInput job ranked bytes input → HasRows input → (halt : Halt) → HasProblemCause job (length input.design.rows) input.problem halt

@@ -1,26 +1,17 @@
 -- Inner. Rows far from a fit, which keep their sides while the coefficients move little.
 use Rattle.std.specs.Prelude.{◌≡◌, ◌⊎◌, ℕ, ℤ, ◌<◌, ◌≤◌, ◌≤ℤ◌, ◌*ℤ◌, ◌+ℤ◌, neg_ℤ, List, All, length, get_or, slice_index, pos}
-use Rattle.exact_algebra.specs.Rational.{ℚ, ◌+ℚ◌, ◌-ℚ◌, neg_ℚ, ◌≤ℚ◌, whole}
+use Rattle.exact_algebra.specs.Rational.{ℚ, ◌-ℚ◌, neg_ℚ, ◌≤ℚ◌, whole}
 use Rattle.loss_model.specs.declared.vertex.Side.{Side}
 use Rattle.loss_model.specs.declared.vertex.Side.TheVariants.{Up, Down, Basic}
 use Rattle.loss_model.specs.Sample.{Sample, residual}
 use Rattle.whole_inverse.specs.Shares.{share, share_at}
 use Rattle.whole_solution.specs.declared.near.Near.{Near}
 use Rattle.whole_solution.specs.declared.ranges.Ranges.{Ranges}
-use Rattle.whole_solution.specs.Ranges.{AreInRanges, AreRanges, most_of_products}
+use Rattle.whole_solution.specs.Ranges.{AreRanges, most_of_products}
 
 -- the most that a residual moves from one list of coefficients to another, where the entries of its row are in these ranges
 abbrev pub room : ℕ → Ranges → (ℕ → ℚ) → (ℕ → ℚ) → ℚ
 room n r from to = most_of_products n r (λ k. to k -ℚ from k)
-
--- a residual that is at least `far` on one side stays at least `least` there, where what it may move takes no more than what is between
-abbrev pub FarRowsKeep : Type 0
-FarRowsKeep =
-    (p : Sample) (r : Ranges) (from to : ℕ → ℚ) (far least : ℚ) (i : ℕ)
-    → AreInRanges p.columns r (p.x i)
-    → (room p.columns r from to +ℚ least) ≤ℚ far
-    → (far ≤ℚ residual p from i → least ≤ℚ residual p to i)
-    × (far ≤ℚ neg_ℚ (residual p from i) → least ≤ℚ neg_ℚ (residual p to i))
 
 -- a residual is at least `far` on a side
 abbrev pub IsFarOn : Side → ℚ → ℚ → Type 0
