@@ -56,8 +56,8 @@ below_test x y =
     (λ h. (λ e. absurd (cc e), λ k. absurd (k (le_from_not y x h))))
 
 -- the same of a test that was made
-pub not_below : (x y : ℚ) (b : Bool) → b ≡ is_lt (cmp_ℚ x y) → b ≡ false → y ≤ℚ x
-not_below x y b e h = not_below x y (sym e ∙ h)
+pub not_below_by : (x y : ℚ) (b : Bool) → b ≡ is_lt (cmp_ℚ x y) → b ≡ false → y ≤ℚ x
+not_below_by x y b e h = not_below x y (sym e ∙ h)
 
 pub is_below_by : (x y : ℚ) (b : Bool) → b ≡ is_lt (cmp_ℚ x y) → b ≡ true → x <ℚ y
 is_below_by x y b e h = (below_test x y).0 (sym e ∙ h)

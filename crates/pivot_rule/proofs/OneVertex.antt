@@ -58,8 +58,8 @@ same_below xs ys up up' sub sup size (suc n) l j lj = by (cases_lt j n) (same_be
         let same : slice_index xs n ≡ slice_index ys n = omega arith in
         subst (λ j. slice_index xs j ≡ slice_index ys j) here same
 
-ascending : (xs ys : List ℕ) → IsStrictlyIncreasing xs → IsStrictlyIncreasing ys → IsWithin xs ys → IsWithin ys xs → length xs ≡ length ys → xs ≡ ys
-ascending xs ys up up' sub sup size =
+same_ascending : (xs ys : List ℕ) → IsStrictlyIncreasing xs → IsStrictlyIncreasing ys → IsWithin xs ys → IsWithin ys xs → length xs ≡ length ys → xs ≡ ys
+same_ascending xs ys up up' sub sup size =
     same_number_lists xs ys size (λ k lk. same_below xs ys up up' sub sup size (length xs) (omega arith) k lk)
 
 -- ---- vertices
@@ -80,7 +80,7 @@ module _ {F : Type 0} (value : F → Fraction) (same : (x y : F) → rational (v
     one_with : (a : ℕ → ℕ → ℚ) (v w : Vertex F) (basic other : List F) → IsVertexAt value p basis a v → IsVertexAt value p basis a w
         → AreBasicDuals value p theta basis a v basic → AreBasicDuals value p theta basis a w other → (v ≡ w) × (basic ≡ other)
     one_with a v w basic other hv hw dv dw =
-        let rows : v.basis.rows ≡ w.basis.rows = ascending v.basis.rows w.basis.rows hv.shape.ascending hw.shape.ascending
+        let rows : v.basis.rows ≡ w.basis.rows = same_ascending v.basis.rows w.basis.rows hv.shape.ascending hw.shape.ascending
         (λ i h. (hw.rows i).1 ((hv.rows i).0 h)) (λ i h. (hv.rows i).1 ((hw.rows i).0 h)) (hv.shape.size ∙ sym hw.shape.size) in
         let sides : v.sides ≡ w.sides = same_lists v.sides w.sides (hv.shape.sides ∙ sym hw.shape.sides)
         (λ k d l. get_or_from_slice_get v.sides k _ d (hv.sides k (omega (arith, l, hv.shape.sides)))

@@ -5,7 +5,7 @@ use Rattle.exact_algebra.specs.Fraction.{rational}
 use Rattle.fraction_tableau.specs.Lines.{IsOrderSpill}
 use Rattle.fraction_tableau.specs.Views.{sample_at, rows_at, entries_at}
 use Rattle.fraction_tableau.specs.WalkingSteps.{IsStepSpillAt}
-use Rattle.fraction_tableau.proofs.Crossed.{not_below, is_below_by}
+use Rattle.fraction_tableau.proofs.Crossed.{not_below_by, is_below_by}
 use Rattle.fraction_tableau.proofs.Inverses.{basis_of}
 use Rattle.fraction_tableau.proofs.Stepping.{some_moves}
 use Rattle.fraction_tableau.proofs.Refusals.{short_weaker}
@@ -14,7 +14,7 @@ use Rattle.fraction_tableau.proofs.view.BasisView.step_at.Goals as goal
 pub returns-then-not-is_lt-clause-step : goal.returns-then-not-is_lt-clause-step
 returns-then-not-is_lt-clause-step g c =
     let value = g.F.Exact.value in
-    not_below (rational (value c.args.next.theta)) (rational (value c.args.hi)) c.is_lt.result (c.is_lt.ensures ∙ ap is_lt c.compare.ensures) c.if-not-is_lt.true
+    not_below_by (rational (value c.args.next.theta)) (rational (value c.args.hi)) c.is_lt.result (c.is_lt.ensures ∙ ap is_lt c.compare.ensures) c.if-not-is_lt.true
 
 pub entering_at-requires-clause-some : goal.entering_at-requires-clause-some
 entering_at-requires-clause-some g c κs within =
