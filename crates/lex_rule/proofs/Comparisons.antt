@@ -1,5 +1,5 @@
 -- Perturbed ratios compared entry by entry.
-use Rattle.std.specs.Prelude.{◌≡◌, ◌≢◌, ◌↔◌, ◌⊎◌, ℕ, zero, suc, ◌<◌, ◌≤◌, Bool, true, false, not, IsTrue, List, length, slice_index, pos}
+use Rattle.std.specs.Prelude.{◌≡◌, ◌≢◌, ◌↔◌, ◌⊎◌, ℕ, zero, suc, ◌<◌, ◌≤◌, Bool, true, false, not, IsTrue, pos}
 use Rattle.std.specs.Ordering.{is_ne, is_lt, ordering_reverse}
 use Rattle.std.specs.declared.cmp.Ordering.{Ordering}
 use Rattle.std.specs.declared.cmp.Ordering.TheVariants.{Less, Equal, Greater}
@@ -15,15 +15,14 @@ use Rattle.loss_model.specs.declared.vertex.Side.TheVariants.{Up, Down}
 use Rattle.loss_model.specs.declared.spill.Spill.{Spill}
 use Rattle.basis_model.specs.Lexicographic.{lex_cmp}
 use Rattle.basis_model.proofs.LexicographicLaws.{lex_cmp-first, lex_cmp-longer, same_from-lex_cmp}
-use Rattle.basis_model.specs.Perturbed.{Nonbasic, IsOutside, perturbed, perturbed_side, zeros, turned, side_of, ratio_on, ratio}
+use Rattle.basis_model.specs.Perturbed.{Nonbasic, IsOutside, perturbed, turned, side_of, ratio_on}
 use Rattle.basis_model.proofs.PerturbedLaws.{perturbed-other, held_coordinate-at}
 use Rattle.basis_model.proofs.Ratios.{ratio-none, ratio-own, own-up, own-down}
 use Rattle.basis_model.specs.RatioSpill.{ratio_site, IsRatioEntrySpill, IsSpillOn}
-use Rattle.lex_rule.specs.declared.less.Ratio.{Ratio}
 use Rattle.lex_rule.specs.declared.quotient.Divisor.{Divisor}
 use Rattle.lex_rule.specs.Divisor.{entry_over, IsDivisorSpill}
-use Rattle.lex_rule.specs.Compared.{of_ratio, IsRatioAt, IsDivisorOf}
-use Rattle.lex_rule.specs.Scan.{IsNextAt, AreZeroBetween}
+use Rattle.lex_rule.specs.Compared.{IsDivisorOf}
+use Rattle.lex_rule.specs.Scan.{AreZeroBetween}
 
 pub equal_from : (o : Ordering) → is_ne o ≡ false → o ≡ Equal
 equal_from Less h = absurd (cc h)
@@ -45,13 +44,9 @@ module _ {F : Type 0} (value : F → Fraction) (n : ℕ) (at : ℕ → ℕ) (j :
         overflows = h.overflows;
       }
 
--- the entry of the row that position k of the basis holds, as it stands and as it was read
+-- the entry of the row that position k of the basis holds
 pub held_entry : (n : ℕ) (at : ℕ → ℕ) (u : Nonbasic) (k : ℕ) → IsOutside n at u.row → k < n → neg_ℚ (u.coord k) ≡ perturbed n at u (suc (at k))
 held_entry n at u k out l = sym (perturbed-other n at u (at k) (out.outside k l) ∙ ap neg_ℚ (held_coordinate-at n at u.coord k out.apart l))
-
-pub held : {F : Type 0} {value : F → Fraction} {basis : List ℕ} {j : ℕ} {ratio : Ratio F} → IsRatioAt value basis j ratio → (k : ℕ) (x : F) → k < length basis → rational (value x) ≡ neg_ℚ ((of_ratio value ratio).coord k)
-    → rational (value x) ≡ perturbed (length basis) (slice_index basis) (of_ratio value ratio) (suc (slice_index basis k))
-held {value} {basis} {ratio} h k x within is = is ∙ held_entry (length basis) (slice_index basis) (of_ratio value ratio) k h.outside within
 
 -- ---- two ratios
 
@@ -80,11 +75,15 @@ module _ (s t : Side) (n : ℕ) (at : ℕ → ℕ) (j : ℕ) (u v : Nonbasic) wh
       by (inr past) = let same : m ≡ i = omega arith in subst (λ i. ratio_on s n at j u i ≡ ratio_on t n at j v i) same here
 
   -- an entry that differs decides
-  decided : (count m : ℕ) (o : Ordering) (x y : ℚ) → m < count → AgreeBefore m → x ≡ ratio_on s n at j u m → y ≡ ratio_on t n at j v m → o ≡ cmp_ℚ x y → o ≢ Equal → o ≡ lex_cmp count (ratio_on s n at j u) (ratio_on t n at j v)
+  pub decided : (count m : ℕ) (o : Ordering) (x y : ℚ) → m < count → AgreeBefore m → x ≡ ratio_on s n at j u m → y ≡ ratio_on t n at j v m → o ≡ cmp_ℚ x y → o ≢ Equal → o ≡ lex_cmp count (ratio_on s n at j u) (ratio_on t n at j v)
   decided count m o x y l agree p q is some =
       is ∙ ap₂ cmp_ℚ p q
       ∙ sym (lex_cmp-first count m (ratio_on s n at j u) (ratio_on t n at j v) l agree
       (λ e. some (is ∙ (cmp_ℚ-Equal x y).1 (p ∙ e ∙ sym q))))
+
+  -- and else the entry agrees
+  pub same_entry : (m : ℕ) (o : Ordering) (x y : ℚ) → x ≡ ratio_on s n at j u m → y ≡ ratio_on t n at j v m → o ≡ cmp_ℚ x y → o ≡ Equal → ratio_on s n at j u m ≡ ratio_on t n at j v m
+  same_entry m o x y p q is e = sym p ∙ (cmp_ℚ-Equal x y).0 (sym is ∙ e) ∙ q
 
   -- where all entries before them agree, the entry of the lesser row's own decides
   pub by_left : (rows : ℕ) → u.row < v.row → u.row < rows → IsOutside n at u.row → u.coord j ≢ whole (pos 0) → AgreeBefore (suc u.row)
@@ -103,56 +102,23 @@ module _ (s t : Side) (n : ℕ) (at : ℕ → ℕ) (j : ℕ) (u v : Nonbasic) wh
       lex_cmp-first (suc rows) (suc v.row) (ratio_on s n at j u) (ratio_on t n at j v) (omega arith) agree (λ e. ratio-own t n at j v some (sym e ∙ none))
       ∙ ap (λ z. cmp_ℚ z (ratio_on t n at j v (suc v.row))) none
 
--- ---- two rows that are compared entry by entry
+-- ---- the spill of an entry
 
-module _ {F : Type 0} {value : F → Fraction} {basis : List ℕ} {left right : Ratio F} {by and_by : Divisor F} (l : IsRatioAt value basis by.position left) (r : IsRatioAt value basis by.position right)
-    (d : IsDivisorOf value by.position (of_ratio value left) by) (e : IsDivisorOf value by.position (of_ratio value right) and_by) where
-  -- their ratios, and whether these agree at all entries before one
-  abbrev pub left_ratio : ℕ → ℚ
-  left_ratio = ratio_on by.side (length basis) (slice_index basis) by.position (of_ratio value left)
-
-  abbrev pub right_ratio : ℕ → ℚ
-  right_ratio = ratio_on and_by.side (length basis) (slice_index basis) by.position (of_ratio value right)
-
-  abbrev pub Agree : ℕ → Type 0
-  Agree = AgreeBefore by.side and_by.side (length basis) (slice_index basis) by.position (of_ratio value left) (of_ratio value right)
-
-  -- they agree at the entries of rows in a range in which no row of the basis has a coordinate, and so before that of the next row that has one
-  pub agree_to : (from to : ℕ) → to ≤ left.row → to ≤ right.row → AreZeroBetween (length basis) (slice_index basis) (of_ratio value left).coord (of_ratio value right).coord from to → Agree (suc from) → Agree (suc to)
-  agree_to = agree_between by.side and_by.side (length basis) (slice_index basis) by.position (of_ratio value left) (of_ratio value right)
-
-  pub agree_at : (from end k : ℕ) → IsNextAt (length basis) (slice_index basis) (of_ratio value left).coord (of_ratio value right).coord from end k → end ≤ left.row → end ≤ right.row → Agree (suc from)
-      → Agree (suc (slice_index basis k))
-  agree_at from end k next ll lr = agree_to from (slice_index basis k) (omega (arith, next.below, ll)) (omega (arith, next.below, lr)) next.least
-
-  -- where they agree before an entry, that entry decides, or they agree there too, or one of the two spills
-  module _ (m : ℕ) (x y : F) (p : rational (value x) ≡ perturbed (length basis) (slice_index basis) (of_ratio value left) m) (q : rational (value y) ≡ perturbed (length basis) (slice_index basis) (of_ratio value right) m) (agree : Agree m) where
-    pub decides : (count : ℕ) (o : Ordering) → m < count → o ≡ cmp_ℚ (entry_over value by x) (entry_over value and_by y) → is_ne o ≡ true → o ≡ lex_cmp count left_ratio right_ratio
-    decides count o within is differ =
-        decided by.side and_by.side (length basis) (slice_index basis) by.position (of_ratio value left) (of_ratio value right) count m o (entry_over value by x) (entry_over value and_by y) within agree
-        (entry_is value (length basis) (slice_index basis) by.position (of_ratio value left) by d m x p) (entry_is value (length basis) (slice_index basis) by.position (of_ratio value right) and_by e m y q) is (differs o differ)
-
-    pub agrees : (o : Ordering) → o ≡ cmp_ℚ (entry_over value by x) (entry_over value and_by y) → is_ne o ≡ false → Agree (suc m)
-    agrees o is same =
-        agree_more by.side and_by.side (length basis) (slice_index basis) by.position (of_ratio value left) (of_ratio value right) m agree
-        (sym (entry_is value (length basis) (slice_index basis) by.position (of_ratio value left) by d m x p)
-        ∙ (cmp_ℚ-Equal (entry_over value by x) (entry_over value and_by y)).0 (sym is ∙ equal_from o same)
-        ∙ entry_is value (length basis) (slice_index basis) by.position (of_ratio value right) and_by e m y q)
-
-    pub spills : (range rows entry : ℕ) (s : Spill F) → entry ≡ m → m ≤ rows → IsDivisorSpill value range by entry x s ⊎ IsDivisorSpill value range and_by entry y s
-        → IsSpillOn value range rows (length basis) (slice_index basis) by.position by.side and_by.side (of_ratio value left) (of_ratio value right) s
-    spills range rows entry s same within h =
-        record {
-          entry = m;
-          within = within;
-          agree = agree;
-          spill = either (subst (λ k. IsDivisorSpill value range by k x s ⊎ IsDivisorSpill value range and_by k y s) same h);
-        }
-      where
-        either : IsDivisorSpill value range by m x s ⊎ IsDivisorSpill value range and_by m y s
-            → IsRatioEntrySpill value range (length basis) (slice_index basis) by.position (of_ratio value left) m s ⊎ IsRatioEntrySpill value range (length basis) (slice_index basis) by.position (of_ratio value right) m s
-        either (inl found) = inl (entry_spill value (length basis) (slice_index basis) by.position (of_ratio value left) by d m x p range s found)
-        either (inr found) = inr (entry_spill value (length basis) (slice_index basis) by.position (of_ratio value right) and_by e m y q range s found)
+module _ {F : Type 0} (value : F → Fraction) (n : ℕ) (at : ℕ → ℕ) (j : ℕ) (u v : Nonbasic) (by and_by : Divisor F) (d : IsDivisorOf value j u by) (e : IsDivisorOf value j v and_by) (m : ℕ) (x y : F)
+    (p : rational (value x) ≡ perturbed n at u m) (q : rational (value y) ≡ perturbed n at v m) where
+  pub spill_on : (range rows entry : ℕ) (s : Spill F) → entry ≡ m → m ≤ rows → AgreeBefore by.side and_by.side n at j u v m → IsDivisorSpill value range by entry x s ⊎ IsDivisorSpill value range and_by entry y s
+      → IsSpillOn value range rows n at j by.side and_by.side u v s
+  spill_on range rows entry s same within agree h =
+      record {
+        entry = m;
+        within = within;
+        agree = agree;
+        spill = either (subst (λ k. IsDivisorSpill value range by k x s ⊎ IsDivisorSpill value range and_by k y s) same h);
+      }
+    where
+      either : IsDivisorSpill value range by m x s ⊎ IsDivisorSpill value range and_by m y s → IsRatioEntrySpill value range n at j u m s ⊎ IsRatioEntrySpill value range n at j v m s
+      either (inl found) = inl (entry_spill value n at j u by d m x p range s found)
+      either (inr found) = inr (entry_spill value n at j v and_by e m y q range s found)
 
 -- ---- what the last test tells
 
@@ -210,24 +176,3 @@ module _ (rows n : ℕ) (at : ℕ → ℕ) (j : ℕ) (u v : Nonbasic) (s t : Sid
   right_decides end here less l out some test cases same =
       let first = by_right s t n at j u v rows less l out some (λ i li. same_from-lex_cmp (suc end) (ratio_on s n at j u) (ratio_on t n at j v) (sym same) i (omega arith)) in
       subst (λ o. IsTrue (not b) ↔ (o ≡ Less)) (sym first) (above_zero n at j v some t b test cases)
-
--- the same of two rows that were read
-module _ {F : Type 0} {value : F → Fraction} {basis : List ℕ} {j : ℕ} {left right : Ratio F} (l : IsRatioAt value basis j left) (r : IsRatioAt value basis j right) (rows end : ℕ) (b : Bool) (o : Ordering)
-    (is : o ≡ lex_cmp (suc end) (ratio rows (length basis) (slice_index basis) j (of_ratio value left)) (ratio rows (length basis) (slice_index basis) j (of_ratio value right))) (same : is_ne o ≡ false) where
-  pub left_row_decides : end ≡ left.row → left.row < right.row → left.row < rows → (IsTrue b ↔ (perturbed_side rows (length basis) (slice_index basis) (of_ratio value left) ≡ Down))
-      → IsTrue b ↔ (lex_cmp (suc rows) (ratio rows (length basis) (slice_index basis) j (of_ratio value left)) (ratio rows (length basis) (slice_index basis) j (of_ratio value right)) ≡ Less)
-  left_row_decides here less within test =
-      let n = length basis in
-      let at = slice_index basis in
-      let u = of_ratio value left in
-      let v = of_ratio value right in
-      left_decides rows n at j u v (perturbed_side rows n at u) (perturbed_side rows n at v) b end here less within l.outside l.some test (side_cases (lex_cmp (suc rows) (perturbed n at u) zeros)) (sym (equal_from o same) ∙ is)
-
-  pub right_row_decides : end ≡ right.row → right.row < left.row → right.row < rows → (IsTrue b ↔ (perturbed_side rows (length basis) (slice_index basis) (of_ratio value right) ≡ Down))
-      → IsTrue (not b) ↔ (lex_cmp (suc rows) (ratio rows (length basis) (slice_index basis) j (of_ratio value left)) (ratio rows (length basis) (slice_index basis) j (of_ratio value right)) ≡ Less)
-  right_row_decides here less within test =
-      let n = length basis in
-      let at = slice_index basis in
-      let u = of_ratio value left in
-      let v = of_ratio value right in
-      right_decides rows n at j u v (perturbed_side rows n at u) (perturbed_side rows n at v) b end here less within r.outside r.some test (side_cases (lex_cmp (suc rows) (perturbed n at v) zeros)) (sym (equal_from o same) ∙ is)

@@ -1,8 +1,6 @@
 //! The order of perturbed ratios.
 ghost use Rattle.std.specs.Prelude.{◌≡◌, ◌≢◌, ◌↔◌, ℕ, suc, ◌<◌, ◌≤◌, length, slice_index, IfOk, IfErr, IsTrue};
 ghost use Rattle.std.specs.declared.cmp.Ordering.TheVariants.{Less};
-ghost use Rattle.exact_algebra.specs.Fraction.{rational};
-ghost use Rattle.exact_algebra.specs.Rational.{neg_ℚ};
 ghost use Rattle.loss_model.specs.declared.vertex.Side.TheVariants.{Down};
 ghost use Rattle.basis_model.specs.Lexicographic.{lex_cmp};
 ghost use Rattle.basis_model.specs.Perturbed.{perturbed_side, ratio_on, ratio};
@@ -51,14 +49,6 @@ fn divisor<F: Exact>(ratio: &Ratio<F>, basis: &Basis, position: u32) -> Divisor<
     }
 }
 
-/// The entry of the perturbed residual for the row that the basis holds at a position.
-fn entry_at<F: Exact>(ratio: &Ratio<F>, position: usize) -> F
-    requires { position < length ratio.now.coords.now }
-    ensures { rational (F.value result) ≡ neg_ℚ ((of_ratio F.value ratio.now).coord position) }
-{
-    ratio.coords[position].neg()
-}
-
 /// How two ratios compare at the entries before that of row `end`, which is neither of theirs.
 fn compare_before<F: Exact>(
     ratios: (&Ratio<F>, &Ratio<F>),
@@ -88,8 +78,8 @@ fn compare_before<F: Exact>(
     let mut from = 0;
     'rows: while let Some(k) = next_position(rows, (left, right), from, end) {
         let row = rows[k];
-        let left_entry = entry_at(ratios.0, k);
-        let right_entry = entry_at(ratios.1, k);
+        let left_entry = left[k].neg();
+        let right_entry = right[k].neg();
         let order = compare_entries(by, (left_entry, right_entry), row + 1)?;
         if order.is_ne() {
             return Ok(order);
