@@ -1,14 +1,12 @@
--- Stated. The words of the grammar that formulas are spoken of in, for one import.
+-- Stated. The words of the grammar that this crate speaks of, for one import.
 pub use Rattle.formula_grammar.specs.declared.token.Span.{Span}
 pub use Rattle.formula_grammar.specs.declared.token.Sign.{Sign}
 pub use Rattle.formula_grammar.specs.declared.token.Sign.TheVariants.{Plus, Minus}
-pub use Rattle.formula_grammar.specs.declared.token.Whole.{Whole}
 pub use Rattle.formula_grammar.specs.declared.token.Whole.TheVariants.{Zero, Unity, Longer}
 pub use Rattle.formula_grammar.specs.declared.token.Numeral.{Numeral}
 pub use Rattle.formula_grammar.specs.declared.token.Numeral.TheVariants.{Digits, Written}
 pub use Rattle.formula_grammar.specs.declared.token.Kind.{Kind}
-pub use Rattle.formula_grammar.specs.declared.token.Kind.TheVariants.{Name, FactorWord, QssWord, ArithWord, OffsetWord, Number, Signed, Tilde, Star}
-pub use Rattle.formula_grammar.specs.declared.token.Kind.TheVariants.{Colon, Caret, Open, Close, Comma, Point, End, Stray}
+pub use Rattle.formula_grammar.specs.declared.token.Kind.TheVariants.{Name, ArithWord, OffsetWord, Number, Signed, Tilde, Star, Colon, Caret, Open, Close, End}
 pub use Rattle.formula_grammar.specs.declared.token.Token.{Token}
 pub use Rattle.formula_grammar.specs.declared.reading.Step.{Step}
 pub use Rattle.formula_grammar.specs.declared.reading.Step.TheVariants.{Load, LoadAll, LoadArith, Nothing, Add, Remove, Multiply, Interact, Raise}

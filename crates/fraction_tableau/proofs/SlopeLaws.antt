@@ -1,7 +1,8 @@
 -- The least slope.
-use Rattle.std.specs.Prelude.{◌≡◌, ◌≢◌, ℕ, ◌+◌, ◌<◌, Bool, true, false, ◌==◌, ℤ, pos, ◌≤ℤ◌, ◌<ℤ◌}
+use Rattle.std.specs.Prelude.{◌≡◌, ◌≢◌, ℕ, ◌+◌, ◌<◌, Bool, true, false, ◌==◌, ℤ, pos, ◌≤ℤ◌, ◌<ℤ◌, get_or, Result, IfOk, IfErr}
 use Rattle.std.specs.Ordering.{is_lt}
 use Rattle.std.proofs.Common.{arith, refl, sym, ap, ap₂, subst, ◌∙◌, inl, inr}
+use Rattle.std.proofs.lemmas.Result.{IfOk-weaker, IfErr-weaker}
 use borrow.Author.Tests.{eqb-true, eqb-false}
 use Rattle.walk_rule.proofs.Trails.{below_from}
 use Rattle.exact_algebra.specs.Fraction.{Fraction, rational}
@@ -11,6 +12,7 @@ use Rattle.exact_algebra.specs.Order.{cmp_ℚ, sign_ℚ}
 use Rattle.exact_algebra.proofs.OrderLaws.{sign_ℚ-below, sign_ℚ-not_below, le_from_not}
 use Rattle.exact_algebra.proofs.Signs.{not_below}
 use Rattle.loss_model.specs.declared.spill.Spill.{Spill}
+use Rattle.loss_model.specs.declared.vertex.Side.{Side}
 use Rattle.loss_model.specs.declared.vertex.Side.TheVariants.{Up, Down}
 use Rattle.loss_model.specs.Sample.{Sample, up_cost, down_cost}
 use Rattle.basis_model.specs.Basis.{dual_value}
@@ -19,9 +21,11 @@ use Rattle.pivot_rule.specs.declared.direction.Direction.{Direction}
 use Rattle.pivot_rule.specs.declared.direction.Direction.TheVariants.{Upward, Downward}
 use Rattle.pivot_rule.specs.Duals.{◌<ℚ◌}
 use Rattle.pivot_rule.specs.Steps.{slope, IsLeaving}
-use Rattle.pivot_rule.specs.Spills.{IsStepSpill, of_slope}
+use Rattle.pivot_rule.specs.Spills.{of_slope}
 use Rattle.fraction_tableau.specs.declared.slopes.Leaving.{Leaving}
-use Rattle.fraction_tableau.specs.Slopes.{IsLesser, IsLeast, IsSteeper}
+use Rattle.fraction_tableau.specs.declared.slopes.Slopes.{Slopes}
+use Rattle.fraction_tableau.specs.Slopes.{IsLesser, IsLeast, IsSteeper, HasDuals, IsSlopesSpill, model, rows_of, inverse_of, slope_of}
+use Rattle.fraction_tableau.proofs.Lists.{value_read}
 
 less_le : (x y z : ℚ) → x <ℚ y → y ≤ℚ z → x <ℚ z
 less_le x y z h k back = h (≤ℚ_trans y z x k back)
@@ -108,22 +112,37 @@ module _ {F : Type 0} (value : F → Fraction) (p : Sample) (at : ℕ → ℕ) (
       least Upward = ≤ℚ_refl (slope p at a theta j Upward)
       least Downward = subst (λ z. slope p at a theta j Upward ≤ℚ z) d (subst (λ z. z ≤ℚ rational (value down)) u less)
 
-  -- ---- a slope as it is computed
+-- ---- a slope as it is computed, by the cost of a row and a dual value that was read
 
-  module _ (j i : ℕ) (cost dual : F) (here : i ≡ at j) (e : rational (value dual) ≡ dual_value p at a theta j) where
-    pub upward : (s : F) → rational (value cost) ≡ up_cost p theta i → rational (value s) ≡ rational (value cost) -ℚ rational (value dual) → rational (value s) ≡ slope p at a theta j Upward
-    upward s c is = is ∙ ap₂ (λ x y. x -ℚ y) (c ∙ ap (up_cost p theta) here) e
+module _ {F : Type 0} {value : F → Fraction} {s : Slopes F} (h : HasDuals value s) (j i : ℕ) (lj : j < s.tableau.now.problem.columns) (here : i ≡ rows_of value s j)
+    (cost dual : F) (read : dual ≡ get_or s.duals.now j dual) (r : Result F (Spill F)) where
+  abbrev theta : ℚ
+  theta = rational (value s.theta)
 
-    pub downward : (s : F) → rational (value cost) ≡ down_cost p theta i → rational (value s) ≡ rational (value cost) +ℚ rational (value dual) → rational (value s) ≡ slope p at a theta j Downward
-    downward s c is = is ∙ ap₂ (λ x y. x +ℚ y) (c ∙ ap (down_cost p theta) here) e
+  dual_is : rational (value dual) ≡ dual_value (model value s) (rows_of value s) (inverse_of value s) theta j
+  dual_is = sym (value_read value s.duals.now j dual (rw (← h.duals.size) at lj) read) ∙ h.duals.each j lj
 
-    pub upward_spill : (range : ℕ) (s : Spill F) → j < p.columns → rational (value cost) ≡ up_cost p theta i → IsSlopeSpill value range j Up (rational (value cost)) (rational (value dual)) s → IsStepSpill value range p at a theta s
-    upward_spill range s lj c k =
-        of_slope j Upward lj (subst (λ x. IsSlopeSpill value range j Up x (dual_value p at a theta j) s) (c ∙ ap (up_cost p theta) here) (subst (λ y. IsSlopeSpill value range j Up (rational (value cost)) y s) e k))
+  spills : (range : ℕ) (side : Side) (price : ℚ) → rational (value cost) ≡ price
+      → ((x : Spill F) → IsSlopeSpill value range j side price (dual_value (model value s) (rows_of value s) (inverse_of value s) theta j) x → IsSlopesSpill value range s x)
+      → IfErr r (IsSlopeSpill value range j side (rational (value cost)) (rational (value dual))) → IfErr r (IsSlopesSpill value range s)
+  spills range side price c law k =
+      IfErr-weaker r _ _ (λ x found. law x
+      (subst (λ z. IsSlopeSpill value range j side z (dual_value (model value s) (rows_of value s) (inverse_of value s) theta j) x) c
+      (subst (λ z. IsSlopeSpill value range j side (rational (value cost)) z x) dual_is found))) k
 
-    pub downward_spill : (range : ℕ) (s : Spill F) → j < p.columns → rational (value cost) ≡ down_cost p theta i → IsSlopeSpill value range j Down (rational (value cost)) (rational (value dual)) s → IsStepSpill value range p at a theta s
-    downward_spill range s lj c k =
-        of_slope j Downward lj (subst (λ x. IsSlopeSpill value range j Down x (dual_value p at a theta j) s) (c ∙ ap (down_cost p theta) here) (subst (λ y. IsSlopeSpill value range j Down (rational (value cost)) y s) e k))
+  module _ (c : rational (value cost) ≡ up_cost (model value s) theta i) where
+    pub up_slope : IfOk r (λ x. rational (value x) ≡ rational (value cost) -ℚ rational (value dual)) → IfOk r (λ x. rational (value x) ≡ slope_of value s j Upward)
+    up_slope k = IfOk-weaker r _ _ (λ x is. is ∙ ap₂ (λ x y. x -ℚ y) (c ∙ ap (up_cost (model value s) theta) here) dual_is) k
+
+    pub up_slope_spill : (range : ℕ) → IfErr r (IsSlopeSpill value range j Up (rational (value cost)) (rational (value dual))) → IfErr r (IsSlopesSpill value range s)
+    up_slope_spill range k = spills range Up _ (c ∙ ap (up_cost (model value s) theta) here) (λ x found. of_slope j Upward lj found) k
+
+  module _ (c : rational (value cost) ≡ down_cost (model value s) theta i) where
+    pub down_slope : IfOk r (λ x. rational (value x) ≡ rational (value cost) +ℚ rational (value dual)) → IfOk r (λ x. rational (value x) ≡ slope_of value s j Downward)
+    down_slope k = IfOk-weaker r _ _ (λ x is. is ∙ ap₂ (λ x y. x +ℚ y) (c ∙ ap (down_cost (model value s) theta) here) dual_is) k
+
+    pub down_slope_spill : (range : ℕ) → IfErr r (IsSlopeSpill value range j Down (rational (value cost)) (rational (value dual))) → IfErr r (IsSlopesSpill value range s)
+    down_slope_spill range k = spills range Down _ (c ∙ ap (down_cost (model value s) theta) here) (λ x found. of_slope j Downward lj found) k
 
 -- a sign that is not below 0
 pub from_sign : (x : ℚ) (s : ℤ) → s ≡ sign_ℚ x → pos 0 ≤ℤ s → whole (pos 0) ≤ℚ x

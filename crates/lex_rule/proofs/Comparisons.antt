@@ -18,7 +18,7 @@ use Rattle.basis_model.proofs.LexicographicLaws.{lex_cmp-first, lex_cmp-longer, 
 use Rattle.basis_model.specs.Perturbed.{Nonbasic, IsOutside, perturbed, turned, side_of, ratio_on}
 use Rattle.basis_model.proofs.PerturbedLaws.{perturbed-other, held_coordinate-at}
 use Rattle.basis_model.proofs.Ratios.{ratio-none, ratio-own, own-up, own-down}
-use Rattle.basis_model.specs.RatioSpill.{ratio_site, IsRatioEntrySpill, IsSpillOn}
+use Rattle.basis_model.specs.RatioSpill.{ratio_site, IsRatioEntrySpill}
 use Rattle.lex_rule.specs.declared.quotient.Divisor.{Divisor}
 use Rattle.lex_rule.specs.Divisor.{entry_over, IsDivisorSpill}
 use Rattle.lex_rule.specs.Compared.{IsDivisorOf}
@@ -101,24 +101,6 @@ module _ (s t : Side) (n : ℕ) (at : ℕ → ℕ) (j : ℕ) (u v : Nonbasic) wh
       let none : ratio_on s n at j u (suc v.row) ≡ whole (pos 0) = ratio-none s n at j u v.row other (λ k lk e. absurd (out.outside k lk e)) in
       lex_cmp-first (suc rows) (suc v.row) (ratio_on s n at j u) (ratio_on t n at j v) (omega arith) agree (λ e. ratio-own t n at j v some (sym e ∙ none))
       ∙ ap (λ z. cmp_ℚ z (ratio_on t n at j v (suc v.row))) none
-
--- ---- the spill of an entry
-
-module _ {F : Type 0} (value : F → Fraction) (n : ℕ) (at : ℕ → ℕ) (j : ℕ) (u v : Nonbasic) (by and_by : Divisor F) (d : IsDivisorOf value j u by) (e : IsDivisorOf value j v and_by) (m : ℕ) (x y : F)
-    (p : rational (value x) ≡ perturbed n at u m) (q : rational (value y) ≡ perturbed n at v m) where
-  pub spill_on : (range rows entry : ℕ) (s : Spill F) → entry ≡ m → m ≤ rows → AgreeBefore by.side and_by.side n at j u v m → IsDivisorSpill value range by entry x s ⊎ IsDivisorSpill value range and_by entry y s
-      → IsSpillOn value range rows n at j by.side and_by.side u v s
-  spill_on range rows entry s same within agree h =
-      record {
-        entry = m;
-        within = within;
-        agree = agree;
-        spill = either (subst (λ k. IsDivisorSpill value range by k x s ⊎ IsDivisorSpill value range and_by k y s) same h);
-      }
-    where
-      either : IsDivisorSpill value range by m x s ⊎ IsDivisorSpill value range and_by m y s → IsRatioEntrySpill value range n at j u m s ⊎ IsRatioEntrySpill value range n at j v m s
-      either (inl found) = inl (entry_spill value n at j u by d m x p range s found)
-      either (inr found) = inr (entry_spill value n at j v and_by e m y q range s found)
 
 -- ---- what the last test tells
 

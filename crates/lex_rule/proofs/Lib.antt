@@ -2,3 +2,4 @@ pub mod Scanned
 pub mod Values
 pub mod Signs
 pub mod Comparisons
+pub mod Entries

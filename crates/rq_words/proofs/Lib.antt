@@ -2,6 +2,7 @@ pub mod ByClap
 pub mod Counts
 pub mod Pieces
 pub mod ItemTests
+pub mod Requested
 pub mod Orders
 pub mod ShortWords
 pub mod RankRequests

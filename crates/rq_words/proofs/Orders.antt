@@ -1,37 +1,17 @@
 -- The range of a job that the words give lies in 0 to 1, and in order.
-use Rattle.std.proofs.Common.{◌≡◌, Bool, true, false, not, ◌&&◌, List, [], ◌∷◌, Option, Some, None, Result, Ok, Err, refl, subst, codes, drop, if◌then◌else◌}
-use Rattle.std.specs.List.{list_any}
-use Rattle.std.specs.Option.{option_map_or}
+use Rattle.std.proofs.Common.{◌≡◌, Bool, true, false, not, ◌&&◌, List, Option, Some, None, Ok, refl, subst, if◌then◌else◌}
 use Rattle.std.proofs.lemmas.Bool.{and_parts}
 use Rattle.clap.specs.Words.{Row, Text}
 use Rattle.exact_algebra.specs.Rational.{ℚ, le_ℚ, ◌≤ℚ◌}
 use Rattle.contrasts.specs.declared.Coding.{Coding}
-use Rattle.contrasts.specs.declared.Coding.TheVariants.{Treatment}
-use Rattle.rq_words.specs.Commands.{command_of, kind_of, options_of, read_by}
 use Rattle.rq_words.specs.Requests.{FitRequest, OptionNumbers, PathRequest, Request, TestRequest}
 use Rattle.rq_words.specs.Requests as request
-use Rattle.rq_words.specs.Words.{◌>>=◌, zero, one, option, coding, numbers_of, is_in_order, is_path_range, has_range, fault_of, request_for, checked, is_long, words_of_job, words_of}
+use Rattle.rq_words.specs.Words.{zero, one, is_in_order, is_path_range, has_range, fault_of, request_for, words_of}
 use Rattle.rq_words.specs.declared.command.Kind.{Kind}
 use Rattle.rq_words.specs.declared.command.Kind.TheVariants as kind
 use Rattle.rq_words.specs.declared.job.WordFault.{WordFault}
-use Rattle.rq_words.specs.declared.job.WordFault.TheVariants.{BadContrasts, BadOption, BadRange, UnknownJob}
-
--- the answer of a step is that of the next one
-pub step_ok : {A B : Type 0} (r : Result A WordFault) (next : A → Result B WordFault) (x : B) → (r >>= next) ≡ Ok x → (a : A) × (next a ≡ Ok x)
-step_ok (Ok a) next x h = (a, h)
-step_ok (Err fault) next x h = absurd (cc h)
-
-pub found_ok : {A B : Type 0} (o : Option A) (next : A → Result B WordFault) (fault : WordFault) (x : B) → option_map_or next o (Err fault) ≡ Ok x → (a : A) × (next a ≡ Ok x)
-found_ok (Some a) next fault x h = (a, h)
-found_ok None next fault x h = absurd (cc h)
-
-pub short_ok : {B : Type 0} (b : Bool) (r : Result B WordFault) (fault : WordFault) (x : B) → (if b then Err fault else r) ≡ Ok x → r ≡ Ok x
-short_ok true r fault x h = absurd (cc h)
-short_ok false r fault x h = h
-
-pub no_fault : {B : Type 0} (o : Option WordFault) (y x : B) → option_map_or (λ fault. Err fault) o (Ok y) ≡ Ok x → (o ≡ None) × (y ≡ x)
-no_fault (Some fault) y x h = absurd (cc h)
-no_fault None y x h = (refl, cc h)
+use Rattle.rq_words.specs.declared.job.WordFault.TheVariants.{BadRange}
+use Rattle.rq_words.proofs.Requested.{requested}
 
 in_order : (kind : Kind) (n : OptionNumbers) → fault_of kind n ≡ None → has_range kind n ≡ true
 unfolding fault_of
@@ -56,28 +36,10 @@ request_in_order kind.Check found n chosen h = tt
 request_in_order kind.Test found n chosen h = tt
 request_in_order other found n chosen h = h
 
-pub checked_in_order : (kind : Kind) (found : List Row) (r : Request) → checked kind found ≡ Ok r → IsOrdered r
-unfolding checked
-checked_in_order kind found r h =
-    let numbers = step_ok (numbers_of found) _ _ h in
-    let chosen = step_ok (option BadContrasts found (codes "contrasts") Treatment coding) _ _ numbers.1 in
-    let n = numbers.0 in
-    let sound = no_fault (fault_of kind n) (request_for kind found n chosen.0) _ chosen.1 in
-    subst IsOrdered sound.1 (request_in_order kind found n chosen.0 (in_order kind n sound.0))
-
-job_in_order : (kind : Kind) (words : List Text) (r : Request) → words_of_job kind words ≡ Ok r → IsOrdered r
-unfolding words_of_job
-job_in_order kind words r h =
-    let short = short_ok (list_any is_long (drop 1 words)) _ BadOption _ h in
-    let found = found_ok (read_by (command_of (options_of kind)) words) (checked kind) BadOption _ short in
-    checked_in_order kind found.0 r found.1
-
-words_in_order : (words : List Text) (r : Request) → words_of words ≡ Ok r → IsOrdered r
-unfolding words_of
-words_in_order [] r h = absurd (cc h)
-words_in_order (job ∷ rest) r h =
-    let kind = found_ok (kind_of job) (λ kind. words_of_job kind (job ∷ rest)) UnknownJob _ h in
-    job_in_order kind.0 (job ∷ rest) r kind.1
+pub words_in_order : (words : List Text) (r : Request) → words_of words ≡ Ok r → IsOrdered r
+words_in_order words r h =
+    let a = requested words r h in
+    subst IsOrdered a.is (request_in_order a.kind a.found a.numbers a.chosen (in_order a.kind a.numbers a.sound))
 
 abbrev IsRange : ℚ → ℚ → Type 0
 IsRange lo hi = (zero ≤ℚ lo) × (lo ≤ℚ hi) × (hi ≤ℚ one)
@@ -133,27 +95,10 @@ request_over_all kind.Ranks found n chosen = (refl, refl)
 request_over_all kind.Test found n chosen = (refl, refl)
 request_over_all other found n chosen = tt
 
-checked_over_all : (kind : Kind) (found : List Row) (r : Request) → checked kind found ≡ Ok r → IsOverAll r
-unfolding checked
-checked_over_all kind found r h =
-    let numbers = step_ok (numbers_of found) _ _ h in
-    let chosen = step_ok (option BadContrasts found (codes "contrasts") Treatment coding) _ _ numbers.1 in
-    let sound = no_fault (fault_of kind numbers.0) (request_for kind found numbers.0 chosen.0) _ chosen.1 in
-    subst IsOverAll sound.1 (request_over_all kind found numbers.0 chosen.0)
-
-job_over_all : (kind : Kind) (words : List Text) (r : Request) → words_of_job kind words ≡ Ok r → IsOverAll r
-unfolding words_of_job
-job_over_all kind words r h =
-    let short = short_ok (list_any is_long (drop 1 words)) _ BadOption _ h in
-    let found = found_ok (read_by (command_of (options_of kind)) words) (checked kind) BadOption _ short in
-    checked_over_all kind found.0 r found.1
-
 words_over_all : (words : List Text) (r : Request) → words_of words ≡ Ok r → IsOverAll r
-unfolding words_of
-words_over_all [] r h = absurd (cc h)
-words_over_all (job ∷ rest) r h =
-    let kind = found_ok (kind_of job) (λ kind. words_of_job kind (job ∷ rest)) UnknownJob _ h in
-    job_over_all kind.0 (job ∷ rest) r kind.1
+words_over_all words r h =
+    let a = requested words r h in
+    subst IsOverAll a.is (request_over_all a.kind a.found a.numbers a.chosen)
 
 -- the range of ranks that the words ask for
 pub ranks_range : (words : List Text) (f : FitRequest) → words_of words ≡ Ok (request.Ranks f) → (zero ≡ f.lo) × (one ≡ f.hi)

@@ -1,21 +1,19 @@
 -- What words ask of rank intervals: a critical value of at least 0, and quantiles of which none is outside 0 to 1.
-use Rattle.std.proofs.Common.{◌≡◌, Bool, true, false, not, List, [], ◌∷◌, Option, Some, None, Ok, refl, sym, ap, subst, codes, drop, if◌then◌else◌, option_map, option_and_then}
+use Rattle.std.proofs.Common.{◌≡◌, Bool, true, false, not, List, Option, Some, None, Ok, refl, sym, ap, subst, if◌then◌else◌, option_map, option_and_then}
 use Rattle.std.specs.List.{list_any}
 use Rattle.std.specs.Option.{option_map_or}
 use Rattle.std.proofs.lemmas.Bool.{not-false}
 use Rattle.clap.specs.Words.{Row, Text}
 use Rattle.exact_algebra.specs.Rational.{ℚ, le_ℚ, ◌≤ℚ◌}
 use Rattle.contrasts.specs.declared.Coding.{Coding}
-use Rattle.contrasts.specs.declared.Coding.TheVariants.{Treatment}
-use Rattle.rq_words.specs.Commands.{command_of, kind_of, options_of, read_by}
 use Rattle.rq_words.specs.Requests.{FitRequest, OptionNumbers, RankRequest, Request, TestRequest}
 use Rattle.rq_words.specs.Requests as request
-use Rattle.rq_words.specs.Words.{zero, option, coding, numbers_of, has_range, is_outside, ascends, fault_of, rank_of, request_for, checked, is_long, words_of_job, words_of}
+use Rattle.rq_words.specs.Words.{zero, has_range, is_outside, ascends, fault_of, rank_of, request_for, words_of}
 use Rattle.rq_words.specs.declared.command.Kind.{Kind}
 use Rattle.rq_words.specs.declared.command.Kind.TheVariants as kind
 use Rattle.rq_words.specs.declared.job.WordFault.{WordFault}
-use Rattle.rq_words.specs.declared.job.WordFault.TheVariants.{BadContrasts, BadOption, BadRange, BadTauForRank, NegativeLimit, NotAscending, RankHalf, UnknownJob}
-use Rattle.rq_words.proofs.Orders.{step_ok, found_ok, short_ok, no_fault}
+use Rattle.rq_words.specs.declared.job.WordFault.TheVariants.{BadRange, BadTauForRank, NegativeLimit, NotAscending, RankHalf}
+use Rattle.rq_words.proofs.Requested.{requested}
 
 -- a test that finds no fault fails, and so do those behind it
 untold : (b : Bool) (fault : WordFault) (rest : Option WordFault) → (if b then Some fault else rest) ≡ None → (b ≡ false) × (rest ≡ None)
@@ -80,30 +78,11 @@ same_rank kind.Certify found n chosen f h sound = subst IsSoundOf (ap rank_in h)
 same_rank kind.Predict found n chosen f h sound = subst IsSoundOf (ap rank_in h) tt
 same_rank other found n chosen f h sound = absurd h
 
-module _ (asked : Request) (f : FitRequest) (is : IsFitOf asked f) where
-  checked_sound : (kind : Kind) (found : List Row) → checked kind found ≡ Ok asked → IsSoundOf f.rank
-  unfolding checked
-  checked_sound kind found h =
-      let numbers = step_ok (numbers_of found) _ _ h in
-      let chosen = step_ok (option BadContrasts found (codes "contrasts") Treatment coding) _ _ numbers.1 in
-      let n = numbers.0 in
-      let sound = no_fault (fault_of kind n) (request_for kind found n chosen.0) _ chosen.1 in
-      same_rank kind found n chosen.0 f (subst (λ r. IsFitOf r f) (sym sound.1) is) (sound_of kind n sound.0 (rank_of n) refl)
-
-  job_sound : (kind : Kind) (words : List Text) → words_of_job kind words ≡ Ok asked → IsSoundOf f.rank
-  unfolding words_of_job
-  job_sound kind words h =
-      let short = short_ok (list_any is_long (drop 1 words)) _ BadOption _ h in
-      let found = found_ok (read_by (command_of (options_of kind)) words) (checked kind) BadOption _ short in
-      checked_sound kind found.0 found.1
-
-  -- so is what the words ask for
-  pub words_sound : (words : List Text) → words_of words ≡ Ok asked → IsSoundOf f.rank
-  unfolding words_of
-  words_sound [] h = absurd (cc h)
-  words_sound (job ∷ rest) h =
-      let kind = found_ok (kind_of job) (λ kind. words_of_job kind (job ∷ rest)) UnknownJob _ h in
-      job_sound kind.0 (job ∷ rest) kind.1
+-- so is what the words ask for
+pub words_sound : (r : Request) (f : FitRequest) → IsFitOf r f → (words : List Text) → words_of words ≡ Ok r → IsSoundOf f.rank
+words_sound r f is words h =
+    let a = requested words r h in
+    same_rank a.kind a.found a.numbers a.chosen f (subst (λ r. IsFitOf r f) (sym a.is) is) (sound_of a.kind a.numbers a.sound (rank_of a.numbers) refl)
 
 -- ---- jobs without rank intervals
 
@@ -117,27 +96,10 @@ request_unranked kind.Test found n chosen = refl
 request_unranked kind.Predict found n chosen = refl
 request_unranked other found n chosen = tt
 
-checked_unranked : (kind : Kind) (found : List Row) (r : Request) → checked kind found ≡ Ok r → IsUnranked r
-unfolding checked
-checked_unranked kind found r h =
-    let numbers = step_ok (numbers_of found) _ _ h in
-    let chosen = step_ok (option BadContrasts found (codes "contrasts") Treatment coding) _ _ numbers.1 in
-    let sound = no_fault (fault_of kind numbers.0) (request_for kind found numbers.0 chosen.0) _ chosen.1 in
-    subst IsUnranked sound.1 (request_unranked kind found numbers.0 chosen.0)
-
-job_unranked : (kind : Kind) (words : List Text) (r : Request) → words_of_job kind words ≡ Ok r → IsUnranked r
-unfolding words_of_job
-job_unranked kind words r h =
-    let short = short_ok (list_any is_long (drop 1 words)) _ BadOption _ h in
-    let found = found_ok (read_by (command_of (options_of kind)) words) (checked kind) BadOption _ short in
-    checked_unranked kind found.0 r found.1
-
 words_unranked : (words : List Text) (r : Request) → words_of words ≡ Ok r → IsUnranked r
-unfolding words_of
-words_unranked [] r h = absurd (cc h)
-words_unranked (job ∷ rest) r h =
-    let kind = found_ok (kind_of job) (λ kind. words_of_job kind (job ∷ rest)) UnknownJob _ h in
-    job_unranked kind.0 (job ∷ rest) r kind.1
+words_unranked words r h =
+    let a = requested words r h in
+    subst IsUnranked a.is (request_unranked a.kind a.found a.numbers a.chosen)
 
 -- nor does a test
 pub test_unranked : (words : List Text) (t : TestRequest) → words_of words ≡ Ok (request.Test t) → t.fit.rank ≡ None

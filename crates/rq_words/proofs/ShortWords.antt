@@ -1,6 +1,6 @@
 -- No value that `clap` finds in words is as long as words may not be.
 use Rattle.std.proofs.Common.{◌≡◌, ◌∙◌, ◌<◌, ◌+◌, ◌^◌, ◌==◌, ◌&&◌, ◌||◌, ℕ, zero, suc, Bool, true, false, List, [], ◌∷◌, ◌++◌, Option, Some, None, IfSome}
-use Rattle.std.proofs.Common.{Result, Ok, Err, refl, sym, option_and_then, nat_le, nat_eq, subst, arith, codes, cond, drop, find, fold, length, length-drop, rules, if◌then◌else◌, chars, encode_utf8, bytes_eq}
+use Rattle.std.proofs.Common.{Ok, refl, sym, option_and_then, nat_le, nat_eq, subst, arith, codes, cond, drop, find, fold, length, length-drop, rules, if◌then◌else◌, chars, encode_utf8, bytes_eq}
 use Rattle.std.specs.List.{AllByRecursion, after_first, list_any, position_or_len, slice_get}
 use Rattle.std.specs.Option.{option_map_or}
 use Rattle.std.proofs.Math.Dec.{lit<}
@@ -18,17 +18,13 @@ use Rattle.clap.specs.declared.parser.matches.ValueSource.{ValueSource}
 use Rattle.clap.specs.declared.parser.matches.ValueSource.TheVariants.{CommandLine}
 use Rattle.clap.specs.declared.builder.value_parser.Reading.{Reading}
 use Rattle.contrasts.specs.declared.Coding.{Coding}
-use Rattle.contrasts.specs.declared.Coding.TheVariants.{Treatment}
-use Rattle.rq_words.specs.Commands.{command_of, kind_of, options_of, read_by, some_if_none}
+use Rattle.rq_words.specs.Commands.{command_of, options_of, read_by, some_if_none}
 use Rattle.rq_words.specs.Requests.{FitRequest, OptionNumbers, PathRequest, Request, TestRequest}
 use Rattle.rq_words.specs.Requests as request
-use Rattle.rq_words.specs.Words.{coding, fault_of, is_long, numbers_of, option as option_text, request_for, checked, text_or_empty, words_of_job, words_of}
+use Rattle.rq_words.specs.Words.{is_long, request_for, text_or_empty, words_of}
 use Rattle.rq_words.specs.declared.command.Kind.{Kind}
 use Rattle.rq_words.specs.declared.command.Kind.TheVariants as kind
-use Rattle.rq_words.proofs.Orders.{found_ok, no_fault, step_ok}
-use Rattle.rq_words.specs.declared.job.WordFault.{WordFault}
-use Rattle.rq_words.specs.declared.job.WordFault.TheVariants.{BadContrasts, BadOption, UnknownJob}
-use Rattle.rq_words.proofs.Samples.{found_both}
+use Rattle.rq_words.proofs.Requested.{requested}
 
 -- an argument that is used by its values, as they stand in the words, and by no others
 record IsOption (a : Rule) : Type 0 where
@@ -326,10 +322,6 @@ matched : (app : App) (words : List Text) (found : List Row) → read_by app wor
 unfolding read_by
 matched app words found h = taken (kinds_of app words) (matches_of app words) found h
 
-not_long : {B : Type 0} (b : Bool) (r : Result B WordFault) (fault : WordFault) (x : B) → (if b then Err fault else r) ≡ Ok x → (b ≡ false) × (r ≡ Ok x)
-not_long true r fault x h = absurd (cc h)
-not_long false r fault x h = (refl, h)
-
 -- the formula that a request has, if it is of a fit of a table
 abbrev formula_in : Request → Text
 formula_in (request.Process f) = f.formula
@@ -350,33 +342,15 @@ request_short kind.Check found n chosen h = lit< tt
 request_short kind.Sample found n chosen h = lit< tt
 request_short other found n chosen h = h
 
-checked_short : (kind : Kind) (found : List Row) (r : Request) → checked kind found ≡ Ok r → IsShort (2 ^ 31) (text_or_empty (first_of (codes "formula") found)) → HasShortFormula r
-unfolding checked
-checked_short kind found r h short =
-    let numbers = step_ok (numbers_of found) _ _ h in
-    let chosen = step_ok (option_text BadContrasts found (codes "contrasts") Treatment coding) _ _ numbers.1 in
-    let sound = no_fault (fault_of kind numbers.0) (request_for kind found numbers.0 chosen.0) _ chosen.1 in
-    subst HasShortFormula sound.1 (request_short kind found numbers.0 chosen.0 short)
-
-job_short : (kind : Kind) (words : List Text) (r : Request) → words_of_job kind words ≡ Ok r → HasShortFormula r
-unfolding words_of_job
-job_short kind words r h =
-    let app = command_of (options_of kind) in
-    let short = not_long (list_any is_long (drop 1 words)) _ BadOption _ h in
-    let found = found_both (read_by app words) (checked kind) BadOption _ short.1 in
-    let rows : Rows (2 ^ 31) (matches_of app words) =
-    found_short (2 ^ 31) (built app).top.rules (names_of (built app)) (drop 1 words) (options kind) (short_words (drop 1 words) short.0) in
-    let same = matched app words found.0 found.1 in
-    let formula = first_short (2 ^ 31) (codes "formula") found.0 (subst (λ (rows : List Row). Rows (2 ^ 31) rows) same rows) in
-    checked_short kind found.0 r found.2 (text_short (2 ^ 31) (first_of (codes "formula") found.0) (lit< tt) formula)
-
 -- the formula that words have is shorter than 2^31 bytes
 request_formula : (words : List Text) (r : Request) → words_of words ≡ Ok r → HasShortFormula r
-unfolding words_of
-request_formula [] r h = absurd (cc h)
-request_formula (job ∷ rest) r h =
-    let kind = found_ok (kind_of job) (λ kind. words_of_job kind (job ∷ rest)) UnknownJob _ h in
-    job_short kind.0 (job ∷ rest) r kind.1
+request_formula words r h =
+    let a = requested words r h in
+    let app = command_of (options_of a.kind) in
+    let rows : Rows (2 ^ 31) (matches_of app words) =
+    found_short (2 ^ 31) (built app).top.rules (names_of (built app)) (drop 1 words) (options a.kind) (short_words (drop 1 words) a.short) in
+    let formula = first_short (2 ^ 31) (codes "formula") a.found (subst (λ (rows : List Row). Rows (2 ^ 31) rows) (matched app words a.found a.read) rows) in
+    subst HasShortFormula a.is (request_short a.kind a.found a.numbers a.chosen (text_short (2 ^ 31) (first_of (codes "formula") a.found) (lit< tt) formula))
 
 -- so is that of a process
 pub process_formula : (words : List Text) (f : FitRequest) → words_of words ≡ Ok (request.Process f) → length f.formula < 2 ^ 31

@@ -1,29 +1,24 @@
 -- The numbers of the tested columns that words ask for ascend, and where all of them are columns, so do these.
 use Rattle.std.proofs.Common.{◌≡◌, ◌∙◌, ℕ, zero, suc, ◌+◌, ◌-◌, ◌^◌, ◌<◌, ◌≤◌, ◌==◌, ◌&&◌, Bool, true, false, List, [], ◌∷◌}
-use Rattle.std.proofs.Common.{Option, Some, None, Ok, refl, ap, ap₂, subst, arith, codes, drop, length, map, nat_le, ok_or, if◌then◌else◌, option_and_then, option_map}
-use Rattle.std.specs.List.{AllByRecursion, list_any, slice_index, slice_split}
+use Rattle.std.proofs.Common.{Option, Some, None, Ok, refl, ap, ap₂, subst, arith, codes, length, map, nat_le, ok_or, if◌then◌else◌, option_and_then, option_map}
+use Rattle.std.specs.List.{AllByRecursion, slice_index, slice_split}
 use Rattle.std.specs.List.Sorted.{IsStrictlyIncreasing}
 use Rattle.std.specs.Option.{option_map_or}
 use Rattle.std.specs.Str.Parse.{digits_value}
 use Rattle.std.proofs.lemmas.Bool.{leb-true, and_parts}
 use Rattle.std.proofs.lemmas.Bool.Decides.{nat_tests}
 use Rattle.clap.specs.Words.{Row, Text, first_of}
-use Rattle.frac_core.specs.Limits.{most_rows}
 use Rattle.contrasts.specs.declared.Coding.{Coding}
-use Rattle.contrasts.specs.declared.Coding.TheVariants.{Treatment}
-use Rattle.rq_words.specs.Commands.{command_of, kind_of, options_of, read_by}
 use Rattle.rq_words.specs.Requests.{OptionNumbers, Request, TestRequest, given_number}
 use Rattle.rq_words.specs.Requests as request
-use Rattle.rq_words.specs.Words.{zero as nought, one, option, number_option, number_text, all_read, quantiles, column_numbers, given, count, coding}
-use Rattle.rq_words.specs.Words.{has_digits, numbers_of, ascends, ascends_from, fault_of, column_of, request_for, checked, is_long, words_of_job, words_of}
+use Rattle.rq_words.specs.Words.{all_read, column_numbers, count, has_digits, ascends, ascends_from, column_of, request_for, words_of}
 use Rattle.rq_words.specs.declared.command.Kind.{Kind}
 use Rattle.rq_words.specs.declared.command.Kind.TheVariants as kind
 use Rattle.rq_words.specs.declared.job.WordFault.{WordFault}
-use Rattle.rq_words.specs.declared.job.WordFault.TheVariants.{BadContrasts, BadNumber, BadOption, UnknownJob}
-use Rattle.rq_words.proofs.FewQuantiles.{joined_few, step_both}
-use Rattle.rq_words.proofs.Orders.{found_ok, no_fault, short_ok, step_ok}
+use Rattle.rq_words.specs.declared.job.WordFault.TheVariants.{BadNumber}
+use Rattle.rq_words.proofs.FewQuantiles.{joined_few}
+use Rattle.rq_words.proofs.Requested.{requested, numbers_read}
 use Rattle.rq_words.proofs.RankRequests.{are_sound}
-use Rattle.rq_words.proofs.Samples.{same_numbers}
 
 -- ---- numbers of at most three digits
 
@@ -60,22 +55,6 @@ option_small (Some text) xs fault h = by (column_numbers text) refl h
     by (Some ys) e h = let is : ys ≡ xs = cc h in subst AreSmall is (read_small (slice_split (λ b. b == 44) text) ys (joined_few 128 (count 3 0 999) text ys e).1)
     by None e h = absurd (cc h)
 
-numbers_small : (found : List Row) (n : OptionNumbers) → numbers_of found ≡ Ok n → AreSmall n.tested
-unfolding numbers_of
-numbers_small found n h =
-    let lo = step_ok (number_option found (codes "lo") nought number_text) _ _ h in
-    let hi = step_ok (number_option found (codes "hi") one number_text) _ _ lo.1 in
-    let crit = step_ok (number_option found (codes "crit") None (given number_text)) _ _ hi.1 in
-    let taus = step_ok (number_option found (codes "rank-at") None (given quantiles)) _ _ crit.1 in
-    let limit = step_ok (number_option found (codes "pivots") 100000 (count 8 0 10000000)) _ _ taus.1 in
-    let number = step_ok (number_option found (codes "number") 0 (count 10 0 (2 ^ 32 - 1))) _ _ limit.1 in
-    let rows = step_ok (number_option found (codes "rows") 0 (count 5 1 most_rows)) _ _ number.1 in
-    let columns = step_ok (number_option found (codes "columns") 0 (count 3 1 100)) _ _ rows.1 in
-    let tested = step_both (number_option found (codes "tested") [] column_numbers) _ _ columns.1 in
-    let tau = step_ok (number_option found (codes "tau") nought number_text) _ _ tested.2 in
-    subst AreSmall (ap (λ (m : OptionNumbers). m.tested) (same_numbers _ n tau.1))
-    (option_small (first_of (codes "tested") found) tested.0 (BadNumber (codes "tested")) tested.1)
-
 -- ---- the columns of such numbers
 
 given_back : (n : ℕ) → n ≤ 999 → given_number (column_of n) ≡ n
@@ -103,28 +82,11 @@ request_ascending : (kind : Kind) (found : List Row) (n : OptionNumbers) (chosen
 request_ascending kind.Test found n chosen small h = ap ascends (all_given_back n.tested small) ∙ h
 request_ascending other found n chosen small h = tt
 
-checked_ascending : (kind : Kind) (found : List Row) (r : Request) → checked kind found ≡ Ok r → IsAscending r
-unfolding checked
-checked_ascending kind found r h =
-    let numbers = step_both (numbers_of found) _ _ h in
-    let chosen = step_ok (option BadContrasts found (codes "contrasts") Treatment coding) _ _ numbers.2 in
-    let n = numbers.0 in
-    let sound = no_fault (fault_of kind n) (request_for kind found n chosen.0) _ chosen.1 in
-    subst IsAscending sound.1 (request_ascending kind found n chosen.0 (numbers_small found n numbers.1) (are_sound kind n sound.0).tested)
-
-job_ascending : (kind : Kind) (words : List Text) (r : Request) → words_of_job kind words ≡ Ok r → IsAscending r
-unfolding words_of_job
-job_ascending kind words r h =
-    let short = short_ok (list_any is_long (drop 1 words)) _ BadOption _ h in
-    let found = found_ok (read_by (command_of (options_of kind)) words) (checked kind) BadOption _ short in
-    checked_ascending kind found.0 r found.1
-
 words_ascending : (words : List Text) (r : Request) → words_of words ≡ Ok r → IsAscending r
-unfolding words_of
-words_ascending [] r h = absurd (cc h)
-words_ascending (job ∷ rest) r h =
-    let kind = found_ok (kind_of job) (λ kind. words_of_job kind (job ∷ rest)) UnknownJob _ h in
-    job_ascending kind.0 (job ∷ rest) r kind.1
+words_ascending words r h =
+    let a = requested words r h in
+    let small = option_small (first_of (codes "tested") a.found) a.numbers.tested (BadNumber (codes "tested")) (numbers_read a.found a.numbers a.counted).tested in
+    subst IsAscending a.is (request_ascending a.kind a.found a.numbers a.chosen small (are_sound a.kind a.numbers a.sound).tested)
 
 -- the numbers of the columns that a test asks for
 pub test_ascending : (words : List Text) (t : TestRequest) → words_of words ≡ Ok (request.Test t) → ascends (map given_number t.tested) ≡ true

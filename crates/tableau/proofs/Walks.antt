@@ -101,7 +101,7 @@ walk_begins {F} value task hi limit u lo range h =
         (begins value (place_of value u.tableau).task.problem (rational (value lo)) hi (place_of value u.tableau).rows (place_of value u.tableau).inverse range
         h.underway.is_place.size h.underway.is_place.is_basis h.underway.is_place.ends h.stop)
 
-module _ {F : Type 0} (value : F → Fraction) (task : Task F) (lo hi : ℚ) where
+module _ {F : Type 0} {value : F → Fraction} {task : Task F} {lo hi : ℚ} where
   -- what holds of the problem of the task holds of that of the place, and the other way round
   at_here : (w : Walk F) → IsWalking value task lo hi w → (Q : Problem F → Type 0) → Q task.problem → Q (here_of value w).task.problem
   at_here w h Q k = subst (λ (t : Task F). Q t.problem) (sym h.same) k

@@ -7,20 +7,14 @@ use Rattle.tableau.proofs.walking.end_walk.Goals as goal
 
 pub returns-in-Ok-push-clause-done : goal.returns-in-Ok-push-clause-done
 returns-in-Ok-push-clause-done g c =
-    let value = g.F.Exact.value in
-    let w = c.args.walk in
-    rw (c.into_trail-trail.ensures) (walk_done value (here_of value w).task (rational (value c.args.lo)) (rational (value c.args.hi)) c.args.limit w c.requires.out c.in-Ok.segment c.push.new.self (c.in-Ok.ensures {u = tt}).segment
-    (c.in-Ok-push.ensures {u = tt}).pushed)
+    rw (c.into_trail-trail.ensures) (walk_done c.args.limit c.args.walk c.requires.out c.in-Ok.segment c.push.new.self (c.in-Ok.ensures {u = tt}).segment (c.in-Ok-push.ensures {u = tt}).pushed)
 
 pub returns-in-Err-clause-halted : goal.returns-in-Err-clause-halted
 returns-in-Err-clause-halted g c =
     let value = g.F.Exact.value in
     let w = c.args.walk in
-    let task = (here_of value w).task in
-    let lo = rational (value c.args.lo) in
     let hi = rational (value c.args.hi) in
     let out = c.requires.out in
-    walk_refused value task lo hi g.F.Exact.range c.args.limit w w.reached.trail c.in-Err.refused c.halt.result out.walking out.short
-    (refusal_kept value g.F.Exact.range (here_of value w) (walking (now_of value w) hi) w.reached.trail c.in-Err.refused
-    ((c.in-Err.ensures {u = tt}).refused hi (last_end value task lo hi c.args.limit w out c.requires.costs)))
+    walk_refused g.F.Exact.range c.args.limit w w.reached.trail c.in-Err.refused c.halt.result out.walking out.short
+    (refusal_kept value g.F.Exact.range (here_of value w) (walking (now_of value w) hi) w.reached.trail c.in-Err.refused ((c.in-Err.ensures {u = tt}).refused hi (last_end c.args.limit w out c.requires.costs)))
     c.halt.ensures

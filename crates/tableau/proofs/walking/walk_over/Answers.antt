@@ -13,118 +13,58 @@ loop-init g c =
     record { walking = c.requires.begun; counted = sym size; short = omega (arith, size, c.requires.short) }
 
 pub advance-requires-clause-costs : goal.advance-requires-clause-costs
-advance-requires-clause-costs g c κs within =
-    let value = g.F.Exact.value in
-    let task = (here_of value c.args.from).task in
-    let lo = rational (value c.args.lo) in
-    let hi = rational (value c.args.hi) in
-    let w = c.loop.walk in
-    let h = c.loop.invariant.walking in
-    costs_here value task lo hi w h c.requires.costs_hi
+advance-requires-clause-costs g c κs within = costs_here c.loop.walk c.loop.invariant.walking c.requires.costs_hi
 
 pub advance-requires-clause-optimal : goal.advance-requires-clause-optimal
-advance-requires-clause-optimal g c κs within =
-    let value = g.F.Exact.value in
-    let task = (here_of value c.args.from).task in
-    let lo = rational (value c.args.lo) in
-    let hi = rational (value c.args.hi) in
-    let w = c.loop.walk in
-    let h = c.loop.invariant.walking in
-    optimal_now value task lo hi w h
+advance-requires-clause-optimal g c κs within = optimal_now c.loop.walk c.loop.invariant.walking
 
 pub advance-requires-clause-carried : goal.advance-requires-clause-carried
 advance-requires-clause-carried g c κs within = c.loop.invariant.walking.carried
 
 pub walking_step-requires-clause-costs : goal.walking_step-requires-clause-costs
-walking_step-requires-clause-costs g c κs within =
-    let value = g.F.Exact.value in
-    let task = (here_of value c.args.from).task in
-    let lo = rational (value c.args.lo) in
-    let hi = rational (value c.args.hi) in
-    let w = c.loop.walk in
-    let h = c.loop.invariant.walking in
-    costs_here value task lo hi w h c.requires.costs_hi
+walking_step-requires-clause-costs g c κs within = costs_here c.loop.walk c.loop.invariant.walking c.requires.costs_hi
 
 pub walking_step-requires-clause-optimal : goal.walking_step-requires-clause-optimal
-walking_step-requires-clause-optimal g c κs within =
-    let value = g.F.Exact.value in
-    let task = (here_of value c.args.from).task in
-    let lo = rational (value c.args.lo) in
-    let hi = rational (value c.args.hi) in
-    let w = c.loop.walk in
-    let h = c.loop.invariant.walking in
-    optimal_now value task lo hi w h
+walking_step-requires-clause-optimal g c κs within = optimal_now c.loop.walk c.loop.invariant.walking
 
 pub returns-in-Ok-false-clause-end : goal.returns-in-Ok-false-clause-end
 returns-in-Ok-false-clause-end g c =
-    let value = g.F.Exact.value in
-    let task = (here_of value c.args.from).task in
-    let lo = rational (value c.args.lo) in
-    let hi = rational (value c.args.hi) in
-    let w = c.loop.walk in
-    let h = c.loop.invariant.walking in
     let next = rw c.in-Ok-false.field-0-test at (c.in-Ok-false.ensures {u = tt}).next in
-    rw next.0 (record { walking = h; still = next.1; short = omega (arith, c.loop.invariant.counted, c.loop-test.true) })
+    rw next.0 (record { walking = c.loop.invariant.walking; still = next.1; short = omega (arith, c.loop.invariant.counted, c.loop-test.true) })
 
 pub returns-in-Err-clause-halted : goal.returns-in-Err-clause-halted
 returns-in-Err-clause-halted g c =
-    let value = g.F.Exact.value in
-    let task = (here_of value c.args.from).task in
-    let lo = rational (value c.args.lo) in
-    let hi = rational (value c.args.hi) in
-    let w = c.loop.walk in
-    let h = c.loop.invariant.walking in
-    walk_refused value task lo hi g.F.Exact.range c.args.limit w c.advance.new.self.reached.trail c.in-Err.refused c.halt.result h
+    walk_refused g.F.Exact.range c.args.limit c.loop.walk c.advance.new.self.reached.trail c.in-Err.refused c.halt.result c.loop.invariant.walking
     (omega (arith, c.loop.invariant.counted, c.loop-test.true)) (c.in-Err.ensures {u = tt}).refused c.halt.ensures
 
 pub loop-preserved : goal.loop-preserved
 loop-preserved g c =
-    let value = g.F.Exact.value in
-    let task = (here_of value c.args.from).task in
-    let lo = rational (value c.args.lo) in
-    let hi = rational (value c.args.hi) in
     let w = c.loop.walk in
-    let h = c.loop.invariant.walking in
     let k = rw c.in-Ok-true.field-0-test at (c.in-Ok-true.ensures {u = tt}).next in
     let longer : length c.advance.new.self.reached.trail.steps ≡ length w.reached.trail.steps + 1 = ap length k.trail.steps ∙ length_push w.reached.trail.steps k.step in
     record {
-      walking = goes_on value task lo hi w c.advance.new.self c.requires.costs_lo c.requires.costs_hi h k;
+      walking = goes_on w c.advance.new.self c.requires.costs_lo c.requires.costs_hi c.loop.invariant.walking k;
       counted = omega (arith, longer, c.loop.invariant.counted);
       short = omega (arith, c.loop-test.true);
     }
 
 pub returns-in-Ok-None-clause-end : goal.returns-in-Ok-None-clause-end
 returns-in-Ok-None-clause-end g c =
-    let value = g.F.Exact.value in
-    let task = (here_of value c.args.from).task in
-    let lo = rational (value c.args.lo) in
-    let hi = rational (value c.args.hi) in
-    let w = c.loop.walk in
-    let h = c.loop.invariant.walking in
     let still = rw c.in-Ok-None.field-0-is at (c.in-Ok-None.ensures {u = tt}).step in
-    record { walking = h; still = still; short = omega (arith, c.loop.invariant.counted, c.loop-test.false, c.loop.invariant.short) }
+    record { walking = c.loop.invariant.walking; still = still; short = omega (arith, c.loop.invariant.counted, c.loop-test.false, c.loop.invariant.short) }
 
 pub returns-in-Ok-Some-clause-halted : goal.returns-in-Ok-Some-clause-halted
 returns-in-Ok-Some-clause-halted g c =
     let value = g.F.Exact.value in
-    let task = (here_of value c.args.from).task in
-    let lo = rational (value c.args.lo) in
-    let hi = rational (value c.args.hi) in
-    let w = c.loop.walk in
-    let h = c.loop.invariant.walking in
     let step = rw c.in-Ok-Some.field-0-is at (c.in-Ok-Some.ensures {u = tt}).step in
-    subst (IsWalkHalted value g.F.Exact.range task lo hi c.args.limit) (sym c.halt_at_limit.ensures)
-    (limit_walked value task lo hi c.args.limit w c.in-Ok-Some.field-0-0 h (omega (arith, c.loop.invariant.counted, c.loop-test.false, c.loop.invariant.short)) step)
+    subst (IsWalkHalted value g.F.Exact.range (here_of value c.args.from).task (rational (value c.args.lo)) (rational (value c.args.hi)) c.args.limit) (sym c.halt_at_limit.ensures)
+    (limit_walked c.args.limit c.loop.walk c.in-Ok-Some.field-0-0 c.loop.invariant.walking (omega (arith, c.loop.invariant.counted, c.loop-test.false, c.loop.invariant.short)) step)
 
 pub returns-in-Err-walking_step-clause-halted : goal.returns-in-Err-walking_step-clause-halted
 returns-in-Err-walking_step-clause-halted g c =
     let value = g.F.Exact.value in
-    let task = (here_of value c.args.from).task in
-    let lo = rational (value c.args.lo) in
-    let hi = rational (value c.args.hi) in
     let w = c.loop.walk in
-    let h = c.loop.invariant.walking in
-    let asked = walking (now_of value w) hi in
-    walk_refused value task lo hi g.F.Exact.range c.args.limit w w.reached.trail c.in-Err-walking_step.refused c.halt-in-Err-walking_step.result h
+    walk_refused g.F.Exact.range c.args.limit w w.reached.trail c.in-Err-walking_step.refused c.halt-in-Err-walking_step.result c.loop.invariant.walking
     (omega (arith, c.loop.invariant.counted, c.loop-test.false, c.loop.invariant.short))
-    (refusal_kept value g.F.Exact.range (here_of value w) asked w.reached.trail c.in-Err-walking_step.refused (c.in-Err-walking_step.ensures {u = tt}).refused) c.halt-in-Err-walking_step.ensures
+    (refusal_kept value g.F.Exact.range (here_of value w) (walking (now_of value w) (rational (value c.args.hi))) w.reached.trail c.in-Err-walking_step.refused (c.in-Err-walking_step.ensures {u = tt}).refused)
+    c.halt-in-Err-walking_step.ensures
