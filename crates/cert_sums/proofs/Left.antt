@@ -20,7 +20,7 @@ use Rattle.loss_model.specs.Sample.{fitted}
 use Rattle.rank_law.specs.Restricted.{projected}
 use Rattle.rank_law.proofs.Lengths.{sum_ℚ-minus}
 use Rattle.wide_int.specs.Numbers.{total}
-use Rattle.cert_sums.specs.Numbers.{whole_at}
+use Rattle.exact_algebra.specs.WholeLists.{whole_at}
 use Rattle.cert_sums.specs.declared.duals.Duals.{Duals}
 use Rattle.cert_sums.specs.declared.table.WholeRow.{WholeRow}
 use Rattle.cert_sums.specs.declared.table.Table.{Table}

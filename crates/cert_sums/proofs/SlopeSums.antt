@@ -19,7 +19,7 @@ use Rattle.loss_model.specs.declared.vertex.Vertex.{Vertex}
 use Rattle.loss_model.specs.Problem.{sample}
 use Rattle.loss_model.specs.Sample.{Sample, up_cost, down_cost}
 use Rattle.loss_model.specs.Vertex.{basic_value, value_of_side}
-use Rattle.cert_sums.specs.Numbers.{whole_at}
+use Rattle.exact_algebra.specs.WholeLists.{whole_at}
 use Rattle.cert_sums.specs.declared.table.Line.{Line}
 use Rattle.cert_sums.specs.declared.table.WholeRow.{WholeRow}
 use Rattle.cert_sums.specs.declared.table.Table.{Table}

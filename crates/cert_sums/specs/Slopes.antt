@@ -15,7 +15,7 @@ use Rattle.loss_model.specs.declared.vertex.Vertex.{Vertex}
 use Rattle.loss_model.specs.Problem.{sample}
 use Rattle.loss_model.specs.Vertex.{basic_value}
 use Rattle.loss_model.specs.Dual.{dual_objective}
-use Rattle.cert_sums.specs.Numbers.{whole_at}
+use Rattle.exact_algebra.specs.WholeLists.{whole_at}
 use Rattle.cert_sums.specs.Duals.{side_in, dual_of}
 use Rattle.cert_sums.specs.Sums.{cell_at, IsBalanced}
 use Rattle.cert_sums.specs.Ends.{IsBegun}

@@ -10,7 +10,7 @@ ghost use Rattle.frac_core.specs.Values.{value as value128};
 ghost use Rattle.loss_model.specs.Problem.{sample, value_at};
 ghost use Rattle.rank_law.specs.Restricted.{projected, IsProjection, squared_length};
 ghost use Rattle.wide_int.specs.Numbers.{sizes};
-ghost use Rattle.cert_sums.specs.Numbers.{whole_at};
+ghost use Rattle.exact_algebra.specs.WholeLists.{whole_at};
 ghost use Rattle.cert_sums.specs.Tables.{IsTable};
 ghost use Rattle.cert_sums.specs.Duals.{IsDuals};
 ghost use Rattle.cert_sums.specs.Ranks.{left_at, IsPositive};

@@ -6,7 +6,7 @@ ghost use Rattle.loss_model.specs.Problem.{sample, value_at};
 ghost use Rattle.loss_model.specs.Sample.{residual};
 ghost use Rattle.loss_model.specs.Vertex.{IsOn};
 ghost use Rattle.wide_int.specs.Numbers.{sizes};
-ghost use Rattle.cert_sums.specs.Numbers.{whole_at};
+ghost use Rattle.exact_algebra.specs.WholeLists.{whole_at};
 ghost use Rattle.cert_sums.specs.Tables.{IsTable};
 ghost use Rattle.cert_sums.specs.Duals.{side_in};
 ghost use Rattle.cert_sums.specs.Residuals.{IsWholeOn, AreMultipliers, RowsFollow};

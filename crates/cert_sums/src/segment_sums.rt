@@ -3,7 +3,7 @@ ghost use Rattle.std.specs.Prelude.{◌≡◌, ◌<◌, ◌+◌, ℕ, pos, All, 
 ghost use Rattle.exact_algebra.specs.Fraction.{rational};
 ghost use Rattle.exact_algebra.specs.Rational.{◌*ℚ◌, whole};
 ghost use Rattle.frac_core.specs.Values.{value as value128};
-ghost use Rattle.cert_sums.specs.Numbers.{whole_at};
+ghost use Rattle.exact_algebra.specs.WholeLists.{whole_at};
 ghost use Rattle.cert_sums.specs.Tables.{IsTable};
 ghost use Rattle.cert_sums.specs.Slopes.{basic_at, end_dual, over_scales, sum_at, IsTally, IsReach, IsSummed};
 

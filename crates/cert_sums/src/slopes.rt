@@ -5,7 +5,7 @@
 //! to another side.
 ghost use Rattle.std.specs.Prelude.{◌≡◌, ◌<◌, ◌*ℤ◌, ℕ, IfSome, length, get_or};
 ghost use Rattle.exact_algebra.specs.Rational.{◌+ℚ◌, ◌*ℚ◌, whole};
-ghost use Rattle.cert_sums.specs.Numbers.{whole_at};
+ghost use Rattle.exact_algebra.specs.WholeLists.{whole_at};
 ghost use Rattle.cert_sums.specs.Sums.{cell_at};
 ghost use Rattle.cert_sums.specs.Slopes.{side_of, line_on, part_of, part_at, part_change, AreTotals, is_settled, unsettled_rows, listed_total, IsTally};
 ghost use Rattle.cert_sums.specs.declared.slopes.Part.TheVariants.{Start, Slope};

@@ -4,7 +4,7 @@ ghost use Rattle.exact_algebra.specs.Fraction.{rational};
 ghost use Rattle.exact_algebra.specs.Rational.{◌*ℚ◌, whole};
 ghost use Rattle.frac_core.specs.Values.{value as value128};
 ghost use Rattle.loss_model.specs.Problem.{value_at};
-ghost use Rattle.cert_sums.specs.Numbers.{whole_at};
+ghost use Rattle.exact_algebra.specs.WholeLists.{whole_at};
 ghost use Rattle.cert_sums.specs.Tables.{ArePaired, IsLine, IsSmallLine, IsRowOf, IsSmallRow, IsTable};
 
 use crate::scale::{common_multiple, multiple, scaled};

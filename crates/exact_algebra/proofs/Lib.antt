@@ -14,3 +14,4 @@ pub mod RationalSumLaws
 pub mod Signs
 pub mod Comparisons
 pub mod Lists
+pub mod WholeLists

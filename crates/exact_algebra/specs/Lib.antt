@@ -9,3 +9,4 @@ pub mod Fraction
 -- sums by index
 pub mod IntegerSums
 pub mod RationalSums
+pub mod WholeLists

@@ -13,7 +13,8 @@ use Rattle.loss_model.specs.Sample.{Sample}
 use Rattle.rank_law.specs.Restricted.{IsProjection, squared_length}
 use Rattle.rank_law.specs.Gram.{gram}
 use Rattle.wide_int.specs.Numbers.{total}
-use Rattle.whole_inverse.specs.Shares.{share, share_at, whole_at}
+use Rattle.exact_algebra.specs.WholeLists.{whole_at}
+use Rattle.whole_inverse.specs.Shares.{share, share_at}
 use Rattle.whole_inverse.proofs.ShareSums.{share-total}
 use Rattle.whole_inverse.proofs.Lists.{share_read}
 use Rattle.whole_solution.proofs.Numbers.{rest_share, share_none, whole_read}

@@ -1,10 +1,8 @@
 -- Where a walk hands out its end, no step of it is left.
-use Rattle.std.specs.Prelude.{◌≡◌, ◌⊎◌, ◌≤◌, ◌<◌, ℕ, true, false, List, slice_index, pos}
-use Rattle.std.proofs.Common.{arith, sym, subst, ◌∙◌, inl, inr}
-use Rattle.std.proofs.lemmas.Bool.{cases_lt}
+use Rattle.std.specs.Prelude.{◌≡◌, ◌≤◌, ◌<◌, ℕ, true, false, List, slice_index, pos}
+use Rattle.std.proofs.Common.{sym, subst, ◌∙◌}
 use Rattle.exact_algebra.specs.Fraction.{Fraction}
 use Rattle.exact_algebra.specs.Rational.{ℚ, ◌*ℚ◌, whole, ◌≤ℚ◌}
-use Rattle.exact_algebra.proofs.RationalLaws.{≤ℚ_antisym}
 use Rattle.loss_model.specs.declared.interval.Beyond.{Beyond}
 use Rattle.loss_model.specs.declared.interval.Beyond.TheVariants.{Outside, Ray}
 use Rattle.loss_model.specs.declared.interval.Bound.{Bound}
@@ -20,6 +18,7 @@ use Rattle.pivot_rule.specs.Steps.{moves}
 use Rattle.pivot_rule.specs.Trails.{basis_after}
 use Rattle.walk_rule.specs.Families.{Family}
 use Rattle.walk_rule.specs.Walks.{IsNextBreak, IsWalkingStep}
+use Rattle.walk_rule.proofs.Unique.{same_place, same_position}
 use Rattle.walk_rule.specs.WalkTrails.{value_after, is_within, IsEndAfter}
 use Rattle.rank_walk.specs.Ends.{IsHandedOut, IsEndAt}
 use Rattle.rank_walk.specs.Intervals.{when_on, IsWalked}
@@ -28,22 +27,11 @@ use Rattle.rank_steps.proofs.Directions.{one_direction}
 use Rattle.rank_tableau.proofs.Breaks.{crossed}
 
 module _ (f : Family) (at : ℕ → ℕ) (a : ℕ → ℕ → ℚ) (from : ℚ) where
-  same_place : (t u : ℚ) (j k : ℕ) (d e : Direction) → IsNextBreak f at a from t j d → IsNextBreak f at a from u k e → t ≡ u
-  same_place t u j k d e x y = ≤ℚ_antisym t u (x.least u k e y.position y.after y.crosses) (y.least t j d x.position x.after x.crosses)
-
-  same_position : (t : ℚ) (j k : ℕ) (d e : Direction) → IsNextBreak f at a from t j d → IsNextBreak f at a from t k e → j ≡ k
-  same_position t j k d e x y = by (cases_lt j k) (cases_lt k j)
-    where
-      by : (j < k) ⊎ (k ≤ j) → (k < j) ⊎ (j ≤ k) → j ≡ k
-      by (inl less) o = absurd (y.first j d less x.crosses)
-      by (inr past) (inl less) = absurd (x.first k e less y.crosses)
-      by (inr past) (inr rest) = omega arith
-
   -- a next breakpoint beyond the bound has no step
   none_beyond : (bound u : ℚ) (k : ℕ) (d : Direction) → IsNextBreak f at a from u k d → bound <ℚ (u *ℚ u) → (t : ℚ) (m r : ℕ) → ¬ IsWalkingStep f at a (is_within bound) from t m r
   none_beyond bound u k d next beyond t m r step =
       let within : (t *ℚ t) ≤ℚ bound = record { le = step.within } in
-      beyond (subst (λ z. (z *ℚ z) ≤ℚ bound) (same_place t u m k step.direction d step.break next) within)
+      beyond (subst (λ z. (z *ℚ z) ≤ℚ bound) (same_place f at a from t u m k step.direction d step.break next) within)
 
 module _ (way : Way) (p : Sample) (j : ℕ) (tau bound : ℚ) (at : ℕ → ℕ) (a : ℕ → ℕ → ℚ) (from : ℚ) (lj : j < p.columns) where
   -- a step goes by the next breakpoint

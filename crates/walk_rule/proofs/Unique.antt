@@ -1,5 +1,5 @@
 -- At a basis there is one walking step, and so a process has one lawful trail.
-use Rattle.std.specs.Prelude.{◌≡◌, ◌≢◌, ◌⊎◌, ℕ, ◌<◌, ◌≤◌, Bool, true, false, ◌==◌, [], ◌∷◌, [], ◌∷◌, pos}
+use Rattle.std.specs.Prelude.{◌≡◌, ◌≢◌, ◌⊎◌, ℕ, ◌<◌, ◌≤◌, Bool, true, false, ◌==◌, [], ◌∷◌, pos}
 use Rattle.std.proofs.Common.{arith, refl, sym, ap₂, subst, ◌∙◌, inl, inr}
 use Rattle.std.proofs.lemmas.Bool.{cases_lt}
 use borrow.Author.Tests.{eqb-true, eqb-false}
@@ -18,10 +18,10 @@ use Rattle.walk_rule.specs.Families.{Family, theta_of, basic_at, slope_in}
 use Rattle.walk_rule.specs.Walks.{IsFirstMover, Crosses, IsNextBreak, IsWalkingStep}
 
 module _ (f : Family) (at : ℕ → ℕ) (a : ℕ → ℕ → ℚ) (from : ℚ) where
-  same_place : (t u : ℚ) (j k : ℕ) (d e : Direction) → IsNextBreak f at a from t j d → IsNextBreak f at a from u k e → t ≡ u
+  pub same_place : (t u : ℚ) (j k : ℕ) (d e : Direction) → IsNextBreak f at a from t j d → IsNextBreak f at a from u k e → t ≡ u
   same_place t u j k d e x y = ≤ℚ_antisym t u (x.least u k e y.position y.after y.crosses) (y.least t j d x.position x.after x.crosses)
 
-  same_position : (t : ℚ) (j k : ℕ) (d e : Direction) → IsNextBreak f at a from t j d → IsNextBreak f at a from t k e → j ≡ k
+  pub same_position : (t : ℚ) (j k : ℕ) (d e : Direction) → IsNextBreak f at a from t j d → IsNextBreak f at a from t k e → j ≡ k
   same_position t j k d e x y = by (cases_lt j k) (cases_lt k j)
     where
       by : (j < k) ⊎ (k ≤ j) → (k < j) ⊎ (j ≤ k) → j ≡ k

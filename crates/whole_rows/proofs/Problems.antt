@@ -9,7 +9,7 @@ use Rattle.exact_algebra.proofs.Signs.{positive_nonzero}
 use Rattle.loss_model.specs.declared.problem.Row.{Row}
 use Rattle.loss_model.specs.declared.problem.Problem.{Problem}
 use Rattle.loss_model.specs.Problem.{value_at, sample, IsWellShaped}
-use Rattle.whole_inverse.specs.Shares.{whole_at}
+use Rattle.exact_algebra.specs.WholeLists.{whole_at}
 use Rattle.scaled_model.specs.Scaled.{IsScaled}
 use Rattle.whole_rows.specs.declared.factor.Factor.{Factor}
 use Rattle.whole_rows.specs.declared.rows.WholeRow.{WholeRow}

@@ -3,7 +3,7 @@ ghost use Rattle.std.specs.Prelude.{◌≡◌, ◌≢◌, ℕ, ◌<◌, ◌≤�
 ghost use Rattle.exact_algebra.specs.Fraction.{rational};
 ghost use Rattle.exact_algebra.specs.Rational.{◌*ℚ◌, ◌≤ℚ◌, whole};
 ghost use Rattle.loss_model.specs.Problem.{sample, value_at, IsWellShaped};
-ghost use Rattle.whole_inverse.specs.Shares.{whole_at};
+ghost use Rattle.exact_algebra.specs.WholeLists.{whole_at};
 ghost use Rattle.scaled_model.specs.Scaled.{IsScaled};
 ghost use Rattle.whole_rows.specs.Wholes.{factor_value, factor_at, IsPositive, IsWholeRow, ArePaired, whole_sample};
 

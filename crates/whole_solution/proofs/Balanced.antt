@@ -9,7 +9,8 @@ use Rattle.exact_algebra.proofs.Inverses.{one-zero}
 use Rattle.exact_algebra.specs.RationalSums.{sum_ℚ}
 use Rattle.exact_algebra.proofs.RationalSumLaws.{sum_ℚ-same}
 use Rattle.basis_model.specs.Basis.{balancing}
-use Rattle.whole_inverse.specs.Shares.{share, share_at, share_entries, shares, whole_at}
+use Rattle.exact_algebra.specs.WholeLists.{whole_at}
+use Rattle.whole_inverse.specs.Shares.{share, share_at, share_entries, shares}
 
 neg-sum : (n : ℕ) (c t : ℕ → ℚ) → neg_ℚ (sum_ℚ n (λ k. c k *ℚ t k)) ≡ sum_ℚ n (λ k. neg_ℚ (t k) *ℚ c k)
 neg-sum zero c t = ring_ℚ [] (negated (number (pos 0))) (number (pos 0)) refl

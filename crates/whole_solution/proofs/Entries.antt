@@ -7,11 +7,12 @@ use Rattle.exact_algebra.specs.Rational.{ℚ, ◌+ℚ◌, ◌-ℚ◌, whole, ◌
 use Rattle.exact_algebra.proofs.RationalLaws.{≤ℚ_trans, whole-add}
 use Rattle.exact_algebra.proofs.WholeNumbers.{whole-le, whole-neg}
 use Rattle.loss_model.specs.Spill.{abs_ℚ}
-use Rattle.whole_inverse.specs.Shares.{whole_at}
+use Rattle.exact_algebra.specs.WholeLists.{whole_at}
+use Rattle.exact_algebra.proofs.WholeLists.{whole_last, whole_before}
 use Rattle.whole_rows.specs.declared.rows.WholeRow.{WholeRow}
 use Rattle.whole_rows.specs.Wholes.{of_whole}
 use Rattle.whole_solution.specs.Ranges.{half_at}
-use Rattle.whole_solution.proofs.Listed.{half_before, half_last, middle_before, middle_last}
+use Rattle.whole_solution.proofs.Listed.{half_last, read_before}
 use Rattle.whole_solution.proofs.Numbers.{whole_read}
 use Rattle.whole_solution.proofs.Reading.{row_read}
 use Rattle.whole_solution.proofs.Sizes.{abs_whole}
@@ -59,10 +60,10 @@ module _ (x : ℕ → ℕ → ℚ) (rows n : ℕ) (middles : List ℤ) (halves :
       by : (t : Bool) → (k == n) ≡ t → IsIn i k
       by true e =
           subst (IsIn i) (sym (eqb-true k n e))
-          (subst (λ m. abs_ℚ (x i n -ℚ m) ≤ℚ half_at (halves ++ half ∷ []) n) (sym (middle_last middles middle n sizes))
+          (subst (λ m. abs_ℚ (x i n -ℚ m) ≤ℚ half_at (halves ++ half ∷ []) n) (sym (whole_last middles middle n sizes))
           (subst (λ h. abs_ℚ (x i n -ℚ whole middle) ≤ℚ whole (pos h)) (sym (half_last halves half n halves_size)) (own i li)))
       by false e =
           let other : k ≢ n = eqb-false k n e in
           let l : k < n = omega (arith, lk, other) in
-          subst (λ m. abs_ℚ (x i k -ℚ m) ≤ℚ half_at (halves ++ half ∷ []) k) (sym (middle_before middles middle k (omega (arith, l, sizes))))
-          (subst (λ h. abs_ℚ (x i k -ℚ whole_at middles k) ≤ℚ whole (pos h)) (sym (half_before halves half k (omega (arith, l, halves_size)))) (before i k li l))
+          subst (λ m. abs_ℚ (x i k -ℚ m) ≤ℚ half_at (halves ++ half ∷ []) k) (sym (whole_before middles middle k (omega (arith, l, sizes))))
+          (subst (λ h. abs_ℚ (x i k -ℚ whole_at middles k) ≤ℚ whole (pos h)) (sym (read_before halves half k (omega (arith, l, halves_size)))) (before i k li l))

@@ -1,13 +1,12 @@
 -- Lists of row numbers.
-use Rattle.std.specs.Prelude.{◌≡◌, ◌≢◌, ℕ, zero, suc, ℤ, ◌+◌, ◌<◌, Bool, true, false, ◌==◌, List, [], ◌∷◌, ◌++◌, length, slice_index}
+use Rattle.std.specs.Prelude.{◌≡◌, ◌≢◌, ℕ, zero, suc, ◌+◌, ◌<◌, Bool, true, false, ◌==◌, List, [], ◌∷◌, ◌++◌, length, slice_index}
 use Rattle.std.proofs.Common.{arith, refl, sym, subst, ◌∙◌, inl, inr}
 use borrow.Author.Tests.{eqb-true, eqb-false}
-use Rattle.exact_algebra.specs.Rational.{ℚ, whole}
+use Rattle.exact_algebra.specs.Rational.{ℚ}
 use Rattle.loss_model.specs.declared.vertex.Side.{Side}
-use Rattle.whole_inverse.specs.Shares.{whole_at}
 use Rattle.whole_solution.specs.Far.{IsListed, IsNearOrFar, IsFarOn}
 
-read_before : (rows : List ℕ) (x k : ℕ) → k < length rows → slice_index (rows ++ x ∷ []) k ≡ slice_index rows k
+pub read_before : (rows : List ℕ) (x k : ℕ) → k < length rows → slice_index (rows ++ x ∷ []) k ≡ slice_index rows k
 read_before [] x k l = absurd (omega arith)
 read_before (y ∷ rows) x zero l = refl
 read_before (y ∷ rows) x (suc k) l = read_before rows x k (omega arith)
@@ -53,20 +52,5 @@ far_next rows n side far r h away i l = by (i == n) refl
         let other : i ≢ n = eqb-false i n e in
         h i (omega (arith, l, other))
 
--- a range more
-pub half_before : (halves : List ℕ) (x k : ℕ) → k < length halves → slice_index (halves ++ x ∷ []) k ≡ slice_index halves k
-half_before = read_before
-
 pub half_last : (halves : List ℕ) (x n : ℕ) → length halves ≡ n → slice_index (halves ++ x ∷ []) n ≡ x
 half_last halves x n e = subst (λ n. slice_index (halves ++ x ∷ []) n ≡ x) e (read_last halves x)
-
-pub middle_before : (middles : List ℤ) (x : ℤ) (k : ℕ) → k < length middles → whole_at (middles ++ x ∷ []) k ≡ whole_at middles k
-middle_before [] x k l = absurd (omega arith)
-middle_before (y ∷ middles) x zero l = refl
-middle_before (y ∷ middles) x (suc k) l = middle_before middles x k (omega arith)
-
-pub middle_last : (middles : List ℤ) (x : ℤ) (n : ℕ) → length middles ≡ n → whole_at (middles ++ x ∷ []) n ≡ whole x
-middle_last [] x zero e = refl
-middle_last [] x (suc n) e = absurd (omega arith)
-middle_last (y ∷ middles) x zero e = absurd (omega arith)
-middle_last (y ∷ middles) x (suc n) e = middle_last middles x n (omega arith)

@@ -13,7 +13,8 @@ use Rattle.basis_model.specs.Perturbed.{IsOutside, perturbed_side, side_of}
 use Rattle.basis_model.proofs.Signs.{side-residual, perturbed_side-same}
 use Rattle.basis_model.specs.Basis.{coefficient, coord, outside_row, side_at}
 use Rattle.lex_rule.specs.Scan.{AreZeroBetween, IsNextAt}
-use Rattle.whole_inverse.specs.Shares.{share, share_at, whole_at}
+use Rattle.exact_algebra.specs.WholeLists.{whole_at}
+use Rattle.whole_inverse.specs.Shares.{share, share_at}
 use Rattle.whole_inverse.proofs.Lists.{share_read}
 use Rattle.whole_rows.specs.declared.rows.WholeRow.{WholeRow}
 use Rattle.whole_rows.specs.Wholes.{of_whole, sample_of_rows}

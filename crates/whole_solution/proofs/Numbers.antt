@@ -16,7 +16,8 @@ use Rattle.exact_algebra.proofs.Signs.{whole_nonzero}
 use Rattle.loss_model.specs.declared.vertex.Side.TheVariants.{Up, Down}
 use Rattle.basis_model.specs.Perturbed.{side_of}
 use Rattle.lex_rule.specs.Scan.{AreZeroAt}
-use Rattle.whole_inverse.specs.Shares.{share, share_at, whole_at}
+use Rattle.exact_algebra.specs.WholeLists.{whole_at}
+use Rattle.whole_inverse.specs.Shares.{share, share_at}
 
 pub times : (r d : ℤ) → pos 1 ≤ℤ d → whole d *ℚ share r d ≡ whole r
 times r d h = ring_by_ℚ (whole r ∷ whole d ∷ inverse (whole d) ∷ []) (v1 ⊠ (v0 ⊠ v2)) v0 v0 (v1 ⊠ v2) (number (pos 1)) refl (*ℚ-inverse (whole d) (whole_nonzero d h))

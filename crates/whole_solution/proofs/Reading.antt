@@ -6,7 +6,8 @@ use Rattle.std.proofs.lemmas.Option.{slice_get_read}
 use Rattle.exact_algebra.specs.Rational.{ℚ, ◌*ℚ◌, neg_ℚ, whole}
 use Rattle.exact_algebra.specs.RationalSums.{sum_ℚ}
 use Rattle.exact_algebra.proofs.RationalSumLaws.{sum_ℚ-same}
-use Rattle.whole_inverse.specs.Shares.{share, share_at, whole_at}
+use Rattle.exact_algebra.specs.WholeLists.{whole_at}
+use Rattle.whole_inverse.specs.Shares.{share, share_at}
 use Rattle.whole_rows.specs.declared.rows.WholeRow.{WholeRow}
 use Rattle.whole_rows.specs.Wholes.{of_whole, sample_of_rows}
 use Rattle.loss_model.specs.declared.vertex.Side.{Side}
@@ -44,16 +45,6 @@ pub side_read : (sides : List Side) (i : ℕ) (d : Side) → i < length sides �
 side_read [] i d l = absurd (omega arith)
 side_read (s ∷ sides) zero d l = refl
 side_read (s ∷ sides) (suc i) d l = side_read sides i d (omega arith)
-
--- one whole number more at the end
-pub whole_pushed : (made : List ℤ) (x : ℤ) (n : ℕ) (f : ℕ → ℚ) → length made ≡ n → ((k : ℕ) → k < n → whole_at made k ≡ f k) → whole x ≡ f n → (k : ℕ) → k < n + 1 → whole_at (made ++ x ∷ []) k ≡ f k
-whole_pushed [] x zero f size h e zero l = e
-whole_pushed [] x zero f size h e (suc k) l = absurd (omega arith)
-whole_pushed [] x (suc n) f size h e k l = absurd (omega arith)
-whole_pushed (y ∷ made) x zero f size h e k l = absurd (omega arith)
-whole_pushed (y ∷ made) x (suc n) f size h e zero l = h 0 (omega arith)
-whole_pushed (y ∷ made) x (suc n) f size h e (suc k) l =
-    whole_pushed made x n (λ k. f (suc k)) (omega arith) (λ k l. h (suc k) (omega arith)) e k (omega arith)
 
 -- one whole number more that was put in its place, behind which all stay
 pub whole_put : (xs : List ℤ) (n : ℕ) (x : ℤ) (f : ℕ → ℚ) → n < length xs → ((k : ℕ) → k < n → whole_at xs k ≡ f k) → whole x ≡ f n → (k : ℕ) → k < n + 1 → whole_at (slice_set xs n x) k ≡ f k

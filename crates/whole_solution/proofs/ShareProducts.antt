@@ -6,7 +6,8 @@ use Rattle.exact_algebra.proofs.RationalLaws.{whole-add, whole-mul, ring_ℚ}
 use Rattle.exact_algebra.specs.RationalSums.{sum_ℚ}
 use Rattle.exact_algebra.proofs.RationalSumLaws.{sum_ℚ-same, sum_ℚ-first}
 use Rattle.wide_int.specs.Numbers.{total}
-use Rattle.whole_inverse.specs.Shares.{share, share_at, whole_at}
+use Rattle.exact_algebra.specs.WholeLists.{whole_at}
+use Rattle.whole_inverse.specs.Shares.{share, share_at}
 
 share-more : (d x y t : ℤ) → share (x *ℤ y +ℤ t) d ≡ (share x d *ℚ whole y) +ℚ share t d
 share-more d x y t =

@@ -9,7 +9,7 @@ use Rattle.exact_algebra.proofs.RationalSumLaws.{sum_ℚ-add, sum_ℚ-le, sum_�
 use Rattle.loss_model.specs.Spill.{abs_ℚ}
 use Rattle.pivot_rule.proofs.Entering.{abs_above, abs_below}
 use Rattle.walk_rule.proofs.Lines.{decide}
-use Rattle.whole_inverse.specs.Shares.{whole_at}
+use Rattle.exact_algebra.specs.WholeLists.{whole_at}
 use Rattle.whole_solution.specs.declared.ranges.Ranges.{Ranges}
 use Rattle.whole_solution.specs.Ranges.{at_halves, at_middles, half_at, most_of_products, AreInRanges, ProductsStayInRange}
 use Rattle.whole_solution.proofs.Numbers.{whole_read}

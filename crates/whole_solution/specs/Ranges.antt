@@ -4,7 +4,7 @@ use Rattle.exact_algebra.specs.Rational.{ℚ, ◌+ℚ◌, ◌-ℚ◌, ◌*ℚ◌
 use Rattle.exact_algebra.specs.RationalSums.{sum_ℚ}
 use Rattle.loss_model.specs.Sample.{Sample}
 use Rattle.loss_model.specs.Spill.{abs_ℚ}
-use Rattle.whole_inverse.specs.Shares.{whole_at}
+use Rattle.exact_algebra.specs.WholeLists.{whole_at}
 use Rattle.whole_solution.specs.declared.ranges.Ranges.{Ranges}
 
 -- half the width of range k

@@ -3,7 +3,8 @@ ghost use Rattle.std.specs.Prelude.{◌≡◌, ℤ, ◌*◌, ◌^◌, ◌<◌, �
 ghost use Rattle.exact_algebra.specs.Rational.{◌*ℚ◌};
 ghost use Rattle.exact_algebra.specs.RationalSums.{sum_ℚ};
 ghost use Rattle.wide_int.specs.Numbers.{sizes, total};
-ghost use Rattle.whole_inverse.specs.Shares.{share, share_at, whole_at};
+ghost use Rattle.exact_algebra.specs.WholeLists.{whole_at};
+ghost use Rattle.whole_inverse.specs.Shares.{share, share_at};
 ghost use Rattle.whole_solution.specs.Columns.{IsColumn, HasWidth};
 
 use crate::halves::grown;

@@ -2,7 +2,8 @@
 ghost use Rattle.std.specs.Prelude.{◌≡◌, ℕ, ℤ, ◌<◌, ◌^◌, length, IfOk, All};
 ghost use Rattle.exact_algebra.specs.Rational.{neg_ℚ};
 ghost use Rattle.basis_model.specs.Basis.{balancing};
-ghost use Rattle.whole_inverse.specs.Shares.{share, share_at, shares, whole_at};
+ghost use Rattle.exact_algebra.specs.WholeLists.{whole_at};
+ghost use Rattle.whole_inverse.specs.Shares.{share, share_at, shares};
 
 use crate::primal::product_of;
 use frac_core::List;

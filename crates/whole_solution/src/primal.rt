@@ -3,7 +3,8 @@ ghost use Rattle.std.specs.Prelude.{◌≡◌, ℕ, ℤ, ◌*◌, ◌^◌, ◌<�
 ghost use Rattle.exact_algebra.specs.Rational.{◌-ℚ◌, ◌*ℚ◌, whole};
 ghost use Rattle.exact_algebra.specs.RationalSums.{sum_ℚ};
 ghost use Rattle.basis_model.specs.Basis.{coefficient};
-ghost use Rattle.whole_inverse.specs.Shares.{share, share_at, shares, whole_at};
+ghost use Rattle.exact_algebra.specs.WholeLists.{whole_at};
+ghost use Rattle.whole_inverse.specs.Shares.{share, share_at, shares};
 ghost use Rattle.whole_inverse.specs.Squares.{inverse_of};
 ghost use Rattle.whole_rows.specs.Wholes.{of_whole, sample_of_rows};
 

@@ -6,7 +6,8 @@ ghost use Rattle.exact_algebra.specs.Rational.{◌+ℚ◌, ◌-ℚ◌, ◌*ℚ�
 ghost use Rattle.exact_algebra.specs.RationalSums.{sum_ℚ};
 ghost use Rattle.wide_int.specs.Numbers.{number_of, total as sum};
 ghost use Rattle.loss_model.specs.declared.vertex.Side.TheVariants.{Basic};
-ghost use Rattle.whole_inverse.specs.Shares.{share, share_at, whole_at};
+ghost use Rattle.exact_algebra.specs.WholeLists.{whole_at};
+ghost use Rattle.whole_inverse.specs.Shares.{share, share_at};
 ghost use Rattle.whole_rows.specs.Wholes.{sample_of_rows};
 ghost use Rattle.whole_rows.specs.declared.rows.WholeRow.{WholeRow as Row};
 ghost use Rattle.whole_solution.specs.Standing.{side_in};

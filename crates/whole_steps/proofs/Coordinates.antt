@@ -7,7 +7,8 @@ use Rattle.exact_algebra.specs.Rational.{ℚ, ◌*ℚ◌, whole}
 use Rattle.exact_algebra.specs.RationalSums.{sum_ℚ}
 use Rattle.exact_algebra.proofs.RationalSumLaws.{sum_ℚ-same}
 use Rattle.basis_model.specs.Basis.{coord}
-use Rattle.whole_inverse.specs.Shares.{share, share_at, whole_at}
+use Rattle.exact_algebra.specs.WholeLists.{whole_at}
+use Rattle.whole_inverse.specs.Shares.{share, share_at}
 use Rattle.whole_inverse.specs.Squares.{WholeSquare, IsWholeSquare, inverse_of}
 use Rattle.whole_rows.specs.declared.rows.WholeRow.{WholeRow}
 use Rattle.whole_rows.specs.Wholes.{of_whole, sample_of_rows}

@@ -19,7 +19,8 @@ use Rattle.basis_model.specs.Perturbed.{IsOutside, perturbed, perturbed_side, tu
 use Rattle.basis_model.specs.Basis.{coord, outside_row}
 use Rattle.pivot_rule.proofs.Passing.{mover_some, is_outside}
 use Rattle.lex_rule.proofs.Comparisons.{equal_from, side_cases, held_entry, agree_between, agree_more, less_from_first, left_decides, right_decides}
-use Rattle.whole_inverse.specs.Shares.{share, whole_at}
+use Rattle.exact_algebra.specs.WholeLists.{whole_at}
+use Rattle.whole_inverse.specs.Shares.{share}
 use Rattle.whole_rows.specs.declared.rows.WholeRow.{WholeRow}
 use Rattle.whole_rows.specs.Wholes.{of_whole}
 use Rattle.whole_solution.proofs.Reading.{row_read}

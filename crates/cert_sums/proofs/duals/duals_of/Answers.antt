@@ -10,7 +10,7 @@ use Rattle.frac_core.specs.Values.{value as value128}
 use Rattle.loss_model.specs.Problem.{sample}
 use Rattle.loss_model.specs.Vertex.{basic_value}
 use Rattle.cert_sums.specs.Duals.{side_in, dual_of, IsRowDual}
-use Rattle.cert_sums.proofs.Lists.{whole_pushed}
+use Rattle.exact_algebra.proofs.WholeLists.{whole_pushed}
 use Rattle.cert_sums.proofs.RowsOf.{row_value}
 use Rattle.cert_sums.proofs.duals.duals_of.Goals as goal
 

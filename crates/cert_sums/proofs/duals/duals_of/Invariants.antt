@@ -3,7 +3,7 @@ use Rattle.exact_algebra.specs.Fraction.{rational}
 use Rattle.exact_algebra.specs.Rational.{◌*ℚ◌, whole}
 use Rattle.frac_core.specs.Values.{value as value128}
 use Rattle.loss_model.specs.Problem.{sample}
-use Rattle.cert_sums.specs.Numbers.{whole_at}
+use Rattle.exact_algebra.specs.WholeLists.{whole_at}
 use Rattle.cert_sums.specs.Duals.{dual_of}
 use Rattle.cert_sums.proofs.duals.duals_of.Given as goal
 

@@ -3,7 +3,7 @@ use Rattle.exact_algebra.specs.Rational.{◌-ℚ◌, ◌*ℚ◌, whole}
 use Rattle.exact_matrices.specs.Terms.{delta}
 use Rattle.frac_core.specs.Values.{value as value128}
 use Rattle.loss_model.specs.Problem.{value_at}
-use Rattle.cert_sums.specs.Numbers.{whole_at}
+use Rattle.exact_algebra.specs.WholeLists.{whole_at}
 use Rattle.cert_sums.proofs.projection.left_factors.Given as goal
 
 abbrev pub invariant-loop-k : goal.invariant-loop-k

@@ -8,7 +8,7 @@ use Rattle.exact_algebra.proofs.Lists.{length_pushed}
 use Rattle.wide_int.specs.Numbers.{total}
 use Rattle.cert_sums.specs.Ranks.{left_at}
 use Rattle.cert_sums.specs.declared.table.WholeRow.{WholeRow}
-use Rattle.cert_sums.proofs.Lists.{whole_pushed}
+use Rattle.exact_algebra.proofs.WholeLists.{whole_pushed}
 use Rattle.cert_sums.proofs.projection.left_values.Goals as goal
 
 pub loop-i-preserved : goal.loop-i-preserved

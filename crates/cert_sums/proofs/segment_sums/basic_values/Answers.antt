@@ -3,7 +3,7 @@ use Rattle.std.proofs.Common.{rules, ◌≡◌, ℕ, ◌++◌, ◌∷◌, [], ge
 use Rattle.exact_algebra.specs.Rational.{whole}
 use Rattle.exact_algebra.proofs.Lists.{length_pushed}
 use Rattle.cert_sums.specs.Slopes.{basic_at}
-use Rattle.cert_sums.proofs.Lists.{whole_pushed}
+use Rattle.exact_algebra.proofs.WholeLists.{whole_pushed}
 use Rattle.cert_sums.proofs.segment_sums.basic_values.Goals as goal
 
 pub loop-j-preserved : goal.loop-j-preserved

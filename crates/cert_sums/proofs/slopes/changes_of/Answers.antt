@@ -3,7 +3,7 @@ use Rattle.std.proofs.Common.{rules, ◌≡◌, ℕ, ◌++◌, ◌∷◌, [], ge
 use Rattle.exact_algebra.specs.Rational.{ℚ, whole}
 use Rattle.exact_algebra.proofs.Lists.{length_pushed}
 use Rattle.cert_sums.specs.Slopes.{part_change}
-use Rattle.cert_sums.proofs.Lists.{whole_pushed}
+use Rattle.exact_algebra.proofs.WholeLists.{whole_pushed}
 use Rattle.cert_sums.proofs.slopes.changes_of.Goals as goal
 
 pub loop-j-preserved : goal.loop-j-preserved

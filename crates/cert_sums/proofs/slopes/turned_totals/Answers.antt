@@ -4,7 +4,7 @@ use mir.Syntax.{w128}
 use Rattle.exact_algebra.specs.Rational.{◌+ℚ◌, whole}
 use Rattle.exact_algebra.proofs.Lists.{length_pushed}
 use Rattle.cert_sums.specs.Slopes.{line_total, listed_total}
-use Rattle.cert_sums.proofs.Lists.{whole_pushed}
+use Rattle.exact_algebra.proofs.WholeLists.{whole_pushed}
 use Rattle.cert_sums.proofs.Unsettled.{turned_line}
 use Rattle.cert_sums.proofs.slopes.turned_totals.Goals as goal
 

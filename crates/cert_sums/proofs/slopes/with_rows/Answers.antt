@@ -3,7 +3,7 @@ use Rattle.std.proofs.Common.{rules, ◌≡◌, ℕ, get_or, to_z, of_z, ap, ◌
 use mir.Syntax.{w128}
 use Rattle.exact_algebra.specs.Rational.{◌+ℚ◌, ◌*ℚ◌, whole}
 use Rattle.exact_algebra.proofs.Signs.{plus-zero}
-use Rattle.cert_sums.specs.Numbers.{whole_at}
+use Rattle.exact_algebra.specs.WholeLists.{whole_at}
 use Rattle.cert_sums.specs.Sums.{cell_at}
 use Rattle.cert_sums.proofs.Unsettled.{added_next}
 use Rattle.cert_sums.proofs.slopes.with_rows.Goals as goal

@@ -4,7 +4,7 @@ use mir.Syntax.{w128}
 use Rattle.exact_algebra.specs.Fraction.{rational}
 use Rattle.exact_algebra.specs.Rational.{◌*ℚ◌, whole, inverse}
 use Rattle.frac_core.specs.Values.{value as value128}
-use Rattle.cert_sums.specs.Numbers.{whole_at}
+use Rattle.exact_algebra.specs.WholeLists.{whole_at}
 use Rattle.cert_sums.specs.Sums.{column_total}
 use Rattle.cert_sums.proofs.Balanced.{wide_rows, divided_from}
 use Rattle.cert_sums.proofs.totals.divided.Goals as goal

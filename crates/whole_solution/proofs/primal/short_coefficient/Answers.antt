@@ -5,7 +5,8 @@ use Rattle.std.proofs.lemmas.Option.{get_or_from_slice_get}
 use Rattle.exact_algebra.specs.Solver.{number, ◌⊠◌, v0}
 use Rattle.exact_algebra.specs.Rational.{◌*ℚ◌, inverse, whole}
 use Rattle.exact_algebra.proofs.RationalLaws.{ring_ℚ}
-use Rattle.whole_inverse.specs.Shares.{share, shares, whole_at}
+use Rattle.exact_algebra.specs.WholeLists.{whole_at}
+use Rattle.whole_inverse.specs.Shares.{share, shares}
 use Rattle.whole_inverse.proofs.Lists.{share_read}
 use Rattle.whole_solution.proofs.Balanced.{column_at, share_at-one, share_one}
 use Rattle.whole_solution.proofs.ShareProducts.{share_product-more}

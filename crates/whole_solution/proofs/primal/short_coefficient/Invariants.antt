@@ -1,7 +1,8 @@
 use Rattle.std.proofs.Common.{◌≡◌, ℤ}
 use Rattle.exact_algebra.specs.Rational.{◌*ℚ◌}
 use Rattle.exact_algebra.specs.RationalSums.{sum_ℚ}
-use Rattle.whole_inverse.specs.Shares.{share, shares, whole_at}
+use Rattle.exact_algebra.specs.WholeLists.{whole_at}
+use Rattle.whole_inverse.specs.Shares.{share, shares}
 use Rattle.whole_solution.proofs.primal.short_coefficient.Given as goal
 
 abbrev pub invariant-loop-j : goal.invariant-loop-j

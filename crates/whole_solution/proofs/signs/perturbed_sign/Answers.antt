@@ -5,7 +5,8 @@ use Rattle.exact_algebra.specs.Rational.{neg_ℚ, whole}
 use Rattle.exact_algebra.specs.Order.{cmp_ℚ}
 use Rattle.basis_model.specs.Perturbed.{side_of}
 use Rattle.lex_rule.specs.Scan.{IsNextAt, AreZeroBetween}
-use Rattle.whole_inverse.specs.Shares.{share, whole_at}
+use Rattle.exact_algebra.specs.WholeLists.{whole_at}
+use Rattle.whole_inverse.specs.Shares.{share}
 use Rattle.whole_solution.proofs.Made.{by_residual, by_held, by_own}
 use Rattle.whole_solution.proofs.signs.perturbed_sign.Goals as goal
 

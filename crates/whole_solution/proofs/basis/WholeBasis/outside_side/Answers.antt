@@ -7,7 +7,8 @@ use Rattle.exact_matrices.specs.Matrices.{coordinate}
 use Rattle.basis_model.specs.Perturbed.{side_of}
 use Rattle.basis_model.proofs.Signs.{side-residual}
 use Rattle.basis_model.specs.Basis.{outside_row}
-use Rattle.whole_inverse.specs.Shares.{share, share_at, whole_at}
+use Rattle.exact_algebra.specs.WholeLists.{whole_at}
+use Rattle.whole_inverse.specs.Shares.{share, share_at}
 use Rattle.whole_inverse.specs.Squares.{inverse_of}
 use Rattle.whole_rows.specs.Wholes.{sample_of_rows}
 use Rattle.whole_solution.proofs.Numbers.{share_some}

@@ -4,7 +4,8 @@ use mir.Syntax.{w64, w128}
 use Rattle.std.proofs.lemmas.Result.{IfOk-weaker}
 use Rattle.exact_algebra.specs.Rational.{◌-ℚ◌, ◌*ℚ◌, whole}
 use Rattle.exact_algebra.specs.RationalSums.{sum_ℚ}
-use Rattle.whole_inverse.specs.Shares.{share, share_at, whole_at}
+use Rattle.exact_algebra.specs.WholeLists.{whole_at}
+use Rattle.whole_inverse.specs.Shares.{share, share_at}
 use Rattle.whole_rows.specs.declared.rows.WholeRow.{WholeRow}
 use Rattle.whole_rows.specs.Wholes.{of_whole}
 use Rattle.whole_solution.proofs.Reading.{product_of_row, row_read}

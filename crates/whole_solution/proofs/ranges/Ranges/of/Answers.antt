@@ -2,7 +2,7 @@
 use Rattle.std.proofs.Common.{rules, ◌≡◌, ◌++◌, ◌∷◌, [], length, to_z, of_z}
 use mir.Syntax.{w64}
 use Rattle.exact_algebra.proofs.Lists.{length_pushed}
-use Rattle.whole_inverse.specs.Shares.{whole_at}
+use Rattle.exact_algebra.specs.WholeLists.{whole_at}
 use Rattle.whole_rows.specs.Wholes.{of_whole}
 use Rattle.whole_solution.proofs.Entries.{column_more}
 use Rattle.whole_solution.proofs.ranges.Ranges.of.Goals as goal

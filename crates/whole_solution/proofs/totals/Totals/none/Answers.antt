@@ -1,8 +1,8 @@
 -- A 0 more.
 use Rattle.std.proofs.Common.{rules, ◌≡◌, ◌++◌, ◌∷◌, [], pos, refl}
 use Rattle.exact_algebra.specs.Rational.{whole}
+use Rattle.exact_algebra.proofs.WholeLists.{whole_pushed}
 use Rattle.whole_inverse.proofs.Lists.{length_pushed}
-use Rattle.whole_solution.proofs.Reading.{whole_pushed}
 use Rattle.whole_solution.proofs.totals.Totals.none.Goals as goal
 
 pub loop-preserved : goal.loop-preserved

@@ -2,7 +2,7 @@
 use Rattle.std.proofs.Common.{rules, ◌≡◌, to_z, of_z, ◌+ℤ◌, ◌*ℤ◌, pos, refl, sym, ap, ◌∙◌}
 use mir.Syntax.{w128}
 use Rattle.exact_algebra.specs.Rational.{◌+ℚ◌, ◌-ℚ◌, ◌*ℚ◌, whole}
-use Rattle.whole_inverse.specs.Shares.{whole_at}
+use Rattle.exact_algebra.specs.WholeLists.{whole_at}
 use Rattle.whole_solution.specs.Weighing.{bound_of}
 use Rattle.whole_solution.proofs.Moved.{raised_whole, raised_none}
 use Rattle.whole_solution.proofs.totals.Totals.turn.Goals as goal

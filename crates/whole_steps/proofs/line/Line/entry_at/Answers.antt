@@ -2,7 +2,8 @@
 use Rattle.std.proofs.Common.{rules, ◌≡◌, length, to_z, of_z, ap, ◌∙◌}
 use mir.Syntax.{w128}
 use Rattle.exact_matrices.specs.Matrices.{coordinate}
-use Rattle.whole_inverse.specs.Shares.{share, whole_at}
+use Rattle.exact_algebra.specs.WholeLists.{whole_at}
+use Rattle.whole_inverse.specs.Shares.{share}
 use Rattle.whole_steps.specs.Lines.{inverse_at, over_of}
 use Rattle.whole_steps.specs.Ties.{entry_on}
 use Rattle.whole_steps.proofs.Ties.{entry_is, coordinate_here}

@@ -3,7 +3,8 @@ use Rattle.std.proofs.Common.{rules, ◌≡◌, length, to_z, of_z, sym, ap, ◌
 use mir.Syntax.{w128}
 use Rattle.exact_algebra.specs.Rational.{◌*ℚ◌}
 use Rattle.exact_algebra.specs.RationalSums.{sum_ℚ}
-use Rattle.whole_inverse.specs.Shares.{share, share_at, whole_at}
+use Rattle.exact_algebra.specs.WholeLists.{whole_at}
+use Rattle.whole_inverse.specs.Shares.{share, share_at}
 use Rattle.whole_steps.specs.Lines.{over_of}
 use Rattle.whole_steps.proofs.Coordinates.{column_size, row_coordinate}
 use Rattle.whole_steps.proofs.near_line.Look.coord_at.Goals as goal
